@@ -1,0 +1,27 @@
+-- What the engines of the program read and write.
+use Rattle.std.specs.Prelude.{◌≡◌, ℕ, List, [], ◌∷◌, ◌++◌, Option, IfSome, Result, Ok, Err, drop, ⊤}
+use Rattle.std.specs.Io.KnownBytes.{Appends, Keeps, IsAtEnd}
+use Rattle.domain_wire.specs.declared.error.ParseError.{ParseError}
+use Rattle.domain_wire.specs.Refusals.{refusal}
+use Rattle.domain_label.specs.Text.{dotted}
+use Rattle.domain_flat.specs.Flat.{NameAt}
+use Rattle.domain_flat.specs.Faults.{StartFault}
+use Rattle.domain.specs.declared.tool.ToolError.{ToolError}
+use Rattle.domain.specs.declared.tool.ToolError.TheVariants.{Parse, Read, Write, Memory}
+
+-- The name that stands at p in m was written, with a final dot and a newline, and nothing else.
+abbrev pub WritesNameAt : List ℕ → ℕ → Option (List ℕ) → Option (List ℕ) → Type 0
+WritesNameAt m p old new = (ls : List (List ℕ)) × (e : ℕ) × NameAt m p ls e × Appends old new (dotted ls ++ 10 ∷ [])
+
+-- No name stands at p in m, and the error tells the first fault.
+abbrev pub NoNameAt : List ℕ → ℕ → ParseError → Type 0
+NoNameAt m p e = ((ls : List (List ℕ)) (end : ℕ) → NameAt m p ls end → ⊥) × StartFault (drop p m) (refusal e)
+
+-- What the end of `name_at` says: input is what was there to be read, and left what is left of it; old is
+-- what the output held before, and new what it holds now.
+abbrev pub NameAtEnds : Result (Unit {0}) ToolError → ℕ → Option (List ℕ) → Option (List ℕ) → Option (List ℕ) → Option (List ℕ) → Type 0
+NameAtEnds (Ok done) p input left old new = IsAtEnd left × IfSome input (λ m. WritesNameAt m p old new)
+NameAtEnds (Err (Parse e)) p input left old new = IsAtEnd left × IfSome input (λ m. NoNameAt m p e) × Keeps old new
+NameAtEnds (Err Read) p input left old new = Keeps old new
+NameAtEnds (Err Write) p input left old new = ⊤
+NameAtEnds (Err Memory) p input left old new = ⊤

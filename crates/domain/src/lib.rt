@@ -1,0 +1,5 @@
+//! Domain names and their wire format (RFC 1035).
+#![tactic(auto)]
+
+pub mod base;
+pub mod tool;

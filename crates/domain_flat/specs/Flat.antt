@@ -1,0 +1,27 @@
+-- Flat octets, read from the left (RFC 1035, 3.1).
+use Rattle.std.specs.Prelude.{◌≡◌, ℕ, ◌+◌, List, [], ◌∷◌, ◌++◌, length, drop}
+use Rattle.domain_label.specs.Wire.{wire, labels_in, IsLabel, IsRelative, IsAbsoluteName, IsWire}
+
+-- The labels fs, none of them empty, stand at the beginning of o, and rest is behind them.
+pub record Passed (o : List ℕ) (fs : List (List ℕ)) (rest : List ℕ) : Type 0 where
+  pub labels : IsRelative fs
+  pub parts : o ≡ wire fs ++ rest
+
+-- The name ls stands at p in m without a pointer, and e is the place behind it.
+pub record NameAt (m : List ℕ) (p : ℕ) (ls : List (List ℕ)) (e : ℕ) : Type 0 where
+  pub name : IsAbsoluteName ls
+  pub behind : List ℕ
+  pub octets : drop p m ≡ wire ls ++ behind
+  pub end : e ≡ p + length (wire ls)
+
+-- The wire form o is a label l, and then the wire form r.
+pub record BeginsWith (o l r : List ℕ) : Type 0 where
+  pub label : IsLabel l
+  pub rest : IsWire r
+  pub parts : labels_in o ≡ l ∷ labels_in r
+
+-- The wire form o is the wire form r, and then a label l.
+pub record EndsWith (o r l : List ℕ) : Type 0 where
+  pub label : IsLabel l
+  pub rest : IsWire r
+  pub parts : labels_in o ≡ labels_in r ++ l ∷ []

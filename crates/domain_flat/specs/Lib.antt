@@ -1,0 +1,4 @@
+pub mod Flat
+pub mod Faults
+pub mod Told
+pub mod Views

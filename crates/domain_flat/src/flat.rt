@@ -1,0 +1,83 @@
+//! Tests of flat octets.
+ghost use Rattle.std.specs.Prelude.{◌≡◌, ◌≢◌, ◌≤◌, ◌<◌, ◌+◌, ◌∷◌, [], ◌++◌, ◌⊎◌, ◌↔◌, ℕ, List, length, IfOk, IfErr, IsOk, OnOk};
+ghost use Rattle.domain_label.specs.Splitting.{SplitFault};
+ghost use Rattle.domain_label.specs.Wire.{wire, IsAbsoluteName, IsRelativeName, IsAbsoluteWire, IsRelativeWire};
+ghost use Rattle.domain_flat.specs.Flat.{Passed};
+ghost use Rattle.domain_flat.specs.Faults.{AbsoluteFault, RelativeFault, StartFault};
+ghost use Rattle.domain_wire.specs.Refusals.{refusal};
+ghost use Rattle.domain_flat.specs.Views.{name_error_kind, relative_name_error_kind};
+
+use crate::error::{NameError, NameErrorKind, RelativeNameError, RelativeNameErrorKind};
+use domain_label::{Label, SplitLabelError};
+use domain_wire::ParseError;
+
+/// The octets behind the labels that aren't the root: none, or from the root on.
+fn pass_labels(octets: &[u8]) -> Result<&[u8], SplitLabelError>
+    ensures ok { IfOk result (λ rest. ((fs : List (List ℕ)) × Passed octets.now fs rest.now) × ((rest.now ≡ []) ⊎ ((more : List ℕ) × (rest.now ≡ 0 ∷ more)))) }
+    ensures err { IfErr result (λ e. (fs : List (List ℕ)) × (rest : List ℕ) × Passed octets.now fs rest × SplitFault rest e × (rest ≢ [])) }
+{
+    let mut rest = octets;
+    while !rest.is_empty() {
+        let (label, behind) = Label::split_from(rest)?;
+        if label.is_root() {
+            break;
+        }
+        rest = behind;
+    }
+    Ok(rest)
+}
+
+/// Tests that the octets are the wire form of an absolute name (RFC 1035, 3.1).
+///
+/// `LongName` where they are more than 255; else the first fault from the left.
+pub fn check_absolute(octets: &[u8]) -> Result<(), NameError>
+    ensures ok { OnOk result (IsAbsoluteWire octets.now) }
+    ensures err { IfErr result (λ e. AbsoluteFault octets.now (name_error_kind e)) }
+    ensures exact { (ls : List (List ℕ)) → IsAbsoluteName ls → octets.now ≡ wire ls → IsOk result }
+{
+    if octets.len() > 255 {
+        return Err(NameError::new(NameErrorKind::LongName));
+    }
+    match pass_labels(octets)? {
+        [] if octets.is_empty() => Err(NameError::new(NameErrorKind::ShortInput)),
+        [] => Err(NameError::new(NameErrorKind::RelativeName)),
+        [_root] => Ok(()),
+        [_root, ..] => Err(NameError::new(NameErrorKind::TrailingData)),
+    }
+}
+
+/// Tests that the octets are the wire form of a relative name.
+///
+/// `LongName` where they are more than 254; else the first fault from the left.
+pub fn check_relative(octets: &[u8]) -> Result<(), RelativeNameError>
+    ensures ok { OnOk result (IsRelativeWire octets.now) }
+    ensures err { IfErr result (λ e. RelativeFault octets.now (relative_name_error_kind e)) }
+    ensures exact { (ls : List (List ℕ)) → IsRelativeName ls → octets.now ≡ wire ls → IsOk result }
+{
+    if octets.len() > 254 {
+        return Err(RelativeNameErrorKind::LongName.into());
+    }
+    match pass_labels(octets)? {
+        [] => Ok(()),
+        [_root, ..] => Err(RelativeNameErrorKind::AbsoluteName.into()),
+    }
+}
+
+/// How many octets the absolute name has that stands at the beginning of the octets.
+///
+/// The number is tested behind the root, so that a fault of the form comes first.
+pub fn name_len(octets: &[u8]) -> Result<usize, ParseError>
+    ensures ok { IfOk result (λ len. (ls : List (List ℕ)) × (rest : List ℕ) × IsAbsoluteName ls × (octets.now ≡ wire ls ++ rest) × (len ≡ length (wire ls))) }
+    ensures err { IfErr result (λ e. StartFault octets.now (refusal e)) }
+    ensures exact { (ls : List (List ℕ)) (rest : List ℕ) → IsAbsoluteName ls → octets.now ≡ wire ls ++ rest → IsOk result }
+{
+    let rest = pass_labels(octets)?;
+    if rest.is_empty() {
+        return Err(ParseError::ShortInput);
+    }
+    let len = octets.len() - rest.len() + 1;
+    if len > 255 {
+        return Err(ParseError::form_error("long domain name"));
+    }
+    Ok(len)
+}

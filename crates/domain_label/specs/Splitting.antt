@@ -1,0 +1,24 @@
+-- What stands at the beginning of octets (RFC 1035, 3.1 and 4.1.4).
+use Rattle.std.specs.Prelude.{◌≡◌, ℕ, ◌+◌, ◌*◌, ◌<◌, ◌≤◌, ◌⊎◌, List, [], ◌∷◌, ◌++◌, length}
+use Rattle.domain_label.specs.Wire.{IsLabel}
+use Rattle.domain_label.specs.declared.split.SplitLabelError.{SplitLabelError}
+use Rattle.domain_label.specs.declared.split.SplitLabelError.TheVariants.{Pointer, BadType, ShortInput}
+use Rattle.domain_label.specs.declared.split.LabelTypeError.TheVariants.{Undefined, Extended}
+
+-- The octets o begin with the label l, and rest is behind it.
+abbrev pub BeginsWithLabel : List ℕ → List ℕ → List ℕ → Type 0
+BeginsWithLabel o l rest = IsLabel l × (o ≡ length l ∷ (l ++ rest))
+
+-- No label begins with this head and the octets behind it, and why: octets are missing, the head is
+-- that of another type of label, or a pointer stands there. Its low 14 bits are a place.
+abbrev pub HeadFault : ℕ → List ℕ → SplitLabelError → Type 0
+HeadFault head rest ShortInput = ((head ≤ 63) × (length rest < head)) ⊎ ((192 ≤ head) × (rest ≡ []))
+HeadFault head rest (BadType (Extended value)) = (value ≡ head) × (64 ≤ head) × (head < 128)
+HeadFault head rest (BadType Undefined) = (128 ≤ head) × (head < 192)
+HeadFault head [] (Pointer place) = ⊥
+HeadFault head (low ∷ rest) (Pointer place) = (192 ≤ head) × (place + 192 * 256 ≡ head * 256 + low)
+
+-- The octets begin with no whole label, and why.
+abbrev pub SplitFault : List ℕ → SplitLabelError → Type 0
+SplitFault [] e = e ≡ ShortInput
+SplitFault (head ∷ rest) e = HeadFault head rest e

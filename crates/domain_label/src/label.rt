@@ -1,0 +1,151 @@
+//! A label: a list of at most 63 octets.
+ghost use Rattle.std.specs.Prelude.{◌≡◌, ◌≤◌, ◌<◌, ◌+◌, ◌∷◌, [], Some, length, codes, IsTrue, ◌↔◌, IsErr, IfOk, IfErr};
+ghost use Rattle.domain_label.specs.Wire.{IsLabel};
+ghost use Rattle.domain_label.specs.Text.{spell, spell_octet};
+
+use crate::split::{LabelTypeError, SplitLabelError};
+use std::error::Error;
+use std::fmt;
+use std::iter::Copied;
+use std::slice::Iter;
+
+/// More octets than the 63 that a label may have.
+#[derive(Clone, Copy, Debug, PartialEq, Eq)]
+pub struct LongLabelError;
+
+impl fmt::Display for LongLabelError {
+    fn fmt<W: fmt::Write>(&self, f: &mut fmt::Formatter<W>) -> fmt::Result {
+        write!(f, "long label")
+    }
+}
+
+impl Error for LongLabelError {}
+
+/// A label: at most 63 octets, of any values (RFC 1035, 3.1). The empty label is the root label.
+#[derive(Clone, Copy, Debug)]
+pub struct Label<'a> {
+    octets: &'a [u8],
+    ghost short: { IsLabel octets.now },
+}
+
+impl<'a> Label<'a> {
+    ghost use Rattle.domain_label.specs.Splitting.{BeginsWithLabel, SplitFault};
+    ghost use Rattle.domain_label.specs.Views.{label_octets};
+
+    /// The most octets that a label has.
+    pub const MAX_LEN: usize = 63;
+
+    /// The root label, which has no octets.
+    pub fn root() -> Label<'static>
+        ensures { label_octets result ≡ [] }
+    {
+        Label { octets: &[] }
+    }
+
+    /// The label of these octets.
+    ///
+    /// `LongLabelError` where they are more than 63.
+    pub fn from_slice(octets: &'a [u8]) -> Result<Label<'a>, LongLabelError>
+        ensures ok { IfOk result (λ label. label_octets label ≡ octets.now) }
+        ensures long { IsErr result ↔ (63 < length octets.now) }
+    {
+        if octets.len() > Label::MAX_LEN {
+            return Err(LongLabelError);
+        }
+        Ok(Label { octets })
+    }
+
+    /// The label that the octets begin with, and the octets behind it (RFC 1035, 3.1).
+    ///
+    /// The head decides: from 0xc0 on it is a `Pointer` to the place in the low 14 bits, from 0x40 on
+    /// a `BadType`. `ShortInput` where the head, an octet of the label or the second octet of the
+    /// pointer is missing.
+    pub fn split_from(octets: &'a [u8]) -> Result<(Label<'a>, &'a [u8]), SplitLabelError>
+        ensures ok { IfOk result (λ parts. BeginsWithLabel octets.now (label_octets parts.0) parts.1.now) }
+        ensures err { IfErr result (λ e. SplitFault octets.now e) }
+    {
+        let [head, rest @ ..] = octets else {
+            return Err(SplitLabelError::ShortInput);
+        };
+        let len = match *head {
+            0..=63 => *head as usize,
+            64..=127 => return Err(LabelTypeError::Extended(*head).into()),
+            128..=191 => return Err(LabelTypeError::Undefined.into()),
+            192..=255 => {
+                let [low, ..] = rest else {
+                    return Err(SplitLabelError::ShortInput);
+                };
+                let place = (*head as u16 - 0xc0) * 0x100 + *low as u16;
+                return Err(SplitLabelError::Pointer(place));
+            }
+        };
+        if rest.len() < len {
+            return Err(SplitLabelError::ShortInput);
+        }
+        let (octets, rest) = rest.split_at(len);
+        Ok((Label { octets }, rest))
+    }
+
+    /// The octets of the label, without the length octet.
+    pub fn as_slice(&self) -> &'a [u8]
+        ensures { result.now ≡ label_octets self.now }
+    {
+        self.octets
+    }
+
+    /// The octets one after another.
+    pub fn iter(&self) -> Copied<Iter<'a, u8>> {
+        self.octets.iter().copied()
+    }
+
+    /// How many octets the label has, without the length octet.
+    pub fn len(&self) -> usize
+        ensures { result ≡ length (label_octets self.now) }
+    {
+        self.octets.len()
+    }
+
+    /// Whether this is the root label.
+    pub fn is_root(&self) -> bool
+        ensures { IsTrue result ↔ (label_octets self.now ≡ []) }
+    {
+        self.octets.is_empty()
+    }
+}
+
+/// Space, dot and backslash take a backslash, octets that aren't printed are a backslash and three
+/// decimal digits, each other octet stands for itself (RFC 1035, 5.1).
+impl<'a> fmt::Display for Label<'a> {
+    ghost use Rattle.domain_label.specs.Views.{label_octets};
+
+    ghost output = { λ label. Some (spell (label_octets label)) };
+
+    fn fmt<W: fmt::Write>(&self, f: &mut fmt::Formatter<W>) -> fmt::Result {
+        for octet in self.octets {
+            write!(f, "{}", Spelled(*octet))?;
+        }
+        Ok(())
+    }
+}
+
+/// One octet of a label, as it is spelled.
+#[derive(Clone, Copy)]
+struct Spelled(u8);
+
+impl fmt::Display for Spelled {
+    ghost output = { λ spelled. Some (spell_octet spelled.0) };
+
+    fn fmt<W: fmt::Write>(&self, f: &mut fmt::Formatter<W>) -> fmt::Result {
+        let octet = self.0;
+        if octet == b' ' || octet == b'.' || octet == b'\\' {
+            write!(f, "\\{}", octet as char)
+        } else if octet < 0x20 || octet > 0x7e {
+            let hundreds = (b'0' + octet / 100) as char;
+            let tens = (b'0' + octet / 10 % 10) as char;
+            let ones = (b'0' + octet % 10) as char;
+            write!(f, "\\{hundreds}{tens}{ones}")
+        } else {
+            write!(f, "{}", octet as char)
+        }
+    }
+}

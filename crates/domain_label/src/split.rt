@@ -1,0 +1,77 @@
+//! Why octets begin with no label.
+ghost use Rattle.std.specs.Prelude.{◌≡◌, Some, codes};
+
+use domain_wire::ParseError;
+use std::error::Error;
+use std::fmt;
+
+/// A head that begins neither a label nor a pointer.
+#[derive(Clone, Copy, Debug, PartialEq, Eq)]
+pub enum LabelTypeError {
+    /// A head from 0x80 to 0xbf, whose type was never defined.
+    Undefined,
+    /// A head from 0x40 to 0x7f: the extended label types of RFC 6891, none of which is in use. The
+    /// value is the head.
+    Extended(u8),
+}
+
+impl fmt::Display for LabelTypeError {
+    fn fmt<W: fmt::Write>(&self, f: &mut fmt::Formatter<W>) -> fmt::Result {
+        match self {
+            LabelTypeError::Undefined => write!(f, "undefined label type"),
+            LabelTypeError::Extended(value) => {
+                write!(f, "unknown extended label 0x{value:02x}")
+            }
+        }
+    }
+}
+
+impl Error for LabelTypeError {}
+
+/// Why octets begin with no whole label.
+#[derive(Clone, Copy, Debug, PartialEq, Eq)]
+pub enum SplitLabelError {
+    /// A compression pointer to this place stands there (RFC 1035, 4.1.4).
+    Pointer(u16),
+    /// The head is of a type that is not in use.
+    BadType(LabelTypeError),
+    /// The head, an octet of the label or the second octet of a pointer is missing.
+    ShortInput,
+}
+
+impl fmt::Display for SplitLabelError {
+    fn fmt<W: fmt::Write>(&self, f: &mut fmt::Formatter<W>) -> fmt::Result {
+        match self {
+            SplitLabelError::Pointer(_) => write!(f, "compressed domain name"),
+            SplitLabelError::BadType(label_type) => write!(f, "{label_type}"),
+            SplitLabelError::ShortInput => write!(f, "unexpected end of input"),
+        }
+    }
+}
+
+impl Error for SplitLabelError {}
+
+impl From<LabelTypeError> for SplitLabelError {
+    ghost use Rattle.domain_label.specs.declared.split.SplitLabelError.TheVariants.{BadType};
+
+    ghost from_gives = { λ label_type e. e ≡ BadType label_type };
+
+    fn from(label_type: LabelTypeError) -> SplitLabelError {
+        SplitLabelError::BadType(label_type)
+    }
+}
+
+impl From<SplitLabelError> for ParseError {
+    ghost use Rattle.domain_wire.specs.Refusals.{refusal};
+    ghost use Rattle.domain_label.specs.Told.{split_refusal};
+
+    ghost from_gives = { λ split e. refusal e ≡ split_refusal split };
+
+    fn from(split: SplitLabelError) -> ParseError {
+        match split {
+            SplitLabelError::Pointer(_) => ParseError::form_error("compressed domain name"),
+            SplitLabelError::BadType(_) => ParseError::form_error("invalid label type"),
+            SplitLabelError::ShortInput => ParseError::ShortInput,
+        }
+    }
+}

@@ -1,0 +1,77 @@
+//! Names as lists of labels.
+ghost use Rattle.std.specs.Prelude.{◌≡◌, ℕ, List, length, IfSome, IsTrue, ◌↔◌};
+ghost use Rattle.std.specs.declared.option.Option.{Option};
+ghost use Rattle.std.specs.Iterator.{IsFinite, YieldsFirstBy, YieldsLastBy};
+ghost use Rattle.domain_label.specs.declared.label.Label.{Label};
+ghost use Rattle.domain_label.specs.Views.{label_octets};
+ghost use Rattle.domain_label.specs.Wire.{wire, IsAbsolute, IsAbsoluteName, IsRelativeName, IsName};
+
+use domain_label::Label;
+
+/// An iterator over the labels of a name.
+///
+/// Any mixture of `next` and `next_back` gives each label once, and then `None` for good.
+pub trait LabelIterator<'a>: Iterator<Item = Label<'a>> + DoubleEndedIterator + Copy {
+    /// The labels that are left.
+    ghost left: { Self → List (List ℕ) };
+
+    /// Both ends may be asked at any time.
+    ghost ready: { (s : Self) → Self.can_next s };
+
+    ghost ready_back: { (s : Self) → Self.can_next_back s };
+
+    /// The labels come to an end.
+    ghost ends: { (s : Self) → IsFinite (Self.remaining s) };
+
+    /// `next` takes the first of the labels that are left.
+    ghost takes_first: { (s : Self) (r : Option Label) (t : Self) → Self.next_gives s r t → YieldsFirstBy label_octets left s r t };
+
+    /// `next_back` takes the last of them.
+    ghost takes_last: { (s : Self) (r : Option Label) (t : Self) → Self.next_back_gives s r t → YieldsLastBy label_octets left s r t };
+}
+
+/// A value that is one list of labels: that of an absolute or of a relative name.
+pub trait NameLabels {
+    /// The list.
+    ghost labels: { Self → List (List ℕ) };
+
+    /// How many octets the name has on the wire without compression.
+    fn compose_len(&self) -> u16
+        ensures { result ≡ length (wire (labels self.now)) };
+
+    /// Whether the list ends in the root label.
+    fn is_absolute(&self) -> bool
+        ensures { IsTrue result ↔ IsAbsolute (labels self.now) };
+
+    ghost lawful: { (n : Self) → IsName (labels n) };
+}
+
+/// A type whose values are all absolute names.
+pub trait Absolute: NameLabels {
+    ghost absolute: { (n : Self) → IsAbsoluteName (Self.labels n) };
+}
+
+/// A type whose values are all relative names.
+pub trait Relative: NameLabels {
+    ghost relative: { (n : Self) → IsRelativeName (Self.labels n) };
+}
+
+/// A name whose labels can be gone over.
+pub trait ToLabelIter<'a>: NameLabels {
+    /// What goes over them.
+    type LabelIter: LabelIterator<'a>;
+
+    /// The labels, from either end.
+    fn iter_labels(&'a self) -> Self::LabelIter
+        ensures { Self.LabelIter.left result ≡ Self.labels self.now };
+
+    /// The wire form of the name, where it lies in one piece.
+    fn as_flat_slice(&'a self) -> Option<&'a [u8]>
+        ensures { IfSome result (λ s. s.now ≡ wire (Self.labels self.now)) };
+}
+
+/// An absolute name whose labels can be gone over.
+pub trait AbsoluteLabels<'a>: ToLabelIter<'a> + Absolute {}
+
+/// A relative name whose labels can be gone over.
+pub trait RelativeLabels<'a>: ToLabelIter<'a> + Relative {}

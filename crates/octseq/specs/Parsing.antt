@@ -1,0 +1,37 @@
+-- What contracts see of a parser: its octets, where it stands in them, and where they end for it.
+use Rattle.std.specs.Prelude.{◌≡◌, ℕ, ◌+◌, ◌-◌, ◌≤◌, ◌<◌, List, length, take, drop, slice_range}
+use Rattle.octseq.specs.declared.parse.Parser.{Parser}
+
+-- all octets of the slice
+abbrev pub whole : Parser → List ℕ
+whole p = p.octets.now
+
+-- the octets up to the parser's end: no others are ever read
+abbrev pub message : Parser → List ℕ
+message p = take p.end p.octets.now
+
+-- the place of the next octet, counted from the start of the slice
+abbrev pub place : Parser → ℕ
+place p = p.pos
+
+-- the octets that are left
+abbrev pub left : Parser → List ℕ
+left p = drop p.pos (message p)
+
+-- the next n octets
+abbrev pub next : Parser → ℕ → List ℕ
+next p n = slice_range (message p) p.pos (p.pos + n)
+
+-- fewer than n octets are left
+abbrev pub LacksOctets : Parser → ℕ → Type 0
+LacksOctets p n = length (message p) < p.pos + n
+
+-- new is old, moved to the place n; slice and end stay
+pub record MovesTo (old new : Parser) (n : ℕ) : Type 0 where
+  pub octets : new.octets ≡ old.octets
+  pub end : new.end ≡ old.end
+  pub place : new.pos ≡ n
+
+-- new is old, moved over n octets
+abbrev pub MovesOver : Parser → Parser → ℕ → Type 0
+MovesOver old new n = MovesTo old new (old.pos + n)

@@ -1,0 +1,216 @@
+//! Reading octets one after another.
+ghost use Rattle.std.specs.Prelude.{◌≡◌, ◌<◌, ◌≤◌, ◌↔◌, length, take, IfOk, IsErr, OnOk, OnErr};
+ghost use Rattle.std.specs.Int.{w8, w16, w32, w64, from_be_bytes, cast_signed};
+
+
+use std::error::Error;
+use std::fmt;
+use std::ops::Range;
+
+/// Octets before the end were missing.
+#[derive(Clone, Copy, Debug, PartialEq, Eq)]
+pub struct ShortInput;
+
+impl fmt::Display for ShortInput {
+    fn fmt<W: fmt::Write>(&self, f: &mut fmt::Formatter<W>) -> fmt::Result {
+        write!(f, "unexpected end of input")
+    }
+}
+
+impl Error for ShortInput {}
+
+/// A slice of octets, a place in it, and an end.
+///
+/// Reading begins at the place and never goes past the end. Places count from the start of the
+/// slice. A refused call changes nothing.
+#[derive(Clone, Copy, Debug)]
+pub struct Parser<'a> {
+    octets: &'a [u8],
+    pos: usize,
+    end: usize,
+    ghost ordered: { pos ≤ end },
+    ghost inside: { end ≤ length octets.now },
+}
+
+impl<'a> Parser<'a> {
+    ghost use Rattle.octseq.specs.Parsing.{whole, message, place, left, next, LacksOctets, MovesTo, MovesOver};
+
+    /// A parser over all of the octets, at their start.
+    pub fn from_ref(octets: &'a [u8]) -> Parser<'a>
+        ensures whole { whole result ≡ octets.now }
+        ensures message { message result ≡ octets.now }
+        ensures place { place result ≡ 0 }
+    {
+        let end = octets.len();
+        Parser {
+            octets,
+            pos: 0,
+            end,
+        }
+    }
+
+    /// A parser over the octets, at the start of the range and with its end.
+    pub fn with_range(octets: &'a [u8], range: Range<usize>) -> Parser<'a>
+        requires ordered { range.start ≤ range.end }
+        requires inside { range.end ≤ length octets.now }
+        ensures whole { whole result ≡ octets.now }
+        ensures message { message result ≡ take range.end octets.now }
+        ensures place { place result ≡ range.start }
+    {
+        Parser {
+            octets,
+            pos: range.start,
+            end: range.end,
+        }
+    }
+
+    /// The whole slice, octets past the end too.
+    pub fn octets_ref(&self) -> &'a [u8]
+        ensures { result.now ≡ whole self.now }
+    {
+        self.octets
+    }
+
+    /// The octets of the slice up to the end.
+    pub fn as_slice(&self) -> &'a [u8]
+        ensures { result.now ≡ message self.now }
+    {
+        &self.octets[..self.end]
+    }
+
+    /// The place of the next octet.
+    pub fn pos(&self) -> usize
+        ensures place { result ≡ place self.now }
+        ensures inside { result ≤ length (message self.now) }
+    {
+        self.pos
+    }
+
+    /// How many octets are left.
+    pub fn remaining(&self) -> usize
+        ensures { result ≡ length (left self.now) }
+    {
+        self.end - self.pos
+    }
+
+    /// The next `n` octets, which stay unread.
+    ///
+    /// `ShortInput` where fewer are left.
+    pub fn peek(&self, n: usize) -> Result<&'a [u8], ShortInput>
+        ensures ok { IfOk result (λ octets. octets.now ≡ next self.now n) }
+        ensures short { IsErr result ↔ LacksOctets self.now n }
+    {
+        if self.remaining() < n {
+            return Err(ShortInput);
+        }
+        Ok(&self.octets[self.pos..self.pos + n])
+    }
+
+    /// All octets that are left, which stay unread.
+    pub fn peek_all(&self) -> &'a [u8]
+        ensures { result.now ≡ left self.now }
+    {
+        &self.octets[self.pos..self.end]
+    }
+
+    /// Goes to a place, forwards or back.
+    ///
+    /// `ShortInput` where the place is past the end.
+    pub fn seek(&mut self, pos: usize) -> Result<(), ShortInput>
+        ensures ok { OnOk result (MovesTo self.old self.new pos) }
+        ensures short { IsErr result ↔ (length (message self.old) < pos) }
+        ensures err { OnErr result (self.new ≡ self.old) }
+    {
+        if pos > self.end {
+            return Err(ShortInput);
+        }
+        self.pos = pos;
+        Ok(())
+    }
+
+    /// Goes over `n` octets.
+    ///
+    /// `ShortInput` where fewer are left.
+    pub fn advance(&mut self, n: usize) -> Result<(), ShortInput>
+        ensures ok { OnOk result (MovesOver self.old self.new n) }
+        ensures short { IsErr result ↔ LacksOctets self.old n }
+        ensures err { OnErr result (self.new ≡ self.old) }
+    {
+        if self.remaining() < n {
+            return Err(ShortInput);
+        }
+        self.pos += n;
+        Ok(())
+    }
+
+    /// Reads `n` octets.
+    ///
+    /// `ShortInput` where fewer are left.
+    pub fn parse_octets(&mut self, n: usize) -> Result<&'a [u8], ShortInput>
+        ensures ok { IfOk result (λ octets. octets.now ≡ next self.old n) }
+        ensures moves { OnOk result (MovesOver self.old self.new n) }
+        ensures short { IsErr result ↔ LacksOctets self.old n }
+        ensures err { OnErr result (self.new ≡ self.old) }
+    {
+        let octets = self.peek(n)?;
+        self.pos += n;
+        Ok(octets)
+    }
+
+    /// Fills a buffer with the next octets.
+    ///
+    /// `ShortInput` where fewer are left than the buffer has; the buffer then stays as it was.
+    pub fn parse_buf(&mut self, buf: &mut [u8]) -> Result<(), ShortInput>
+        ensures ok { OnOk result (buf.new ≡ next self.old (length buf.old)) }
+        ensures moves { OnOk result (MovesOver self.old self.new (length buf.old)) }
+        ensures short { IsErr result ↔ LacksOctets self.old (length buf.old) }
+        ensures err { OnErr result (self.new ≡ self.old) }
+        ensures kept { OnErr result (buf.new ≡ buf.old) }
+    {
+        let octets = self.parse_octets(buf.len())?;
+        buf.copy_from_slice(octets);
+        Ok(())
+    }
+
+    /// Reads as many octets as the array has.
+    fn parse_array<const N: usize>(&mut self) -> Result<[u8; N], ShortInput>
+        ensures ok { IfOk result (λ octets. octets ≡ next self.old N) }
+        ensures moves { OnOk result (MovesOver self.old self.new N) }
+        ensures short { IsErr result ↔ LacksOctets self.old N }
+        ensures err { OnErr result (self.new ≡ self.old) }
+    {
+        let mut octets = [0; N];
+        self.parse_buf(&mut octets)?;
+        Ok(octets)
+    }
+
+    /// Reads one octet. `ShortInput` where none is left.
+    pub fn parse_u8(&mut self) -> Result<u8, ShortInput>
+        ensures ok { IfOk result (λ n. n ≡ from_be_bytes w8 (next self.old 1)) }
+        ensures moves { OnOk result (MovesOver self.old self.new 1) }
+        ensures short { IsErr result ↔ LacksOctets self.old 1 }
+        ensures err { OnErr result (self.new ≡ self.old) }
+    {
+        Ok(u8::from_be_bytes(self.parse_array()?))
+    }
+
+    /// Reads one octet as a number in two's complement. `ShortInput` where none is left.
+    pub fn parse_i8(&mut self) -> Result<i8, ShortInput>
+        ensures ok { IfOk result (λ n. n ≡ cast_signed w8 (from_be_bytes w8 (next self.old 1))) }
+        ensures moves { OnOk result (MovesOver self.old self.new 1) }
+        ensures short { IsErr result ↔ LacksOctets self.old 1 }
+        ensures err { OnErr result (self.new ≡ self.old) }
+    {
+        Ok(i8::from_be_bytes(self.parse_array()?))
+    }
+
+    /// Reads two octets as a number, the high one first. `ShortInput` where fewer are left.
+    pub fn parse_u16_be(&mut self) -> Result<u16, ShortInput>
+        ensures ok { IfOk result (λ n. n ≡ from_be_bytes w16 (next self.old 2)) }
+        ensures moves { OnOk result (MovesOver self.old self.new 2) }
+        ensures short { IsErr result ↔ LacksOctets self.old 2 }
+        ensures err { OnErr result (self.new ≡ self.old) }
+    {
+        Ok(u16::from_be_bytes(self.parse_array()?))
+    }
+}
