@@ -1,21 +1,21 @@
 -- What the engines of the program read and write.
-use Rattle.std.specs.Prelude.{◌≡◌, ℕ, List, [], ◌∷◌, ◌++◌, Option, IfSome, Result, Ok, Err, drop, ⊤}
+use Rattle.std.specs.Prelude.{ℕ, List, [], ◌∷◌, ◌++◌, Option, IfSome, Result, Ok, Err, ⊤}
 use Rattle.std.specs.Io.KnownBytes.{Appends, Keeps, IsAtEnd}
 use Rattle.domain_wire.specs.declared.error.ParseError.{ParseError}
 use Rattle.domain_wire.specs.Refusals.{refusal}
 use Rattle.domain_label.specs.Text.{dotted}
-use Rattle.domain_flat.specs.Flat.{NameAt}
-use Rattle.domain_flat.specs.Faults.{StartFault}
+use Rattle.domain_parsed.specs.Grammar.{Names}
+use Rattle.domain_parsed.specs.Outcomes.{HasNoName}
 use Rattle.domain.specs.declared.tool.ToolError.{ToolError}
 use Rattle.domain.specs.declared.tool.ToolError.TheVariants.{Parse, Read, Write, Memory}
 
--- The name that stands at p in m was written, with a final dot and a newline, and nothing else.
+-- The name at p in m was written, with a final dot and a newline, and nothing else.
 abbrev pub WritesNameAt : List ℕ → ℕ → Option (List ℕ) → Option (List ℕ) → Type 0
-WritesNameAt m p old new = (ls : List (List ℕ)) × (e : ℕ) × NameAt m p ls e × Appends old new (dotted ls ++ 10 ∷ [])
+WritesNameAt m p old new = (ls : List (List ℕ)) × Names 255 m p ls × Appends old new (dotted ls ++ 10 ∷ [])
 
--- No name stands at p in m, and the error tells the first fault.
+-- No name is at p in m, and the error tells the fault.
 abbrev pub NoNameAt : List ℕ → ℕ → ParseError → Type 0
-NoNameAt m p e = ((ls : List (List ℕ)) (end : ℕ) → NameAt m p ls end → ⊥) × StartFault (drop p m) (refusal e)
+NoNameAt m p e = HasNoName 255 m p (refusal e)
 
 -- What the end of `name_at` says: input is what was there to be read, and left what is left of it; old is
 -- what the output held before, and new what it holds now.

@@ -2,4 +2,6 @@
 #![tactic(auto)]
 
 pub mod base;
+#[cfg(test)]
+mod tests;
 pub mod tool;

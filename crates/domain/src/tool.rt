@@ -2,21 +2,17 @@
 ghost use Rattle.std.specs.Prelude.{◌≡◌, ◌≤◌, ◌∷◌, ◌++◌, [], ℕ, List, drop, ◌⊎◌, OnOk, IfOk, IfErr, IfSome, IsOk};
 ghost use Rattle.std.specs.Io.KnownBytes.{Appends, Keeps, IsAtEnd};
 ghost use Rattle.domain_label.specs.Text.{dotted};
-ghost use Rattle.domain_flat.specs.Flat.{NameAt};
-ghost use Rattle.domain_flat.specs.Faults.{StartFault};
-ghost use Rattle.domain_name.specs.Names.{name_labels};
-ghost use Rattle.domain_wire.specs.Refusals.{refusal};
-ghost use Rattle.domain.specs.Engines.{NameAtEnds, WritesNameAt};
+ghost use Rattle.domain_parsed.specs.Grammar.{Names};
+ghost use Rattle.domain_parsed.specs.Views.{parsed_labels};
+ghost use Rattle.domain.specs.Engines.{NameAtEnds, NoNameAt, WritesNameAt};
 
-
-use crate::base::name::Name;
+use crate::base::name::{DisplayWithDot, ParsedName};
 use crate::base::wire::ParseError;
 use octseq::Parser;
 use std::alloc::Global;
 use std::error::Error;
-use std::fmt;
-use std::io;
 use std::io::{ErrorKind, Read, Write};
+use std::{fmt, io};
 
 /// Why an engine didn't do its work.
 #[derive(Clone, Copy, Debug, PartialEq, Eq)]
@@ -58,15 +54,16 @@ fn read_all<R: Read>(alloc: Global, input: &mut R) -> Result<Vec<u8>, ToolError>
     }
 }
 
-/// The name that stands at a place of a message, without pointers.
-fn read_name(message: &[u8], place: u32) -> Result<Name<&[u8]>, ParseError>
-    ensures ok { IfOk result (λ name. (e : ℕ) × NameAt message.now place (name_labels name) e) }
-    ensures err { IfErr result (λ e. StartFault (drop place message.now) (refusal e)) }
-    ensures exact { (ls : List (List ℕ)) (e : ℕ) → NameAt message.now place ls e → IsOk result }
+/// The name at a place of a message. A place past the end is `ShortInput`.
+fn read_name(message: &[u8], place: u32) -> Result<ParsedName<&[u8]>, ParseError>
+    ensures ok { IfOk result (λ name. Names 255 message.now place (parsed_labels name)) }
+    ensures err { IfErr result (λ e. NoNameAt message.now place e) }
 {
     let mut parser = Parser::from_ref(message);
-    parser.seek(place as usize)?;
-    Name::parse(&mut parser)
+    if parser.seek(place as usize).is_err() {
+        return Err(ParseError::ShortInput);
+    }
+    ParsedName::parse(&mut parser)
 }
 
 /// Why a text wasn't written.
@@ -100,10 +97,11 @@ fn write_line<D: fmt::Display + Drop, W: Write>(output: &mut W, text: D) -> Resu
     }
 }
 
-/// Reads the input to its end, and writes the name that stands at the place, with a final dot and a
+/// Reads the input to its end, and writes the name at the place, with a final dot and a
 /// newline.
 ///
-/// `Parse` where no name stands there; nothing is written then. A place past the input is `ShortInput`.
+/// The name may have compression pointers (RFC 1035, 4.1.4). `Parse` where none is there, with the fault
+/// of `ParsedName::parse`; nothing is written then. A place past the input is `ShortInput`.
 pub fn name_at<R: Read, W: Write>(
     alloc: Global,
     input: &mut R,
@@ -117,7 +115,7 @@ pub fn name_at<R: Read, W: Write>(
         Ok(name) => name,
         Err(e) => return Err(ToolError::Parse(e)),
     };
-    write_line(output, name.fmt_with_dot())?;
+    write_line(output, DisplayWithDot::new(&name))?;
     Ok(())
 }
 

@@ -1,2 +1,5 @@
 pub mod Passing
 pub mod Seams
+pub mod Cuts
+pub mod Lowered
+pub mod OneFault

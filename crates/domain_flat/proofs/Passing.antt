@@ -1,7 +1,7 @@
 -- Going over flat labels from the left.
 use Rattle.std.proofs.Common.{◌≡◌, ℕ, suc, ◌⊎◌, ◌-◌, ◌+◌, ◌≤◌, ◌<◌, List, [], ◌∷◌, ◌++◌, length, take, drop, slice_range, refl, sym, ◌∙◌, ap, subst, arith, ⊎_elim, append_assoc, length-append, length-drop, append-nil}
 use Rattle.std.proofs.Math.Seq.{take-append_seam}
-use Rattle.domain_label.specs.Wire.{wire, Root, labels_in, IsLabel, IsRelative, IsAbsolute, IsAbsoluteName, IsRelativeName, IsAbsoluteWire, IsRelativeWire}
+use Rattle.domain_label.specs.Wire.{wire, Root, IsLabel, IsRelative, IsAbsolute, IsAbsoluteName, IsAbsoluteWire, IsRelativeWire}
 use Rattle.domain_label.specs.Splitting.{BeginsWithLabel, SplitFault}
 use Rattle.domain_label.specs.declared.split.SplitLabelError.{SplitLabelError}
 use Rattle.domain_label.specs.declared.split.SplitLabelError.TheVariants.{Pointer, BadType, ShortInput}
@@ -43,7 +43,7 @@ passed_all_relative o fs p few =
 
 -- ---- what is passed of a list of labels
 
-joined : (a b x y : List ℕ) → length a ≡ length b → a ++ x ≡ b ++ y → (a ≡ b) × (x ≡ y)
+pub joined : (a b x y : List ℕ) → length a ≡ length b → a ++ x ≡ b ++ y → (a ≡ b) × (x ≡ y)
 joined [] [] x y n e = (refl, e)
 joined [] (d ∷ b) x y n e = absurd (omega (arith, n))
 joined (c ∷ a) [] x y n e = absurd (omega (arith, n))
@@ -71,7 +71,7 @@ passed_of o fs ls rest tail p a e = left_of fs ls rest tail p.labels a (sym p.pa
 
 -- ---- where something is wrong, no list stands
 
-split_not_label : (l o rest : List ℕ) (e : SplitLabelError) → IsLabel l → o ≡ length l ∷ (l ++ rest) → SplitFault o e → ⊥
+pub split_not_label : (l o rest : List ℕ) (e : SplitLabelError) → IsLabel l → o ≡ length l ∷ (l ++ rest) → SplitFault o e → ⊥
 split_not_label l [] rest e h eq f = cc
 split_not_label l (n ∷ o) rest ShortInput h eq f =
     let head : n ≡ length l = cc in
@@ -126,7 +126,7 @@ Stops o rest = ((fs : List (List ℕ)) × Passed o fs rest) × ((rest ≡ []) �
 pub stops_root : (o rest : List ℕ) → Stops o rest → 1 ≤ length rest → (more : List ℕ) × (rest ≡ 0 ∷ more)
 stops_root o rest s n = ⊎_elim (λ e. absurd (omega (arith, n, ap length e))) (λ r. r) s.1
 
-no_octets : (xs : List ℕ) → length xs ≡ 0 → xs ≡ []
+pub no_octets : (xs : List ℕ) → length xs ≡ 0 → xs ≡ []
 no_octets [] n = refl
 no_octets (x ∷ xs) n = absurd (omega (arith, n))
 

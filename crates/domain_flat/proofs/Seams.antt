@@ -1,5 +1,5 @@
 -- Where labels begin and end in a wire form.
-use Rattle.std.proofs.Common.{◌≡◌, ℕ, ◌+◌, ◌-◌, ◌≤◌, ◌<◌, List, [], ◌∷◌, ◌++◌, length, take, drop, slice_index, refl, sym, ◌∙◌, ap, subst, arith, append_assoc, length-append, append-nil, slice_index_or, add-zero, drop-drop, get_or-drop, suc}
+use Rattle.std.proofs.Common.{◌≡◌, ℕ, ◌+◌, ◌-◌, ◌≤◌, ◌<◌, List, [], ◌∷◌, ◌++◌, length, take, drop, refl, sym, ◌∙◌, ap, subst, arith, append_assoc, length-append, append-nil, slice_index_or, add-zero, drop-drop, get_or-drop, suc}
 use Rattle.std.proofs.Math.Seq.{take-append_seam, drop-append_seam}
 use Rattle.domain_label.specs.Wire.{wire, cut, labels_in, AreLabels, IsWire}
 use Rattle.domain_label.proofs.WireLaws.{wire_append, labels_in_wire}
@@ -51,7 +51,7 @@ seam_of o i xs ys m =
 pub seam_start : (o : List ℕ) → IsWire o → IsSeam o 0
 seam_start o w = seam_of o 0 [] (labels_in o) (meets_start o w)
 
-read_at : (o : List ℕ) (i : ℕ) (xs : List (List ℕ)) (y : List ℕ) (ys : List (List ℕ)) → Meets o i xs (y ∷ ys) → slice_index_or o i 0 ≡ length y
+pub read_at : (o : List ℕ) (i : ℕ) (xs : List (List ℕ)) (y : List ℕ) (ys : List (List ℕ)) → Meets o i xs (y ∷ ys) → slice_index_or o i 0 ≡ length y
 read_at o i xs y ys m = ap (λ k. slice_index_or o k 0) (sym (add-zero i)) ∙ (sym (get_or-drop i o 0 0) ∙ ap (λ r. slice_index_or r 0 0) (meets_drop o i xs (y ∷ ys) m))
 
 meets_length : (o : List ℕ) (i : ℕ) (xs ys : List (List ℕ)) → Meets o i xs ys → length o ≡ i + length (wire ys)

@@ -25,3 +25,25 @@ pub record EndsWith (o r l : List ℕ) : Type 0 where
   pub label : IsLabel l
   pub rest : IsWire r
   pub parts : labels_in o ≡ labels_in r ++ l ∷ []
+
+-- The list ls is cut into xs, which has p octets on the wire, and ys.
+pub record IsCutAt (ls : List (List ℕ)) (p : ℕ) (xs ys : List (List ℕ)) : Type 0 where
+  pub parts : ls ≡ xs ++ ys
+  pub place : length (wire xs) ≡ p
+
+-- A label of ls begins at the place p of the wire form.
+abbrev pub IsLabelStart : List (List ℕ) → ℕ → Type 0
+IsLabelStart ls p = (xs : List (List ℕ)) × (y : List ℕ) × (ys : List (List ℕ)) × IsCutAt ls p xs (y ∷ ys)
+
+-- A label begins there, or the list ends there.
+abbrev pub IsLabelEnd : List (List ℕ) → ℕ → Type 0
+IsLabelEnd ls p = (xs : List (List ℕ)) × (ys : List (List ℕ)) × IsCutAt ls p xs ys
+
+-- part is what stands in ls from the place p to the place q.
+abbrev pub IsPartOf : List (List ℕ) → ℕ → ℕ → List (List ℕ) → Type 0
+IsPartOf ls p q part = (before : List (List ℕ)) × (behind : List (List ℕ)) × IsCutAt ls p before (part ++ behind) × (p + length (wire part) ≡ q)
+
+-- The list and all that is left of it behind its first labels, as long as a label is left.
+abbrev pub suffixes : List (List ℕ) → List (List (List ℕ))
+suffixes [] = []
+suffixes (l ∷ ls) = (l ∷ ls) ∷ suffixes ls

@@ -11,6 +11,12 @@ use crate::error::{NameError, NameErrorKind, RelativeNameError, RelativeNameErro
 use domain_label::{Label, SplitLabelError};
 use domain_wire::ParseError;
 
+/// The most octets of an absolute name, all length octets among them (RFC 1035, 3.1).
+const MAX_NAME_LEN: usize = 255;
+
+/// The most octets of a relative name, which leave one for a root label.
+const MAX_RELATIVE_LEN: usize = 254;
+
 /// The octets behind the labels that aren't the root: none, or from the root on.
 fn pass_labels(octets: &[u8]) -> Result<&[u8], SplitLabelError>
     ensures ok { IfOk result (λ rest. ((fs : List (List ℕ)) × Passed octets.now fs rest.now) × ((rest.now ≡ []) ⊎ ((more : List ℕ) × (rest.now ≡ 0 ∷ more)))) }
@@ -35,7 +41,7 @@ pub fn check_absolute(octets: &[u8]) -> Result<(), NameError>
     ensures err { IfErr result (λ e. AbsoluteFault octets.now (name_error_kind e)) }
     ensures exact { (ls : List (List ℕ)) → IsAbsoluteName ls → octets.now ≡ wire ls → IsOk result }
 {
-    if octets.len() > 255 {
+    if octets.len() > MAX_NAME_LEN {
         return Err(NameError::new(NameErrorKind::LongName));
     }
     match pass_labels(octets)? {
@@ -54,7 +60,7 @@ pub fn check_relative(octets: &[u8]) -> Result<(), RelativeNameError>
     ensures err { IfErr result (λ e. RelativeFault octets.now (relative_name_error_kind e)) }
     ensures exact { (ls : List (List ℕ)) → IsRelativeName ls → octets.now ≡ wire ls → IsOk result }
 {
-    if octets.len() > 254 {
+    if octets.len() > MAX_RELATIVE_LEN {
         return Err(RelativeNameErrorKind::LongName.into());
     }
     match pass_labels(octets)? {
@@ -76,7 +82,7 @@ pub fn name_len(octets: &[u8]) -> Result<usize, ParseError>
         return Err(ParseError::ShortInput);
     }
     let len = octets.len() - rest.len() + 1;
-    if len > 255 {
+    if len > MAX_NAME_LEN {
         return Err(ParseError::form_error("long domain name"));
     }
     Ok(len)

@@ -1,6 +1,6 @@
 //! The labels of a flat name, from either end.
 ghost use Rattle.std.specs.Prelude.{◌≡◌, [], MatchOption};
-ghost use Rattle.domain_label.specs.Wire.{IsWire, labels_in};
+ghost use Rattle.domain_label.specs.Wire.{IsWire, wire, labels_in};
 ghost use Rattle.domain_label.proofs.WireLaws.{IsWire_prop};
 ghost use Rattle.domain_flat.specs.Flat.{BeginsWith, EndsWith};
 
@@ -30,6 +30,14 @@ impl<'a> NameIter<'a> {
             octets,
             of: PhantomData,
         }
+    }
+
+    /// The wire form of the labels that are left.
+    pub fn as_slice(&self) -> &'a [u8]
+        ensures labels { labels_in result.now ≡ labels_left self.now }
+        ensures wire { wire (labels_in result.now) ≡ result.now }
+    {
+        self.octets
     }
 }
 

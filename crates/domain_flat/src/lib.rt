@@ -1,10 +1,15 @@
 //! Names in one piece: how flat octets are read as lists of labels.
 #![tactic(auto)]
 
+pub mod canonical;
 pub mod error;
 pub mod flat;
 pub mod iter;
+pub mod laws;
+pub mod places;
 
+pub use canonical::make_lowercase;
 pub use error::{NameError, NameErrorKind, RelativeNameError, RelativeNameErrorKind};
 pub use flat::{check_absolute, check_relative, name_len};
 pub use iter::NameIter;
+pub use places::is_label_end;

@@ -1,1 +1,4 @@
+mod LowLemmas
+mod OwnedLemmas
+mod WalkLemmas
 pub mod WireLaws

@@ -1,10 +1,10 @@
 -- Laws of wire forms and of the lists that they spell.
-use Rattle.std.specs.Prelude.{◌≡◌, ℕ, zero, suc, ◌+◌, ◌<◌, ◌≤◌, List, [], ◌∷◌, ◌++◌, length, refl}
+use Rattle.std.specs.Prelude.{◌≡◌, ℕ, zero, suc, ◌≤◌, List, [], ◌∷◌, ◌++◌, length, refl}
 use Rattle.std.specs.Coded.{×_prop, Unit-prop, le_prop, Coded-set, coded_list, coded_ℕ}
 use Rattle.std.proofs.Common.{arith, ap, subst, sym, ◌∙◌, append_assoc, length-append}
 use Rattle.std.proofs.Math.Seq.{take-append_seam, drop-append_seam}
 use Rattle.std.proofs.Math.Nat.{le_refl}
-use Rattle.domain_label.specs.Wire.{wire, Root, cut, labels_in, IsLabel, AreLabels, IsAbsolute, IsRelative, IsAbsoluteName, IsRelativeName, IsWire, IsAbsoluteWire, IsRelativeWire}
+use Rattle.domain_label.specs.Wire.{wire, cut, labels_in, AreLabels, IsAbsolute, IsRelative, IsAbsoluteName, IsRelativeName, IsWire, IsAbsoluteWire, IsRelativeWire}
 
 -- cutting undoes wire
 cut_wire : (n : ℕ) (ls : List (List ℕ)) → length (wire ls) ≤ n → cut n (wire ls) ≡ ls
@@ -101,3 +101,6 @@ IsAbsoluteWire_prop o = ×_prop (Coded-set (coded_list coded_ℕ) _ _) (×_prop 
 
 pub IsRelativeWire_prop : (o : List ℕ) → IsProp (IsRelativeWire o)
 IsRelativeWire_prop o = ×_prop (Coded-set (coded_list coded_ℕ) _ _) (×_prop (IsRelative_prop (labels_in o)) le_prop)
+
+pub IsAbsoluteName_prop : (ls : List (List ℕ)) → IsProp (IsAbsoluteName ls)
+IsAbsoluteName_prop ls = ×_prop (IsAbsolute_prop ls) le_prop

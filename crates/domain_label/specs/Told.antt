@@ -1,8 +1,21 @@
--- How errors of labels are told as errors of parsing.
-use Rattle.std.specs.Prelude.{codes}
+-- The texts of errors of labels, and how they are told as errors of parsing.
+use Rattle.std.specs.Prelude.{ℕ, ◌/◌, ◌%◌, List, [], ◌∷◌, ◌++◌, codes}
+use Rattle.domain_label.specs.Hex.{hex_digit}
 use Rattle.domain_wire.specs.Refusals.{Refusal, short_input, form}
 use Rattle.domain_label.specs.declared.split.SplitLabelError.{SplitLabelError}
 use Rattle.domain_label.specs.declared.split.SplitLabelError.TheVariants.{Pointer, BadType, ShortInput}
+use Rattle.domain_label.specs.declared.split.LabelTypeError.{LabelTypeError}
+use Rattle.domain_label.specs.declared.split.LabelTypeError.TheVariants.{Undefined, Extended}
+
+abbrev pub label_type_text : LabelTypeError → List ℕ
+label_type_text Undefined = codes "undefined label type"
+label_type_text (Extended head) =
+    codes "unknown extended label 0x" ++ hex_digit (head / 16) ∷ hex_digit (head % 16) ∷ []
+
+abbrev pub split_text : SplitLabelError → List ℕ
+split_text (Pointer place) = codes "compressed domain name"
+split_text (BadType label_type) = label_type_text label_type
+split_text ShortInput = codes "unexpected end of input"
 
 abbrev pub split_refusal : SplitLabelError → Refusal
 split_refusal (Pointer place) = form (codes "compressed domain name")

@@ -10,6 +10,10 @@ abbrev pub wire : List (List ℕ) → List ℕ
 wire [] = []
 wire (l ∷ ls) = length l ∷ (l ++ wire ls)
 
+-- One label alone.
+abbrev pub wire_label : List ℕ → List ℕ
+wire_label l = length l ∷ l
+
 -- The root is the empty label alone.
 abbrev pub Root : List (List ℕ)
 Root = [] ∷ []

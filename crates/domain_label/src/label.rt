@@ -1,5 +1,7 @@
 //! A label: a list of at most 63 octets.
 ghost use Rattle.std.specs.Prelude.{◌≡◌, ◌≤◌, ◌<◌, ◌+◌, ◌∷◌, [], Some, length, codes, IsTrue, ◌↔◌, IsErr, IfOk, IfErr};
+ghost use Rattle.std.specs.Iterator.Adapters.{copied_source};
+ghost use Rattle.std.specs.Slice.Iter.{iter_rest};
 ghost use Rattle.domain_label.specs.Wire.{IsLabel};
 ghost use Rattle.domain_label.specs.Text.{spell, spell_octet};
 
@@ -14,6 +16,8 @@ use std::slice::Iter;
 pub struct LongLabelError;
 
 impl fmt::Display for LongLabelError {
+    ghost output = { λ _. Some (codes "long label") };
+
     fn fmt<W: fmt::Write>(&self, f: &mut fmt::Formatter<W>) -> fmt::Result {
         write!(f, "long label")
     }
@@ -42,6 +46,13 @@ impl<'a> Label<'a> {
         Label { octets: &[] }
     }
 
+    /// The label `*`, with which wildcard names begin (RFC 4592, 2.1.1).
+    pub fn wildcard() -> Label<'static>
+        ensures { label_octets result ≡ codes "*" }
+    {
+        Label { octets: b"*" }
+    }
+
     /// The label of these octets.
     ///
     /// `LongLabelError` where they are more than 63.
@@ -53,6 +64,14 @@ impl<'a> Label<'a> {
             return Err(LongLabelError);
         }
         Ok(Label { octets })
+    }
+
+    /// The label of octets that are known to be few.
+    pub(crate) fn of_short(octets: &'a [u8]) -> Label<'a>
+        requires { length octets.now ≤ 63 }
+        ensures { label_octets result ≡ octets.now }
+    {
+        Label { octets }
     }
 
     /// The label that the octets begin with, and the octets behind it (RFC 1035, 3.1).
@@ -94,22 +113,53 @@ impl<'a> Label<'a> {
     }
 
     /// The octets one after another.
-    pub fn iter(&self) -> Copied<Iter<'a, u8>> {
-        self.octets.iter().copied()
+    pub fn iter(&self) -> Copied<Iter<'a, u8>>
+        ensures { iter_rest (copied_source result) ≡ label_octets self.now }
+    {
+        self.as_slice().iter().copied()
     }
 
     /// How many octets the label has, without the length octet.
     pub fn len(&self) -> usize
         ensures { result ≡ length (label_octets self.now) }
     {
-        self.octets.len()
+        self.as_slice().len()
+    }
+
+    /// Whether the label has no octets, and so is the root label.
+    pub fn is_empty(&self) -> bool
+        ensures { IsTrue result ↔ (label_octets self.now ≡ []) }
+    {
+        self.as_slice().is_empty()
+    }
+
+    /// Whether this is the label `*` (RFC 4592, 2.1.1).
+    pub fn is_wildcard(&self) -> bool
+        ensures { IsTrue result ↔ (label_octets self.now ≡ codes "*") }
+    {
+        self.as_slice() == b"*".as_slice()
     }
 
     /// Whether this is the root label.
     pub fn is_root(&self) -> bool
         ensures { IsTrue result ↔ (label_octets self.now ≡ []) }
     {
-        self.octets.is_empty()
+        self.is_empty()
+    }
+}
+
+/// The octets one after another.
+impl<'a> IntoIterator for Label<'a> {
+    ghost use Rattle.domain_label.specs.Views.{label_octets};
+
+    type Item = u8;
+
+    type IntoIter = Copied<Iter<'a, u8>>;
+
+    ghost into_iter_gives = { λ label it. iter_rest (copied_source it) ≡ label_octets label };
+
+    fn into_iter(self) -> Copied<Iter<'a, u8>> {
+        self.iter()
     }
 }
 
@@ -121,7 +171,7 @@ impl<'a> fmt::Display for Label<'a> {
     ghost output = { λ label. Some (spell (label_octets label)) };
 
     fn fmt<W: fmt::Write>(&self, f: &mut fmt::Formatter<W>) -> fmt::Result {
-        for octet in self.octets {
+        for octet in self.as_slice() {
             write!(f, "{}", Spelled(*octet))?;
         }
         Ok(())

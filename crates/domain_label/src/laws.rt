@@ -8,5 +8,4 @@ pub fn wire_laws()
     ensures spelled { (ls : List (List ℕ)) → labels_in (wire ls) ≡ ls }
     ensures once { (xs ys : List (List ℕ)) → wire xs ≡ wire ys → xs ≡ ys }
     ensures apart { (ls : List (List ℕ)) → IsAbsolute ls → IsRelative ls → ⊥ }
-{
-}
+{}

@@ -1,5 +1,6 @@
 //! Why octets begin with no label.
-ghost use Rattle.std.specs.Prelude.{◌≡◌, Some, codes};
+ghost use Rattle.std.specs.Prelude.{◌≡◌, ◌<◌, Some, codes};
+ghost use Rattle.domain_label.specs.Hex.{hex_digit};
 
 use domain_wire::ParseError;
 use std::error::Error;
@@ -16,17 +17,35 @@ pub enum LabelTypeError {
 }
 
 impl fmt::Display for LabelTypeError {
+    ghost use Rattle.domain_label.specs.Told.{label_type_text};
+
+    ghost output = { λ e. Some (label_type_text e) };
+
     fn fmt<W: fmt::Write>(&self, f: &mut fmt::Formatter<W>) -> fmt::Result {
         match self {
             LabelTypeError::Undefined => write!(f, "undefined label type"),
             LabelTypeError::Extended(value) => {
-                write!(f, "unknown extended label 0x{value:02x}")
+                let high = hex_digit(*value / 16);
+                let low = hex_digit(*value % 16);
+                write!(f, "unknown extended label 0x{high}{low}")
             }
         }
     }
 }
 
 impl Error for LabelTypeError {}
+
+/// A digit from 0 to 9 or a to f.
+fn hex_digit(digit: u8) -> char
+    requires { digit < 16 }
+    ensures { result ≡ hex_digit digit }
+{
+    if digit < 10 {
+        (digit + b'0') as char
+    } else {
+        (digit - 10 + b'a') as char
+    }
+}
 
 /// Why octets begin with no whole label.
 #[derive(Clone, Copy, Debug, PartialEq, Eq)]
@@ -40,6 +59,10 @@ pub enum SplitLabelError {
 }
 
 impl fmt::Display for SplitLabelError {
+    ghost use Rattle.domain_label.specs.Told.{split_text};
+
+    ghost output = { λ e. Some (split_text e) };
+
     fn fmt<W: fmt::Write>(&self, f: &mut fmt::Formatter<W>) -> fmt::Result {
         match self {
             SplitLabelError::Pointer(_) => write!(f, "compressed domain name"),

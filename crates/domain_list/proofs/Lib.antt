@@ -1,1 +1,6 @@
 pub mod Shown
+pub mod Steps
+pub mod Ending
+pub mod Written
+pub mod Chaining
+pub mod Listed

@@ -1,2 +1,11 @@
 pub mod Dotted
+pub mod Order
+pub mod Same
+pub mod Feed
+pub mod Count
+pub mod Ends
+pub mod Shapes
+pub mod Apex
+pub mod Chains
+pub mod ChainParts
 pub mod Joined

@@ -1,10 +1,26 @@
 //! What all names have: a list of labels, whatever lies in memory.
 #![tactic(auto)]
 
+pub mod calls;
+pub mod chain;
+pub mod comparing;
+pub mod composing;
+pub mod counting;
 pub mod dotted;
+pub mod ends;
+pub mod hashing;
 pub mod joined;
 pub mod labels;
+pub mod laws;
+pub mod lent;
 
+pub use calls::{CompareNames, CompareRelativeNames, MatchEnds};
+pub use chain::{Chain, ChainIter, LongChainError};
 pub use dotted::DisplayWithDot;
 pub use joined::JoinedLabels;
-pub use labels::{Absolute, AbsoluteLabels, LabelIterator, NameLabels, Relative, RelativeLabels, ToLabelIter};
+pub use labels::{
+    Absolute, AbsoluteLabels, LabelIterator, NameLabels, Relative, RelativeLabels, ToLabelIter,
+};
+
+#[cfg(test)]
+mod tests;

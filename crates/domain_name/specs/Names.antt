@@ -1,12 +1,27 @@
--- What contracts see of a flat name.
+-- What contracts see of flat names.
 use Rattle.std.specs.Prelude.{ℕ, List}
 use Rattle.octseq.specs.declared.octets.Octets.{Ghosts}
 use Rattle.domain_label.specs.Wire.{labels_in}
 use Rattle.domain_name.specs.declared.absolute.Name.{Name}
+use Rattle.domain_name.specs.declared.relative.RelativeName.{RelativeName}
 
--- the octets of a name, and its labels, the root among them
+-- the octets of an absolute name, and its labels, the root among them
 abbrev pub name_octets : {O : Type 0} {g : Ghosts O} → Name O g → List ℕ
 name_octets {g = g} n = g.octets n.octets
 
 abbrev pub name_labels : {O : Type 0} {g : Ghosts O} → Name O g → List (List ℕ)
 name_labels n = labels_in (name_octets n)
+
+-- the same of a relative name
+abbrev pub relative_octets : {O : Type 0} {g : Ghosts O} → RelativeName O g → List ℕ
+relative_octets {g = g} n = g.octets n.octets
+
+abbrev pub relative_labels : {O : Type 0} {g : Ghosts O} → RelativeName O g → List (List ℕ)
+relative_labels n = labels_in (relative_octets n)
+
+-- what holds the octets
+abbrev pub name_holder : {O : Type 0} {g : Ghosts O} → Name O g → O
+name_holder n = n.octets
+
+abbrev pub relative_holder : {O : Type 0} {g : Ghosts O} → RelativeName O g → O
+relative_holder n = n.octets

@@ -1,20 +1,26 @@
 //! Absolute names.
-ghost use Rattle.std.specs.Prelude.{◌≡◌, ◌≤◌, ◌∷◌, [], ◌↔◌, ℕ, List, Some, length, IsTrue, IsOk, IfOk, IfErr, OnOk, OnErr};
+ghost use Rattle.std.specs.Prelude.{◌≡◌, ◌≤◌, ◌∷◌, [], ◌++◌, ◌↔◌, ℕ, List, Some, length, IsTrue, IsOk, IfOk, IfErr, IfSome, IsNone, OnOk, OnErr};
 ghost use Rattle.octseq.specs.Parsing.{message, place, left, MovesOver};
 ghost use Rattle.domain_wire.specs.Refusals.{refusal};
 ghost use Rattle.domain_label.specs.Wire.{wire, Root, IsAbsoluteName, IsAbsoluteWire};
 ghost use Rattle.domain_list.specs.Dotted.{dotted_name};
+ghost use Rattle.domain_label.specs.Low.{low_all};
+ghost use Rattle.domain_label.specs.Views.{label_octets};
 ghost use Rattle.domain_label.proofs.WireLaws.{IsAbsoluteWire_prop};
 ghost use Rattle.domain_flat.specs.Faults.{AbsoluteFault, StartFault};
-ghost use Rattle.domain_flat.specs.Flat.{NameAt};
+ghost use Rattle.domain_flat.specs.Flat.{NameAt, IsCutAt, IsLabelStart, IsPartOf, suffixes};
 ghost use Rattle.domain_flat.specs.Views.{name_error_kind, labels_left};
 
-use domain_flat::{NameError, NameIter, check_absolute, name_len};
+use crate::relative::RelativeName;
+use crate::suffixes::SuffixIter;
+use arrayvec::ArrayVec;
+use domain_flat::{NameError, NameIter, check_absolute, is_label_end, make_lowercase, name_len};
+use domain_label::Label;
 use domain_list::DisplayWithDot;
 use domain_wire::ParseError;
-use octseq::{Octets, Parser};
-use std::alloc::AllocError;
-use std::fmt;
+use octseq::{Octets, OctetsFrom, OctetsMut, Parser, SameOctets, ShortBuf, Truncate};
+use std::alloc::{AllocError, Global};
+use std::ops::Range;
 
 /// An absolute name: labels and the root, at most 255 octets, in one piece of octets (RFC 1035, 3.1).
 pub struct Name<Octs: Octets> {
@@ -82,13 +88,91 @@ impl<'a> Name<&'a [u8]> {
         let octets = parser.parse_octets(len)?;
         Ok(Name { octets })
     }
+
+    /// The first label, and the name of the labels behind it. `None` for the root.
+    pub(crate) fn split_slice(self) -> Option<(Label<'a>, Name<&'a [u8]>)>
+        ensures some { IfSome result (λ parts. name_labels self.entry ≡ label_octets parts.0 ∷ name_labels parts.1) }
+        ensures none { IsNone result ↔ (name_labels self.entry ≡ Root) }
+    {
+        if self.is_root() {
+            return None;
+        }
+        let mut labels = NameIter::new(self.octets);
+        let first = labels.next()?;
+        Some((
+            first,
+            Name {
+                octets: labels.as_slice(),
+            },
+        ))
+    }
+}
+
+impl Name<&'static [u8]> {
+    ghost use Rattle.domain_name.specs.Names.{name_labels};
+
+    /// The root.
+    pub fn root_ref() -> Name<&'static [u8]>
+        ensures { name_labels result ≡ Root }
+    {
+        Name { octets: b"\0" }
+    }
+
+    /// The root.
+    pub fn root_slice() -> Name<&'static [u8]>
+        ensures { name_labels result ≡ Root }
+    {
+        Self::root_ref()
+    }
 }
 
 impl<Octs: Octets> Name<Octs> {
-    ghost use Rattle.domain_name.specs.Names.{name_octets, name_labels};
+    ghost use Rattle.domain_name.specs.Names.{name_octets, name_labels, name_holder, relative_labels};
+    ghost use Rattle.domain_name.specs.Suffixes.{suffixes_left};
 
     /// The most octets that an absolute name has.
     pub const MAX_LEN: usize = 255;
+
+    /// The name whose wire form the octets are known to be.
+    pub(crate) fn from_wire(octets: Octs) -> Name<Octs>
+        requires { IsAbsoluteWire (Octs.octets octets) }
+        ensures { name_holder result ≡ octets }
+    {
+        Name { octets }
+    }
+
+    /// What holds the octets.
+    pub fn as_octets(&self) -> &Octs
+        ensures { result.now ≡ name_holder self.now }
+    {
+        &self.octets
+    }
+
+    /// What holds the octets, given away.
+    pub fn into_octets(self) -> Octs
+        ensures { result ≡ name_holder self }
+    {
+        let Name { octets } = self;
+        octets
+    }
+
+    /// The same name over lent octets.
+    pub fn for_ref(&self) -> Name<&Octs>
+        ensures { name_labels result ≡ name_labels self.now }
+    {
+        Name {
+            octets: &self.octets,
+        }
+    }
+
+    /// The same name over a slice.
+    pub fn for_slice(&self) -> Name<&[u8]>
+        ensures { name_labels result ≡ name_labels self.now }
+    {
+        Name {
+            octets: self.octets.as_slice(),
+        }
+    }
 
     /// The wire form.
     pub fn as_slice(&self) -> &[u8]
@@ -120,10 +204,208 @@ impl<Octs: Octets> Name<Octs> {
         NameIter::new(self.octets.as_slice())
     }
 
+    /// The name itself, and then what is left of it behind its first labels, down to the root.
+    pub fn iter_suffixes(&self) -> SuffixIter<'_>
+        ensures { suffixes_left result ≡ suffixes (name_labels self.now) }
+    {
+        SuffixIter::new(self.for_slice())
+    }
+
+    /// How many labels the name has, the root among them.
+    pub fn label_count(&self) -> usize
+        ensures { result ≡ length (name_labels self.now) }
+    {
+        self.iter().count()
+    }
+
+    /// The first label: for the root the root label.
+    pub fn first(&self) -> Label<'_>
+        ensures { (rest : List (List ℕ)) × (name_labels self.now ≡ label_octets result ∷ rest) }
+    {
+        self.iter().next().unwrap()
+    }
+
+    /// The last label, which is the root label for each absolute name.
+    pub fn last(&self) -> Label<'_>
+        ensures last { (front : List (List ℕ)) × (name_labels self.now ≡ front ++ label_octets result ∷ []) }
+        ensures root { label_octets result ≡ [] }
+    {
+        Label::root()
+    }
+
+    /// Whether a label, the root label too, begins at this place of the wire form.
+    pub fn is_label_start(&self, place: usize) -> bool
+        ensures { IsTrue result ↔ IsLabelStart (name_labels self.now) place }
+    {
+        place < self.len() && is_label_end(self.octets.as_slice(), place)
+    }
+
+    /// The labels from one place of the wire form to another, where `is_label_start` is true at both and
+    /// they are in order.
+    pub fn slice(&self, range: Range<usize>) -> RelativeName<&[u8]>
+        requires start { IsLabelStart (name_labels self.now) range.start }
+        requires end { IsLabelStart (name_labels self.now) range.end }
+        requires ordered { range.start ≤ range.end }
+        ensures { IsPartOf (name_labels self.now) range.start range.end (relative_labels result) }
+    {
+        RelativeName::from_wire(&self.octets.as_slice()[range.start..range.end])
+    }
+
+    /// The same as `slice`.
+    pub fn range(&self, range: Range<usize>) -> RelativeName<&[u8]>
+        requires start { IsLabelStart (name_labels self.now) range.start }
+        requires end { IsLabelStart (name_labels self.now) range.end }
+        requires ordered { range.start ≤ range.end }
+        ensures { IsPartOf (name_labels self.now) range.start range.end (relative_labels result) }
+    {
+        self.slice(range)
+    }
+
+    /// The labels before a place of the wire form and those from it on, where `is_label_start` is true
+    /// there.
+    pub fn split(&self, mid: usize) -> (RelativeName<&[u8]>, Name<&[u8]>)
+        requires { IsLabelStart (name_labels self.now) mid }
+        ensures parts { relative_labels result.0 ++ name_labels result.1 ≡ name_labels self.now }
+        ensures place { length (wire (relative_labels result.0)) ≡ mid }
+    {
+        let (before, behind) = self.octets.as_slice().split_at(mid);
+        (RelativeName::from_wire(before), Name { octets: behind })
+    }
+
+    /// The labels from a place of the wire form on, where `is_label_start` is true there.
+    pub fn slice_from(&self, begin: usize) -> Name<&[u8]>
+        requires { IsLabelStart (name_labels self.now) begin }
+        ensures { (before : List (List ℕ)) × IsCutAt (name_labels self.now) begin before (name_labels result) }
+    {
+        let (_, behind) = self.split(begin);
+        behind
+    }
+
+    /// The same as `slice_from`.
+    pub fn range_from(&self, begin: usize) -> Name<&[u8]>
+        requires { IsLabelStart (name_labels self.now) begin }
+        ensures { (before : List (List ℕ)) × IsCutAt (name_labels self.now) begin before (name_labels result) }
+    {
+        self.slice_from(begin)
+    }
+
+    /// The first label, and the name of the labels behind it. `None` for the root.
+    pub fn split_first(&self) -> Option<(Label<'_>, Name<&[u8]>)>
+        ensures some { IfSome result (λ parts. name_labels self.now ≡ label_octets parts.0 ∷ name_labels parts.1) }
+        ensures none { IsNone result ↔ (name_labels self.now ≡ Root) }
+    {
+        self.for_slice().split_slice()
+    }
+
+    /// The name of the labels behind the first. `None` for the root.
+    pub fn parent(&self) -> Option<Name<&[u8]>>
+        ensures some { IfSome result (λ rest. (first : List ℕ) × (name_labels self.now ≡ first ∷ name_labels rest)) }
+        ensures none { IsNone result ↔ (name_labels self.now ≡ Root) }
+    {
+        let (_, rest) = self.split_first()?;
+        Some(rest)
+    }
+
     /// Shows the name with a final dot.
     pub fn fmt_with_dot(&self) -> DisplayWithDot<'_, Name<Octs>>
         ensures { dotted_name result ≡ self.now }
     {
         DisplayWithDot::new(self)
+    }
+}
+
+impl<Octs: Truncate> Name<Octs> {
+    ghost use Rattle.domain_name.specs.Names.{name_labels, relative_labels};
+
+    /// The name without its root label.
+    pub fn into_relative(self) -> RelativeName<Octs>
+        ensures { relative_labels result ++ Root ≡ name_labels self }
+    {
+        let len = self.len() - 1;
+        self.truncate(len)
+    }
+
+    /// The labels before a place of the wire form, where `is_label_start` is true there.
+    pub fn truncate(self, len: usize) -> RelativeName<Octs>
+        requires { IsLabelStart (name_labels self) len }
+        ensures parts { (behind : List (List ℕ)) × (name_labels self ≡ relative_labels result ++ behind) }
+        ensures place { length (wire (relative_labels result)) ≡ len }
+    {
+        let mut octets = self.into_octets();
+        octets.truncate(len);
+        RelativeName::from_wire(octets)
+    }
+}
+
+impl<Octs: OctetsMut> Name<Octs> {
+    ghost use Rattle.domain_name.specs.Names.{name_labels};
+
+    /// Makes A to Z of each label a to z, its canonical form (RFC 4034, 6.2).
+    pub fn make_canonical(&mut self)
+        ensures { name_labels self.new ≡ low_all (name_labels self.old) }
+    {
+        make_lowercase(&mut self.octets);
+    }
+}
+
+impl<Src: Octets, Octs: SameOctets<Src>> OctetsFrom<Name<Src>> for Name<Octs> {
+    ghost use Rattle.domain_name.specs.Names.{name_labels, name_holder};
+
+    type Error = Octs::Error;
+
+    ghost same = { λ source made. name_labels made ≡ name_labels source };
+
+    ghost may_refuse = { λ source. Octs.may_refuse (name_holder source) };
+
+    fn try_octets_from(alloc: Global, source: Name<Src>) -> Result<Name<Octs>, Octs::Error> {
+        let octets = Octs::try_octets_from(alloc, source.into_octets())?;
+        Ok(Name { octets })
+    }
+}
+
+impl<Octs: SameOctets<&'static [u8]>> Name<Octs> {
+    ghost use Rattle.domain_name.specs.Names.{name_labels};
+
+    /// The root.
+    ///
+    /// `ShortBuf` only where the octets refuse to be made of one.
+    pub fn root(alloc: Global) -> Result<Name<Octs>, ShortBuf>
+        ensures { IfOk result (λ name. name_labels name ≡ Root) }
+    {
+        match Name::try_octets_from(alloc, Name::root_ref()) {
+            Ok(name) => Ok(name),
+            Err(e) => Err(e.into()),
+        }
+    }
+}
+
+impl Name<Vec<u8>> {
+    ghost use Rattle.domain_name.specs.Names.{name_labels};
+
+    /// The root. `ShortBuf` only where memory was refused.
+    pub fn root_vec(alloc: Global) -> Result<Name<Vec<u8>>, ShortBuf>
+        ensures { IfOk result (λ name. name_labels name ≡ Root) }
+    {
+        Name::root(alloc)
+    }
+
+    /// The same name over new octets. `ShortBuf` only where memory was refused.
+    pub fn clone(&self, alloc: Global) -> Result<Name<Vec<u8>>, ShortBuf>
+        ensures { IfOk result (λ name. name_labels name ≡ name_labels self.now) }
+    {
+        Name::try_octets_from(alloc, self.for_slice())
+    }
+}
+
+impl<const N: usize> Name<ArrayVec<u8, N>> {
+    ghost use Rattle.domain_name.specs.Names.{name_labels};
+
+    /// The same name over new octets, which is never refused.
+    pub fn clone(&self, alloc: Global) -> Result<Name<ArrayVec<u8, N>>, ShortBuf>
+        ensures ok { IfOk result (λ name. name_labels name ≡ name_labels self.now) }
+        ensures made { IsOk result }
+    {
+        let octets = ArrayVec::try_octets_from(alloc, self.octets.as_slice())?;
+        Ok(Name { octets })
     }
 }

@@ -3,5 +3,12 @@
 
 pub mod absolute;
 pub mod labels;
+pub mod relative;
+pub mod suffixes;
 
 pub use absolute::Name;
+pub use relative::RelativeName;
+pub use suffixes::SuffixIter;
+
+#[cfg(test)]
+mod tests;

@@ -1,1 +1,4 @@
+pub mod Addresses
+pub mod Numbers
 pub mod Refusals
+pub mod Whole

@@ -1,5 +1,5 @@
 -- What contracts see of a parser: its octets, where it stands in them, and where they end for it.
-use Rattle.std.specs.Prelude.{◌≡◌, ℕ, ◌+◌, ◌-◌, ◌≤◌, ◌<◌, List, length, take, drop, slice_range}
+use Rattle.std.specs.Prelude.{◌≡◌, ℕ, ◌+◌, ◌<◌, List, length, take, drop, slice_range}
 use Rattle.octseq.specs.declared.parse.Parser.{Parser}
 
 -- all octets of the slice

@@ -1,17 +1,21 @@
 //! Reading octets one after another.
-ghost use Rattle.std.specs.Prelude.{◌≡◌, ◌<◌, ◌≤◌, ◌↔◌, length, take, IfOk, IsErr, OnOk, OnErr};
+//!
+//! Contracts speak of a parser by the words of `specs/Parsing.antt`: the octets up to its end, its
+//! place in them, and the octets that are left.
+ghost use Rattle.std.specs.Prelude.{◌≡◌, ◌<◌, ◌≤◌, ◌↔◌, length, take, IfOk, IsErr, OnOk, OnErr, Some, codes};
 ghost use Rattle.std.specs.Int.{w8, w16, w32, w64, from_be_bytes, cast_signed};
-
 
 use std::error::Error;
 use std::fmt;
 use std::ops::Range;
 
-/// Octets before the end were missing.
+/// Fewer octets were left before the end than a call was to read or pass.
 #[derive(Clone, Copy, Debug, PartialEq, Eq)]
 pub struct ShortInput;
 
 impl fmt::Display for ShortInput {
+    ghost output = { λ _. Some (codes "unexpected end of input") };
+
     fn fmt<W: fmt::Write>(&self, f: &mut fmt::Formatter<W>) -> fmt::Result {
         write!(f, "unexpected end of input")
     }
@@ -22,7 +26,9 @@ impl Error for ShortInput {}
 /// A slice of octets, a place in it, and an end.
 ///
 /// Reading begins at the place and never goes past the end. Places count from the start of the
-/// slice. A refused call changes nothing.
+/// slice. A call is refused exactly where octets before the end are missing, and then changes
+/// nothing. A parser is `Copy`: to read several things or none, read with a copy, and assign it
+/// once all were there.
 #[derive(Clone, Copy, Debug)]
 pub struct Parser<'a> {
     octets: &'a [u8],
@@ -50,6 +56,8 @@ impl<'a> Parser<'a> {
     }
 
     /// A parser over the octets, at the start of the range and with its end.
+    ///
+    /// Places still count from the start of the octets. The range must be in order and lie in them.
     pub fn with_range(octets: &'a [u8], range: Range<usize>) -> Parser<'a>
         requires ordered { range.start ≤ range.end }
         requires inside { range.end ≤ length octets.now }
@@ -153,13 +161,14 @@ impl<'a> Parser<'a> {
         ensures err { OnErr result (self.new ≡ self.old) }
     {
         let octets = self.peek(n)?;
-        self.pos += n;
+        self.pos += octets.len();
         Ok(octets)
     }
 
     /// Fills a buffer with the next octets.
     ///
-    /// `ShortInput` where fewer are left than the buffer has; the buffer then stays as it was.
+    /// `ShortInput` where fewer are left than the buffer has room for; the buffer then stays as it
+    /// was.
     pub fn parse_buf(&mut self, buf: &mut [u8]) -> Result<(), ShortInput>
         ensures ok { OnOk result (buf.new ≡ next self.old (length buf.old)) }
         ensures moves { OnOk result (MovesOver self.old self.new (length buf.old)) }
@@ -212,5 +221,58 @@ impl<'a> Parser<'a> {
         ensures err { OnErr result (self.new ≡ self.old) }
     {
         Ok(u16::from_be_bytes(self.parse_array()?))
+    }
+
+    /// Reads two octets as a number in two's complement, the high octet first. `ShortInput` where
+    /// fewer are left.
+    pub fn parse_i16_be(&mut self) -> Result<i16, ShortInput>
+        ensures ok { IfOk result (λ n. n ≡ cast_signed w16 (from_be_bytes w16 (next self.old 2))) }
+        ensures moves { OnOk result (MovesOver self.old self.new 2) }
+        ensures short { IsErr result ↔ LacksOctets self.old 2 }
+        ensures err { OnErr result (self.new ≡ self.old) }
+    {
+        Ok(i16::from_be_bytes(self.parse_array()?))
+    }
+
+    /// Reads four octets as a number, the high octet first. `ShortInput` where fewer are left.
+    pub fn parse_u32_be(&mut self) -> Result<u32, ShortInput>
+        ensures ok { IfOk result (λ n. n ≡ from_be_bytes w32 (next self.old 4)) }
+        ensures moves { OnOk result (MovesOver self.old self.new 4) }
+        ensures short { IsErr result ↔ LacksOctets self.old 4 }
+        ensures err { OnErr result (self.new ≡ self.old) }
+    {
+        Ok(u32::from_be_bytes(self.parse_array()?))
+    }
+
+    /// Reads four octets as a number in two's complement, the high octet first. `ShortInput` where
+    /// fewer are left.
+    pub fn parse_i32_be(&mut self) -> Result<i32, ShortInput>
+        ensures ok { IfOk result (λ n. n ≡ cast_signed w32 (from_be_bytes w32 (next self.old 4))) }
+        ensures moves { OnOk result (MovesOver self.old self.new 4) }
+        ensures short { IsErr result ↔ LacksOctets self.old 4 }
+        ensures err { OnErr result (self.new ≡ self.old) }
+    {
+        Ok(i32::from_be_bytes(self.parse_array()?))
+    }
+
+    /// Reads eight octets as a number, the high octet first. `ShortInput` where fewer are left.
+    pub fn parse_u64_be(&mut self) -> Result<u64, ShortInput>
+        ensures ok { IfOk result (λ n. n ≡ from_be_bytes w64 (next self.old 8)) }
+        ensures moves { OnOk result (MovesOver self.old self.new 8) }
+        ensures short { IsErr result ↔ LacksOctets self.old 8 }
+        ensures err { OnErr result (self.new ≡ self.old) }
+    {
+        Ok(u64::from_be_bytes(self.parse_array()?))
+    }
+
+    /// Reads eight octets as a number in two's complement, the high octet first. `ShortInput` where
+    /// fewer are left.
+    pub fn parse_i64_be(&mut self) -> Result<i64, ShortInput>
+        ensures ok { IfOk result (λ n. n ≡ cast_signed w64 (from_be_bytes w64 (next self.old 8))) }
+        ensures moves { OnOk result (MovesOver self.old self.new 8) }
+        ensures short { IsErr result ↔ LacksOctets self.old 8 }
+        ensures err { OnErr result (self.new ≡ self.old) }
+    {
+        Ok(i64::from_be_bytes(self.parse_array()?))
     }
 }

@@ -1,4 +1,4 @@
-use Rattle.std.proofs.Common.{◌≡◌, ℕ, List, Option, Some, None, IfSome, refl, sym, ◌∙◌, subst, true≢false}
+use Rattle.std.proofs.Common.{◌≡◌, ℕ, List, Option, Some, None, IfSome, refl, ◌∙◌, subst}
 use Rattle.std.specs.Io.KnownBytes.{Keeps}
 use Rattle.domain_wire.specs.declared.error.ParseError.{ParseError}
 use Rattle.domain.specs.Engines.{NoNameAt}
@@ -16,6 +16,6 @@ of_input (Some m) read seen p e all same none = subst (λ o. NoNameAt o p e) (sa
 pub returns-in-Err : goal.returns-in-Err
 returns-in-Err g c = (
   c.in_ok-octets.ensures.whole,
-  of_input (g.R.Read.remaining c.args.input.now) _ c.as_slice.result.now c.args.place c.in-Err.e c.in_ok-octets.ensures.octets c.as_slice.ensures.value (λ ls e at. true≢false (sym (c.in-Err.ensures.exact ls e at)), c.in-Err.ensures.err),
+  of_input (g.R.Read.remaining c.args.input.now) _ c.as_slice.result.now c.args.place c.in-Err.e c.in_ok-octets.ensures.octets c.as_slice.ensures.value c.in-Err.ensures.err,
   keeps_itself _,
 )

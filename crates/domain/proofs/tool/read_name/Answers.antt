@@ -1,17 +1,9 @@
-use Rattle.std.proofs.Common.{◌≡◌, ◌<◌, ℕ, List, length, arith, sym, subst}
-use Rattle.octseq.specs.Parsing.{message}
-use Rattle.domain_flat.specs.Flat.{NameAt}
-use Rattle.domain_flat.proofs.Passing.{name_inside}
+use Rattle.std.proofs.Common.{◌≤◌, length, arith, sym, ap, ◌∙◌}
+use Rattle.domain_parsed.proofs.Past.{past_end}
 use Rattle.domain.proofs.tool.read_name.Goals as goal
 
-pub returns-in_err-seek-clause-exact : goal.returns-in_err-seek-clause-exact
-returns-in_err-seek-clause-exact c = λ ls e at.
-    let inside = name_inside _ _ e ls at in
-    absurd (grind (arith, inside, c.in_err-seek.ensures.short))
-
-pub returns-clause-exact : goal.returns-clause-exact
-returns-clause-exact c = λ ls e at.
-    let moved = c.in_ok-seek.ensures.ok in
-    let same : message c.seek.new.self ≡ c.args.message.now = cc (moved.octets, moved.end, c.from_ref-parser.ensures.message) in
-    let P : List ℕ → Type 0 = λ m. NameAt m c.args.place ls e in
-    c.parse.ensures.accepts ls e (rw moved.place (subst P (sym same) at))
+pub returns-then-is_err-clause-err : goal.returns-then-is_err-clause-err
+returns-then-is_err-clause-err c =
+    let short = c.seek.ensures.short.0 (sym c.is_err.ensures.value ∙ c.if-is_err.true) in
+    let past : length c.args.message.now ≤ c.args.place = omega (arith, short, ap length c.from_ref-parser.ensures.message) in
+    past_end 255 c.args.message.now c.args.place past

@@ -22,14 +22,14 @@ returns-in-empty-2-clause-exact c = λ ls a e.
     absurd (end_not_absolute _ s.0.0 _ ls [] s.0.1 (omega (arith, c.in-empty.len_below)) a.0 (e ∙ sym (append-nil (wire ls))))
 
 pub returns-in-len1-clause-ok : goal.returns-in-len1-clause-ok
-returns-in-len1-clause-ok c = stops_one _ _ c.in_ok-pass_labels.ensures.ok (omega (arith, c.in-len1.len_at_least, c.in-len1.len_below)) (omega (arith, c.if-octets-gt255.false))
+returns-in-len1-clause-ok c = stops_one _ _ c.in_ok-pass_labels.ensures.ok (omega (arith, c.in-len1.len_at_least, c.in-len1.len_below)) (omega (arith, c.if-octets-gt-MAX_NAME_LEN.false))
 
 pub returns-in-len1-up-clause-err : goal.returns-in-len1-up-clause-err
 returns-in-len1-up-clause-err c =
     let s = c.in_ok-pass_labels.ensures.ok in
     let t = stops_more _ _ s c.in-len1-up.len_at_least in
     let P : NameErrorKind → Type 0 = AbsoluteFault c.args.octets.now in
-    subst P (sym c.new-in-len1-up.ensures) (omega (arith, c.if-octets-gt255.false), (s.0.0, _, s.0.1, t))
+    subst P (sym c.new-in-len1-up.ensures) (omega (arith, c.if-octets-gt-MAX_NAME_LEN.false), (s.0.0, _, s.0.1, t))
 
 pub returns-in-len1-up-clause-exact : goal.returns-in-len1-up-clause-exact
 returns-in-len1-up-clause-exact c = λ ls a e.

@@ -8,7 +8,7 @@ returns-in_err-pass_labels-clause-exact c = λ ls a e.
     absurd (fault_not_relative _ f.0 f.1 _ ls f.2 f.3 f.4 a.0 e)
 
 pub returns-in-empty-clause-ok : goal.returns-in-empty-clause-ok
-returns-in-empty-clause-ok c = stops_none _ _ c.in_ok-pass_labels.ensures.ok (omega (arith, c.in-empty.len_below)) (omega (arith, c.if-octets-gt254.false))
+returns-in-empty-clause-ok c = stops_none _ _ c.in_ok-pass_labels.ensures.ok (omega (arith, c.in-empty.len_below)) (omega (arith, c.if-octets-gt-MAX_RELATIVE_LEN.false))
 
 pub returns-in-len1-up-clause-exact : goal.returns-in-len1-up-clause-exact
 returns-in-len1-up-clause-exact c = λ ls a e. absurd (root_not_relative _ _ ls c.in_ok-pass_labels.ensures.ok (omega (arith, c.in-len1-up.len_at_least)) a.0 e)

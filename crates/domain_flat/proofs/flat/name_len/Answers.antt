@@ -13,12 +13,12 @@ returns-then-is_empty-clause-exact c = λ ls tail a e.
     let none : length c.in_ok-rest.rest.now ≡ 0 = grind arith in
     absurd (end_not_absolute _ s.0.0 _ ls tail s.0.1 none a.0 e)
 
-pub returns-then-len-gt255-clause-exact : goal.returns-then-len-gt255-clause-exact
-returns-then-len-gt255-clause-exact c = λ ls tail a e.
+pub returns-then-len-gt-MAX_NAME_LEN-clause-exact : goal.returns-then-len-gt-MAX_NAME_LEN-clause-exact
+returns-then-len-gt-MAX_NAME_LEN-clause-exact c = λ ls tail a e.
     let some : 1 ≤ length c.in_ok-rest.rest.now = grind arith in
-    absurd (name_not_long _ _ ls tail c.in_ok-rest.ensures.ok some c.if-len-gt255.true a e)
+    absurd (name_not_long _ _ ls tail c.in_ok-rest.ensures.ok some c.if-len-gt-MAX_NAME_LEN.true a e)
 
 pub returns-clause-ok : goal.returns-clause-ok
 returns-clause-ok c =
     let some : 1 ≤ length c.in_ok-rest.rest.now = grind arith in
-    name_of _ _ c.in_ok-rest.ensures.ok some c.if-len-gt255.false
+    name_of _ _ c.in_ok-rest.ensures.ok some c.if-len-gt-MAX_NAME_LEN.false

@@ -1,0 +1,75 @@
+//! Appending labels to what octets are appended to.
+ghost use Rattle.std.specs.Prelude.{◌≡◌, ◌≤◌, ◌<◌, ◌+◌, ◌++◌, length, OnOk, OnErr, IfSome};
+ghost use Rattle.domain_label.specs.Low.{low};
+ghost use Rattle.domain_label.specs.Wire.{wire_label};
+ghost use Rattle.domain_label.specs.Views.{label_octets, owned_octets};
+
+use crate::label::Label;
+use crate::owned::OwnedLabel;
+use octseq::OctetsBuilder;
+
+impl<'a> Label<'a> {
+    /// The same label without ASCII case, in octets of its own (RFC 4034, 6.2).
+    pub fn to_canonical(&self) -> OwnedLabel
+        ensures { owned_octets result ≡ low (label_octets self.now) }
+    {
+        let mut label = OwnedLabel::from_label(*self);
+        label.make_canonical();
+        label
+    }
+
+    /// How many octets the wire form has: the length octet and the octets.
+    pub fn compose_len(&self) -> u16
+        ensures { result ≡ length (wire_label (label_octets self.now)) }
+    {
+        self.len() as u16 + 1
+    }
+
+    /// Appends the wire form: the length octet and the octets (RFC 1035, 3.1).
+    ///
+    /// It is refused only where these octets exceed the target's spare capacity. A refused call
+    /// leaves the target's octets as they were.
+    pub fn compose<Target: OctetsBuilder>(
+        &self,
+        target: &mut Target,
+    ) -> Result<(), Target::AppendError>
+        ensures ok { OnOk result (Target.octets target.new ≡ Target.octets target.old ++ wire_label (label_octets self.now)) }
+        ensures err { OnErr result (Target.octets target.new ≡ Target.octets target.old) }
+        ensures full { OnErr result (Target.capacity target.old < length (Target.octets target.old) + (1 + length (label_octets self.now))) }
+        ensures capacity { Target.capacity target.old ≤ Target.capacity target.new }
+        ensures within { IfSome Target.limit (λ n. length (Target.octets target.new) ≤ n) }
+        ensures fixed { IfSome Target.limit (λ n. Target.capacity target.old ≡ n) }
+    {
+        append_wire(&OwnedLabel::from_label(*self), target)
+    }
+
+    /// Appends the wire form with A to Z as a to z (RFC 4034, 6.2), else as `compose`.
+    pub fn compose_canonical<Target: OctetsBuilder>(
+        &self,
+        target: &mut Target,
+    ) -> Result<(), Target::AppendError>
+        ensures ok { OnOk result (Target.octets target.new ≡ Target.octets target.old ++ wire_label (low (label_octets self.now))) }
+        ensures err { OnErr result (Target.octets target.new ≡ Target.octets target.old) }
+        ensures full { OnErr result (Target.capacity target.old < length (Target.octets target.old) + (1 + length (label_octets self.now))) }
+        ensures capacity { Target.capacity target.old ≤ Target.capacity target.new }
+        ensures within { IfSome Target.limit (λ n. length (Target.octets target.new) ≤ n) }
+        ensures fixed { IfSome Target.limit (λ n. Target.capacity target.old ≡ n) }
+    {
+        append_wire(&self.to_canonical(), target)
+    }
+}
+
+/// Appends length octet and octets at once, so that a refusal takes neither.
+fn append_wire<Target: OctetsBuilder>(
+    label: &OwnedLabel,
+    target: &mut Target,
+) -> Result<(), Target::AppendError>
+    ensures ok { OnOk result (Target.octets target.new ≡ Target.octets target.old ++ wire_label (owned_octets label.now)) }
+    ensures err { OnErr result (Target.octets target.new ≡ Target.octets target.old) }
+    ensures full { OnErr result (Target.capacity target.old < length (Target.octets target.old) + (1 + length (owned_octets label.now))) }
+    ensures capacity { Target.capacity target.old ≤ Target.capacity target.new }
+    ensures within { IfSome Target.limit (λ n. length (Target.octets target.new) ≤ n) }
+    ensures fixed { IfSome Target.limit (λ n. Target.capacity target.old ≡ n) }
+{
+    target.append_slice(label.as_wire_slice())
+}

@@ -1,0 +1,83 @@
+//! A label whose octets can be written in place.
+ghost use Rattle.std.specs.Prelude.{◌≡◌, ◌≤◌, ◌<◌, ◌↔◌, IfOk, IfErr, IsErr, length, take, drop};
+ghost use Rattle.domain_label.specs.Low.{low};
+ghost use Rattle.domain_label.specs.Wire.{IsLabel};
+
+use crate::label::{Label, LongLabelError};
+use crate::split::SplitLabelError;
+
+/// A label whose octets can be written in place. How many there are stays the same.
+#[derive(Debug, Drop)]
+pub struct LabelMut<'a> {
+    octets: &'a mut [u8],
+    ghost short: { IsLabel octets.now },
+}
+
+impl<'a> LabelMut<'a> {
+    ghost use Rattle.domain_label.specs.Splitting.{BeginsWithLabel, SplitFault};
+    ghost use Rattle.domain_label.specs.Views.{label_octets, label_mut_octets};
+
+    /// The label of these octets, in place.
+    ///
+    /// `LongLabelError` where they are more than 63. The octets stay as they are.
+    pub fn from_slice_mut(octets: &'a mut [u8]) -> Result<LabelMut<'a>, LongLabelError>
+        ensures same_reference { IfOk result (λ label. label.octets.ghost_name ≡ octets.entry.ghost_name) }
+        ensures ok { IfOk result (λ label. label_mut_octets label ≡ octets.old) }
+        ensures long { IsErr result ↔ (63 < length octets.old) }
+    {
+        if octets.len() > Label::MAX_LEN {
+            return Err(LongLabelError);
+        }
+        Ok(LabelMut { octets })
+    }
+
+    /// The label that the octets begin with, and the octets behind it, both in place (RFC 1035, 3.1).
+    ///
+    /// The errors are those of [`Label::split_from`], and then the octets stay as they are.
+    pub fn split_from_mut(
+        octets: &'a mut [u8],
+    ) -> Result<(LabelMut<'a>, &'a mut [u8]), SplitLabelError>
+        ensures ok { IfOk result (λ parts. BeginsWithLabel octets.old (label_mut_octets parts.0) parts.1.now) }
+        ensures err { IfErr result (λ e. SplitFault octets.old e) }
+    {
+        let (label, _) = Label::split_from(octets)?;
+        let len = label.len();
+        Ok(LabelMut::split_known(octets, len))
+    }
+
+    /// The label, for reading.
+    pub fn as_label(&self) -> Label<'_>
+        ensures { label_octets result ≡ label_mut_octets self.now }
+    {
+        Label::of_short(self.octets)
+    }
+
+    /// The octets, for writing.
+    pub fn as_slice_mut(self) -> &'a mut [u8]
+        ensures same_reference { result.ghost_name ≡ self.entry.octets.ghost_name }
+        ensures value { result.now ≡ label_mut_octets self.entry }
+    {
+        let LabelMut { octets } = self;
+        octets
+    }
+
+    /// Makes A to Z a to z, in place (RFC 4034, 6.2).
+    pub fn make_canonical(&mut self)
+        ensures same_reference { self.new.octets.ghost_name ≡ self.old.octets.ghost_name }
+        ensures octets { label_mut_octets self.new ≡ low (label_mut_octets self.old) }
+    {
+        self.octets.make_ascii_lowercase();
+    }
+
+    /// The label of `len` octets behind the length octet, and the octets behind it.
+    pub(crate) fn split_known(octets: &'a mut [u8], len: usize) -> (LabelMut<'a>, &'a mut [u8])
+        requires short { len ≤ 63 }
+        requires whole { len < length octets.old }
+        ensures label { label_mut_octets result.0 ≡ take len (drop 1 octets.old) }
+        ensures rest { result.1.now ≡ drop len (drop 1 octets.old) }
+    {
+        let (_, octets) = octets.split_at_mut(1);
+        let (octets, rest) = octets.split_at_mut(len);
+        (LabelMut { octets }, rest)
+    }
+}

@@ -1,0 +1,115 @@
+//! Labels without ASCII case: equality, order and hashing, and the orders of wire forms.
+ghost use Rattle.std.specs.Prelude.{◌≡◌};
+ghost use Rattle.std.specs.Cmp.{partial_order_from_own_ties};
+ghost use Rattle.std.specs.Cmp.Rules.{comparing};
+ghost use Rattle.std.specs.Ordering.{on, as_partial_cmp};
+ghost use Rattle.std.proofs.Common.{rules};
+ghost use Rattle.domain_label.specs.Low.{low_eq, low_cmp, feed_label, feeds_alike, composed_order, lowercase_composed_order};
+ghost use Rattle.domain_label.specs.Views.{label_octets};
+
+use crate::label::Label;
+use std::cmp::Ordering;
+use std::hash::{Hash, Hasher};
+
+/// Labels are equal where their octets are the same without ASCII case (RFC 4343).
+impl<'a> PartialEq for Label<'a> {
+    ghost eq = { on label_octets low_eq };
+
+    ghost laws = { Prim.search (comparing, rules) };
+
+    fn eq(&self, other: &Label<'a>) -> bool {
+        self.as_slice().eq_ignore_ascii_case(other.as_slice())
+    }
+}
+
+impl<'a> Eq for Label<'a> {
+    ghost laws = { Prim.search (comparing, rules) };
+}
+
+/// Labels are ordered as their octets from the left without ASCII case, and one that begins another
+/// is less (RFC 4034, 6.1).
+impl<'a> Ord for Label<'a> {
+    ghost cmp = { on label_octets low_cmp };
+
+    ghost total = { Prim.search (comparing, rules) };
+
+    ghost matches_partial_cmp = { Prim.search (comparing, rules) };
+
+    ghost matches_eq = { Prim.search (comparing, rules) };
+
+    fn cmp(&self, other: &Label<'a>) -> Ordering {
+        low_order(self.as_slice(), other.as_slice())
+    }
+}
+
+impl<'a> PartialOrd for Label<'a> {
+    ghost partial_cmp = { as_partial_cmp (on label_octets low_cmp) };
+
+    ghost laws = { partial_order_from_own_ties (Prim.search (comparing, rules)) (Prim.search (comparing, rules)) };
+
+    fn partial_cmp(&self, other: &Label<'a>) -> Option<Ordering> {
+        Some(self.cmp(other))
+    }
+}
+
+/// The length and each octet without ASCII case as one `u8`, so that equal labels feed alike.
+impl<'a> Hash for Label<'a> {
+    ghost hash_input = { λ label. feed_label (label_octets label) };
+
+    ghost respects_eq = { λ x y. feeds_alike.fed (label_octets x) (label_octets y) };
+
+    fn hash<H: Hasher>(&self, state: &mut H) {
+        state.write_u8(self.len() as u8);
+        for octet in self.as_slice() {
+            state.write_u8(octet.to_ascii_lowercase());
+        }
+    }
+}
+
+impl<'a> Label<'a> {
+    /// The order of the labels' wire forms as octets: the shorter first, then by the octets.
+    pub fn composed_cmp(&self, other: &Label) -> Ordering
+        ensures { result ≡ composed_order (label_octets self.now) (label_octets other.now) }
+    {
+        let by_len = self.len().cmp(&other.len());
+        if by_len.is_ne() {
+            return by_len;
+        }
+        self.as_slice().cmp(other.as_slice())
+    }
+
+    /// The order of the labels' wire forms without ASCII case: the shorter first, then by the lowered
+    /// octets.
+    pub fn lowercase_composed_cmp(&self, other: &Label) -> Ordering
+        ensures { result ≡ lowercase_composed_order (label_octets self.now) (label_octets other.now) }
+    {
+        let by_len = self.len().cmp(&other.len());
+        if by_len.is_ne() {
+            return by_len;
+        }
+        self.cmp(other)
+    }
+}
+
+/// Octets in order, without case.
+fn low_order(a: &[u8], b: &[u8]) -> Ordering
+    ensures { result ≡ low_cmp a.now b.now }
+{
+    let mut a = a;
+    let mut b = b;
+    loop {
+        match (a, b) {
+            ([], []) => return Ordering::Equal,
+            ([], [_, ..]) => return Ordering::Less,
+            ([_, ..], []) => return Ordering::Greater,
+            ([x, xs @ ..], [y, ys @ ..]) => {
+                let order = x.to_ascii_lowercase().cmp(&y.to_ascii_lowercase());
+                if order.is_ne() {
+                    return order;
+                }
+                a = xs;
+                b = ys;
+            }
+        }
+    }
+}

@@ -1,0 +1,160 @@
+//! A label that owns its octets.
+ghost use Rattle.std.specs.Prelude.{◌≡◌, Some};
+ghost use Rattle.std.specs.Cmp.{partial_order_from_own_ties};
+ghost use Rattle.std.specs.Cmp.Rules.{comparing};
+ghost use Rattle.std.specs.Ordering.{on, as_partial_cmp};
+ghost use Rattle.std.proofs.Common.{rules};
+ghost use Rattle.domain_label.specs.Low.{low, low_eq, low_cmp, feed_label, feeds_alike};
+ghost use Rattle.domain_label.specs.Text.{spell};
+ghost use Rattle.domain_label.specs.Wire.{wire_label};
+
+use crate::label::Label;
+use crate::label_mut::LabelMut;
+use std::cmp::Ordering;
+use std::fmt;
+use std::hash::{Hash, Hasher};
+
+/// A label that owns its octets, in its wire form.
+#[derive(Clone, Copy)]
+pub struct OwnedLabel {
+    /// The length octet, and behind it the label's octets. What is left behind those means nothing.
+    /// A length octet over 63 is never written, and would be read as that of the root.
+    wire: [u8; 64],
+}
+
+impl OwnedLabel {
+    ghost use Rattle.domain_label.specs.Views.{label_octets, label_mut_octets, owned_octets};
+
+    /// The octets of a label, as they are.
+    pub fn from_label(label: Label) -> OwnedLabel
+        ensures { owned_octets result ≡ label_octets label.entry }
+    {
+        let octets = label.as_slice();
+        let mut wire = [0; 64];
+        wire[0] = octets.len() as u8;
+        wire[1..octets.len() + 1].copy_from_slice(octets);
+        OwnedLabel { wire }
+    }
+
+    /// Makes A to Z a to z, in place (RFC 4034, 6.2).
+    pub fn make_canonical(&mut self)
+        ensures { owned_octets self.new ≡ low (owned_octets self.old) }
+    {
+        // A length octet is below A, so it stays.
+        self.wire.make_ascii_lowercase();
+    }
+
+    /// The label.
+    pub fn as_label(&self) -> Label<'_>
+        ensures { label_octets result ≡ owned_octets self.now }
+    {
+        let wire = self.as_wire_slice();
+        Label::of_short(&wire[1..])
+    }
+
+    /// The label, for writing its octets in place.
+    pub fn as_label_mut(&mut self) -> LabelMut<'_>
+        ensures { label_mut_octets result ≡ owned_octets self.old }
+    {
+        let len = self.as_label().len();
+        let (label, _) = LabelMut::split_known(self.wire.as_mut_slice(), len);
+        label
+    }
+
+    /// The wire form: the length octet and the octets (RFC 1035, 3.1).
+    pub fn as_wire_slice(&self) -> &[u8]
+        ensures { result.now ≡ wire_label (owned_octets self.now) }
+    {
+        let len = self.wire[0] as usize;
+        if len > Label::MAX_LEN {
+            return &[0];
+        }
+        &self.wire[..len + 1]
+    }
+}
+
+impl<'a> From<Label<'a>> for OwnedLabel {
+    ghost use Rattle.domain_label.specs.Views.{label_octets, owned_octets};
+
+    ghost from_gives = { λ label owned. owned_octets owned ≡ label_octets label };
+
+    fn from(label: Label<'a>) -> OwnedLabel {
+        OwnedLabel::from_label(label)
+    }
+}
+
+/// As the labels.
+impl PartialEq for OwnedLabel {
+    ghost use Rattle.domain_label.specs.Views.{owned_octets};
+
+    ghost eq = { on owned_octets low_eq };
+
+    ghost laws = { Prim.search (comparing, rules) };
+
+    fn eq(&self, other: &OwnedLabel) -> bool {
+        self.as_label() == other.as_label()
+    }
+}
+
+impl Eq for OwnedLabel {
+    ghost laws = { Prim.search (comparing, rules) };
+}
+
+/// As the labels.
+impl Ord for OwnedLabel {
+    ghost use Rattle.domain_label.specs.Views.{owned_octets};
+
+    ghost cmp = { on owned_octets low_cmp };
+
+    ghost total = { Prim.search (comparing, rules) };
+
+    ghost matches_partial_cmp = { Prim.search (comparing, rules) };
+
+    ghost matches_eq = { Prim.search (comparing, rules) };
+
+    fn cmp(&self, other: &OwnedLabel) -> Ordering {
+        self.as_label().cmp(&other.as_label())
+    }
+}
+
+impl PartialOrd for OwnedLabel {
+    ghost use Rattle.domain_label.specs.Views.{owned_octets};
+
+    ghost partial_cmp = { as_partial_cmp (on owned_octets low_cmp) };
+
+    ghost laws = { partial_order_from_own_ties (Prim.search (comparing, rules)) (Prim.search (comparing, rules)) };
+
+    fn partial_cmp(&self, other: &OwnedLabel) -> Option<Ordering> {
+        Some(self.cmp(other))
+    }
+}
+
+/// As the label.
+impl Hash for OwnedLabel {
+    ghost use Rattle.domain_label.specs.Views.{owned_octets};
+
+    ghost hash_input = { λ label. feed_label (owned_octets label) };
+
+    ghost respects_eq = { λ x y. feeds_alike.fed (owned_octets x) (owned_octets y) };
+
+    fn hash<H: Hasher>(&self, state: &mut H) {
+        self.as_label().hash(state);
+    }
+}
+
+/// As the label.
+impl fmt::Display for OwnedLabel {
+    ghost use Rattle.domain_label.specs.Views.{owned_octets};
+
+    ghost output = { λ label. Some (spell (owned_octets label)) };
+
+    fn fmt<W: fmt::Write>(&self, f: &mut fmt::Formatter<W>) -> fmt::Result {
+        write!(f, "{}", self.as_label())
+    }
+}
+
+impl fmt::Debug for OwnedLabel {
+    fn fmt<W: fmt::Write>(&self, f: &mut fmt::Formatter<W>) -> fmt::Result {
+        write!(f, "OwnedLabel({})", self.as_label())
+    }
+}

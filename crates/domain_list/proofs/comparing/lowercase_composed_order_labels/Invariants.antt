@@ -1,0 +1,10 @@
+use Rattle.std.proofs.Common.{◌≡◌, length}
+use Rattle.domain_list.specs.Order.{lowercase_composed_order}
+use Rattle.domain_list.proofs.comparing.lowercase_composed_order_labels.Given as goal
+
+abbrev pub invariant-loop-x : goal.invariant-loop-x
+invariant-loop-x g l =
+    lowercase_composed_order (g.A.LabelIterator.left l.a) (g.B.LabelIterator.left l.b) ≡ lowercase_composed_order (g.A.LabelIterator.left l.fn.a) (g.B.LabelIterator.left l.fn.b)
+
+abbrev pub decreases-loop-x : goal.decreases-loop-x
+decreases-loop-x g l = length (g.A.LabelIterator.left l.a)

@@ -1,0 +1,391 @@
+//! Relative names.
+ghost use Rattle.std.specs.Prelude.{◌≡◌, ◌≤◌, ◌-◌, ◌∷◌, [], ◌++◌, ◌↔◌, ℕ, List, length, IsTrue, IsOk, IfOk, IfErr, IfSome, IsNone};
+ghost use Rattle.domain_label.specs.Low.{low_all};
+ghost use Rattle.domain_label.specs.Wire.{wire, IsRelativeName, IsRelativeWire};
+ghost use Rattle.domain_label.specs.Views.{label_octets};
+ghost use Rattle.domain_label.proofs.WireLaws.{IsRelativeWire_prop};
+ghost use Rattle.domain_flat.specs.Faults.{RelativeFault};
+ghost use Rattle.domain_flat.specs.Flat.{IsLabelEnd, IsPartOf};
+ghost use Rattle.domain_flat.specs.Views.{relative_name_error_kind, labels_left};
+
+use arrayvec::ArrayVec;
+use domain_flat::{NameIter, RelativeNameError, check_relative, is_label_end, make_lowercase};
+use domain_label::Label;
+use octseq::{Octets, OctetsFrom, OctetsMut, SameOctets, ShortBuf, Truncate};
+use std::alloc::{AllocError, Global};
+use std::ops::Range;
+
+/// A relative name: labels without the root, at most 254 octets, in one piece of octets. It may have no
+/// label.
+pub struct RelativeName<Octs: Octets> {
+    octets: Octs,
+    ghost relative: { IsRelativeWire (Octs.octets octets) } by { IsRelativeWire_prop (Octs.octets octets) },
+}
+
+impl<Octs: Octets + Copy> Copy for RelativeName<Octs> {}
+
+impl<Octs: Octets + Copy> Clone for RelativeName<Octs> {
+    ghost is_clone = { λ x y. y ≡ x };
+
+    fn clone(&self) -> Result<Self, AllocError> {
+        Ok(*self)
+    }
+}
+
+impl<Octs: Octets + Drop> RelativeName<Octs> {
+    ghost use Rattle.domain_name.specs.Names.{relative_octets, relative_labels};
+
+    /// The name whose wire form the octets are.
+    ///
+    /// `LongName` where they are more than 254; else the first fault from the left: `CompressedName` at
+    /// a pointer, `BadLabel` at another head that begins no label, `ShortInput` where they end inside a
+    /// label, `AbsoluteName` at a root.
+    pub fn from_octets(octets: Octs) -> Result<RelativeName<Octs>, RelativeNameError>
+        ensures ok { IfOk result (λ name. relative_octets name ≡ Octs.octets octets) }
+        ensures list { (ls : List (List ℕ)) → IsRelativeName ls → Octs.octets octets ≡ wire ls → IfOk result (λ name. relative_labels name ≡ ls) }
+        ensures accepts { IsOk result ↔ IsRelativeWire (Octs.octets octets) }
+        ensures err { IfErr result (λ e. RelativeFault (Octs.octets octets) (relative_name_error_kind e)) }
+    {
+        check_relative(octets.as_slice())?;
+        Ok(RelativeName { octets })
+    }
+}
+
+impl<'a> RelativeName<&'a [u8]> {
+    ghost use Rattle.domain_name.specs.Names.{relative_octets, relative_labels};
+
+    /// The name whose wire form the octets are, with the errors of `from_octets`.
+    pub fn from_slice(octets: &'a [u8]) -> Result<RelativeName<&'a [u8]>, RelativeNameError>
+        ensures ok { IfOk result (λ name. relative_octets name ≡ octets.now) }
+        ensures list { (ls : List (List ℕ)) → IsRelativeName ls → octets.now ≡ wire ls → IfOk result (λ name. relative_labels name ≡ ls) }
+        ensures accepts { IsOk result ↔ IsRelativeWire octets.now }
+        ensures err { IfErr result (λ e. RelativeFault octets.now (relative_name_error_kind e)) }
+    {
+        RelativeName::from_octets(octets)
+    }
+
+    /// The first label, and the name of the labels behind it. `None` where there is no label.
+    pub(crate) fn split_slice(self) -> Option<(Label<'a>, RelativeName<&'a [u8]>)>
+        ensures some { IfSome result (λ parts. relative_labels self.entry ≡ label_octets parts.0 ∷ relative_labels parts.1) }
+        ensures none { IsNone result ↔ (relative_labels self.entry ≡ []) }
+    {
+        let mut labels = NameIter::new(self.octets);
+        let first = labels.next()?;
+        Some((
+            first,
+            RelativeName {
+                octets: labels.as_slice(),
+            },
+        ))
+    }
+}
+
+impl RelativeName<&'static [u8]> {
+    ghost use Rattle.domain_name.specs.Names.{relative_labels};
+
+    /// The name without labels.
+    pub fn empty_ref() -> RelativeName<&'static [u8]>
+        ensures { relative_labels result ≡ [] }
+    {
+        RelativeName { octets: &[] }
+    }
+
+    /// The name without labels.
+    pub fn empty_slice() -> RelativeName<&'static [u8]>
+        ensures { relative_labels result ≡ [] }
+    {
+        Self::empty_ref()
+    }
+
+    /// The name of one label, an asterisk (RFC 4592, 2.1.1).
+    pub fn wildcard_ref() -> RelativeName<&'static [u8]>
+        ensures { relative_labels result ≡ (42 ∷ []) ∷ [] }
+    {
+        RelativeName { octets: b"\x01*" }
+    }
+
+    /// The name of one label, an asterisk (RFC 4592, 2.1.1).
+    pub fn wildcard_slice() -> RelativeName<&'static [u8]>
+        ensures { relative_labels result ≡ (42 ∷ []) ∷ [] }
+    {
+        Self::wildcard_ref()
+    }
+}
+
+impl<Octs: Octets> RelativeName<Octs> {
+    ghost use Rattle.domain_name.specs.Names.{relative_octets, relative_labels, relative_holder};
+
+    /// The name whose wire form the octets are known to be.
+    pub(crate) fn from_wire(octets: Octs) -> RelativeName<Octs>
+        requires { IsRelativeWire (Octs.octets octets) }
+        ensures { relative_holder result ≡ octets }
+    {
+        RelativeName { octets }
+    }
+
+    /// What holds the octets.
+    pub fn as_octets(&self) -> &Octs
+        ensures { result.now ≡ relative_holder self.now }
+    {
+        &self.octets
+    }
+
+    /// What holds the octets, given away.
+    pub fn into_octets(self) -> Octs
+        ensures { result ≡ relative_holder self }
+    {
+        let RelativeName { octets } = self;
+        octets
+    }
+
+    /// The same name over lent octets.
+    pub fn for_ref(&self) -> RelativeName<&Octs>
+        ensures { relative_labels result ≡ relative_labels self.now }
+    {
+        RelativeName {
+            octets: &self.octets,
+        }
+    }
+
+    /// The same name over a slice.
+    pub fn for_slice(&self) -> RelativeName<&[u8]>
+        ensures { relative_labels result ≡ relative_labels self.now }
+    {
+        RelativeName {
+            octets: self.octets.as_slice(),
+        }
+    }
+
+    /// The wire form.
+    pub fn as_slice(&self) -> &[u8]
+        ensures value { result.now ≡ relative_octets self.now }
+        ensures wire { result.now ≡ wire (relative_labels self.now) }
+        ensures relative { IsRelativeName (relative_labels self.now) }
+    {
+        self.octets.as_slice()
+    }
+
+    /// How many octets the wire form has, at most 254.
+    pub fn len(&self) -> usize
+        ensures { result ≡ length (wire (relative_labels self.now)) }
+    {
+        self.as_slice().len()
+    }
+
+    /// Whether the name has no labels.
+    pub fn is_empty(&self) -> bool
+        ensures { IsTrue result ↔ (relative_labels self.now ≡ []) }
+    {
+        self.as_slice().is_empty()
+    }
+
+    /// The labels.
+    pub fn iter(&self) -> NameIter<'_>
+        ensures { labels_left result ≡ relative_labels self.now }
+    {
+        NameIter::new(self.octets.as_slice())
+    }
+
+    /// How many labels the name has.
+    pub fn label_count(&self) -> usize
+        ensures { result ≡ length (relative_labels self.now) }
+    {
+        self.iter().count()
+    }
+
+    /// How many dots the name is shown with: one fewer than it has labels, and none without labels.
+    pub fn ndots(&self) -> usize
+        ensures { result ≡ length (relative_labels self.now) - 1 }
+    {
+        self.label_count().saturating_sub(1)
+    }
+
+    /// The first label, or `None` where there is none.
+    pub fn first(&self) -> Option<Label<'_>>
+        ensures some { IfSome result (λ label. (rest : List (List ℕ)) × (relative_labels self.now ≡ label_octets label ∷ rest)) }
+        ensures none { IsNone result ↔ (relative_labels self.now ≡ []) }
+    {
+        self.iter().next()
+    }
+
+    /// The last label, or `None` where there is none.
+    pub fn last(&self) -> Option<Label<'_>>
+        ensures some { IfSome result (λ label. (front : List (List ℕ)) × (relative_labels self.now ≡ front ++ label_octets label ∷ [])) }
+        ensures none { IsNone result ↔ (relative_labels self.now ≡ []) }
+    {
+        self.iter().next_back()
+    }
+
+    /// Whether a label begins at this place of the wire form, or the name ends there.
+    pub fn is_label_start(&self, place: usize) -> bool
+        ensures { IsTrue result ↔ IsLabelEnd (relative_labels self.now) place }
+    {
+        is_label_end(self.octets.as_slice(), place)
+    }
+
+    /// The labels from one place of the wire form to another, where `is_label_start` is true at both and
+    /// they are in order.
+    pub fn slice(&self, range: Range<usize>) -> RelativeName<&[u8]>
+        requires start { IsLabelEnd (relative_labels self.now) range.start }
+        requires end { IsLabelEnd (relative_labels self.now) range.end }
+        requires ordered { range.start ≤ range.end }
+        ensures { IsPartOf (relative_labels self.now) range.start range.end (relative_labels result) }
+    {
+        RelativeName {
+            octets: &self.octets.as_slice()[range.start..range.end],
+        }
+    }
+
+    /// The same as `slice`.
+    pub fn range(&self, range: Range<usize>) -> RelativeName<&[u8]>
+        requires start { IsLabelEnd (relative_labels self.now) range.start }
+        requires end { IsLabelEnd (relative_labels self.now) range.end }
+        requires ordered { range.start ≤ range.end }
+        ensures { IsPartOf (relative_labels self.now) range.start range.end (relative_labels result) }
+    {
+        self.slice(range)
+    }
+
+    /// The labels before a place of the wire form and those from it on, where `is_label_start` is true
+    /// there.
+    pub fn split(&self, mid: usize) -> (RelativeName<&[u8]>, RelativeName<&[u8]>)
+        requires { IsLabelEnd (relative_labels self.now) mid }
+        ensures parts { relative_labels result.0 ++ relative_labels result.1 ≡ relative_labels self.now }
+        ensures place { length (wire (relative_labels result.0)) ≡ mid }
+    {
+        let (before, behind) = self.octets.as_slice().split_at(mid);
+        (
+            RelativeName { octets: before },
+            RelativeName { octets: behind },
+        )
+    }
+}
+
+impl<Octs: Octets> RelativeName<Octs> {
+    ghost use Rattle.domain_name.specs.Names.{relative_labels};
+
+    /// The first label, and the name of the labels behind it. `None` where there is no label.
+    pub fn split_first(&self) -> Option<(Label<'_>, RelativeName<&[u8]>)>
+        ensures some { IfSome result (λ parts. relative_labels self.now ≡ label_octets parts.0 ∷ relative_labels parts.1) }
+        ensures none { IsNone result ↔ (relative_labels self.now ≡ []) }
+    {
+        self.for_slice().split_slice()
+    }
+
+    /// The name of the labels behind the first. `None` where there is no label.
+    pub fn parent(&self) -> Option<RelativeName<&[u8]>>
+        ensures some { IfSome result (λ rest. (first : List ℕ) × (relative_labels self.now ≡ first ∷ relative_labels rest)) }
+        ensures none { IsNone result ↔ (relative_labels self.now ≡ []) }
+    {
+        let (_, rest) = self.split_first()?;
+        Some(rest)
+    }
+}
+
+impl<Octs: Truncate> RelativeName<Octs> {
+    ghost use Rattle.domain_name.specs.Names.{relative_labels};
+
+    /// Keeps the labels before a place of the wire form where `is_label_start` is true.
+    pub fn truncate(&mut self, len: usize)
+        requires { IsLabelEnd (relative_labels self.old) len }
+        ensures parts { (behind : List (List ℕ)) × (relative_labels self.old ≡ relative_labels self.new ++ behind) }
+        ensures place { length (wire (relative_labels self.new)) ≡ len }
+    {
+        self.octets.truncate(len);
+    }
+}
+
+impl<Octs: OctetsMut> RelativeName<Octs> {
+    ghost use Rattle.domain_name.specs.Names.{relative_labels};
+
+    /// Makes A to Z of each label a to z, its canonical form (RFC 4034, 6.2).
+    pub fn make_canonical(&mut self)
+        ensures { relative_labels self.new ≡ low_all (relative_labels self.old) }
+    {
+        make_lowercase(&mut self.octets);
+    }
+}
+
+impl<Src: Octets, Octs: SameOctets<Src>> OctetsFrom<RelativeName<Src>> for RelativeName<Octs> {
+    ghost use Rattle.domain_name.specs.Names.{relative_labels, relative_holder};
+
+    type Error = Octs::Error;
+
+    ghost same = { λ source made. relative_labels made ≡ relative_labels source };
+
+    ghost may_refuse = { λ source. Octs.may_refuse (relative_holder source) };
+
+    fn try_octets_from(
+        alloc: Global,
+        source: RelativeName<Src>,
+    ) -> Result<RelativeName<Octs>, Octs::Error> {
+        let octets = Octs::try_octets_from(alloc, source.into_octets())?;
+        Ok(RelativeName { octets })
+    }
+}
+
+impl<Octs: SameOctets<&'static [u8]>> RelativeName<Octs> {
+    ghost use Rattle.domain_name.specs.Names.{relative_labels};
+
+    /// The name without labels.
+    ///
+    /// `ShortBuf` only where the octets refuse to be made of none.
+    pub fn empty(alloc: Global) -> Result<RelativeName<Octs>, ShortBuf>
+        ensures { IfOk result (λ name. relative_labels name ≡ []) }
+    {
+        match RelativeName::try_octets_from(alloc, RelativeName::empty_ref()) {
+            Ok(name) => Ok(name),
+            Err(e) => Err(e.into()),
+        }
+    }
+
+    /// The name of one label, an asterisk (RFC 4592, 2.1.1).
+    ///
+    /// `ShortBuf` only where the octets refuse to be made of two.
+    pub fn wildcard(alloc: Global) -> Result<RelativeName<Octs>, ShortBuf>
+        ensures { IfOk result (λ name. relative_labels name ≡ (42 ∷ []) ∷ []) }
+    {
+        match RelativeName::try_octets_from(alloc, RelativeName::wildcard_ref()) {
+            Ok(name) => Ok(name),
+            Err(e) => Err(e.into()),
+        }
+    }
+}
+
+impl RelativeName<Vec<u8>> {
+    ghost use Rattle.domain_name.specs.Names.{relative_labels};
+
+    /// The name without labels. `ShortBuf` only where memory was refused.
+    pub fn empty_vec(alloc: Global) -> Result<RelativeName<Vec<u8>>, ShortBuf>
+        ensures { IfOk result (λ name. relative_labels name ≡ []) }
+    {
+        RelativeName::empty(alloc)
+    }
+
+    /// The name of one label, an asterisk. `ShortBuf` only where memory was refused.
+    pub fn wildcard_vec(alloc: Global) -> Result<RelativeName<Vec<u8>>, ShortBuf>
+        ensures { IfOk result (λ name. relative_labels name ≡ (42 ∷ []) ∷ []) }
+    {
+        RelativeName::wildcard(alloc)
+    }
+
+    /// The same name over new octets. `ShortBuf` only where memory was refused.
+    pub fn clone(&self, alloc: Global) -> Result<RelativeName<Vec<u8>>, ShortBuf>
+        ensures { IfOk result (λ name. relative_labels name ≡ relative_labels self.now) }
+    {
+        RelativeName::try_octets_from(alloc, self.for_slice())
+    }
+}
+
+impl<const N: usize> RelativeName<ArrayVec<u8, N>> {
+    ghost use Rattle.domain_name.specs.Names.{relative_labels};
+
+    /// The same name over new octets, which is never refused.
+    pub fn clone(&self, alloc: Global) -> Result<RelativeName<ArrayVec<u8, N>>, ShortBuf>
+        ensures ok { IfOk result (λ name. relative_labels name ≡ relative_labels self.now) }
+        ensures made { IsOk result }
+    {
+        let octets = ArrayVec::try_octets_from(alloc, self.octets.as_slice())?;
+        Ok(RelativeName { octets })
+    }
+}

@@ -1,0 +1,45 @@
+//! What is left of a name behind its first labels.
+
+use crate::absolute::Name;
+
+/// The suffixes of an absolute name: the name itself, and then what is left of it behind its first
+/// labels, down to the root.
+#[derive(Clone, Copy)]
+pub struct SuffixIter<'a> {
+    next: Option<Name<&'a [u8]>>,
+}
+
+impl<'a> SuffixIter<'a> {
+    ghost use Rattle.std.specs.Prelude.{◌≡◌};
+    ghost use Rattle.domain_flat.specs.Flat.{suffixes};
+    ghost use Rattle.domain_name.specs.Names.{name_labels};
+    ghost use Rattle.domain_name.specs.Suffixes.{suffixes_left};
+
+    /// The suffixes of this name.
+    pub fn new(name: Name<&'a [u8]>) -> SuffixIter<'a>
+        ensures { suffixes_left result ≡ suffixes (name_labels name.entry) }
+    {
+        SuffixIter { next: Some(name) }
+    }
+}
+
+impl<'a> Iterator for SuffixIter<'a> {
+    ghost use Rattle.std.specs.Iterator.{YieldsFirstBy, item_count};
+    ghost use Rattle.domain_name.specs.Names.{name_labels};
+    ghost use Rattle.domain_name.specs.Suffixes.{suffixes_left};
+
+    type Item = Name<&'a [u8]>;
+
+    ghost next_gives = { YieldsFirstBy name_labels suffixes_left };
+
+    ghost remaining = { item_count suffixes_left };
+
+    fn next(&mut self) -> Option<Name<&'a [u8]>> {
+        let name = self.next?;
+        self.next = match name.split_slice() {
+            Some((_, rest)) => Some(rest),
+            None => None,
+        };
+        Some(name)
+    }
+}

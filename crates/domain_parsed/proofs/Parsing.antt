@@ -1,0 +1,105 @@
+-- From a reading of the parser's message to the name and the parser behind it.
+use Rattle.std.proofs.Common.{◌≡◌, ℕ, ◌+◌, ◌≤◌, ◌↔◌, List, [], ◌∷◌, ◌++◌, length, refl, sym, subst, arith, ◌∙◌, Bool, true, false, unwrap_or, slice_range, drop, Result, Ok, Err, IsOk, IsErr}
+use Rattle.std.proofs.lemmas.Grind.{common_steps}
+use Rattle.std.proofs.lemmas.List.{take-append-drop}
+use Rattle.domain_label.specs.Wire.{wire}
+use Rattle.octseq.specs.declared.parse.Parser.{Parser}
+use Rattle.octseq.specs.Parsing.{message, place}
+use Rattle.domain_parsed.specs.Grammar.{OctetAt, PointerAt, Names, Flat, Front, Base, LiesInOnePiece}
+use Rattle.domain_parsed.specs.Grammar.Stop.{root as stop_root, pointer as stop_pointer}
+use Rattle.domain_parsed.specs.Grammar.Base.{here}
+use Rattle.domain_parsed.specs.Faults.{Fault, Skips, SkipFault}
+use Rattle.domain_parsed.specs.Labels.{labels_at}
+use Rattle.domain_parsed.specs.Outcomes.{NameRead, LiesPlainly}
+use Rattle.domain_parsed.specs.declared.fault.NameFault.{NameFault}
+use Rattle.domain_parsed.specs.declared.progress.Progress.{Progress}
+use Rattle.domain_parsed.proofs.Reading.{names_more, names_within, reads_once}
+use Rattle.domain_parsed.proofs.Walking.{names_or_fault}
+use Rattle.domain_parsed.proofs.Fronts.{front_once, not_in_one_piece, skips_not_both}
+use Rattle.domain_parsed.proofs.Naming.{labels_named}
+use Rattle.domain_parsed.proofs.Plain.{plain_names, plain_front}
+
+pub ok_not_err : {T E : Type 0} (r : Result T E) → IsErr r → IsOk r → ⊥
+ok_not_err (Ok x) e o = cc
+ok_not_err (Err x) e o = cc
+
+-- what a refused reading of the parser's message and place says of the parser
+pub no_name : {n : ℕ} {m : List ℕ} {p : ℕ} {e : NameFault} (parser : Parser) → m ≡ message parser → p ≡ place parser → Fault n m p e → (ls : List (List ℕ)) → Names n (message parser) (place parser) ls → ⊥
+no_name {n} {m} {p} {e} parser a b f ls x =
+    names_or_fault x (subst (λ p. Fault n (message parser) p e) b (subst (λ m. Fault n m p e) a f))
+
+pub no_skip : {m : List ℕ} {p : ℕ} {d : NameFault} (parser : Parser) → m ≡ message parser → p ≡ place parser → SkipFault m p d → (e : ℕ) → Skips (message parser) (place parser) e → ⊥
+no_skip {m} {p} {d} parser a b f e x =
+    skips_not_both x (subst (λ p. SkipFault (message parser) p d) b (subst (λ m. SkipFault m p d) a f))
+
+pub read_here : {n : ℕ} {m : List ℕ} {p : ℕ} {w : Progress} {before now : ℕ} (parser : Parser) → m ≡ message parser → p ≡ place parser → NameRead n m p w before now → NameRead n (message parser) (place parser) w before now
+read_here {n} {m} {p} {w} {before} {now} parser a b r =
+    subst (λ p. NameRead n (message parser) p w before now) b (subst (λ m. NameRead n m p w before now) a r)
+
+-- ---- the name, in all octets of the slice
+
+-- the labels were read at w's base in octets that go on behind the message
+pub record Held (octets : List ℕ) (w : Progress) (labels : List (List ℕ)) : Type 0 where
+  pub same : labels_at octets w.base ≡ labels
+  pub named : Names 255 octets w.base (labels_at octets w.base)
+  pub sized : w.len + 1 ≡ length (wire (labels_at octets w.base))
+  pub flat : w.compressed ≡ false → slice_range octets w.base (w.base + (w.len + 1)) ≡ wire (labels_at octets w.base)
+
+slice_more : (m u : List ℕ) (a b : ℕ) → b ≤ length m → slice_range (m ++ u) a b ≡ slice_range m a b
+slice_more m u a b h = grind (arith, common_steps)
+
+held_more : {n : ℕ} {m : List ℕ} {p : ℕ} {w : Progress} {before now : ℕ} (u : List ℕ) → n ≤ 255 → (r : NameRead n m p w before now) → Held (m ++ u) w r.labels
+held_more {m = m} {w = w} u le r =
+    let there = names_more u (names_within 255 r.there le) in
+    let e = labels_named there in
+    record {
+      same = e;
+      named = rw e there;
+      sized = rw e r.sized;
+      flat = λ h. rw e (slice_more m u w.base (w.base + (w.len + 1)) (r.inside h) ∙ r.octets h);
+    }
+
+pub held : {n : ℕ} {p : ℕ} {w : Progress} {before now : ℕ} (parser : Parser) (octets : List ℕ) → octets ≡ parser.octets.now → n ≤ 255 → (r : NameRead n (message parser) p w before now) → Held octets w r.labels
+held {n} {p} {w} parser octets e le r =
+    subst (λ o. Held o w r.labels) (take-append-drop parser.end parser.octets.now ∙ sym e) (held_more (drop parser.end parser.octets.now) le r)
+
+-- ---- whether it lies in one piece
+
+piece_from : {m : List ℕ} {p b : ℕ} (compressed : Bool) → (compressed ≡ true → (fs : List (List ℕ)) × (q : ℕ) × (e : ℕ) × Front m b fs (stop_pointer q) e) → Base m p b → LiesInOnePiece m p → compressed ≡ false
+piece_from false scattered base x = refl
+piece_from true scattered base x = absurd (not_in_one_piece base (scattered refl).3 x)
+
+pub piece_tells : {n : ℕ} {m : List ℕ} {p : ℕ} {w : Progress} {before now : ℕ} → NameRead n m p w before now → (w.compressed ≡ false) ↔ LiesInOnePiece m p
+piece_tells {w = w} r = (
+  λ h. let f = r.in_one_piece h in (w.base, f.0, f.1, r.base, f.2),
+  λ x. piece_from w.compressed r.scattered r.base x,
+)
+
+-- ---- a name that lies plainly
+
+no_pointer_from : {m : List ℕ} {r : ℕ} (fs : List (List ℕ)) (p : ℕ) → Flat m p fs r → OctetAt m r 0 → (q : ℕ) → PointerAt m p q → p ≤ q
+no_pointer_from {m} [] p a x q y = let z = subst (λ p. OctetAt m p 0) (sym a) x in absurd (omega (arith, z.octet, y.head))
+no_pointer_from (l ∷ fs) p a x q y = absurd (omega (arith, a.0.head, a.0.short, y.head))
+
+-- where a front ends in the root there is no pointer
+front_base : {m : List ℕ} {p e : ℕ} {fs : List (List ℕ)} → Front m p fs stop_root e → Base m p p
+front_base {p = p} {fs = fs} x = here (no_pointer_from fs p x.flat x.ends.0)
+
+pub plainly_named : {parser : Parser} {ls : List (List ℕ)} (n : ℕ) → LiesPlainly parser ls → Names n (message parser) (place parser) ls
+plainly_named {parser} {ls} n x =
+    let a = names_within n (plain_names x.before x.behind ls x.name) (omega arith) in
+    subst (λ p. Names n (message parser) p ls) (sym x.here) (subst (λ m. Names n m (length x.before) ls) (sym x.octets) a)
+
+pub plainly_front : {parser : Parser} {ls : List (List ℕ)} → LiesPlainly parser ls → (fs : List (List ℕ)) × Front (message parser) (place parser) fs stop_root (place parser + length (wire ls))
+plainly_front {parser} {ls} x =
+    let a = plain_front x.before x.behind ls x.name in
+    (a.0, subst (λ p. Front (message parser) p a.0 stop_root (p + length (wire ls))) (sym x.here) (subst (λ m. Front m (length x.before) a.0 stop_root (length x.before + length (wire ls))) (sym x.octets) a.1))
+
+-- a name that lies plainly is read, lies in one piece, and the parser is moved behind it
+pub plainly_read : {n : ℕ} {parser : Parser} {ls : List (List ℕ)} {w : Progress} {before now : ℕ} → LiesPlainly parser ls → (r : NameRead n (message parser) (place parser) w before now) → (r.labels ≡ ls) × (w.compressed ≡ false) × (unwrap_or w.end (w.at + 1) ≡ place parser + length (wire ls))
+plainly_read {n} {parser} {w = w} x r =
+    let f = plainly_front x in (
+      (reads_once r.name.reads (plainly_named n x).reads).1,
+      piece_from w.compressed r.scattered r.base (place parser, f.0, place parser + length (wire _), front_base f.1, f.1),
+      (front_once r.ends.2 f.1).2,
+    )

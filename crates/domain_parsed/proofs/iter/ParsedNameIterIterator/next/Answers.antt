@@ -1,0 +1,39 @@
+use Rattle.std.proofs.Common.{◌≡◌, ◌+◌, ◌-◌, ◌∷◌, [], arith, ap, ◌∙◌}
+use Rattle.domain_label.specs.Views.{label_octets}
+use Rattle.domain_parsed.specs.Views.{labels_left}
+use Rattle.domain_parsed.specs.Labels.{labels_within, labels_at}
+use Rattle.domain_parsed.proofs.Within.{within_none}
+use Rattle.domain_parsed.proofs.Naming.{name_left}
+use Rattle.domain_parsed.proofs.Steps.{taken, shorter}
+use Rattle.domain_parsed.proofs.iter.ParsedNameIterIterator.next.Goals as goal
+
+pub returns-then-self-eq0-clause-steps : goal.returns-then-self-eq0-clause-steps
+returns-then-self-eq0-clause-steps c =
+    let all = labels_at c.args.self.now.octets.now c.args.self.now.pos in
+    let e : labels_within c.args.self.now.len all ≡ [] = ap (λ n. labels_within n all) c.if-self-eq0.true ∙ within_none all in
+    (e, e)
+
+pub first_label-behind-requires : goal.first_label-behind-requires
+first_label-behind-requires c = ∣ name_left c.args.self.now.named (omega arith) ∣₁
+
+pub overflow_sub-self : goal.overflow_sub-self
+overflow_sub-self c =
+    let t = taken _ c.first_label-behind.ensures.first (omega arith) c.args.self.now.sized in
+    omega (arith, c.len.ensures, t.fits)
+
+pub invariant_of-self : goal.invariant_of-self
+invariant_of-self c =
+    let t = taken _ c.first_label-behind.ensures.first (omega arith) c.args.self.now.sized in
+    rw c.len.ensures record { sized = t.whole; named = ∣ t.named ∣₁ }
+
+pub returns-clause-steps : goal.returns-clause-steps
+returns-clause-steps c = rw c.len.ensures (taken _ c.first_label-behind.ensures.first (omega arith) c.args.self.now.sized).next
+
+pub returns-clause-goes : goal.returns-clause-goes
+returns-clause-goes c =
+    let t = taken _ c.first_label-behind.ensures.first (omega arith) c.args.self.now.sized in
+    let before = labels_left c.args.self.now in
+    let after = labels_within (c.args.self.now.len - (c.len.result + 1)) (labels_at c.args.self.now.octets.now c.first_label-behind.result.1) in
+    let l = label_octets c.first_label-behind.result.0 in
+    let e : before ≡ l ∷ after = rw c.len.ensures t.next in
+    record { on = λ _. (tt, tt, shorter before after l e); keeps = tt; rests = λ _. tt }

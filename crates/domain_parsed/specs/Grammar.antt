@@ -1,0 +1,69 @@
+-- Names in a message, with compression pointers (RFC 1035, 4.1.4). `m` is the message: the list of its octets.
+use Rattle.std.specs.Prelude.{◌≡◌, ℕ, suc, ◌+◌, ◌*◌, ◌≤◌, ◌<◌, List, [], ◌∷◌, length, slice_index, slice_range}
+use Rattle.domain_label.specs.Wire.{wire, Root}
+
+-- The octet o stands at p.
+pub record OctetAt (m : List ℕ) (p o : ℕ) : Type 0 where
+  pub inside : p < length m
+  pub octet : slice_index m p ≡ o
+
+-- A whole label stands at p, and it isn't the root: its length, 1 to 63, and that many octets.
+pub record LabelAt (m : List ℕ) (p : ℕ) (l : List ℕ) : Type 0 where
+  pub nonempty : 0 < length l
+  pub short : length l < 64
+  pub head : slice_index m p ≡ length l
+  pub inside : p + 1 + length l ≤ length m
+  pub octets : slice_range m (p + 1) (p + 1 + length l) ≡ l
+
+-- A whole pointer to q stands at p: two octets, the two high bits ones, the other 14 the place.
+pub record PointerAt (m : List ℕ) (p q : ℕ) : Type 0 where
+  pub inside : p + 1 < length m
+  pub head : 192 ≤ slice_index m p
+  pub target : q + 49152 ≡ 256 * slice_index m p + slice_index m (p + 1)
+
+-- The labels ls are read at p, through k pointers. Each pointer leads back.
+pub data Reads (m : List ℕ) : ℕ → ℕ → List (List ℕ) → Type 0 where
+  root : {p : ℕ} → OctetAt m p 0 → Reads m p 0 Root
+  label : {p k : ℕ} {l : List ℕ} {rest : List (List ℕ)} → LabelAt m p l → Reads m (p + 1 + length l) k rest → Reads m p k (l ∷ rest)
+  pointer : {p q k : ℕ} {ls : List (List ℕ)} → PointerAt m p q → q < p → Reads m q k ls → Reads m p (suc k) ls
+
+-- The name at p is ls: it is read through at most n pointers, and it has at most 255 octets (RFC 1035, 3.1).
+pub record Names (n : ℕ) (m : List ℕ) (p : ℕ) (ls : List (List ℕ)) : Type 0 where
+  pub pointers : ℕ
+  pub reads : Reads m p pointers ls
+  pub few_pointers : pointers ≤ n
+  pub short : length (wire ls) ≤ 255
+
+-- The labels fs stand from p to r, one behind the other, with no pointer between them.
+abbrev pub Flat : List ℕ → ℕ → List (List ℕ) → ℕ → Type 0
+Flat m p [] r = p ≡ r
+Flat m p (l ∷ fs) r = LabelAt m p l × Flat m (p + 1 + length l) fs r
+
+-- What ends the front of a name.
+pub data Stop : Type 0 where
+  root : Stop
+  pointer : ℕ → Stop
+
+-- The root or a whole pointer stands at r, and e is the place behind it.
+abbrev pub StopAt : List ℕ → ℕ → Stop → ℕ → Type 0
+StopAt m r root e = OctetAt m r 0 × (e ≡ r + 1)
+StopAt m r (pointer q) e = PointerAt m r q × (e ≡ r + 2)
+
+-- The front of the name at p: the labels fs, then the first root or pointer c, and e is the place behind it.
+pub record Front (m : List ℕ) (p : ℕ) (fs : List (List ℕ)) (c : Stop) (e : ℕ) : Type 0 where
+  pub stop : ℕ
+  pub flat : Flat m p fs stop
+  pub ends : StopAt m stop c e
+
+-- The front of the name at p ends before e.
+abbrev pub EndsBefore : List ℕ → ℕ → ℕ → Type 0
+EndsBefore m p e = (fs : List (List ℕ)) × (c : Stop) × Front m p fs c e
+
+-- The base of the name at p, where its pointers at the beginning lead to: no pointer leads back from there.
+pub data Base (m : List ℕ) : ℕ → ℕ → Type 0 where
+  here : {p : ℕ} → ((q : ℕ) → PointerAt m p q → p ≤ q) → Base m p p
+  past : {p q b : ℕ} → PointerAt m p q → q < p → Base m q b → Base m p b
+
+-- From its base on the name lies in one piece: its front ends in the root.
+abbrev pub LiesInOnePiece : List ℕ → ℕ → Type 0
+LiesInOnePiece m p = (b : ℕ) × (fs : List (List ℕ)) × (e : ℕ) × Base m p b × Front m b fs root e

@@ -1,0 +1,40 @@
+-- What contracts see of a name in a message, and of the iterators over it.
+use Rattle.std.specs.Prelude.{ℕ, Bool, List, [], ◌∷◌, Option, None, Some}
+use Rattle.octseq.specs.declared.octets.Octets.{Ghosts}
+use Rattle.domain_parsed.specs.declared.parsed.ParsedName.{ParsedName}
+use Rattle.domain_parsed.specs.declared.iter.ParsedNameIter.{ParsedNameIter}
+use Rattle.domain_parsed.specs.declared.suffixes.ParsedSuffixIter.{ParsedSuffixIter}
+use Rattle.domain_parsed.specs.Labels.{labels_at, labels_within}
+
+-- the octets that the name lies in
+abbrev pub parsed_octets : {O : Type 0} {g : Ghosts O} → ParsedName O g → List ℕ
+parsed_octets {g = g} n = g.octets n.octets
+
+-- its labels, the root among them
+abbrev pub parsed_labels : {O : Type 0} {g : Ghosts O} → ParsedName O g → List (List ℕ)
+parsed_labels {g = g} n = labels_at (g.octets n.octets) n.pos
+
+-- what `is_compressed` tells of it
+abbrev pub is_scattered : {O : Type 0} {g : Ghosts O} → ParsedName O g → Bool
+is_scattered n = n.compressed
+
+-- the labels that an iterator has left
+abbrev pub labels_left : ParsedNameIter → List (List ℕ)
+labels_left it = labels_within it.len (labels_at it.octets.now it.pos)
+
+-- what is told of a name: the octets that it lies in, `is_compressed` and its labels
+abbrev pub seen : {O : Type 0} {g : Ghosts O} → ParsedName O g → List ℕ × Bool × List (List ℕ)
+seen n = (parsed_octets n, is_scattered n, parsed_labels n)
+
+-- names of these labels, of these without the first, and so on down to the last, all in the same octets
+abbrev pub suffixes : List ℕ → Bool → List (List ℕ) → List (List ℕ × Bool × List (List ℕ))
+suffixes o c [] = []
+suffixes o c (l ∷ ls) = (o, c, l ∷ ls) ∷ suffixes o c ls
+
+abbrev pub suffixes_of : {O : Type 0} {g : Ghosts O} → Option (ParsedName O g) → List (List ℕ × Bool × List (List ℕ))
+suffixes_of None = []
+suffixes_of (Some n) = suffixes (parsed_octets n) (is_scattered n) (parsed_labels n)
+
+-- the names that an iterator has left
+abbrev pub suffixes_left : ParsedSuffixIter → List (List ℕ × Bool × List (List ℕ))
+suffixes_left it = suffixes_of it.name

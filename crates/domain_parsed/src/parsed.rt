@@ -1,0 +1,279 @@
+//! A name in a message.
+ghost use Rattle.std.specs.Prelude.{◌≡◌, ◌≤◌, ◌<◌, ◌+◌, ◌∷◌, ◌++◌, ◌↔◌, ℕ, List, [], length, slice_range, IfOk, IfErr, IfSome, IsNone, OnOk, OnErr, IsOk, IsTrue, MatchBool, MatchResult, true, false};
+ghost use Rattle.domain_label.specs.Wire.{wire, Root, IsAbsoluteName};
+ghost use Rattle.domain_label.proofs.WireLaws.{IsAbsoluteName_prop};
+ghost use Rattle.domain_parsed.specs.Grammar.{Names, LiesInOnePiece};
+ghost use Rattle.domain_parsed.specs.Labels.{labels_at};
+
+use crate::iter::{ParsedNameIter, first_label};
+use crate::read::read_name;
+use crate::skip::front_end;
+use crate::suffixes::ParsedSuffixIter;
+use domain_label::Label;
+use domain_name::Name;
+use domain_wire::ParseError;
+use octseq::{Octets, Parser};
+use std::alloc::AllocError;
+
+/// The most pointers that are followed for one name.
+const MAX_POINTERS: u8 = 255;
+
+/// An absolute name in a message, whose labels may stand in several places (RFC 1035, 4.1.4).
+///
+/// It has at most 255 octets with the root label, and at most 255 compression pointers lead along it.
+/// It keeps the octets of the whole message and a place in them.
+pub struct ParsedName<Octs: Octets> {
+    octets: Octs,
+    pos: usize,
+    name_len: u16,
+    compressed: bool,
+    ghost named: { ∥ Names 255 (Octs.octets octets) pos (labels_at (Octs.octets octets) pos) ∥₁ },
+    ghost absolute: { IsAbsoluteName (labels_at (Octs.octets octets) pos) } by { IsAbsoluteName_prop (labels_at (Octs.octets octets) pos) },
+    ghost sized: { name_len ≡ length (wire (labels_at (Octs.octets octets) pos)) },
+    ghost flat: { compressed ≡ false → slice_range (Octs.octets octets) pos (pos + name_len) ≡ wire (labels_at (Octs.octets octets) pos) },
+}
+
+impl<Octs: Octets + Copy> Copy for ParsedName<Octs> {}
+
+impl<Octs: Octets + Copy> Clone for ParsedName<Octs> {
+    ghost is_clone = { λ a b. b ≡ a };
+
+    ghost is_infallible = { λ _. Unit {0} };
+
+    fn clone(&self) -> Result<Self, AllocError> {
+        Ok(*self)
+    }
+}
+
+impl<'a> ParsedName<&'a [u8]> {
+    ghost use Rattle.domain_parsed.specs.Views.{parsed_octets, parsed_labels, is_scattered};
+    ghost use Rattle.octseq.specs.Parsing.{whole, message, place};
+    ghost use Rattle.domain_parsed.specs.Faults.{Skips};
+    ghost use Rattle.domain_parsed.specs.Outcomes.{MovesBehindFront, TellsFault, SkipsFront, TellsSkipFault, LiesPlainly};
+
+    /// Reads the name at the parser's place, and moves the parser behind the name's root or first pointer.
+    ///
+    /// Octets at or past the parser's end are never read. A name that begins with pointers is taken at
+    /// the place that they lead to. Labels, the root among them, may have at most 255 octets with their
+    /// length octets. Each pointer must lead to a place before its own, and at most 255 are followed.
+    ///
+    /// The first fault on the way decides, and the parser stays where it is:
+    /// - `ShortInput` where a head, a label or the second octet of a pointer is past the end;
+    /// - "invalid label type" at a head from 0x40 to 0xbf;
+    /// - "too many compression pointers" at one that doesn't lead back, and at a 256th;
+    /// - "long domain name" where the labels and their length octets are more than 254 before the root.
+    pub fn parse(parser: &mut Parser<'a>) -> Result<ParsedName<&'a [u8]>, ParseError>
+        ensures exact { IsOk result ↔ ((ls : List (List ℕ)) × Names 255 (message parser.old) (place parser.old) ls) }
+        ensures labels { IfOk result (λ name. Names 255 (message parser.old) (place parser.old) (parsed_labels name)) }
+        ensures octets { IfOk result (λ name. parsed_octets name ≡ whole parser.old) }
+        ensures scattered { IfOk result (λ name. (is_scattered name ≡ false) ↔ LiesInOnePiece (message parser.old) (place parser.old)) }
+        ensures moves { OnOk result (MovesBehindFront parser.old parser.new) }
+        ensures plain { (ls : List (List ℕ)) → LiesPlainly parser.old ls → MatchResult result (λ name. (parsed_labels name ≡ ls) × (is_scattered name ≡ false) × (place parser.new ≡ place parser.old + length (wire ls))) (λ _. ⊥) }
+        ensures refused { IfErr result (λ e. TellsFault 255 parser.old e) }
+        ensures unchanged { OnErr result (parser.new ≡ parser.old) }
+    {
+        let progress = read_name(parser.as_slice(), parser.pos(), MAX_POINTERS)?;
+        let Ok(()) = parser.seek(progress.place_behind()) else {
+            unreachable!();
+        };
+        Ok(ParsedName {
+            octets: parser.octets_ref(),
+            pos: progress.base,
+            name_len: progress.len + 1,
+            compressed: progress.compressed,
+        })
+    }
+
+    /// The same as `parse`.
+    pub fn parse_ref(parser: &mut Parser<'a>) -> Result<ParsedName<&'a [u8]>, ParseError>
+        ensures exact { IsOk result ↔ ((ls : List (List ℕ)) × Names 255 (message parser.old) (place parser.old) ls) }
+        ensures labels { IfOk result (λ name. Names 255 (message parser.old) (place parser.old) (parsed_labels name)) }
+        ensures octets { IfOk result (λ name. parsed_octets name ≡ whole parser.old) }
+        ensures scattered { IfOk result (λ name. (is_scattered name ≡ false) ↔ LiesInOnePiece (message parser.old) (place parser.old)) }
+        ensures moves { OnOk result (MovesBehindFront parser.old parser.new) }
+        ensures plain { (ls : List (List ℕ)) → LiesPlainly parser.old ls → MatchResult result (λ name. (parsed_labels name ≡ ls) × (is_scattered name ≡ false) × (place parser.new ≡ place parser.old + length (wire ls))) (λ _. ⊥) }
+        ensures refused { IfErr result (λ e. TellsFault 255 parser.old e) }
+        ensures unchanged { OnErr result (parser.new ≡ parser.old) }
+    {
+        ParsedName::parse(parser)
+    }
+
+    /// Moves the parser behind the root or the first pointer of the name at its place.
+    ///
+    /// A pointer is not followed, so it may lead anywhere; its two octets must be there. The labels
+    /// before it with their length octets may be at most 255, the root included.
+    ///
+    /// `ShortInput` and "invalid label type" as `parse`, "long domain name" past the 255 octets. The
+    /// parser then stays where it is. Where `parse` succeeds, this does, and moves to the same place.
+    pub fn skip(parser: &mut Parser<'a>) -> Result<(), ParseError>
+        ensures exact { IsOk result ↔ ((e : ℕ) × Skips (message parser.old) (place parser.old) e) }
+        ensures moves { OnOk result (SkipsFront parser.old parser.new) }
+        ensures refused { IfErr result (λ e. TellsSkipFault parser.old e) }
+        ensures unchanged { OnErr result (parser.new ≡ parser.old) }
+    {
+        let end = front_end(parser.as_slice(), parser.pos())?;
+        let Ok(()) = parser.seek(end) else {
+            unreachable!();
+        };
+        Ok(())
+    }
+}
+
+impl<Octs: Octets> ParsedName<Octs> {
+    ghost use Rattle.domain_label.specs.Views.{label_octets};
+    ghost use Rattle.domain_parsed.specs.Views.{parsed_octets, parsed_labels, is_scattered, labels_left, suffixes, suffixes_left};
+
+    /// Whether a pointer may follow the first label. False means that the name lies in one piece.
+    pub fn is_compressed(&self) -> bool
+        ensures { result ≡ is_scattered self.now }
+    {
+        self.compressed
+    }
+
+    /// Whether the name is the root.
+    pub fn is_root(&self) -> bool
+        ensures { IsTrue result ↔ (parsed_labels self.now ≡ Root) }
+    {
+        self.name_len == 1
+    }
+
+    /// The same name with its octets lent.
+    pub fn ref_octets(&self) -> ParsedName<&Octs>
+        ensures octets { parsed_octets result ≡ parsed_octets self.now }
+        ensures labels { parsed_labels result ≡ parsed_labels self.now }
+        ensures scattered { is_scattered result ≡ is_scattered self.now }
+    {
+        ParsedName {
+            octets: &self.octets,
+            pos: self.pos,
+            name_len: self.name_len,
+            compressed: self.compressed,
+        }
+    }
+
+    /// The same name over the octets as a slice.
+    pub(crate) fn for_slice(&self) -> ParsedName<&[u8]>
+        ensures octets { parsed_octets result ≡ parsed_octets self.now }
+        ensures labels { parsed_labels result ≡ parsed_labels self.now }
+        ensures scattered { is_scattered result ≡ is_scattered self.now }
+    {
+        ParsedName {
+            octets: self.octets.as_slice(),
+            pos: self.pos,
+            name_len: self.name_len,
+            compressed: self.compressed,
+        }
+    }
+
+    /// The labels, the root label last. They can be taken from either end.
+    pub fn iter(&self) -> ParsedNameIter<'_>
+        ensures { labels_left result ≡ parsed_labels self.now }
+    {
+        ParsedNameIter::new(self.octets.as_slice(), self.pos, self.name_len)
+    }
+
+    /// The name, then the name without its first label, and so on down to the root.
+    pub fn iter_suffixes(&self) -> ParsedSuffixIter<'_>
+        ensures { suffixes_left result ≡ suffixes (parsed_octets self.now) (is_scattered self.now) (parsed_labels self.now) }
+    {
+        ParsedSuffixIter::new(self.for_slice())
+    }
+
+    /// How many labels there are, the root label among them: 1 to 128.
+    pub fn label_count(&self) -> usize
+        ensures { result ≡ length (parsed_labels self.now) }
+    {
+        let mut count = 0;
+        for _label in self.iter() {
+            count += 1;
+        }
+        count
+    }
+
+    /// The first label, which is the root label where the name is the root.
+    pub fn first(&self) -> Label<'_>
+        ensures { (rest : List (List ℕ)) × (parsed_labels self.now ≡ label_octets result ∷ rest) }
+    {
+        first_label(self.octets.as_slice(), self.pos).0
+    }
+
+    /// The last label, which is the root label.
+    pub fn last(&self) -> Label<'static>
+        ensures { (front : List (List ℕ)) × (parsed_labels self.now ≡ front ++ label_octets result ∷ []) }
+    {
+        Label::root()
+    }
+
+    /// Leaves out the first label.
+    ///
+    /// False for the root, which stays as it is. `is_compressed` stays as it was.
+    pub fn parent(&mut self) -> bool
+        ensures labels { MatchBool result ((l : List ℕ) × (parsed_labels self.old ≡ l ∷ parsed_labels self.new)) ((self.new ≡ self.old) × (parsed_labels self.old ≡ Root)) }
+        ensures more { IsTrue result → 1 < length (parsed_labels self.old) }
+        ensures octets { parsed_octets self.new ≡ parsed_octets self.old }
+        ensures scattered { is_scattered self.new ≡ is_scattered self.old }
+    {
+        if self.is_root() {
+            return false;
+        }
+        let (label, behind) = first_label(self.octets.as_slice(), self.pos);
+        self.pos = behind;
+        self.name_len -= label.len() as u16 + 1;
+        true
+    }
+
+    /// How many octets the labels have on the wire, with their length octets: 1 to 255.
+    pub(crate) fn wire_len(&self) -> u16
+        ensures { result ≡ length (wire (parsed_labels self.now)) }
+    {
+        self.name_len
+    }
+
+    /// The octets of a name that lies in one piece.
+    pub(crate) fn flat_octets(&self) -> Option<&[u8]>
+        ensures octets { IfSome result (λ octets. octets.now ≡ wire (parsed_labels self.now)) }
+        ensures none { IsNone result ↔ (is_scattered self.now ≡ true) }
+    {
+        if self.compressed {
+            return None;
+        }
+        Some(&self.octets.as_slice()[self.pos..self.pos + usize::from(self.name_len)])
+    }
+}
+
+impl<'a, Octs: Octets> ParsedName<&'a Octs> {
+    ghost use Rattle.domain_parsed.specs.Views.{parsed_octets, parsed_labels, is_scattered};
+
+    /// The same name over the octets as a slice.
+    pub fn deref_octets(&self) -> ParsedName<&'a [u8]>
+        ensures octets { parsed_octets result ≡ parsed_octets self.now }
+        ensures labels { parsed_labels result ≡ parsed_labels self.now }
+        ensures scattered { is_scattered result ≡ is_scattered self.now }
+    {
+        let octets: &'a Octs = self.octets;
+        ParsedName {
+            octets: octets.as_slice(),
+            pos: self.pos,
+            name_len: self.name_len,
+            compressed: self.compressed,
+        }
+    }
+}
+
+/// A flat name is a name in a message that has no other octets.
+impl<Octs: Octets> From<Name<Octs>> for ParsedName<Octs> {
+    ghost use Rattle.domain_name.specs.Names.{name_octets, name_labels};
+    ghost use Rattle.domain_parsed.specs.Views.{parsed_octets, parsed_labels, is_scattered};
+
+    ghost from_gives = { λ flat name. (parsed_octets name ≡ name_octets flat) × (parsed_labels name ≡ name_labels flat) × (is_scattered name ≡ false) };
+
+    fn from(flat: Name<Octs>) -> ParsedName<Octs> {
+        let name_len = flat.len() as u16;
+        ParsedName {
+            octets: flat.into_octets(),
+            pos: 0,
+            name_len,
+            compressed: false,
+        }
+    }
+}

@@ -1,0 +1,205 @@
+//! Names read slowly, by the three cases of the grammar, against `parse` and `skip` at every place.
+ghost use Rattle.std.specs.Prelude.{◌≤◌, length};
+
+use crate::ParsedName;
+use domain_wire::ParseError;
+use octseq::Parser;
+use std::alloc::Global;
+use std::process::Abort;
+
+/// What stands at a place.
+#[derive(Clone, Copy)]
+enum Stands {
+    Root,
+    Label(usize),
+    Pointer(usize),
+}
+
+/// What was read: the octets of the labels and the root, the place behind, and whether a pointer
+/// follows the first label.
+#[derive(Drop)]
+struct Read {
+    wire: Vec<u8>,
+    end: usize,
+    scattered: bool,
+}
+
+fn long_name() -> ParseError {
+    ParseError::form_error("long domain name")
+}
+
+fn excessive() -> ParseError {
+    ParseError::form_error("too many compression pointers")
+}
+
+/// What stands at a place of the message, where it is whole.
+fn head_at(message: &[u8], at: usize) -> Result<Stands, ParseError> {
+    let Some(&head) = message.get(at) else {
+        return Err(ParseError::ShortInput);
+    };
+    let rest = &message[at + 1..];
+    if head == 0 {
+        Ok(Stands::Root)
+    } else if head < 0x40 {
+        match rest.len() < head as usize {
+            true => Err(ParseError::ShortInput),
+            false => Ok(Stands::Label(head as usize)),
+        }
+    } else if head < 0xc0 {
+        Err(ParseError::form_error("invalid label type"))
+    } else {
+        match rest {
+            [low, ..] => Ok(Stands::Pointer((head as usize - 0xc0) * 0x100 + *low as usize)),
+            [] => Err(ParseError::ShortInput),
+        }
+    }
+}
+
+/// The name at a place, or its first fault.
+fn read_slowly<R: Abort>(
+    rt: &R,
+    alloc: Global,
+    message: &[u8],
+    place: usize,
+) -> Result<Read, ParseError> {
+    let mut wire = Vec::new(alloc);
+    let mut at = place;
+    let mut end = None;
+    let mut scattered = false;
+    let mut pointers = 0u16;
+    for _head in 0..384u16 {
+        match head_at(message, at)? {
+            Stands::Root => {
+                assert!(rt; wire.push(0).is_ok() && at < message.len());
+                let end = end.unwrap_or(at + 1);
+                return Ok(Read {
+                    wire,
+                    end,
+                    scattered,
+                });
+            }
+            Stands::Label(len) => {
+                assert!(rt; at < message.len() && len < message.len() - at);
+                let behind = at + 1 + len;
+                if wire.len() + (behind - at) > 254 {
+                    return Err(long_name());
+                }
+                assert!(rt; wire.extend_from_slice(&message[at..behind]).is_ok());
+                at = behind;
+            }
+            Stands::Pointer(target) => {
+                if target >= at || pointers >= 255 {
+                    return Err(excessive());
+                }
+                assert!(rt; at < message.len() && message.len() - at > 1);
+                end = Some(end.unwrap_or(at + 2));
+                scattered = scattered || !wire.is_empty();
+                pointers += 1;
+                at = target;
+            }
+        }
+    }
+    panic!(rt; "more heads than a name has")
+}
+
+/// The place behind the name's root or first pointer, or the first fault before it.
+fn skip_slowly<R: Abort>(rt: &R, message: &[u8], place: usize) -> Result<usize, ParseError> {
+    let mut at = place;
+    let mut passed = 0;
+    for _head in 0..128u16 {
+        match head_at(message, at)? {
+            Stands::Root => {
+                if passed >= 255 {
+                    return Err(long_name());
+                }
+                assert!(rt; at < message.len());
+                return Ok(at + 1);
+            }
+            Stands::Label(len) => {
+                assert!(rt; at < message.len() && len < message.len() - at);
+                let behind = at + 1 + len;
+                assert!(rt; passed <= 255);
+                if behind - at > 255 - passed {
+                    return Err(long_name());
+                }
+                passed += behind - at;
+                at = behind;
+            }
+            Stands::Pointer(_) => {
+                assert!(rt; at < message.len() && message.len() - at > 1);
+                return Ok(at + 2);
+            }
+        }
+    }
+    panic!(rt; "more heads than a name has")
+}
+
+/// The octets of a name's labels, each behind its length.
+pub(crate) fn wire_of<R: Abort>(rt: &R, alloc: Global, name: &ParsedName<&[u8]>) -> Vec<u8> {
+    let mut wire = Vec::new(alloc);
+    for label in name.iter() {
+        assert!(rt; wire.push(label.len() as u8).is_ok());
+        assert!(rt; wire.extend_from_slice(label.as_slice()).is_ok());
+    }
+    wire
+}
+
+/// Whether `parse` and `skip` answer as the slow reading does.
+fn agrees<R: Abort>(rt: &R, alloc: Global, octets: &[u8], place: usize, end: usize)
+    requires ordered { place ≤ end }
+    requires inside { end ≤ length octets.now }
+{
+    let message = &octets[..end];
+    let mut parser = Parser::with_range(octets, place..end);
+    match (
+        ParsedName::parse(&mut parser),
+        read_slowly(rt, alloc, message, place),
+    ) {
+        (Ok(name), Ok(read)) => {
+            assert_eq!(rt;
+                wire_of(rt, alloc, &name),
+                read.wire,
+                "labels at {place} of {end}"
+            );
+            assert_eq!(rt; parser.pos(), read.end, "end at {place} of {end}");
+            assert_eq!(rt;
+                name.is_compressed(),
+                read.scattered,
+                "pieces at {place} of {end}"
+            );
+        }
+        (Err(fault), Err(wanted)) => {
+            assert_eq!(rt; fault, wanted, "fault at {place} of {end}");
+            assert_eq!(rt; parser.pos(), place, "refused at {place} of {end}");
+        }
+        _ => panic!(rt; "read or refused at {place} of {end}"),
+    }
+    let mut parser = Parser::with_range(octets, place..end);
+    match (
+        ParsedName::skip(&mut parser),
+        skip_slowly(rt, message, place),
+    ) {
+        (Ok(()), Ok(behind)) => assert_eq!(rt; parser.pos(), behind, "skip at {place} of {end}"),
+        (Err(fault), Err(wanted)) => {
+            assert_eq!(rt; fault, wanted, "skip's fault at {place} of {end}");
+            assert_eq!(rt; parser.pos(), place, "skip refused at {place} of {end}");
+        }
+        _ => panic!(rt; "skipped or refused at {place} of {end}"),
+    }
+}
+
+/// Every place, with the parser's end at every later place.
+pub(crate) fn agrees_at_every_place_and_end<R: Abort>(rt: &R, alloc: Global, octets: &[u8]) {
+    for end in 0..octets.len() + 1 {
+        for place in 0..end + 1 {
+            agrees(rt, alloc, octets, place, end);
+        }
+    }
+}
+
+/// Every place, with the parser's end at the end of the octets.
+pub(crate) fn agrees_at_every_place<R: Abort>(rt: &R, alloc: Global, octets: &[u8]) {
+    for place in 0..octets.len() + 1 {
+        agrees(rt, alloc, octets, place, octets.len());
+    }
+}

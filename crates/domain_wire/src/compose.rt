@@ -1,0 +1,275 @@
+//! Values of fixed length, and how they are written on the wire.
+ghost use Rattle.std.specs.Prelude.{◌≡◌, ℕ, ◌++◌, ◌+◌, ◌<◌, ◌≤◌, List, length, OnOk, OnErr, IfSome, MatchResult, [], Ok, Err, refl};
+ghost use Rattle.std.specs.Int.{w8, w16, w32, w64, w128, to_be_bytes, cast_unsigned};
+ghost use Rattle.domain_wire.specs.Addresses.{ipv4_octets, ipv6_octets};
+ghost use Rattle.std.specs.Fn.{FnOnceReturnsAtMut};
+
+use crate::net::{Ipv4Addr, Ipv6Addr};
+use octseq::{OctetsBuilder, ShortBuf};
+use std::alloc::Global;
+
+/// A value that has the same number of octets on the wire whatever it is.
+///
+/// Numbers are written with the high octet first, signed ones in two's complement (RFC 1035,
+/// 2.3.2), and addresses as their octets in the order in which they are written as text.
+pub trait Compose {
+    /// How many octets a value has on the wire.
+    const COMPOSE_LEN: u16;
+
+    /// The octets of a value on the wire.
+    ghost composed_octets: { Self → List ℕ };
+
+    /// Appends the octets of the value, or none.
+    ///
+    /// It is refused only where the octets exceed the spare capacity of the target, so never where
+    /// they fit. A refused call leaves the octets of the target as they were.
+    fn compose<Target: OctetsBuilder>(&self, target: &mut Target) -> Result<(), Target::AppendError>
+        ensures ok { OnOk result (Target.octets target.new ≡ Target.octets target.old ++ composed_octets self.now) }
+        ensures err { OnErr result (Target.octets target.new ≡ Target.octets target.old) }
+        ensures full { OnErr result (Target.capacity target.old < length (Target.octets target.old) + length (composed_octets self.now)) }
+        ensures capacity { Target.capacity target.old ≤ Target.capacity target.new }
+        ensures within { IfSome Target.limit (λ n. length (Target.octets target.new) ≤ n) };
+
+    /// How many octets this value has on the wire, which is `COMPOSE_LEN` for each.
+    fn composed_len(&self) -> u16
+        ensures { result ≡ length (composed_octets self.now) };
+}
+
+impl Compose for i8 {
+    const COMPOSE_LEN: u16 = 1;
+
+    ghost composed_octets = { λ n. to_be_bytes w8 (cast_unsigned w8 n) };
+
+    fn compose<Target: OctetsBuilder>(
+        &self,
+        target: &mut Target,
+    ) -> Result<(), Target::AppendError> {
+        target.append_slice(&i8::to_be_bytes(*self))
+    }
+
+    fn composed_len(&self) -> u16 {
+        Self::COMPOSE_LEN
+    }
+}
+
+impl Compose for u8 {
+    const COMPOSE_LEN: u16 = 1;
+
+    ghost composed_octets = { to_be_bytes w8 };
+
+    fn compose<Target: OctetsBuilder>(
+        &self,
+        target: &mut Target,
+    ) -> Result<(), Target::AppendError> {
+        target.append_slice(&u8::to_be_bytes(*self))
+    }
+
+    fn composed_len(&self) -> u16 {
+        Self::COMPOSE_LEN
+    }
+}
+
+impl Compose for i16 {
+    const COMPOSE_LEN: u16 = 2;
+
+    ghost composed_octets = { λ n. to_be_bytes w16 (cast_unsigned w16 n) };
+
+    fn compose<Target: OctetsBuilder>(
+        &self,
+        target: &mut Target,
+    ) -> Result<(), Target::AppendError> {
+        target.append_slice(&i16::to_be_bytes(*self))
+    }
+
+    fn composed_len(&self) -> u16 {
+        Self::COMPOSE_LEN
+    }
+}
+
+impl Compose for u16 {
+    const COMPOSE_LEN: u16 = 2;
+
+    ghost composed_octets = { to_be_bytes w16 };
+
+    fn compose<Target: OctetsBuilder>(
+        &self,
+        target: &mut Target,
+    ) -> Result<(), Target::AppendError> {
+        target.append_slice(&u16::to_be_bytes(*self))
+    }
+
+    fn composed_len(&self) -> u16 {
+        Self::COMPOSE_LEN
+    }
+}
+
+impl Compose for i32 {
+    const COMPOSE_LEN: u16 = 4;
+
+    ghost composed_octets = { λ n. to_be_bytes w32 (cast_unsigned w32 n) };
+
+    fn compose<Target: OctetsBuilder>(
+        &self,
+        target: &mut Target,
+    ) -> Result<(), Target::AppendError> {
+        target.append_slice(&i32::to_be_bytes(*self))
+    }
+
+    fn composed_len(&self) -> u16 {
+        Self::COMPOSE_LEN
+    }
+}
+
+impl Compose for u32 {
+    const COMPOSE_LEN: u16 = 4;
+
+    ghost composed_octets = { to_be_bytes w32 };
+
+    fn compose<Target: OctetsBuilder>(
+        &self,
+        target: &mut Target,
+    ) -> Result<(), Target::AppendError> {
+        target.append_slice(&u32::to_be_bytes(*self))
+    }
+
+    fn composed_len(&self) -> u16 {
+        Self::COMPOSE_LEN
+    }
+}
+
+impl Compose for i64 {
+    const COMPOSE_LEN: u16 = 8;
+
+    ghost composed_octets = { λ n. to_be_bytes w64 (cast_unsigned w64 n) };
+
+    fn compose<Target: OctetsBuilder>(
+        &self,
+        target: &mut Target,
+    ) -> Result<(), Target::AppendError> {
+        target.append_slice(&i64::to_be_bytes(*self))
+    }
+
+    fn composed_len(&self) -> u16 {
+        Self::COMPOSE_LEN
+    }
+}
+
+impl Compose for u64 {
+    const COMPOSE_LEN: u16 = 8;
+
+    ghost composed_octets = { to_be_bytes w64 };
+
+    fn compose<Target: OctetsBuilder>(
+        &self,
+        target: &mut Target,
+    ) -> Result<(), Target::AppendError> {
+        target.append_slice(&u64::to_be_bytes(*self))
+    }
+
+    fn composed_len(&self) -> u16 {
+        Self::COMPOSE_LEN
+    }
+}
+
+impl Compose for i128 {
+    const COMPOSE_LEN: u16 = 16;
+
+    ghost composed_octets = { λ n. to_be_bytes w128 (cast_unsigned w128 n) };
+
+    fn compose<Target: OctetsBuilder>(
+        &self,
+        target: &mut Target,
+    ) -> Result<(), Target::AppendError> {
+        target.append_slice(&i128::to_be_bytes(*self))
+    }
+
+    fn composed_len(&self) -> u16 {
+        Self::COMPOSE_LEN
+    }
+}
+
+impl Compose for u128 {
+    const COMPOSE_LEN: u16 = 16;
+
+    ghost composed_octets = { to_be_bytes w128 };
+
+    fn compose<Target: OctetsBuilder>(
+        &self,
+        target: &mut Target,
+    ) -> Result<(), Target::AppendError> {
+        target.append_slice(&u128::to_be_bytes(*self))
+    }
+
+    fn composed_len(&self) -> u16 {
+        Self::COMPOSE_LEN
+    }
+}
+
+impl Compose for Ipv4Addr {
+    const COMPOSE_LEN: u16 = 4;
+
+    ghost composed_octets = { ipv4_octets };
+
+    fn compose<Target: OctetsBuilder>(
+        &self,
+        target: &mut Target,
+    ) -> Result<(), Target::AppendError> {
+        target.append_slice(&self.octets())
+    }
+
+    fn composed_len(&self) -> u16 {
+        Self::COMPOSE_LEN
+    }
+}
+
+impl Compose for Ipv6Addr {
+    const COMPOSE_LEN: u16 = 16;
+
+    ghost composed_octets = { ipv6_octets };
+
+    fn compose<Target: OctetsBuilder>(
+        &self,
+        target: &mut Target,
+    ) -> Result<(), Target::AppendError> {
+        target.append_slice(&self.octets())
+    }
+
+    fn composed_len(&self) -> u16 {
+        Self::COMPOSE_LEN
+    }
+}
+
+impl<T: Compose> Compose for &T {
+    const COMPOSE_LEN: u16 = T::COMPOSE_LEN;
+
+    ghost composed_octets = { λ value. T.composed_octets value.now };
+
+    fn compose<Target: OctetsBuilder>(
+        &self,
+        target: &mut Target,
+    ) -> Result<(), Target::AppendError> {
+        Compose::compose(&**self, target)
+    }
+
+    fn composed_len(&self) -> u16 {
+        Compose::composed_len(&**self)
+    }
+}
+
+/// The octets that a call appends to an empty `Vec`.
+///
+/// The error is the call's own.
+pub fn compose_vec<F: FnOnce(&mut Vec<u8>) -> Result<(), ShortBuf>>(
+    alloc: Global,
+    op: F,
+) -> Result<Vec<u8>, ShortBuf>
+    requires { F.IsAlwaysCallable op }
+    ensures { (start : _) × (told : _) × (end : _)
+        × (start.items ≡ [])
+        × FnOnceReturnsAtMut F.FnOnce op start told end
+        × MatchResult told (λ _. result ≡ Ok end) (λ e. result ≡ Err e) }
+{
+    let mut octets = Vec::new(alloc);
+    op(&mut octets)?;
+    Ok(octets)
+}

@@ -1,0 +1,8 @@
+use Rattle.octseq.proofs.Limits.{taken_within_limit}
+use Rattle.octseq.proofs.tests.append_under_limit.Goals as goal
+
+pub returns-clause-fits : goal.returns-clause-fits
+returns-clause-fits g c =
+    taken_within_limit _ _ _ _
+    (g.met.B.OctetsBuilder.fixed c.args.builder.now)
+    c.append_slice.ensures.full
