@@ -1,8 +1,8 @@
 -- What the engines of the program read and write.
-use Rattle.std.specs.Prelude.{ℕ, List, [], ◌∷◌, ◌++◌, Option, IfSome, Result, Ok, Err, ⊤}
+use Rattle.std.specs.Prelude.{ℕ, List, [], ◌∷◌, ◌++◌, Option, IfSome, Result, Ok, Err, ⊤, codes}
 use Rattle.std.specs.Io.KnownBytes.{Appends, Keeps, IsAtEnd}
 use Rattle.domain_wire.specs.declared.error.ParseError.{ParseError}
-use Rattle.domain_wire.specs.Refusals.{refusal}
+use Rattle.domain_wire.specs.Refusals.{refusal, refusal_text}
 use Rattle.domain_label.specs.Text.{dotted}
 use Rattle.domain_parsed.specs.Grammar.{Names}
 use Rattle.domain_parsed.specs.Outcomes.{HasNoName}
@@ -25,3 +25,10 @@ NameAtEnds (Err (Parse e)) p input left old new = IsAtEnd left × IfSome input (
 NameAtEnds (Err Read) p input left old new = Keeps old new
 NameAtEnds (Err Write) p input left old new = ⊤
 NameAtEnds (Err Memory) p input left old new = ⊤
+
+-- what an error shows
+abbrev pub tool_error_text : ToolError → List ℕ
+tool_error_text (Parse e) = refusal_text (refusal e)
+tool_error_text Read = codes "reading failed"
+tool_error_text Write = codes "writing failed"
+tool_error_text Memory = codes "out of memory"

@@ -1,6 +1,7 @@
 -- How errors of names are told as errors of parsing.
 use Rattle.std.specs.Prelude.{ℕ, List, codes}
 use Rattle.domain_wire.specs.Refusals.{Refusal, short_input, form}
+use Rattle.domain_label.specs.Told.{label_type_text}
 use Rattle.domain_label.specs.declared.split.SplitLabelError.{SplitLabelError}
 use Rattle.domain_label.specs.declared.split.SplitLabelError.TheVariants as split
 use Rattle.domain_flat.specs.declared.error.NameErrorKind.{NameErrorKind}
@@ -32,3 +33,19 @@ abbrev pub relative_name_fault : SplitLabelError → RelativeNameErrorKind
 relative_name_fault (split.Pointer place) = relative.CompressedName
 relative_name_fault (split.BadType label_type) = relative.BadLabel label_type
 relative_name_fault split.ShortInput = relative.ShortInput
+
+-- what the errors show
+abbrev pub name_error_shown : NameErrorKind → List ℕ
+name_error_shown (BadLabel label_type) = label_type_text label_type
+name_error_shown CompressedName = codes "compressed domain name"
+name_error_shown LongName = codes "long domain name"
+name_error_shown RelativeName = codes "relative name"
+name_error_shown TrailingData = codes "trailing data"
+name_error_shown ShortInput = codes "unexpected end of input"
+
+abbrev pub relative_name_error_shown : RelativeNameErrorKind → List ℕ
+relative_name_error_shown (relative.BadLabel label_type) = label_type_text label_type
+relative_name_error_shown relative.CompressedName = codes "compressed domain name"
+relative_name_error_shown relative.ShortInput = codes "unexpected end of input"
+relative_name_error_shown relative.LongName = codes "long domain name"
+relative_name_error_shown relative.AbsoluteName = codes "absolute domain name"

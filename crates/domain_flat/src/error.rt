@@ -1,5 +1,5 @@
 //! Why octets are no name.
-ghost use Rattle.std.specs.Prelude.{◌≡◌};
+ghost use Rattle.std.specs.Prelude.{◌≡◌, Some};
 
 use domain_label::{LabelTypeError, SplitLabelError};
 use domain_wire::{FormError, ParseError};
@@ -48,6 +48,11 @@ impl NameError {
 }
 
 impl fmt::Display for NameError {
+    ghost use Rattle.domain_flat.specs.Told.{name_error_shown};
+    ghost use Rattle.domain_flat.specs.Views.{name_error_kind};
+
+    ghost output = { λ e. Some (name_error_shown (name_error_kind e)) };
+
     fn fmt<W: fmt::Write>(&self, f: &mut fmt::Formatter<W>) -> fmt::Result {
         match self.kind {
             NameErrorKind::BadLabel(label_type) => write!(f, "{label_type}"),
@@ -155,6 +160,11 @@ impl RelativeNameError {
 }
 
 impl fmt::Display for RelativeNameError {
+    ghost use Rattle.domain_flat.specs.Told.{relative_name_error_shown};
+    ghost use Rattle.domain_flat.specs.Views.{relative_name_error_kind};
+
+    ghost output = { λ e. Some (relative_name_error_shown (relative_name_error_kind e)) };
+
     fn fmt<W: fmt::Write>(&self, f: &mut fmt::Formatter<W>) -> fmt::Result {
         match self.kind {
             RelativeNameErrorKind::BadLabel(label_type) => write!(f, "{label_type}"),
