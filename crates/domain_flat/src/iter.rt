@@ -11,7 +11,7 @@ use std::marker::PhantomData;
 /// The labels of a flat name, from either end.
 ///
 /// Any mixture of `next` and `next_back` gives each label once, and then `None` for good.
-#[derive(Clone, Copy)]
+#[derive(Clone, Copy, Debug)]
 pub struct NameIter<'a> {
     octets: &'a [u8],
     of: PhantomData<Label<'a>>,

@@ -1,11 +1,8 @@
 -- The length of a chain.
-use Rattle.std.proofs.Common.{◌≡◌, ℕ, ◌+◌, List, [], ◌∷◌, ◌++◌, length, refl, ap, ◌∙◌, sym, arith, append_assoc, length-append}
+use Rattle.std.proofs.Common.{◌≡◌, ℕ, ◌+◌, List, [], ◌∷◌, ◌++◌, length, ap, arith, length-append}
 use Rattle.domain_label.specs.Wire.{wire, IsAbsolute, IsRelative}
-use Rattle.domain_list.specs.Chains.{before_root, before_absolute, before_relative, relative_then_absolute, relative_then_relative}
-
-pub wire_append : (xs ys : List (List ℕ)) → wire (xs ++ ys) ≡ wire xs ++ wire ys
-wire_append [] ys = refl
-wire_append (x ∷ xs) ys = ap (λ r. length x ∷ r) (ap (λ r. x ++ r) (wire_append xs ys) ∙ sym (append_assoc x (wire xs) (wire ys)))
+use Rattle.domain_label.proofs.WireLaws.{wire_append, relative_then_absolute, relative_then_relative}
+use Rattle.domain_list.specs.Chains.{before_root, before_absolute, before_relative}
 
 pub before_chain_absolute : (ls rs : List (List ℕ)) → IsRelative ls → IsAbsolute rs → before_root (ls ++ rs) + 1 ≡ length (wire ls) + length (wire rs)
 before_chain_absolute ls rs l r = omega (arith, before_absolute (ls ++ rs) (relative_then_absolute ls rs l r), ap length (wire_append ls rs), length-append (wire ls) (wire rs))

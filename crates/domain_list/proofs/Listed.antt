@@ -4,8 +4,7 @@ use Rattle.std.proofs.lemmas.List.{map-append, take_more}
 use Rattle.domain_label.specs.declared.label.Label.{Label}
 use Rattle.domain_label.specs.Views.{label_octets}
 use Rattle.domain_label.specs.Wire.{wire, IsLabel, IsAbsolute, IsRelative, IsAbsoluteName, IsRelativeName}
-use Rattle.domain_list.specs.Chains.{relative_then_relative, relative_then_absolute}
-use Rattle.domain_list.proofs.Chaining.{wire_append}
+use Rattle.domain_label.proofs.WireLaws.{wire_append, relative_then_relative, relative_then_absolute}
 
 -- a list, and its size, with one label more
 one_relative : (l : List ℕ) → (l ≡ [] → ⊥) → IsLabel l → IsRelative (l ∷ [])
@@ -34,9 +33,3 @@ then_root xs front x e r n =
     omega (arith, ap (λ q. length (wire q)) split, ap length (wire_append (map label_octets front) ([] ∷ [])), length-append (wire (map label_octets front)) (wire ([] ∷ []))) in
     let absolute : IsAbsolute (map label_octets xs) = subst IsAbsolute (sym split) (relative_then_absolute _ _ n.0 refl) in
     ((absolute, omega (arith, size, n.1)), size)
-
--- no list is both
-pub not_both : (ls : List (List ℕ)) → IsAbsolute ls → IsRelative ls → ⊥
-not_both [] a r = a
-not_both ([] ∷ ls) a r = r
-not_both ((x ∷ xs) ∷ ls) a r = not_both ls a.1 r.1

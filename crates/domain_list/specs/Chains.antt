@@ -4,7 +4,7 @@ use Rattle.std.proofs.Common.{arith, ap, inl, inr, ⊎_elim, length-append}
 use Rattle.std.specs.Coded.{×_prop, le_prop}
 use Rattle.domain_label.specs.Wire.{wire, IsAbsolute, IsRelative, IsAbsoluteName, IsRelativeName, IsName}
 use Rattle.domain_list.specs.Count.{but_root}
-use Rattle.domain_list.specs.Shapes.{IsRelative_prop}
+use Rattle.domain_label.proofs.WireLaws.{IsRelative_prop, relative_then_absolute, relative_then_relative}
 
 -- How many octets stand on the wire before a root label.
 abbrev pub before_root : List (List ℕ) → ℕ
@@ -28,17 +28,6 @@ pub before_relative : (ls : List (List ℕ)) → IsRelative ls → before_root l
 before_relative [] r = refl
 before_relative ([] ∷ ls) r = absurd r
 before_relative ((x ∷ xs) ∷ ls) r = omega (arith, before_relative ls r.1, length-append xs (wire ls), length-append xs (wire (but_root ls)))
-
--- A relative list before an absolute one, and before a relative one.
-pub relative_then_absolute : (ls rs : List (List ℕ)) → IsRelative ls → IsAbsolute rs → IsAbsolute (ls ++ rs)
-relative_then_absolute [] rs l r = r
-relative_then_absolute ([] ∷ ls) rs l r = absurd l
-relative_then_absolute ((x ∷ xs) ∷ ls) rs l r = (l.0, relative_then_absolute ls rs l.1 r)
-
-pub relative_then_relative : (ls rs : List (List ℕ)) → IsRelative ls → IsRelative rs → IsRelative (ls ++ rs)
-relative_then_relative [] rs l r = r
-relative_then_relative ([] ∷ ls) rs l r = absurd l
-relative_then_relative ((x ∷ xs) ∷ ls) rs l r = (l.0, relative_then_relative ls rs l.1 r)
 
 -- A chain is absolute, relative or a name where its right list is.
 pub chain_absolute : (ls rs : List (List ℕ)) → IsChain ls rs → IsAbsolute rs → IsAbsoluteName (ls ++ rs)

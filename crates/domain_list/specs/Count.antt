@@ -1,8 +1,6 @@
 -- How many labels names have.
-use Rattle.std.specs.Prelude.{ℕ, ◌≤◌, List, [], ◌∷◌, length, if◌then◌else◌}
-use Rattle.std.proofs.Common.{arith, length-append}
+use Rattle.std.specs.Prelude.{ℕ, List, [], ◌∷◌, length, if◌then◌else◌}
 use Rattle.std.specs.Str.{bytes_eq}
-use Rattle.domain_label.specs.Wire.{wire}
 
 -- the labels but for the root
 abbrev pub but_root : List (List ℕ) → List (List ℕ)
@@ -18,8 +16,3 @@ but_wildcard (l ∷ ls) = if bytes_eq l (42 ∷ []) then ls else (l ∷ ls)
 -- The labels field of a signature counts neither the root nor a first `*` (RFC 4034, 3.1.3).
 abbrev pub rrsig_labels : List (List ℕ) → ℕ
 rrsig_labels ls = length (but_root (but_wildcard ls))
-
--- Each label takes an octet at least.
-pub labels_le_wire : (ls : List (List ℕ)) → length ls ≤ length (wire ls)
-labels_le_wire [] = omega arith
-labels_le_wire (l ∷ ls) = omega (arith, labels_le_wire ls, length-append l (wire ls))

@@ -4,7 +4,6 @@ pub mod Same
 pub mod Feed
 pub mod Count
 pub mod Ends
-pub mod Shapes
 pub mod Apex
 pub mod Chains
 pub mod ChainParts

@@ -113,6 +113,8 @@ impl<'a, L: ToLabelIter<'a>, R: ToLabelIter<'a>> ToLabelIter<'a> for Chain<L, R>
         }
     }
 
+    ghost lies_flat = { λ _. ⊥ };
+
     fn as_flat_slice(&'a self) -> Option<&'a [u8]> {
         None
     }

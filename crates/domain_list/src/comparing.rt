@@ -3,7 +3,7 @@
 ghost use Rattle.std.specs.Prelude.{◌≡◌, IsTrue, ◌↔◌};
 ghost use Rattle.domain_label.specs.Low.{low, low_all};
 ghost use Rattle.domain_label.specs.Views.{label_octets};
-ghost use Rattle.domain_list.specs.Order.{order, wire_order, composed_order, lowercase_composed_order};
+ghost use Rattle.domain_list.specs.Order.{order, same_name, wire_order, composed_order, lowercase_composed_order};
 
 use crate::labels::LabelIterator;
 use domain_label::Label;
@@ -26,6 +26,13 @@ pub fn eq_labels<'a, A: LabelIterator<'a>, B: LabelIterator<'a>>(a: A, b: B) -> 
             _ => return false,
         }
     }
+}
+
+/// The same test, as an impl of `PartialEq` for names answers it.
+pub fn same_labels<'a, A: LabelIterator<'a>, B: LabelIterator<'a>>(a: A, b: B) -> bool
+    ensures { result ≡ same_name (A.left a) (B.left b) }
+{
+    eq_labels(a, b)
 }
 
 /// The order of the labels that are left, from the last ones on (RFC 4034, 6.1).

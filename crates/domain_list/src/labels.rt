@@ -1,5 +1,5 @@
 //! Names as lists of labels.
-ghost use Rattle.std.specs.Prelude.{◌≡◌, ℕ, List, length, IfSome, IsTrue, ◌↔◌};
+ghost use Rattle.std.specs.Prelude.{◌≡◌, ℕ, List, length, IfSome, IsSome, IsTrue, ◌↔◌};
 ghost use Rattle.std.specs.declared.option.Option.{Option};
 ghost use Rattle.std.specs.Iterator.{IsFinite, YieldsFirstBy, YieldsLastBy};
 ghost use Rattle.domain_label.specs.declared.label.Label.{Label};
@@ -65,9 +65,13 @@ pub trait ToLabelIter<'a>: NameLabels {
     fn iter_labels(&'a self) -> Self::LabelIter
         ensures { Self.LabelIter.left result ≡ Self.labels self.now };
 
+    /// The names whose wire form can be lent in one piece.
+    ghost lies_flat: { Self → Type 0 };
+
     /// The wire form of the name, where it lies in one piece.
     fn as_flat_slice(&'a self) -> Option<&'a [u8]>
-        ensures { IfSome result (λ s. s.now ≡ wire (Self.labels self.now)) };
+        ensures wire { IfSome result (λ s. s.now ≡ wire (Self.labels self.now)) }
+        ensures given { IsSome result ↔ lies_flat self.now };
 }
 
 /// An absolute name whose labels can be gone over.

@@ -34,6 +34,8 @@ impl<'a, 'b, N: ToLabelIter<'a>> ToLabelIter<'a> for &'b N {
         name.iter_labels()
     }
 
+    ghost lies_flat = { λ _. ⊥ };
+
     fn as_flat_slice(&'a self) -> Option<&'a [u8]> {
         None
     }

@@ -11,9 +11,10 @@ ghost use Rattle.domain_label.specs.Wire.{wire, IsAbsoluteName, IsRelativeName};
 ghost use Rattle.domain_list.specs.Count.{rrsig_labels};
 ghost use Rattle.domain_list.specs.Feed.{feed, same_feed};
 ghost use Rattle.domain_list.specs.Order.{order, same_name, same_name_laws, order_laws};
-ghost use Rattle.domain_list.specs.Shapes.{IsAbsoluteName_prop, IsRelativeName_prop};
+ghost use Rattle.domain_label.proofs.WireLaws.{IsAbsoluteName_prop, IsRelative_prop};
+ghost use Rattle.std.specs.Coded.{×_prop, le_prop};
 
-use crate::comparing::{eq_labels, order_labels};
+use crate::comparing::{order_labels, same_labels};
 use crate::composing::{compose_canonical_labels, compose_labels};
 use crate::counting::{count_labels, rrsig_count};
 use crate::hashing::hash_labels;
@@ -85,7 +86,7 @@ impl<'a> LabelIterator<'a> for Row<'a> {
 struct RelativeList<'x> {
     labels: &'x [Label<'static>],
     size: u16,
-    ghost relative: { IsRelativeName (map label_octets labels.now) } by { IsRelativeName_prop (map label_octets labels.now) },
+    ghost relative: { IsRelativeName (map label_octets labels.now) } by { ×_prop (IsRelative_prop (map label_octets labels.now)) le_prop },
     ghost sized: { size ≡ length (wire (map label_octets labels.now)) },
 }
 
@@ -130,6 +131,8 @@ impl<'a, 'x> ToLabelIter<'a> for RelativeList<'x> {
             labels: self.labels,
         }
     }
+
+    ghost lies_flat = { λ _. ⊥ };
 
     fn as_flat_slice(&'a self) -> Option<&'a [u8]> {
         None
@@ -188,6 +191,8 @@ impl<'a, 'x> ToLabelIter<'a> for AbsoluteList<'x> {
         }
     }
 
+    ghost lies_flat = { λ _. ⊥ };
+
     fn as_flat_slice(&'a self) -> Option<&'a [u8]> {
         None
     }
@@ -203,7 +208,7 @@ impl<'x> PartialEq for AbsoluteList<'x> {
     ghost laws = { partial_equiv_from_equiv (on_equiv (λ name. map label_octets name.labels.now) same_name_laws) };
 
     fn eq(&self, other: &AbsoluteList<'x>) -> bool {
-        eq_labels(self.iter_labels(), other.iter_labels())
+        same_labels(self.iter_labels(), other.iter_labels())
     }
 }
 

@@ -1,6 +1,7 @@
 -- What contracts see of flat names.
-use Rattle.std.specs.Prelude.{ℕ, List}
+use Rattle.std.specs.Prelude.{◌≡◌, ◌++◌, ℕ, List}
 use Rattle.octseq.specs.declared.octets.Octets.{Ghosts}
+use Rattle.domain_label.specs.Low.{low_all}
 use Rattle.domain_label.specs.Wire.{labels_in}
 use Rattle.domain_name.specs.declared.absolute.Name.{Name}
 use Rattle.domain_name.specs.declared.relative.RelativeName.{RelativeName}
@@ -25,3 +26,13 @@ name_holder n = n.octets
 
 abbrev pub relative_holder : {O : Type 0} {g : Ghosts O} → RelativeName O g → O
 relative_holder n = n.octets
+
+-- a source of these octets may be refused
+abbrev pub MayRefuse : {S : Type 0} → (S → Type 0) → (S → List ℕ) → List ℕ → Type 0
+MayRefuse {S} refused octets_of octets = (source : S) × (octets_of source ≡ octets) × refused source
+
+-- rest is what stands in ls before its last labels, which are those of base without case
+pub record IsStripped (ls base rest : List (List ℕ)) : Type 0 where
+  pub suffix : List (List ℕ)
+  pub parts : ls ≡ rest ++ suffix
+  pub same : low_all suffix ≡ low_all base

@@ -10,13 +10,15 @@ ghost use Rattle.domain_label.proofs.WireLaws.{IsAbsoluteWire_prop};
 ghost use Rattle.domain_flat.specs.Faults.{AbsoluteFault, StartFault};
 ghost use Rattle.domain_flat.specs.Flat.{NameAt, IsCutAt, IsLabelStart, IsPartOf, suffixes};
 ghost use Rattle.domain_flat.specs.Views.{name_error_kind, labels_left};
+ghost use Rattle.domain_list.specs.Ends.{EndsWith};
 
 use crate::relative::RelativeName;
+use crate::strip::suffix_place;
 use crate::suffixes::SuffixIter;
 use arrayvec::ArrayVec;
 use domain_flat::{NameError, NameIter, check_absolute, is_label_end, make_lowercase, name_len};
 use domain_label::Label;
-use domain_list::DisplayWithDot;
+use domain_list::{AbsoluteLabels, DisplayWithDot};
 use domain_wire::ParseError;
 use octseq::{Octets, OctetsFrom, OctetsMut, Parser, SameOctets, ShortBuf, Truncate};
 use std::alloc::{AllocError, Global};
@@ -315,7 +317,7 @@ impl<Octs: Octets> Name<Octs> {
 }
 
 impl<Octs: Truncate> Name<Octs> {
-    ghost use Rattle.domain_name.specs.Names.{name_labels, relative_labels};
+    ghost use Rattle.domain_name.specs.Names.{name_labels, relative_labels, IsStripped};
 
     /// The name without its root label.
     pub fn into_relative(self) -> RelativeName<Octs>
@@ -334,6 +336,22 @@ impl<Octs: Truncate> Name<Octs> {
         let mut octets = self.into_octets();
         octets.truncate(len);
         RelativeName::from_wire(octets)
+    }
+
+    /// The labels before those of `base`, where the name ends with them without ASCII case. Else the
+    /// name itself is given back.
+    pub fn strip_suffix<'a, N: AbsoluteLabels<'a>>(
+        self,
+        base: &'a N,
+    ) -> Result<RelativeName<Octs>, Name<Octs>>
+        ensures exact { IsOk result ↔ EndsWith (name_labels self) (N.labels base.now) }
+        ensures ok { IfOk result (λ rest. IsStripped (name_labels self) (N.labels base.now) (relative_labels rest)) }
+        ensures err { IfErr result (λ name. name ≡ self) }
+    {
+        match suffix_place(self.octets.as_slice(), base) {
+            Some(place) => Ok(self.truncate(place)),
+            None => Err(self),
+        }
     }
 }
 
@@ -364,13 +382,14 @@ impl<Src: Octets, Octs: SameOctets<Src>> OctetsFrom<Name<Src>> for Name<Octs> {
 }
 
 impl<Octs: SameOctets<&'static [u8]>> Name<Octs> {
-    ghost use Rattle.domain_name.specs.Names.{name_labels};
+    ghost use Rattle.domain_name.specs.Names.{name_labels, MayRefuse};
 
     /// The root.
     ///
     /// `ShortBuf` only where the octets refuse to be made of one.
     pub fn root(alloc: Global) -> Result<Name<Octs>, ShortBuf>
-        ensures { IfOk result (λ name. name_labels name ≡ Root) }
+        ensures ok { IfOk result (λ name. name_labels name ≡ Root) }
+        ensures err { OnErr result (MayRefuse Octs.may_refuse (λ source. source.now) (wire Root)) }
     {
         match Name::try_octets_from(alloc, Name::root_ref()) {
             Ok(name) => Ok(name),

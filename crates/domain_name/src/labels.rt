@@ -1,5 +1,5 @@
 //! Flat names as lists of labels, and as text.
-ghost use Rattle.std.specs.Prelude.{◌≡◌, Some};
+ghost use Rattle.std.specs.Prelude.{◌≡◌, Some, ⊤};
 ghost use Rattle.std.proofs.Common.{inl, inr};
 ghost use Rattle.domain_label.specs.Text.{shown, text};
 ghost use Rattle.domain_label.proofs.WireLaws.{absolute_list, relative_list, not_both};
@@ -40,6 +40,8 @@ impl<'a, Octs: Octets> ToLabelIter<'a> for Name<Octs> {
         self.iter()
     }
 
+    ghost lies_flat = { λ _. ⊤ };
+
     fn as_flat_slice(&'a self) -> Option<&'a [u8]> {
         Some(self.as_slice())
     }
@@ -57,6 +59,13 @@ impl<Octs: Octets> fmt::Display for Name<Octs> {
         }
         let labels = JoinedLabels::new(self.iter());
         write!(f, "{labels}")
+    }
+}
+
+impl<Octs: Octets> fmt::Debug for Name<Octs> {
+    fn fmt<W: fmt::Write>(&self, f: &mut fmt::Formatter<W>) -> fmt::Result {
+        let shown = self.fmt_with_dot();
+        write!(f, "Name({shown})")
     }
 }
 
@@ -99,6 +108,8 @@ impl<'a, Octs: Octets> ToLabelIter<'a> for RelativeName<Octs> {
         self.iter()
     }
 
+    ghost lies_flat = { λ _. ⊤ };
+
     fn as_flat_slice(&'a self) -> Option<&'a [u8]> {
         Some(self.as_slice())
     }
@@ -113,6 +124,12 @@ impl<Octs: Octets> fmt::Display for RelativeName<Octs> {
     fn fmt<W: fmt::Write>(&self, f: &mut fmt::Formatter<W>) -> fmt::Result {
         let labels = JoinedLabels::new(self.iter());
         write!(f, "{labels}")
+    }
+}
+
+impl<Octs: Octets> fmt::Debug for RelativeName<Octs> {
+    fn fmt<W: fmt::Write>(&self, f: &mut fmt::Formatter<W>) -> fmt::Result {
+        write!(f, "RelativeName({self})")
     }
 }
 

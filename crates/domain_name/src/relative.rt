@@ -1,16 +1,22 @@
 //! Relative names.
-ghost use Rattle.std.specs.Prelude.{◌≡◌, ◌≤◌, ◌-◌, ◌∷◌, [], ◌++◌, ◌↔◌, ℕ, List, length, IsTrue, IsOk, IfOk, IfErr, IfSome, IsNone};
+ghost use Rattle.std.specs.Prelude.{◌≡◌, ◌≤◌, ◌<◌, ◌-◌, ◌∷◌, [], ◌++◌, ◌↔◌, ℕ, List, length, IsTrue, IsOk, IfOk, IfErr, IsErr, IfSome, IsNone, OnOk, OnErr};
 ghost use Rattle.domain_label.specs.Low.{low_all};
-ghost use Rattle.domain_label.specs.Wire.{wire, IsRelativeName, IsRelativeWire};
+ghost use Rattle.domain_label.specs.Wire.{wire, Root, IsRelativeName, IsRelativeWire};
 ghost use Rattle.domain_label.specs.Views.{label_octets};
 ghost use Rattle.domain_label.proofs.WireLaws.{IsRelativeWire_prop};
 ghost use Rattle.domain_flat.specs.Faults.{RelativeFault};
 ghost use Rattle.domain_flat.specs.Flat.{IsLabelEnd, IsPartOf};
 ghost use Rattle.domain_flat.specs.Views.{relative_name_error_kind, labels_left};
+ghost use Rattle.domain_list.specs.ChainParts.{left_part, right_part};
+ghost use Rattle.domain_list.specs.Chains.{before_root};
+ghost use Rattle.domain_list.specs.Ends.{EndsWith};
 
+use crate::absolute::Name;
+use crate::strip::{StripSuffixError, suffix_place};
 use arrayvec::ArrayVec;
 use domain_flat::{NameIter, RelativeNameError, check_relative, is_label_end, make_lowercase};
 use domain_label::Label;
+use domain_list::{Chain, LongChainError, NameLabels, RelativeLabels};
 use octseq::{Octets, OctetsFrom, OctetsMut, SameOctets, ShortBuf, Truncate};
 use std::alloc::{AllocError, Global};
 use std::ops::Range;
@@ -33,7 +39,7 @@ impl<Octs: Octets + Copy> Clone for RelativeName<Octs> {
 }
 
 impl<Octs: Octets + Drop> RelativeName<Octs> {
-    ghost use Rattle.domain_name.specs.Names.{relative_octets, relative_labels};
+    ghost use Rattle.domain_name.specs.Names.{relative_octets, relative_labels, name_labels};
 
     /// The name whose wire form the octets are.
     ///
@@ -48,6 +54,30 @@ impl<Octs: Octets + Drop> RelativeName<Octs> {
     {
         check_relative(octets.as_slice())?;
         Ok(RelativeName { octets })
+    }
+
+    /// The chain of this name and another, which is one name.
+    ///
+    /// `LongChainError` where more than 254 octets stand before any root label.
+    pub fn chain<N: NameLabels + Drop>(
+        self,
+        other: N,
+    ) -> Result<Chain<RelativeName<Octs>, N>, LongChainError>
+        ensures parts { IfOk result (λ chain. (left_part chain ≡ self) × (right_part chain ≡ other)) }
+        ensures long { IsErr result ↔ (254 < before_root (relative_labels self ++ N.labels other)) }
+    {
+        Chain::new(self, other)
+    }
+
+    /// The chain of this name and the root, an absolute name.
+    pub fn chain_root(self) -> Chain<RelativeName<Octs>, Name<&'static [u8]>>
+        ensures left { left_part result ≡ self }
+        ensures right { name_labels (right_part result) ≡ Root }
+    {
+        let Ok(chain) = Chain::new(self, Name::root_ref()) else {
+            unreachable!();
+        };
+        chain
     }
 }
 
@@ -283,7 +313,7 @@ impl<Octs: Octets> RelativeName<Octs> {
 }
 
 impl<Octs: Truncate> RelativeName<Octs> {
-    ghost use Rattle.domain_name.specs.Names.{relative_labels};
+    ghost use Rattle.domain_name.specs.Names.{relative_labels, IsStripped};
 
     /// Keeps the labels before a place of the wire form where `is_label_start` is true.
     pub fn truncate(&mut self, len: usize)
@@ -292,6 +322,24 @@ impl<Octs: Truncate> RelativeName<Octs> {
         ensures place { length (wire (relative_labels self.new)) ≡ len }
     {
         self.octets.truncate(len);
+    }
+
+    /// Leaves out the labels of `base`, where the name ends with them without ASCII case.
+    ///
+    /// `StripSuffixError` where it doesn't. The name is then as before.
+    pub fn strip_suffix<'a, N: RelativeLabels<'a>>(
+        &mut self,
+        base: &'a N,
+    ) -> Result<(), StripSuffixError>
+        ensures exact { IsOk result ↔ EndsWith (relative_labels self.old) (N.labels base.now) }
+        ensures ok { OnOk result (IsStripped (relative_labels self.old) (N.labels base.now) (relative_labels self.new)) }
+        ensures err { OnErr result (self.new ≡ self.old) }
+    {
+        let Some(place) = suffix_place(self.octets.as_slice(), base) else {
+            return Err(StripSuffixError);
+        };
+        self.truncate(place);
+        Ok(())
     }
 }
 
@@ -325,13 +373,14 @@ impl<Src: Octets, Octs: SameOctets<Src>> OctetsFrom<RelativeName<Src>> for Relat
 }
 
 impl<Octs: SameOctets<&'static [u8]>> RelativeName<Octs> {
-    ghost use Rattle.domain_name.specs.Names.{relative_labels};
+    ghost use Rattle.domain_name.specs.Names.{relative_labels, MayRefuse};
 
     /// The name without labels.
     ///
     /// `ShortBuf` only where the octets refuse to be made of none.
     pub fn empty(alloc: Global) -> Result<RelativeName<Octs>, ShortBuf>
-        ensures { IfOk result (λ name. relative_labels name ≡ []) }
+        ensures ok { IfOk result (λ name. relative_labels name ≡ []) }
+        ensures err { OnErr result (MayRefuse Octs.may_refuse (λ source. source.now) (wire [])) }
     {
         match RelativeName::try_octets_from(alloc, RelativeName::empty_ref()) {
             Ok(name) => Ok(name),
@@ -343,7 +392,8 @@ impl<Octs: SameOctets<&'static [u8]>> RelativeName<Octs> {
     ///
     /// `ShortBuf` only where the octets refuse to be made of two.
     pub fn wildcard(alloc: Global) -> Result<RelativeName<Octs>, ShortBuf>
-        ensures { IfOk result (λ name. relative_labels name ≡ (42 ∷ []) ∷ []) }
+        ensures ok { IfOk result (λ name. relative_labels name ≡ (42 ∷ []) ∷ []) }
+        ensures err { OnErr result (MayRefuse Octs.may_refuse (λ source. source.now) (wire ((42 ∷ []) ∷ []))) }
     {
         match RelativeName::try_octets_from(alloc, RelativeName::wildcard_ref()) {
             Ok(name) => Ok(name),

@@ -12,3 +12,4 @@ pub mod Plain
 pub mod Parsing
 pub mod FlatNames
 pub mod Past
+pub mod Splitting

@@ -27,6 +27,8 @@ length-zero_nil [] e = refl
 length-zero_nil (c ∷ l) e = absurd (omega arith)
 
 pub record Parent (m : List ℕ) (l : List ℕ) (behind n : ℕ) (compressed : Bool) : Type 0 where
+  pub nonempty : 0 < length l
+  pub short : length l < 64
   pub fits : length l < n
   pub named : Names 255 m behind (labels_at m behind)
   pub sized : n - (length l + 1) ≡ length (wire (labels_at m behind))
@@ -61,6 +63,8 @@ parent {m} {p} {behind} {l} n compressed maybe sized flat more f here =
     let rest = f.more some in
     let wires : length (wire f.rest) ≡ length (wire (labels_at m behind)) = ap (λ ls. length (wire ls)) rest.0 in
     record {
+      nonempty = some;
+      short = short;
       fits = omega (arith, len, length-append l (wire f.rest));
       named = named_at rest.1;
       sized = omega (arith, len, length-append l (wire f.rest), wires);

@@ -1,7 +1,7 @@
 -- The labels of a name as a function of the message and the place. Where `Names 255 m p ls`, `labels_at m p ≡ ls`.
 use Rattle.std.specs.Prelude.{◌≡◌, ℕ, zero, suc, ◌+◌, ◌-◌, ◌*◌, ◌==◌, if◌then◌else◌, nat_lt, ◌<◌, List, [], ◌∷◌, length, slice_index, slice_range}
 use Rattle.domain_label.specs.Wire.{Root}
-use Rattle.domain_parsed.specs.Grammar.{Names}
+use Rattle.domain_parsed.specs.Grammar.{Names, LabelAt}
 
 -- The labels at p and behind, of at most as many heads as the number.
 unfoldable pub read_from : ℕ → List ℕ → ℕ → List (List ℕ)
@@ -32,6 +32,10 @@ heads_at m p = heads_from 383 m p
 unfoldable pub labels_within : ℕ → List (List ℕ) → List (List ℕ)
 labels_within n [] = []
 labels_within n (l ∷ ls) = if nat_lt (length l) n then l ∷ labels_within (n - (length l + 1)) ls else []
+
+-- The label l, which isn't the root, ends right before the place.
+abbrev pub LabelEndsAt : List ℕ → List ℕ → ℕ → Type 0
+LabelEndsAt m l behind = (p : ℕ) × (p + 1 + length l ≡ behind) × LabelAt m p l
 
 -- l is the first label of the name at p, and what is behind it is the rest of the name.
 pub record FirstLabel (m : List ℕ) (p : ℕ) (l : List ℕ) (behind : ℕ) : Type 0 where

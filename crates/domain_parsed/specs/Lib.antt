@@ -5,3 +5,4 @@ pub mod Heads
 pub mod Progress
 pub mod Views
 pub mod Outcomes
+pub mod Splitting

@@ -3,7 +3,7 @@ ghost use Rattle.std.specs.Prelude.{◌≡◌, ℕ, ◌+◌, ◌≤◌, ◌<◌,
 ghost use Rattle.domain_label.specs.Wire.{wire};
 ghost use Rattle.domain_label.specs.Views.{label_octets};
 ghost use Rattle.domain_parsed.specs.Grammar.{Names};
-ghost use Rattle.domain_parsed.specs.Labels.{FirstLabel, labels_at, heads_at, labels_within};
+ghost use Rattle.domain_parsed.specs.Labels.{FirstLabel, LabelEndsAt, labels_at, heads_at, labels_within};
 
 use crate::head::{Head, read_head};
 use crate::heads::Heads;
@@ -55,6 +55,7 @@ pub(crate) fn first_label_counted<'a, L: Ledger>(
     ensures last { length (label_octets result.0) ≡ 0 → heads.new ≡ heads.old + heads_at octets.now pos }
     ensures one { heads.old < heads.new }
     ensures here { slice_index octets.now pos < 64 → (result.1 ≡ pos + 1 + length (label_octets result.0)) }
+    ensures stands { 0 < length (label_octets result.0) → LabelEndsAt octets.now (label_octets result.0) result.1 }
 {
     let mut at = pos;
     'heads: loop {
@@ -81,6 +82,7 @@ pub(crate) fn first_label<'a>(octets: &'a [u8], pos: usize) -> (Label<'a>, usize
     requires { ∥ Names 255 octets.now pos (labels_at octets.now pos) ∥₁ }
     ensures first { FirstLabel octets.now pos (label_octets result.0) result.1 }
     ensures here { slice_index octets.now pos < 64 → (result.1 ≡ pos + 1 + length (label_octets result.0)) }
+    ensures stands { 0 < length (label_octets result.0) → LabelEndsAt octets.now (label_octets result.0) result.1 }
 {
     first_label_with::<Brand>(octets, pos, Blank::new(1))
 }
@@ -92,6 +94,7 @@ fn first_label_with<'a, L: Ledger>(octets: &'a [u8], pos: usize, blank: Blank) -
     requires some { 0 < blank.parts }
     ensures first { FirstLabel octets.now pos (label_octets result.0) result.1 }
     ensures here { slice_index octets.now pos < 64 → (result.1 ≡ pos + 1 + length (label_octets result.0)) }
+    ensures stands { 0 < length (label_octets result.0) → LabelEndsAt octets.now (label_octets result.0) result.1 }
 {
     first_label_counted(octets, pos, &mut Heads::<L>::new(blank))
 }

@@ -1,8 +1,8 @@
 //! Names in a message as lists of labels, and as text.
-ghost use Rattle.std.specs.Prelude.{◌≡◌, Some};
+ghost use Rattle.std.specs.Prelude.{◌≡◌, Some, false};
 ghost use Rattle.std.proofs.Common.{inl};
 ghost use Rattle.domain_label.specs.Text.{text};
-ghost use Rattle.domain_parsed.specs.Views.{parsed_labels, labels_left};
+ghost use Rattle.domain_parsed.specs.Views.{parsed_labels, is_scattered, labels_left};
 
 use crate::iter::ParsedNameIter;
 use crate::parsed::ParsedName;
@@ -49,6 +49,8 @@ impl<'a, Octs: Octets> ToLabelIter<'a> for ParsedName<Octs> {
     fn iter_labels(&'a self) -> ParsedNameIter<'a> {
         self.iter()
     }
+
+    ghost lies_flat = { λ name. is_scattered name ≡ false };
 
     fn as_flat_slice(&'a self) -> Option<&'a [u8]> {
         self.flat_octets()

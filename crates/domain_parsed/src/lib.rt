@@ -7,6 +7,7 @@ mod heads;
 mod iter;
 mod labels;
 mod laws;
+mod order;
 mod parsed;
 mod progress;
 mod read;

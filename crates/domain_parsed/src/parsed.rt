@@ -1,19 +1,22 @@
 //! A name in a message.
-ghost use Rattle.std.specs.Prelude.{◌≡◌, ◌≤◌, ◌<◌, ◌+◌, ◌∷◌, ◌++◌, ◌↔◌, ℕ, List, [], length, slice_range, IfOk, IfErr, IfSome, IsNone, OnOk, OnErr, IsOk, IsTrue, MatchBool, MatchResult, true, false};
+ghost use Rattle.std.specs.Prelude.{◌≡◌, ◌≤◌, ◌<◌, ◌+◌, ◌∷◌, ◌++◌, ◌↔◌, ℕ, List, [], length, slice_range, IfOk, IfErr, IfSome, IsSome, IsNone, OnOk, OnErr, IsOk, IsTrue, MatchBool, MatchResult, true, false, ⊤};
 ghost use Rattle.domain_label.specs.Wire.{wire, Root, IsAbsoluteName};
 ghost use Rattle.domain_label.proofs.WireLaws.{IsAbsoluteName_prop};
 ghost use Rattle.domain_parsed.specs.Grammar.{Names, LiesInOnePiece};
+ghost use Rattle.domain_label.specs.Views.{label_octets};
 ghost use Rattle.domain_parsed.specs.Labels.{labels_at};
 
 use crate::iter::{ParsedNameIter, first_label};
 use crate::read::read_name;
 use crate::skip::front_end;
 use crate::suffixes::ParsedSuffixIter;
+use arrayvec::ArrayVec;
 use domain_label::Label;
-use domain_name::Name;
+use domain_name::{Name, RelativeName};
 use domain_wire::ParseError;
-use octseq::{Octets, Parser};
-use std::alloc::AllocError;
+use octseq::{Octets, OctetsFrom, Parser, ShortBuf};
+use std::alloc::{AllocError, Global};
+use std::ops::Range;
 
 /// The most pointers that are followed for one name.
 const MAX_POINTERS: u8 = 255;
@@ -120,8 +123,11 @@ impl<'a> ParsedName<&'a [u8]> {
 }
 
 impl<Octs: Octets> ParsedName<Octs> {
-    ghost use Rattle.domain_label.specs.Views.{label_octets};
     ghost use Rattle.domain_parsed.specs.Views.{parsed_octets, parsed_labels, is_scattered, labels_left, suffixes, suffixes_left};
+    ghost use Rattle.domain_parsed.specs.Splitting.{SplitsFirst, PassesFirst};
+    ghost use Rattle.domain_parsed.specs.contracts.parsed.ParsedName.{the_row};
+    ghost use Rattle.std.specs.Borrow.{follows_so, sem};
+    ghost use mathlib.Core.Option.{none};
 
     /// Whether a pointer may follow the first label. False means that the name lies in one piece.
     pub fn is_compressed(&self) -> bool
@@ -213,13 +219,42 @@ impl<Octs: Octets> ParsedName<Octs> {
         ensures octets { parsed_octets self.new ≡ parsed_octets self.old }
         ensures scattered { is_scattered self.new ≡ is_scattered self.old }
     {
+        self.pass_first().is_some()
+    }
+
+    /// Takes the first label off, and gives it as a relative name. `None` for the root, which stays as
+    /// it is.
+    ///
+    /// `is_compressed` stays as it was.
+    pub fn split_first(&mut self) -> Option<RelativeName<&[u8]>>
+        ensures none { IsNone result ↔ (parsed_labels self.old ≡ Root) }
+        ensures* after { sem 𝓛 (follows_so (the_row Octs.row Octs.Octets) (the_row Octs.row Octs.Octets) self.entry.ghost_name none (λ _ _. ⊤) (λ new. SplitsFirst self.old result new)) }
+    {
+        let Range { start, end } = self.pass_first()?;
+        let Ok(first) = RelativeName::from_slice(&self.octets.as_slice()[start..end]) else {
+            unreachable!();
+        };
+        Some(first)
+    }
+
+    /// Leaves out the first label, and tells where it stands with its length octet. `None` for the
+    /// root, which stays as it is.
+    fn pass_first(&mut self) -> Option<Range<usize>>
+        ensures some { IfSome result (λ range. PassesFirst self.old range self.new) }
+        ensures none { IsNone result ↔ (parsed_labels self.old ≡ Root) }
+        ensures root { IsNone result → self.new ≡ self.old }
+        ensures more { IsSome result → 1 < length (parsed_labels self.old) }
+        ensures octets { parsed_octets self.new ≡ parsed_octets self.old }
+        ensures scattered { is_scattered self.new ≡ is_scattered self.old }
+    {
         if self.is_root() {
-            return false;
+            return None;
         }
         let (label, behind) = first_label(self.octets.as_slice(), self.pos);
+        let len = label.len() as u16 + 1;
         self.pos = behind;
-        self.name_len -= label.len() as u16 + 1;
-        true
+        self.name_len -= len;
+        Some(behind - usize::from(len)..behind)
     }
 
     /// How many octets the labels have on the wire, with their length octets: 1 to 255.
@@ -275,5 +310,41 @@ impl<Octs: Octets> From<Name<Octs>> for ParsedName<Octs> {
             name_len,
             compressed: false,
         }
+    }
+}
+
+impl ParsedName<Vec<u8>> {
+    ghost use Rattle.domain_parsed.specs.Views.{seen};
+
+    /// The same name over new octets, a copy of the whole message. `ShortBuf` only where memory was
+    /// refused.
+    pub fn clone(&self, alloc: Global) -> Result<ParsedName<Vec<u8>>, ShortBuf>
+        ensures { IfOk result (λ name. seen name ≡ seen self.now) }
+    {
+        let octets = Vec::try_octets_from(alloc, self.octets.as_slice())?;
+        Ok(ParsedName {
+            octets,
+            pos: self.pos,
+            name_len: self.name_len,
+            compressed: self.compressed,
+        })
+    }
+}
+
+impl<const N: usize> ParsedName<ArrayVec<u8, N>> {
+    ghost use Rattle.domain_parsed.specs.Views.{seen};
+
+    /// The same name over new octets, a copy of the whole message, which is never refused.
+    pub fn clone(&self, alloc: Global) -> Result<ParsedName<ArrayVec<u8, N>>, ShortBuf>
+        ensures ok { IfOk result (λ name. seen name ≡ seen self.now) }
+        ensures made { IsOk result }
+    {
+        let octets = ArrayVec::try_octets_from(alloc, self.octets.as_slice())?;
+        Ok(ParsedName {
+            octets,
+            pos: self.pos,
+            name_len: self.name_len,
+            compressed: self.compressed,
+        })
     }
 }

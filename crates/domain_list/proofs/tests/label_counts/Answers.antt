@@ -1,5 +1,5 @@
 use Rattle.std.proofs.Common.{refl, arith}
-use Rattle.domain_list.specs.Count.{labels_le_wire}
+use Rattle.domain_label.proofs.WireLaws.{labels_le_wire}
 use Rattle.domain_list.proofs.tests.label_counts.Goals as goal
 
 pub count_labels-count-requires : goal.count_labels-count-requires

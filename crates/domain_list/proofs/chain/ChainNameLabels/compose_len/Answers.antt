@@ -1,6 +1,6 @@
 use Rattle.std.proofs.Common.{arith, ap, length, length-append}
 use Rattle.domain_label.specs.Wire.{wire}
-use Rattle.domain_list.proofs.Chaining.{wire_append}
+use Rattle.domain_label.proofs.WireLaws.{wire_append}
 use Rattle.domain_list.proofs.chain.ChainNameLabels.compose_len.Goals as goal
 
 pub returns : goal.returns

@@ -1,4 +1,4 @@
-use Rattle.domain_list.specs.Chains.{relative_then_absolute}
+use Rattle.domain_label.proofs.WireLaws.{relative_then_absolute}
 use Rattle.domain_list.proofs.Chaining.{chain_is_absolute}
 use Rattle.domain_list.proofs.chain.ChainNameLabels.is_absolute.Goals as goal
 

@@ -1,6 +1,6 @@
 use Rattle.std.proofs.Common.{map, sym, true≢false}
 use Rattle.domain_label.specs.Views.{label_octets}
-use Rattle.domain_list.proofs.Listed.{not_both}
+use Rattle.domain_label.proofs.WireLaws.{not_both}
 use Rattle.domain_list.proofs.tests.RelativeListNameLabels.is_absolute.Goals as goal
 
 pub returns : goal.returns

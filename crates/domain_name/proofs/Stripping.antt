@@ -1,0 +1,76 @@
+-- What is left of a list of labels without its last ones.
+use Rattle.std.proofs.Common.{◌≡◌, ◌↔◌, IsTrue, Bool, ℕ, ◌+◌, ◌≤◌, List, [], ◌∷◌, ◌++◌, length, refl, sym, ◌∙◌, ap, subst, arith, length-append, ⊎_elim}
+use Rattle.std.proofs.lemmas.List.{length-map}
+use Rattle.std.specs.Char.{to_ascii_lowercase}
+use Rattle.domain_label.specs.Low.{low, low_all}
+use Rattle.domain_label.specs.Wire.{wire, labels_in, IsName, IsWire, IsAbsolute}
+use Rattle.domain_label.proofs.WireLaws.{wire_append, labels_in_wire, absolute_labels, relative_labels}
+use Rattle.domain_list.specs.Ends.{EndsWith}
+use Rattle.domain_flat.specs.Flat.{IsCutAt, IsLabelStart, IsLabelEnd}
+use Rattle.domain_flat.proofs.Cuts.{cut_within, end_start, root_long}
+use Rattle.domain_name.specs.Names.{IsStripped}
+
+low_size : (ls : List (List ℕ)) → length (wire (low_all ls)) ≡ length (wire ls)
+low_size [] = refl
+low_size (l ∷ ls) = omega (arith, low_size ls, length-map l to_ascii_lowercase, length-append l (wire ls), length-append (low l) (wire (low_all ls)))
+
+same_size : (xs ys : List (List ℕ)) → low_all xs ≡ low_all ys → length (wire xs) ≡ length (wire ys)
+same_size xs ys e = sym (low_size xs) ∙ (ap (λ r. length (wire r)) e ∙ low_size ys)
+
+-- a list whose lowered labels have two parts has two parts
+parted : (ls front back : List (List ℕ)) → low_all ls ≡ front ++ back → (xs : List (List ℕ)) × (ys : List (List ℕ)) × (ls ≡ xs ++ ys) × (low_all ys ≡ back)
+parted ls [] back e = ([], ls, refl, e)
+parted [] (f ∷ front) back e = cc
+parted (l ∷ ls) (f ∷ front) back e =
+    let tail : low_all ls ≡ front ++ back = cc in
+    let r = parted ls front back tail in
+    (l ∷ r.0, r.1, ap (λ x. l ∷ x) r.2, r.3)
+
+no_wire : (zs : List (List ℕ)) → length (wire zs) ≡ 0 → zs ≡ []
+no_wire [] n = refl
+no_wire (z ∷ zs) n = absurd (omega (arith, n))
+
+two_sizes : (ls xs ys : List (List ℕ)) → ls ≡ xs ++ ys → length (wire ls) ≡ length (wire xs) + length (wire ys)
+two_sizes ls xs ys e = ap (λ r. length (wire r)) e ∙ (ap length (wire_append xs ys) ∙ length-append (wire xs) (wire ys))
+
+-- the octets of a wire form are those of its labels
+octets_size : (o : List ℕ) → IsWire o → length (wire (labels_in o)) ≡ length o
+octets_size o w = ap length w.0
+
+-- the last labels are no more than the whole
+pub suffix_fits : (o : List ℕ) (bs : List (List ℕ)) → IsWire o → EndsWith (labels_in o) bs → length (wire bs) ≤ length o
+suffix_fits o bs w e =
+    let r = parted (labels_in o) e.0 (low_all bs) e.1 in
+    omega (arith, octets_size o w, two_sizes (labels_in o) r.0 r.1 r.2, same_size r.1 bs r.3)
+
+-- where they begin a label begins, or the list ends
+pub suffix_begins : (o : List ℕ) (bs : List (List ℕ)) (n : ℕ) → IsWire o → EndsWith (labels_in o) bs → n + length (wire bs) ≡ length o → IsLabelEnd (labels_in o) n
+suffix_begins o bs n w e m =
+    let r = parted (labels_in o) e.0 (low_all bs) e.1 in
+    (r.0, r.1, record { parts = r.2; place = omega (arith, m, octets_size o w, two_sizes (labels_in o) r.0 r.1 r.2, same_size r.1 bs r.3) })
+
+pub absolute_suffix_begins : (o : List ℕ) (bs : List (List ℕ)) (n : ℕ) → IsWire o → IsAbsolute bs → EndsWith (labels_in o) bs → n + length (wire bs) ≡ length o → IsLabelStart (labels_in o) n
+absolute_suffix_begins o bs n w a e m =
+    end_start (labels_in o) n (omega (arith, m, octets_size o w, root_long bs a)) (suffix_begins o bs n w e m)
+
+-- what stands before them is the list without them
+pub stripped : (o : List ℕ) (bs rest behind : List (List ℕ)) (n : ℕ) → IsWire o → EndsWith (labels_in o) bs → n + length (wire bs) ≡ length o → labels_in o ≡ rest ++ behind → length (wire rest) ≡ n → IsStripped (labels_in o) bs rest
+stripped o bs rest behind n w e m parts place =
+    let r = parted (labels_in o) e.0 (low_all bs) e.1 in
+    let size = two_sizes (labels_in o) r.0 r.1 r.2 in
+    let here : IsCutAt (labels_in o) n r.0 r.1 = record { parts = r.2; place = omega (arith, m, octets_size o w, size, same_size r.1 bs r.3) } in
+    let there : IsCutAt (labels_in o) n rest behind = record { parts = parts; place = place } in
+    let z = cut_within (labels_in o) n n r.0 r.1 rest behind here there (omega arith) in
+    let none : z.0 ≡ [] = no_wire z.0 (omega (arith, m, place, octets_size o w, size, same_size r.1 bs r.3, two_sizes rest r.0 z.0 z.1)) in
+    let same : r.1 ≡ behind = z.2 ∙ ap (λ x. x ++ behind) none in
+    record { suffix = behind; parts = parts; same = ap low_all (sym same) ∙ r.3 }
+
+-- the wire form of a name
+pub name_wire : (ls : List (List ℕ)) → IsName ls → IsWire (wire ls)
+name_wire ls n =
+    let e = labels_in_wire ls in
+    rw e (refl, ⊎_elim (λ a. absolute_labels ls a.0) (λ r. relative_labels ls r.0) n)
+
+-- a test of the labels that two iterators have left
+pub told : (r : Bool) (xs ys ls bs : List (List ℕ)) → (IsTrue r ↔ EndsWith xs ys) → xs ≡ ls → ys ≡ bs → IsTrue r ↔ EndsWith ls bs
+told r xs ys ls bs h e f = subst (λ k. IsTrue r ↔ EndsWith k bs) e (subst (λ k. IsTrue r ↔ EndsWith xs k) f h)

@@ -1,0 +1,76 @@
+//! Equality, order and hash of absolute names, all without ASCII case.
+ghost use Rattle.std.specs.Prelude.{refl};
+ghost use Rattle.std.proofs.Common.{rules};
+ghost use Rattle.std.specs.Cmp.{partial_order_from_agreeing_total, partial_equiv_from_equiv, on_equiv, on_total};
+ghost use Rattle.std.specs.Cmp.Rules.{comparing};
+ghost use Rattle.std.specs.Ordering.{on, as_partial_cmp};
+ghost use Rattle.domain_list.specs.Feed.{feed, same_feed};
+ghost use Rattle.domain_list.specs.Order.{order, same_name, same_name_laws, order_laws};
+
+use crate::absolute::Name;
+use domain_list::comparing::{order_labels, same_labels};
+use domain_list::hashing::hash_labels;
+use octseq::Octets;
+use std::cmp::Ordering;
+use std::hash::{Hash, Hasher};
+
+/// Names are equal where their labels are, without ASCII case (RFC 4343).
+impl<Octs: Octets> PartialEq for Name<Octs> {
+    ghost use Rattle.domain_name.specs.Names.{name_labels};
+
+    ghost eq = { on name_labels same_name };
+
+    ghost laws = { partial_equiv_from_equiv (on_equiv name_labels same_name_laws) };
+
+    fn eq(&self, other: &Name<Octs>) -> bool {
+        same_labels(self.iter(), other.iter())
+    }
+}
+
+impl<Octs: Octets> Eq for Name<Octs> {
+    ghost use Rattle.domain_name.specs.Names.{name_labels};
+
+    ghost laws = { on_equiv name_labels same_name_laws };
+}
+
+/// The order of names (RFC 4034, 6.1).
+impl<Octs: Octets> Ord for Name<Octs> {
+    ghost use Rattle.domain_name.specs.Names.{name_labels};
+
+    ghost cmp = { on name_labels order };
+
+    ghost total = { on_total name_labels order_laws };
+
+    ghost matches_partial_cmp = { Prim.search (comparing, rules) };
+
+    ghost matches_eq = { Prim.search (comparing, rules) };
+
+    fn cmp(&self, other: &Name<Octs>) -> Ordering {
+        order_labels(self.iter(), other.iter())
+    }
+}
+
+impl<Octs: Octets> PartialOrd for Name<Octs> {
+    ghost use Rattle.domain_name.specs.Names.{name_labels};
+
+    ghost partial_cmp = { as_partial_cmp (on name_labels order) };
+
+    ghost laws = { partial_order_from_agreeing_total (on name_labels order) (on_total name_labels order_laws) (λ a b. refl) (λ a b. refl) };
+
+    fn partial_cmp(&self, other: &Name<Octs>) -> Option<Ordering> {
+        Some(self.cmp(other))
+    }
+}
+
+/// Feeds each label's length and its octets without ASCII case, so that equal names feed alike.
+impl<Octs: Octets> Hash for Name<Octs> {
+    ghost use Rattle.domain_name.specs.Names.{name_labels};
+
+    ghost hash_input = { λ name. feed (name_labels name) };
+
+    ghost respects_eq = { λ a b. same_feed (name_labels a) (name_labels b) };
+
+    fn hash<H: Hasher>(&self, state: &mut H) {
+        hash_labels(self.iter(), state);
+    }
+}
