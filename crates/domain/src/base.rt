@@ -29,8 +29,12 @@ pub mod name {
     pub use domain_list::labels::{
         Absolute, AbsoluteLabels, LabelIterator, NameLabels, Relative, RelativeLabels, ToLabelIter,
     };
+    pub use domain_name::StripSuffixError;
     pub use domain_name::absolute::Name;
     pub use domain_name::relative::RelativeName;
     pub use domain_name::suffixes::SuffixIter;
     pub use domain_parsed::{ParsedName, ParsedNameIter, ParsedSuffixIter};
+    pub use domain_traits::{
+        FlattenInto, MakeChain, MakeName, MakeRelativeName, ToName, ToRelativeName,
+    };
 }

@@ -3,5 +3,7 @@
 
 pub mod base;
 #[cfg(test)]
+mod callers;
+#[cfg(test)]
 mod tests;
 pub mod tool;

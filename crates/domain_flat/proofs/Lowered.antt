@@ -1,5 +1,5 @@
 -- The canonical form of a wire form is that of its labels.
-use Rattle.std.proofs.Common.{◌≡◌, ℕ, List, [], ◌∷◌, ◌++◌, length, refl, sym, ◌∙◌, ap, subst, arith}
+use Rattle.std.proofs.Common.{◌≡◌, ℕ, List, [], ◌∷◌, ◌++◌, length, refl, sym, ◌∙◌, ap, subst, arith, length-append}
 use Rattle.std.specs.Char.{to_ascii_lowercase}
 use Rattle.std.proofs.lemmas.List.{map-append, length-map}
 use Rattle.domain_label.specs.Low.{low, low_all}
@@ -25,8 +25,10 @@ low_relative [] a = a
 low_relative ([] ∷ ls) a = absurd a
 low_relative ((c ∷ l) ∷ ls) a = (omega (arith, a.0, low_length l), low_relative ls a.1)
 
-low_size : (ls : List (List ℕ)) → AreLabels ls → length (wire (low_all ls)) ≡ length (wire ls)
-low_size ls h = ap length (sym (low_wire ls h)) ∙ low_length (wire ls)
+-- lowered labels have as many octets
+pub low_size : (ls : List (List ℕ)) → length (wire (low_all ls)) ≡ length (wire ls)
+low_size [] = refl
+low_size (l ∷ ls) = omega (arith, low_size ls, low_length l, length-append l (wire ls), length-append (low l) (wire (low_all ls)))
 
 -- lowered octets of an absolute name are its lowered labels
 pub lowered_absolute : (o new : List ℕ) → IsAbsoluteWire o → new ≡ low o → IsAbsoluteWire new × (labels_in new ≡ low_all (labels_in o))
@@ -34,7 +36,7 @@ lowered_absolute o new w e =
     let ls = labels_in o in
     let h = absolute_labels ls w.1.0 in
     let there : new ≡ wire (low_all ls) = e ∙ (ap low (sym w.0) ∙ low_wire ls h) in (
-      subst IsAbsoluteWire (sym there) (wire_absolute (low_all ls) (low_absolute ls w.1.0, omega (arith, low_size ls h, w.1.1))),
+      subst IsAbsoluteWire (sym there) (wire_absolute (low_all ls) (low_absolute ls w.1.0, omega (arith, low_size ls, w.1.1))),
       ap labels_in there ∙ labels_in_wire (low_all ls),
     )
 
@@ -44,6 +46,6 @@ lowered_relative o new w e =
     let ls = labels_in o in
     let h = relative_labels ls w.1.0 in
     let there : new ≡ wire (low_all ls) = e ∙ (ap low (sym w.0) ∙ low_wire ls h) in (
-      subst IsRelativeWire (sym there) (wire_relative (low_all ls) (low_relative ls w.1.0, omega (arith, low_size ls h, w.1.1))),
+      subst IsRelativeWire (sym there) (wire_relative (low_all ls) (low_relative ls w.1.0, omega (arith, low_size ls, w.1.1))),
       ap labels_in there ∙ labels_in_wire (low_all ls),
     )

@@ -1,4 +1,5 @@
 mod LowLemmas
 mod OwnedLemmas
+mod OwnedMemory
 mod WalkLemmas
 pub mod WireLaws

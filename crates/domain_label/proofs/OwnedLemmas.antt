@@ -1,8 +1,9 @@
 -- Labels that own their octets, without case.
-use Rattle.std.proofs.Common.{◌≡◌, ℕ, ◌<◌, List, [], ◌∷◌, take, drop, slice_index, if◌then◌else◌, nat_lt, refl, ◌∙◌, inl, inr, arith}
+use Rattle.std.proofs.Common.{◌≡◌, ℕ, ◌<◌, List, [], ◌∷◌, ◌++◌, length, take, drop, slice_index, if◌then◌else◌, nat_lt, refl, sym, ap, ◌∙◌, inl, inr, arith}
 use Rattle.std.specs.Char.{to_ascii_lowercase}
 use Rattle.std.proofs.lemmas.Bool.{lt-ltb, lt-leb, cases_lt}
-use Rattle.std.proofs.lemmas.List.{take-map}
+use Rattle.std.proofs.Math.Seq.{take-append_seam}
+use Rattle.std.proofs.lemmas.List.{take-map, length-take-le, take_all, drop_all, nil_from_length, append-nil}
 use Rattle.std.proofs.lemmas.Str.Ascii.{lowercase_is}
 use Rattle.domain_label.specs.Low.{low}
 
@@ -37,4 +38,30 @@ front-low (len ∷ o) =
           let small : len < 64 = omega (arith, short) in
           let same : to_ascii_lowercase len ≡ len = (lowercase_is len).1 (omega (arith, short)) in
           rw same (front-short len (low o) small ∙ (take-map to_ascii_lowercase len o ∙ rw (front-short len o small) refl))
+    ]
+
+-- as many octets as the first len of o, in their place, are then the first len
+take-written : (len : ℕ) (o ws : List ℕ) → length ws ≡ length (take len o)
+    → take len (ws ++ drop (length ws) o) ≡ ws
+take-written len o ws e =
+    elim (cases_lt (length o) len) [
+      | inl less ↦
+          let same : length ws ≡ length o = e ∙ ap length (take_all len o (omega (arith, less))) in
+          rw (drop_all (length ws) o (omega (arith, same))) (rw (append-nil ws) (take_all len ws (omega (arith, less, same))))
+      | inr enough ↦
+          let same : length ws ≡ len = e ∙ length-take-le len o enough in
+          ap (λ n. take n (ws ++ drop (length ws) o)) (sym same) ∙ take-append_seam ws (drop (length ws) o)
+    ]
+
+-- octets that are written in the place of a label's are the label's
+pub front-written : (o ws : List ℕ) → length ws ≡ length (front o)
+    → front (take 1 o ++ (ws ++ drop (length ws) (drop 1 o))) ≡ ws
+front-written [] [] e = refl
+front-written [] (x ∷ ws) e = absurd (omega (arith, e))
+front-written (len ∷ o) ws e =
+    elim (cases_lt 63 len) [
+      | inl long ↦ front-long len (ws ++ drop (length ws) o) long ∙ sym (nil_from_length ws (e ∙ ap length (front-long len o long)))
+      | inr short ↦
+          let small : len < 64 = omega (arith, short) in
+          front-short len (ws ++ drop (length ws) o) small ∙ take-written len o ws (e ∙ ap length (front-short len o small))
     ]

@@ -6,3 +6,4 @@ pub mod SliceWalk
 pub mod Hex
 pub mod Told
 pub mod Views
+pub mod Lending

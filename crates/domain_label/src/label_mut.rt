@@ -28,7 +28,16 @@ impl<'a> LabelMut<'a> {
         if octets.len() > Label::MAX_LEN {
             return Err(LongLabelError);
         }
-        Ok(LabelMut { octets })
+        Ok(LabelMut::of_short(octets))
+    }
+
+    /// The label of octets that are known to be few, in place.
+    pub(crate) fn of_short(octets: &'a mut [u8]) -> LabelMut<'a>
+        requires { length octets.old ≤ 63 }
+        ensures same_reference { result.octets.ghost_name ≡ octets.entry.ghost_name }
+        ensures octets { label_mut_octets result ≡ octets.old }
+    {
+        LabelMut { octets }
     }
 
     /// The label that the octets begin with, and the octets behind it, both in place (RFC 1035, 3.1).

@@ -1,6 +1,10 @@
 //! Laws of the definitions.
-ghost use Rattle.std.specs.Prelude.{◌≡◌, ℕ, List};
+ghost use Rattle.std.specs.Prelude.{◌≡◌, ℕ, List, length};
+ghost use Rattle.domain_label.specs.Lending.{with_octets};
+ghost use Rattle.domain_label.specs.Views.{owned_octets};
 ghost use Rattle.domain_label.specs.Wire.{wire, labels_in, IsAbsolute, IsRelative};
+
+use crate::owned::OwnedLabel;
 
 /// What the definitions of wire forms say together: octets spell the list that they are the wire form
 /// of, so they are the wire form of one list only; and no list is absolute and relative.
@@ -8,4 +12,10 @@ pub fn wire_laws()
     ensures spelled { (ls : List (List ℕ)) → labels_in (wire ls) ≡ ls }
     ensures once { (xs ys : List (List ℕ)) → wire xs ≡ wire ys → xs ≡ ys }
     ensures apart { (ls : List (List ℕ)) → IsAbsolute ls → IsRelative ls → ⊥ }
+{}
+
+/// What `with_octets` says of a label whose octets were lent: those that were written, of which there
+/// are as many, are its octets.
+pub fn lent_laws()
+    ensures { (l : OwnedLabel) (ws : List ℕ) → length ws ≡ length (owned_octets l) → owned_octets (with_octets l ws) ≡ ws }
 {}

@@ -1,5 +1,6 @@
 //! A label that owns its octets.
-ghost use Rattle.std.specs.Prelude.{◌≡◌, Some};
+ghost use Rattle.std.specs.Prelude.{◌≡◌, ◌≤◌, Some, take, drop};
+ghost use Rattle.std.specs.Borrow.{sem};
 ghost use Rattle.std.specs.Cmp.{partial_order_from_own_ties};
 ghost use Rattle.std.specs.Cmp.Rules.{comparing};
 ghost use Rattle.std.specs.Ordering.{on, as_partial_cmp};
@@ -23,6 +24,7 @@ pub struct OwnedLabel {
 }
 
 impl OwnedLabel {
+    ghost use Rattle.domain_label.specs.Lending.{LendsLabel, LendsOctets};
     ghost use Rattle.domain_label.specs.Views.{label_octets, label_mut_octets, owned_octets};
 
     /// The octets of a label, as they are.
@@ -52,13 +54,22 @@ impl OwnedLabel {
         Label::of_short(&wire[1..])
     }
 
-    /// The label, for writing its octets in place.
+    /// The label, for writing its octets in place. The octets that it ends with are then this label's.
     pub fn as_label_mut(&mut self) -> LabelMut<'_>
-        ensures { label_mut_octets result ≡ owned_octets self.old }
+        ensures* writes_back { sem 𝓛 (LendsLabel self.entry result) }
+        ensures value { label_mut_octets result ≡ owned_octets self.old }
     {
         let len = self.as_label().len();
-        let (label, _) = LabelMut::split_known(self.wire.as_mut_slice(), len);
-        label
+        LabelMut::of_short(self.octets_mut(len))
+    }
+
+    /// The `len` octets behind the length octet, for writing.
+    fn octets_mut(&mut self, len: usize) -> &mut [u8]
+        requires { len ≤ 63 }
+        ensures* writes_back { sem 𝓛 (LendsOctets self.entry result) }
+        ensures value { result.now ≡ take len (drop 1 self.old.wire) }
+    {
+        &mut self.wire[1..len + 1]
     }
 
     /// The wire form: the length octet and the octets (RFC 1035, 3.1).

@@ -1,6 +1,6 @@
 ghost use Rattle.std.specs.Prelude.{◌≡◌, ◌≤◌, ◌+◌, ◌++◌, IsOk, OnOk, OnErr, IfSome, length};
 ghost use Rattle.domain_label.specs.Low.{low};
-ghost use Rattle.domain_label.specs.Views.{label_octets};
+ghost use Rattle.domain_label.specs.Views.{label_octets, owned_octets};
 ghost use Rattle.domain_label.specs.Wire.{wire_label};
 
 use crate::{
@@ -22,6 +22,14 @@ fn lower_in_place(octets: &mut [u8]) {
     if let Ok(mut label) = LabelMut::from_slice_mut(octets) {
         label.make_canonical();
     }
+}
+
+/// What is written in a label that is lent leaves the length octet.
+fn lower_lent(owned: &mut OwnedLabel)
+    ensures { length (owned_octets owned.new) ≡ length (owned_octets owned.old) }
+{
+    let mut label = owned.as_label_mut();
+    label.make_canonical();
 }
 
 /// A builder with a fixed limit takes a label that fits.
@@ -276,7 +284,7 @@ fn owned_labels_hold_their_wire_form(rt: HostRuntime) {
     owned.make_canonical();
     assert_eq!(rt; owned.as_wire_slice(), b"\x02ab".as_slice());
     let mut lent = OwnedLabel::from(a_b);
-    lent.as_label_mut().make_canonical();
+    lower_lent(&mut lent);
     assert_eq!(rt; lent.as_wire_slice(), b"\x02ab".as_slice());
     assert_eq!(rt; a_b.to_canonical().as_wire_slice(), b"\x02ab".as_slice());
     let mut hasher = DefaultHasher::new();

@@ -1,18 +1,13 @@
 -- What is left of a list of labels without its last ones.
 use Rattle.std.proofs.Common.{◌≡◌, ◌↔◌, IsTrue, Bool, ℕ, ◌+◌, ◌≤◌, List, [], ◌∷◌, ◌++◌, length, refl, sym, ◌∙◌, ap, subst, arith, length-append, ⊎_elim}
-use Rattle.std.proofs.lemmas.List.{length-map}
-use Rattle.std.specs.Char.{to_ascii_lowercase}
-use Rattle.domain_label.specs.Low.{low, low_all}
+use Rattle.domain_label.specs.Low.{low_all}
 use Rattle.domain_label.specs.Wire.{wire, labels_in, IsName, IsWire, IsAbsolute}
 use Rattle.domain_label.proofs.WireLaws.{wire_append, labels_in_wire, absolute_labels, relative_labels}
 use Rattle.domain_list.specs.Ends.{EndsWith}
 use Rattle.domain_flat.specs.Flat.{IsCutAt, IsLabelStart, IsLabelEnd}
 use Rattle.domain_flat.proofs.Cuts.{cut_within, end_start, root_long}
+use Rattle.domain_flat.proofs.Lowered.{low_size}
 use Rattle.domain_name.specs.Names.{IsStripped}
-
-low_size : (ls : List (List ℕ)) → length (wire (low_all ls)) ≡ length (wire ls)
-low_size [] = refl
-low_size (l ∷ ls) = omega (arith, low_size ls, length-map l to_ascii_lowercase, length-append l (wire ls), length-append (low l) (wire (low_all ls)))
 
 same_size : (xs ys : List (List ℕ)) → low_all xs ≡ low_all ys → length (wire xs) ≡ length (wire ys)
 same_size xs ys e = sym (low_size xs) ∙ (ap (λ r. length (wire r)) e ∙ low_size ys)

@@ -41,7 +41,7 @@ impl<Octs: Octets + Copy> Clone for Name<Octs> {
 }
 
 impl<Octs: Octets + Drop> Name<Octs> {
-    ghost use Rattle.domain_name.specs.Names.{name_octets, name_labels};
+    ghost use Rattle.domain_name.specs.Names.{name_octets, name_labels, name_holder};
 
     /// The name whose wire form the octets are.
     ///
@@ -51,6 +51,7 @@ impl<Octs: Octets + Drop> Name<Octs> {
     /// root, `TrailingData` where octets follow the root.
     pub fn from_octets(octets: Octs) -> Result<Name<Octs>, NameError>
         ensures ok { IfOk result (λ name. name_octets name ≡ Octs.octets octets) }
+        ensures kept { IfOk result (λ name. name_holder name ≡ octets) }
         ensures list { (ls : List (List ℕ)) → IsAbsoluteName ls → Octs.octets octets ≡ wire ls → IfOk result (λ name. name_labels name ≡ ls) }
         ensures accepts { IsOk result ↔ IsAbsoluteWire (Octs.octets octets) }
         ensures err { IfErr result (λ e. AbsoluteFault (Octs.octets octets) (name_error_kind e)) }

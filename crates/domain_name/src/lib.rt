@@ -5,6 +5,7 @@ pub mod absolute;
 pub mod labels;
 pub mod order;
 pub mod relative;
+pub mod relative_labels;
 pub mod relative_order;
 mod strip;
 pub mod suffixes;

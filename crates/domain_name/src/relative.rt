@@ -39,7 +39,7 @@ impl<Octs: Octets + Copy> Clone for RelativeName<Octs> {
 }
 
 impl<Octs: Octets + Drop> RelativeName<Octs> {
-    ghost use Rattle.domain_name.specs.Names.{relative_octets, relative_labels, name_labels};
+    ghost use Rattle.domain_name.specs.Names.{relative_octets, relative_labels, relative_holder, name_labels};
 
     /// The name whose wire form the octets are.
     ///
@@ -48,6 +48,7 @@ impl<Octs: Octets + Drop> RelativeName<Octs> {
     /// label, `AbsoluteName` at a root.
     pub fn from_octets(octets: Octs) -> Result<RelativeName<Octs>, RelativeNameError>
         ensures ok { IfOk result (λ name. relative_octets name ≡ Octs.octets octets) }
+        ensures kept { IfOk result (λ name. relative_holder name ≡ octets) }
         ensures list { (ls : List (List ℕ)) → IsRelativeName ls → Octs.octets octets ≡ wire ls → IfOk result (λ name. relative_labels name ≡ ls) }
         ensures accepts { IsOk result ↔ IsRelativeWire (Octs.octets octets) }
         ensures err { IfErr result (λ e. RelativeFault (Octs.octets octets) (relative_name_error_kind e)) }

@@ -2,6 +2,7 @@
 #![tactic(auto)]
 
 mod fault;
+mod flatten;
 mod head;
 mod heads;
 mod iter;

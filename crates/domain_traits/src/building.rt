@@ -1,0 +1,87 @@
+//! Wire forms and flat names made of labels. The calls of names stand on these functions, which are
+//! one body each for absolute and relative names of every kind.
+ghost use Rattle.std.specs.Prelude.{◌≡◌, List, length, IfOk, IsOkAnd, OnErr};
+ghost use Rattle.std.specs.Cow.{cow_slice_items, IsBorrowedSlice};
+ghost use Rattle.domain_label.specs.Low.{low_all};
+ghost use Rattle.domain_label.specs.Wire.{wire, IsAbsoluteWire, IsRelativeWire};
+ghost use Rattle.domain_name.specs.Names.{name_octets, relative_octets};
+ghost use Rattle.domain_traits.specs.Room.{MayLackRoom};
+
+use domain_list::composing::{compose_canonical_labels, compose_labels};
+use domain_list::{LabelIterator, ToLabelIter};
+use domain_name::{Name, RelativeName};
+use octseq::{EmptyBuilder, FromBuilder, ShortBuf};
+use std::alloc::Global;
+use std::borrow::CowSlice;
+
+/// A new builder that has the wire form of the labels that are left. Room for `size` octets is asked for
+/// once, before anything is appended.
+///
+/// `ShortBuf` where the octets exceed a fixed room, or where memory was refused.
+pub(crate) fn build<'a, I: LabelIterator<'a>, B: EmptyBuilder + Drop>(
+    labels: I,
+    size: u16,
+    alloc: Global,
+) -> Result<B, ShortBuf>
+    ensures ok { IfOk result (λ target. B.octets target ≡ wire (I.left labels)) }
+    ensures err { OnErr result (MayLackRoom B.ROOM (length (wire (I.left labels)))) }
+{
+    let mut target = B::with_capacity(alloc, size as usize)?;
+    match compose_labels(labels, &mut target) {
+        Ok(()) => Ok(target),
+        Err(e) => Err(e.into()),
+    }
+}
+
+/// The same with the labels lowered (RFC 4034, 6.2).
+pub(crate) fn build_canonical<'a, I: LabelIterator<'a>, B: EmptyBuilder + Drop>(
+    labels: I,
+    size: u16,
+    alloc: Global,
+) -> Result<B, ShortBuf>
+    ensures ok { IfOk result (λ target. B.octets target ≡ wire (low_all (I.left labels))) }
+    ensures err { OnErr result (MayLackRoom B.ROOM (length (wire (low_all (I.left labels))))) }
+{
+    let mut target = B::with_capacity(alloc, size as usize)?;
+    match compose_canonical_labels(labels, &mut target) {
+        Ok(()) => Ok(target),
+        Err(e) => Err(e.into()),
+    }
+}
+
+/// The wire form of a name: lent where it lies in one piece, else put together.
+///
+/// `ShortBuf` only where it doesn't lie in one piece and memory was refused.
+pub(crate) fn lend_or_build<'a, N: ToLabelIter<'a>>(
+    name: &'a N,
+    alloc: Global,
+) -> Result<CowSlice<'a, u8>, ShortBuf>
+    ensures ok { IfOk result (λ octets. cow_slice_items octets ≡ wire (N.labels name.now)) }
+    ensures flat { N.lies_flat name.now → IsOkAnd result IsBorrowedSlice }
+{
+    match name.as_flat_slice() {
+        Some(flat) => Ok(CowSlice::Borrowed(flat)),
+        None => {
+            let octets: Vec<u8> = build(name.iter_labels(), name.compose_len(), alloc)?;
+            Ok(CowSlice::Owned(octets))
+        }
+    }
+}
+
+/// The absolute name whose wire form a builder has.
+pub(crate) fn finish_name<Octs: FromBuilder + Drop>(target: Octs::Builder) -> Name<Octs>
+    requires { IsAbsoluteWire (Octs.Builder.octets target) }
+    ensures { name_octets result ≡ Octs.Builder.octets target }
+{
+    Name::from_octets(Octs::from_builder(target)).unwrap()
+}
+
+/// The relative name whose wire form a builder has.
+pub(crate) fn finish_relative_name<Octs: FromBuilder + Drop>(
+    target: Octs::Builder,
+) -> RelativeName<Octs>
+    requires { IsRelativeWire (Octs.Builder.octets target) }
+    ensures { relative_octets result ≡ Octs.Builder.octets target }
+{
+    RelativeName::from_octets(Octs::from_builder(target)).unwrap()
+}

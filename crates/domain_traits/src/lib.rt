@@ -1,0 +1,14 @@
+//! What names of every kind can be made into: octets, flat names, chains and text.
+#![tactic(auto)]
+
+mod building;
+pub mod flatten;
+pub mod to_name;
+pub mod to_relative_name;
+
+pub use flatten::FlattenInto;
+pub use to_name::{MakeName, ToName};
+pub use to_relative_name::{MakeChain, MakeRelativeName, ToRelativeName};
+
+#[cfg(test)]
+mod tests;

@@ -1,0 +1,344 @@
+//! Names of each kind made into octets, flat names, chains and text.
+ghost use Rattle.std.specs.Prelude.{◌≡◌, [], ◌∷◌, ◌++◌, IfOk};
+ghost use Rattle.domain_label.specs.Low.{low_all};
+ghost use Rattle.domain_label.specs.Wire.{wire};
+ghost use Rattle.domain_list.specs.Count.{rrsig_labels};
+ghost use Rattle.domain_name.specs.Names.{name_labels};
+
+use crate::{FlattenInto, MakeChain, MakeName, MakeRelativeName, ToName, ToRelativeName};
+use arrayvec::ArrayVec;
+use domain_list::{
+    Absolute, AbsoluteLabels, Chain, LabelIterator, NameLabels, Relative, RelativeLabels,
+    ToLabelIter,
+};
+use domain_name::{Name, RelativeName};
+use octseq::{EmptyBuilder, Octets, OctetsBuilder, ShortBuf};
+use std::alloc::Global;
+use std::borrow::CowSlice;
+use std::process::Abort;
+use std::test::Fail;
+
+const WWW: &[u8] = b"\x03www\x07example\x03com\0";
+
+/// 250 octets: 25 labels.
+const LONG: &[u8] =
+    b"\x09123456789\x09123456789\x09123456789\x09123456789\x09123456789\x09123456789\x09123456789\x09123456789\x09123456789\x09123456789\x09123456789\x09123456789\x09123456789\x09123456789\x09123456789\x09123456789\x09123456789\x09123456789\x09123456789\x09123456789\x09123456789\x09123456789\x09123456789\x09123456789\x09123456789";
+
+fn absolute(rt: &impl Abort, octets: &'static [u8]) -> Name<&'static [u8]> {
+    match Name::from_slice(octets) {
+        Ok(name) => name,
+        Err(_) => panic!(rt; "no absolute name"),
+    }
+}
+
+fn relative(rt: &impl Abort, octets: &'static [u8]) -> RelativeName<&'static [u8]> {
+    match RelativeName::from_slice(octets) {
+        Ok(name) => name,
+        Err(_) => panic!(rt; "no relative name"),
+    }
+}
+
+type Joined = Chain<RelativeName<&'static [u8]>, Name<&'static [u8]>>;
+
+type RelativeJoined = Chain<RelativeName<&'static [u8]>, RelativeName<&'static [u8]>>;
+
+fn joined(rt: &impl Abort, left: &'static [u8], right: &'static [u8]) -> Joined {
+    match relative(rt, left).chain(absolute(rt, right)) {
+        Ok(name) => name,
+        Err(_) => panic!(rt; "too long"),
+    }
+}
+
+fn relative_joined(rt: &impl Abort, left: &'static [u8], right: &'static [u8]) -> RelativeJoined {
+    match relative(rt, left).chain(relative(rt, right)) {
+        Ok(name) => name,
+        Err(_) => panic!(rt; "too long"),
+    }
+}
+
+/// A name of another kind and a number: a kind of names of the tests' own.
+#[derive(Clone, Copy)]
+struct Numbered<N> {
+    name: N,
+    number: u16,
+}
+
+impl<N: NameLabels> NameLabels for Numbered<N> {
+    ghost labels = { λ numbered. N.labels numbered.name };
+
+    fn compose_len(&self) -> u16 {
+        self.name.compose_len()
+    }
+
+    fn is_absolute(&self) -> bool {
+        self.name.is_absolute()
+    }
+
+    ghost lawful = { λ numbered. N.lawful numbered.name };
+}
+
+impl<N: Absolute> Absolute for Numbered<N> {
+    ghost absolute = { λ numbered. N.absolute numbered.name };
+}
+
+impl<'a, N: ToLabelIter<'a>> ToLabelIter<'a> for Numbered<N> {
+    type LabelIter = N::LabelIter;
+
+    fn iter_labels(&'a self) -> N::LabelIter {
+        self.name.iter_labels()
+    }
+
+    ghost lies_flat = { λ numbered. N.lies_flat numbered.name };
+
+    fn as_flat_slice(&'a self) -> Option<&'a [u8]> {
+        self.name.as_flat_slice()
+    }
+}
+
+impl<'a, N: AbsoluteLabels<'a>> AbsoluteLabels<'a> for Numbered<N> {}
+
+// Generic callers need no more than the traits say.
+
+/// The question for the addresses of a name: the name, and then its type and class.
+fn address_question<'a, N: AbsoluteLabels<'a>>(
+    name: &'a N,
+    alloc: Global,
+) -> Result<Vec<u8>, ShortBuf>
+    ensures { IfOk result (λ octets. octets.items ≡ wire (N.labels name.now) ++ 0 ∷ 1 ∷ 0 ∷ 1 ∷ []) }
+{
+    let mut octets = Vec::new(alloc);
+    name.compose(&mut octets)?;
+    octets.append_slice(&[0, 1, 0, 1])?;
+    Ok(octets)
+}
+
+/// A name of any kind as a key: in one piece, owned, and lowered.
+fn key<'a, N: AbsoluteLabels<'a>>(name: &'a N, alloc: Global) -> Result<Name<Vec<u8>>, ShortBuf>
+    ensures { IfOk result (λ made. name_labels made ≡ low_all (N.labels name.now)) }
+{
+    name.to_canonical_name(alloc)
+}
+
+/// What a name of any kind has for a signature: its canonical octets and its number of labels.
+fn signed<'a, N: AbsoluteLabels<'a>>(name: &'a N, alloc: Global) -> Result<(Vec<u8>, u8), ShortBuf>
+    ensures octets { IfOk result (λ both. both.0.items ≡ wire (low_all (N.labels name.now))) }
+    ensures count { IfOk result (λ both. both.1 ≡ rrsig_labels (N.labels name.now)) }
+{
+    let mut octets = Vec::new(alloc);
+    name.compose_canonical(&mut octets)?;
+    Ok((octets, name.rrsig_label_count()))
+}
+
+/// What a name of any kind is made into: octets, an owned name, and text.
+fn forms<'a, N: AbsoluteLabels<'a>>(
+    rt: &impl Abort,
+    alloc: Global,
+    name: &'a N,
+) -> (Name<Vec<u8>>, Name<ArrayVec<u8, 17>>, String) {
+    let owned = name.to_vec(alloc).expect(rt, "memory");
+    let held = name.try_to_name(alloc).expect(rt, "room");
+    let text = format!(in alloc; "{}", name.fmt_with_dot()).expect(rt, "memory");
+    (owned, held, text)
+}
+
+fn have_forms<'a, N: AbsoluteLabels<'a>>(rt: &impl Abort, alloc: Global, name: &'a N) -> bool {
+    let (owned, held, text) = forms(rt, alloc, name);
+    owned.as_slice() == WWW && held.as_slice() == WWW && text.as_str() == "www.example.com."
+}
+
+#[test]
+fn names_of_each_kind_have_one_body(rt: HostRuntime) {
+    let alloc = rt.alloc();
+    let flat = absolute(&rt, WWW);
+    let chain = joined(&rt, b"\x03www", b"\x07example\x03com\0");
+    let lent = &flat;
+    let numbered = Numbered {
+        name: chain,
+        number: 1,
+    };
+    assert!(rt; have_forms(&rt, alloc, &flat));
+    assert!(rt; have_forms(&rt, alloc, &chain));
+    assert!(rt; have_forms(&rt, alloc, &lent));
+    assert!(rt; have_forms(&rt, alloc, &numbered) && numbered.number == 1);
+}
+
+#[test]
+fn callers_get_octets(rt: HostRuntime) -> Result<(), Fail> {
+    let alloc = rt.alloc();
+    let chain = joined(&rt, b"\x03wWw", b"\x07exaMPle\x03com\0");
+    let question = address_question(&chain, alloc)?;
+    assert_eq!(rt;
+        question.as_slice(),
+        b"\x03wWw\x07exaMPle\x03com\0\0\x01\0\x01".as_slice()
+    );
+    assert_eq!(rt; key(&chain, alloc)?.as_slice(), WWW);
+    let (octets, count) = signed(&chain, alloc)?;
+    assert_eq!(rt; octets.as_slice(), WWW);
+    assert_eq!(rt; count, 3);
+    Ok(())
+}
+
+/// How many octets a relative name of any kind has with a root behind it.
+fn len_with_root<L: Relative + Drop>(name: L) -> u16 {
+    name.chain_root().compose_len()
+}
+
+#[test]
+fn a_relative_name_has_room_for_a_root(rt: HostRuntime) {
+    let left = relative(&rt, LONG);
+    assert!(rt; left.chain(relative(&rt, b"\x041234")).is_err());
+    let longest = relative_joined(&rt, LONG, b"\x03123");
+    assert_eq!(rt; longest.compose_len(), 254);
+    assert_eq!(rt; len_with_root(longest), 255);
+}
+
+#[test]
+fn a_root_is_chained_behind_the_labels(rt: HostRuntime) -> Result<(), Fail> {
+    let chain = relative(&rt, b"\x03www\x07example\x03com").chain_root();
+    assert_eq!(rt; chain.to_vec(rt.alloc())?.as_slice(), WWW);
+    Ok(())
+}
+
+#[test]
+fn flat_names_are_refused_where_they_exceed_the_room(rt: HostRuntime) -> Result<(), Fail> {
+    let alloc = rt.alloc();
+    let flat = absolute(&rt, WWW);
+    let chain = joined(&rt, b"\x03www\x07example", b"\x03com\0");
+    let none: Result<Name<ArrayVec<u8, 16>>, ShortBuf> = flat.to_name(alloc);
+    assert!(rt; none.is_err());
+    let none: Result<Name<ArrayVec<u8, 16>>, ShortBuf> = chain.to_name(alloc);
+    assert!(rt; none.is_err());
+    let made: Name<ArrayVec<u8, 17>> = flat.to_name(alloc)?;
+    assert_eq!(rt; made.as_slice(), WWW);
+    let made: Name<ArrayVec<u8, 17>> = chain.to_name(alloc)?;
+    assert_eq!(rt; made.as_slice(), WWW);
+    Ok(())
+}
+
+#[test]
+fn relative_names_are_made_flat(rt: HostRuntime) -> Result<(), Fail> {
+    let alloc = rt.alloc();
+    let chain = relative_joined(&rt, b"\x03wWw", b"\x07example");
+    let none: Result<RelativeName<ArrayVec<u8, 11>>, ShortBuf> = chain.to_relative_name(alloc);
+    assert!(rt; none.is_err());
+    let made: RelativeName<ArrayVec<u8, 12>> = chain.try_to_relative_name(alloc)?;
+    assert_eq!(rt; made.as_slice(), b"\x03wWw\x07example".as_slice());
+    let made: RelativeName<Vec<u8>> = chain.to_canonical_relative_name(alloc)?;
+    assert_eq!(rt; made.as_slice(), b"\x03www\x07example".as_slice());
+    let made: RelativeName<ArrayVec<u8, 12>> = chain.try_to_canonical_relative_name(alloc)?;
+    assert_eq!(rt; made.as_slice(), b"\x03www\x07example".as_slice());
+    assert_eq!(rt;
+        chain.to_vec(alloc)?.as_slice(),
+        b"\x03wWw\x07example".as_slice()
+    );
+    Ok(())
+}
+
+#[test]
+fn canonical_names_are_lowered(rt: HostRuntime) -> Result<(), Fail> {
+    let alloc = rt.alloc();
+    let mixed = absolute(&rt, b"\x03wWw\x01Z\0");
+    let made: Name<Vec<u8>> = mixed.to_canonical_name(alloc)?;
+    assert_eq!(rt; made.as_slice(), b"\x03www\x01z\0".as_slice());
+    let made: Name<ArrayVec<u8, 7>> = mixed.try_to_canonical_name(alloc)?;
+    assert_eq!(rt; made.as_slice(), b"\x03www\x01z\0".as_slice());
+    let none: Result<Name<ArrayVec<u8, 6>>, ShortBuf> = mixed.to_canonical_name(alloc);
+    assert!(rt; none.is_err());
+    Ok(())
+}
+
+#[test]
+fn signatures_count_neither_root_nor_wildcard(rt: HostRuntime) {
+    for (name, wanted) in [(WWW, 3), (b"\x01*\x07example\0", 1), (b"\0", 0)] {
+        assert_eq!(rt; absolute(&rt, name).rrsig_label_count(), wanted);
+    }
+}
+
+#[test]
+fn chains_are_shown_with_a_final_dot(rt: HostRuntime) -> Result<(), Fail> {
+    let chain = joined(&rt, b"\x03www", b"\x03com\0");
+    let text = format!(in rt.alloc(); "{}", chain.fmt_with_dot())?;
+    assert_eq!(rt; text.as_str(), "www.com.");
+    Ok(())
+}
+
+/// Whether a name is refused by an empty builder, which is left so.
+fn leaves_empty<Target: EmptyBuilder + Drop>(rt: &impl Abort, alloc: Global) -> bool {
+    let mut target = Target::empty(alloc);
+    let refused = absolute(rt, WWW).compose(&mut target).is_err();
+    refused && target.as_slice().is_empty()
+}
+
+#[test]
+fn refused_names_leave_the_target(rt: HostRuntime) -> Result<(), Fail> {
+    let alloc = rt.alloc();
+    assert!(rt; leaves_empty::<ArrayVec<u8, 0>>(&rt, alloc));
+    assert!(rt; leaves_empty::<ArrayVec<u8, 1>>(&rt, alloc));
+    assert!(rt; leaves_empty::<ArrayVec<u8, 16>>(&rt, alloc));
+    let mut target: ArrayVec<u8, 17> = ArrayVec::new();
+    absolute(&rt, WWW).compose(&mut target)?;
+    assert_eq!(rt; target.as_slice(), WWW);
+    let mut held: ArrayVec<u8, 17> = ArrayVec::new();
+    held.try_extend_from_slice(b"\xaa").ok().ok_or("full")?;
+    assert!(rt; absolute(&rt, WWW).compose(&mut held).is_err());
+    assert_eq!(rt; held.as_slice(), b"\xaa".as_slice());
+    absolute(&rt, b"\x03com\0").compose(&mut held)?;
+    assert_eq!(rt; held.as_slice(), b"\xaa\x03com\0".as_slice());
+    Ok(())
+}
+
+#[test]
+fn relative_names_are_composed(rt: HostRuntime) -> Result<(), Fail> {
+    let mut octets = Vec::new(rt.alloc());
+    let chain = relative_joined(&rt, b"\x03wWw", b"\x01Z");
+    chain.compose(&mut octets)?;
+    chain.compose_canonical(&mut octets)?;
+    assert_eq!(rt; octets.as_slice(), b"\x03wWw\x01Z\x03www\x01z".as_slice());
+    Ok(())
+}
+
+#[test]
+fn chains_may_have_no_label(rt: HostRuntime) {
+    assert!(rt; relative_joined(&rt, b"", b"").is_empty());
+    assert!(rt; !relative_joined(&rt, b"", b"\x03com").is_empty());
+}
+
+#[test]
+fn flat_names_are_lent(rt: HostRuntime) -> Result<(), Fail> {
+    let alloc = rt.alloc();
+    let flat = absolute(&rt, WWW);
+    let lent = flat.to_cow(alloc)?;
+    assert_eq!(rt; lent.as_slice(), WWW);
+    assert!(rt; matches!(lent.as_octets(), CowSlice::Borrowed(_)));
+    let chain = joined(&rt, b"\x03www", b"\x07example\x03com\0");
+    let owned = chain.to_cow(alloc)?;
+    assert_eq!(rt; owned.as_slice(), WWW);
+    assert!(rt; matches!(owned.as_octets(), CowSlice::Owned(_)));
+    Ok(())
+}
+
+#[test]
+fn flat_relative_names_are_lent(rt: HostRuntime) -> Result<(), Fail> {
+    let alloc = rt.alloc();
+    let flat = relative(&rt, b"\x03www");
+    let lent = flat.to_cow(alloc)?;
+    assert_eq!(rt; lent.as_slice(), b"\x03www".as_slice());
+    assert!(rt; matches!(lent.as_octets(), CowSlice::Borrowed(_)));
+    let chain = relative_joined(&rt, b"\x03www", b"\x03com");
+    let owned = chain.to_cow(alloc)?;
+    assert_eq!(rt; owned.as_slice(), b"\x03www\x03com".as_slice());
+    assert!(rt; matches!(owned.as_octets(), CowSlice::Owned(_)));
+    Ok(())
+}
+
+#[test]
+fn names_are_flattened(rt: HostRuntime) -> Result<(), Fail> {
+    let alloc = rt.alloc();
+    let made: Name<Vec<u8>> = absolute(&rt, WWW).flatten_into(alloc)?;
+    assert_eq!(rt; made.as_slice(), WWW);
+    let made: Name<ArrayVec<u8, 17>> = absolute(&rt, WWW).try_flatten_into(alloc)?;
+    assert_eq!(rt; made.as_slice(), WWW);
+    let none: Result<Name<ArrayVec<u8, 16>>, ShortBuf> = absolute(&rt, WWW).flatten_into(alloc);
+    assert!(rt; none.is_err());
+    Ok(())
+}
