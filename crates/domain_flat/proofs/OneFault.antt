@@ -1,12 +1,11 @@
 -- The first fault of flat octets is one.
-use Rattle.std.proofs.Common.{◌≡◌, ℕ, suc, ◌+◌, ◌*◌, ◌≤◌, ◌<◌, ◌⊎◌, inl, inr, ⊎_elim, List, [], ◌∷◌, ◌++◌, length, refl, sym, ◌∙◌, ap, subst, arith, append_assoc, codes}
+use Rattle.std.proofs.Common.{◌≡◌, ℕ, suc, ◌≤◌, ◌<◌, ⊎_elim, List, [], ◌∷◌, ◌++◌, length, refl, sym, ◌∙◌, ap, subst, arith, append_assoc, codes}
 use Rattle.domain_label.specs.Wire.{wire, IsLabel, IsRelative}
 use Rattle.domain_label.specs.Splitting.{SplitFault, HeadFault}
 use Rattle.domain_label.specs.Told.{split_refusal}
 use Rattle.domain_wire.specs.Refusals.{Refusal, form}
 use Rattle.domain_label.specs.declared.split.SplitLabelError.{SplitLabelError}
 use Rattle.domain_label.specs.declared.split.SplitLabelError.TheVariants.{Pointer, BadType, ShortInput}
-use Rattle.domain_label.specs.declared.split.LabelTypeError.{LabelTypeError}
 use Rattle.domain_label.specs.declared.split.LabelTypeError.TheVariants.{Undefined, Extended}
 use Rattle.domain_flat.specs.Flat.{Passed}
 use Rattle.domain_flat.specs.Told.{name_fault, relative_name_fault}

@@ -88,6 +88,9 @@ fn label_text_escapes(rt: HostRuntime) -> Result<(), Fail> {
 #[test]
 fn labels_have_at_most_63_octets(rt: HostRuntime) {
     let octets = [0; 64];
+    for part in [&octets[..10], &octets[..63]] {
+        assert_eq!(rt; label(&rt, part).as_slice(), part);
+    }
     assert_eq!(rt; label(&rt, &octets[..63]).len(), 63);
     assert_eq!(rt; label(&rt, &octets[..63]).compose_len(), 64);
     assert_eq!(rt; Label::from_slice(&octets).err(), Some(LongLabelError));
@@ -98,8 +101,13 @@ fn labels_have_at_most_63_octets(rt: HostRuntime) {
 
 #[test]
 fn labels_are_split_from_octets(rt: HostRuntime) {
-    let rows: [(&[u8], &[u8], &[u8]); 3] = [
+    let rows: [(&[u8], &[u8], &[u8]); 4] = [
         (b"\x03www\x07example", b"www", b"\x07example"),
+        (
+            b"\x03www\x07example\x03com\0",
+            b"www",
+            b"\x07example\x03com\0",
+        ),
         (b"\0some", b"", b"some"),
         (b"\x03www", b"www", b""),
     ];
@@ -194,6 +202,7 @@ fn case_makes_no_difference(rt: HostRuntime) {
     let other = label(&rt, b"eXAMple");
     assert!(rt; one == other);
     assert!(rt; one.cmp(&other) == Ordering::Equal);
+    assert!(rt; one.partial_cmp(&other) == Some(Ordering::Equal));
     assert_eq!(rt; hashed(one), hashed(other));
     assert!(rt; one != label(&rt, b"e4ample"));
     assert!(rt; OwnedLabel::from(one) == OwnedLabel::from(other));
@@ -322,6 +331,7 @@ fn a_walk_over_a_slice_gives_its_labels(rt: HostRuntime) {
     assert_gives(&rt, Label::iter_slice(example, 12), &[b""]);
     assert_gives(&rt, Label::iter_slice(example, 13), &[]);
     assert_gives(&rt, Label::iter_slice(b"", 0), &[]);
+    assert_gives(&rt, Label::iter_slice(b"", 1), &[]);
     assert_gives(&rt, Label::iter_slice(b"", usize::MAX), &[]);
     // A label that isn't whole, another type of label, and a pointer that leads forward end it.
     assert_gives(&rt, Label::iter_slice(b"\x01a\x02b", 0), &[b"a"]);

@@ -1,14 +1,21 @@
-//! Flat names: what is read, what is shown, and the parts of names.
+//! Flat names: what is read, what is shown, the parts of names, and names compared.
 
 use crate::absolute::Name;
 use crate::relative::RelativeName;
+use crate::strip::StripSuffixError;
+use crate::suffixes::SuffixIter;
 use arrayvec::ArrayVec;
-use domain_flat::{NameErrorKind, RelativeNameErrorKind};
+use domain_flat::{NameErrorKind, NameIter, RelativeNameErrorKind};
 use domain_label::{Label, LabelTypeError};
-use domain_list::NameLabels;
+use domain_list::{
+    AbsoluteLabels, Chain, CompareNames, CompareRelativeNames, DisplayWithDot, LongChainError,
+    MatchEnds, NameLabels, Relative, RelativeLabels,
+};
 use domain_wire::ParseError;
 use octseq::{OctetsFrom, Parser, ShortBuf};
 use std::alloc::Global;
+use std::cmp::Ordering;
+use std::hash::{DefaultHasher, Hash, Hasher};
 use std::process::Abort;
 use std::test::Fail;
 
@@ -27,6 +34,18 @@ fn relative<'a>(rt: &impl Abort, octets: &'a [u8]) -> RelativeName<&'a [u8]> {
     match RelativeName::from_slice(octets) {
         Ok(name) => name,
         Err(_) => panic!(rt; "no relative name"),
+    }
+}
+
+/// The chain of two names.
+fn chained<L: Relative + Drop, R: NameLabels + Drop>(
+    rt: &impl Abort,
+    left: L,
+    right: R,
+) -> Chain<L, R> {
+    match Chain::new(left, right) {
+        Ok(chain) => chain,
+        Err(_) => panic!(rt; "too long a chain"),
     }
 }
 
@@ -63,91 +82,122 @@ fn wire_forms_of_absolute_names_are_accepted(rt: HostRuntime) {
     assert_eq!(rt; absolute_fault(longest.as_slice()), None);
     assert_eq!(rt; absolute_fault(WWW), None);
     assert_eq!(rt; absolute_fault(b"\0"), None);
+    assert_eq!(rt; absolute(&rt, WWW).as_slice(), WWW);
+}
+
+#[test]
+fn labels_of_absolute_names_have_at_most_63_octets(rt: HostRuntime) {
+    let mut octets = [0; 66];
+    octets[0] = 63;
+    assert_eq!(rt; absolute_fault(&octets[..65]), None);
+    octets[0] = 64;
+    let extended = NameErrorKind::BadLabel(LabelTypeError::Extended(64));
+    assert_eq!(rt; absolute_fault(&octets), Some(extended));
+}
+
+#[test]
+fn labels_of_relative_names_have_at_most_63_octets(rt: HostRuntime) {
+    let mut octets = [0; 65];
+    octets[0] = 63;
+    assert_eq!(rt; relative_fault(&octets[..64]), None);
+    octets[0] = 64;
+    let extended = RelativeNameErrorKind::BadLabel(LabelTypeError::Extended(64));
+    assert_eq!(rt; relative_fault(&octets), Some(extended));
 }
 
 #[test]
 fn other_octets_have_the_first_fault(rt: HostRuntime) {
     let too_long = long_octets(rt.alloc(), &rt, b"\x041234\0");
     assert_eq!(rt; too_long.len(), 256);
-    assert_eq!(rt;
-        absolute_fault(too_long.as_slice()),
-        Some(NameErrorKind::LongName)
-    );
-    assert_eq!(rt; absolute_fault(b""), Some(NameErrorKind::ShortInput));
-    assert_eq!(rt;
-        absolute_fault(b"\x03www"),
-        Some(NameErrorKind::RelativeName)
-    );
-    assert_eq!(rt;
-        absolute_fault(b"\x03www\x07exa"),
-        Some(NameErrorKind::ShortInput)
-    );
-    assert_eq!(rt;
-        absolute_fault(b"\x03com\0\0"),
-        Some(NameErrorKind::TrailingData)
-    );
-    assert_eq!(rt;
-        absolute_fault(b"\xccab"),
-        Some(NameErrorKind::CompressedName)
-    );
-    assert_eq!(rt; absolute_fault(b"\xcc"), Some(NameErrorKind::ShortInput));
     let extended = NameErrorKind::BadLabel(LabelTypeError::Extended(0x62));
-    assert_eq!(rt; absolute_fault(b"\x62a"), Some(extended));
     let undefined = NameErrorKind::BadLabel(LabelTypeError::Undefined);
-    assert_eq!(rt; absolute_fault(b"\xa2a"), Some(undefined));
+    let rows: [(&[u8], NameErrorKind); 11] = [
+        (too_long.as_slice(), NameErrorKind::LongName),
+        (b"", NameErrorKind::ShortInput),
+        (b"\x03www", NameErrorKind::RelativeName),
+        (RELATIVE_WWW, NameErrorKind::RelativeName),
+        (b"\x03www\x07exa", NameErrorKind::ShortInput),
+        (b"\x03com\0\0", NameErrorKind::TrailingData),
+        (b"\x03com\0\x03www\0", NameErrorKind::TrailingData),
+        (b"\xccab", NameErrorKind::CompressedName),
+        (b"\xcc", NameErrorKind::ShortInput),
+        (b"\x62a", extended),
+        (b"\xa2a", undefined),
+    ];
+    for (octets, fault) in rows {
+        assert_eq!(rt; absolute_fault(octets), Some(fault));
+    }
 }
 
 #[test]
-fn relative_names_are_read(rt: HostRuntime) {
+fn wire_forms_of_relative_names_are_accepted(rt: HostRuntime) {
     let longest = long_octets(rt.alloc(), &rt, b"\x03123");
+    assert_eq!(rt; longest.len(), 254);
+    let rows: [&[u8]; 4] = [b"", b"\x03www", b"\x03www\x07example", longest.as_slice()];
+    for octets in rows {
+        assert_eq!(rt; relative(&rt, octets).as_slice(), octets);
+    }
+}
+
+#[test]
+fn octets_of_no_relative_name_have_the_first_fault(rt: HostRuntime) {
     let too_long = long_octets(rt.alloc(), &rt, b"\x041234");
-    assert_eq!(rt; relative_fault(b""), None);
-    assert_eq!(rt; relative_fault(longest.as_slice()), None);
-    assert_eq!(rt;
-        relative_fault(too_long.as_slice()),
-        Some(RelativeNameErrorKind::LongName)
-    );
-    assert_eq!(rt;
-        relative_fault(b"\x03www\x07exa"),
-        Some(RelativeNameErrorKind::ShortInput)
-    );
-    assert_eq!(rt;
-        relative_fault(b"\xccab"),
-        Some(RelativeNameErrorKind::CompressedName)
-    );
-    assert_eq!(rt;
-        relative_fault(b"\0"),
-        Some(RelativeNameErrorKind::AbsoluteName)
-    );
-    assert_eq!(rt;
-        relative_fault(b"\x03www\0"),
-        Some(RelativeNameErrorKind::AbsoluteName)
-    );
-    let undefined = RelativeNameErrorKind::BadLabel(LabelTypeError::Undefined);
-    assert_eq!(rt; relative_fault(b"\xa2a"), Some(undefined));
     let extended = RelativeNameErrorKind::BadLabel(LabelTypeError::Extended(0x62));
-    assert_eq!(rt; relative_fault(b"\x62a"), Some(extended));
+    let undefined = RelativeNameErrorKind::BadLabel(LabelTypeError::Undefined);
+    let rows: [(&[u8], RelativeNameErrorKind); 8] = [
+        (too_long.as_slice(), RelativeNameErrorKind::LongName),
+        (b"\x03www\x07exa", RelativeNameErrorKind::ShortInput),
+        (b"\xccab", RelativeNameErrorKind::CompressedName),
+        (b"\0", RelativeNameErrorKind::AbsoluteName),
+        (b"\x03www\0", RelativeNameErrorKind::AbsoluteName),
+        (WWW, RelativeNameErrorKind::AbsoluteName),
+        (b"\x62a", extended),
+        (b"\xa2a", undefined),
+    ];
+    for (octets, fault) in rows {
+        assert_eq!(rt; relative_fault(octets), Some(fault));
+    }
 }
 
 #[test]
 fn a_name_is_parsed_up_to_its_root(rt: HostRuntime) -> Result<(), Fail> {
-    let mut parser = Parser::from_ref(b"\x03com\0\x07example\0rest");
+    let mut parser = Parser::from_ref(b"\x03com\0\x03www\x07example\x03com\0af");
     let com = Name::parse(&mut parser)?;
     assert_eq!(rt; com.as_slice(), b"\x03com\0".as_slice());
     assert_eq!(rt; parser.pos(), 5);
-    let example = Name::parse(&mut parser)?;
-    assert_eq!(rt; example.as_slice(), b"\x07example\0".as_slice());
-    assert_eq!(rt; parser.pos(), 14);
+    assert_eq!(rt; Name::parse(&mut parser)?.as_slice(), WWW);
+    assert_eq!(rt; parser.peek_all(), b"af".as_slice());
     Ok(())
 }
 
-/// Parses the octets from their start, tells the error, and sees that the parser stays.
-fn refused(rt: &impl Abort, octets: &[u8]) -> ParseError {
+#[test]
+fn a_parsed_name_has_at_most_255_octets(rt: HostRuntime) -> Result<(), Fail> {
+    let mut octets = Vec::new(rt.alloc());
+    for _ in 0..50u8 {
+        octets.extend_from_slice(b"\x041234")?;
+    }
+    octets.extend_from_slice(b"\x03123\0")?;
+    let mut parser = Parser::from_ref(octets.as_slice());
+    assert_eq!(rt; Name::parse(&mut parser)?.len(), 255);
+    assert!(rt; parser.peek_all().is_empty());
+    octets.truncate(250);
+    octets.extend_from_slice(b"\x041234\0")?;
+    assert_eq!(rt; octets.len(), 256);
+    assert_eq!(rt;
+        refused(&rt, octets.as_slice(), 0),
+        ParseError::form_error("long domain name")
+    );
+    Ok(())
+}
+
+/// Parses the octets from a place, tells the error, and sees that the parser stays.
+fn refused(rt: &impl Abort, octets: &[u8], place: usize) -> ParseError {
     let mut parser = Parser::from_ref(octets);
+    assert!(rt; parser.seek(place).is_ok());
     match Name::parse(&mut parser) {
         Ok(_) => panic!(rt; "a name"),
         Err(e) => {
-            assert_eq!(rt; parser.pos(), 0);
+            assert_eq!(rt; parser.pos(), place);
             e
         }
     }
@@ -155,39 +205,70 @@ fn refused(rt: &impl Abort, octets: &[u8]) -> ParseError {
 
 #[test]
 fn refused_names_leave_the_parser(rt: HostRuntime) {
-    let form = ParseError::form_error;
-    assert_eq!(rt; refused(&rt, b""), ParseError::ShortInput);
-    assert_eq!(rt; refused(&rt, b"\x03www"), ParseError::ShortInput);
-    assert_eq!(rt; refused(&rt, b"\x03ww"), ParseError::ShortInput);
-    assert_eq!(rt;
-        refused(&rt, b"\x03www\xc0\0"),
-        form("compressed domain name")
-    );
-    assert_eq!(rt; refused(&rt, b"\x40a\0"), form("invalid label type"));
-    let long = long_octets(rt.alloc(), &rt, b"\x041234\0");
-    assert_eq!(rt; refused(&rt, long.as_slice()), form("long domain name"));
-    // A fault of the form comes before the length.
-    let broken = long_octets(rt.alloc(), &rt, b"\x041234\x80");
-    assert_eq!(rt; refused(&rt, broken.as_slice()), form("invalid label type"));
+    let rows: [(&[u8], usize, ParseError); 8] = [
+        (b"", 0, ParseError::ShortInput),
+        (b"\x03www", 0, ParseError::ShortInput),
+        (b"\x03ww", 0, ParseError::ShortInput),
+        (b"\x03www\x07exam", 0, ParseError::ShortInput),
+        (b"\x03www\x07example", 0, ParseError::ShortInput),
+        (
+            b"\x03com\x03www\x07example\xc0\0",
+            4,
+            ParseError::form_error("compressed domain name"),
+        ),
+        (b"\x40a\0", 0, ParseError::form_error("invalid label type")),
+        (
+            b"\x03www\x07example\xbffoo",
+            0,
+            ParseError::form_error("invalid label type"),
+        ),
+    ];
+    for (octets, place, fault) in rows {
+        assert_eq!(rt; refused(&rt, octets, place), fault);
+    }
 }
 
 #[test]
-fn names_show_their_labels(rt: HostRuntime) -> Result<(), Fail> {
+fn a_fault_of_the_form_comes_before_the_length(rt: HostRuntime) {
+    let long = long_octets(rt.alloc(), &rt, b"\x041234\0");
+    assert_eq!(rt;
+        refused(&rt, long.as_slice(), 0),
+        ParseError::form_error("long domain name")
+    );
+    let broken = long_octets(rt.alloc(), &rt, b"\x041234\x80");
+    assert_eq!(rt;
+        refused(&rt, broken.as_slice(), 0),
+        ParseError::form_error("invalid label type")
+    );
+}
+
+#[test]
+fn absolute_names_show_their_labels(rt: HostRuntime) -> Result<(), Fail> {
     let alloc = rt.alloc();
-    let www = absolute(&rt, WWW);
-    assert_eq!(rt; www.to_string(alloc)?.as_str(), "www.example.com");
-    assert_eq!(rt;
-        www.fmt_with_dot().to_string(alloc)?.as_str(),
-        "www.example.com."
-    );
-    assert_eq!(rt; Name::root_ref().to_string(alloc)?.as_str(), ".");
-    assert_eq!(rt;
-        Name::root_ref().fmt_with_dot().to_string(alloc)?.as_str(),
-        "."
-    );
-    let name = relative(&rt, RELATIVE_WWW);
-    assert_eq!(rt; name.to_string(alloc)?.as_str(), "www.example.com");
-    assert_eq!(rt; RelativeName::empty_ref().to_string(alloc)?.as_str(), "");
+    for (octets, text, dotted) in [
+        (b"\0".as_slice(), ".", "."),
+        (b"\x03com\0", "com", "com."),
+        (b"\x07example\x03com\0", "example.com", "example.com."),
+        (WWW, "www.example.com", "www.example.com."),
+    ] {
+        let name = absolute(&rt, octets);
+        assert_eq!(rt; name.to_string(alloc)?.as_str(), text);
+        assert_eq!(rt; name.fmt_with_dot().to_string(alloc)?.as_str(), dotted);
+    }
+    Ok(())
+}
+
+#[test]
+fn relative_names_show_their_labels(rt: HostRuntime) -> Result<(), Fail> {
+    for (octets, text) in [
+        (b"".as_slice(), ""),
+        (b"\x03com", "com"),
+        (b"\x07example\x03com", "example.com"),
+        (RELATIVE_WWW, "www.example.com"),
+    ] {
+        let shown = relative(&rt, octets).to_string(rt.alloc())?;
+        assert_eq!(rt; shown.as_str(), text);
+    }
     Ok(())
 }
 
@@ -223,16 +304,37 @@ fn errors_have_texts(rt: HostRuntime) -> Result<(), Fail> {
     Ok(())
 }
 
+const FRONT: bool = true;
+
+const BACK: bool = false;
+
+/// The labels that are given from the front and the back in turn, a dot behind each, and an
+/// exclamation mark for none.
+fn given(rt: &impl Abort, alloc: Global, labels: NameIter<'_>, turns: &[bool]) -> Vec<u8> {
+    let mut labels = labels;
+    let mut given = Vec::new(alloc);
+    for front in turns {
+        let label = match *front {
+            FRONT => labels.next(),
+            BACK => labels.next_back(),
+        };
+        match label {
+            Some(label) => {
+                assert!(rt; given.extend_from_slice(label.as_slice()).is_ok());
+                assert!(rt; given.push(b'.').is_ok());
+            }
+            None => assert!(rt; given.push(b'!').is_ok()),
+        }
+    }
+    given
+}
+
 #[test]
 fn labels_come_from_both_ends(rt: HostRuntime) {
     let www = absolute(&rt, WWW);
-    let mut labels = www.iter();
-    assert_eq!(rt; octets_of(labels.next()), Some(b"www".as_slice()));
-    assert_eq!(rt; octets_of(labels.next_back()), Some(b"".as_slice()));
-    assert_eq!(rt; octets_of(labels.next_back()), Some(b"com".as_slice()));
-    assert_eq!(rt; octets_of(labels.next()), Some(b"example".as_slice()));
-    assert!(rt; labels.next().is_none());
-    assert!(rt; labels.next_back().is_none());
+    let turns = [FRONT, BACK, BACK, FRONT, FRONT, BACK];
+    let labels = given(&rt, rt.alloc(), www.iter(), &turns);
+    assert!(rt; labels.as_slice() == b"www..com.example.!!".as_slice());
     let mut count = 0u32;
     for label in &www {
         count = count.wrapping_add(label.len() as u32 & 0xff);
@@ -240,10 +342,33 @@ fn labels_come_from_both_ends(rt: HostRuntime) {
     assert_eq!(rt; count, 13);
 }
 
-fn has_octets(label: Option<Label<'_>>, octets: &[u8]) -> bool {
-    match label {
-        Some(label) => label.as_slice() == octets,
-        None => false,
+#[test]
+fn labels_of_absolute_names_come_in_order_and_backwards(rt: HostRuntime) {
+    for (octets, turns, wanted) in [
+        (b"\0".as_slice(), [FRONT; 5], b".!!!!".as_slice()),
+        (b"\0", [BACK; 5], b".!!!!"),
+        (WWW, [FRONT; 5], b"www.example.com..!"),
+        (WWW, [BACK; 5], b".com.example.www.!"),
+    ] {
+        let name = absolute(&rt, octets);
+        let labels = given(&rt, rt.alloc(), name.iter(), &turns);
+        assert!(rt; labels.as_slice() == wanted);
+    }
+}
+
+#[test]
+fn labels_of_relative_names_come_in_order_and_backwards(rt: HostRuntime) {
+    for (octets, turns, wanted) in [
+        (b"".as_slice(), [FRONT; 4], b"!!!!".as_slice()),
+        (b"", [BACK; 4], b"!!!!"),
+        (b"\x01*", [FRONT; 4], b"*.!!!"),
+        (b"\x01*", [BACK; 4], b"*.!!!"),
+        (RELATIVE_WWW, [FRONT; 4], b"www.example.com.!"),
+        (RELATIVE_WWW, [BACK; 4], b"com.example.www.!"),
+    ] {
+        let name = relative(&rt, octets);
+        let labels = given(&rt, rt.alloc(), name.iter(), &turns);
+        assert!(rt; labels.as_slice() == wanted);
     }
 }
 
@@ -255,27 +380,42 @@ fn octets_of<'a>(label: Option<Label<'a>>) -> Option<&'a [u8]> {
 }
 
 #[test]
-fn absolute_names_have_parts(rt: HostRuntime) {
+fn labels_begin_at_four_places(rt: HostRuntime) {
+    // The fourth is that of the root label, or the end of the relative name.
     let www = absolute(&rt, WWW);
-    assert!(rt; www.is_label_start(0));
-    assert!(rt; www.is_label_start(4));
-    assert!(rt; www.is_label_start(12));
-    assert!(rt; www.is_label_start(16));
-    assert!(rt; !www.is_label_start(5));
-    assert!(rt; !www.is_label_start(17));
-    assert_eq!(rt; www.label_count(), 4);
-    assert_eq!(rt; www.len(), 17);
-    assert_eq!(rt; www.compose_len(), 17);
-    assert!(rt; www.is_absolute());
-    assert!(rt; !www.is_root());
-    assert_eq!(rt; www.first().as_slice(), b"www".as_slice());
-    assert!(rt; www.last().is_root());
-    match www.split_first() {
-        Some((first, rest)) => {
-            assert_eq!(rt; first.as_slice(), b"www".as_slice());
-            assert_eq!(rt; rest.as_slice(), b"\x07example\x03com\0".as_slice());
-        }
-        None => panic!(rt; "no first label"),
+    let name = relative(&rt, RELATIVE_WWW);
+    for place in 0..19usize {
+        let begins = matches!(place, 0 | 4 | 12 | 16);
+        assert_eq!(rt; www.is_label_start(place), begins, "at {place}");
+        assert_eq!(rt; name.is_label_start(place), begins, "at {place}");
+    }
+}
+
+#[test]
+fn absolute_names_have_parts(rt: HostRuntime) {
+    for (octets, labels, first) in [(b"\0".as_slice(), 1, b"".as_slice()), (WWW, 4, b"www")] {
+        let name = absolute(&rt, octets);
+        assert_eq!(rt; name.label_count(), labels);
+        assert_eq!(rt; name.len(), octets.len());
+        assert_eq!(rt; name.is_root(), labels == 1);
+        assert_eq!(rt; name.first().as_slice(), first);
+        assert!(rt; name.last().is_root());
+    }
+}
+
+#[test]
+fn absolute_names_are_split_down_to_the_root(rt: HostRuntime) {
+    for (octets, first, rest) in [
+        (WWW, b"www".as_slice(), b"\x07example\x03com\0".as_slice()),
+        (b"\x07example\x03com\0", b"example", b"\x03com\0"),
+        (b"\x03com\0", b"com", b"\0"),
+    ] {
+        let name = absolute(&rt, octets);
+        let parts = name.split_first();
+        let parts = parts.map(|(label, behind)| (label.as_slice(), behind.into_octets()));
+        assert_eq!(rt; parts, Some((first, rest)));
+        let parent = name.parent().map(|behind| behind.into_octets());
+        assert_eq!(rt; parent, Some(rest));
     }
     assert!(rt; Name::root_ref().split_first().is_none());
     assert!(rt; Name::root_slice().parent().is_none());
@@ -283,60 +423,101 @@ fn absolute_names_have_parts(rt: HostRuntime) {
 
 #[test]
 fn relative_names_have_parts(rt: HostRuntime) {
-    let name = relative(&rt, RELATIVE_WWW);
-    assert!(rt; name.is_label_start(0));
-    assert!(rt; name.is_label_start(12));
-    assert!(rt; name.is_label_start(16));
-    assert!(rt; !name.is_label_start(17));
-    assert_eq!(rt; name.ndots(), 2);
-    assert_eq!(rt; name.label_count(), 3);
-    assert!(rt; has_octets(name.first(), b"www"));
-    assert!(rt; has_octets(name.last(), b"com"));
-    assert!(rt; leaves(&rt, RELATIVE_WWW, b"\x07example\x03com"));
-    assert!(rt; leaves(&rt, b"\x03com", b""));
+    for (octets, labels, first, last) in [
+        (b"\x01*".as_slice(), 1, b"*".as_slice(), b"*".as_slice()),
+        (b"\x03www", 1, b"www", b"www"),
+        (b"\x03www\x07example", 2, b"www", b"example"),
+        (RELATIVE_WWW, 3, b"www", b"com"),
+    ] {
+        let name = relative(&rt, octets);
+        assert_eq!(rt; name.label_count(), labels);
+        assert_eq!(rt; name.ndots(), labels - 1);
+        assert_eq!(rt; octets_of(name.first()), Some(first));
+        assert_eq!(rt; octets_of(name.last()), Some(last));
+    }
+}
+
+#[test]
+fn relative_names_are_split_down_to_the_empty_name(rt: HostRuntime) {
+    for (octets, first, rest) in [
+        (
+            RELATIVE_WWW,
+            b"www".as_slice(),
+            b"\x07example\x03com".as_slice(),
+        ),
+        (b"\x07example\x03com", b"example", b"\x03com"),
+        (b"\x03com", b"com", b""),
+    ] {
+        let name = relative(&rt, octets);
+        let parts = name.split_first();
+        let parts = parts.map(|(label, behind)| (label.as_slice(), behind.into_octets()));
+        assert_eq!(rt; parts, Some((first, rest)));
+        let parent = name.parent().map(|behind| behind.into_octets());
+        assert_eq!(rt; parent, Some(rest));
+    }
+    assert!(rt; RelativeName::empty_ref().split_first().is_none());
+    assert!(rt; RelativeName::empty_ref().parent().is_none());
 }
 
 #[test]
 fn the_empty_name_has_no_parts(rt: HostRuntime) {
     let empty = RelativeName::empty_ref();
     assert!(rt; empty.is_empty());
+    assert_eq!(rt; empty.label_count(), 0);
     assert_eq!(rt; empty.ndots(), 0);
     assert!(rt; empty.first().is_none());
     assert!(rt; empty.last().is_none());
-    assert!(rt; empty.parent().is_none());
-    assert!(rt; RelativeName::empty_slice().is_empty());
-    assert_eq!(rt;
-        RelativeName::wildcard_ref().as_slice(),
-        b"\x01*".as_slice()
-    );
-    assert_eq!(rt; RelativeName::wildcard_slice().len(), 2);
-}
-
-/// Whether a relative name has these octets behind its first label.
-fn leaves(rt: &impl Abort, octets: &[u8], rest: &[u8]) -> bool {
-    match relative(rt, octets).parent() {
-        Some(parent) => parent.as_slice() == rest,
-        None => false,
-    }
 }
 
 #[test]
-fn roots_and_wildcards_are_made(rt: HostRuntime) -> Result<(), Fail> {
+fn roots_are_made(rt: HostRuntime) -> Result<(), Fail> {
     let alloc = rt.alloc();
+    assert_eq!(rt; Name::root_ref().as_slice(), b"\0".as_slice());
+    assert_eq!(rt; Name::root_slice().as_slice(), b"\0".as_slice());
     assert_eq!(rt; Name::root_vec(alloc)?.as_slice(), b"\0".as_slice());
     let root: Name<ArrayVec<u8, 1>> = Name::root(alloc)?;
     assert!(rt; root.is_root());
     let none: Result<Name<ArrayVec<u8, 0>>, ShortBuf> = Name::root(alloc);
     assert!(rt; none.is_err());
-    assert!(rt; RelativeName::empty_vec(alloc)?.is_empty());
-    assert_eq!(rt;
-        RelativeName::wildcard_vec(alloc)?.as_slice(),
-        b"\x01*".as_slice()
-    );
-    let none: Result<RelativeName<ArrayVec<u8, 1>>, ShortBuf> = RelativeName::wildcard(alloc);
-    assert!(rt; none.is_err());
+    Ok(())
+}
+
+#[test]
+fn empty_names_are_made(rt: HostRuntime) -> Result<(), Fail> {
+    let alloc = rt.alloc();
+    assert!(rt; RelativeName::empty_ref().as_slice().is_empty());
+    assert!(rt; RelativeName::empty_slice().as_slice().is_empty());
+    assert!(rt; RelativeName::empty_vec(alloc)?.as_slice().is_empty());
     let empty: RelativeName<ArrayVec<u8, 0>> = RelativeName::empty(alloc)?;
     assert!(rt; empty.is_empty());
+    Ok(())
+}
+
+#[test]
+fn wildcards_are_made(rt: HostRuntime) -> Result<(), Fail> {
+    let alloc = rt.alloc();
+    let octets = b"\x01*".as_slice();
+    assert_eq!(rt; RelativeName::wildcard_ref().as_slice(), octets);
+    assert_eq!(rt; RelativeName::wildcard_slice().as_slice(), octets);
+    assert_eq!(rt; RelativeName::wildcard_vec(alloc)?.as_slice(), octets);
+    let none: Result<RelativeName<ArrayVec<u8, 1>>, ShortBuf> = RelativeName::wildcard(alloc);
+    assert!(rt; none.is_err());
+    Ok(())
+}
+
+#[test]
+fn names_are_lowered(rt: HostRuntime) -> Result<(), Fail> {
+    let mixed = absolute(&rt, b"\x03wWw\x07exAmpLE\x03coM\0");
+    let mut name: Name<ArrayVec<u8, 17>> = Name::try_octets_from(rt.alloc(), mixed)?;
+    name.make_canonical();
+    assert_eq!(rt; name.as_slice(), WWW);
+    let mixed = mixed.into_relative();
+    let mut name: RelativeName<ArrayVec<u8, 16>> = RelativeName::try_octets_from(
+        rt.alloc(),
+        mixed,
+    )?;
+    name.make_canonical();
+    assert_eq!(rt; name.as_slice(), RELATIVE_WWW);
     Ok(())
 }
 
@@ -375,6 +556,29 @@ fn relative_names_are_made_over_other_octets(rt: HostRuntime) -> Result<(), Fail
     Ok(())
 }
 
+/// How many octets an absolute name of any kind has.
+fn absolute_len<'a, N: AbsoluteLabels<'a>>(name: &'a N) -> u16 {
+    name.compose_len()
+}
+
+/// How many octets a relative name of any kind has.
+fn relative_len<'a, N: RelativeLabels<'a>>(name: &'a N) -> u16 {
+    name.compose_len()
+}
+
+#[test]
+fn names_over_any_octets_are_names(rt: HostRuntime) -> Result<(), Fail> {
+    let held: Name<ArrayVec<u8, 1>> = Name::root(rt.alloc())?;
+    assert_eq!(rt; absolute_len(&Name::root_ref()), 1);
+    assert_eq!(rt; absolute_len(&Name::root_vec(rt.alloc())?), 1);
+    assert!(rt; absolute_len(&held) == 1 && absolute_len(&held.for_ref()) == 1);
+    let held: RelativeName<ArrayVec<u8, 2>> = RelativeName::wildcard(rt.alloc())?;
+    assert_eq!(rt; relative_len(&RelativeName::wildcard_ref()), 2);
+    assert_eq!(rt; relative_len(&RelativeName::wildcard_vec(rt.alloc())?), 2);
+    assert!(rt; relative_len(&held) == 2 && relative_len(&held.for_ref()) == 2);
+    Ok(())
+}
+
 #[test]
 fn suffixes_lead_to_the_root(rt: HostRuntime) {
     let www = absolute(&rt, WWW);
@@ -388,6 +592,9 @@ fn suffixes_lead_to_the_root(rt: HostRuntime) {
     }
     assert!(rt; suffixes.next().is_none());
     assert!(rt; suffixes.next().is_none());
+    let mut suffixes = SuffixIter::new(Name::root_ref());
+    assert!(rt; matches!(suffixes.next(), Some(name) if name.is_root()));
+    assert!(rt; suffixes.next().is_none());
 }
 
 #[test]
@@ -399,27 +606,43 @@ fn names_know_their_length(rt: HostRuntime) {
 }
 
 #[test]
+fn names_have_parts_between_labels(rt: HostRuntime) {
+    for (start, end, octets) in [
+        (0, 4, b"\x03www".as_slice()),
+        (0, 12, b"\x03www\x07example"),
+        (4, 12, b"\x07example"),
+        (4, 16, b"\x07example\x03com"),
+        (4, 4, b""),
+    ] {
+        assert!(rt; start <= end);
+        let www = absolute(&rt, WWW);
+        assert!(rt; www.is_label_start(start) && www.is_label_start(end));
+        assert_eq!(rt; www.slice(start..end).as_slice(), octets);
+        assert_eq!(rt; www.range(start..end).as_slice(), octets);
+        let name = relative(&rt, RELATIVE_WWW);
+        assert!(rt; name.is_label_start(start) && name.is_label_start(end));
+        assert_eq!(rt; name.slice(start..end).as_slice(), octets);
+        assert_eq!(rt; name.range(start..end).as_slice(), octets);
+    }
+}
+
+#[test]
 fn absolute_names_are_cut(rt: HostRuntime) {
     let www = absolute(&rt, WWW);
-    assert!(rt; www.is_label_start(4));
-    let (before, behind) = www.split(4);
-    assert_eq!(rt; before.as_slice(), b"\x03www".as_slice());
-    assert_eq!(rt; behind.as_slice(), b"\x07example\x03com\0".as_slice());
-    assert_eq!(rt;
-        www.slice_from(4).as_slice(),
-        b"\x07example\x03com\0".as_slice()
-    );
-    assert_eq!(rt;
-        www.range_from(4).as_slice(),
-        b"\x07example\x03com\0".as_slice()
-    );
-    assert!(rt; www.is_label_start(12));
-    assert_eq!(rt; www.slice(4..12).as_slice(), b"\x07example".as_slice());
-    assert_eq!(rt; www.range(4..4).as_slice(), b"".as_slice());
-    assert_eq!(rt;
-        www.truncate(12).as_slice(),
-        b"\x03www\x07example".as_slice()
-    );
+    for (place, before, behind) in [
+        (0, b"".as_slice(), WWW),
+        (4, b"\x03www", b"\x07example\x03com\0"),
+        (12, b"\x03www\x07example", b"\x03com\0"),
+        (16, RELATIVE_WWW, b"\0"),
+    ] {
+        assert!(rt; www.is_label_start(place));
+        let (left, right) = www.split(place);
+        assert_eq!(rt; left.as_slice(), before);
+        assert_eq!(rt; right.as_slice(), behind);
+        assert_eq!(rt; www.slice_from(place).as_slice(), behind);
+        assert_eq!(rt; www.range_from(place).as_slice(), behind);
+        assert_eq!(rt; www.truncate(place).as_slice(), before);
+    }
     assert_eq!(rt;
         absolute(&rt, b"\x03www\0").into_relative().as_slice(),
         b"\x03www".as_slice()
@@ -429,17 +652,325 @@ fn absolute_names_are_cut(rt: HostRuntime) {
 #[test]
 fn relative_names_are_cut(rt: HostRuntime) {
     let name = relative(&rt, RELATIVE_WWW);
-    assert!(rt; name.is_label_start(16));
-    let (before, behind) = name.split(16);
-    assert_eq!(rt; before.as_slice(), RELATIVE_WWW);
-    assert!(rt; behind.is_empty());
-    assert!(rt; name.is_label_start(4));
-    assert_eq!(rt;
-        name.slice(4..16).as_slice(),
-        b"\x07example\x03com".as_slice()
+    for (place, before, behind) in [
+        (0, b"".as_slice(), RELATIVE_WWW),
+        (4, b"\x03www", b"\x07example\x03com"),
+        (12, b"\x03www\x07example", b"\x03com"),
+        (16, RELATIVE_WWW, b""),
+    ] {
+        assert!(rt; name.is_label_start(place));
+        let (left, right) = name.split(place);
+        assert_eq!(rt; left.as_slice(), before);
+        assert_eq!(rt; right.as_slice(), behind);
+        let mut short = name;
+        short.truncate(place);
+        assert_eq!(rt; short.as_slice(), before);
+    }
+}
+
+#[test]
+fn absolute_names_begin_with_names(rt: HostRuntime) {
+    let root = Name::root_ref();
+    let www = absolute(&rt, WWW);
+    assert!(rt; root.starts_with(&root) && www.starts_with(&www));
+    for (start, of_root, of_www) in [
+        (b"".as_slice(), true, true),
+        (b"\x03www", false, true),
+        (b"\x03www\x07example", false, true),
+        (RELATIVE_WWW, false, true),
+        (b"\x07example\x03com", false, false),
+    ] {
+        let start = relative(&rt, start);
+        assert_eq!(rt; root.starts_with(&start), of_root);
+        assert_eq!(rt; www.starts_with(&start), of_www);
+    }
+}
+
+#[test]
+fn absolute_names_begin_with_chains(rt: HostRuntime) {
+    let root = Name::root_ref();
+    let www = absolute(&rt, WWW);
+    let example = chained(
+        &rt,
+        relative(&rt, b"\x03www"),
+        relative(&rt, b"\x07example"),
     );
-    assert_eq!(rt; name.range(4..4).as_slice(), b"".as_slice());
-    let mut short = name;
-    short.truncate(4);
-    assert_eq!(rt; short.as_slice(), b"\x03www".as_slice());
+    assert!(rt; !root.starts_with(&example) && www.starts_with(&example));
+    let com = chained(&rt, example, relative(&rt, b"\x03com"));
+    assert!(rt; !root.starts_with(&com) && www.starts_with(&com));
+}
+
+#[test]
+fn absolute_names_end_with_their_suffixes(rt: HostRuntime) {
+    let root = Name::root_ref();
+    let www = absolute(&rt, WWW);
+    for suffix in www.iter_suffixes() {
+        assert!(rt; www.ends_with(&suffix));
+        assert_eq!(rt; root.ends_with(&suffix), suffix.is_root());
+    }
+    // No absolute name ends with a relative one that has labels.
+    for (end, wanted) in [(b"".as_slice(), true), (b"\x03com", false)] {
+        assert_eq!(rt; www.ends_with(&relative(&rt, end)), wanted);
+    }
+}
+
+/// Parts of `www.example.com` from the front to the back, the empty name first.
+const PARTS: [&[u8]; 6] = [
+    b"",
+    b"\x03www",
+    b"\x03www\x07example",
+    RELATIVE_WWW,
+    b"\x07example\x03com",
+    b"\x03com",
+];
+
+/// Which of the parts a relative name begins with, and which it ends with.
+fn assert_ends(rt: &impl Abort, octets: &[u8], starts: [bool; 6], ends: [bool; 6]) {
+    let name = relative(rt, octets);
+    for i in 0..6 {
+        let part = relative(rt, PARTS[i]);
+        assert_eq!(rt; name.starts_with(&part), starts[i], "start {i}");
+        assert_eq!(rt; name.ends_with(&part), ends[i], "end {i}");
+    }
+}
+
+#[test]
+fn relative_names_begin_and_end_with_names(rt: HostRuntime) {
+    let rows = [
+        (
+            [true, false, false, false, false, false],
+            [true, false, false, false, false, false],
+        ),
+        (
+            [true, true, false, false, false, false],
+            [true, true, false, false, false, false],
+        ),
+        (
+            [true, true, true, false, false, false],
+            [true, false, true, false, false, false],
+        ),
+        (
+            [true, true, true, true, false, false],
+            [true, false, false, true, true, true],
+        ),
+        (
+            [true, false, false, false, true, false],
+            [true, false, false, false, true, true],
+        ),
+        (
+            [true, false, false, false, false, true],
+            [true, false, false, false, false, true],
+        ),
+    ];
+    for i in 0..6 {
+        let (starts, ends) = rows[i];
+        assert_ends(&rt, PARTS[i], starts, ends);
+    }
+}
+
+#[test]
+fn suffixes_of_absolute_names_are_left_out(rt: HostRuntime) {
+    let www = absolute(&rt, WWW);
+    for (suffix, rest) in [
+        (WWW, b"".as_slice()),
+        (b"\x07example\x03com\0", b"\x03www"),
+        (b"\x07EXAMPLE\x03com\0", b"\x03www"),
+        (b"\x03com\0", b"\x03www\x07example"),
+        (b"\0", RELATIVE_WWW),
+    ] {
+        match www.strip_suffix(&absolute(&rt, suffix)) {
+            Ok(name) => assert_eq!(rt; name.as_slice(), rest),
+            Err(_) => panic!(rt; "suffix not found"),
+        }
+    }
+    let chain = chained(
+        &rt,
+        relative(&rt, b"\x07example"),
+        absolute(&rt, b"\x03com\0"),
+    );
+    match www.strip_suffix(&chain) {
+        Ok(name) => assert_eq!(rt; name.as_slice(), b"\x03www".as_slice()),
+        Err(_) => panic!(rt; "suffix not found"),
+    }
+}
+
+#[test]
+fn absolute_names_without_the_suffix_come_back(rt: HostRuntime) {
+    for suffix in [
+        b"\x03www\x07example\x03net\0".as_slice(),
+        b"\x07example\x03net\0",
+        b"\x03net\0",
+    ] {
+        match absolute(&rt, WWW).strip_suffix(&absolute(&rt, suffix)) {
+            Ok(_) => panic!(rt; "suffix found"),
+            Err(name) => assert_eq!(rt; name.as_slice(), WWW),
+        }
+    }
+}
+
+#[test]
+fn suffixes_of_relative_names_are_left_out(rt: HostRuntime) {
+    for (suffix, found, rest) in [
+        (RELATIVE_WWW, Ok(()), b"".as_slice()),
+        (b"\x07example\x03com", Ok(()), b"\x03www"),
+        (b"\x03com", Ok(()), b"\x03www\x07example"),
+        (b"", Ok(()), RELATIVE_WWW),
+        (
+            b"\x03www\x07example\x03net",
+            Err(StripSuffixError),
+            RELATIVE_WWW,
+        ),
+        (b"\x07example\x03net", Err(StripSuffixError), RELATIVE_WWW),
+        (b"\x03net", Err(StripSuffixError), RELATIVE_WWW),
+    ] {
+        let mut name = relative(&rt, RELATIVE_WWW);
+        assert_eq!(rt; name.strip_suffix(&relative(&rt, suffix)), found);
+        assert_eq!(rt; name.as_slice(), rest);
+    }
+}
+
+#[test]
+fn a_suffix_that_is_not_there_has_a_text(rt: HostRuntime) -> Result<(), Fail> {
+    let text = StripSuffixError.to_string(rt.alloc())?;
+    assert_eq!(rt; text.as_str(), "suffix not found");
+    Ok(())
+}
+
+fn hashed<T: Hash>(value: &T) -> u64 {
+    let mut hasher = DefaultHasher::new();
+    value.hash(&mut hasher);
+    hasher.finish()
+}
+
+/// Two values stand so to each other by each of their comparisons.
+fn assert_compare<T: Ord>(rt: &impl Abort, one: &T, other: &T, wanted: Ordering) {
+    assert!(rt; one.cmp(other) == wanted);
+    assert!(rt; one.partial_cmp(other) == Some(wanted));
+    assert_eq!(rt; one == other, wanted == Ordering::Equal);
+}
+
+#[test]
+fn absolute_names_are_equal_without_case(rt: HostRuntime) {
+    let www = absolute(&rt, WWW);
+    let mixed = absolute(&rt, b"\x03wWw\x07eXAMple\x03Com\0");
+    for same in [www, mixed] {
+        assert_compare(&rt, &www, &same, Ordering::Equal);
+        assert!(rt; www.name_eq(&same));
+        assert_eq!(rt; hashed(&www), hashed(&same));
+    }
+    let other = absolute(&rt, b"\x03ww4\x07example\x03com\0");
+    assert!(rt; www != other && !www.name_eq(&other));
+}
+
+#[test]
+fn relative_names_are_equal_without_case(rt: HostRuntime) {
+    let www = relative(&rt, RELATIVE_WWW);
+    let mixed = relative(&rt, b"\x03wWw\x07eXAMple\x03Com");
+    for same in [www, mixed] {
+        assert_compare(&rt, &www, &same, Ordering::Equal);
+        assert!(rt; www.name_eq(&same));
+        assert_eq!(rt; hashed(&www), hashed(&same));
+    }
+    let other = relative(&rt, b"\x03ww4\x07example\x03com");
+    assert!(rt; www != other && !www.name_eq(&other));
+}
+
+#[test]
+fn chains_equal_names(rt: HostRuntime) {
+    for (left, right, wanted) in [
+        (
+            b"\x03www".as_slice(),
+            b"\x07example\x03com".as_slice(),
+            true,
+        ),
+        (b"\x03wWw", b"\x07eXAMple\x03coM", true),
+        (b"\x03www", b"\x073xample\x03com", false),
+    ] {
+        let chain = chained(&rt, relative(&rt, left), relative(&rt, right));
+        assert_eq!(rt; relative(&rt, RELATIVE_WWW).name_eq(&chain), wanted);
+        let chain = chained(&rt, chain, Name::root_ref());
+        assert_eq!(rt; absolute(&rt, WWW).name_eq(&chain), wanted);
+    }
+    let chain = relative(&rt, RELATIVE_WWW).chain_root();
+    assert!(rt; absolute(&rt, WWW).name_eq(&chain));
+}
+
+/// The names that RFC 4034 sorts in section 6.1.
+const RISING: [&[u8]; 9] = [
+    b"\x07example\0",
+    b"\x01a\x07example\0",
+    b"\x08yljkjljk\x01a\x07example\0",
+    b"\x01Z\x01a\x07example\0",
+    b"\x04zABC\x01a\x07EXAMPLE\0",
+    b"\x01z\x07example\0",
+    b"\x01\x01\x01z\x07example\0",
+    b"\x01*\x01z\x07example\0",
+    b"\x01\xc8\x01z\x07example\0",
+];
+
+#[test]
+fn absolute_names_rise_from_the_right(rt: HostRuntime) {
+    for (i, octets) in RISING.iter().enumerate() {
+        let name = absolute(&rt, octets);
+        for (j, others) in RISING.iter().enumerate() {
+            let other = absolute(&rt, others);
+            assert_compare(&rt, &name, &other, i.cmp(&j));
+            assert!(rt; name.name_cmp(&other) == i.cmp(&j));
+        }
+        assert_eq!(rt; name.ends_with(&absolute(&rt, RISING[5])), i >= 5);
+    }
+}
+
+#[test]
+fn relative_names_rise_from_the_right(rt: HostRuntime) {
+    for (i, octets) in RISING.iter().enumerate() {
+        let name = absolute(&rt, octets).into_relative();
+        for (j, others) in RISING.iter().enumerate() {
+            let other = absolute(&rt, others).into_relative();
+            assert_compare(&rt, &name, &other, i.cmp(&j));
+            assert!(rt; name.name_cmp(&other) == i.cmp(&j));
+        }
+    }
+}
+
+#[test]
+fn composed_orders_look_at_lengths_first(rt: HostRuntime) {
+    let b = absolute(&rt, b"\x01b\0");
+    let aa = absolute(&rt, b"\x02aa\0");
+    assert!(rt; b.name_cmp(&aa) == Ordering::Greater);
+    assert!(rt; b.composed_cmp(&aa) == Ordering::Less);
+    let b = absolute(&rt, b"\x01B\0");
+    let a = absolute(&rt, b"\x01a\0");
+    assert!(rt; b.composed_cmp(&a) == Ordering::Less);
+    assert!(rt; b.lowercase_composed_cmp(&a) == Ordering::Greater);
+}
+
+#[test]
+fn chains_of_names_have_254_octets_before_the_root(rt: HostRuntime) {
+    let octets = long_octets(rt.alloc(), &rt, b"");
+    let long = relative(&rt, octets.as_slice());
+    let Ok(chain) = long.chain(relative(&rt, b"\x03123")) else {
+        panic!(rt; "too long a chain");
+    };
+    assert_eq!(rt; chain.compose_len(), 254);
+    let whole = chained(&rt, chain, Name::root_ref());
+    assert_eq!(rt; whole.compose_len(), 255);
+    let octets = long_octets(rt.alloc(), &rt, b"\x03123");
+    let rooted = relative(&rt, octets.as_slice()).chain_root();
+    assert_eq!(rt; rooted.compose_len(), 255);
+    match long.chain(relative(&rt, b"\x041234")) {
+        Ok(_) => panic!(rt; "a chain"),
+        Err(e) => assert_eq!(rt; e, LongChainError),
+    }
+}
+
+#[test]
+fn chains_of_names_are_shown_with_a_final_dot(rt: HostRuntime) -> Result<(), Fail> {
+    let chain = chained(&rt, relative(&rt, b"\x03www"), absolute(&rt, b"\x03com\0"));
+    let text = DisplayWithDot::new(&chain).to_string(rt.alloc())?;
+    assert_eq!(rt; text.as_str(), "www.com.");
+    let chain = relative(&rt, RELATIVE_WWW).chain_root();
+    let text = DisplayWithDot::new(&chain).to_string(rt.alloc())?;
+    assert_eq!(rt; text.as_str(), "www.example.com.");
+    Ok(())
 }

@@ -3,11 +3,17 @@ ghost use Rattle.std.specs.Prelude.{◌≤◌, length};
 
 use crate::slow_reader::{agrees_at_every_place, agrees_at_every_place_and_end, wire_of};
 use crate::{ParsedName, ParsedNameIter};
-use domain_label::Label;
+use arrayvec::ArrayVec;
+use domain_list::composing::compose_labels;
+use domain_list::{Chain, CompareNames, MatchEnds, NameLabels, Relative, ToLabelIter};
+use domain_name::{Name, RelativeName};
 use domain_wire::ParseError;
-use octseq::Parser;
+use octseq::{OctetsFrom, Parser};
 use std::alloc::Global;
+use std::cmp::Ordering;
+use std::hash::{DefaultHasher, Hash, Hasher};
 use std::process::Abort;
+use std::test::Fail;
 
 const WWW_EXAMPLE_COM: &[u8] = b"\x03www\x07example\x03com\0";
 
@@ -17,11 +23,56 @@ const SCATTERED: &[u8] = b"\x03com\0\x07example\xc0\0\x03www\xc0\x05";
 /// A label of three octets at 0, the last two of which are a label, a root and a pointer to them at 4.
 const POINTS_INTO_A_LABEL: &[u8] = b"\x03\x01a\0\xc0\x01";
 
+/// `www.example.com.` in messages, the place where each begins, and whether it lies in more than one
+/// piece.
+const PLACED: [(&[u8], usize, bool); 4] = [
+    (b"\x03www\x07example\x03com\0\xc0\0", 0, false),
+    (b"\x03www\x07example\x03com\0\xc0\0", 17, false),
+    (b"\x03com\0\x03www\x07example\xc0\0", 5, true),
+    (SCATTERED, 15, true),
+];
+
 const LONG_NAME: &str = "long domain name";
 
 const TOO_MANY_POINTERS: &str = "too many compression pointers";
 
 const INVALID_LABEL_TYPE: &str = "invalid label type";
+
+/// The name at a place.
+fn name_at<'a>(rt: &impl Abort, octets: &'a [u8], place: usize) -> ParsedName<&'a [u8]> {
+    assert!(rt; place <= octets.len());
+    let mut parser = Parser::with_range(octets, place..octets.len());
+    match ParsedName::parse(&mut parser) {
+        Ok(name) => name,
+        Err(_) => panic!(rt; "no name at {place}"),
+    }
+}
+
+fn absolute<'a>(rt: &impl Abort, octets: &'a [u8]) -> Name<&'a [u8]> {
+    match Name::from_slice(octets) {
+        Ok(name) => name,
+        Err(_) => panic!(rt; "no absolute name"),
+    }
+}
+
+fn relative<'a>(rt: &impl Abort, octets: &'a [u8]) -> RelativeName<&'a [u8]> {
+    match RelativeName::from_slice(octets) {
+        Ok(name) => name,
+        Err(_) => panic!(rt; "no relative name"),
+    }
+}
+
+/// The chain of two names.
+fn chained<L: Relative + Drop, R: NameLabels + Drop>(
+    rt: &impl Abort,
+    left: L,
+    right: R,
+) -> Chain<L, R> {
+    match Chain::new(left, right) {
+        Ok(chain) => chain,
+        Err(_) => panic!(rt; "too long a chain"),
+    }
+}
 
 /// The name at a place is this one, and the parser then stands at `end`.
 fn reads<R: Abort>(
@@ -291,31 +342,63 @@ fn at_most_255_octets(rt: HostRuntime) {
     agrees_at_every_place(&rt, rt.alloc(), &long);
 }
 
-/// The label is there, and these are its octets.
-fn is_label<R: Abort>(rt: &R, label: Option<Label<'_>>, wanted: &[u8]) {
-    match label {
-        Some(label) => assert!(rt; label.as_slice() == wanted),
-        None => panic!(rt; "no label"),
-    }
-}
+const FRONT: bool = true;
 
-/// The labels of the name at 15, from both ends in turn.
-fn both_ends<R: Abort>(rt: &R, mut labels: ParsedNameIter<'_>) {
-    is_label(rt, labels.next_back(), b"");
-    is_label(rt, labels.next(), b"www");
-    is_label(rt, labels.next_back(), b"com");
-    is_label(rt, labels.next(), b"example");
-    assert!(rt; labels.next().is_none());
-    assert!(rt; labels.next_back().is_none());
+const BACK: bool = false;
+
+/// The labels that a name gives from the front and the back in turn, a dot behind each, and an
+/// exclamation mark for none.
+fn given(rt: &impl Abort, alloc: Global, labels: ParsedNameIter<'_>, turns: &[bool]) -> Vec<u8> {
+    let mut labels = labels;
+    let mut given = Vec::new(alloc);
+    for front in turns {
+        let label = match *front {
+            FRONT => labels.next(),
+            BACK => labels.next_back(),
+        };
+        match label {
+            Some(label) => {
+                assert!(rt; given.extend_from_slice(label.as_slice()).is_ok());
+                assert!(rt; given.push(b'.').is_ok());
+            }
+            None => assert!(rt; given.push(b'!').is_ok()),
+        }
+    }
+    given
 }
 
 #[test]
 fn labels_from_both_ends(rt: HostRuntime) {
-    let mut parser = Parser::with_range(SCATTERED, 15..21);
-    let Ok(name) = ParsedName::parse(&mut parser) else {
-        panic!(rt; "no name");
-    };
-    both_ends(&rt, name.iter());
+    for (octets, place, _) in PLACED {
+        let name = name_at(&rt, octets, place);
+        for (turns, wanted) in [
+            ([FRONT; 5], b"www.example.com..!".as_slice()),
+            ([BACK; 5], b".com.example.www.!"),
+            ([BACK, BACK, BACK, BACK, FRONT], b".com.example.www.!"),
+            ([FRONT, BACK, BACK, FRONT, FRONT], b"www..com.example.!"),
+            ([BACK, FRONT, BACK, FRONT, BACK], b".www.com.example.!"),
+        ] {
+            let labels = given(&rt, rt.alloc(), name.iter(), &turns);
+            assert!(rt; labels.as_slice() == wanted, "other labels at {place}");
+        }
+    }
+}
+
+#[test]
+fn the_root_has_one_label(rt: HostRuntime) {
+    let root = name_at(&rt, b"123\0", 3);
+    for turns in [[FRONT; 2], [BACK; 2], [FRONT, BACK]] {
+        let labels = given(&rt, rt.alloc(), root.iter(), &turns);
+        assert!(rt; labels.as_slice() == b".!".as_slice());
+    }
+    assert_eq!(rt; root.compose_len(), 1);
+    assert_eq!(rt; root.label_count(), 1);
+    assert!(rt; root.is_root() && root.first().is_root());
+    assert!(rt; !root.is_compressed());
+    assert!(rt; root.as_flat_slice() == Some(b"\0"));
+    let mut suffixes = root.iter_suffixes();
+    assert!(rt; matches!(suffixes.next(), Some(name) if name.is_root()));
+    assert!(rt; suffixes.next().is_none());
 }
 
 #[test]
@@ -338,6 +421,29 @@ fn suffixes_keep_the_flag(rt: HostRuntime) {
 }
 
 #[test]
+fn suffixes_have_fewer_labels(rt: HostRuntime) {
+    let expected: [&[u8]; 4] = [
+        WWW_EXAMPLE_COM,
+        b"\x07example\x03com\0",
+        b"\x03com\0",
+        b"\0",
+    ];
+    for (octets, place, compressed) in PLACED {
+        let name = name_at(&rt, octets, place);
+        let mut suffixes = name.iter_suffixes();
+        for wanted in expected {
+            let Some(suffix) = suffixes.next() else {
+                panic!(rt; "too few suffixes");
+            };
+            let labels = wire_of(&rt, rt.alloc(), &suffix);
+            assert!(rt; labels.as_slice() == wanted, "other labels at {place}");
+            assert_eq!(rt; suffix.is_compressed(), compressed);
+        }
+        assert!(rt; suffixes.next().is_none());
+    }
+}
+
+#[test]
 fn parts_of_a_name(rt: HostRuntime) {
     let mut parser = Parser::with_range(SCATTERED, 15..21);
     let Ok(mut name) = ParsedName::parse(&mut parser) else {
@@ -353,6 +459,275 @@ fn parts_of_a_name(rt: HostRuntime) {
     assert!(rt; !name.parent());
     assert_eq!(rt; name.label_count(), 1);
     assert!(rt; name.first().is_root());
+}
+
+#[test]
+fn a_name_is_the_same_in_any_pieces(rt: HostRuntime) {
+    for (octets, place, compressed) in PLACED {
+        let name = name_at(&rt, octets, place);
+        assert_eq!(rt; name.compose_len(), 17);
+        assert_eq!(rt; name.label_count(), 4);
+        assert!(rt; name.first().as_slice() == b"www".as_slice());
+        assert!(rt; name.last().is_root() && !name.is_root());
+        assert_eq!(rt; name.is_compressed(), compressed);
+        let flat = match compressed {
+            true => None,
+            false => Some(WWW_EXAMPLE_COM),
+        };
+        assert!(rt; name.as_flat_slice() == flat);
+    }
+}
+
+#[test]
+fn first_labels_are_split_off(rt: HostRuntime) {
+    for (octets, place, _) in PLACED {
+        let mut name = name_at(&rt, octets, place);
+        for (first, rest) in [
+            (b"\x03www".as_slice(), b"\x07example\x03com\0".as_slice()),
+            (b"\x07example", b"\x03com\0"),
+            (b"\x03com", b"\0"),
+        ] {
+            match name.split_first() {
+                Some(label) => assert!(rt; label.as_slice() == first),
+                None => panic!(rt; "no first label"),
+            }
+            let labels = wire_of(&rt, rt.alloc(), &name);
+            assert!(rt; labels.as_slice() == rest, "other labels at {place}");
+            assert_eq!(rt; usize::from(name.compose_len()), rest.len());
+        }
+        assert!(rt; name.split_first().is_none());
+        assert!(rt; name.split_first().is_none() && name.is_root());
+    }
+}
+
+#[test]
+fn first_labels_are_left_out(rt: HostRuntime) {
+    for (octets, place, _) in PLACED {
+        let mut name = name_at(&rt, octets, place);
+        for rest in [b"\x07example\x03com\0".as_slice(), b"\x03com\0", b"\0"] {
+            assert!(rt; name.parent());
+            let labels = wire_of(&rt, rt.alloc(), &name);
+            assert!(rt; labels.as_slice() == rest, "other labels at {place}");
+        }
+        assert!(rt; !name.parent());
+        assert!(rt; !name.parent() && name.is_root());
+    }
+}
+
+#[test]
+fn a_rest_is_walked_from_both_ends(rt: HostRuntime) {
+    let mut name = name_at(&rt, SCATTERED, 15);
+    assert!(rt; name.split_first().is_some());
+    let turns = [BACK, FRONT, FRONT, FRONT];
+    let labels = given(&rt, rt.alloc(), name.iter(), &turns);
+    assert!(rt; labels.as_slice() == b".example.com.!".as_slice());
+}
+
+#[test]
+fn the_last_of_127_labels_is_left(rt: HostRuntime) {
+    let mut octets = pointer_chain(&rt, rt.alloc(), 253);
+    put(&rt, &mut octets, 127, b"\x01a");
+    put(&rt, &mut octets, 1, b"\xc1\xfb");
+    let mut name = name_at(&rt, &octets, 509);
+    for _label in 0..126u8 {
+        assert!(rt; name.parent());
+    }
+    let labels = given(&rt, rt.alloc(), name.iter(), &[BACK, FRONT, FRONT]);
+    assert!(rt; labels.as_slice() == b".a.!".as_slice());
+}
+
+#[test]
+fn names_begin_with_relative_names(rt: HostRuntime) {
+    let root = name_at(&rt, b"123\0", 3);
+    for (start, of_root, of_www) in [
+        (b"".as_slice(), true, true),
+        (b"\x03www", false, true),
+        (b"\x03www\x07example", false, true),
+        (b"\x03www\x07example\x03com", false, true),
+        (b"\x07example\x03com", false, false),
+    ] {
+        let start = relative(&rt, start);
+        assert_eq!(rt; root.starts_with(&start), of_root);
+        for (octets, place, _) in PLACED {
+            assert_eq!(rt; name_at(&rt, octets, place).starts_with(&start), of_www);
+        }
+    }
+}
+
+#[test]
+fn names_begin_with_absolute_names(rt: HostRuntime) {
+    let root = name_at(&rt, b"123\0", 3);
+    for (start, of_root, of_www) in [
+        (b"\0".as_slice(), true, false),
+        (WWW_EXAMPLE_COM, false, true),
+    ] {
+        let start = absolute(&rt, start);
+        assert_eq!(rt; root.starts_with(&start), of_root);
+        for (octets, place, _) in PLACED {
+            assert_eq!(rt; name_at(&rt, octets, place).starts_with(&start), of_www);
+        }
+    }
+}
+
+#[test]
+fn names_begin_with_chains(rt: HostRuntime) {
+    let root = name_at(&rt, b"123\0", 3);
+    let example = chained(
+        &rt,
+        relative(&rt, b"\x03www"),
+        relative(&rt, b"\x07example"),
+    );
+    let com = chained(&rt, example, relative(&rt, b"\x03com"));
+    assert!(rt; !root.starts_with(&example) && !root.starts_with(&com));
+    for (octets, place, _) in PLACED {
+        let name = name_at(&rt, octets, place);
+        assert!(rt; name.starts_with(&example) && name.starts_with(&com));
+    }
+}
+
+#[test]
+fn names_end_with_their_suffixes(rt: HostRuntime) {
+    let root = name_at(&rt, b"123\0", 3);
+    for suffix in absolute(&rt, WWW_EXAMPLE_COM).iter_suffixes() {
+        assert_eq!(rt; root.ends_with(&suffix), suffix.is_root());
+        for (octets, place, _) in PLACED {
+            assert!(rt; name_at(&rt, octets, place).ends_with(&suffix));
+        }
+    }
+}
+
+fn hashed<T: Hash>(value: &T) -> u64 {
+    let mut hasher = DefaultHasher::new();
+    value.hash(&mut hasher);
+    hasher.finish()
+}
+
+#[test]
+fn names_of_one_kind_are_equal_in_any_pieces(rt: HostRuntime) {
+    for (octets, place, _) in PLACED {
+        let name = name_at(&rt, octets, place);
+        for (others, at, _) in PLACED {
+            let other = name_at(&rt, others, at);
+            assert!(rt; name == other && name.name_eq(&other));
+            assert!(rt; name.cmp(&other) == Ordering::Equal);
+            assert_eq!(rt; hashed(&name), hashed(&other));
+        }
+        assert!(rt; name != name_at(&rt, b"123\0", 3));
+    }
+}
+
+#[test]
+fn names_equal_flat_names_without_case(rt: HostRuntime) {
+    let flat = absolute(&rt, WWW_EXAMPLE_COM);
+    let mixed = absolute(&rt, b"\x03wWw\x07EXAMPLE\x03com\0");
+    let other = absolute(&rt, b"\x03ww4\x07EXAMPLE\x03com\0");
+    assert!(rt; flat.name_eq(&mixed) && !flat.name_eq(&other) && !mixed.name_eq(&other));
+    for (octets, place, _) in PLACED {
+        let name = name_at(&rt, octets, place);
+        assert!(rt; name.name_eq(&flat) && name.name_eq(&mixed));
+        assert!(rt; flat.name_eq(&name) && mixed.name_eq(&name));
+        assert!(rt; !name.name_eq(&other) && !other.name_eq(&name));
+        assert_eq!(rt; hashed(&name), hashed(&mixed));
+    }
+}
+
+#[test]
+fn names_equal_chains(rt: HostRuntime) {
+    let www = chained(
+        &rt,
+        relative(&rt, b"\x03www"),
+        absolute(&rt, b"\x07example\x03com\0"),
+    );
+    let example = chained(
+        &rt,
+        relative(&rt, b"\x03www\x07example"),
+        absolute(&rt, b"\x03com\0"),
+    );
+    let rooted = relative(&rt, b"\x03www\x07example\x03com").chain_root();
+    let mixed = absolute(&rt, b"\x03wWw\x07EXAMPLE\x03com\0");
+    let other = absolute(&rt, b"\x03ww4\x07EXAMPLE\x03com\0");
+    assert!(rt; www.name_eq(&mixed) && !www.name_eq(&other));
+    for (octets, place, _) in PLACED {
+        let name = name_at(&rt, octets, place);
+        assert!(rt; name.name_eq(&www) && name.name_eq(&example) && name.name_eq(&rooted));
+        assert!(rt; www.name_eq(&name));
+    }
+}
+
+/// The names that RFC 4034 sorts in section 6.1.
+const RISING: [&[u8]; 9] = [
+    b"\x07example\0",
+    b"\x01a\x07example\0",
+    b"\x08yljkjljk\x01a\x07example\0",
+    b"\x01Z\x01a\x07example\0",
+    b"\x04zABC\x01a\x07EXAMPLE\0",
+    b"\x01z\x07example\0",
+    b"\x01\x01\x01z\x07example\0",
+    b"\x01*\x01z\x07example\0",
+    b"\x01\xc8\x01z\x07example\0",
+];
+
+#[test]
+fn names_rise_from_the_right(rt: HostRuntime) {
+    for (i, octets) in RISING.iter().enumerate() {
+        let name = ParsedName::from(absolute(&rt, octets));
+        for (j, others) in RISING.iter().enumerate() {
+            let flat = absolute(&rt, others);
+            assert!(rt; name.name_cmp(&flat) == i.cmp(&j));
+            let other = ParsedName::from(flat);
+            assert!(rt; name.cmp(&other) == i.cmp(&j));
+            assert!(rt; name.partial_cmp(&other) == Some(i.cmp(&j)));
+            assert_eq!(rt; name == other, i == j);
+        }
+    }
+}
+
+/// The wire form of a name of any kind, by its labels, as long as the name says.
+fn composed<'a, N: ToLabelIter<'a>>(rt: &impl Abort, alloc: Global, name: &'a N) -> Vec<u8> {
+    let mut octets = Vec::new(alloc);
+    assert!(rt; compose_labels(name.iter_labels(), &mut octets).is_ok());
+    assert_eq!(rt; usize::from(name.compose_len()), octets.len());
+    octets
+}
+
+#[test]
+fn one_function_takes_names_of_every_kind(rt: HostRuntime) {
+    let flat = absolute(&rt, WWW_EXAMPLE_COM);
+    assert!(rt; composed(&rt, rt.alloc(), &flat).as_slice() == WWW_EXAMPLE_COM);
+    assert!(rt; composed(&rt, rt.alloc(), &&flat).as_slice() == WWW_EXAMPLE_COM);
+    let parsed = name_at(&rt, SCATTERED, 15);
+    assert!(rt; composed(&rt, rt.alloc(), &parsed).as_slice() == WWW_EXAMPLE_COM);
+    let name = relative(&rt, b"\x03www\x07example\x03com");
+    assert!(rt; composed(&rt, rt.alloc(), &name).as_slice() == &WWW_EXAMPLE_COM[..16]);
+    let chain = name.chain_root();
+    assert!(rt; composed(&rt, rt.alloc(), &chain).as_slice() == WWW_EXAMPLE_COM);
+}
+
+#[test]
+fn names_are_composed_without_pointers(rt: HostRuntime) {
+    let root = name_at(&rt, b"123\0", 3);
+    assert!(rt; composed(&rt, rt.alloc(), &root).as_slice() == b"\0".as_slice());
+    for (octets, place, _) in PLACED {
+        let name = name_at(&rt, octets, place);
+        assert!(rt; composed(&rt, rt.alloc(), &name).as_slice() == WWW_EXAMPLE_COM);
+    }
+}
+
+#[test]
+fn names_are_copied_with_their_octets(rt: HostRuntime) -> Result<(), Fail> {
+    let alloc = rt.alloc();
+    let flat = absolute(&rt, WWW_EXAMPLE_COM);
+    let octets: Name<Vec<u8>> = Name::try_octets_from(alloc, flat)?;
+    let mut name = ParsedName::from(octets);
+    assert!(rt; name.parent());
+    let copy = name.clone(alloc)?;
+    assert!(rt; copy == name && copy.label_count() == 3);
+    let octets: Name<ArrayVec<u8, 17>> = Name::try_octets_from(alloc, flat)?;
+    let mut name = ParsedName::from(octets);
+    assert!(rt; name.parent() && name.parent());
+    let copy = name.clone(alloc)?;
+    assert!(rt; copy == name && copy.label_count() == 2);
+    Ok(())
 }
 
 #[test]

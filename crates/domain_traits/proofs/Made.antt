@@ -1,9 +1,9 @@
 -- The octets of names that are made, and the lists that they spell.
-use Rattle.std.proofs.Common.{◌≡◌, ℕ, ◌≤◌, List, ◌++◌, length, refl, sym, ◌∙◌, ap, subst, arith}
+use Rattle.std.proofs.Common.{◌≡◌, ℕ, ◌≤◌, List, ◌++◌, refl, sym, ◌∙◌, ap, subst, arith}
 use Rattle.std.specs.Result.{IsOk, IsErr}
 use Rattle.std.specs.Prelude.{Result, Ok, Err}
 use Rattle.domain_label.specs.Low.{low_all}
-use Rattle.domain_label.specs.Wire.{wire, Root, labels_in, AreLabels, IsAbsoluteName, IsRelativeName, IsAbsoluteWire, IsRelativeWire}
+use Rattle.domain_label.specs.Wire.{wire, Root, labels_in, IsAbsoluteName, IsRelativeName, IsAbsoluteWire, IsRelativeWire}
 use Rattle.domain_label.proofs.WireLaws.{labels_in_wire, wire_absolute, wire_relative, absolute_labels, relative_labels}
 use Rattle.domain_list.specs.Chains.{before_root}
 use Rattle.domain_list.proofs.Chaining.{before_chain_absolute}

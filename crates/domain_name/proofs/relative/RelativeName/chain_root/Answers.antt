@@ -1,4 +1,4 @@
-use Rattle.std.proofs.Common.{arith, refl, rules}
+use Rattle.std.proofs.Common.{arith, refl}
 use Rattle.domain_label.specs.Wire.{Root}
 use Rattle.domain_label.proofs.WireLaws.{relative_list}
 use Rattle.domain_list.proofs.Chaining.{before_chain_absolute}
