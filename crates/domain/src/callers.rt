@@ -135,6 +135,17 @@ fn a_name_in_a_message_hashes_as_its_flat_twin(rt: HostRuntime) -> Result<(), Fa
 }
 
 #[test]
+fn a_scattered_name_is_put_together_where_it_fits(rt: HostRuntime) -> Result<(), Fail> {
+    let alloc = rt.alloc();
+    let name = parsed(SCATTERED, 15)?;
+    let short: Result<Name<ArrayVec<u8, 16>>, ShortBuf> = name.to_name(alloc);
+    assert!(rt; short.is_err());
+    let whole: Name<ArrayVec<u8, 17>> = name.to_name(alloc)?;
+    assert_eq!(rt; whole.as_slice(), FLAT);
+    Ok(())
+}
+
+#[test]
 fn a_question_is_read_to_its_end(rt: HostRuntime) -> Result<(), Fail> {
     let mut parser = Parser::from_ref(b"\x01a\0\x00\x1c\x00\x01");
     let (name, rtype, class) = question(&mut parser).ok().ok_or("no question")?;
