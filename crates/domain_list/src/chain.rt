@@ -42,6 +42,8 @@ impl<L: NameLabels + Copy, R: NameLabels + Copy> Copy for Chain<L, R> {}
 impl<L: NameLabels + Copy, R: NameLabels + Copy> Clone for Chain<L, R> {
     ghost is_clone = { λ x y. y ≡ x };
 
+    ghost is_infallible = { λ _. Unit {0} };
+
     fn clone(&self) -> Result<Self, AllocError> {
         Ok(*self)
     }

@@ -35,6 +35,8 @@ impl<Octs: Octets + Copy> Copy for Name<Octs> {}
 impl<Octs: Octets + Copy> Clone for Name<Octs> {
     ghost is_clone = { λ x y. y ≡ x };
 
+    ghost is_infallible = { λ _. Unit {0} };
+
     fn clone(&self) -> Result<Self, AllocError> {
         Ok(*self)
     }

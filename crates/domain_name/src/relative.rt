@@ -33,6 +33,8 @@ impl<Octs: Octets + Copy> Copy for RelativeName<Octs> {}
 impl<Octs: Octets + Copy> Clone for RelativeName<Octs> {
     ghost is_clone = { λ x y. y ≡ x };
 
+    ghost is_infallible = { λ _. Unit {0} };
+
     fn clone(&self) -> Result<Self, AllocError> {
         Ok(*self)
     }
