@@ -219,7 +219,8 @@ root_start ls p a n =
     let r = root_last ls a in
     (r.0, [], [], record { parts = r.1; place = omega (arith, n, ap (λ x. length (wire x)) r.1, ap length (wire_append r.0 ([] ∷ [])), length-append (wire r.0) (0 ∷ [])) })
 
-no_wire : (zs : List (List ℕ)) → length (wire zs) ≡ 0 → zs ≡ []
+-- only the empty list has no octets
+pub no_wire : (zs : List (List ℕ)) → length (wire zs) ≡ 0 → zs ≡ []
 no_wire [] n = refl
 no_wire (z ∷ zs) n = absurd (omega (arith, n))
 

@@ -5,7 +5,7 @@ use Rattle.domain_label.specs.Wire.{wire, labels_in, IsName, IsWire, IsAbsolute}
 use Rattle.domain_label.proofs.WireLaws.{wire_append, labels_in_wire, absolute_labels, relative_labels}
 use Rattle.domain_list.specs.Ends.{EndsWith}
 use Rattle.domain_flat.specs.Flat.{IsCutAt, IsLabelStart, IsLabelEnd}
-use Rattle.domain_flat.proofs.Cuts.{cut_within, end_start, root_long}
+use Rattle.domain_flat.proofs.Cuts.{cut_within, end_start, root_long, no_wire}
 use Rattle.domain_flat.proofs.Lowered.{low_size}
 use Rattle.domain_name.specs.Names.{IsStripped}
 
@@ -20,10 +20,6 @@ parted (l ∷ ls) (f ∷ front) back e =
     let tail : low_all ls ≡ front ++ back = cc in
     let r = parted ls front back tail in
     (l ∷ r.0, r.1, ap (λ x. l ∷ x) r.2, r.3)
-
-no_wire : (zs : List (List ℕ)) → length (wire zs) ≡ 0 → zs ≡ []
-no_wire [] n = refl
-no_wire (z ∷ zs) n = absurd (omega (arith, n))
 
 two_sizes : (ls xs ys : List (List ℕ)) → ls ≡ xs ++ ys → length (wire ls) ≡ length (wire xs) + length (wire ys)
 two_sizes ls xs ys e = ap (λ r. length (wire r)) e ∙ (ap length (wire_append xs ys) ∙ length-append (wire xs) (wire ys))

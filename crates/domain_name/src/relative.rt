@@ -408,9 +408,10 @@ impl<Octs: SameOctets<&'static [u8]>> RelativeName<Octs> {
 impl RelativeName<Vec<u8>> {
     ghost use Rattle.domain_name.specs.Names.{relative_labels};
 
-    /// The name without labels. `ShortBuf` only where memory was refused.
+    /// The name without labels, which takes no memory and is never refused.
     pub fn empty_vec(alloc: Global) -> Result<RelativeName<Vec<u8>>, ShortBuf>
-        ensures { IfOk result (λ name. relative_labels name ≡ []) }
+        ensures ok { IfOk result (λ name. relative_labels name ≡ []) }
+        ensures made { IsOk result }
     {
         RelativeName::empty(alloc)
     }

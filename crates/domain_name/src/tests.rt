@@ -171,6 +171,17 @@ fn a_name_is_parsed_up_to_its_root(rt: HostRuntime) -> Result<(), Fail> {
 }
 
 #[test]
+fn what_comes_behind_a_parsed_name_is_left(rt: HostRuntime) -> Result<(), Fail> {
+    let mut parser = Parser::from_ref(b"\x03com\0\x07example\0rest");
+    for (octets, behind) in [(b"\x03com\0".as_slice(), 5), (b"\x07example\0", 14)] {
+        let name = Name::parse(&mut parser)?;
+        assert_eq!(rt; name.as_slice(), octets);
+        assert_eq!(rt; parser.pos(), behind);
+    }
+    Ok(())
+}
+
+#[test]
 fn a_parsed_name_has_at_most_255_octets(rt: HostRuntime) -> Result<(), Fail> {
     let mut octets = Vec::new(rt.alloc());
     for _ in 0..50u8 {
@@ -205,12 +216,17 @@ fn refused(rt: &impl Abort, octets: &[u8], place: usize) -> ParseError {
 
 #[test]
 fn refused_names_leave_the_parser(rt: HostRuntime) {
-    let rows: [(&[u8], usize, ParseError); 8] = [
+    let rows: [(&[u8], usize, ParseError); 9] = [
         (b"", 0, ParseError::ShortInput),
         (b"\x03www", 0, ParseError::ShortInput),
         (b"\x03ww", 0, ParseError::ShortInput),
         (b"\x03www\x07exam", 0, ParseError::ShortInput),
         (b"\x03www\x07example", 0, ParseError::ShortInput),
+        (
+            b"\x03www\xc0\0",
+            0,
+            ParseError::form_error("compressed domain name"),
+        ),
         (
             b"\x03com\x03www\x07example\xc0\0",
             4,

@@ -1,18 +1,15 @@
 -- Where the first label of a name stands.
-use Rattle.std.proofs.Common.{◌≡◌, ℕ, suc, ◌+◌, ◌-◌, ◌≤◌, ◌<◌, List, [], ◌∷◌, length, slice_range, slice_index, take, drop, sym, ap, ◌∙◌, arith, append-nil}
-use Rattle.std.proofs.lemmas.List.{drop_more}
+use Rattle.std.proofs.Common.{◌≡◌, ℕ, ◌+◌, ◌-◌, ◌≤◌, ◌<◌, List, [], ◌∷◌, ◌++◌, length, slice_range, sym, ap, ◌∙◌, arith, append-nil}
 use Rattle.domain_label.specs.Wire.{wire, IsRelativeName}
 use Rattle.domain_parsed.specs.Grammar.{LabelAt}
 use Rattle.domain_parsed.specs.Labels.{LabelEndsAt}
+use Rattle.domain_parsed.proofs.Naming.{slice_join, slice_one}
 
 -- a label with its length octet
 pub label_slice : (m l : List ℕ) (p : ℕ) → LabelAt m p l → slice_range m p (p + 1 + length l) ≡ wire (l ∷ [])
 label_slice m l p x =
-    let long : p + 1 + length l - p ≡ suc (length l) = omega arith in
-    let short : p + 1 + length l - (p + 1) ≡ length l = omega arith in
-    let first : drop p m ≡ slice_index m p ∷ drop (p + 1) m = drop_more m p 0 (omega (arith, x.inside)) in
-    let rest : take (length l) (drop (p + 1) m) ≡ l = ap (λ n. take n (drop (p + 1) m)) (sym short) ∙ x.octets in
-    ap (λ n. take n (drop p m)) long ∙ (ap (take (suc (length l))) first ∙ (ap (λ o. o ∷ take (length l) (drop (p + 1) m)) x.head ∙ ap (λ r. length l ∷ r) (rest ∙ sym (append-nil l))))
+    let head = slice_one m p (omega (arith, x.inside)) ∙ ap (λ o. o ∷ []) x.head in
+    slice_join m p (p + 1) (p + 1 + length l) (omega arith) (omega arith) (omega (arith, x.inside)) ∙ (ap (λ o. o ++ slice_range m (p + 1) (p + 1 + length l)) head ∙ ap (λ r. length l ∷ r) (x.octets ∙ sym (append-nil l)))
 
 -- where a label that ends before a place stands
 pub record Standing (m l : List ℕ) (start behind : ℕ) : Type 0 where

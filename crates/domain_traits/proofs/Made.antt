@@ -1,12 +1,10 @@
 -- The octets of names that are made, and the lists that they spell.
-use Rattle.std.proofs.Common.{◌≡◌, ℕ, ◌≤◌, List, ◌++◌, refl, sym, ◌∙◌, ap, subst, arith}
+use Rattle.std.proofs.Common.{◌≡◌, ℕ, List, refl, sym, ◌∙◌, ap, subst}
 use Rattle.std.specs.Result.{IsOk, IsErr}
 use Rattle.std.specs.Prelude.{Result, Ok, Err}
 use Rattle.domain_label.specs.Low.{low_all}
-use Rattle.domain_label.specs.Wire.{wire, Root, labels_in, IsAbsoluteName, IsRelativeName, IsAbsoluteWire, IsRelativeWire}
+use Rattle.domain_label.specs.Wire.{wire, labels_in, IsAbsoluteName, IsRelativeName, IsAbsoluteWire, IsRelativeWire}
 use Rattle.domain_label.proofs.WireLaws.{labels_in_wire, wire_absolute, wire_relative, absolute_labels, relative_labels}
-use Rattle.domain_list.specs.Chains.{before_root}
-use Rattle.domain_list.proofs.Chaining.{before_chain_absolute}
 use Rattle.domain_flat.proofs.Lowered.{low_wire, lowered_absolute, lowered_relative}
 
 -- what is a list's wire form spells the list
@@ -27,12 +25,6 @@ absolute_lowered ls a =
 pub relative_lowered : (ls : List (List ℕ)) → IsRelativeName ls → IsRelativeName (low_all ls)
 relative_lowered ls r =
     subst IsRelativeName (labels_in_wire (low_all ls)) (lowered_relative (wire ls) (wire (low_all ls)) (wire_relative ls r) (sym (low_wire ls (relative_labels ls r.0)))).0.1
-
--- a relative name leaves an octet for a root
-pub root_fits : (ls rs : List (List ℕ)) → IsRelativeName ls → rs ≡ Root → before_root (ls ++ rs) ≤ 254
-root_fits ls rs r e =
-    let P : List (List ℕ) → Type 0 = λ behind. before_root (ls ++ behind) ≤ 254 in
-    subst P (sym e) (omega (arith, before_chain_absolute ls Root r.0 refl, r.1))
 
 -- what is not refused is accepted
 pub accepted : {T E : Type 0} (r : Result T E) → (IsErr r → ⊥) → IsOk r

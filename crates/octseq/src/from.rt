@@ -1,5 +1,5 @@
 //! Octets made of other octets.
-ghost use Rattle.std.specs.Prelude.{◌≡◌, ◌<◌, ◌↔◌, ℕ, List, length, IfOk, IsErr, OnErr, refl, ⊤};
+ghost use Rattle.std.specs.Prelude.{◌≡◌, ◌<◌, ◌↔◌, ℕ, List, length, IfOk, IsErr, OnErr, refl};
 ghost use Rattle.std.specs.Cow.{cow_slice_items};
 
 use crate::builder::ShortBuf;
@@ -75,10 +75,12 @@ impl<'a> OctetsFrom<&'a [u8]> for Vec<u8> {
 
     ghost same = { λ source made. made.items ≡ source.now };
 
-    ghost may_refuse = { λ _. ⊤ };
+    ghost may_refuse = { λ source. 0 < length source.now };
 
     fn try_octets_from(alloc: Global, source: &'a [u8]) -> Result<Vec<u8>, ShortBuf> {
-        Ok(Vec::from_slice(alloc, source)?)
+        let mut made = Vec::with_capacity(alloc, source.len())?;
+        made.extend_from_slice(source)?;
+        Ok(made)
     }
 }
 
