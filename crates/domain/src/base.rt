@@ -29,6 +29,7 @@ pub mod name {
     pub use domain_list::labels::{
         Absolute, AbsoluteLabels, LabelIterator, NameLabels, Relative, RelativeLabels, ToLabelIter,
     };
+    pub use domain_list::laws::order_laws;
     pub use domain_name::StripSuffixError;
     pub use domain_name::absolute::Name;
     pub use domain_name::relative::RelativeName;

@@ -1,16 +1,21 @@
 //! Callers of the calls on names, as docs/CALLING.md shows them, and a test that runs them over names of
 //! every kind.
-ghost use Rattle.std.specs.Prelude.{◌≡◌, IsTrue, IfOk, fold, ◌↔◌};
+ghost use Rattle.std.specs.Prelude.{◌≡◌, ◌<◌, ◌++◌, ◌⊎◌, ◌↔◌, IsTrue, IsOk, IfOk, IsNone, IfSome, fold};
 ghost use Rattle.domain_label.specs.Low.{low_all};
+ghost use Rattle.domain_label.specs.Wire.{IsAbsolute};
+ghost use Rattle.domain_list.specs.ChainParts.{left_part, right_part};
+ghost use Rattle.domain_list.specs.Chains.{before_root};
 ghost use Rattle.domain_list.specs.Ends.{EndsWith};
 ghost use Rattle.domain_list.specs.Feed.{feed};
 ghost use Rattle.domain_list.specs.Order.{order};
 ghost use Rattle.domain_name.specs.Names.{name_labels};
+ghost use Rattle.domain_parsed.specs.Grammar.{Names};
 ghost use Rattle.domain_parsed.specs.Views.{parsed_labels};
+ghost use Rattle.octseq.specs.Parsing.{message, place};
 
 use crate::base::name::{
-    AbsoluteLabels, Chain, CompareNames, FlattenInto, MakeName, MatchEnds, Name, ParsedName,
-    RelativeName, ToName,
+    AbsoluteLabels, Chain, CompareNames, FlattenInto, MakeName, MatchEnds, Name, NameLabels,
+    ParsedName, RelativeName, ToName,
 };
 use crate::base::wire::ParseError;
 use arrayvec::ArrayVec;
@@ -21,7 +26,9 @@ use std::hash::{DefaultHasher, Hash, Hasher};
 use std::test::Fail;
 
 /// The name at the parser's place, the type and the class behind it.
-fn question<'a>(parser: &mut Parser<'a>) -> Result<(ParsedName<&'a [u8]>, u16, u16), ParseError> {
+fn question<'a>(parser: &mut Parser<'a>) -> Result<(ParsedName<&'a [u8]>, u16, u16), ParseError>
+    ensures { IfOk result (λ read. Names 255 (message parser.old) (place parser.old) (parsed_labels read.0)) }
+{
     let name = ParsedName::parse(parser)?;
     let rtype = parser.parse_u16_be()?;
     let class = parser.parse_u16_be()?;
@@ -56,11 +63,31 @@ fn own_name(name: ParsedName<&[u8]>, alloc: Global) -> Result<Name<Vec<u8>>, Sho
     name.flatten_into(alloc)
 }
 
+/// The same without any memory: an array of 255 octets has room for each name.
+fn keep_name(name: ParsedName<&[u8]>, alloc: Global) -> Result<Name<ArrayVec<u8, 255>>, ShortBuf>
+    ensures ok { IfOk result (λ flat. name_labels flat ≡ parsed_labels name.entry) }
+    ensures made { IsOk result }
+{
+    name.flatten_into(alloc)
+}
+
 /// Whether a name of any kind is in the zone under an apex of any kind.
 fn is_in_zone<'a, N: AbsoluteLabels<'a>, A: AbsoluteLabels<'a>>(name: &'a N, apex: &'a A) -> bool
     ensures { IsTrue result ↔ EndsWith (N.labels name.now) (A.labels apex.now) }
 {
     name.ends_with(apex)
+}
+
+/// The labels of a name of any type and then those of another, where the first turns out to be relative
+/// and both fit.
+fn put_before<L: NameLabels + Drop, R: NameLabels + Drop>(left: L, right: R) -> Option<Chain<L, R>>
+    ensures parts { IfSome result (λ chain. (left_part chain ≡ left) × (right_part chain ≡ right)) }
+    ensures none { IsNone result ↔ (IsAbsolute (L.labels left) ⊎ (254 < before_root (L.labels left ++ R.labels right))) }
+{
+    if left.is_absolute() {
+        return None;
+    }
+    Chain::new(left, right).ok()
 }
 
 /// Compares, measures, composes and flattens a name of any kind, next to its flat twin.
@@ -142,6 +169,23 @@ fn a_scattered_name_is_put_together_where_it_fits(rt: HostRuntime) -> Result<(),
     assert!(rt; short.is_err());
     let whole: Name<ArrayVec<u8, 17>> = name.to_name(alloc)?;
     assert_eq!(rt; whole.as_slice(), FLAT);
+    Ok(())
+}
+
+#[test]
+fn a_name_is_kept_in_an_array(rt: HostRuntime) -> Result<(), Fail> {
+    let kept = keep_name(parsed(SCATTERED, 15)?, rt.alloc())?;
+    assert_eq!(rt; kept.as_slice(), FLAT);
+    Ok(())
+}
+
+#[test]
+fn only_relative_names_stand_before_others(rt: HostRuntime) -> Result<(), Fail> {
+    let www = RelativeName::from_slice(b"\x03www").ok().ok_or("no name")?;
+    let rest = flat(&FLAT[4..])?;
+    let chain = put_before(www, rest).ok_or("no chain")?;
+    assert!(rt; chain.name_eq(&flat(FLAT)?));
+    assert!(rt; put_before(rest, www).is_none());
     Ok(())
 }
 

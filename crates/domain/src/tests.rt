@@ -78,6 +78,110 @@ fn a_compressed_name_is_shown(rt: HostRuntime) {
     check_run(&rt, alloc, &["at", "4"], inside, 0, b"a.\n", b"");
 }
 
+const SHORT: &[u8] = b"unexpected end of input\n";
+
+const POINTERS: &[u8] = b"too many compression pointers\n";
+
+const LONG: &[u8] = b"long domain name\n";
+
+#[test]
+fn names_behind_pointers_are_shown(rt: HostRuntime) {
+    let www = b"www.example.com.\n".as_slice();
+    for (octets, place, shown) in [
+        (b"\x03www\x07example\x03com\0\xc0\0".as_slice(), "17", www),
+        (b"\x03com\0\x03www\x07example\xc0\0", "5", www),
+        (b"\x03com\0\xc0\0", "5", b"com.\n"),
+        (b"123\0", "3", b".\n"),
+    ] {
+        check_run(&rt, rt.alloc(), &["at", place], octets, 0, shown, b"");
+    }
+}
+
+#[test]
+fn names_that_cannot_be_read_are_told(rt: HostRuntime) {
+    for (octets, place, reason) in [
+        (b"\xc0\x0012".as_slice(), "0", POINTERS),
+        (b"\xc0\x02\xc0\x0012", "2", POINTERS),
+        (b"\x01a\xc0\0", "0", LONG),
+        (b"\x03www\xc0\xee12", "0", POINTERS),
+        (b"\x03www\xc0\x0412", "4", POINTERS),
+        (b"\x03www\xc0\x0612", "4", POINTERS),
+        (b"\x03www\xc0\x0012", "0", LONG),
+        (b"\x3fab\xc0\0", "3", SHORT),
+        (b"\x03www\x07exam", "0", SHORT),
+        (b"\x03www\x07example", "0", SHORT),
+        (b"\x03www\x07example\xbffoo", "0", b"invalid label type\n"),
+    ] {
+        check_run(&rt, rt.alloc(), &["at", place], octets, 1, b"", reason);
+    }
+}
+
+/// Octets in front, others so many times over, and octets behind.
+fn repeated(
+    rt: &impl Abort,
+    alloc: Global,
+    front: &[u8],
+    times: usize,
+    octets: &[u8],
+    behind: &[u8],
+) -> Vec<u8> {
+    let mut made = Vec::new(alloc);
+    assert!(rt; made.extend_from_slice(front).is_ok());
+    for _time in 0..times {
+        assert!(rt; made.extend_from_slice(octets).is_ok());
+    }
+    assert!(rt; made.extend_from_slice(behind).is_ok());
+    made
+}
+
+#[test]
+fn names_of_the_greatest_length_are_shown(rt: HostRuntime) {
+    let alloc = rt.alloc();
+    let nine = b"\x09123456789";
+    let fits = repeated(&rt, alloc, b"\x03123\0", 25, nine, b"\xc0\x0012");
+    let shown = repeated(&rt, alloc, b"", 25, b"123456789.", b"123.\n");
+    check_run(&rt, alloc, &["at", "5"], &fits, 0, &shown, b"");
+    let long = repeated(&rt, alloc, b"\x041234\0", 25, nine, b"\xc0\x0012");
+    check_run(&rt, alloc, &["at", "6"], &long, 1, b"", LONG);
+}
+
+#[test]
+fn a_cut_label_is_told_before_the_length(rt: HostRuntime) {
+    let alloc = rt.alloc();
+    for (times, behind, reason) in [
+        (127, b"\x05a".as_slice(), SHORT),
+        (128, b"\0", LONG),
+        (126, b"\x02aa\xc0\0", LONG),
+        (126, b"\x02aa\0", LONG),
+    ] {
+        let octets = repeated(&rt, alloc, b"", times, b"\x01a", behind);
+        check_run(&rt, alloc, &["at", "0"], &octets, 1, b"", reason);
+    }
+}
+
+/// A root at 0, then pointers at 1, 3, 5 and so on, the first to 0, each other to the one before.
+fn pointer_chain(rt: &impl Abort, alloc: Global, pointers: u8) -> Vec<u8> {
+    let mut octets = repeated(rt, alloc, b"\0\xc0\0", 0, b"", b"");
+    for k in 1..pointers as u16 + 1 {
+        let target = 2 * k - 1;
+        let pointer = [0xc0 + (target / 256) as u8, (target % 256) as u8];
+        assert!(rt; octets.extend_from_slice(&pointer).is_ok());
+    }
+    octets
+}
+
+#[test]
+fn at_most_255_pointers_are_followed(rt: HostRuntime) {
+    let alloc = rt.alloc();
+    let octets = pointer_chain(&rt, alloc, 255);
+    check_run(&rt, alloc, &["at", "509"], &octets, 0, b".\n", b"");
+    check_run(&rt, alloc, &["at", "511"], &octets, 1, b"", POINTERS);
+    let front = pointer_chain(&rt, alloc, 253);
+    let octets = repeated(&rt, alloc, &front, 127, b"\x01a", b"\xc1\xfb");
+    let shown = repeated(&rt, alloc, b"", 127, b"a.", b"\n");
+    check_run(&rt, alloc, &["at", "509"], &octets, 0, &shown, b"");
+}
+
 #[test]
 fn a_place_at_or_past_the_end_is_refused(rt: HostRuntime) {
     let alloc = rt.alloc();

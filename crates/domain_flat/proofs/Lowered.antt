@@ -15,12 +15,13 @@ low_wire (l ∷ ls) h =
     let n : to_ascii_lowercase (length l) ≡ length (low l) = grind (arith, h.0, low_length l) in
     ap (λ r. r ∷ low (l ++ wire ls)) n ∙ ap (λ r. length (low l) ∷ r) (map-append to_ascii_lowercase l (wire ls) ∙ ap (λ r. low l ++ r) (low_wire ls h.1))
 
-low_absolute : (ls : List (List ℕ)) → IsAbsolute ls → IsAbsolute (low_all ls)
+-- lowered labels keep their shape
+pub low_absolute : (ls : List (List ℕ)) → IsAbsolute ls → IsAbsolute (low_all ls)
 low_absolute [] a = a
 low_absolute ([] ∷ ls) a = ap low_all a
 low_absolute ((c ∷ l) ∷ ls) a = (omega (arith, a.0, low_length l), low_absolute ls a.1)
 
-low_relative : (ls : List (List ℕ)) → IsRelative ls → IsRelative (low_all ls)
+pub low_relative : (ls : List (List ℕ)) → IsRelative ls → IsRelative (low_all ls)
 low_relative [] a = a
 low_relative ([] ∷ ls) a = absurd a
 low_relative ((c ∷ l) ∷ ls) a = (omega (arith, a.0, low_length l), low_relative ls a.1)

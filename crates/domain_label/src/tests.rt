@@ -100,6 +100,16 @@ fn labels_have_at_most_63_octets(rt: HostRuntime) {
 }
 
 #[test]
+fn octets_that_are_too_many_for_a_label_stay(rt: HostRuntime) {
+    let mut octets = [b'A'; 64];
+    match LabelMut::from_slice_mut(&mut octets) {
+        Ok(_) => panic!(rt; "a label of 64 octets"),
+        Err(e) => assert_eq!(rt; e, LongLabelError),
+    }
+    assert_eq!(rt; octets.as_slice(), [b'A'; 64].as_slice());
+}
+
+#[test]
 fn labels_are_split_from_octets(rt: HostRuntime) {
     let rows: [(&[u8], &[u8], &[u8]); 4] = [
         (b"\x03www\x07example", b"www", b"\x07example"),
@@ -317,6 +327,32 @@ fn labels_are_lowered_in_place(rt: HostRuntime) {
     lower_in_place(&mut octets);
     assert_eq!(rt; octets.as_slice(), b"www".as_slice());
     assert!(rt; LabelMut::split_from_mut(&mut octets).is_err());
+}
+
+/// Splits octets in place, tells the error, and sees that the octets stay.
+fn refused_in_place(rt: &impl Abort, octets: &[u8]) -> SplitLabelError {
+    let mut held = ArrayVec::<u8, 8>::new();
+    assert!(rt; held.try_extend_from_slice(octets).is_ok());
+    let error = match LabelMut::split_from_mut(held.as_mut_slice()) {
+        Ok(_) => panic!(rt; "a label stands there"),
+        Err(e) => e,
+    };
+    assert_eq!(rt; held.as_slice(), octets);
+    error
+}
+
+#[test]
+fn octets_that_begin_with_no_label_stay(rt: HostRuntime) {
+    let extended = SplitLabelError::BadType(LabelTypeError::Extended(0x66));
+    let rows: [(&[u8], SplitLabelError); 4] = [
+        (b"\x66foo", extended),
+        (b"\xc0\x05foo", SplitLabelError::Pointer(5)),
+        (b"\x03ww", SplitLabelError::ShortInput),
+        (b"", SplitLabelError::ShortInput),
+    ];
+    for (octets, error) in rows {
+        assert_eq!(rt; refused_in_place(&rt, octets), error);
+    }
 }
 
 #[test]

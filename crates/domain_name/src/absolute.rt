@@ -116,6 +116,9 @@ impl<'a> Name<&'a [u8]> {
 impl Name<&'static [u8]> {
     ghost use Rattle.domain_name.specs.Names.{name_labels};
 
+    /// The most octets that an absolute name has.
+    pub const MAX_LEN: usize = 255;
+
     /// The root.
     pub fn root_ref() -> Name<&'static [u8]>
         ensures { name_labels result ≡ Root }
@@ -134,9 +137,6 @@ impl Name<&'static [u8]> {
 impl<Octs: Octets> Name<Octs> {
     ghost use Rattle.domain_name.specs.Names.{name_octets, name_labels, name_holder, relative_labels};
     ghost use Rattle.domain_name.specs.Suffixes.{suffixes_left};
-
-    /// The most octets that an absolute name has.
-    pub const MAX_LEN: usize = 255;
 
     /// The name whose wire form the octets are known to be.
     pub(crate) fn from_wire(octets: Octs) -> Name<Octs>
@@ -163,7 +163,8 @@ impl<Octs: Octets> Name<Octs> {
 
     /// The same name over lent octets.
     pub fn for_ref(&self) -> Name<&Octs>
-        ensures { name_labels result ≡ name_labels self.now }
+        ensures labels { name_labels result ≡ name_labels self.now }
+        ensures kept { (name_holder result).now ≡ name_holder self.now }
     {
         Name {
             octets: &self.octets,
@@ -192,7 +193,9 @@ impl<Octs: Octets> Name<Octs> {
     pub fn len(&self) -> usize
         ensures { result ≡ length (wire (name_labels self.now)) }
     {
-        self.as_slice().len()
+        let len = self.as_slice().len();
+        prove!(len <= Name::<&'static [u8]>::MAX_LEN);
+        len
     }
 
     /// Whether this is the root.
@@ -231,7 +234,7 @@ impl<Octs: Octets> Name<Octs> {
     }
 
     /// The last label, which is the root label for each absolute name.
-    pub fn last(&self) -> Label<'_>
+    pub fn last(&self) -> Label<'static>
         ensures last { (front : List (List ℕ)) × (name_labels self.now ≡ front ++ label_octets result ∷ []) }
         ensures root { label_octets result ≡ [] }
     {

@@ -173,7 +173,8 @@ impl<Octs: Octets> RelativeName<Octs> {
 
     /// The same name over lent octets.
     pub fn for_ref(&self) -> RelativeName<&Octs>
-        ensures { relative_labels result ≡ relative_labels self.now }
+        ensures labels { relative_labels result ≡ relative_labels self.now }
+        ensures kept { (relative_holder result).now ≡ relative_holder self.now }
     {
         RelativeName {
             octets: &self.octets,

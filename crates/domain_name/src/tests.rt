@@ -1,18 +1,20 @@
 //! Flat names: what is read, what is shown, the parts of names, and names compared.
+ghost use Rattle.std.specs.Prelude.{◌≡◌, ◌++◌, ℕ, List, IfSome};
+ghost use Rattle.domain_name.specs.Names.{name_labels, relative_labels};
 
 use crate::absolute::Name;
 use crate::relative::RelativeName;
 use crate::strip::StripSuffixError;
 use crate::suffixes::SuffixIter;
 use arrayvec::ArrayVec;
-use domain_flat::{NameErrorKind, NameIter, RelativeNameErrorKind};
-use domain_label::{Label, LabelTypeError};
+use domain_flat::{NameError, NameErrorKind, NameIter, RelativeNameError, RelativeNameErrorKind};
+use domain_label::{Label, LabelTypeError, SplitLabelError};
 use domain_list::{
     AbsoluteLabels, Chain, CompareNames, CompareRelativeNames, DisplayWithDot, LongChainError,
     MatchEnds, NameLabels, Relative, RelativeLabels,
 };
-use domain_wire::ParseError;
-use octseq::{OctetsFrom, Parser, ShortBuf};
+use domain_wire::{FormError, ParseError};
+use octseq::{Octets, OctetsFrom, Parser, ShortBuf};
 use std::alloc::Global;
 use std::cmp::Ordering;
 use std::hash::{DefaultHasher, Hash, Hasher};
@@ -61,8 +63,27 @@ fn long_octets(alloc: Global, rt: &impl Abort, more: &[u8]) -> Vec<u8> {
     octets
 }
 
+/// What stands before the second label of a name. `None` for the root.
+fn host<'a>(name: &'a Name<&'a [u8]>) -> Option<RelativeName<&'a [u8]>>
+    ensures { IfSome result (λ host. (zone : List (List ℕ)) × (name_labels name.now ≡ relative_labels host ++ zone)) }
+{
+    let first = name.first().len() + 1;
+    if name.is_label_start(first) {
+        let (host, _zone) = name.split(first);
+        return Some(host);
+    }
+    None
+}
+
 fn absolute_fault(octets: &[u8]) -> Option<NameErrorKind> {
     match Name::from_slice(octets) {
+        Ok(_) => None,
+        Err(e) => Some(e.kind()),
+    }
+}
+
+fn error_kind<Octs: Octets + Drop>(made: Result<Name<Octs>, NameError>) -> Option<NameErrorKind> {
+    match made {
         Ok(_) => None,
         Err(e) => Some(e.kind()),
     }
@@ -78,11 +99,31 @@ fn relative_fault(octets: &[u8]) -> Option<RelativeNameErrorKind> {
 #[test]
 fn wire_forms_of_absolute_names_are_accepted(rt: HostRuntime) {
     let longest = long_octets(rt.alloc(), &rt, b"\x03123\0");
+    assert_eq!(rt; Name::<&'static [u8]>::MAX_LEN, 255);
     assert_eq!(rt; longest.len(), 255);
     assert_eq!(rt; absolute_fault(longest.as_slice()), None);
     assert_eq!(rt; absolute_fault(WWW), None);
     assert_eq!(rt; absolute_fault(b"\0"), None);
     assert_eq!(rt; absolute(&rt, WWW).as_slice(), WWW);
+}
+
+#[test]
+fn absolute_names_are_made_of_octets_that_are_given(rt: HostRuntime) -> Result<(), Fail> {
+    let name = Name::from_octets(Vec::from_slice(rt.alloc(), WWW)?)?;
+    assert_eq!(rt; name.as_slice(), WWW);
+    let name = Name::from_octets(ArrayVec::<u8, 5>::from(*b"\x03www\0"))?;
+    assert_eq!(rt; name.as_slice(), b"\x03www\0".as_slice());
+    let octets = Vec::from_slice(rt.alloc(), b"\x03www")?;
+    assert_eq!(rt;
+        error_kind(Name::from_octets(octets)),
+        Some(NameErrorKind::RelativeName)
+    );
+    let octets = ArrayVec::<u8, 6>::from(*b"\x03com\0\0");
+    assert_eq!(rt;
+        error_kind(Name::from_octets(octets)),
+        Some(NameErrorKind::TrailingData)
+    );
+    Ok(())
 }
 
 #[test]
@@ -137,6 +178,20 @@ fn wire_forms_of_relative_names_are_accepted(rt: HostRuntime) {
     for octets in rows {
         assert_eq!(rt; relative(&rt, octets).as_slice(), octets);
     }
+}
+
+#[test]
+fn relative_names_are_made_of_octets_that_are_given(rt: HostRuntime) -> Result<(), Fail> {
+    let name = RelativeName::from_octets(Vec::from_slice(rt.alloc(), RELATIVE_WWW)?)?;
+    assert_eq!(rt; name.as_slice(), RELATIVE_WWW);
+    let name = RelativeName::from_octets(ArrayVec::<u8, 4>::from(*b"\x03www"))?;
+    assert_eq!(rt; name.as_slice(), b"\x03www".as_slice());
+    let octets = Vec::from_slice(rt.alloc(), b"\x03www\0")?;
+    let error = RelativeName::from_octets(octets).err();
+    assert_eq!(rt; error, Some(RelativeNameErrorKind::AbsoluteName.into()));
+    let error = RelativeName::from_octets(ArrayVec::<u8, 3>::from(*b"\xccab")).err();
+    assert_eq!(rt; error, Some(RelativeNameErrorKind::CompressedName.into()));
+    Ok(())
 }
 
 #[test]
@@ -291,7 +346,9 @@ fn relative_names_show_their_labels(rt: HostRuntime) -> Result<(), Fail> {
 #[test]
 fn errors_have_texts(rt: HostRuntime) -> Result<(), Fail> {
     let alloc = rt.alloc();
-    let absolute: [(&[u8], &str); 6] = [
+    let too_long = long_octets(alloc, &rt, b"\x041234\0");
+    let absolute: [(&[u8], &str); 7] = [
+        (too_long.as_slice(), "long domain name"),
         (b"\xa2a", "undefined label type"),
         (b"\xccab", "compressed domain name"),
         (b"\x03www", "relative name"),
@@ -305,7 +362,8 @@ fn errors_have_texts(rt: HostRuntime) -> Result<(), Fail> {
             Err(e) => assert_eq!(rt; e.to_string(alloc)?.as_str(), text),
         }
     }
-    let relative: [(&[u8], &str); 4] = [
+    let relative: [(&[u8], &str); 5] = [
+        (too_long.as_slice(), "long domain name"),
         (b"\xa2a", "undefined label type"),
         (b"\xccab", "compressed domain name"),
         (b"\0", "absolute domain name"),
@@ -318,6 +376,64 @@ fn errors_have_texts(rt: HostRuntime) -> Result<(), Fail> {
         }
     }
     Ok(())
+}
+
+#[test]
+fn errors_of_names_become_errors_of_parsing(rt: HostRuntime) {
+    let too_long = long_octets(rt.alloc(), &rt, b"\x041234\0");
+    let rows: [(&[u8], &'static str); 6] = [
+        (b"\x62a", "unknown label type"),
+        (b"\xccab", "compressed domain name"),
+        (too_long.as_slice(), "long domain name"),
+        (b"\x03www", "relative domain name"),
+        (b"\0\0", "trailing data in buffer"),
+        (b"", "unexpected end of buffer"),
+    ];
+    for (octets, text) in rows {
+        match Name::from_slice(octets) {
+            Ok(_) => panic!(rt; "a name"),
+            Err(e) => {
+                assert_eq!(rt; FormError::from(e), FormError::new(text));
+                let wanted = match e.kind() {
+                    NameErrorKind::ShortInput => ParseError::ShortInput,
+                    _ => ParseError::form_error(text),
+                };
+                assert_eq!(rt; ParseError::from(e), wanted);
+            }
+        }
+    }
+}
+
+#[test]
+fn errors_of_labels_become_errors_of_names(rt: HostRuntime) {
+    let undefined = LabelTypeError::Undefined;
+    let extended = LabelTypeError::Extended(0x62);
+    let rows = [
+        (
+            SplitLabelError::Pointer(5),
+            NameErrorKind::CompressedName,
+            RelativeNameErrorKind::CompressedName,
+        ),
+        (
+            SplitLabelError::BadType(extended),
+            NameErrorKind::BadLabel(extended),
+            RelativeNameErrorKind::BadLabel(extended),
+        ),
+        (
+            SplitLabelError::ShortInput,
+            NameErrorKind::ShortInput,
+            RelativeNameErrorKind::ShortInput,
+        ),
+    ];
+    for (split, absolute, relative) in rows {
+        assert_eq!(rt; NameError::from(split).kind(), absolute);
+        assert_eq!(rt; RelativeNameError::from(split).kind(), relative);
+        assert_eq!(rt; RelativeNameError::from(relative).kind(), relative);
+    }
+    let absolute = NameErrorKind::BadLabel(undefined);
+    assert_eq!(rt; NameError::from(undefined).kind(), absolute);
+    let relative = RelativeNameErrorKind::BadLabel(undefined);
+    assert_eq!(rt; RelativeNameError::from(undefined).kind(), relative);
 }
 
 const FRONT: bool = true;
@@ -356,6 +472,10 @@ fn labels_come_from_both_ends(rt: HostRuntime) {
         count = count.wrapping_add(label.len() as u32 & 0xff);
     }
     assert_eq!(rt; count, 13);
+    for label in &relative(&rt, RELATIVE_WWW) {
+        count = count.wrapping_add(label.len() as u32 & 0xff);
+    }
+    assert_eq!(rt; count, 26);
 }
 
 #[test]
@@ -409,7 +529,11 @@ fn labels_begin_at_four_places(rt: HostRuntime) {
 
 #[test]
 fn absolute_names_have_parts(rt: HostRuntime) {
-    for (octets, labels, first) in [(b"\0".as_slice(), 1, b"".as_slice()), (WWW, 4, b"www")] {
+    for (octets, labels, first) in [
+        (b"\0".as_slice(), 1, b"".as_slice()),
+        (b"\x03www\0", 2, b"www"),
+        (WWW, 4, b"www"),
+    ] {
         let name = absolute(&rt, octets);
         assert_eq!(rt; name.label_count(), labels);
         assert_eq!(rt; name.len(), octets.len());
@@ -417,6 +541,17 @@ fn absolute_names_have_parts(rt: HostRuntime) {
         assert_eq!(rt; name.first().as_slice(), first);
         assert!(rt; name.last().is_root());
     }
+}
+
+#[test]
+fn hosts_are_first_labels(rt: HostRuntime) {
+    for (octets, wanted) in [(WWW, b"\x03www".as_slice()), (b"\x03com\0", b"\x03com")] {
+        match host(&absolute(&rt, octets)) {
+            Some(host) => assert_eq!(rt; host.as_slice(), wanted),
+            None => panic!(rt; "no host"),
+        }
+    }
+    assert!(rt; host(&Name::root_ref()).is_none());
 }
 
 #[test]
@@ -544,6 +679,7 @@ fn absolute_names_are_made_over_other_octets(rt: HostRuntime) -> Result<(), Fail
     owned.make_canonical();
     let copy = owned.clone(alloc)?;
     assert_eq!(rt; copy.for_ref().as_slice(), b"\x03www\x01z\0".as_slice());
+    assert_eq!(rt; copy.for_slice().as_slice(), b"\x03www\x01z\0".as_slice());
     assert_eq!(rt; copy.as_octets().as_slice(), b"\x03www\x01z\0".as_slice());
     assert_eq!(rt; copy.into_octets().as_slice(), b"\x03www\x01z\0".as_slice());
     assert_eq!(rt;
@@ -565,6 +701,7 @@ fn relative_names_are_made_over_other_octets(rt: HostRuntime) -> Result<(), Fail
     owned.make_canonical();
     let copy = owned.clone(alloc)?;
     assert_eq!(rt; copy.for_ref().as_slice(), b"\x03www\x01z".as_slice());
+    assert_eq!(rt; copy.for_slice().as_slice(), b"\x03www\x01z".as_slice());
     assert_eq!(rt; copy.as_octets().as_slice(), b"\x03www\x01z".as_slice());
     assert_eq!(rt; copy.into_octets().as_slice(), b"\x03www\x01z".as_slice());
     let held: RelativeName<ArrayVec<u8, 2>> = RelativeName::wildcard(alloc)?;

@@ -1,7 +1,6 @@
 //! Names in a message made flat.
-ghost use Rattle.std.specs.Prelude.{◌≡◌, length};
+ghost use Rattle.std.specs.Prelude.{length};
 ghost use Rattle.domain_label.specs.Wire.{wire};
-ghost use Rattle.domain_name.specs.Names.{name_labels};
 ghost use Rattle.domain_parsed.specs.Views.{parsed_labels};
 ghost use Rattle.domain_traits.specs.Room.{MayLackRoom};
 
@@ -18,8 +17,6 @@ impl<Octs: Octets + Drop, Target: FromBuilder + Drop> FlattenInto<Name<Target>> 
 where
     Target::Builder: EmptyBuilder + Drop,
 {
-    ghost same = { λ name made. name_labels made ≡ parsed_labels name };
-
     ghost may_refuse = { λ name. MayLackRoom Target.Builder.ROOM (length (wire (parsed_labels name))) };
 
     fn try_flatten_into(self, alloc: Global) -> Result<Name<Target>, ShortBuf> {

@@ -124,6 +124,7 @@ impl<'a> ParsedName<&'a [u8]> {
 
 impl<Octs: Octets> ParsedName<Octs> {
     ghost use Rattle.domain_parsed.specs.Views.{parsed_octets, parsed_labels, is_scattered, labels_left, suffixes, suffixes_left};
+    ghost use Rattle.domain_name.specs.Names.{relative_labels};
     ghost use Rattle.domain_parsed.specs.Splitting.{SplitsFirst, PassesFirst};
     ghost use Rattle.domain_parsed.specs.contracts.parsed.ParsedName.{the_row};
     ghost use Rattle.std.specs.Borrow.{follows_so, sem};
@@ -228,6 +229,7 @@ impl<Octs: Octets> ParsedName<Octs> {
     /// `is_compressed` stays as it was.
     pub fn split_first(&mut self) -> Option<RelativeName<&[u8]>>
         ensures none { IsNone result ↔ (parsed_labels self.old ≡ Root) }
+        ensures some { IfSome result (λ first. (l : List ℕ) × (rest : List (List ℕ)) × (relative_labels first ≡ l ∷ []) × (parsed_labels self.old ≡ l ∷ rest)) }
         ensures* after { sem 𝓛 (follows_so (the_row Octs.row Octs.Octets) (the_row Octs.row Octs.Octets) self.entry.ghost_name none (λ _ _. ⊤) (λ new. SplitsFirst self.old result new)) }
     {
         let Range { start, end } = self.pass_first()?;

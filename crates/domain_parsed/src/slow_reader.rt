@@ -1,4 +1,5 @@
-//! Names read slowly, by the three cases of the grammar, against `parse` and `skip` at every place.
+//! Names read slowly, by the three cases of the grammar, against `parse` and `skip` at every place. The
+//! place behind a name and its pieces come from the front and the base, not from the reading.
 ghost use Rattle.std.specs.Prelude.{◌≤◌, length};
 
 use crate::ParsedName;
@@ -13,15 +14,6 @@ enum Stands {
     Root,
     Label(usize),
     Pointer(usize),
-}
-
-/// What was read: the octets of the labels and the root, the place behind, and whether a pointer
-/// follows the first label.
-#[derive(Drop)]
-struct Read {
-    wire: Vec<u8>,
-    end: usize,
-    scattered: bool,
 }
 
 fn long_name() -> ParseError {
@@ -55,28 +47,21 @@ fn head_at(message: &[u8], at: usize) -> Result<Stands, ParseError> {
     }
 }
 
-/// The name at a place, or its first fault.
+/// The labels of the name at a place, on the wire, or the first fault.
 fn read_slowly<R: Abort>(
     rt: &R,
     alloc: Global,
     message: &[u8],
     place: usize,
-) -> Result<Read, ParseError> {
+) -> Result<Vec<u8>, ParseError> {
     let mut wire = Vec::new(alloc);
     let mut at = place;
-    let mut end = None;
-    let mut scattered = false;
     let mut pointers = 0u16;
     for _head in 0..384u16 {
         match head_at(message, at)? {
             Stands::Root => {
-                assert!(rt; wire.push(0).is_ok() && at < message.len());
-                let end = end.unwrap_or(at + 1);
-                return Ok(Read {
-                    wire,
-                    end,
-                    scattered,
-                });
+                assert!(rt; wire.push(0).is_ok());
+                return Ok(wire);
             }
             Stands::Label(len) => {
                 assert!(rt; at < message.len() && len < message.len() - at);
@@ -91,15 +76,47 @@ fn read_slowly<R: Abort>(
                 if target >= at || pointers >= 255 {
                     return Err(excessive());
                 }
-                assert!(rt; at < message.len() && message.len() - at > 1);
-                end = Some(end.unwrap_or(at + 2));
-                scattered = scattered || !wire.is_empty();
                 pointers += 1;
                 at = target;
             }
         }
     }
     panic!(rt; "more heads than a name has")
+}
+
+/// What ends the front of the name at a place, and the place behind it.
+fn front_slowly<R: Abort>(rt: &R, message: &[u8], place: usize) -> (Stands, usize) {
+    let mut at = place;
+    for _head in 0..128u16 {
+        match head_at(message, at) {
+            Ok(Stands::Label(len)) => {
+                assert!(rt; at < message.len() && len < message.len() - at);
+                at += 1 + len;
+            }
+            Ok(stop) => {
+                assert!(rt; at < message.len() && message.len() < usize::MAX);
+                let size = match stop {
+                    Stands::Pointer(_) => 2,
+                    _ => 1,
+                };
+                return (stop, at + size);
+            }
+            Err(_) => panic!(rt; "a front that is cut"),
+        }
+    }
+    panic!(rt; "more heads than a name has")
+}
+
+/// The base of the name at a place: where the pointers at its beginning lead to.
+fn base_slowly<R: Abort>(rt: &R, message: &[u8], place: usize) -> usize {
+    let mut at = place;
+    for _head in 0..256u16 {
+        match head_at(message, at) {
+            Ok(Stands::Pointer(target)) => at = target,
+            _ => return at,
+        }
+    }
+    panic!(rt; "more pointers than a name has")
 }
 
 /// The place behind the name's root or first pointer, or the first fault before it.
@@ -144,8 +161,8 @@ pub(crate) fn wire_of<R: Abort>(rt: &R, alloc: Global, name: &ParsedName<&[u8]>)
     wire
 }
 
-/// Whether `parse` and `skip` answer as the slow reading does.
-fn agrees<R: Abort>(rt: &R, alloc: Global, octets: &[u8], place: usize, end: usize)
+/// Whether `parse` answers as the slow reading does.
+fn agrees_to_parse<R: Abort>(rt: &R, alloc: Global, octets: &[u8], place: usize, end: usize)
     requires ordered { place ≤ end }
     requires inside { end ≤ length octets.now }
 {
@@ -155,16 +172,19 @@ fn agrees<R: Abort>(rt: &R, alloc: Global, octets: &[u8], place: usize, end: usi
         ParsedName::parse(&mut parser),
         read_slowly(rt, alloc, message, place),
     ) {
-        (Ok(name), Ok(read)) => {
+        (Ok(name), Ok(wire)) => {
             assert_eq!(rt;
                 wire_of(rt, alloc, &name),
-                read.wire,
+                wire,
                 "labels at {place} of {end}"
             );
-            assert_eq!(rt; parser.pos(), read.end, "end at {place} of {end}");
+            let (_, behind) = front_slowly(rt, message, place);
+            assert_eq!(rt; parser.pos(), behind, "end at {place} of {end}");
+            let (stop, _) = front_slowly(rt, message, base_slowly(rt, message, place));
+            let scattered = matches!(stop, Stands::Pointer(_));
             assert_eq!(rt;
                 name.is_compressed(),
-                read.scattered,
+                scattered,
                 "pieces at {place} of {end}"
             );
         }
@@ -174,10 +194,17 @@ fn agrees<R: Abort>(rt: &R, alloc: Global, octets: &[u8], place: usize, end: usi
         }
         _ => panic!(rt; "read or refused at {place} of {end}"),
     }
+}
+
+/// Whether `skip` answers as the slow reading does.
+fn agrees_to_skip<R: Abort>(rt: &R, octets: &[u8], place: usize, end: usize)
+    requires ordered { place ≤ end }
+    requires inside { end ≤ length octets.now }
+{
     let mut parser = Parser::with_range(octets, place..end);
     match (
         ParsedName::skip(&mut parser),
-        skip_slowly(rt, message, place),
+        skip_slowly(rt, &octets[..end], place),
     ) {
         (Ok(()), Ok(behind)) => assert_eq!(rt; parser.pos(), behind, "skip at {place} of {end}"),
         (Err(fault), Err(wanted)) => {
@@ -192,7 +219,8 @@ fn agrees<R: Abort>(rt: &R, alloc: Global, octets: &[u8], place: usize, end: usi
 pub(crate) fn agrees_at_every_place_and_end<R: Abort>(rt: &R, alloc: Global, octets: &[u8]) {
     for end in 0..octets.len() + 1 {
         for place in 0..end + 1 {
-            agrees(rt, alloc, octets, place, end);
+            agrees_to_parse(rt, alloc, octets, place, end);
+            agrees_to_skip(rt, octets, place, end);
         }
     }
 }
@@ -200,6 +228,7 @@ pub(crate) fn agrees_at_every_place_and_end<R: Abort>(rt: &R, alloc: Global, oct
 /// Every place, with the parser's end at the end of the octets.
 pub(crate) fn agrees_at_every_place<R: Abort>(rt: &R, alloc: Global, octets: &[u8]) {
     for place in 0..octets.len() + 1 {
-        agrees(rt, alloc, octets, place, octets.len());
+        agrees_to_parse(rt, alloc, octets, place, octets.len());
+        agrees_to_skip(rt, octets, place, octets.len());
     }
 }

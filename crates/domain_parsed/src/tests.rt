@@ -1,15 +1,21 @@
 //! Names of worked messages, and the slow reading of each message at every place.
-ghost use Rattle.std.specs.Prelude.{◌≤◌, length};
+ghost use Rattle.std.specs.Prelude.{◌≡◌, ◌≤◌, ℕ, List, ◌∷◌, MatchBool, length};
+ghost use Rattle.domain_parsed.specs.Views.{parsed_labels};
 
 use crate::slow_reader::{agrees_at_every_place, agrees_at_every_place_and_end, wire_of};
 use crate::{ParsedName, ParsedNameIter};
 use arrayvec::ArrayVec;
 use domain_list::composing::compose_labels;
-use domain_list::{Chain, CompareNames, MatchEnds, NameLabels, Relative, ToLabelIter};
+use domain_list::{
+    AbsoluteLabels, Chain, CompareNames, LabelIterator, MatchEnds, NameLabels, Relative,
+    ToLabelIter,
+};
 use domain_name::{Name, RelativeName};
+use domain_traits::{FlattenInto, MakeName, ToName};
 use domain_wire::ParseError;
-use octseq::{OctetsFrom, Parser};
+use octseq::{OctetsBuilder, OctetsFrom, Parser, ShortBuf};
 use std::alloc::Global;
+use std::borrow::CowSlice;
 use std::cmp::Ordering;
 use std::hash::{DefaultHasher, Hash, Hasher};
 use std::process::Abort;
@@ -93,17 +99,29 @@ fn reads<R: Abort>(
     assert!(rt; labels.as_slice() == wire, "other labels at {place}");
     assert_eq!(rt; name.is_compressed(), compressed);
     assert_eq!(rt; parser.pos(), end);
+    let mut parser = Parser::with_range(octets, place..octets.len());
+    let Ok(same) = ParsedName::parse_ref(&mut parser) else {
+        panic!(rt; "no name at {place}");
+    };
+    assert!(rt; same == name && same.is_compressed() == compressed);
+    assert_eq!(rt; parser.pos(), end);
 }
 
 /// No name is at a place, this tells why, and the parser stays.
 fn refuses<R: Abort>(rt: &R, octets: &[u8], place: usize, wanted: ParseError) {
     assert!(rt; place <= octets.len());
     let mut parser = Parser::with_range(octets, place..octets.len());
-    match ParsedName::parse_ref(&mut parser) {
-        Ok(_) => panic!(rt; "a name at {place}"),
-        Err(fault) => assert_eq!(rt; fault, wanted),
+    for by_reference in [false, true] {
+        let read = match by_reference {
+            true => ParsedName::parse_ref(&mut parser),
+            false => ParsedName::parse(&mut parser),
+        };
+        match read {
+            Ok(_) => panic!(rt; "a name at {place}"),
+            Err(fault) => assert_eq!(rt; fault, wanted),
+        }
+        assert_eq!(rt; parser.pos(), place);
     }
-    assert_eq!(rt; parser.pos(), place);
 }
 
 /// The name at a place is passed over, and so many octets are left.
@@ -479,9 +497,10 @@ fn a_name_is_the_same_in_any_pieces(rt: HostRuntime) {
 }
 
 #[test]
-fn first_labels_are_split_off(rt: HostRuntime) {
+fn first_labels_are_split_off(rt: HostRuntime) -> Result<(), Fail> {
     for (octets, place, _) in PLACED {
         let mut name = name_at(&rt, octets, place);
+        assert!(rt; name.to_vec(rt.alloc())?.as_slice() == WWW_EXAMPLE_COM);
         for (first, rest) in [
             (b"\x03www".as_slice(), b"\x07example\x03com\0".as_slice()),
             (b"\x07example", b"\x03com\0"),
@@ -491,27 +510,47 @@ fn first_labels_are_split_off(rt: HostRuntime) {
                 Some(label) => assert!(rt; label.as_slice() == first),
                 None => panic!(rt; "no first label"),
             }
-            let labels = wire_of(&rt, rt.alloc(), &name);
-            assert!(rt; labels.as_slice() == rest, "other labels at {place}");
+            let left = name.to_vec(rt.alloc())?;
+            assert!(rt; left.as_slice() == rest, "other labels at {place}");
             assert_eq!(rt; usize::from(name.compose_len()), rest.len());
         }
         assert!(rt; name.split_first().is_none());
         assert!(rt; name.split_first().is_none() && name.is_root());
     }
+    Ok(())
+}
+
+/// Leaves out the first label, as `parent` does.
+fn drop_first(name: &mut ParsedName<&[u8]>) -> bool
+    ensures { MatchBool result ((l : List ℕ) × (parsed_labels name.old ≡ l ∷ parsed_labels name.new)) (name.new ≡ name.old) }
+{
+    name.split_first().is_some()
 }
 
 #[test]
-fn first_labels_are_left_out(rt: HostRuntime) {
+fn splitting_shortens_the_name(rt: HostRuntime) {
+    for (octets, place, compressed) in PLACED {
+        let mut name = name_at(&rt, octets, place);
+        assert!(rt; drop_first(&mut name) && drop_first(&mut name) && drop_first(&mut name));
+        assert!(rt; name.is_root() && !drop_first(&mut name));
+        assert_eq!(rt; name.is_compressed(), compressed);
+    }
+}
+
+#[test]
+fn first_labels_are_left_out(rt: HostRuntime) -> Result<(), Fail> {
     for (octets, place, _) in PLACED {
         let mut name = name_at(&rt, octets, place);
+        assert!(rt; name.to_vec(rt.alloc())?.as_slice() == WWW_EXAMPLE_COM);
         for rest in [b"\x07example\x03com\0".as_slice(), b"\x03com\0", b"\0"] {
             assert!(rt; name.parent());
-            let labels = wire_of(&rt, rt.alloc(), &name);
-            assert!(rt; labels.as_slice() == rest, "other labels at {place}");
+            let left = name.to_vec(rt.alloc())?;
+            assert!(rt; left.as_slice() == rest, "other labels at {place}");
         }
         assert!(rt; !name.parent());
         assert!(rt; !name.parent() && name.is_root());
     }
+    Ok(())
 }
 
 #[test]
@@ -704,13 +743,232 @@ fn one_function_takes_names_of_every_kind(rt: HostRuntime) {
 }
 
 #[test]
-fn names_are_composed_without_pointers(rt: HostRuntime) {
-    let root = name_at(&rt, b"123\0", 3);
-    assert!(rt; composed(&rt, rt.alloc(), &root).as_slice() == b"\0".as_slice());
+fn names_are_composed_without_pointers(rt: HostRuntime) -> Result<(), Fail> {
+    let mut root: Vec<u8> = Vec::new(rt.alloc());
+    name_at(&rt, b"123\0", 3).compose(&mut root)?;
+    assert!(rt; root.as_slice() == b"\0".as_slice());
     for (octets, place, _) in PLACED {
         let name = name_at(&rt, octets, place);
-        assert!(rt; composed(&rt, rt.alloc(), &name).as_slice() == WWW_EXAMPLE_COM);
+        let mut composed: Vec<u8> = Vec::new(rt.alloc());
+        name.compose(&mut composed)?;
+        assert!(rt; composed.as_slice() == WWW_EXAMPLE_COM);
+        assert_eq!(rt; usize::from(name.compose_len()), composed.len());
     }
+    Ok(())
+}
+
+// Every call of absolute names, over a name in a message.
+
+/// `www.Example.com.` in messages, the place where each begins, and whether it lies in one piece.
+const MIXED: [(&[u8], usize, bool); 4] = [
+    (b"\x03www\x07Example\x03com\0\xc0\0", 0, true),
+    (b"\x03www\x07Example\x03com\0\xc0\0", 17, true),
+    (b"\x03com\0\x03www\x07Example\xc0\0", 5, false),
+    (b"\x03com\0\x07Example\xc0\0\x03www\xc0\x05", 15, false),
+];
+
+/// What the calls of a name must give.
+#[derive(Clone, Copy)]
+struct Wanted<'w> {
+    wire: &'w [u8],
+    /// The labels from the last one on.
+    turned: &'w [u8],
+    canonical: &'w [u8],
+    flat: bool,
+}
+
+/// What the calls of `www.Example.com.` must give.
+fn wanted_of_mixed(flat: bool) -> Wanted<'static> {
+    Wanted {
+        wire: b"\x03www\x07Example\x03com\0",
+        turned: b"\0\x03com\x07Example\x03www",
+        canonical: WWW_EXAMPLE_COM,
+        flat,
+    }
+}
+
+/// Names that a name of each kind is compared with.
+#[derive(Clone, Copy)]
+struct Others<'b> {
+    twin: ParsedName<&'b [u8]>,
+    other: Name<&'b [u8]>,
+    start: RelativeName<&'b [u8]>,
+    end: ParsedName<&'b [u8]>,
+}
+
+fn names_beside(rt: &impl Abort) -> Others<'static> {
+    Others {
+        twin: name_at(rt, b"\x03com\0\x03www\x07EXAMPLE\xc0\0", 5),
+        other: absolute(rt, b"\x02zz\x07Example\x03com\0"),
+        start: relative(rt, b"\x03WWW\x07example"),
+        end: name_at(rt, b"\x03com\0\x07EXAMPLE\xc0\0", 5),
+    }
+}
+
+/// Goes over the labels from both ends.
+fn gives_labels<'a, N: ToLabelIter<'a>>(
+    alloc: Global,
+    name: &'a N,
+    wanted: Wanted<'_>,
+) -> Result<bool, ShortBuf> {
+    let mut given: Vec<u8> = Vec::new(alloc);
+    let mut labels = name.iter_labels();
+    while let Some(label) = labels.next() {
+        given.append_slice(&[label.len() as u8])?;
+        given.append_slice(label.as_slice())?;
+    }
+    let mut turned: Vec<u8> = Vec::new(alloc);
+    let mut labels = name.iter_labels();
+    for _time in 0..128u8 {
+        if let Some(label) = labels.next_back() {
+            turned.append_slice(&[label.len() as u8])?;
+            turned.append_slice(label.as_slice())?;
+        }
+    }
+    Ok(given.as_slice() == wanted.wire && turned.as_slice() == wanted.turned)
+}
+
+/// Measures a name, and asks for its octets, which are lent where it lies in one piece.
+fn is_measured<'a, N: ToLabelIter<'a>>(name: &'a N, wanted: Wanted<'_>) -> bool {
+    let lent = match wanted.flat {
+        true => Some(wanted.wire),
+        false => None,
+    };
+    usize::from(name.compose_len()) == wanted.wire.len() && name.as_flat_slice() == lent
+}
+
+fn is_composed<'a, N: AbsoluteLabels<'a>>(
+    alloc: Global,
+    name: &'a N,
+    wanted: Wanted<'_>,
+) -> Result<bool, ShortBuf> {
+    let mut plain: Vec<u8> = Vec::new(alloc);
+    name.compose(&mut plain)?;
+    let mut canonical: Vec<u8> = Vec::new(alloc);
+    name.compose_canonical(&mut canonical)?;
+    Ok(plain.as_slice() == wanted.wire && canonical.as_slice() == wanted.canonical)
+}
+
+fn is_made_flat<'a, N: AbsoluteLabels<'a>>(
+    alloc: Global,
+    name: &'a N,
+    wanted: Wanted<'_>,
+) -> Result<bool, ShortBuf> {
+    let made: Name<Vec<u8>> = name.to_name(alloc)?;
+    let tried: Name<ArrayVec<u8, 17>> = name.try_to_name(alloc)?;
+    Ok(made.as_slice() == wanted.wire && tried.as_slice() == wanted.wire)
+}
+
+fn is_made_canonical<'a, N: AbsoluteLabels<'a>>(
+    alloc: Global,
+    name: &'a N,
+    wanted: Wanted<'_>,
+) -> Result<bool, ShortBuf> {
+    let made: Name<Vec<u8>> = name.to_canonical_name(alloc)?;
+    let tried: Name<ArrayVec<u8, 17>> = name.try_to_canonical_name(alloc)?;
+    Ok(made.as_slice() == wanted.canonical && tried.as_slice() == wanted.canonical)
+}
+
+fn is_copied<'a, N: AbsoluteLabels<'a>>(
+    alloc: Global,
+    name: &'a N,
+    wanted: Wanted<'_>,
+) -> Result<bool, ShortBuf> {
+    let owned = name.to_vec(alloc)?;
+    let cow = name.to_cow(alloc)?;
+    let same = owned.as_slice() == wanted.wire && cow.as_slice() == wanted.wire;
+    Ok(same && matches!(cow.as_octets(), CowSlice::Borrowed(_)) == wanted.flat)
+}
+
+fn is_compared<'a, N: AbsoluteLabels<'a>>(name: &'a N, others: &'a Others<'a>) -> bool {
+    let Others { twin, other, .. } = others;
+    name.name_eq(twin)
+        && !name.name_eq(other)
+        && name.name_cmp(twin) == Ordering::Equal
+        && name.name_cmp(other) == Ordering::Less
+}
+
+fn is_compared_on_the_wire<'a, N: AbsoluteLabels<'a>>(name: &'a N, others: &'a Others<'a>) -> bool {
+    let Others { twin, other, .. } = others;
+    name.composed_cmp(twin) == Ordering::Greater
+        && name.composed_cmp(other) == Ordering::Greater
+        && name.lowercase_composed_cmp(twin) == Ordering::Equal
+        && name.lowercase_composed_cmp(other) == Ordering::Greater
+}
+
+fn is_matched<'a, N: AbsoluteLabels<'a>>(name: &'a N, others: &'a Others<'a>) -> bool {
+    let Others {
+        other,
+        start,
+        end,
+        ..
+    } = others;
+    name.starts_with(start)
+        && name.ends_with(end)
+        && !name.starts_with(end)
+        && !name.ends_with(other)
+}
+
+/// Asks `www.Example.com.` of any kind for all that absolute names have.
+fn every_call_of_absolute<'a, N: AbsoluteLabels<'a>>(
+    rt: &impl Abort,
+    alloc: Global,
+    name: &'a N,
+    others: &'a Others<'a>,
+    wanted: Wanted<'_>,
+) -> Result<(), Fail> {
+    assert!(rt; gives_labels(alloc, name, wanted)? && is_measured(name, wanted));
+    assert!(rt; is_composed(alloc, name, wanted)? && is_copied(alloc, name, wanted)?);
+    assert!(rt; is_made_flat(alloc, name, wanted)? && is_made_canonical(alloc, name, wanted)?);
+    assert!(rt; is_compared(name, others) && is_compared_on_the_wire(name, others));
+    assert!(rt; is_matched(name, others) && name.is_absolute() && name.rrsig_label_count() == 3);
+    let text = format!(in alloc; "{}", name.fmt_with_dot())?;
+    assert_eq!(rt; text.as_str(), "www.Example.com.");
+    Ok(())
+}
+
+#[test]
+fn names_in_messages_have_every_call(rt: HostRuntime) -> Result<(), Fail> {
+    let others = names_beside(&rt);
+    for (octets, place, flat) in MIXED {
+        let name = name_at(&rt, octets, place);
+        let wanted = wanted_of_mixed(flat);
+        every_call_of_absolute(&rt, rt.alloc(), &name, &others, wanted)?;
+    }
+    Ok(())
+}
+
+#[test]
+fn lent_names_in_messages_have_every_call(rt: HostRuntime) -> Result<(), Fail> {
+    let others = names_beside(&rt);
+    for (octets, place, _) in MIXED {
+        let name = name_at(&rt, octets, place);
+        let wanted = wanted_of_mixed(false);
+        every_call_of_absolute(&rt, rt.alloc(), &&name, &others, wanted)?;
+    }
+    Ok(())
+}
+
+#[test]
+fn chains_into_messages_have_every_call(rt: HostRuntime) -> Result<(), Fail> {
+    let others = names_beside(&rt);
+    let rest = name_at(&rt, b"\x03com\0\x07Example\xc0\0", 5);
+    let chain = chained(&rt, relative(&rt, b"\x03www"), rest);
+    every_call_of_absolute(&rt, rt.alloc(), &chain, &others, wanted_of_mixed(false))
+}
+
+#[test]
+fn names_in_messages_are_flattened(rt: HostRuntime) -> Result<(), Fail> {
+    let alloc = rt.alloc();
+    for (octets, place, _) in MIXED {
+        let name = name_at(&rt, octets, place);
+        let made: Name<Vec<u8>> = name.flatten_into(alloc)?;
+        let tried: Name<ArrayVec<u8, 17>> = name.try_flatten_into(alloc)?;
+        let none: Result<Name<ArrayVec<u8, 16>>, ShortBuf> = name.try_flatten_into(alloc);
+        assert!(rt; made.as_slice() == b"\x03www\x07Example\x03com\0".as_slice());
+        assert!(rt; tried.as_slice() == made.as_slice() && none.is_err());
+    }
+    Ok(())
 }
 
 #[test]

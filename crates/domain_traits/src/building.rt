@@ -1,28 +1,29 @@
 //! Wire forms and flat names made of labels. The calls of names stand on these functions, which are
 //! one body each for absolute and relative names of every kind.
-ghost use Rattle.std.specs.Prelude.{◌≡◌, List, length, IfOk, IsOkAnd, OnErr};
+ghost use Rattle.std.specs.Prelude.{◌≡◌, ℕ, List, length, IfOk, IsOkAnd, OnErr};
 ghost use Rattle.std.specs.Cow.{cow_slice_items, IsBorrowedSlice};
 ghost use Rattle.domain_label.specs.Low.{low_all};
-ghost use Rattle.domain_label.specs.Wire.{wire, IsAbsoluteWire, IsRelativeWire};
-ghost use Rattle.domain_name.specs.Names.{name_octets, relative_octets};
+ghost use Rattle.domain_label.specs.Wire.{wire, IsAbsoluteName, IsRelativeName};
+ghost use Rattle.domain_name.specs.Names.{name_labels, name_holder, relative_labels, relative_holder};
 ghost use Rattle.domain_traits.specs.Room.{MayLackRoom};
 
 use domain_list::composing::{compose_canonical_labels, compose_labels};
 use domain_list::{LabelIterator, ToLabelIter};
 use domain_name::{Name, RelativeName};
-use octseq::{EmptyBuilder, FromBuilder, ShortBuf};
+use octseq::{EmptyBuilder, Octets, ShortBuf};
 use std::alloc::Global;
 use std::borrow::CowSlice;
 
-/// A new builder that has the wire form of the labels that are left. Room for `size` octets is asked for
-/// once, before anything is appended.
+/// A new builder that has the wire form of the labels that are left. Room for its `size` octets is asked
+/// for once, before anything is appended.
 ///
-/// `ShortBuf` where the octets exceed a fixed room, or where memory was refused.
+/// `ShortBuf` where the octets exceed a fixed room, or where memory was refused. No octets ask for none.
 pub(crate) fn build<'a, I: LabelIterator<'a>, B: EmptyBuilder + Drop>(
     labels: I,
     size: u16,
     alloc: Global,
 ) -> Result<B, ShortBuf>
+    requires { size ≡ length (wire (I.left labels)) }
     ensures ok { IfOk result (λ target. B.octets target ≡ wire (I.left labels)) }
     ensures err { OnErr result (MayLackRoom B.ROOM (length (wire (I.left labels)))) }
 {
@@ -39,6 +40,7 @@ pub(crate) fn build_canonical<'a, I: LabelIterator<'a>, B: EmptyBuilder + Drop>(
     size: u16,
     alloc: Global,
 ) -> Result<B, ShortBuf>
+    requires { size ≡ length (wire (I.left labels)) }
     ensures ok { IfOk result (λ target. B.octets target ≡ wire (low_all (I.left labels))) }
     ensures err { OnErr result (MayLackRoom B.ROOM (length (wire (low_all (I.left labels))))) }
 {
@@ -68,20 +70,20 @@ pub(crate) fn lend_or_build<'a, N: ToLabelIter<'a>>(
     }
 }
 
-/// The absolute name whose wire form a builder has.
-pub(crate) fn finish_name<Octs: FromBuilder + Drop>(target: Octs::Builder) -> Name<Octs>
-    requires { IsAbsoluteWire (Octs.Builder.octets target) }
-    ensures { name_octets result ≡ Octs.Builder.octets target }
+/// The absolute name whose wire form the octets are.
+pub(crate) fn name_of<Octs: Octets + Drop>(octets: Octs) -> Name<Octs>
+    requires { (ls : List (List ℕ)) × IsAbsoluteName ls × (Octs.octets octets ≡ wire ls) }
+    ensures list { (ls : List (List ℕ)) → IsAbsoluteName ls → Octs.octets octets ≡ wire ls → name_labels result ≡ ls }
+    ensures kept { name_holder result ≡ octets }
 {
-    Name::from_octets(Octs::from_builder(target)).unwrap()
+    Name::from_octets(octets).unwrap()
 }
 
-/// The relative name whose wire form a builder has.
-pub(crate) fn finish_relative_name<Octs: FromBuilder + Drop>(
-    target: Octs::Builder,
-) -> RelativeName<Octs>
-    requires { IsRelativeWire (Octs.Builder.octets target) }
-    ensures { relative_octets result ≡ Octs.Builder.octets target }
+/// The relative name whose wire form the octets are.
+pub(crate) fn relative_name_of<Octs: Octets + Drop>(octets: Octs) -> RelativeName<Octs>
+    requires { (ls : List (List ℕ)) × IsRelativeName ls × (Octs.octets octets ≡ wire ls) }
+    ensures list { (ls : List (List ℕ)) → IsRelativeName ls → Octs.octets octets ≡ wire ls → relative_labels result ≡ ls }
+    ensures kept { relative_holder result ≡ octets }
 {
-    RelativeName::from_octets(Octs::from_builder(target)).unwrap()
+    RelativeName::from_octets(octets).unwrap()
 }

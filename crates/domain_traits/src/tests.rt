@@ -7,14 +7,16 @@ ghost use Rattle.domain_name.specs.Names.{name_labels};
 
 use crate::{FlattenInto, MakeChain, MakeName, MakeRelativeName, ToName, ToRelativeName};
 use arrayvec::ArrayVec;
+use domain_label::Label;
 use domain_list::{
-    Absolute, AbsoluteLabels, Chain, LabelIterator, NameLabels, Relative, RelativeLabels,
-    ToLabelIter,
+    Absolute, AbsoluteLabels, Chain, CompareNames, CompareRelativeNames, LabelIterator, MatchEnds,
+    NameLabels, Relative, RelativeLabels, ToLabelIter,
 };
 use domain_name::{Name, RelativeName};
 use octseq::{EmptyBuilder, Octets, OctetsBuilder, ShortBuf};
 use std::alloc::Global;
 use std::borrow::CowSlice;
+use std::cmp::Ordering;
 use std::process::Abort;
 use std::test::Fail;
 
@@ -56,7 +58,8 @@ fn relative_joined(rt: &impl Abort, left: &'static [u8], right: &'static [u8]) -
     }
 }
 
-/// A name of another kind and a number: a kind of names of the tests' own.
+/// A name of another kind and a number: a kind of names of the tests' own, absolute or relative as the
+/// other kind is.
 #[derive(Clone, Copy)]
 struct Numbered<N> {
     name: N,
@@ -81,6 +84,10 @@ impl<N: Absolute> Absolute for Numbered<N> {
     ghost absolute = { λ numbered. N.absolute numbered.name };
 }
 
+impl<N: Relative> Relative for Numbered<N> {
+    ghost relative = { λ numbered. N.relative numbered.name };
+}
+
 impl<'a, N: ToLabelIter<'a>> ToLabelIter<'a> for Numbered<N> {
     type LabelIter = N::LabelIter;
 
@@ -96,6 +103,8 @@ impl<'a, N: ToLabelIter<'a>> ToLabelIter<'a> for Numbered<N> {
 }
 
 impl<'a, N: AbsoluteLabels<'a>> AbsoluteLabels<'a> for Numbered<N> {}
+
+impl<'a, N: RelativeLabels<'a>> RelativeLabels<'a> for Numbered<N> {}
 
 // Generic callers need no more than the traits say.
 
@@ -162,6 +171,395 @@ fn names_of_each_kind_have_one_body(rt: HostRuntime) {
     assert!(rt; have_forms(&rt, alloc, &numbered) && numbered.number == 1);
 }
 
+// Every call, over a name of each kind.
+
+/// What the calls of a name must give.
+#[derive(Clone, Copy)]
+struct Wanted<'w> {
+    wire: &'w [u8],
+    /// The labels from the last one on.
+    turned: &'w [u8],
+    canonical: &'w [u8],
+    size: u16,
+}
+
+const ABSOLUTE: Wanted<'static> = Wanted {
+    wire: b"\x03www\x07Example\x03com\0",
+    turned: b"\0\x03com\x07Example\x03www",
+    canonical: b"\x03www\x07example\x03com\0",
+    size: 17,
+};
+
+const RELATIVE: Wanted<'static> = Wanted {
+    wire: b"\x03www\x07Example",
+    turned: b"\x07Example\x03www",
+    canonical: b"\x03www\x07example",
+    size: 12,
+};
+
+/// Absolute names that those of each kind are compared with.
+#[derive(Clone, Copy)]
+struct Others<'b> {
+    twin: Name<&'b [u8]>,
+    other: Name<&'b [u8]>,
+    start: RelativeName<&'b [u8]>,
+    end: Name<&'b [u8]>,
+}
+
+fn names_beside(rt: &impl Abort) -> Others<'static> {
+    Others {
+        twin: absolute(rt, b"\x03www\x07EXAMPLE\x03com\0"),
+        other: absolute(rt, b"\x02zz\x07Example\x03com\0"),
+        start: relative(rt, b"\x03WWW\x07example"),
+        end: absolute(rt, b"\x07EXAMPLE\x03com\0"),
+    }
+}
+
+/// Relative names that those of each kind are compared with.
+#[derive(Clone, Copy)]
+struct RelativeOthers<'b> {
+    twin: RelativeName<&'b [u8]>,
+    other: RelativeName<&'b [u8]>,
+    start: RelativeName<&'b [u8]>,
+    end: RelativeName<&'b [u8]>,
+    root: Name<&'b [u8]>,
+}
+
+fn relative_names_beside(rt: &impl Abort) -> RelativeOthers<'static> {
+    RelativeOthers {
+        twin: relative(rt, b"\x03www\x07EXAMPLE"),
+        other: relative(rt, b"\x02zz\x07Example"),
+        start: relative(rt, b"\x03WWW"),
+        end: relative(rt, b"\x07EXAMPLE"),
+        root: absolute(rt, b"\0"),
+    }
+}
+
+fn append_label(octets: &mut Vec<u8>, label: Label<'_>) -> Result<(), ShortBuf> {
+    octets.append_slice(&[label.len() as u8])?;
+    octets.append_slice(label.as_slice())
+}
+
+/// Goes over the labels from both ends.
+fn gives_labels<'a, N: ToLabelIter<'a>>(
+    alloc: Global,
+    name: &'a N,
+    wanted: Wanted<'_>,
+) -> Result<bool, Fail> {
+    let mut given = Vec::new(alloc);
+    let mut labels = name.iter_labels();
+    while let Some(label) = labels.next() {
+        append_label(&mut given, label)?;
+    }
+    let mut turned = Vec::new(alloc);
+    let mut labels = name.iter_labels();
+    for _time in 0..128u8 {
+        if let Some(label) = labels.next_back() {
+            append_label(&mut turned, label)?;
+        }
+    }
+    Ok(given.as_slice() == wanted.wire && turned.as_slice() == wanted.turned)
+}
+
+/// Measures a name, and asks for its octets, which are lent where it lies in one piece.
+fn is_measured<'a, N: ToLabelIter<'a>>(name: &'a N, wanted: Wanted<'_>, flat: bool) -> bool {
+    let lent = match flat {
+        true => Some(wanted.wire),
+        false => None,
+    };
+    name.compose_len() == wanted.size && name.as_flat_slice() == lent
+}
+
+fn is_composed<'a, N: AbsoluteLabels<'a>>(
+    alloc: Global,
+    name: &'a N,
+    wanted: Wanted<'_>,
+) -> Result<bool, Fail> {
+    let mut plain = Vec::new(alloc);
+    name.compose(&mut plain)?;
+    let mut canonical = Vec::new(alloc);
+    name.compose_canonical(&mut canonical)?;
+    Ok(plain.as_slice() == wanted.wire && canonical.as_slice() == wanted.canonical)
+}
+
+fn is_made_flat<'a, N: AbsoluteLabels<'a>>(
+    alloc: Global,
+    name: &'a N,
+    wanted: Wanted<'_>,
+) -> Result<bool, Fail> {
+    let made: Name<Vec<u8>> = name.to_name(alloc)?;
+    let tried: Name<ArrayVec<u8, 17>> = name.try_to_name(alloc)?;
+    Ok(made.as_slice() == wanted.wire && tried.as_slice() == wanted.wire)
+}
+
+fn is_made_canonical<'a, N: AbsoluteLabels<'a>>(
+    alloc: Global,
+    name: &'a N,
+    wanted: Wanted<'_>,
+) -> Result<bool, Fail> {
+    let made: Name<Vec<u8>> = name.to_canonical_name(alloc)?;
+    let tried: Name<ArrayVec<u8, 17>> = name.try_to_canonical_name(alloc)?;
+    Ok(made.as_slice() == wanted.canonical && tried.as_slice() == wanted.canonical)
+}
+
+fn is_copied<'a, N: AbsoluteLabels<'a>>(
+    alloc: Global,
+    name: &'a N,
+    wanted: Wanted<'_>,
+    flat: bool,
+) -> Result<bool, Fail> {
+    let owned = name.to_vec(alloc)?;
+    let cow = name.to_cow(alloc)?;
+    let same = owned.as_slice() == wanted.wire && cow.as_slice() == wanted.wire;
+    Ok(same && matches!(cow.as_octets(), CowSlice::Borrowed(_)) == flat)
+}
+
+fn is_compared<'a, N: AbsoluteLabels<'a>>(name: &'a N, others: &'a Others<'a>) -> bool {
+    let Others { twin, other, .. } = others;
+    name.name_eq(twin)
+        && !name.name_eq(other)
+        && name.name_cmp(twin) == Ordering::Equal
+        && name.name_cmp(other) == Ordering::Less
+}
+
+fn is_compared_on_the_wire<'a, N: AbsoluteLabels<'a>>(name: &'a N, others: &'a Others<'a>) -> bool {
+    let Others { twin, other, .. } = others;
+    name.composed_cmp(twin) == Ordering::Greater
+        && name.composed_cmp(other) == Ordering::Greater
+        && name.lowercase_composed_cmp(twin) == Ordering::Equal
+        && name.lowercase_composed_cmp(other) == Ordering::Greater
+}
+
+fn is_matched<'a, N: AbsoluteLabels<'a>>(name: &'a N, others: &'a Others<'a>) -> bool {
+    let Others {
+        other,
+        start,
+        end,
+        ..
+    } = others;
+    name.starts_with(start)
+        && name.ends_with(end)
+        && !name.starts_with(end)
+        && !name.ends_with(other)
+}
+
+/// Asks `www.Example.com.` of any kind for all that absolute names have.
+fn every_call_of_absolute<'a, N: AbsoluteLabels<'a>>(
+    rt: &impl Abort,
+    alloc: Global,
+    name: &'a N,
+    others: &'a Others<'a>,
+    wanted: Wanted<'_>,
+    flat: bool,
+) -> Result<(), Fail> {
+    assert!(rt; gives_labels(alloc, name, wanted)? && is_measured(name, wanted, flat));
+    assert!(rt; is_composed(alloc, name, wanted)?);
+    assert!(rt; is_made_flat(alloc, name, wanted)? && is_made_canonical(alloc, name, wanted)?);
+    assert!(rt; is_copied(alloc, name, wanted, flat)?);
+    assert!(rt; is_compared(name, others) && is_compared_on_the_wire(name, others));
+    assert!(rt; is_matched(name, others) && name.is_absolute() && name.rrsig_label_count() == 3);
+    let text = format!(in alloc; "{}", name.fmt_with_dot())?;
+    assert_eq!(rt; text.as_str(), "www.Example.com.");
+    Ok(())
+}
+
+fn is_relative_composed<'a, N: RelativeLabels<'a>>(
+    alloc: Global,
+    name: &'a N,
+    wanted: Wanted<'_>,
+) -> Result<bool, Fail> {
+    let mut plain = Vec::new(alloc);
+    name.compose(&mut plain)?;
+    let mut canonical = Vec::new(alloc);
+    name.compose_canonical(&mut canonical)?;
+    Ok(plain.as_slice() == wanted.wire && canonical.as_slice() == wanted.canonical)
+}
+
+fn is_made_flat_relative<'a, N: RelativeLabels<'a>>(
+    alloc: Global,
+    name: &'a N,
+    wanted: Wanted<'_>,
+) -> Result<bool, Fail> {
+    let made: RelativeName<Vec<u8>> = name.to_relative_name(alloc)?;
+    let tried: RelativeName<ArrayVec<u8, 12>> = name.try_to_relative_name(alloc)?;
+    Ok(made.as_slice() == wanted.wire && tried.as_slice() == wanted.wire)
+}
+
+fn is_made_canonical_relative<'a, N: RelativeLabels<'a>>(
+    alloc: Global,
+    name: &'a N,
+    wanted: Wanted<'_>,
+) -> Result<bool, Fail> {
+    let made: RelativeName<Vec<u8>> = name.to_canonical_relative_name(alloc)?;
+    let tried: RelativeName<ArrayVec<u8, 12>> = name.try_to_canonical_relative_name(alloc)?;
+    Ok(made.as_slice() == wanted.canonical && tried.as_slice() == wanted.canonical)
+}
+
+fn is_relative_copied<'a, N: RelativeLabels<'a>>(
+    alloc: Global,
+    name: &'a N,
+    wanted: Wanted<'_>,
+    flat: bool,
+) -> Result<bool, Fail> {
+    let owned = name.to_vec(alloc)?;
+    let cow = name.to_cow(alloc)?;
+    let same = owned.as_slice() == wanted.wire && cow.as_slice() == wanted.wire;
+    Ok(same && matches!(cow.as_octets(), CowSlice::Borrowed(_)) == flat)
+}
+
+fn is_relative_compared<'a, N: RelativeLabels<'a>>(
+    name: &'a N,
+    others: &'a RelativeOthers<'a>,
+) -> bool {
+    let RelativeOthers { twin, other, .. } = others;
+    name.name_eq(twin)
+        && !name.name_eq(other)
+        && name.name_cmp(twin) == Ordering::Equal
+        && name.name_cmp(other) == Ordering::Less
+}
+
+fn is_relative_matched<'a, N: RelativeLabels<'a>>(
+    name: &'a N,
+    others: &'a RelativeOthers<'a>,
+) -> bool {
+    let RelativeOthers {
+        start,
+        end,
+        root,
+        ..
+    } = others;
+    name.starts_with(start)
+        && name.ends_with(end)
+        && !name.starts_with(end)
+        && !name.ends_with(root)
+}
+
+/// Asks `www.Example` of any kind for all that relative names have and that lends the name.
+fn every_call_of_relative<'a, N: RelativeLabels<'a>>(
+    rt: &impl Abort,
+    alloc: Global,
+    name: &'a N,
+    others: &'a RelativeOthers<'a>,
+    wanted: Wanted<'_>,
+    flat: bool,
+) -> Result<(), Fail> {
+    assert!(rt; gives_labels(alloc, name, wanted)? && is_measured(name, wanted, flat));
+    assert!(rt; is_relative_composed(alloc, name, wanted)?);
+    assert!(rt; is_made_flat_relative(alloc, name, wanted)?);
+    assert!(rt; is_made_canonical_relative(alloc, name, wanted)?);
+    assert!(rt; is_relative_copied(alloc, name, wanted, flat)?);
+    assert!(rt; is_relative_compared(name, others) && is_relative_matched(name, others));
+    assert!(rt; !name.is_absolute() && !name.is_empty());
+    Ok(())
+}
+
+/// The chain of a relative name of any kind and an absolute name.
+fn chain_of_relative<'b, N: Relative + Copy>(
+    rt: &impl Abort,
+    name: N,
+    rest: Name<&'b [u8]>,
+) -> Chain<N, Name<&'b [u8]>> {
+    match name.chain(rest) {
+        Ok(chain) => chain,
+        Err(_) => panic!(rt; "too long"),
+    }
+}
+
+/// Whether no chain is made of a relative name of any kind and one that is too long for it.
+fn refuses_a_long_chain<N: Relative + Copy>(rt: &impl Abort, name: N) -> bool {
+    name.chain(relative(rt, LONG)).is_err()
+}
+
+#[test]
+fn absolute_names_have_every_call(rt: HostRuntime) -> Result<(), Fail> {
+    let alloc = rt.alloc();
+    let others = names_beside(&rt);
+    let name = absolute(&rt, ABSOLUTE.wire);
+    every_call_of_absolute(&rt, alloc, &name, &others, ABSOLUTE, true)?;
+    every_call_of_absolute(&rt, alloc, &&name, &others, ABSOLUTE, false)?;
+    let chain = joined(&rt, b"\x03www", b"\x07Example\x03com\0");
+    every_call_of_absolute(&rt, alloc, &chain, &others, ABSOLUTE, false)
+}
+
+#[test]
+fn absolute_names_of_another_type_have_every_call(rt: HostRuntime) -> Result<(), Fail> {
+    let alloc = rt.alloc();
+    let others = names_beside(&rt);
+    let name = absolute(&rt, ABSOLUTE.wire);
+    let flat = Numbered { name, number: 1 };
+    every_call_of_absolute(&rt, alloc, &flat, &others, ABSOLUTE, true)?;
+    let name = joined(&rt, b"\x03www\x07Example", b"\x03com\0");
+    let scattered = Numbered { name, number: 2 };
+    every_call_of_absolute(&rt, alloc, &scattered, &others, ABSOLUTE, false)?;
+    assert!(rt; flat.number == 1 && scattered.number == 2);
+    Ok(())
+}
+
+#[test]
+fn relative_names_have_every_call(rt: HostRuntime) -> Result<(), Fail> {
+    let alloc = rt.alloc();
+    let others = relative_names_beside(&rt);
+    let name = relative(&rt, RELATIVE.wire);
+    every_call_of_relative(&rt, alloc, &name, &others, RELATIVE, true)?;
+    every_call_of_relative(&rt, alloc, &&name, &others, RELATIVE, false)?;
+    let chain = relative_joined(&rt, b"\x03www", b"\x07Example");
+    every_call_of_relative(&rt, alloc, &chain, &others, RELATIVE, false)
+}
+
+#[test]
+fn relative_names_of_another_type_have_every_call(rt: HostRuntime) -> Result<(), Fail> {
+    let alloc = rt.alloc();
+    let others = relative_names_beside(&rt);
+    let name = relative(&rt, RELATIVE.wire);
+    let flat = Numbered { name, number: 1 };
+    every_call_of_relative(&rt, alloc, &flat, &others, RELATIVE, true)?;
+    let name = relative_joined(&rt, b"\x03www", b"\x07Example");
+    let scattered = Numbered { name, number: 2 };
+    every_call_of_relative(&rt, alloc, &scattered, &others, RELATIVE, false)
+}
+
+#[test]
+fn chains_of_each_kind_have_every_call(rt: HostRuntime) -> Result<(), Fail> {
+    let alloc = rt.alloc();
+    let others = names_beside(&rt);
+    let name = relative(&rt, RELATIVE.wire);
+    let com = absolute(&rt, b"\x03com\0");
+    let chain = chain_of_relative(&rt, name, com);
+    every_call_of_absolute(&rt, alloc, &chain, &others, ABSOLUTE, false)?;
+    let chain = chain_of_relative(&rt, &name, com);
+    every_call_of_absolute(&rt, alloc, &chain, &others, ABSOLUTE, false)?;
+    let chain = chain_of_relative(&rt, Numbered { name, number: 1 }, com);
+    every_call_of_absolute(&rt, alloc, &chain, &others, ABSOLUTE, false)
+}
+
+#[test]
+fn long_chains_of_each_kind_are_refused(rt: HostRuntime) {
+    let name = relative(&rt, RELATIVE.wire);
+    let chain = relative_joined(&rt, b"\x03www", b"\x07Example");
+    assert!(rt; refuses_a_long_chain(&rt, name) && refuses_a_long_chain(&rt, &name));
+    assert!(rt; refuses_a_long_chain(&rt, chain));
+    assert!(rt; refuses_a_long_chain(&rt, Numbered { name, number: 1 }));
+}
+
+/// The chain of a relative name of any kind and the root.
+fn with_root<'b, N: Relative + Copy>(name: N) -> Chain<N, Name<&'b [u8]>> {
+    name.chain_root()
+}
+
+#[test]
+fn roots_stand_behind_names_of_each_kind(rt: HostRuntime) -> Result<(), Fail> {
+    let alloc = rt.alloc();
+    let wanted = b"\x03www\x07Example\0".as_slice();
+    let name = relative(&rt, RELATIVE.wire);
+    assert!(rt; with_root(name).to_vec(alloc)?.as_slice() == wanted);
+    assert!(rt; with_root(&name).to_vec(alloc)?.as_slice() == wanted);
+    let chain = relative_joined(&rt, b"\x03www", b"\x07Example");
+    assert!(rt; with_root(chain).to_vec(alloc)?.as_slice() == wanted);
+    let numbered = Numbered { name, number: 1 };
+    assert!(rt; with_root(numbered).to_vec(alloc)?.as_slice() == wanted);
+    Ok(())
+}
+
 #[test]
 fn callers_get_octets(rt: HostRuntime) -> Result<(), Fail> {
     let alloc = rt.alloc();
@@ -175,6 +573,17 @@ fn callers_get_octets(rt: HostRuntime) -> Result<(), Fail> {
     let (octets, count) = signed(&chain, alloc)?;
     assert_eq!(rt; octets.as_slice(), WWW);
     assert_eq!(rt; count, 3);
+    Ok(())
+}
+
+#[test]
+fn flat_names_are_composed_lowered(rt: HostRuntime) -> Result<(), Fail> {
+    let flat = absolute(&rt, b"\x03wWw\x07exaMPle\x03com\0");
+    let mut octets = Vec::new(rt.alloc());
+    flat.compose_canonical(&mut octets)?;
+    assert_eq!(rt; octets.as_slice(), WWW);
+    let (octets, count) = signed(&flat, rt.alloc())?;
+    assert!(rt; octets.as_slice() == WWW && count == 3);
     Ok(())
 }
 

@@ -8,7 +8,7 @@ ghost use Rattle.domain_list.specs.Dotted.{dotted_name};
 ghost use Rattle.domain_name.specs.Names.{name_labels, name_holder};
 ghost use Rattle.domain_traits.specs.Room.{MayLackRoom};
 
-use crate::building::{build, build_canonical, finish_name, lend_or_build};
+use crate::building::{build, build_canonical, lend_or_build, name_of};
 use domain_list::composing::{compose_canonical_labels, compose_labels};
 use domain_list::counting::rrsig_count;
 use domain_list::{AbsoluteLabels, DisplayWithDot, NameLabels, ToLabelIter};
@@ -96,7 +96,7 @@ impl<'a, L: AbsoluteLabels<'a>> ToName<'a> for L {
     }
 
     fn to_cow(&'a self, alloc: Global) -> Result<Name<CowSlice<'a, u8>>, ShortBuf> {
-        Ok(Name::from_octets(lend_or_build(self, alloc)?).unwrap())
+        Ok(name_of(lend_or_build(self, alloc)?))
     }
 }
 
@@ -152,7 +152,7 @@ impl<'a, L: AbsoluteLabels<'a>> MakeName for &'a L {
         Octs::Builder: EmptyBuilder + Drop,
     {
         let target = build(self.iter_labels(), self.compose_len(), alloc)?;
-        Ok(finish_name(target))
+        Ok(name_of(Octs::from_builder(target)))
     }
 
     fn to_name<Octs: FromBuilder + Drop>(self, alloc: Global) -> Result<Name<Octs>, ShortBuf>
@@ -170,7 +170,7 @@ impl<'a, L: AbsoluteLabels<'a>> MakeName for &'a L {
         Octs::Builder: EmptyBuilder + Drop,
     {
         let target = build_canonical(self.iter_labels(), self.compose_len(), alloc)?;
-        Ok(finish_name(target))
+        Ok(name_of(Octs::from_builder(target)))
     }
 
     fn to_canonical_name<Octs: FromBuilder + Drop>(

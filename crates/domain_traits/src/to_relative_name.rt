@@ -8,7 +8,7 @@ ghost use Rattle.domain_list.specs.Chains.{before_root};
 ghost use Rattle.domain_name.specs.Names.{name_labels, relative_labels, relative_holder};
 ghost use Rattle.domain_traits.specs.Room.{MayLackRoom};
 
-use crate::building::{build, build_canonical, finish_relative_name, lend_or_build};
+use crate::building::{build, build_canonical, lend_or_build, relative_name_of};
 use domain_list::composing::{compose_canonical_labels, compose_labels};
 use domain_list::{Chain, LongChainError, NameLabels, Relative, RelativeLabels, ToLabelIter};
 use domain_name::{Name, RelativeName};
@@ -50,9 +50,11 @@ pub trait ToRelativeName<'a>: RelativeLabels<'a> {
     fn is_empty(&'a self) -> bool
         ensures { IsTrue result ↔ (Self.labels self.now ≡ []) };
 
-    /// The same name in one piece, over new octets. `ShortBuf` only where memory was refused.
+    /// The same name in one piece, over new octets. `ShortBuf` only where memory was refused, which the
+    /// name without labels doesn't ask for.
     fn to_vec(&'a self, alloc: Global) -> Result<RelativeName<Vec<u8>>, ShortBuf>
-        ensures { IfOk result (λ name. relative_labels name ≡ Self.labels self.now) };
+        ensures ok { IfOk result (λ name. relative_labels name ≡ Self.labels self.now) }
+        ensures err { OnErr result (0 < length (wire (Self.labels self.now))) };
 
     /// The same name in one piece. Its octets are lent where the name lies in one piece already, which
     /// `as_flat_slice` tells, and new ones else.
@@ -87,7 +89,7 @@ impl<'a, L: RelativeLabels<'a>> ToRelativeName<'a> for L {
     }
 
     fn to_cow(&'a self, alloc: Global) -> Result<RelativeName<CowSlice<'a, u8>>, ShortBuf> {
-        Ok(RelativeName::from_octets(lend_or_build(self, alloc)?).unwrap())
+        Ok(relative_name_of(lend_or_build(self, alloc)?))
     }
 }
 
@@ -152,7 +154,7 @@ impl<'a, L: RelativeLabels<'a>> MakeRelativeName for &'a L {
         Octs::Builder: EmptyBuilder + Drop,
     {
         let target = build(self.iter_labels(), self.compose_len(), alloc)?;
-        Ok(finish_relative_name(target))
+        Ok(relative_name_of(Octs::from_builder(target)))
     }
 
     fn to_relative_name<Octs: FromBuilder + Drop>(
@@ -173,7 +175,7 @@ impl<'a, L: RelativeLabels<'a>> MakeRelativeName for &'a L {
         Octs::Builder: EmptyBuilder + Drop,
     {
         let target = build_canonical(self.iter_labels(), self.compose_len(), alloc)?;
-        Ok(finish_relative_name(target))
+        Ok(relative_name_of(Octs::from_builder(target)))
     }
 
     fn to_canonical_relative_name<Octs: FromBuilder + Drop>(

@@ -20,6 +20,7 @@ returns c = record {
   plain = plain_names;
   plain_front = plain_front;
   skips = λ n m p ls x. names_skips x;
+  same_place = λ m p e f x s. (front_once x.2 s.front).2;
   skips_or_not = skips_or_not;
   skips_not_both = λ m p e d s f. skips_not_both s f;
   one_skip_fault = λ m p d e f g. one_skip_fault f g;

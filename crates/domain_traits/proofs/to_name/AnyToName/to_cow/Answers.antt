@@ -1,6 +1,9 @@
-use Rattle.domain_traits.proofs.Made.{absolute_made}
 use Rattle.domain_traits.proofs.to_name.AnyToName.to_cow.Goals as goal
 
-pub unwrap-requires : goal.unwrap-requires
-unwrap-requires g c =
-    c.from_octets.ensures.accepts.1 (absolute_made _ _ c.in_ok-lend_or_build.ensures.ok (g.met.L.Absolute.absolute c.args.self.now))
+pub name_of-requires : goal.name_of-requires
+name_of-requires g c =
+    (g.L.NameLabels.labels c.args.self.now, g.met.L.Absolute.absolute c.args.self.now, c.in_ok-lend_or_build.ensures.ok)
+
+pub returns-clause-ok : goal.returns-clause-ok
+returns-clause-ok g c =
+    c.name_of.ensures.list _ (g.met.L.Absolute.absolute c.args.self.now) c.in_ok-lend_or_build.ensures.ok

@@ -1,6 +1,9 @@
-use Rattle.domain_traits.proofs.Made.{relative_made}
 use Rattle.domain_traits.proofs.to_relative_name.AnyToRelativeName.to_cow.Goals as goal
 
-pub unwrap-requires : goal.unwrap-requires
-unwrap-requires g c =
-    c.from_octets.ensures.accepts.1 (relative_made _ _ c.in_ok-lend_or_build.ensures.ok (g.met.L.Relative.relative c.args.self.now))
+pub relative_name_of-requires : goal.relative_name_of-requires
+relative_name_of-requires g c =
+    (g.L.NameLabels.labels c.args.self.now, g.met.L.Relative.relative c.args.self.now, c.in_ok-lend_or_build.ensures.ok)
+
+pub returns-clause-ok : goal.returns-clause-ok
+returns-clause-ok g c =
+    c.relative_name_of.ensures.list _ (g.met.L.Relative.relative c.args.self.now) c.in_ok-lend_or_build.ensures.ok

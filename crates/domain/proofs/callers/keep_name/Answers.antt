@@ -1,0 +1,7 @@
+use Rattle.std.specs.Prelude.{Some, refl}
+use Rattle.octseq.proofs.Limits.{taken_within_limit}
+use Rattle.domain.proofs.callers.keep_name.Goals as goal
+
+pub returns-clause-made : goal.returns-clause-made
+returns-clause-made c =
+    taken_within_limit (Some 255) 255 _ _ refl c.flatten_into.ensures.err c.args.name.absolute.1
