@@ -13,3 +13,4 @@ pub mod Parsing
 pub mod FlatNames
 pub mod Past
 pub mod Splitting
+pub mod Shapes
