@@ -1,6 +1,6 @@
 //! Wire forms and flat names made of labels. The calls of names stand on these functions, which are
 //! one body each for absolute and relative names of every kind.
-ghost use Rattle.std.specs.Prelude.{◌≡◌, ℕ, List, length, IfOk, IsOkAnd, OnErr};
+ghost use Rattle.std.specs.Prelude.{◌≡◌, ◌<◌, ℕ, List, length, IfOk, IsOkAnd, OnErr};
 ghost use Rattle.std.specs.Cow.{cow_slice_items, IsBorrowedSlice};
 ghost use Rattle.domain_label.specs.Low.{low_all};
 ghost use Rattle.domain_label.specs.Wire.{wire, IsAbsoluteName, IsRelativeName};
@@ -17,7 +17,8 @@ use std::borrow::CowSlice;
 /// A new builder that has the wire form of the labels that are left. Room for its `size` octets is asked
 /// for once, before anything is appended.
 ///
-/// `ShortBuf` where the octets exceed a fixed room, or where memory was refused. No octets ask for none.
+/// `ShortBuf` where the octets exceed a fixed room, or where memory was refused. No octets are never
+/// refused.
 pub(crate) fn build<'a, I: LabelIterator<'a>, B: EmptyBuilder + Drop>(
     labels: I,
     size: u16,
@@ -53,13 +54,14 @@ pub(crate) fn build_canonical<'a, I: LabelIterator<'a>, B: EmptyBuilder + Drop>(
 
 /// The wire form of a name: lent where it lies in one piece, else put together.
 ///
-/// `ShortBuf` only where it doesn't lie in one piece and memory was refused.
+/// `ShortBuf` only where it doesn't lie in one piece, has octets, and memory was refused.
 pub(crate) fn lend_or_build<'a, N: ToLabelIter<'a>>(
     name: &'a N,
     alloc: Global,
 ) -> Result<CowSlice<'a, u8>, ShortBuf>
     ensures ok { IfOk result (λ octets. cow_slice_items octets ≡ wire (N.labels name.now)) }
     ensures flat { N.lies_flat name.now → IsOkAnd result IsBorrowedSlice }
+    ensures err { OnErr result (0 < length (wire (N.labels name.now))) }
 {
     match name.as_flat_slice() {
         Some(flat) => Ok(CowSlice::Borrowed(flat)),

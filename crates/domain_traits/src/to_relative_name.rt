@@ -59,10 +59,11 @@ pub trait ToRelativeName<'a>: RelativeLabels<'a> {
     /// The same name in one piece. Its octets are lent where the name lies in one piece already, which
     /// `as_flat_slice` tells, and new ones else.
     ///
-    /// `ShortBuf` only where octets are new and memory was refused.
+    /// `ShortBuf` only where octets are new and memory was refused; the name without labels has none.
     fn to_cow(&'a self, alloc: Global) -> Result<RelativeName<CowSlice<'a, u8>>, ShortBuf>
         ensures ok { IfOk result (λ name. relative_labels name ≡ Self.labels self.now) }
-        ensures flat { Self.lies_flat self.now → IsOkAnd result (λ name. IsBorrowedSlice (relative_holder name)) };
+        ensures flat { Self.lies_flat self.now → IsOkAnd result (λ name. IsBorrowedSlice (relative_holder name)) }
+        ensures err { OnErr result (0 < length (wire (Self.labels self.now))) };
 }
 
 impl<'a, L: RelativeLabels<'a>> ToRelativeName<'a> for L {
