@@ -1,5 +1,6 @@
 //! Flat names: what is read, what is shown, the parts of names, and names compared.
-ghost use Rattle.std.specs.Prelude.{◌≡◌, ◌++◌, ◌∷◌, ◌+◌, ℕ, List, length, IfSome};
+ghost use Rattle.std.specs.Prelude.{◌≡◌, ◌++◌, ◌∷◌, ◌+◌, ◌↔◌, ℕ, List, length, IfSome, IsSome};
+ghost use Rattle.domain_flat.specs.Flat.{IsLabelStart};
 ghost use Rattle.domain_label.specs.Wire.{wire};
 ghost use Rattle.domain_name.specs.Names.{name_labels, relative_labels};
 
@@ -64,10 +65,11 @@ fn long_octets(alloc: Global, rt: &impl Abort, more: &[u8]) -> Vec<u8> {
     octets
 }
 
-/// The first label of a name, as a name. `None` for the root.
+/// The first label of a name, as a name. `None` where no label begins behind it, as for the root.
 fn host<'a>(name: &'a Name<&'a [u8]>) -> Option<RelativeName<&'a [u8]>>
     ensures front { IfSome result (λ host. (zone : List (List ℕ)) × (name_labels name.now ≡ relative_labels host ++ zone)) }
     ensures first { IfSome result (λ host. (label : List ℕ) × (rest : List (List ℕ)) × (name_labels name.now ≡ label ∷ rest) × (length (wire (relative_labels host)) ≡ length label + 1)) }
+    ensures some { (label : List ℕ) → (rest : List (List ℕ)) → name_labels name.now ≡ label ∷ rest → (IsSome result ↔ IsLabelStart (name_labels name.now) (length label + 1)) }
 {
     let first = name.first().len() + 1;
     if name.is_label_start(first) {

@@ -17,8 +17,8 @@ use std::borrow::CowSlice;
 /// A new builder that has the wire form of the labels that are left. Room for its `size` octets is asked
 /// for once, before anything is appended.
 ///
-/// `ShortBuf` where the octets exceed a fixed room, or where memory was refused. No octets are never
-/// refused.
+/// `ShortBuf` where the octets exceed a fixed room, or where memory was refused. A name without octets
+/// is never refused.
 pub(crate) fn build<'a, I: LabelIterator<'a>, B: EmptyBuilder + Drop>(
     labels: I,
     size: u16,
