@@ -1,11 +1,12 @@
 -- What the engines of the program read and write.
-use Rattle.std.specs.Prelude.{ℕ, List, [], ◌∷◌, ◌++◌, Option, IfSome, Result, Ok, Err, ⊤, codes}
-use Rattle.std.specs.Io.KnownBytes.{Appends, Keeps, IsAtEnd}
+use Rattle.std.specs.Prelude.{◌≡◌, ℕ, ◌^◌, ◌<◌, ◌≤◌, List, [], ◌∷◌, ◌++◌, length, Option, IfSome, Result, Ok, Err, ⊤, codes}
+use Rattle.std.specs.Str.Parse.{IsNumeral, digits_value}
+use Rattle.std.specs.Io.KnownBytes.{Appends}
 use Rattle.domain_wire.specs.declared.error.ParseError.{ParseError}
 use Rattle.domain_wire.specs.Refusals.{refusal, refusal_text}
 use Rattle.domain_label.specs.Text.{dotted}
-use Rattle.domain_parsed.specs.Grammar.{Names}
-use Rattle.domain_parsed.specs.Outcomes.{HasNoName}
+use Rattle.domain_reading.specs.Grammar.{Names}
+use Rattle.domain_reading.specs.Outcomes.{HasNoName}
 use Rattle.domain.specs.declared.tool.ToolError.{ToolError}
 use Rattle.domain.specs.declared.tool.ToolError.TheVariants.{Parse, Read, Write, Memory}
 
@@ -17,14 +18,40 @@ WritesNameAt m p old new = (ls : List (List ℕ)) × Names 255 m p ls × Appends
 abbrev pub NoNameAt : List ℕ → ℕ → ParseError → Type 0
 NoNameAt m p e = HasNoName 255 m p (refusal e)
 
--- What the end of `name_at` says: input is what was there to be read, and left what is left of it; old is
--- what the output held before, and new what it holds now.
-abbrev pub NameAtEnds : Result (Unit {0}) ToolError → ℕ → Option (List ℕ) → Option (List ℕ) → Option (List ℕ) → Option (List ℕ) → Type 0
-NameAtEnds (Ok done) p input left old new = IsAtEnd left × IfSome input (λ m. WritesNameAt m p old new)
-NameAtEnds (Err (Parse e)) p input left old new = IsAtEnd left × IfSome input (λ m. NoNameAt m p e) × Keeps old new
-NameAtEnds (Err Read) p input left old new = Keeps old new
-NameAtEnds (Err Write) p input left old new = ⊤
-NameAtEnds (Err Memory) p input left old new = ⊤
+-- The engine answered: it did its work, or the input isn't what is asked for.
+abbrev pub OnAnswer : Result (Unit {0}) ToolError → Type 0 → Type 0
+OnAnswer (Ok done) P = P
+OnAnswer (Err (Parse e)) P = P
+OnAnswer (Err Read) P = ⊤
+OnAnswer (Err Write) P = ⊤
+OnAnswer (Err Memory) P = ⊤
+
+-- The input isn't what is asked for, and P holds of the reason.
+abbrev pub IfRefused : Result (Unit {0}) ToolError → (ParseError → Type 0) → Type 0
+IfRefused (Ok done) P = ⊤
+IfRefused (Err (Parse e)) P = P e
+IfRefused (Err Read) P = ⊤
+IfRefused (Err Write) P = ⊤
+IfRefused (Err Memory) P = ⊤
+
+-- The input isn't what is asked for, or couldn't be read.
+abbrev pub OnNoWork : Result (Unit {0}) ToolError → Type 0 → Type 0
+OnNoWork (Ok done) P = ⊤
+OnNoWork (Err (Parse e)) P = P
+OnNoWork (Err Read) P = P
+OnNoWork (Err Write) P = ⊤
+OnNoWork (Err Memory) P = ⊤
+
+-- The word is the place: one to ten decimal digits, whose number is at most 4,294,967,295.
+pub record TellsPlace (word : List ℕ) (place : ℕ) : Type 0 where
+  pub short : length word ≤ 10
+  pub digits : IsNumeral 10 word
+  pub number : place ≡ digits_value 10 word
+  pub small : place < 2 ^ 32
+
+-- The words ask for the name at the place.
+abbrev pub AsksAt : List (List ℕ) → ℕ → Type 0
+AsksAt words place = (word : List ℕ) × (words ≡ codes "at" ∷ word ∷ []) × TellsPlace word place
 
 -- what an error shows
 abbrev pub tool_error_text : ToolError → List ℕ

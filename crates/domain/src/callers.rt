@@ -9,7 +9,7 @@ ghost use Rattle.domain_list.specs.Ends.{EndsWith};
 ghost use Rattle.domain_list.specs.Feed.{feed};
 ghost use Rattle.domain_list.specs.Order.{order};
 ghost use Rattle.domain_name.specs.Names.{name_labels};
-ghost use Rattle.domain_parsed.specs.Grammar.{Names};
+ghost use Rattle.domain_reading.specs.Grammar.{Names};
 ghost use Rattle.domain_parsed.specs.Views.{parsed_labels};
 ghost use Rattle.octseq.specs.Parsing.{message, place};
 

@@ -4,6 +4,7 @@
 pub mod base;
 #[cfg(test)]
 mod callers;
+mod line;
 #[cfg(test)]
 mod tests;
 pub mod tool;

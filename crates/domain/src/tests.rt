@@ -361,3 +361,57 @@ fn errors_of_the_tools_have_texts(rt: HostRuntime) -> Result<(), Fail> {
 fn the_paths_of_callers_lead_to_the_calls(rt: HostRuntime) {
     assert!(rt; Label::root().is_root());
 }
+
+/// A writer that takes all octets, and counts the calls.
+#[derive(Drop)]
+struct CountingWriter {
+    calls: u32,
+    octets: usize,
+}
+
+impl Write for CountingWriter {
+    fn write(&mut self, buf: &[u8]) -> io::Result<usize> {
+        self.calls = self.calls.saturating_add(1);
+        self.octets = self.octets.saturating_add(buf.len());
+        Ok(buf.len())
+    }
+
+    fn flush(&mut self) -> io::Result<()> {
+        Ok(())
+    }
+}
+
+#[test]
+fn a_line_is_written_by_one_call(rt: HostRuntime) {
+    let alloc = rt.alloc();
+    // Three labels of 63 octets and one of 61, each octet four characters.
+    let mut longest: Vec<u8> = Vec::new(alloc);
+    for len in [63u8, 63, 63, 61] {
+        assert!(rt; longest.push(len).is_ok());
+        for _ in 0..len {
+            assert!(rt; longest.push(0x80).is_ok());
+        }
+    }
+    assert!(rt; longest.push(0).is_ok());
+    for (message, octets) in [(longest.as_slice(), 1005), (EXAMPLE, 17), (b"\0", 2)] {
+        let mut input = message;
+        let mut output = CountingWriter {
+            calls: 0,
+            octets: 0,
+        };
+        assert_eq!(rt; name_at(alloc, &mut input, &mut output, 0), Ok(()));
+        assert_eq!(rt; (output.calls, output.octets), (1, octets));
+    }
+    let mut input = EXAMPLE;
+    let mut output: Vec<u8> = Vec::new(alloc);
+    let mut told = CountingWriter {
+        calls: 0,
+        octets: 0,
+    };
+    assert_eq!(rt;
+        run(alloc, &["at", "99"], &mut input, &mut output, &mut told),
+        1
+    );
+    assert_eq!(rt; run(alloc, &[], &mut input, &mut output, &mut told), 2);
+    assert_eq!(rt; told.calls, 2);
+}

@@ -1,13 +1,15 @@
 //! The engines of the program `dnsnames`, over any reader and writer.
-ghost use Rattle.std.specs.Prelude.{◌≡◌, ◌≤◌, ◌∷◌, ◌++◌, [], ℕ, List, drop, ◌⊎◌, OnOk, IfOk, IfErr, IfSome, IsOk};
+ghost use Rattle.std.specs.Prelude.{◌≡◌, ◌≤◌, ◌∷◌, ◌++◌, ◌↔◌, [], ℕ, List, map, slice_index, ◌⊎◌, OnOk, IfOk, IfErr, IfSome, IsNone, IsTrue};
 ghost use Rattle.std.specs.Io.KnownBytes.{Appends, Keeps, IsAtEnd};
 ghost use Rattle.domain_label.specs.Text.{dotted};
-ghost use Rattle.domain_parsed.specs.Grammar.{Names};
+ghost use Rattle.domain_reading.specs.Grammar.{Names};
 ghost use Rattle.domain_parsed.specs.Views.{parsed_labels};
-ghost use Rattle.domain.specs.Engines.{NameAtEnds, NoNameAt, WritesNameAt};
+ghost use Rattle.domain.specs.Engines.{AsksAt, IfRefused, NoNameAt, OnAnswer, OnNoWork, TellsPlace, WritesNameAt};
+ghost use Rattle.domain_wire.specs.declared.error.ParseError.{ParseError};
 
 use crate::base::name::{DisplayWithDot, ParsedName};
 use crate::base::wire::ParseError;
+use crate::line::line_of;
 use octseq::Parser;
 use std::alloc::Global;
 use std::error::Error;
@@ -91,11 +93,16 @@ impl From<WriteFault> for ToolError {
     }
 }
 
-/// Writes a text and a newline.
+/// Writes a text and a newline. They are put together on the stack and written by one call, without any
+/// memory; a longer line is written piece by piece.
 fn write_line<D: fmt::Display + Drop, W: Write>(output: &mut W, text: D) -> Result<(), WriteFault>
     ensures { OnOk result (IfSome (D.output text) (λ shown. Appends (W.contents output.old) (W.contents output.new) (shown ++ 10 ∷ []))) }
 {
-    match writeln!(output, "{text}") {
+    let written = match line_of(&text) {
+        Some(line) => output.write_all(line.as_slice()),
+        None => writeln!(output, "{text}"),
+    };
+    match written {
         Ok(()) => Ok(()),
         Err(e) if e.kind() == ErrorKind::OutOfMemory => Err(WriteFault::Memory),
         Err(_) => Err(WriteFault::Refused),
@@ -113,7 +120,10 @@ pub fn name_at<R: Read, W: Write>(
     output: &mut W,
     place: u32,
 ) -> Result<(), ToolError>
-    ensures { NameAtEnds result place (R.remaining input.old) (R.remaining input.new) (W.contents output.old) (W.contents output.new) }
+    ensures whole { OnAnswer result (IsAtEnd (R.remaining input.new)) }
+    ensures written { OnOk result (IfSome (R.remaining input.old) (λ m. WritesNameAt m place (W.contents output.old) (W.contents output.new))) }
+    ensures refused { IfRefused result (λ e. IfSome (R.remaining input.old) (λ m. NoNameAt m place e)) }
+    ensures nothing_written { OnNoWork result (Keeps (W.contents output.old) (W.contents output.new)) }
 {
     let octets = read_all(alloc, input)?;
     let name = match read_name(octets.as_slice(), place) {
@@ -125,12 +135,62 @@ pub fn name_at<R: Read, W: Write>(
 }
 
 /// The place that a word tells: one to ten decimal digits, at most 4,294,967,295.
-fn place_of(word: &str) -> Option<u32> {
-    let is_number = word.len() <= 10 && word.bytes().all(|octet| octet.is_ascii_digit());
-    if is_number { word.parse().ok() } else { None }
+fn place_of(word: &str) -> Option<u32>
+    ensures some { IfSome result (λ place. TellsPlace word.now place) }
+    ensures none { IsNone result → (place : ℕ) → TellsPlace word.now place → ⊥ }
+{
+    let word_octets = word.as_bytes();
+    if word_octets.len() > 10 || begins_with_plus(word_octets) {
+        return None;
+    }
+    word.parse().ok()
+}
+
+/// Whether the first octet is a plus sign, which a number may have before it elsewhere.
+fn begins_with_plus(octets: &[u8]) -> bool
+    ensures { IsTrue result ↔ (slice_index octets.now 0 ≡ 43) }
+{
+    match octets {
+        [first, ..] => *first == b'+',
+        [] => false,
+    }
+}
+
+/// The place whose name the words ask for.
+fn place_asked(words: &[&str]) -> Option<u32>
+    ensures some { IfSome result (λ place. AsksAt (map (λ word. word.now) words.now) place) }
+    ensures none { IsNone result → (place : ℕ) → AsksAt (map (λ word. word.now) words.now) place → ⊥ }
+{
+    match words {
+        ["at", word] => place_of(word),
+        _ => None,
+    }
 }
 
 const USAGE: &str = "usage: dnsnames at PLACE | dnsnames text NAME | dnsnames list";
+
+/// Does the work of `name_at`, and answers the status to end with. The reason is written to `errors`.
+fn at_place<R: Read, W: Write, E: Write>(
+    alloc: Global,
+    place: u32,
+    input: &mut R,
+    output: &mut W,
+    errors: &mut E,
+) -> u8
+    ensures status { (result ≤ 1) ⊎ (result ≡ 3) }
+    ensures done { result ≡ 0 → IfSome (R.remaining input.old) (λ m. WritesNameAt m place (W.contents output.old) (W.contents output.new)) }
+    ensures refused { result ≡ 1 → IfSome (R.remaining input.old) (λ m. (e : ParseError) × NoNameAt m place e) }
+    ensures nothing_written { result ≡ 1 → Keeps (W.contents output.old) (W.contents output.new) }
+{
+    let Err(e) = name_at(alloc, input, output, place) else {
+        return 0;
+    };
+    let _ = write_line(errors, e);
+    match e {
+        ToolError::Parse(_) => 1,
+        ToolError::Read | ToolError::Write | ToolError::Memory => 3,
+    }
+}
 
 /// Does what the words behind the program's name say, and answers the status to end with: 0 where it is
 /// done, 1 where the input is refused, 2 for other words, 3 where reading, writing or memory failed. The
@@ -142,24 +202,18 @@ pub fn run<R: Read, W: Write, E: Write>(
     output: &mut W,
     errors: &mut E,
 ) -> u8
-    ensures done { result ≡ 0 → IfSome (R.remaining input.old) (λ m. (place : ℕ) × WritesNameAt m place (W.contents output.old) (W.contents output.new)) }
+    ensures status { result ≤ 3 }
+    ensures done { result ≡ 0 → (place : ℕ) × AsksAt (map (λ word. word.now) words.now) place × IfSome (R.remaining input.old) (λ m. WritesNameAt m place (W.contents output.old) (W.contents output.new)) }
+    ensures refused { result ≡ 1 → (place : ℕ) × AsksAt (map (λ word. word.now) words.now) place × IfSome (R.remaining input.old) (λ m. (e : ParseError) × NoNameAt m place e) }
+    ensures nothing_written { result ≡ 1 → Keeps (W.contents output.old) (W.contents output.new) }
+    ensures usage { result ≡ 2 ↔ ((place : ℕ) → AsksAt (map (λ word. word.now) words.now) place → ⊥) }
+    ensures untouched { result ≡ 2 → (input.new ≡ input.old) × (output.new ≡ output.old) }
 {
-    let place = match words {
-        ["at", word] => place_of(word),
-        _ => None,
-    };
-    let Some(place) = place else {
-        let _ = write_line(errors, USAGE);
-        return 2;
-    };
-    match name_at(alloc, input, output, place) {
-        Ok(()) => 0,
-        Err(e) => {
-            let _ = write_line(errors, e);
-            match e {
-                ToolError::Parse(_) => 1,
-                ToolError::Read | ToolError::Write | ToolError::Memory => 3,
-            }
+    match place_asked(words) {
+        Some(place) => at_place(alloc, place, input, output, errors),
+        None => {
+            let _ = write_line(errors, USAGE);
+            2
         }
     }
 }

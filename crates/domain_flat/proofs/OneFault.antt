@@ -1,48 +1,20 @@
 -- The first fault of flat octets is one.
 use Rattle.std.proofs.Common.{◌≡◌, ℕ, suc, ◌≤◌, ◌<◌, ⊎_elim, List, [], ◌∷◌, ◌++◌, length, refl, sym, ◌∙◌, ap, subst, arith, append_assoc, codes}
 use Rattle.domain_label.specs.Wire.{wire, IsLabel, IsRelative}
-use Rattle.domain_label.specs.Splitting.{SplitFault, HeadFault}
+use Rattle.domain_label.specs.Splitting.{SplitFault}
 use Rattle.domain_label.specs.Told.{split_refusal}
 use Rattle.domain_wire.specs.Refusals.{Refusal, form}
 use Rattle.domain_label.specs.declared.split.SplitLabelError.{SplitLabelError}
 use Rattle.domain_label.specs.declared.split.SplitLabelError.TheVariants.{Pointer, BadType, ShortInput}
-use Rattle.domain_label.specs.declared.split.LabelTypeError.TheVariants.{Undefined, Extended}
+use Rattle.domain_label.proofs.SplitLaws.{split_once, split_not_label}
 use Rattle.domain_flat.specs.Flat.{Passed}
 use Rattle.domain_flat.specs.Told.{name_fault, relative_name_fault}
-use Rattle.domain_flat.proofs.Passing.{split_not_label, joined, no_octets}
+use Rattle.domain_flat.proofs.Passing.{joined, no_octets}
 use Rattle.domain_flat.specs.Faults.{AbsoluteFault, AbsoluteFaultAt, RelativeFault, RelativeFaultAt, StartFault, StartFaultAt}
 use Rattle.domain_flat.specs.declared.error.NameErrorKind.{NameErrorKind}
 use Rattle.domain_flat.specs.declared.error.NameErrorKind.TheVariants as absolute
 use Rattle.domain_flat.specs.declared.error.RelativeNameErrorKind.{RelativeNameErrorKind}
 use Rattle.domain_flat.specs.declared.error.RelativeNameErrorKind.TheVariants as relative
-
--- ---- why octets begin with no label is one
-
-head_once : (head : ℕ) (rest : List ℕ) (d e : SplitLabelError) → HeadFault head rest d → HeadFault head rest e → d ≡ e
-head_once head rest ShortInput ShortInput f g = refl
-head_once head rest ShortInput (BadType (Extended v)) f g = absurd (⊎_elim (λ a. omega (arith, a.0, g.1)) (λ b. omega (arith, b.0, g.2)) f)
-head_once head rest ShortInput (BadType Undefined) f g = absurd (⊎_elim (λ a. omega (arith, a.0, g.0)) (λ b. omega (arith, b.0, g.1)) f)
-head_once head [] ShortInput (Pointer p) f g = absurd g
-head_once head (c ∷ rest) ShortInput (Pointer p) f g = absurd (⊎_elim (λ a. omega (arith, a.0, g.0)) (λ b. let z : suc (length rest) ≡ 0 = ap length b.1 in omega (arith, z)) f)
-head_once head rest (BadType (Extended v)) ShortInput f g = absurd (⊎_elim (λ a. omega (arith, a.0, f.1)) (λ b. omega (arith, b.0, f.2)) g)
-head_once head rest (BadType (Extended v)) (BadType (Extended w)) f g = ap (λ x. BadType (Extended x)) (f.0 ∙ sym g.0)
-head_once head rest (BadType (Extended v)) (BadType Undefined) f g = absurd (omega (arith, f.2, g.0))
-head_once head [] (BadType (Extended v)) (Pointer p) f g = absurd g
-head_once head (c ∷ rest) (BadType (Extended v)) (Pointer p) f g = absurd (omega (arith, f.2, g.0))
-head_once head rest (BadType Undefined) ShortInput f g = absurd (⊎_elim (λ a. omega (arith, a.0, f.0)) (λ b. omega (arith, b.0, f.1)) g)
-head_once head rest (BadType Undefined) (BadType (Extended v)) f g = absurd (omega (arith, g.2, f.0))
-head_once head rest (BadType Undefined) (BadType Undefined) f g = refl
-head_once head [] (BadType Undefined) (Pointer p) f g = absurd g
-head_once head (c ∷ rest) (BadType Undefined) (Pointer p) f g = absurd (omega (arith, f.1, g.0))
-head_once head [] (Pointer p) e f g = absurd f
-head_once head (c ∷ rest) (Pointer p) ShortInput f g = absurd (⊎_elim (λ a. omega (arith, a.0, f.0)) (λ b. let z : suc (length rest) ≡ 0 = ap length b.1 in omega (arith, z)) g)
-head_once head (c ∷ rest) (Pointer p) (BadType (Extended v)) f g = absurd (omega (arith, g.2, f.0))
-head_once head (c ∷ rest) (Pointer p) (BadType Undefined) f g = absurd (omega (arith, g.1, f.0))
-head_once head (c ∷ rest) (Pointer p) (Pointer q) f g = ap Pointer (omega (arith, f.1, g.1))
-
-pub split_once : (o : List ℕ) (d e : SplitLabelError) → SplitFault o d → SplitFault o e → d ≡ e
-split_once [] d e f g = f ∙ sym g
-split_once (head ∷ rest) d e f g = head_once head rest d e f g
 
 -- ---- two walks over the same octets: one goes on where the other ends
 

@@ -4,8 +4,7 @@ use Rattle.std.proofs.Math.Seq.{take-append_seam}
 use Rattle.domain_label.specs.Wire.{wire, Root, IsLabel, IsRelative, IsAbsolute, IsAbsoluteName, IsAbsoluteWire, IsRelativeWire}
 use Rattle.domain_label.specs.Splitting.{BeginsWithLabel, SplitFault}
 use Rattle.domain_label.specs.declared.split.SplitLabelError.{SplitLabelError}
-use Rattle.domain_label.specs.declared.split.SplitLabelError.TheVariants.{Pointer, BadType, ShortInput}
-use Rattle.domain_label.specs.declared.split.LabelTypeError.TheVariants.{Undefined, Extended}
+use Rattle.domain_label.proofs.SplitLaws.{split_not_label}
 use Rattle.domain_label.proofs.WireLaws.{wire_append, wire_absolute, wire_relative, relative_then_relative, relative_then_absolute, absolute_labels, relative_labels}
 use Rattle.domain_flat.specs.Flat.{Passed, NameAt}
 
@@ -70,17 +69,6 @@ pub passed_of : (o : List ℕ) (fs ls : List (List ℕ)) (rest tail : List ℕ) 
 passed_of o fs ls rest tail p a e = left_of fs ls rest tail p.labels a (sym p.parts ∙ e)
 
 -- ---- where something is wrong, no list stands
-
-pub split_not_label : (l o rest : List ℕ) (e : SplitLabelError) → IsLabel l → o ≡ length l ∷ (l ++ rest) → SplitFault o e → ⊥
-split_not_label l [] rest e h eq f = cc
-split_not_label l (n ∷ o) rest ShortInput h eq f =
-    let head : n ≡ length l = cc in
-    let tail : o ≡ l ++ rest = cc in
-    ⊎_elim (λ a. omega (arith, a.1, head, ap length tail, length-append l rest)) (λ b. omega (arith, b.0, head, h)) f
-split_not_label l (n ∷ o) rest (BadType (Extended v)) h eq f = let head : n ≡ length l = cc in omega (arith, f.1, head, h)
-split_not_label l (n ∷ o) rest (BadType Undefined) h eq f = let head : n ≡ length l = cc in omega (arith, f.0, head, h)
-split_not_label l (n ∷ []) rest (Pointer p) h eq f = f
-split_not_label l (n ∷ b ∷ o) rest (Pointer p) h eq f = let head : n ≡ length l = cc in omega (arith, f.0, head, h)
 
 pub split_not_absolute : (ls : List (List ℕ)) (o rest : List ℕ) (e : SplitLabelError) → IsAbsolute ls → o ≡ wire ls ++ rest → SplitFault o e → ⊥
 split_not_absolute [] o rest e a eq f = a

@@ -1,5 +1,5 @@
 //! A label: a list of at most 63 octets.
-ghost use Rattle.std.specs.Prelude.{◌≡◌, ◌≤◌, ◌<◌, ◌+◌, ◌∷◌, [], Some, length, codes, IsTrue, ◌↔◌, IsErr, IfOk, IfErr};
+ghost use Rattle.std.specs.Prelude.{◌≡◌, ◌≤◌, ◌<◌, ◌+◌, ◌∷◌, [], Some, length, codes, IsTrue, ◌↔◌, IsErr, IsOk, ℕ, List, IfOk, IfErr};
 ghost use Rattle.std.specs.Iterator.Adapters.{copied_source};
 ghost use Rattle.std.specs.Slice.Iter.{iter_rest};
 ghost use Rattle.domain_label.specs.Wire.{IsLabel};
@@ -80,6 +80,7 @@ impl<'a> Label<'a> {
     /// a `BadType`. `ShortInput` where the head, an octet of the label or the second octet of the
     /// pointer is missing.
     pub fn split_from(octets: &'a [u8]) -> Result<(Label<'a>, &'a [u8]), SplitLabelError>
+        ensures exact { IsOk result ↔ ((l : List ℕ) × (rest : List ℕ) × BeginsWithLabel octets.now l rest) }
         ensures ok { IfOk result (λ parts. BeginsWithLabel octets.now (label_octets parts.0) parts.1.now) }
         ensures err { IfErr result (λ e. SplitFault octets.now e) }
     {

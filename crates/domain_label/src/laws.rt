@@ -1,8 +1,10 @@
 //! Laws of the definitions.
 ghost use Rattle.std.specs.Prelude.{◌≡◌, ℕ, List, length};
 ghost use Rattle.domain_label.specs.Lending.{with_octets};
+ghost use Rattle.domain_label.specs.Splitting.{BeginsWithLabel, SplitFault};
 ghost use Rattle.domain_label.specs.Views.{owned_octets};
 ghost use Rattle.domain_label.specs.Wire.{wire, labels_in, IsAbsolute, IsRelative};
+ghost use Rattle.domain_label.specs.declared.split.SplitLabelError.{SplitLabelError};
 
 use crate::owned::OwnedLabel;
 
@@ -18,4 +20,12 @@ pub fn wire_laws()
 /// are as many, are its octets.
 pub fn lent_laws()
     ensures { (l : OwnedLabel) (ws : List ℕ) → length ws ≡ length (owned_octets l) → owned_octets (with_octets l ws) ≡ ws }
+{}
+
+/// Octets begin with one label, or with none for one reason, and never both. That one of the two always
+/// stands is the contract of `Label::split_from`.
+pub fn split_laws()
+    ensures one_label { (o a b r s : List ℕ) → BeginsWithLabel o a r → BeginsWithLabel o b s → (a ≡ b) × (r ≡ s) }
+    ensures one_fault { (o : List ℕ) (d e : SplitLabelError) → SplitFault o d → SplitFault o e → d ≡ e }
+    ensures not_both { (o l rest : List ℕ) (e : SplitLabelError) → BeginsWithLabel o l rest → SplitFault o e → ⊥ }
 {}

@@ -1,5 +1,5 @@
 //! Writing names in wire form, without compression (RFC 1035, 3.1).
-ghost use Rattle.std.specs.Prelude.{◌≡◌, ◌≤◌, ◌<◌, ◌+◌, ◌∷◌, ◌++◌, length, take, OnOk, OnErr};
+ghost use Rattle.std.specs.Prelude.{◌≡◌, ◌≤◌, ◌<◌, ◌+◌, ◌∷◌, ◌++◌, length, take, IfSome, OnOk, OnErr};
 ghost use Rattle.domain_label.specs.Low.{low, low_all};
 ghost use Rattle.domain_label.specs.Views.{label_octets};
 ghost use Rattle.domain_label.specs.Wire.{wire};
@@ -62,15 +62,19 @@ pub fn compose_labels<'a, I: LabelIterator<'a>, Target: OctetsBuilder>(
     ensures err { OnErr result (Target.octets target.new ≡ Target.octets target.old) }
     ensures full { OnErr result (Target.capacity target.old < length (Target.octets target.old) + length (wire (I.left labels))) }
     ensures capacity { Target.capacity target.old ≤ Target.capacity target.new }
+    ensures within { IfSome Target.limit (λ n. length (Target.octets target.new) ≤ n) }
+    ensures fixed { IfSome Target.limit (λ n. Target.capacity target.old ≡ n) }
 {
     let mut labels = labels;
     let start = target.as_slice().len();
     while let Some(label) = labels.next() {
         if let Err(e) = append_label(&label, target) {
             target.truncate(start);
+            target.keep_limit();
             return Err(e);
         }
     }
+    target.keep_limit();
     Ok(())
 }
 
@@ -86,14 +90,18 @@ pub fn compose_canonical_labels<'a, I: LabelIterator<'a>, Target: OctetsBuilder>
     ensures err { OnErr result (Target.octets target.new ≡ Target.octets target.old) }
     ensures full { OnErr result (Target.capacity target.old < length (Target.octets target.old) + length (wire (low_all (I.left labels)))) }
     ensures capacity { Target.capacity target.old ≤ Target.capacity target.new }
+    ensures within { IfSome Target.limit (λ n. length (Target.octets target.new) ≤ n) }
+    ensures fixed { IfSome Target.limit (λ n. Target.capacity target.old ≡ n) }
 {
     let mut labels = labels;
     let start = target.as_slice().len();
     while let Some(label) = labels.next() {
         if let Err(e) = append_lowered_label(&label, target) {
             target.truncate(start);
+            target.keep_limit();
             return Err(e);
         }
     }
+    target.keep_limit();
     Ok(())
 }

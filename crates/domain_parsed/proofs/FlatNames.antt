@@ -3,11 +3,11 @@ use Rattle.std.proofs.Common.{◌≡◌, ℕ, ◌+◌, List, [], length, slice_r
 use Rattle.std.proofs.lemmas.Grind.{common_steps}
 use Rattle.std.proofs.lemmas.List.{append-nil}
 use Rattle.domain_label.specs.Wire.{wire, labels_in, IsAbsoluteName, IsAbsoluteWire}
-use Rattle.domain_parsed.specs.Grammar.{Names}
-use Rattle.domain_parsed.specs.Labels.{labels_at}
-use Rattle.domain_parsed.proofs.Reading.{names_within}
-use Rattle.domain_parsed.proofs.Naming.{labels_named}
-use Rattle.domain_parsed.proofs.Plain.{plain_names}
+use Rattle.domain_reading.specs.Grammar.{Names}
+use Rattle.domain_reading.specs.Labels.{labels_at}
+use Rattle.domain_reading.proofs.Reading.{names_within}
+use Rattle.domain_reading.proofs.Naming.{labels_named}
+use Rattle.domain_reading.proofs.Plain.{plain_names}
 
 pub record WholeName (o : List ℕ) (n : ℕ) : Type 0 where
   pub same : labels_at o 0 ≡ labels_in o

@@ -1,14 +1,4 @@
-pub mod Reading
-pub mod Walking
-pub mod Fronts
-pub mod Naming
-pub mod Within
-pub mod Going
-pub mod Done
-pub mod Steps
 pub mod Parents
-pub mod Skipping
-pub mod Plain
 pub mod Parsing
 pub mod FlatNames
 pub mod Past

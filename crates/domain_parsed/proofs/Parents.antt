@@ -6,11 +6,11 @@ use Rattle.std.proofs.lemmas.Bool.{cases_lt, false≢true}
 use Rattle.std.proofs.lemmas.Bool.Decides.{eqb_tells}
 use Rattle.std.specs.Bool.{IsTrue}
 use Rattle.domain_label.specs.Wire.{wire, Root, IsAbsolute}
-use Rattle.domain_parsed.specs.Grammar.{Reads, root, label, pointer, Names}
-use Rattle.domain_parsed.specs.Labels.{labels_at, FirstLabel}
-use Rattle.domain_parsed.proofs.Reading.{names_absolute}
-use Rattle.domain_parsed.proofs.Naming.{name_from_some, labels_few, flat_inside, slice_join, slice_one}
-use Rattle.domain_parsed.proofs.Steps.{named_at}
+use Rattle.domain_reading.specs.Grammar.{Reads, root, label, pointer, Names}
+use Rattle.domain_reading.specs.Labels.{labels_at, FirstLabel}
+use Rattle.domain_reading.proofs.Reading.{names_absolute}
+use Rattle.domain_reading.proofs.Naming.{name_from_some, labels_few, flat_inside, slice_join, slice_one}
+use Rattle.domain_reading.proofs.Steps.{named_at}
 
 pub reads_one : {m : List ℕ} {p k : ℕ} {ls : List (List ℕ)} → Reads m p k ls → length (wire ls) ≡ 1 → ls ≡ Root
 reads_one (root x) e = refl

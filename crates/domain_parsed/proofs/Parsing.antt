@@ -5,19 +5,19 @@ use Rattle.std.proofs.lemmas.List.{take-append-drop}
 use Rattle.domain_label.specs.Wire.{wire}
 use Rattle.octseq.specs.declared.parse.Parser.{Parser}
 use Rattle.octseq.specs.Parsing.{message, place}
-use Rattle.domain_parsed.specs.Grammar.{OctetAt, PointerAt, Names, Flat, Front, Base, LiesInOnePiece}
-use Rattle.domain_parsed.specs.Grammar.Stop.{root as stop_root, pointer as stop_pointer}
-use Rattle.domain_parsed.specs.Grammar.Base.{here}
-use Rattle.domain_parsed.specs.Faults.{Fault, Skips, SkipFault}
-use Rattle.domain_parsed.specs.Labels.{labels_at}
-use Rattle.domain_parsed.specs.Outcomes.{NameRead, LiesPlainly}
-use Rattle.domain_parsed.specs.declared.fault.NameFault.{NameFault}
-use Rattle.domain_parsed.specs.declared.progress.Progress.{Progress}
-use Rattle.domain_parsed.proofs.Reading.{names_more, names_within, reads_once}
-use Rattle.domain_parsed.proofs.Walking.{names_or_fault}
-use Rattle.domain_parsed.proofs.Fronts.{front_once, not_in_one_piece, skips_not_both}
-use Rattle.domain_parsed.proofs.Naming.{labels_named}
-use Rattle.domain_parsed.proofs.Plain.{plain_names, plain_front}
+use Rattle.domain_reading.specs.Grammar.{OctetAt, PointerAt, Names, Flat, Front, Base, LiesInOnePiece}
+use Rattle.domain_reading.specs.Grammar.Stop.{root as stop_root, pointer as stop_pointer}
+use Rattle.domain_reading.specs.Grammar.Base.{here}
+use Rattle.domain_reading.specs.Faults.{Fault, Skips, SkipFault}
+use Rattle.domain_reading.specs.Labels.{labels_at}
+use Rattle.domain_reading.specs.Outcomes.{NameRead, LiesPlainly}
+use Rattle.domain_reading.specs.declared.fault.NameFault.{NameFault}
+use Rattle.domain_reading.specs.declared.progress.Progress.{Progress}
+use Rattle.domain_reading.proofs.Reading.{names_more, names_within, reads_once}
+use Rattle.domain_reading.proofs.Walking.{names_or_fault}
+use Rattle.domain_reading.proofs.Fronts.{front_once, not_in_one_piece, skips_not_both}
+use Rattle.domain_reading.proofs.Naming.{labels_named}
+use Rattle.domain_reading.proofs.Plain.{plain_names, plain_front}
 
 pub ok_not_err : {T E : Type 0} (r : Result T E) → IsErr r → IsOk r → ⊥
 ok_not_err (Ok x) e o = cc

@@ -1,9 +1,9 @@
 -- Where the first label of a name stands.
 use Rattle.std.proofs.Common.{◌≡◌, ℕ, ◌+◌, ◌-◌, ◌≤◌, ◌<◌, List, [], ◌∷◌, ◌++◌, length, slice_range, sym, ap, ◌∙◌, arith, append-nil}
 use Rattle.domain_label.specs.Wire.{wire, IsRelativeName}
-use Rattle.domain_parsed.specs.Grammar.{LabelAt}
-use Rattle.domain_parsed.specs.Labels.{LabelEndsAt}
-use Rattle.domain_parsed.proofs.Naming.{slice_join, slice_one}
+use Rattle.domain_reading.specs.Grammar.{LabelAt}
+use Rattle.domain_reading.specs.Labels.{LabelEndsAt}
+use Rattle.domain_reading.proofs.Naming.{slice_join, slice_one}
 
 -- a label with its length octet
 pub label_slice : (m l : List ℕ) (p : ℕ) → LabelAt m p l → slice_range m p (p + 1 + length l) ≡ wire (l ∷ [])

@@ -1,8 +1,2 @@
-pub mod Grammar
-pub mod Faults
-pub mod Labels
-pub mod Heads
-pub mod Progress
 pub mod Views
-pub mod Outcomes
 pub mod Splitting

@@ -4,7 +4,7 @@ use Rattle.octseq.specs.declared.octets.Octets.{Ghosts}
 use Rattle.domain_parsed.specs.declared.parsed.ParsedName.{ParsedName}
 use Rattle.domain_parsed.specs.declared.iter.ParsedNameIter.{ParsedNameIter}
 use Rattle.domain_parsed.specs.declared.suffixes.ParsedSuffixIter.{ParsedSuffixIter}
-use Rattle.domain_parsed.specs.Labels.{labels_at, labels_within}
+use Rattle.domain_reading.specs.Labels.{labels_at, labels_within}
 
 -- the octets that the name lies in
 abbrev pub parsed_octets : {O : Type 0} {g : Ghosts O} → ParsedName O g → List ℕ

@@ -1,12 +1,13 @@
 //! Names in a message made flat.
-ghost use Rattle.std.specs.Prelude.{length};
+ghost use Rattle.std.specs.Prelude.{◌≡◌, length};
 ghost use Rattle.domain_label.specs.Wire.{wire};
+ghost use Rattle.domain_name.specs.Names.{name_labels};
 ghost use Rattle.domain_parsed.specs.Views.{parsed_labels};
 ghost use Rattle.domain_traits.specs.Room.{MayLackRoom};
 
 use crate::parsed::ParsedName;
 use domain_name::Name;
-use domain_traits::{FlattenInto, MakeName};
+use domain_traits::{FlattenInto, FlattenName, MakeName};
 use octseq::{EmptyBuilder, FromBuilder, Octets, ShortBuf};
 use std::alloc::Global;
 
@@ -17,6 +18,8 @@ impl<Octs: Octets + Drop, Target: FromBuilder + Drop> FlattenInto<Name<Target>> 
 where
     Target::Builder: EmptyBuilder + Drop,
 {
+    ghost same = { λ name made. name_labels made ≡ parsed_labels name };
+
     ghost may_refuse = { λ name. MayLackRoom Target.Builder.ROOM (length (wire (parsed_labels name))) };
 
     fn try_flatten_into(self, alloc: Global) -> Result<Name<Target>, ShortBuf> {
@@ -26,4 +29,11 @@ where
     fn flatten_into(self, alloc: Global) -> Result<Name<Target>, ShortBuf> {
         self.try_flatten_into(alloc)
     }
+}
+
+impl<Octs: Octets + Drop, Target: FromBuilder + Drop> FlattenName<Name<Target>> for ParsedName<Octs>
+where
+    Target::Builder: EmptyBuilder + Drop,
+{
+    ghost same_labels = { λ name made same. same };
 }

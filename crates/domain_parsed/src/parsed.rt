@@ -2,17 +2,18 @@
 ghost use Rattle.std.specs.Prelude.{◌≡◌, ◌≤◌, ◌<◌, ◌+◌, ◌∷◌, ◌++◌, ◌↔◌, ℕ, List, [], length, slice_range, IfOk, IfErr, IfSome, IsSome, IsNone, OnOk, OnErr, IsOk, IsTrue, MatchBool, MatchResult, true, false, ⊤};
 ghost use Rattle.domain_label.specs.Wire.{wire, Root, IsAbsoluteName};
 ghost use Rattle.domain_label.proofs.WireLaws.{IsAbsoluteName_prop};
-ghost use Rattle.domain_parsed.specs.Grammar.{Names, LiesInOnePiece};
+ghost use Rattle.domain_reading.specs.Grammar.{Names, LiesInOnePiece};
 ghost use Rattle.domain_label.specs.Views.{label_octets};
-ghost use Rattle.domain_parsed.specs.Labels.{labels_at};
+ghost use Rattle.domain_reading.specs.Labels.{labels_at};
 
-use crate::iter::{ParsedNameIter, first_label};
-use crate::read::read_name;
-use crate::skip::front_end;
+use crate::iter::ParsedNameIter;
 use crate::suffixes::ParsedSuffixIter;
 use arrayvec::ArrayVec;
 use domain_label::Label;
 use domain_name::{Name, RelativeName};
+use domain_reading::first::first_label;
+use domain_reading::read::read_name;
+use domain_reading::skip::front_end;
 use domain_wire::ParseError;
 use octseq::{Octets, OctetsFrom, Parser, ShortBuf};
 use std::alloc::{AllocError, Global};
@@ -51,8 +52,8 @@ impl<Octs: Octets + Copy> Clone for ParsedName<Octs> {
 impl<'a> ParsedName<&'a [u8]> {
     ghost use Rattle.domain_parsed.specs.Views.{parsed_octets, parsed_labels, is_scattered};
     ghost use Rattle.octseq.specs.Parsing.{whole, message, place};
-    ghost use Rattle.domain_parsed.specs.Faults.{Skips};
-    ghost use Rattle.domain_parsed.specs.Outcomes.{MovesBehindFront, TellsFault, SkipsFront, TellsSkipFault, LiesPlainly};
+    ghost use Rattle.domain_reading.specs.Faults.{Skips};
+    ghost use Rattle.domain_reading.specs.Outcomes.{MovesBehindFront, TellsFault, SkipsFront, TellsSkipFault, LiesPlainly};
 
     /// Reads the name at the parser's place, and moves the parser behind the name's root or first pointer.
     ///

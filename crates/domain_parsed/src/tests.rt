@@ -1,5 +1,6 @@
 //! Names of worked messages, and the slow reading of each message at every place.
-ghost use Rattle.std.specs.Prelude.{◌≡◌, ◌≤◌, ℕ, List, ◌∷◌, MatchBool, length};
+ghost use Rattle.std.specs.Prelude.{◌≡◌, ◌≤◌, ℕ, List, ◌∷◌, IfOk, MatchBool, length};
+ghost use Rattle.domain_name.specs.Names.{name_labels};
 ghost use Rattle.domain_parsed.specs.Views.{parsed_labels};
 
 use crate::slow_reader::{agrees_at_every_place, agrees_at_every_place_and_end, wire_of};
@@ -11,7 +12,7 @@ use domain_list::{
     ToLabelIter,
 };
 use domain_name::{Name, RelativeName};
-use domain_traits::{FlattenInto, MakeName, ToName};
+use domain_traits::{FlattenInto, FlattenName, MakeName, ToName};
 use domain_wire::ParseError;
 use octseq::{OctetsBuilder, OctetsFrom, Parser, ShortBuf};
 use std::alloc::Global;
@@ -967,6 +968,69 @@ fn names_in_messages_are_flattened(rt: HostRuntime) -> Result<(), Fail> {
         let none: Result<Name<ArrayVec<u8, 16>>, ShortBuf> = name.try_flatten_into(alloc);
         assert!(rt; made.as_slice() == b"\x03www\x07Example\x03com\0".as_slice());
         assert!(rt; tried.as_slice() == made.as_slice() && none.is_err());
+    }
+    Ok(())
+}
+
+/// The data of a record, as one for the exchange of mail: a number and a name.
+#[derive(Drop)]
+struct Exchange<N> {
+    preference: u16,
+    exchange: N,
+}
+
+impl<N: FlattenInto<Target>, Target> FlattenInto<Exchange<Target>> for Exchange<N> {
+    ghost same = { λ mail made. (made.preference ≡ mail.preference) × N.same mail.exchange made.exchange };
+
+    ghost may_refuse = { λ mail. N.may_refuse mail.exchange };
+
+    fn try_flatten_into(self, alloc: Global) -> Result<Exchange<Target>, ShortBuf> {
+        let Exchange {
+            preference,
+            exchange,
+        } = self;
+        let exchange = exchange.try_flatten_into(alloc)?;
+        Ok(Exchange {
+            preference,
+            exchange,
+        })
+    }
+
+    fn flatten_into(self, alloc: Global) -> Result<Exchange<Target>, ShortBuf> {
+        self.try_flatten_into(alloc)
+    }
+}
+
+/// The data of a record owned, once its message is let go.
+fn own_exchange(
+    mail: Exchange<ParsedName<&[u8]>>,
+    alloc: Global,
+) -> Result<Exchange<Name<Vec<u8>>>, ShortBuf>
+    ensures number { IfOk result (λ made. made.preference ≡ mail.entry.preference) }
+    ensures name { IfOk result (λ made. name_labels made.exchange ≡ parsed_labels mail.entry.exchange) }
+{
+    mail.flatten_into(alloc)
+}
+
+/// A name of any kind owned.
+fn own<N: FlattenName<Name<Vec<u8>>>>(name: N, alloc: Global) -> Result<Name<Vec<u8>>, ShortBuf>
+    ensures { IfOk result (λ made. name_labels made ≡ N.labels name) }
+{
+    name.flatten_into(alloc)
+}
+
+#[test]
+fn data_with_a_name_in_a_message_is_flattened(rt: HostRuntime) -> Result<(), Fail> {
+    let alloc = rt.alloc();
+    for (octets, place, _) in MIXED {
+        let mail = Exchange {
+            preference: 10,
+            exchange: name_at(&rt, octets, place),
+        };
+        let made = own_exchange(mail, alloc)?;
+        assert!(rt; made.preference == 10);
+        assert!(rt; made.exchange.as_slice() == b"\x03www\x07Example\x03com\0".as_slice());
+        assert!(rt; own(name_at(&rt, octets, place), alloc)? == made.exchange);
     }
     Ok(())
 }

@@ -6,27 +6,42 @@ use domain_name::Name;
 use octseq::{Octets, OctetsFrom, SameOctets, ShortBuf};
 use std::alloc::Global;
 
-/// A name that can be made a flat one over other octets, and is taken for it.
-pub trait FlattenInto<Target: NameLabels>: NameLabels + Sized {
-    /// The names that may be refused. No other ever is.
+/// A value that can be made a flat one, over octets of its own or of another kind, and is taken for it.
+///
+/// Names are made flat names. What has names in it, as the data of a record, is made the same over flat
+/// names. Generic code that needs to know that a flat name has the same labels asks for [`FlattenName`].
+pub trait FlattenInto<Target>: Sized {
+    /// What was made says the same as what it was made of.
+    ghost same: { Self → Target → Type 0 };
+
+    /// The values that may be refused. No other ever is.
     ghost may_refuse: { Self → Type 0 };
 
-    /// The flat name, which has the same labels.
+    /// The flat value.
     ///
-    /// `ShortBuf` only where the octets don't fit or memory was refused. A refused name is let go.
+    /// `ShortBuf` only where octets don't fit or memory was refused. A refused value is let go.
     fn try_flatten_into(self, alloc: Global) -> Result<Target, ShortBuf>
-        ensures ok { IfOk result (λ made. Target.labels made ≡ Self.labels self) }
+        ensures ok { IfOk result (λ made. same self made) }
         ensures err { OnErr result (may_refuse self) };
 
     /// The same as `try_flatten_into`.
     fn flatten_into(self, alloc: Global) -> Result<Target, ShortBuf>
-        ensures ok { IfOk result (λ made. Target.labels made ≡ Self.labels self) }
+        ensures ok { IfOk result (λ made. same self made) }
         ensures err { OnErr result (may_refuse self) };
+}
+
+/// A name that can be made a flat one, which has the same labels.
+pub trait FlattenName<Target: NameLabels>: NameLabels + FlattenInto<Target> {
+    /// What is the same is the list of labels.
+    ghost same_labels: { (name : Self) (made : Target) → Self.same name made →
+        Target.labels made ≡ Self.labels name };
 }
 
 /// The octets of the name are made over as [`OctetsFrom`] makes them.
 impl<Octs: Octets, Target: SameOctets<Octs>> FlattenInto<Name<Target>> for Name<Octs> {
-    ghost use Rattle.domain_name.specs.Names.{name_holder};
+    ghost use Rattle.domain_name.specs.Names.{name_holder, name_labels};
+
+    ghost same = { λ name made. name_labels made ≡ name_labels name };
 
     ghost may_refuse = { λ name. Target.may_refuse (name_holder name) };
 
@@ -40,4 +55,8 @@ impl<Octs: Octets, Target: SameOctets<Octs>> FlattenInto<Name<Target>> for Name<
     fn flatten_into(self, alloc: Global) -> Result<Name<Target>, ShortBuf> {
         self.try_flatten_into(alloc)
     }
+}
+
+impl<Octs: Octets, Target: SameOctets<Octs>> FlattenName<Name<Target>> for Name<Octs> {
+    ghost same_labels = { λ name made same. same };
 }

@@ -6,7 +6,7 @@ pub mod flatten;
 pub mod to_name;
 pub mod to_relative_name;
 
-pub use flatten::FlattenInto;
+pub use flatten::{FlattenInto, FlattenName};
 pub use to_name::{MakeName, ToName};
 pub use to_relative_name::{MakeChain, MakeRelativeName, ToRelativeName};
 

@@ -5,7 +5,9 @@ ghost use Rattle.domain_label.specs.Wire.{wire};
 ghost use Rattle.domain_list.specs.Count.{rrsig_labels};
 ghost use Rattle.domain_name.specs.Names.{name_labels};
 
-use crate::{FlattenInto, MakeChain, MakeName, MakeRelativeName, ToName, ToRelativeName};
+use crate::{
+    FlattenInto, FlattenName, MakeChain, MakeName, MakeRelativeName, ToName, ToRelativeName,
+};
 use arrayvec::ArrayVec;
 use domain_label::Label;
 use domain_list::{
@@ -749,5 +751,72 @@ fn names_are_flattened(rt: HostRuntime) -> Result<(), Fail> {
     assert_eq!(rt; made.as_slice(), WWW);
     let none: Result<Name<ArrayVec<u8, 16>>, ShortBuf> = absolute(&rt, WWW).flatten_into(alloc);
     assert!(rt; none.is_err());
+    Ok(())
+}
+
+/// The data of a record, as one for the exchange of mail: a number and a name.
+#[derive(Drop)]
+struct Exchange<N> {
+    preference: u16,
+    exchange: N,
+}
+
+impl<N: FlattenInto<Target>, Target> FlattenInto<Exchange<Target>> for Exchange<N> {
+    ghost same = { λ mail made. (made.preference ≡ mail.preference) × N.same mail.exchange made.exchange };
+
+    ghost may_refuse = { λ mail. N.may_refuse mail.exchange };
+
+    fn try_flatten_into(self, alloc: Global) -> Result<Exchange<Target>, ShortBuf> {
+        let Exchange {
+            preference,
+            exchange,
+        } = self;
+        let exchange = exchange.try_flatten_into(alloc)?;
+        Ok(Exchange {
+            preference,
+            exchange,
+        })
+    }
+
+    fn flatten_into(self, alloc: Global) -> Result<Exchange<Target>, ShortBuf> {
+        self.try_flatten_into(alloc)
+    }
+}
+
+/// The data with its name owned, where a name of any kind is known to keep its labels.
+fn own_exchange<N: FlattenName<Name<Vec<u8>>>>(
+    mail: Exchange<N>,
+    alloc: Global,
+) -> Result<Exchange<Name<Vec<u8>>>, ShortBuf>
+    ensures number { IfOk result (λ made. made.preference ≡ mail.preference) }
+    ensures name { IfOk result (λ made. name_labels made.exchange ≡ N.labels mail.exchange) }
+{
+    mail.flatten_into(alloc)
+}
+
+/// A name of any kind owned.
+fn own<N: FlattenName<Name<Vec<u8>>>>(name: N, alloc: Global) -> Result<Name<Vec<u8>>, ShortBuf>
+    ensures { IfOk result (λ made. name_labels made ≡ N.labels name) }
+{
+    name.flatten_into(alloc)
+}
+
+#[test]
+fn what_has_names_is_flattened(rt: HostRuntime) -> Result<(), Fail> {
+    let alloc = rt.alloc();
+    let mail = Exchange {
+        preference: 10,
+        exchange: absolute(&rt, WWW),
+    };
+    let made = own_exchange(mail, alloc)?;
+    assert_eq!(rt; made.preference, 10);
+    assert_eq!(rt; made.exchange.as_slice(), WWW);
+    let mail = Exchange {
+        preference: 10,
+        exchange: absolute(&rt, WWW),
+    };
+    let none: Result<Exchange<Name<ArrayVec<u8, 16>>>, ShortBuf> = mail.flatten_into(alloc);
+    assert!(rt; none.is_err());
+    assert_eq!(rt; own(absolute(&rt, WWW), alloc)?.as_slice(), WWW);
     Ok(())
 }

@@ -1,5 +1,5 @@
 //! The calls of relative names.
-ghost use Rattle.std.specs.Prelude.{◌≡◌, ℕ, [], List, ◌<◌, ◌≤◌, ◌+◌, ◌++◌, ◌↔◌, length, IsTrue, IsErr, IfOk, IsOkAnd, OnOk, OnErr};
+ghost use Rattle.std.specs.Prelude.{◌≡◌, ℕ, [], List, ◌<◌, ◌≤◌, ◌+◌, ◌++◌, ◌↔◌, length, IsTrue, IsErr, IfOk, IfSome, IsOkAnd, OnOk, OnErr};
 ghost use Rattle.std.specs.Cow.{IsBorrowedSlice};
 ghost use Rattle.domain_label.specs.Low.{low_all};
 ghost use Rattle.domain_label.specs.Wire.{wire, Root};
@@ -32,7 +32,9 @@ pub trait ToRelativeName<'a>: RelativeLabels<'a> {
         ensures ok { OnOk result (Target.octets target.new ≡ Target.octets target.old ++ wire (Self.labels self.now)) }
         ensures err { OnErr result (Target.octets target.new ≡ Target.octets target.old) }
         ensures full { OnErr result (Target.capacity target.old < length (Target.octets target.old) + length (wire (Self.labels self.now))) }
-        ensures capacity { Target.capacity target.old ≤ Target.capacity target.new };
+        ensures capacity { Target.capacity target.old ≤ Target.capacity target.new }
+        ensures within { IfSome Target.limit (λ n. length (Target.octets target.new) ≤ n) }
+        ensures fixed { IfSome Target.limit (λ n. Target.capacity target.old ≡ n) };
 
     /// Appends the wire form of the labels with A to Z as a to z (RFC 4034, 6.2), or nothing.
     ///
@@ -44,7 +46,9 @@ pub trait ToRelativeName<'a>: RelativeLabels<'a> {
         ensures ok { OnOk result (Target.octets target.new ≡ Target.octets target.old ++ wire (low_all (Self.labels self.now))) }
         ensures err { OnErr result (Target.octets target.new ≡ Target.octets target.old) }
         ensures full { OnErr result (Target.capacity target.old < length (Target.octets target.old) + length (wire (low_all (Self.labels self.now)))) }
-        ensures capacity { Target.capacity target.old ≤ Target.capacity target.new };
+        ensures capacity { Target.capacity target.old ≤ Target.capacity target.new }
+        ensures within { IfSome Target.limit (λ n. length (Target.octets target.new) ≤ n) }
+        ensures fixed { IfSome Target.limit (λ n. Target.capacity target.old ≡ n) };
 
     /// Whether there is no label.
     fn is_empty(&'a self) -> bool

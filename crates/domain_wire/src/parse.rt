@@ -1,8 +1,12 @@
-//! Values of fixed length, and how they are read from the wire.
-ghost use Rattle.std.specs.Prelude.{◌≡◌, ℕ, List, ◌↔◌, IsErr, IfOk, IfErr, OnOk, OnErr};
+//! Values, and how they are read from the wire.
+ghost use Rattle.std.specs.Prelude.{◌≡◌, ℕ, ℤ, List, IfOk, IfErr, OnOk, OnErr};
 ghost use Rattle.std.specs.Int.{w8, w16, w32, w64, from_be_bytes, cast_signed};
-ghost use Rattle.octseq.specs.Parsing.{next, LacksOctets, MovesOver};
-ghost use Rattle.domain_wire.specs.declared.error.ParseError.TheVariants.{ShortInput};
+ghost use Rattle.octseq.specs.Parsing.{message, place, MovesTo};
+ghost use Rattle.domain_wire.specs.FixedLength.{fixed_reading};
+ghost use Rattle.domain_wire.specs.Values.{IsReading, FixedAt, ShortAt};
+ghost use Rattle.domain_wire.specs.declared.error.ParseError.{ParseError};
+ghost use Rattle.domain_wire.specs.declared.net.Ipv4Addr.{Ipv4Addr};
+ghost use Rattle.domain_wire.specs.declared.net.Ipv6Addr.{Ipv6Addr};
 ghost use Rattle.domain_wire.specs.Addresses.{ipv4_of, ipv6_of};
 ghost use Rattle.domain_wire.specs.Whole.{BeginsAt, TellsWhole};
 ghost use Rattle.octseq.specs.declared.parse.Parser.{Parser};
@@ -12,139 +16,216 @@ use crate::error::{FormError, ParseError};
 use crate::net::{Ipv4Addr, Ipv6Addr};
 use octseq::Parser;
 
-/// A value that has the same number of octets on the wire whatever it is.
+/// A value that is read from a message.
 ///
-/// Numbers are read with the high octet first, signed ones in two's complement (RFC 1035, 2.3.2),
-/// and addresses as their octets.
+/// Where values stand in octets is a relation of octets, a place, what contracts see of the value, and
+/// the place behind it; why none stands at a place is another. The octets are those up to the parser's
+/// end, so that nothing behind it counts.
+///
+/// Numbers, addresses and arrays have the same number of octets whatever they are. Numbers are read with
+/// the high octet first, signed ones in two's complement (RFC 1035, 2.3.2), and addresses as their octets.
 pub trait Parse<'a>: Sized {
-    /// How many octets a value has.
-    ghost parsed_len: { ℕ };
+    /// What contracts see of a value.
+    ghost View: { Type 0 };
 
-    /// The value that these octets are.
-    ghost parsed_value: { List ℕ → Self };
+    /// What contracts see of this value.
+    ghost seen: { Self → View };
 
-    /// Reads a value from the place of the parser on.
+    /// A value that is seen so stands in the octets at the first place, and the second place is behind it.
+    ghost stands: { List ℕ → ℕ → View → ℕ → Type 0 };
+
+    /// No value stands in the octets at the place, and the error tells why.
+    ghost fails: { List ℕ → ℕ → ParseError → Type 0 };
+
+    /// Reads a value from the place of the parser on, and moves the parser behind it.
     ///
-    /// `ShortInput` where octets of the value are missing before the parser's end. There is no other
-    /// error. A refused call leaves the parser where it stood.
+    /// A refused call leaves the parser where it stood.
     fn parse(parser: &mut Parser<'a>) -> Result<Self, ParseError>
-        ensures ok { IfOk result (λ value. value ≡ parsed_value (next parser.old parsed_len)) }
-        ensures moves { OnOk result (MovesOver parser.old parser.new parsed_len) }
-        ensures short { IsErr result ↔ LacksOctets parser.old parsed_len }
-        ensures reason { IfErr result (λ e. e ≡ ShortInput) }
+        ensures ok { IfOk result (λ value. stands (message parser.old) (place parser.old) (seen value) (place parser.new)) }
+        ensures moves { OnOk result (MovesTo parser.old parser.new (place parser.new)) }
+        ensures refused { IfErr result (λ e. fails (message parser.old) (place parser.old) e) }
         ensures err { OnErr result (parser.new ≡ parser.old) };
+
+    /// At each place stands one value or one fault is told, and never both.
+    ghost lawful: { IsReading stands fails };
 }
 
 impl<'a> Parse<'a> for i8 {
-    ghost parsed_len = { 1 };
+    ghost View = { ℤ };
 
-    ghost parsed_value = { λ octets. cast_signed w8 (from_be_bytes w8 octets) };
+    ghost seen = { λ value. value };
+
+    ghost stands = { FixedAt 1 (λ octets. cast_signed w8 (from_be_bytes w8 octets)) };
+
+    ghost fails = { ShortAt 1 };
 
     fn parse(parser: &mut Parser<'a>) -> Result<i8, ParseError> {
         Ok(parser.parse_i8()?)
     }
+
+    ghost lawful = { fixed_reading 1 (λ octets. cast_signed w8 (from_be_bytes w8 octets)) };
 }
 
 impl<'a> Parse<'a> for u8 {
-    ghost parsed_len = { 1 };
+    ghost View = { ℕ };
 
-    ghost parsed_value = { from_be_bytes w8 };
+    ghost seen = { λ value. value };
+
+    ghost stands = { FixedAt 1 (from_be_bytes w8) };
+
+    ghost fails = { ShortAt 1 };
 
     fn parse(parser: &mut Parser<'a>) -> Result<u8, ParseError> {
         Ok(parser.parse_u8()?)
     }
+
+    ghost lawful = { fixed_reading 1 (from_be_bytes w8) };
 }
 
 impl<'a> Parse<'a> for i16 {
-    ghost parsed_len = { 2 };
+    ghost View = { ℤ };
 
-    ghost parsed_value = { λ octets. cast_signed w16 (from_be_bytes w16 octets) };
+    ghost seen = { λ value. value };
+
+    ghost stands = { FixedAt 2 (λ octets. cast_signed w16 (from_be_bytes w16 octets)) };
+
+    ghost fails = { ShortAt 2 };
 
     fn parse(parser: &mut Parser<'a>) -> Result<i16, ParseError> {
         Ok(parser.parse_i16_be()?)
     }
+
+    ghost lawful = { fixed_reading 2 (λ octets. cast_signed w16 (from_be_bytes w16 octets)) };
 }
 
 impl<'a> Parse<'a> for u16 {
-    ghost parsed_len = { 2 };
+    ghost View = { ℕ };
 
-    ghost parsed_value = { from_be_bytes w16 };
+    ghost seen = { λ value. value };
+
+    ghost stands = { FixedAt 2 (from_be_bytes w16) };
+
+    ghost fails = { ShortAt 2 };
 
     fn parse(parser: &mut Parser<'a>) -> Result<u16, ParseError> {
         Ok(parser.parse_u16_be()?)
     }
+
+    ghost lawful = { fixed_reading 2 (from_be_bytes w16) };
 }
 
 impl<'a> Parse<'a> for i32 {
-    ghost parsed_len = { 4 };
+    ghost View = { ℤ };
 
-    ghost parsed_value = { λ octets. cast_signed w32 (from_be_bytes w32 octets) };
+    ghost seen = { λ value. value };
+
+    ghost stands = { FixedAt 4 (λ octets. cast_signed w32 (from_be_bytes w32 octets)) };
+
+    ghost fails = { ShortAt 4 };
 
     fn parse(parser: &mut Parser<'a>) -> Result<i32, ParseError> {
         Ok(parser.parse_i32_be()?)
     }
+
+    ghost lawful = { fixed_reading 4 (λ octets. cast_signed w32 (from_be_bytes w32 octets)) };
 }
 
 impl<'a> Parse<'a> for u32 {
-    ghost parsed_len = { 4 };
+    ghost View = { ℕ };
 
-    ghost parsed_value = { from_be_bytes w32 };
+    ghost seen = { λ value. value };
+
+    ghost stands = { FixedAt 4 (from_be_bytes w32) };
+
+    ghost fails = { ShortAt 4 };
 
     fn parse(parser: &mut Parser<'a>) -> Result<u32, ParseError> {
         Ok(parser.parse_u32_be()?)
     }
+
+    ghost lawful = { fixed_reading 4 (from_be_bytes w32) };
 }
 
 impl<'a> Parse<'a> for i64 {
-    ghost parsed_len = { 8 };
+    ghost View = { ℤ };
 
-    ghost parsed_value = { λ octets. cast_signed w64 (from_be_bytes w64 octets) };
+    ghost seen = { λ value. value };
+
+    ghost stands = { FixedAt 8 (λ octets. cast_signed w64 (from_be_bytes w64 octets)) };
+
+    ghost fails = { ShortAt 8 };
 
     fn parse(parser: &mut Parser<'a>) -> Result<i64, ParseError> {
         Ok(parser.parse_i64_be()?)
     }
+
+    ghost lawful = { fixed_reading 8 (λ octets. cast_signed w64 (from_be_bytes w64 octets)) };
 }
 
 impl<'a> Parse<'a> for u64 {
-    ghost parsed_len = { 8 };
+    ghost View = { ℕ };
 
-    ghost parsed_value = { from_be_bytes w64 };
+    ghost seen = { λ value. value };
+
+    ghost stands = { FixedAt 8 (from_be_bytes w64) };
+
+    ghost fails = { ShortAt 8 };
 
     fn parse(parser: &mut Parser<'a>) -> Result<u64, ParseError> {
         Ok(parser.parse_u64_be()?)
     }
+
+    ghost lawful = { fixed_reading 8 (from_be_bytes w64) };
 }
 
 impl<'a> Parse<'a> for Ipv4Addr {
-    ghost parsed_len = { 4 };
+    ghost View = { Ipv4Addr };
 
-    ghost parsed_value = { ipv4_of };
+    ghost seen = { λ value. value };
+
+    ghost stands = { FixedAt 4 ipv4_of };
+
+    ghost fails = { ShortAt 4 };
 
     fn parse(parser: &mut Parser<'a>) -> Result<Ipv4Addr, ParseError> {
         Ok(Ipv4Addr::from(<[u8; 4]>::parse(parser)?))
     }
+
+    ghost lawful = { fixed_reading 4 ipv4_of };
 }
 
 impl<'a> Parse<'a> for Ipv6Addr {
-    ghost parsed_len = { 16 };
+    ghost View = { Ipv6Addr };
 
-    ghost parsed_value = { ipv6_of };
+    ghost seen = { λ value. value };
+
+    ghost stands = { FixedAt 16 ipv6_of };
+
+    ghost fails = { ShortAt 16 };
 
     fn parse(parser: &mut Parser<'a>) -> Result<Ipv6Addr, ParseError> {
         Ok(Ipv6Addr::from(<[u8; 16]>::parse(parser)?))
     }
+
+    ghost lawful = { fixed_reading 16 ipv6_of };
 }
 
 impl<'a, const N: usize> Parse<'a> for [u8; N] {
-    ghost parsed_len = { N };
+    ghost View = { List ℕ };
 
-    ghost parsed_value = { λ octets. octets };
+    ghost seen = { λ value. value };
+
+    ghost stands = { FixedAt N (λ octets. octets) };
+
+    ghost fails = { ShortAt N };
 
     fn parse(parser: &mut Parser<'a>) -> Result<[u8; N], ParseError> {
         let mut octets = [0; N];
         parser.parse_buf(&mut octets)?;
         Ok(octets)
     }
+
+    ghost lawful = { fixed_reading N (λ octets. octets) };
 }
 
 /// Reads a value that has all of the octets.

@@ -13,9 +13,9 @@ of_input : (known : Option (List ℕ)) (read seen : List ℕ) (p : ℕ) (e : Par
 of_input None read seen p e all same none = tt
 of_input (Some m) read seen p e all same none = subst (λ o. NoNameAt o p e) (same ∙ all) none
 
-pub returns-in-Err : goal.returns-in-Err
-returns-in-Err g c = (
-  c.in_ok-octets.ensures.whole,
-  of_input (g.R.Read.remaining c.args.input.now) _ c.as_slice.result.now c.args.place c.in-Err.e c.in_ok-octets.ensures.octets c.as_slice.ensures.value c.in-Err.ensures.err,
-  keeps_itself _,
-)
+pub returns-in-Err-clause-refused : goal.returns-in-Err-clause-refused
+returns-in-Err-clause-refused g c =
+    of_input (g.R.Read.remaining c.args.input.now) _ c.as_slice.result.now c.args.place c.in-Err.e c.in_ok-octets.ensures.octets c.as_slice.ensures.value c.in-Err.ensures.err
+
+pub returns-in-Err-clause-nothing_written : goal.returns-in-Err-clause-nothing_written
+returns-in-Err-clause-nothing_written g c = keeps_itself _

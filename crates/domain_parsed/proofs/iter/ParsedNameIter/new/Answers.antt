@@ -1,8 +1,8 @@
 use Rattle.std.proofs.Common.{◌≡◌, length, sym, ap, ◌∙◌}
 use Rattle.domain_label.specs.Wire.{wire}
-use Rattle.domain_parsed.specs.Labels.{labels_at, labels_within}
-use Rattle.domain_parsed.proofs.Within.{within_all}
-use Rattle.domain_parsed.proofs.Naming.{name_from_some}
+use Rattle.domain_reading.specs.Labels.{labels_at, labels_within}
+use Rattle.domain_reading.proofs.Within.{within_all}
+use Rattle.domain_reading.proofs.Naming.{name_from_some}
 use Rattle.domain_parsed.proofs.iter.ParsedNameIter.new.Goals as goal
 
 pub returns : goal.returns

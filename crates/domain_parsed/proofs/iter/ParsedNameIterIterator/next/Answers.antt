@@ -1,10 +1,10 @@
 use Rattle.std.proofs.Common.{◌≡◌, ◌+◌, ◌-◌, ◌∷◌, [], arith, ap, ◌∙◌}
 use Rattle.domain_label.specs.Views.{label_octets}
 use Rattle.domain_parsed.specs.Views.{labels_left}
-use Rattle.domain_parsed.specs.Labels.{labels_within, labels_at}
-use Rattle.domain_parsed.proofs.Within.{within_none}
-use Rattle.domain_parsed.proofs.Naming.{name_left}
-use Rattle.domain_parsed.proofs.Steps.{taken, shorter}
+use Rattle.domain_reading.specs.Labels.{labels_within, labels_at}
+use Rattle.domain_reading.proofs.Within.{within_none}
+use Rattle.domain_reading.proofs.Naming.{name_left}
+use Rattle.domain_reading.proofs.Steps.{taken, shorter}
 use Rattle.domain_parsed.proofs.iter.ParsedNameIterIterator.next.Goals as goal
 
 pub returns-then-self-eq0-clause-steps : goal.returns-then-self-eq0-clause-steps

@@ -1,7 +1,7 @@
 use Rattle.std.proofs.Common.{sym, ap, subst, ◌∙◌, arith, rules}
 use Rattle.octseq.specs.Parsing.{message, place}
-use Rattle.domain_parsed.specs.Grammar.{Names}
-use Rattle.domain_parsed.proofs.Reading.{names_absolute}
+use Rattle.domain_reading.specs.Grammar.{Names}
+use Rattle.domain_reading.proofs.Reading.{names_absolute}
 use Rattle.domain_parsed.proofs.Parsing.{ok_not_err, no_name, read_here, held, piece_tells, plainly_named, plainly_read}
 use Rattle.domain_parsed.proofs.parsed.ParsedName+ref+slice+u8.parse.Goals as goal
 

@@ -1,5 +1,5 @@
 use Rattle.std.proofs.Common.{◌≡◌, length, arith, ap}
-use Rattle.domain_parsed.proofs.Naming.{flat_inside}
+use Rattle.domain_reading.proofs.Naming.{flat_inside}
 use Rattle.domain_parsed.proofs.parsed.ParsedName.flat_octets.Goals as goal
 
 pub slice_bounds-result-end : goal.slice_bounds-result-end

@@ -1,5 +1,5 @@
 use Rattle.std.proofs.Common.{rules}
-use Rattle.domain_parsed.proofs.Naming.{name_from_some}
+use Rattle.domain_reading.proofs.Naming.{name_from_some}
 use Rattle.domain_parsed.proofs.Parents.{reads_last}
 use Rattle.domain_parsed.proofs.parsed.ParsedName.last.Goals as goal
 

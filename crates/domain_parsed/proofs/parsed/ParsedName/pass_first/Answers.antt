@@ -1,7 +1,7 @@
 use Rattle.std.proofs.Common.{◌≡◌, ◌∷◌, ◌<◌, ◌+◌, length, slice_index, subst, ap, ◌∙◌}
 use Rattle.domain_label.specs.Views.{label_octets}
-use Rattle.domain_parsed.specs.Labels.{FirstLabel, LabelEndsAt}
-use Rattle.domain_parsed.proofs.Reading.{names_absolute}
+use Rattle.domain_reading.specs.Labels.{FirstLabel, LabelEndsAt}
+use Rattle.domain_reading.proofs.Reading.{names_absolute}
 use Rattle.domain_parsed.proofs.Parents.{parent, many_labels, not_so}
 use Rattle.domain_parsed.proofs.Splitting.{standing, one_relative}
 use Rattle.domain_parsed.proofs.parsed.ParsedName.pass_first.Goals as goal

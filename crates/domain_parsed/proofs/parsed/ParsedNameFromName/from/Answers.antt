@@ -1,5 +1,5 @@
 use Rattle.std.proofs.Common.{refl, ap, ◌∙◌}
-use Rattle.domain_parsed.specs.Labels.{labels_at}
+use Rattle.domain_reading.specs.Labels.{labels_at}
 use Rattle.domain_parsed.proofs.FlatNames.{whole_name}
 use Rattle.domain_parsed.proofs.parsed.ParsedNameFromName.from.Goals as goal
 

@@ -1,0 +1,38 @@
+use Rattle.std.proofs.lemmas.Result.{err_from_is_err_and}
+use Rattle.domain_reading.proofs.Going.{goes_start, goes_label, goes_pointer, goes_fault, broken_fault, long_fault, follow_fault}
+use Rattle.domain_reading.proofs.Done.{name_read}
+use Rattle.domain_reading.proofs.read.read_name_counted.Goals as goal
+
+pub heads-init : goal.heads-init
+heads-init g c = goes_start _ _ _ _ c.new-progress.ensures
+
+pub returns-in_err-read_head-clause-fault : goal.returns-in_err-read_head-clause-fault
+returns-in_err-read_head-clause-fault g c =
+    let p = err_from_is_err_and c.from_residual.result c.from_residual.ensures.1 in
+    rw (p.1, p.2) (goes_fault _ _ _ c.heads.invariant (broken_fault _ _ _ _ _ _ c.in_err-read_head.ensures.found) c.read_head.ensures.counted)
+
+pub returns-in_err-pass_label-in-Label-clause-fault : goal.returns-in_err-pass_label-in-Label-clause-fault
+returns-in_err-pass_label-in-Label-clause-fault g c =
+    let p = err_from_is_err_and c.from_residual-in_err-pass_label-in-Label.result c.from_residual-in_err-pass_label-in-Label.ensures.1 in
+    let found = rw c.in-Label.is at c.in_ok-read_head.ensures.found in
+    rw (p.1, p.2) (goes_fault _ _ _ c.heads.invariant (long_fault _ c.heads.invariant.1 found c.in_err-pass_label-in-Label.ensures.long) c.read_head.ensures.counted)
+
+pub returns-in_err-follow-in-Pointer-clause-fault : goal.returns-in_err-follow-in-Pointer-clause-fault
+returns-in_err-follow-in-Pointer-clause-fault g c =
+    let p = err_from_is_err_and c.from_residual-in_err-follow-in-Pointer.result c.from_residual-in_err-follow-in-Pointer.ensures.1 in
+    let found = rw c.in-Pointer.is at c.in_ok-read_head.ensures.found in
+    rw (p.1, p.2) (goes_fault _ _ _ c.heads.invariant (follow_fault _ found c.in_err-follow-in-Pointer.ensures.refused) c.read_head.ensures.counted)
+
+pub heads-preserved-in-Continue-branch-3 : goal.heads-preserved-in-Continue-branch-3
+heads-preserved-in-Continue-branch-3 g c =
+    let found = rw c.in-Label.is at c.in_ok-read_head.ensures.found in
+    goes_label _ _ _ _ c.heads.invariant found c.in_ok-pass_label-in-Label.ensures.long c.in_ok-pass_label-in-Label.ensures.moved c.read_head.ensures.counted
+
+pub heads-preserved : goal.heads-preserved
+heads-preserved g c =
+    let found = rw c.in-Pointer.is at c.in_ok-read_head.ensures.found in
+    goes_pointer _ _ _ c.heads.invariant found c.in_ok-follow-in-Pointer.ensures.refused c.in_ok-follow-in-Pointer.ensures.moved c.read_head.ensures.counted
+
+pub returns-in-Root-clause-name : goal.returns-in-Root-clause-name
+returns-in-Root-clause-name g c =
+    name_read _ _ _ c.heads.invariant (rw c.in-Root.is at c.in_ok-read_head.ensures.found) c.read_head.ensures.counted

@@ -1,0 +1,21 @@
+-- What stands at one place of a message.
+use Rattle.std.specs.Prelude.{◌≡◌, ℕ, List, length}
+use Rattle.domain_reading.specs.Grammar.{OctetAt, LabelAt, PointerAt}
+use Rattle.domain_reading.specs.Faults.{CutAt, BadTypeAt}
+use Rattle.domain_reading.specs.declared.fault.NameFault.{NameFault}
+use Rattle.domain_reading.specs.declared.fault.NameFault.TheVariants.{ShortInput, BadLabelType, TooManyPointers, LongName}
+use Rattle.domain_reading.specs.declared.head.Head.{Head}
+use Rattle.domain_reading.specs.declared.head.Head.TheVariants.{Root, Label, Pointer}
+
+-- The head stands at r.
+abbrev pub StandsAt : List ℕ → ℕ → Head → Type 0
+StandsAt m r Root = OctetAt m r 0
+StandsAt m r (Label n) = (l : List ℕ) × (length l ≡ n) × LabelAt m r l
+StandsAt m r (Pointer q) = PointerAt m r q
+
+-- No head can be read at r, and why.
+abbrev pub BrokenAt : List ℕ → ℕ → NameFault → Type 0
+BrokenAt m r ShortInput = CutAt m r
+BrokenAt m r BadLabelType = BadTypeAt m r
+BrokenAt m r TooManyPointers = ⊥
+BrokenAt m r LongName = ⊥

@@ -1,0 +1,6 @@
+pub mod Grammar
+pub mod Faults
+pub mod Labels
+pub mod Heads
+pub mod Progress
+pub mod Outcomes

@@ -1,0 +1,53 @@
+-- What reading a name and passing over one may come to.
+use Rattle.std.specs.Prelude.{◌≡◌, ℕ, ◌+◌, ◌≤◌, List, ◌++◌, length, true, false, unwrap_or, slice_range}
+use Rattle.domain_wire.specs.Refusals.{Refusal, refusal}
+use Rattle.domain_wire.specs.declared.error.ParseError.{ParseError}
+use Rattle.domain_label.specs.Wire.{wire, IsAbsoluteName}
+use Rattle.octseq.specs.declared.parse.Parser.{Parser}
+use Rattle.octseq.specs.Parsing.{message, place, MovesTo}
+use Rattle.domain_reading.specs.Grammar.{Names, Base, Front, root, pointer, EndsBefore}
+use Rattle.domain_reading.specs.Faults.{told, Fault, Skips, SkipFault}
+use Rattle.domain_reading.specs.declared.fault.NameFault.{NameFault}
+use Rattle.domain_reading.specs.declared.progress.Progress.{Progress}
+
+-- The parser was moved behind the front of the name at its place.
+abbrev pub MovesBehindFront : Parser → Parser → Type 0
+MovesBehindFront old new = (e : ℕ) × EndsBefore (message old) (place old) e × MovesTo old new e
+
+-- No name of at most n pointers is at p in m, and why: a walk from p meets this fault, which is told so.
+abbrev pub HasNoName : ℕ → List ℕ → ℕ → Refusal → Type 0
+HasNoName n m p r = (f : NameFault) × (r ≡ told f) × Fault n m p f
+
+-- No name of at most n pointers is at the parser's place, and the error tells why.
+abbrev pub TellsFault : ℕ → Parser → ParseError → Type 0
+TellsFault n parser e = HasNoName n (message parser) (place parser) (refusal e)
+
+-- The parser was moved behind a front of at most 255 octets.
+abbrev pub SkipsFront : Parser → Parser → Type 0
+SkipsFront old new = (e : ℕ) × Skips (message old) (place old) e × MovesTo old new e
+
+-- No such front is at the parser's place, and the error tells why.
+abbrev pub TellsSkipFault : Parser → ParseError → Type 0
+TellsSkipFault parser e = (f : NameFault) × (refusal e ≡ told f) × SkipFault (message parser) (place parser) f
+
+-- The octets of ls, an absolute name, are at the parser's place with no pointer among them.
+pub record LiesPlainly (parser : Parser) (ls : List (List ℕ)) : Type 0 where
+  pub name : IsAbsoluteName ls
+  pub before : List ℕ
+  pub behind : List ℕ
+  pub octets : message parser ≡ before ++ wire ls ++ behind
+  pub here : place parser ≡ length before
+
+-- The name at p was read, of at most n pointers, with a head counted for each label and each pointer.
+pub record NameRead (n : ℕ) (m : List ℕ) (p : ℕ) (w : Progress) (before now : ℕ) : Type 0 where
+  pub labels : List (List ℕ)
+  pub name : Names n m p labels
+  pub counted : now ≡ before + length labels + name.pointers
+  pub ends : EndsBefore m p (unwrap_or w.end (w.at + 1))
+  pub base : Base m p w.base
+  pub there : Names n m w.base labels
+  pub sized : w.len + 1 ≡ length (wire labels)
+  pub in_one_piece : w.compressed ≡ false → (fs : List (List ℕ)) × (e : ℕ) × Front m w.base fs root e
+  pub scattered : w.compressed ≡ true → (fs : List (List ℕ)) × (q : ℕ) × (e : ℕ) × Front m w.base fs (pointer q) e
+  pub inside : w.compressed ≡ false → w.base + (w.len + 1) ≤ length m
+  pub octets : w.compressed ≡ false → slice_range m w.base (w.base + (w.len + 1)) ≡ wire labels

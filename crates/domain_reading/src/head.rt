@@ -1,0 +1,49 @@
+//! Reading the head of a label or a pointer.
+ghost use Rattle.std.specs.Prelude.{◌≡◌, ◌+◌, MatchResult};
+ghost use Rattle.domain_reading.specs.Heads.{StandsAt, BrokenAt};
+
+use crate::fault::NameFault;
+use crate::heads::Heads;
+use std::sync::ledger::Ledger;
+
+/// What stands at a place of a name.
+#[derive(Clone, Copy)]
+pub enum Head {
+    /// The root label.
+    Root,
+    /// A label that isn't the root, of so many octets.
+    Label(u8),
+    /// A pointer to a place.
+    Pointer(usize),
+}
+
+/// Reads the head at a place, and sees that its octets are there. Each head is read here, and counted.
+pub fn read_head<L: Ledger>(
+    message: &[u8],
+    at: usize,
+    heads: &mut Heads<L>,
+) -> Result<Head, NameFault>
+    ensures found { MatchResult result (λ head. StandsAt message.now at head) (λ fault. BrokenAt message.now at fault) }
+    ensures counted { heads.new ≡ heads.old + 1 }
+{
+    heads.count();
+    let Some(&first) = message.get(at) else {
+        return Err(NameFault::ShortInput);
+    };
+    match first {
+        0 => Ok(Head::Root),
+        1..=63 => {
+            if message.len() - at - 1 < usize::from(first) {
+                return Err(NameFault::ShortInput);
+            }
+            Ok(Head::Label(first))
+        }
+        64..=191 => Err(NameFault::BadLabelType),
+        192..=255 => match message.get(at + 1) {
+            Some(second) => Ok(Head::Pointer(
+                usize::from(first - 192) * 256 + usize::from(*second),
+            )),
+            None => Err(NameFault::ShortInput),
+        },
+    }
+}

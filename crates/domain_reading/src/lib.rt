@@ -1,0 +1,14 @@
+//! How names in messages are read (RFC 1035, 4.1.4): what may stand at a place, and what a name, its front
+//! and its faults are.
+#![tactic(auto)]
+
+pub mod fault;
+pub mod first;
+pub mod head;
+pub mod heads;
+pub mod laws;
+pub mod progress;
+pub mod read;
+pub mod skip;
+
+pub use laws::reads_laws;
