@@ -14,8 +14,8 @@ ghost use Rattle.domain_parsed.specs.Views.{parsed_labels};
 ghost use Rattle.octseq.specs.Parsing.{message, place};
 
 use crate::base::name::{
-    AbsoluteLabels, Chain, CompareNames, FlattenInto, MakeName, MatchEnds, Name, NameLabels,
-    ParsedName, RelativeName, ToName,
+    AbsoluteLabels, Chain, FlattenInto, Name, NameLabels, ParsedName, RelativeName, ToLabelIter,
+    ToName,
 };
 use crate::base::wire::ParseError;
 use arrayvec::ArrayVec;
