@@ -14,8 +14,7 @@ ghost use Rattle.domain_parsed.specs.Views.{parsed_labels};
 ghost use Rattle.octseq.specs.Parsing.{message, place};
 
 use crate::base::name::{
-    AbsoluteLabels, Chain, FlattenInto, Name, NameLabels, ParsedName, RelativeName, ToLabelIter,
-    ToName,
+    AbsoluteLabels, Chain, FlattenInto, Name, NameLabels, ParsedName, RelativeName, ToName,
 };
 use crate::base::wire::ParseError;
 use arrayvec::ArrayVec;
