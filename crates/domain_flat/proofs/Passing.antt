@@ -5,7 +5,7 @@ use Rattle.domain_label.specs.Wire.{wire, Root, IsLabel, IsRelative, IsAbsolute,
 use Rattle.domain_label.specs.Splitting.{BeginsWithLabel, SplitFault}
 use Rattle.domain_label.specs.declared.split.SplitLabelError.{SplitLabelError}
 use Rattle.domain_label.proofs.SplitLaws.{split_not_label}
-use Rattle.domain_label.proofs.WireLaws.{wire_append, wire_absolute, wire_relative, relative_then_relative, relative_then_absolute, absolute_labels, relative_labels}
+use Rattle.domain_label.proofs.WireLaws.{wire_append, length-wire_append, wire_absolute, wire_relative, relative_then_relative, relative_then_absolute, absolute_labels, relative_labels}
 use Rattle.domain_flat.specs.Flat.{Passed, NameAt}
 
 pub passed_none : (o : List ℕ) → Passed o [] o
@@ -27,7 +27,7 @@ pub passed_root : (o : List ℕ) (fs : List (List ℕ)) (more : List ℕ) → Pa
 passed_root o fs more p = p.parts ∙ (sym (append_assoc (wire fs) (0 ∷ []) more) ∙ ap (λ r. r ++ more) (sym (wire_append fs Root)))
 
 pub absolute_of : (fs : List (List ℕ)) → IsRelative fs → length (wire fs) ≤ 254 → IsAbsoluteName (fs ++ Root)
-absolute_of fs r few = (relative_then_absolute fs Root r refl, omega (arith, few, ap length (wire_append fs Root), length-append (wire fs) (wire Root)))
+absolute_of fs r few = (relative_then_absolute fs Root r refl, omega (arith, few, length-wire_append fs Root))
 
 pub passed_all_absolute : (o : List ℕ) (fs : List (List ℕ)) → Passed o fs (0 ∷ []) → length o ≤ 255 → IsAbsoluteWire o
 passed_all_absolute o fs p few =
@@ -177,7 +177,7 @@ root_not_relative o rest ls s n a eq =
 -- ---- the length of the name that stands at the beginning
 
 pub passed_len : (o rest : List ℕ) (s : Stops o rest) → 1 ≤ length rest → length o - length rest + 1 ≡ length (wire (s.0.0 ++ Root))
-passed_len o rest s n = omega (arith, n, ap length s.0.1.parts, length-append (wire s.0.0) rest, ap length (wire_append s.0.0 Root), length-append (wire s.0.0) (wire Root))
+passed_len o rest s n = omega (arith, n, ap length s.0.1.parts, length-append (wire s.0.0) rest, length-wire_append s.0.0 Root)
 
 pub name_of : (o rest : List ℕ) → Stops o rest → 1 ≤ length rest → length o - length rest + 1 ≤ 255 → (ls : List (List ℕ)) × (tail : List ℕ) × IsAbsoluteName ls × (o ≡ wire ls ++ tail) × (length o - length rest + 1 ≡ length (wire ls))
 name_of o rest s n few =

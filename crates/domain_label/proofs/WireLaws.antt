@@ -1,5 +1,5 @@
 -- Laws of wire forms and of the lists that they spell.
-use Rattle.std.specs.Prelude.{◌≡◌, ℕ, zero, suc, ◌≤◌, List, [], ◌∷◌, ◌++◌, length, refl}
+use Rattle.std.specs.Prelude.{◌≡◌, ℕ, zero, suc, ◌+◌, ◌≤◌, List, [], ◌∷◌, ◌++◌, length, refl}
 use Rattle.std.specs.Coded.{×_prop, Unit-prop, le_prop, Coded-set, coded_list, coded_ℕ}
 use Rattle.std.proofs.Common.{arith, ap, subst, sym, ◌∙◌, append_assoc, length-append}
 use Rattle.std.proofs.Math.Seq.{take-append_seam, drop-append_seam}
@@ -24,6 +24,10 @@ wire_once xs ys e = sym (labels_in_wire xs) ∙ (ap labels_in e ∙ labels_in_wi
 pub wire_append : (xs ys : List (List ℕ)) → wire (xs ++ ys) ≡ wire xs ++ wire ys
 wire_append [] ys = refl
 wire_append (x ∷ xs) ys = ap (λ r. length x ∷ r) (ap (λ r. x ++ r) (wire_append xs ys) ∙ sym (append_assoc x (wire xs) (wire ys)))
+
+-- so its octets are those of both
+pub length-wire_append : (xs ys : List (List ℕ)) → length (wire (xs ++ ys)) ≡ length (wire xs) + length (wire ys)
+length-wire_append xs ys = ap length (wire_append xs ys) ∙ length-append (wire xs) (wire ys)
 
 -- each label takes an octet at least
 pub labels_le_wire : (ls : List (List ℕ)) → length ls ≤ length (wire ls)

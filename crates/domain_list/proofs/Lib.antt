@@ -4,3 +4,5 @@ pub mod Ending
 pub mod Written
 pub mod Chaining
 pub mod Listed
+pub mod ApexLaws
+pub mod Sameness

@@ -2,7 +2,7 @@
 use Rattle.std.proofs.Common.{◌≡◌, ◌↔◌, IsTrue, Bool, ℕ, ◌+◌, ◌≤◌, List, [], ◌∷◌, ◌++◌, length, refl, sym, ◌∙◌, ap, subst, arith, length-append, ⊎_elim}
 use Rattle.domain_label.specs.Low.{low_all}
 use Rattle.domain_label.specs.Wire.{wire, labels_in, IsName, IsWire, IsAbsolute}
-use Rattle.domain_label.proofs.WireLaws.{wire_append, labels_in_wire, absolute_labels, relative_labels}
+use Rattle.domain_label.proofs.WireLaws.{length-wire_append, labels_in_wire, absolute_labels, relative_labels}
 use Rattle.domain_list.specs.Ends.{EndsWith}
 use Rattle.domain_flat.specs.Flat.{IsCutAt, IsLabelStart, IsLabelEnd}
 use Rattle.domain_flat.proofs.Cuts.{cut_within, end_start, root_long, no_wire}
@@ -22,7 +22,7 @@ parted (l ∷ ls) (f ∷ front) back e =
     (l ∷ r.0, r.1, ap (λ x. l ∷ x) r.2, r.3)
 
 two_sizes : (ls xs ys : List (List ℕ)) → ls ≡ xs ++ ys → length (wire ls) ≡ length (wire xs) + length (wire ys)
-two_sizes ls xs ys e = ap (λ r. length (wire r)) e ∙ (ap length (wire_append xs ys) ∙ length-append (wire xs) (wire ys))
+two_sizes ls xs ys e = ap (λ r. length (wire r)) e ∙ length-wire_append xs ys
 
 -- the octets of a wire form are those of its labels
 octets_size : (o : List ℕ) → IsWire o → length (wire (labels_in o)) ≡ length o
