@@ -5,7 +5,7 @@ ghost use Rattle.domain_reading.specs.Grammar.{Names};
 ghost use Rattle.domain_reading.specs.Labels.{labels_at, labels_within};
 
 use domain_label::Label;
-use domain_reading::first::{first_label, last_label};
+use domain_reading::alone::{first_label, last_label};
 use std::marker::PhantomData;
 
 /// The labels of a name in a message, the root label last.

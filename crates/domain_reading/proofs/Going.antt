@@ -12,7 +12,8 @@ use Rattle.domain_reading.specs.declared.fault.NameFault.TheVariants.{ShortInput
 use Rattle.domain_reading.specs.Grammar.Stop.{pointer}
 use Rattle.domain_reading.specs.Progress.{label_passed, pointer_followed}
 use Rattle.domain_reading.specs.declared.progress.Progress.{Progress}
-use Rattle.domain_reading.proofs.Reading.{length-wire_append, behind_pointer}
+use Rattle.domain_label.proofs.WireLaws.{length-wire_append}
+use Rattle.domain_reading.proofs.Reading.{behind_pointer}
 
 -- pointers alone lead from p to b, each one back
 pub data Leads (m : List ℕ) (p : ℕ) : ℕ → Type 0 where
