@@ -3,7 +3,7 @@ use Rattle.std.proofs.Common.{◌≡◌, ℕ, suc, ◌+◌, ◌-◌, ◌≤◌, 
 use Rattle.std.proofs.lemmas.Bool.{eqb-true}
 use Rattle.std.proofs.Math.Seq.{take-append_seam, drop-append_seam}
 use Rattle.domain_label.specs.Wire.{wire, Root, labels_in, IsRelative, IsAbsolute, IsRelativeName, IsWire, IsAbsoluteWire, IsRelativeWire}
-use Rattle.domain_label.proofs.WireLaws.{wire_append, length-wire_append, labels_in_wire, wire_absolute, wire_relative}
+use Rattle.domain_label.proofs.WireLaws.{wire_append, length-wire_append, nil_from_wire, labels_in_wire, wire_absolute, wire_relative}
 use Rattle.domain_flat.specs.Flat.{IsCutAt, IsLabelStart, IsLabelEnd, IsPartOf}
 use Rattle.domain_flat.proofs.Seams.{Meets, IsSeam, meets_labels, read_at}
 
@@ -219,11 +219,6 @@ root_start ls p a n =
     let r = root_last ls a in
     (r.0, [], [], record { parts = r.1; place = omega (arith, n, ap (λ x. length (wire x)) r.1, length-wire_append r.0 ([] ∷ [])) })
 
--- only the empty list has no octets
-pub no_wire : (zs : List (List ℕ)) → length (wire zs) ≡ 0 → zs ≡ []
-no_wire [] n = refl
-no_wire (z ∷ zs) n = absurd (omega (arith, n))
-
 last_empty : (front : List (List ℕ)) (l : List ℕ) → IsAbsolute (front ++ l ∷ []) → l ≡ []
 last_empty [] [] a = refl
 last_empty [] (c ∷ l) a = absurd a.1
@@ -231,13 +226,13 @@ last_empty ([] ∷ []) l a = cc
 last_empty ([] ∷ f ∷ front) l a = cc
 last_empty ((c ∷ k) ∷ front) l a = last_empty front l a.1
 
--- and is all that is left behind what ends there
-pub before_root : (ls front behind : List (List ℕ)) → IsAbsolute ls → ls ≡ front ++ behind → length (wire front) + 1 ≡ length (wire ls) → front ++ Root ≡ ls
-before_root ls front behind a e n =
+-- a front that lacks one octet lacks the root alone
+pub lacks_root : (ls front behind : List (List ℕ)) → IsAbsolute ls → ls ≡ front ++ behind → length (wire front) + 1 ≡ length (wire ls) → front ++ Root ≡ ls
+lacks_root ls front behind a e n =
     let r = root_last ls a in
     let len : length (wire ls) ≡ length (wire r.0) + 1 = ap (λ x. length (wire x)) r.1 ∙ length-wire_append r.0 Root in
     let z = within r.0 Root front behind (sym r.1 ∙ e) (omega (arith, len, n)) in
-    ap (λ x. x ++ Root) (z.1 ∙ (ap (λ k. r.0 ++ k) (no_wire z.0 (omega (arith, len, n, ap (λ x. length (wire x)) z.1, length-wire_append r.0 z.0))) ∙ append-nil r.0)) ∙ sym r.1
+    ap (λ x. x ++ Root) (z.1 ∙ (ap (λ k. r.0 ++ k) (nil_from_wire z.0 (omega (arith, len, n, ap (λ x. length (wire x)) z.1, length-wire_append r.0 z.0))) ∙ append-nil r.0)) ∙ sym r.1
 
 -- a last label is the root
 pub last_is_root : (ls front : List (List ℕ)) (l : List ℕ) → IsAbsolute ls → ls ≡ front ++ l ∷ [] → l ≡ []

@@ -1,16 +1,16 @@
 -- The first fault of flat octets is one.
 use Rattle.std.proofs.Common.{◌≡◌, ℕ, ◌≤◌, ◌<◌, ⊎_elim, List, [], ◌∷◌, ◌++◌, length, refl, sym, ◌∙◌, ap, subst, arith, append_assoc, codes}
 use Rattle.std.specs.Prelude.{⊤}
+use Rattle.std.proofs.lemmas.List.{nil_from_length}
 use Rattle.domain_label.specs.Wire.{wire, IsLabel, IsRelative}
 use Rattle.domain_label.specs.Splitting.{SplitFault}
 use Rattle.domain_label.specs.Told.{split_refusal}
 use Rattle.domain_wire.specs.Refusals.{Refusal, form}
 use Rattle.domain_label.specs.declared.split.SplitLabelError.{SplitLabelError}
 use Rattle.domain_label.specs.declared.split.SplitLabelError.TheVariants.{Pointer, BadType, ShortInput}
-use Rattle.domain_label.proofs.SplitLaws.{split_once, split_not_label}
+use Rattle.domain_label.proofs.SplitLaws.{same_front, split_once, split_not_label}
 use Rattle.domain_flat.specs.Flat.{Passed}
 use Rattle.domain_flat.specs.Told.{name_fault, relative_name_fault}
-use Rattle.domain_flat.proofs.Passing.{joined, no_octets}
 use Rattle.domain_flat.specs.Faults.{AbsoluteFault, AbsoluteFaultAt, RelativeFault, RelativeFaultAt, StartFault}
 use Rattle.domain_flat.specs.declared.error.NameErrorKind.{NameErrorKind}
 use Rattle.domain_flat.specs.declared.error.NameErrorKind.TheVariants as absolute
@@ -42,7 +42,7 @@ goes_on ((c ∷ l) ∷ fs) ([] ∷ gs) r s f g e = absurd g
 goes_on ((c ∷ l) ∷ fs) ((d ∷ k) ∷ gs) r s f g e =
     let n : length (c ∷ l) ≡ length (d ∷ k) = cc in
     let t : ((c ∷ l) ++ wire fs) ++ r ≡ ((d ∷ k) ++ wire gs) ++ s = cc in
-    let both = joined (c ∷ l) (d ∷ k) (wire fs ++ r) (wire gs ++ s) n (sym (append_assoc (c ∷ l) (wire fs) r) ∙ (t ∙ append_assoc (d ∷ k) (wire gs) s)) in
+    let both = same_front (c ∷ l) (d ∷ k) (wire fs ++ r) (wire gs ++ s) n (sym (append_assoc (c ∷ l) (wire fs) r) ∙ (t ∙ append_assoc (d ∷ k) (wire gs) s)) in
     longer (c ∷ l) (d ∷ k) fs gs r s both.0 (goes_on fs gs r s f.1 g.1 both.1)
 
 -- ---- why a walk can't go on
@@ -72,7 +72,7 @@ same_stuck r j k (by_root more f x) (by_root rest g y) = x ∙ sym y
 label_goes_on : {K : Type 0} {told : SplitLabelError → K} {at_end at_root : K} {missing : Type 0} (r : List ℕ) (k : K) (l more : List ℕ) → (l ≡ [] → ⊥) → IsLabel l → r ≡ length l ∷ (l ++ more) → Stuck told at_end at_root missing r k → ⊥
 label_goes_on r k l more some h at (by_label e f n x) = split_not_label l r more e h at f
 label_goes_on r k l more some h at (by_end f n x) = not_nil (length l) (l ++ more) (sym at ∙ f)
-label_goes_on r k l more some h at (by_root rest f x) = some (no_octets l (let z : length l ≡ 0 = cc in z))
+label_goes_on r k l more some h at (by_root rest f x) = some (nil_from_length l (let z : length l ≡ 0 = cc in z))
 
 one_stuck : {K : Type 0} {told : SplitLabelError → K} {at_end at_root : K} (missing : List (List ℕ) → Type 0) (fs gs : List (List ℕ)) (r s : List ℕ) (j k : K) → GoesOn fs gs r s → Stuck told at_end at_root (missing fs) r j → Stuck told at_end at_root (missing gs) s k → j ≡ k
 one_stuck {told = told} {at_end = at_end} {at_root = at_root} missing fs gs r s j k (same a b) f g =

@@ -1,5 +1,5 @@
 -- The length of a chain.
-use Rattle.std.proofs.Common.{◌≡◌, ℕ, ◌+◌, ◌≤◌, List, [], ◌∷◌, ◌++◌, length, refl, sym, ap, subst, arith}
+use Rattle.std.proofs.Common.{◌≡◌, ℕ, ◌+◌, ◌≤◌, List, [], ◌∷◌, ◌++◌, length, refl, sym, subst, arith}
 use Rattle.domain_label.specs.Wire.{wire, Root, IsAbsolute, IsRelative, IsRelativeName}
 use Rattle.domain_label.proofs.WireLaws.{length-wire_append, relative_then_absolute, relative_then_relative}
 use Rattle.domain_list.specs.Chains.{before_root}

@@ -1,4 +1,4 @@
-use Rattle.std.proofs.Common.{ℕ, ◌+◌, ◌≤◌, length, arith}
+use Rattle.std.proofs.Common.{◌+◌, ◌≤◌, length, arith}
 use Rattle.std.proofs.lemmas.Result.{IfErr-weaker}
 use Rattle.domain_reading.specs.Faults.{Fault}
 use Rattle.domain_reading.specs.declared.fault.NameFault.{NameFault}
