@@ -62,7 +62,7 @@ fn read_all<R: Read>(alloc: Global, input: &mut R) -> Result<Vec<u8>, ToolError>
 }
 
 /// The name at a place of a message. A place past the end is `ShortInput`.
-fn read_name(message: &[u8], place: u32) -> Result<ParsedName<&[u8]>, ParseError>
+fn parse_at(message: &[u8], place: u32) -> Result<ParsedName<&[u8]>, ParseError>
     ensures ok { IfOk result (λ name. Names 255 message.now place (parsed_labels name)) }
     ensures err { IfErr result (λ e. NoNameAt message.now place e) }
 {
@@ -126,7 +126,7 @@ pub fn name_at<R: Read, W: Write>(
     ensures nothing_written { OnNoWork result (Keeps (W.contents output.old) (W.contents output.new)) }
 {
     let octets = read_all(alloc, input)?;
-    let name = match read_name(octets.as_slice(), place) {
+    let name = match parse_at(octets.as_slice(), place) {
         Ok(name) => name,
         Err(e) => return Err(ToolError::Parse(e)),
     };

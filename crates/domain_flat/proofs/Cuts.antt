@@ -3,7 +3,7 @@ use Rattle.std.proofs.Common.{◌≡◌, ℕ, suc, ◌+◌, ◌-◌, ◌≤◌, 
 use Rattle.std.proofs.lemmas.Bool.{eqb-true}
 use Rattle.std.proofs.Math.Seq.{take-append_seam, drop-append_seam}
 use Rattle.domain_label.specs.Wire.{wire, Root, labels_in, IsRelative, IsAbsolute, IsRelativeName, IsWire, IsAbsoluteWire, IsRelativeWire}
-use Rattle.domain_label.proofs.WireLaws.{wire_append, labels_in_wire, wire_absolute, wire_relative}
+use Rattle.domain_label.proofs.WireLaws.{wire_append, length-wire_append, nil_from_wire, labels_in_wire, wire_absolute, wire_relative}
 use Rattle.domain_flat.specs.Flat.{IsCutAt, IsLabelStart, IsLabelEnd, IsPartOf}
 use Rattle.domain_flat.proofs.Seams.{Meets, IsSeam, meets_labels, read_at}
 
@@ -116,7 +116,7 @@ part_octets o p q xs ys zs ys' w c e n =
 between : (o : List ℕ) (p q : ℕ) (xs ys xs' ys' : List (List ℕ)) → wire (labels_in o) ≡ o → length o ≤ 255 → IsCutAt (labels_in o) p xs ys → IsCutAt (labels_in o) q xs' ys' → IsRelativeName xs' → p ≤ q → Part o p q (slice_range o p q)
 between o p q xs ys xs' ys' w few a b rel n =
     let z = cut_within (labels_in o) p q xs ys xs' ys' a b n in
-    let len : length (wire xs') ≡ length (wire xs) + length (wire z.0) = ap (λ r. length (wire r)) z.1 ∙ (ap length (wire_append xs z.0) ∙ length-append (wire xs) (wire z.0)) in
+    let len : length (wire xs') ≡ length (wire xs) + length (wire z.0) = ap (λ r. length (wire r)) z.1 ∙ length-wire_append xs z.0 in
     let k : q ≡ p + length (wire z.0) = omega (arith, len, a.place, b.place) in
     let e = part_octets o p q xs ys z.0 ys' w a z.2 k in
     let r = (relative_cut xs z.0 (subst IsRelative z.1 rel.0)).1 in
@@ -155,7 +155,7 @@ pub step_stays : (o : List ℕ) (i place : ℕ) → IsSeam o i → IsLabelEnd (l
 step_stays o i place s t h =
     let c = seam_cut o i s in
     let z = cut_within (labels_in o) i place _ _ t.0 t.1 c t.2 (omega (arith, h)) in
-    let len : length (wire t.0) ≡ length (wire (labels_in (take i o))) + length (wire z.0) = ap (λ r. length (wire r)) z.1 ∙ (ap length (wire_append (labels_in (take i o)) z.0) ∙ length-append (wire (labels_in (take i o))) (wire z.0)) in
+    let len : length (wire t.0) ≡ length (wire (labels_in (take i o))) + length (wire z.0) = ap (λ r. length (wire r)) z.1 ∙ length-wire_append (labels_in (take i o)) z.0 in
     next_place o i place _ _ z.0 t.1 s z.2 (omega (arith, len, c.place, t.2.place)) h
 
 pub end_inside : (o : List ℕ) (place : ℕ) → IsWire o → IsLabelEnd (labels_in o) place → place ≤ length o
@@ -217,12 +217,7 @@ end_start ls p n e = start_of ls p e.0 e.1 e.2 n
 pub root_start : (ls : List (List ℕ)) (p : ℕ) → IsAbsolute ls → p + 1 ≡ length (wire ls) → IsLabelStart ls p
 root_start ls p a n =
     let r = root_last ls a in
-    (r.0, [], [], record { parts = r.1; place = omega (arith, n, ap (λ x. length (wire x)) r.1, ap length (wire_append r.0 ([] ∷ [])), length-append (wire r.0) (0 ∷ [])) })
-
--- only the empty list has no octets
-pub no_wire : (zs : List (List ℕ)) → length (wire zs) ≡ 0 → zs ≡ []
-no_wire [] n = refl
-no_wire (z ∷ zs) n = absurd (omega (arith, n))
+    (r.0, [], [], record { parts = r.1; place = omega (arith, n, ap (λ x. length (wire x)) r.1, length-wire_append r.0 ([] ∷ [])) })
 
 last_empty : (front : List (List ℕ)) (l : List ℕ) → IsAbsolute (front ++ l ∷ []) → l ≡ []
 last_empty [] [] a = refl
@@ -231,13 +226,13 @@ last_empty ([] ∷ []) l a = cc
 last_empty ([] ∷ f ∷ front) l a = cc
 last_empty ((c ∷ k) ∷ front) l a = last_empty front l a.1
 
--- and is all that is left behind what ends there
-pub before_root : (ls front behind : List (List ℕ)) → IsAbsolute ls → ls ≡ front ++ behind → length (wire front) + 1 ≡ length (wire ls) → front ++ Root ≡ ls
-before_root ls front behind a e n =
+-- a front that lacks one octet lacks the root alone
+pub lacks_root : (ls front behind : List (List ℕ)) → IsAbsolute ls → ls ≡ front ++ behind → length (wire front) + 1 ≡ length (wire ls) → front ++ Root ≡ ls
+lacks_root ls front behind a e n =
     let r = root_last ls a in
-    let len : length (wire ls) ≡ length (wire r.0) + 1 = ap (λ x. length (wire x)) r.1 ∙ (ap length (wire_append r.0 Root) ∙ length-append (wire r.0) (wire Root)) in
+    let len : length (wire ls) ≡ length (wire r.0) + 1 = ap (λ x. length (wire x)) r.1 ∙ length-wire_append r.0 Root in
     let z = within r.0 Root front behind (sym r.1 ∙ e) (omega (arith, len, n)) in
-    ap (λ x. x ++ Root) (z.1 ∙ (ap (λ k. r.0 ++ k) (no_wire z.0 (omega (arith, len, n, ap (λ x. length (wire x)) z.1, ap length (wire_append r.0 z.0), length-append (wire r.0) (wire z.0)))) ∙ append-nil r.0)) ∙ sym r.1
+    ap (λ x. x ++ Root) (z.1 ∙ (ap (λ k. r.0 ++ k) (nil_from_wire z.0 (omega (arith, len, n, ap (λ x. length (wire x)) z.1, length-wire_append r.0 z.0))) ∙ append-nil r.0)) ∙ sym r.1
 
 -- a last label is the root
 pub last_is_root : (ls front : List (List ℕ)) (l : List ℕ) → IsAbsolute ls → ls ≡ front ++ l ∷ [] → l ≡ []

@@ -1,24 +1,21 @@
 -- Going over flat labels from the left.
 use Rattle.std.proofs.Common.{◌≡◌, ℕ, suc, ◌⊎◌, ◌-◌, ◌+◌, ◌≤◌, ◌<◌, List, [], ◌∷◌, ◌++◌, length, take, drop, slice_range, refl, sym, ◌∙◌, ap, subst, arith, ⊎_elim, append_assoc, length-append, length-drop, append-nil}
 use Rattle.std.proofs.Math.Seq.{take-append_seam}
-use Rattle.domain_label.specs.Wire.{wire, Root, IsLabel, IsRelative, IsAbsolute, IsAbsoluteName, IsAbsoluteWire, IsRelativeWire}
+use Rattle.std.proofs.lemmas.List.{nil_from_length}
+use Rattle.domain_label.specs.Wire.{wire, Root, IsRelative, IsAbsolute, IsAbsoluteName, IsAbsoluteWire, IsRelativeWire}
 use Rattle.domain_label.specs.Splitting.{BeginsWithLabel, SplitFault}
 use Rattle.domain_label.specs.declared.split.SplitLabelError.{SplitLabelError}
-use Rattle.domain_label.proofs.SplitLaws.{split_not_label}
-use Rattle.domain_label.proofs.WireLaws.{wire_append, wire_absolute, wire_relative, relative_then_relative, relative_then_absolute, absolute_labels, relative_labels}
+use Rattle.domain_label.proofs.SplitLaws.{same_front, split_not_label}
+use Rattle.domain_label.proofs.WireLaws.{wire_append, length-wire_append, one_relative, wire_absolute, wire_relative, relative_then_relative, relative_then_absolute, absolute_labels, relative_labels}
 use Rattle.domain_flat.specs.Flat.{Passed, NameAt}
 
 pub passed_none : (o : List ℕ) → Passed o [] o
 passed_none o = record { labels = tt; parts = refl }
 
-one_label : (l : List ℕ) → IsLabel l → (l ≡ [] → ⊥) → IsRelative (l ∷ [])
-one_label [] h some = absurd (some refl)
-one_label (c ∷ l) h some = (h, tt)
-
 -- one more label is passed
 pub passed_more : (o : List ℕ) (fs : List (List ℕ)) (rest l behind : List ℕ) → Passed o fs rest → BeginsWithLabel rest l behind → (l ≡ [] → ⊥) → Passed o (fs ++ l ∷ []) behind
 passed_more o fs rest l behind p b some = record {
-  labels = relative_then_relative fs (l ∷ []) p.labels (one_label l b.0 some);
+  labels = relative_then_relative fs (l ∷ []) p.labels (one_relative l b.0 some);
   parts = p.parts ∙ (ap (λ r. wire fs ++ r) b.1 ∙ (ap (λ r. wire fs ++ length l ∷ (r ++ behind)) (sym (append-nil l)) ∙ (sym (append_assoc (wire fs) (wire (l ∷ [])) behind) ∙ ap (λ r. r ++ behind) (sym (wire_append fs (l ∷ []))))));
 }
 
@@ -27,7 +24,7 @@ pub passed_root : (o : List ℕ) (fs : List (List ℕ)) (more : List ℕ) → Pa
 passed_root o fs more p = p.parts ∙ (sym (append_assoc (wire fs) (0 ∷ []) more) ∙ ap (λ r. r ++ more) (sym (wire_append fs Root)))
 
 pub absolute_of : (fs : List (List ℕ)) → IsRelative fs → length (wire fs) ≤ 254 → IsAbsoluteName (fs ++ Root)
-absolute_of fs r few = (relative_then_absolute fs Root r refl, omega (arith, few, ap length (wire_append fs Root), length-append (wire fs) (wire Root)))
+absolute_of fs r few = (relative_then_absolute fs Root r refl, omega (arith, few, length-wire_append fs Root))
 
 pub passed_all_absolute : (o : List ℕ) (fs : List (List ℕ)) → Passed o fs (0 ∷ []) → length o ≤ 255 → IsAbsoluteWire o
 passed_all_absolute o fs p few =
@@ -42,16 +39,6 @@ passed_all_relative o fs p few =
 
 -- ---- what is passed of a list of labels
 
-pub joined : (a b x y : List ℕ) → length a ≡ length b → a ++ x ≡ b ++ y → (a ≡ b) × (x ≡ y)
-joined [] [] x y n e = (refl, e)
-joined [] (d ∷ b) x y n e = absurd (omega (arith, n))
-joined (c ∷ a) [] x y n e = absurd (omega (arith, n))
-joined (c ∷ a) (d ∷ b) x y n e =
-    let head : c ≡ d = cc in
-    let tail : a ++ x ≡ b ++ y = cc in
-    let both = joined a b x y (omega (arith, n)) tail in
-    (ap (λ r. c ∷ r) both.0 ∙ ap (λ k. k ∷ b) head, both.1)
-
 left_of : (fs ls : List (List ℕ)) (rest tail : List ℕ) → IsRelative fs → IsAbsolute ls → wire fs ++ rest ≡ wire ls ++ tail → (more : List (List ℕ)) × (ls ≡ fs ++ more) × IsAbsolute more × (rest ≡ wire more ++ tail)
 left_of [] ls rest tail f a e = (ls, refl, a, e)
 left_of ([] ∷ fs) ls rest tail f a e = absurd f
@@ -60,7 +47,7 @@ left_of ((c ∷ l) ∷ fs) ([] ∷ ls) rest tail f a e = absurd (let z : suc (le
 left_of ((c ∷ l) ∷ fs) ((d ∷ k) ∷ ls) rest tail f a e =
     let n : length (c ∷ l) ≡ length (d ∷ k) = cc in
     let t : ((c ∷ l) ++ wire fs) ++ rest ≡ ((d ∷ k) ++ wire ls) ++ tail = cc in
-    let both = joined (c ∷ l) (d ∷ k) (wire fs ++ rest) (wire ls ++ tail) n (sym (append_assoc (c ∷ l) (wire fs) rest) ∙ (t ∙ append_assoc (d ∷ k) (wire ls) tail)) in
+    let both = same_front (c ∷ l) (d ∷ k) (wire fs ++ rest) (wire ls ++ tail) n (sym (append_assoc (c ∷ l) (wire fs) rest) ∙ (t ∙ append_assoc (d ∷ k) (wire ls) tail)) in
     let r = left_of fs ls rest tail f.1 a.1 both.1 in
     (r.0, ap (λ x. x ∷ ls) (sym both.0) ∙ ap (λ x. (c ∷ l) ∷ x) r.1, r.2, r.3)
 
@@ -114,14 +101,10 @@ Stops o rest = ((fs : List (List ℕ)) × Passed o fs rest) × ((rest ≡ []) �
 pub stops_root : (o rest : List ℕ) → Stops o rest → 1 ≤ length rest → (more : List ℕ) × (rest ≡ 0 ∷ more)
 stops_root o rest s n = ⊎_elim (λ e. absurd (omega (arith, n, ap length e))) (λ r. r) s.1
 
-pub no_octets : (xs : List ℕ) → length xs ≡ 0 → xs ≡ []
-no_octets [] n = refl
-no_octets (x ∷ xs) n = absurd (omega (arith, n))
-
 pub stops_one : (o rest : List ℕ) → Stops o rest → length rest ≡ 1 → length o ≤ 255 → IsAbsoluteWire o
 stops_one o rest s n few =
     let r = stops_root o rest s (omega (arith, n)) in
-    let e : rest ≡ 0 ∷ [] = r.1 ∙ ap (λ x. 0 ∷ x) (no_octets r.0 (omega (arith, n, ap length r.1))) in
+    let e : rest ≡ 0 ∷ [] = r.1 ∙ ap (λ x. 0 ∷ x) (nil_from_length r.0 (omega (arith, n, ap length r.1))) in
     passed_all_absolute o s.0.0 (subst (λ x. Passed o s.0.0 x) e s.0.1) few
 
 at_least_two : (more : List ℕ) → 1 ≤ length more → (c : ℕ) × (rest : List ℕ) × (more ≡ c ∷ rest)
@@ -144,7 +127,7 @@ more_not_absolute o rest ls s n a eq =
 -- ---- relative lists
 
 pub stops_none : (o rest : List ℕ) → Stops o rest → length rest ≡ 0 → length o ≤ 254 → IsRelativeWire o
-stops_none o rest s n few = passed_all_relative o s.0.0 (subst (λ x. Passed o s.0.0 x) (no_octets rest n) s.0.1) few
+stops_none o rest s n few = passed_all_relative o s.0.0 (subst (λ x. Passed o s.0.0 x) (nil_from_length rest n) s.0.1) few
 
 left_relative : (fs ls : List (List ℕ)) (rest : List ℕ) → IsRelative fs → IsRelative ls → wire fs ++ rest ≡ wire ls → (more : List (List ℕ)) × (ls ≡ fs ++ more) × IsRelative more × (rest ≡ wire more)
 left_relative [] ls rest f a e = (ls, refl, a, e)
@@ -154,7 +137,7 @@ left_relative ((c ∷ l) ∷ fs) ([] ∷ ls) rest f a e = absurd a
 left_relative ((c ∷ l) ∷ fs) ((d ∷ k) ∷ ls) rest f a e =
     let n : length (c ∷ l) ≡ length (d ∷ k) = cc in
     let t : ((c ∷ l) ++ wire fs) ++ rest ≡ (d ∷ k) ++ wire ls = cc in
-    let both = joined (c ∷ l) (d ∷ k) (wire fs ++ rest) (wire ls) n (sym (append_assoc (c ∷ l) (wire fs) rest) ∙ t) in
+    let both = same_front (c ∷ l) (d ∷ k) (wire fs ++ rest) (wire ls) n (sym (append_assoc (c ∷ l) (wire fs) rest) ∙ t) in
     let r = left_relative fs ls rest f.1 a.1 both.1 in
     (r.0, ap (λ x. x ∷ ls) (sym both.0) ∙ ap (λ x. (c ∷ l) ∷ x) r.1, r.2, r.3)
 
@@ -177,7 +160,7 @@ root_not_relative o rest ls s n a eq =
 -- ---- the length of the name that stands at the beginning
 
 pub passed_len : (o rest : List ℕ) (s : Stops o rest) → 1 ≤ length rest → length o - length rest + 1 ≡ length (wire (s.0.0 ++ Root))
-passed_len o rest s n = omega (arith, n, ap length s.0.1.parts, length-append (wire s.0.0) rest, ap length (wire_append s.0.0 Root), length-append (wire s.0.0) (wire Root))
+passed_len o rest s n = omega (arith, n, ap length s.0.1.parts, length-append (wire s.0.0) rest, length-wire_append s.0.0 Root)
 
 pub name_of : (o rest : List ℕ) → Stops o rest → 1 ≤ length rest → length o - length rest + 1 ≤ 255 → (ls : List (List ℕ)) × (tail : List ℕ) × IsAbsoluteName ls × (o ≡ wire ls ++ tail) × (length o - length rest + 1 ≡ length (wire ls))
 name_of o rest s n few =
@@ -203,7 +186,7 @@ absolute_once ((c ∷ k) ∷ xs) ([] ∷ ys) a b x y e = absurd (let z : suc (le
 absolute_once ((c ∷ k) ∷ xs) ((d ∷ l) ∷ ys) a b x y e =
     let n : length (c ∷ k) ≡ length (d ∷ l) = cc in
     let t : ((c ∷ k) ++ wire xs) ++ a ≡ ((d ∷ l) ++ wire ys) ++ b = cc in
-    let both = joined (c ∷ k) (d ∷ l) (wire xs ++ a) (wire ys ++ b) n (sym (append_assoc (c ∷ k) (wire xs) a) ∙ (t ∙ append_assoc (d ∷ l) (wire ys) b)) in
+    let both = same_front (c ∷ k) (d ∷ l) (wire xs ++ a) (wire ys ++ b) n (sym (append_assoc (c ∷ k) (wire xs) a) ∙ (t ∙ append_assoc (d ∷ l) (wire ys) b)) in
     ap (λ r. (c ∷ k) ∷ r) (absolute_once xs ys a b x.1 y.1 both.1) ∙ ap (λ l'. l' ∷ ys) both.0
 
 -- the octets of the name that stands at a place

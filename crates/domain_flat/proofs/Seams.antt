@@ -2,8 +2,8 @@
 use Rattle.std.proofs.Common.{◌≡◌, ℕ, ◌+◌, ◌-◌, ◌≤◌, ◌<◌, List, [], ◌∷◌, ◌++◌, length, take, drop, refl, sym, ◌∙◌, ap, subst, arith, append_assoc, length-append, append-nil, slice_index_or, add-zero, drop-drop, get_or-drop, suc}
 use Rattle.std.proofs.Math.Seq.{take-append_seam, drop-append_seam}
 use Rattle.domain_label.specs.Wire.{wire, cut, labels_in, AreLabels, IsWire}
-use Rattle.domain_label.proofs.WireLaws.{wire_append, labels_in_wire}
-use Rattle.domain_flat.specs.Flat.{BeginsWith, EndsWith}
+use Rattle.domain_label.proofs.WireLaws.{wire_append, length-wire_append, labels_in_wire}
+use Rattle.domain_flat.specs.Flat.{HasFirst, HasLast}
 
 pub labels_append : (xs ys : List (List ℕ)) → AreLabels xs → AreLabels ys → AreLabels (xs ++ ys)
 labels_append [] ys h k = k
@@ -33,7 +33,7 @@ meets_labels o i xs ys m = ap labels_in (sym m.whole ∙ sym (wire_append xs ys)
 
 pub meets_next : (o : List ℕ) (i : ℕ) (xs : List (List ℕ)) (y : List ℕ) (ys : List (List ℕ)) → Meets o i xs (y ∷ ys) → Meets o (i + 1 + length y) (xs ++ y ∷ []) ys
 meets_next o i xs y ys m = record {
-  at = ap length (wire_append xs (y ∷ [])) ∙ omega (arith, m.at, length-append (wire xs) (wire (y ∷ [])), length-append y (wire []));
+  at = omega (arith, m.at, length-wire_append xs (y ∷ []), length-append y (wire []));
   whole = ap (λ r. r ++ wire ys) (wire_append xs (y ∷ [])) ∙ (append_assoc (wire xs) (wire (y ∷ [])) (wire ys) ∙ (ap (λ r. wire xs ++ length y ∷ (r ++ wire ys)) (append-nil y) ∙ m.whole));
   front = labels_append xs (y ∷ []) m.front (m.back.0, tt);
   back = m.back.1;
@@ -71,7 +71,7 @@ no_more : (ys : List (List ℕ)) → length (wire ys) ≡ 0 → ys ≡ []
 no_more [] h = refl
 no_more (y ∷ ys) h = absurd (omega (arith, h))
 
-last_of : (o : List ℕ) (i : ℕ) (xs ys : List (List ℕ)) → Meets o i xs ys → i < length o → length o ≤ i + 1 + slice_index_or o i 0 → EndsWith o (take i o) (drop (i + 1) o)
+last_of : (o : List ℕ) (i : ℕ) (xs ys : List (List ℕ)) → Meets o i xs ys → i < length o → length o ≤ i + 1 + slice_index_or o i 0 → HasLast o (take i o) (drop (i + 1) o)
 last_of o i xs [] m h k = absurd (omega (arith, h, meets_length o i xs [] m))
 last_of o i xs (y ∷ ys) m h k =
     let none : ys ≡ [] = no_more ys (omega (arith, read_at o i xs y ys m, meets_length o _ _ _ (meets_next o i xs y ys m), k)) in
@@ -83,7 +83,7 @@ last_of o i xs (y ∷ ys) m h k =
       parts = meets_labels o i xs (y ∷ ys) m ∙ (ap (λ r. xs ++ y ∷ r) none ∙ rw (front, tail) (ap (λ r. r ++ y ∷ []) (sym (labels_in_wire xs))));
     }
 
-pub last_at : (o : List ℕ) (i : ℕ) → IsSeam o i → i < length o → length o ≤ i + 1 + slice_index_or o i 0 → EndsWith o (take i o) (drop (i + 1) o)
+pub last_at : (o : List ℕ) (i : ℕ) → IsSeam o i → i < length o → length o ≤ i + 1 + slice_index_or o i 0 → HasLast o (take i o) (drop (i + 1) o)
 last_at o i s h k = last_of o i _ _ s h k
 
 -- what a first length octet leaves
@@ -96,7 +96,7 @@ rest_is n o w =
 pub first_fits : (o : List ℕ) → IsWire o → 1 ≤ length o → slice_index_or o 0 0 ≤ length o - 1
 first_fits o w h = omega (arith, (seam_next o 0 (seam_start o w) (omega (arith, h))).0)
 
-pub first_at : (o : List ℕ) → IsWire o → 1 ≤ length o → BeginsWith o (take (slice_index_or o 0 0) (drop 1 o)) (drop (slice_index_or o 0 0) (drop 1 o))
+pub first_at : (o : List ℕ) → IsWire o → 1 ≤ length o → HasFirst o (take (slice_index_or o 0 0) (drop 1 o)) (drop (slice_index_or o 0 0) (drop 1 o))
 first_at [] w h = absurd (omega (arith, h))
 first_at (n ∷ o) w h =
     let ls = cut (length o) (drop n o) in

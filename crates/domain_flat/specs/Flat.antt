@@ -15,13 +15,13 @@ pub record NameAt (m : List ℕ) (p : ℕ) (ls : List (List ℕ)) (e : ℕ) : Ty
   pub end : e ≡ p + length (wire ls)
 
 -- The wire form o is a label l, and then the wire form r.
-pub record BeginsWith (o l r : List ℕ) : Type 0 where
+pub record HasFirst (o l r : List ℕ) : Type 0 where
   pub label : IsLabel l
   pub rest : IsWire r
   pub parts : labels_in o ≡ l ∷ labels_in r
 
 -- The wire form o is the wire form r, and then a label l.
-pub record EndsWith (o r l : List ℕ) : Type 0 where
+pub record HasLast (o r l : List ℕ) : Type 0 where
   pub label : IsLabel l
   pub rest : IsWire r
   pub parts : labels_in o ≡ labels_in r ++ l ∷ []
@@ -44,6 +44,6 @@ abbrev pub IsPartOf : List (List ℕ) → ℕ → ℕ → List (List ℕ) → Ty
 IsPartOf ls p q part = (before : List (List ℕ)) × (behind : List (List ℕ)) × IsCutAt ls p before (part ++ behind) × (p + length (wire part) ≡ q)
 
 -- The list and all that is left of it behind its first labels, as long as a label is left.
-abbrev pub suffixes : List (List ℕ) → List (List (List ℕ))
-suffixes [] = []
-suffixes (l ∷ ls) = (l ∷ ls) ∷ suffixes ls
+abbrev pub suffix_lists : List (List ℕ) → List (List (List ℕ))
+suffix_lists [] = []
+suffix_lists (l ∷ ls) = (l ∷ ls) ∷ suffix_lists ls

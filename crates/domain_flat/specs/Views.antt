@@ -14,5 +14,5 @@ abbrev pub relative_name_error_kind : RelativeNameError → RelativeNameErrorKin
 relative_name_error_kind e = e.kind
 
 -- the labels that an iterator has left
-abbrev pub labels_left : NameIter → List (List ℕ)
-labels_left it = labels_in it.octets.now
+abbrev pub flat_labels_left : NameIter → List (List ℕ)
+flat_labels_left it = labels_in it.octets.now

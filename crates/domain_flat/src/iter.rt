@@ -2,7 +2,7 @@
 ghost use Rattle.std.specs.Prelude.{◌≡◌, [], MatchOption};
 ghost use Rattle.domain_label.specs.Wire.{IsWire, wire, labels_in};
 ghost use Rattle.domain_label.proofs.WireLaws.{IsWire_prop};
-ghost use Rattle.domain_flat.specs.Flat.{BeginsWith, EndsWith};
+ghost use Rattle.domain_flat.specs.Flat.{HasFirst, HasLast};
 
 use domain_label::Label;
 use domain_list::LabelIterator;
@@ -19,12 +19,12 @@ pub struct NameIter<'a> {
 }
 
 impl<'a> NameIter<'a> {
-    ghost use Rattle.domain_flat.specs.Views.{labels_left};
+    ghost use Rattle.domain_flat.specs.Views.{flat_labels_left};
 
     /// The labels of these octets.
     pub fn new(octets: &'a [u8]) -> NameIter<'a>
         requires { IsWire octets.now }
-        ensures { labels_left result ≡ labels_in octets.now }
+        ensures { flat_labels_left result ≡ labels_in octets.now }
     {
         NameIter {
             octets,
@@ -34,7 +34,7 @@ impl<'a> NameIter<'a> {
 
     /// The wire form of the labels that are left.
     pub fn as_slice(&self) -> &'a [u8]
-        ensures labels { labels_in result.now ≡ labels_left self.now }
+        ensures labels { labels_in result.now ≡ flat_labels_left self.now }
         ensures wire { wire (labels_in result.now) ≡ result.now }
     {
         self.octets
@@ -44,7 +44,7 @@ impl<'a> NameIter<'a> {
 /// The octets of the first label of a wire form, and the wire form behind it.
 pub fn first_label(octets: &[u8]) -> Option<(&[u8], &[u8])>
     requires { IsWire octets.now }
-    ensures { MatchOption result (octets.now ≡ []) (λ parts. BeginsWith octets.now parts.0.now parts.1.now) }
+    ensures { MatchOption result (octets.now ≡ []) (λ parts. HasFirst octets.now parts.0.now parts.1.now) }
 {
     let [len, rest @ ..] = octets else {
         return None;
@@ -55,7 +55,7 @@ pub fn first_label(octets: &[u8]) -> Option<(&[u8], &[u8])>
 /// The wire form before the last label of a wire form, and the octets of that label.
 pub fn last_label(octets: &[u8]) -> Option<(&[u8], &[u8])>
     requires { IsWire octets.now }
-    ensures { MatchOption result (octets.now ≡ []) (λ parts. EndsWith octets.now parts.0.now parts.1.now) }
+    ensures { MatchOption result (octets.now ≡ []) (λ parts. HasLast octets.now parts.0.now parts.1.now) }
 {
     if octets.is_empty() {
         return None;
@@ -73,13 +73,13 @@ pub fn last_label(octets: &[u8]) -> Option<(&[u8], &[u8])>
 impl<'a> Iterator for NameIter<'a> {
     ghost use Rattle.std.specs.Iterator.{YieldsFirstBy, item_count};
     ghost use Rattle.domain_label.specs.Views.{label_octets};
-    ghost use Rattle.domain_flat.specs.Views.{labels_left};
+    ghost use Rattle.domain_flat.specs.Views.{flat_labels_left};
 
     type Item = Label<'a>;
 
-    ghost next_gives = { YieldsFirstBy label_octets labels_left };
+    ghost next_gives = { YieldsFirstBy label_octets flat_labels_left };
 
-    ghost remaining = { item_count labels_left };
+    ghost remaining = { item_count flat_labels_left };
 
     fn next(&mut self) -> Option<Label<'a>> {
         let (label, rest) = first_label(self.octets)?;
@@ -91,9 +91,9 @@ impl<'a> Iterator for NameIter<'a> {
 impl<'a> DoubleEndedIterator for NameIter<'a> {
     ghost use Rattle.std.specs.Iterator.{YieldsLastBy};
     ghost use Rattle.domain_label.specs.Views.{label_octets};
-    ghost use Rattle.domain_flat.specs.Views.{labels_left};
+    ghost use Rattle.domain_flat.specs.Views.{flat_labels_left};
 
-    ghost next_back_gives = { YieldsLastBy label_octets labels_left };
+    ghost next_back_gives = { YieldsLastBy label_octets flat_labels_left };
 
     fn next_back(&mut self) -> Option<Label<'a>> {
         let (rest, label) = last_label(self.octets)?;
@@ -103,9 +103,9 @@ impl<'a> DoubleEndedIterator for NameIter<'a> {
 }
 
 impl<'a> LabelIterator<'a> for NameIter<'a> {
-    ghost use Rattle.domain_flat.specs.Views.{labels_left};
+    ghost use Rattle.domain_flat.specs.Views.{flat_labels_left};
 
-    ghost left = { labels_left };
+    ghost left = { flat_labels_left };
 
     ghost ready = { λ s. tt };
 

@@ -1,5 +1,5 @@
 -- Octets begin with one label, or have one fault, and never both.
-use Rattle.std.proofs.Common.{◌≡◌, ℕ, suc, ◌+◌, ◌*◌, ◌-◌, ◌≤◌, ◌<◌, ◌⊎◌, inl, inr, ⊎_elim, List, [], ◌∷◌, ◌++◌, length, take, drop, refl, sym, ◌∙◌, ap, subst, arith, length-append, length-drop, length-take-le, take-append-drop}
+use Rattle.std.proofs.Common.{◌≡◌, ℕ, suc, ⊎_elim, List, [], ◌∷◌, ◌++◌, length, take, drop, refl, sym, ◌∙◌, ap, arith, length-append}
 use Rattle.std.proofs.Math.Seq.{take-append_seam, drop-append_seam}
 use Rattle.domain_label.specs.Wire.{IsLabel}
 use Rattle.domain_label.specs.Splitting.{BeginsWithLabel, SplitFault, HeadFault}
@@ -35,7 +35,7 @@ split_once [] d e f g = f ∙ sym g
 split_once (head ∷ rest) d e f g = head_once head rest d e f g
 
 -- lists of one length with more behind them are the same where the whole is
-same_front : (a b r s : List ℕ) → length a ≡ length b → a ++ r ≡ b ++ s → (a ≡ b) × (r ≡ s)
+pub same_front : (a b r s : List ℕ) → length a ≡ length b → a ++ r ≡ b ++ s → (a ≡ b) × (r ≡ s)
 same_front a b r s n e =
     let left : a ≡ b = sym (take-append_seam a r) ∙ (ap (take (length a)) e ∙ (ap (λ k. take k (b ++ s)) n ∙ take-append_seam b s)) in
     let right : r ≡ s = sym (drop-append_seam a r) ∙ (ap (drop (length a)) e ∙ (ap (λ k. drop k (b ++ s)) n ∙ drop-append_seam b s)) in

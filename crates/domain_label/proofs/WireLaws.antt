@@ -1,10 +1,10 @@
 -- Laws of wire forms and of the lists that they spell.
-use Rattle.std.specs.Prelude.{◌≡◌, ℕ, zero, suc, ◌≤◌, List, [], ◌∷◌, ◌++◌, length, refl}
+use Rattle.std.specs.Prelude.{◌≡◌, ℕ, zero, suc, ◌+◌, ◌≤◌, List, [], ◌∷◌, ◌++◌, length, refl}
 use Rattle.std.specs.Coded.{×_prop, Unit-prop, le_prop, Coded-set, coded_list, coded_ℕ}
 use Rattle.std.proofs.Common.{arith, ap, subst, sym, ◌∙◌, append_assoc, length-append}
 use Rattle.std.proofs.Math.Seq.{take-append_seam, drop-append_seam}
 use Rattle.std.proofs.Math.Nat.{le_refl}
-use Rattle.domain_label.specs.Wire.{wire, cut, labels_in, AreLabels, IsAbsolute, IsRelative, IsAbsoluteName, IsRelativeName, IsWire, IsAbsoluteWire, IsRelativeWire}
+use Rattle.domain_label.specs.Wire.{wire, cut, labels_in, AreLabels, IsLabel, IsAbsolute, IsRelative, IsAbsoluteName, IsRelativeName, IsWire, IsAbsoluteWire, IsRelativeWire}
 
 -- cutting undoes wire
 cut_wire : (n : ℕ) (ls : List (List ℕ)) → length (wire ls) ≤ n → cut n (wire ls) ≡ ls
@@ -25,6 +25,15 @@ pub wire_append : (xs ys : List (List ℕ)) → wire (xs ++ ys) ≡ wire xs ++ w
 wire_append [] ys = refl
 wire_append (x ∷ xs) ys = ap (λ r. length x ∷ r) (ap (λ r. x ++ r) (wire_append xs ys) ∙ sym (append_assoc x (wire xs) (wire ys)))
 
+-- so its octets are those of both
+pub length-wire_append : (xs ys : List (List ℕ)) → length (wire (xs ++ ys)) ≡ length (wire xs) + length (wire ys)
+length-wire_append xs ys = ap length (wire_append xs ys) ∙ length-append (wire xs) (wire ys)
+
+-- a list without octets has no labels
+pub nil_from_wire : (ls : List (List ℕ)) → length (wire ls) ≡ 0 → ls ≡ []
+nil_from_wire [] e = refl
+nil_from_wire (l ∷ ls) e = absurd (omega (arith, e))
+
 -- each label takes an octet at least
 pub labels_le_wire : (ls : List (List ℕ)) → length ls ≤ length (wire ls)
 labels_le_wire [] = omega arith
@@ -40,6 +49,11 @@ pub relative_then_relative : (ls rs : List (List ℕ)) → IsRelative ls → IsR
 relative_then_relative [] rs l r = r
 relative_then_relative ([] ∷ ls) rs l r = absurd l
 relative_then_relative ((x ∷ xs) ∷ ls) rs l r = (l.0, relative_then_relative ls rs l.1 r)
+
+-- a label alone
+pub one_relative : (l : List ℕ) → IsLabel l → (l ≡ [] → ⊥) → IsRelative (l ∷ [])
+one_relative [] h some = absurd (some refl)
+one_relative (c ∷ l) h some = (h, tt)
 
 -- no list is both
 pub not_both : (ls : List (List ℕ)) → IsAbsolute ls → IsRelative ls → ⊥

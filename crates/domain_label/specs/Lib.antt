@@ -1,5 +1,6 @@
 pub mod Wire
 pub mod Low
+pub mod Facts
 pub mod Text
 pub mod Splitting
 pub mod SliceWalk

@@ -1,13 +1,11 @@
 -- Octets without ASCII case (RFC 1035, 2.3.3; RFC 4343).
-use Rattle.std.specs.Prelude.{ℕ, Bool, List, ◌==◌, map, refl}
+use Rattle.std.specs.Prelude.{ℕ, Bool, List, ◌==◌, map}
 use Rattle.std.specs.Char.{to_ascii_lowercase}
-use Rattle.std.specs.Cmp.{unsigned_Decides}
 use Rattle.std.specs.Cmp.Lexicographic.{pointwise, slice_cmp}
 use Rattle.std.specs.Hash as fed
 use Rattle.std.specs.List.{flat_map}
 use Rattle.std.specs.Ordering.{on, nat_cmp}
 use Rattle.std.specs.declared.cmp.Ordering.{Ordering}
-use Rattle.std.proofs.lemmas.Slice.Eq.{slice_eq-Decides}
 use Rattle.domain_label.specs.Wire.{wire_label}
 
 -- A to Z as a to z, and each other octet as it is
@@ -28,11 +26,11 @@ abbrev pub low_cmp : List ℕ → List ℕ → Ordering
 low_cmp = on low (slice_cmp nat_cmp)
 
 -- Two labels in the order of the octets of their wire forms, and of the lowered ones.
-abbrev pub composed_order : List ℕ → List ℕ → Ordering
-composed_order = on wire_label (slice_cmp nat_cmp)
+abbrev pub label_composed_order : List ℕ → List ℕ → Ordering
+label_composed_order = on wire_label (slice_cmp nat_cmp)
 
-abbrev pub lowercase_composed_order : List ℕ → List ℕ → Ordering
-lowercase_composed_order = on low composed_order
+abbrev pub label_lowercase_composed_order : List ℕ → List ℕ → Ordering
+label_lowercase_composed_order = on low label_composed_order
 
 -- Each octet as one write of a `u8`.
 abbrev pub as_writes : List ℕ → fed.HashWrites
@@ -41,7 +39,3 @@ as_writes = flat_map fed.u8
 -- What a label feeds a hasher: its length, and then its octets without case.
 abbrev pub feed_label : List ℕ → fed.HashWrites
 feed_label l = as_writes (wire_label (low l))
-
--- Labels that are equal without case feed alike, as the law of `Hash` asks.
-pub feeds_alike : fed.Alike low_eq feed_label
-feeds_alike = fed.on_Alike low (fed.same_Alike (λ l. as_writes (wire_label l)) (λ xs ys. slice_eq-Decides unsigned_Decides xs ys _ refl))

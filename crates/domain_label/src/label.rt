@@ -26,7 +26,7 @@ impl fmt::Display for LongLabelError {
 impl Error for LongLabelError {}
 
 /// A label: at most 63 octets, of any values (RFC 1035, 3.1). The empty label is the root label.
-#[derive(Clone, Copy, Debug)]
+#[derive(Clone, Copy)]
 pub struct Label<'a> {
     octets: &'a [u8],
     ghost short: { IsLabel octets.now },
@@ -176,6 +176,12 @@ impl<'a> fmt::Display for Label<'a> {
             write!(f, "{}", Spelled(*octet))?;
         }
         Ok(())
+    }
+}
+
+impl<'a> fmt::Debug for Label<'a> {
+    fn fmt<W: fmt::Write>(&self, f: &mut fmt::Formatter<W>) -> fmt::Result {
+        write!(f, "Label({self})")
     }
 }
 

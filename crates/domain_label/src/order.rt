@@ -4,7 +4,8 @@ ghost use Rattle.std.specs.Cmp.{partial_order_from_own_ties};
 ghost use Rattle.std.specs.Cmp.Rules.{comparing};
 ghost use Rattle.std.specs.Ordering.{on, as_partial_cmp};
 ghost use Rattle.std.proofs.Common.{rules};
-ghost use Rattle.domain_label.specs.Low.{low_eq, low_cmp, feed_label, feeds_alike, composed_order, lowercase_composed_order};
+ghost use Rattle.domain_label.specs.Facts.{feeds_alike};
+ghost use Rattle.domain_label.specs.Low.{low_eq, low_cmp, feed_label, label_composed_order, label_lowercase_composed_order};
 ghost use Rattle.domain_label.specs.Views.{label_octets};
 
 use crate::label::Label;
@@ -69,7 +70,7 @@ impl<'a> Hash for Label<'a> {
 impl<'a> Label<'a> {
     /// The order of the labels' wire forms as octets: the shorter first, then by the octets.
     pub fn composed_cmp(&self, other: &Label) -> Ordering
-        ensures { result ≡ composed_order (label_octets self.now) (label_octets other.now) }
+        ensures { result ≡ label_composed_order (label_octets self.now) (label_octets other.now) }
     {
         let by_len = self.len().cmp(&other.len());
         if by_len.is_ne() {
@@ -81,7 +82,7 @@ impl<'a> Label<'a> {
     /// The order of the labels' wire forms without ASCII case: the shorter first, then by the lowered
     /// octets.
     pub fn lowercase_composed_cmp(&self, other: &Label) -> Ordering
-        ensures { result ≡ lowercase_composed_order (label_octets self.now) (label_octets other.now) }
+        ensures { result ≡ label_lowercase_composed_order (label_octets self.now) (label_octets other.now) }
     {
         let by_len = self.len().cmp(&other.len());
         if by_len.is_ne() {

@@ -5,7 +5,8 @@ ghost use Rattle.std.specs.Cmp.{partial_order_from_own_ties};
 ghost use Rattle.std.specs.Cmp.Rules.{comparing};
 ghost use Rattle.std.specs.Ordering.{on, as_partial_cmp};
 ghost use Rattle.std.proofs.Common.{rules};
-ghost use Rattle.domain_label.specs.Low.{low, low_eq, low_cmp, feed_label, feeds_alike};
+ghost use Rattle.domain_label.specs.Facts.{feeds_alike};
+ghost use Rattle.domain_label.specs.Low.{low, low_eq, low_cmp, feed_label};
 ghost use Rattle.domain_label.specs.Text.{spell};
 ghost use Rattle.domain_label.specs.Wire.{wire_label};
 
@@ -166,6 +167,6 @@ impl fmt::Display for OwnedLabel {
 
 impl fmt::Debug for OwnedLabel {
     fn fmt<W: fmt::Write>(&self, f: &mut fmt::Formatter<W>) -> fmt::Result {
-        write!(f, "OwnedLabel({})", self.as_label())
+        write!(f, "OwnedLabel({:?})", self.as_label())
     }
 }

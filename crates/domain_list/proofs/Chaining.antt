@@ -1,14 +1,15 @@
 -- The length of a chain.
-use Rattle.std.proofs.Common.{◌≡◌, ℕ, ◌+◌, ◌≤◌, List, [], ◌∷◌, ◌++◌, length, refl, sym, ap, subst, arith, length-append}
+use Rattle.std.proofs.Common.{◌≡◌, ℕ, ◌+◌, ◌≤◌, List, [], ◌∷◌, ◌++◌, length, refl, sym, subst, arith}
 use Rattle.domain_label.specs.Wire.{wire, Root, IsAbsolute, IsRelative, IsRelativeName}
-use Rattle.domain_label.proofs.WireLaws.{wire_append, relative_then_absolute, relative_then_relative}
-use Rattle.domain_list.specs.Chains.{before_root, before_absolute, before_relative}
+use Rattle.domain_label.proofs.WireLaws.{length-wire_append, relative_then_absolute, relative_then_relative}
+use Rattle.domain_list.specs.Chains.{before_root}
+use Rattle.domain_list.specs.Facts.{before_absolute, before_relative}
 
 pub before_chain_absolute : (ls rs : List (List ℕ)) → IsRelative ls → IsAbsolute rs → before_root (ls ++ rs) + 1 ≡ length (wire ls) + length (wire rs)
-before_chain_absolute ls rs l r = omega (arith, before_absolute (ls ++ rs) (relative_then_absolute ls rs l r), ap length (wire_append ls rs), length-append (wire ls) (wire rs))
+before_chain_absolute ls rs l r = omega (arith, before_absolute (ls ++ rs) (relative_then_absolute ls rs l r), length-wire_append ls rs)
 
 pub before_chain_relative : (ls rs : List (List ℕ)) → IsRelative ls → IsRelative rs → before_root (ls ++ rs) ≡ length (wire ls) + length (wire rs)
-before_chain_relative ls rs l r = omega (arith, before_relative (ls ++ rs) (relative_then_relative ls rs l r), ap length (wire_append ls rs), length-append (wire ls) (wire rs))
+before_chain_relative ls rs l r = omega (arith, before_relative (ls ++ rs) (relative_then_relative ls rs l r), length-wire_append ls rs)
 
 -- a relative name leaves an octet for a root
 pub root_fits : (ls rs : List (List ℕ)) → IsRelativeName ls → rs ≡ Root → before_root (ls ++ rs) ≤ 254

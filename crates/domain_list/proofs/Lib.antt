@@ -1,3 +1,5 @@
+pub mod ApexLaws
+pub mod Sameness
 pub mod Shown
 pub mod Steps
 pub mod Ending

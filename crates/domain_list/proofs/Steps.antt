@@ -6,9 +6,9 @@ use Rattle.std.specs.declared.cmp.Ordering.{Ordering}
 use Rattle.std.specs.declared.cmp.Ordering.TheVariants.{Less, Equal, Greater}
 use Rattle.std.specs.Cmp.Lexicographic.{slice_cmp}
 use Rattle.std.specs.FinSet.{nat_cmp-IsAntisymmetric}
-use Rattle.domain_label.specs.Low.{low, low_all}
+use Rattle.domain_label.specs.Low.{low, low_all, label_composed_order}
 use Rattle.domain_label.specs.Wire.{wire}
-use Rattle.domain_list.specs.Order.{from_right, composed_order, wire_order}
+use Rattle.domain_list.specs.Order.{from_right, composed_order}
 
 -- the last label comes first from the right
 pub from_right_last : (xs : List (List ℕ)) (x : List ℕ) → from_right (xs ++ x ∷ []) ≡ low x ∷ from_right xs
@@ -35,7 +35,7 @@ tied Equal p q r h = h refl
 tied Greater p q r h = refl
 
 -- the first labels decide, and else the others
-pub composed_more : (x y : List ℕ) (xs ys : List (List ℕ)) → composed_order (x ∷ xs) (y ∷ ys) ≡ ordering_then (wire_order x y) (composed_order xs ys)
+pub composed_more : (x y : List ℕ) (xs ys : List (List ℕ)) → composed_order (x ∷ xs) (y ∷ ys) ≡ ordering_then (label_composed_order x y) (composed_order xs ys)
 composed_more x y xs ys =
     tied (nat_cmp (length x) (length y)) _ _ _ (λ e. cmp-append x y (wire xs) (wire ys) (nat_cmp-IsAntisymmetric (length x) (length y) e))
 

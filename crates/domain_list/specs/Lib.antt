@@ -1,10 +1,10 @@
 pub mod Dotted
 pub mod Order
-pub mod Same
 pub mod Feed
 pub mod Count
 pub mod Ends
 pub mod Apex
 pub mod Chains
+pub mod Facts
 pub mod ChainParts
 pub mod Joined

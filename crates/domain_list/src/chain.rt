@@ -3,7 +3,8 @@ ghost use Rattle.std.specs.Prelude.{◌≡◌, ◌≤◌, ◌<◌, ◌++◌, Som
 ghost use Rattle.std.specs.Iterator.{YieldsFirstBy, YieldsLastBy, item_count};
 ghost use Rattle.domain_label.specs.Views.{label_octets};
 ghost use Rattle.domain_label.specs.Wire.{IsRelative};
-ghost use Rattle.domain_list.specs.Chains.{IsChain, IsChain_prop, before_root, chain_name, chain_absolute, chain_relative};
+ghost use Rattle.domain_list.specs.Chains.{IsChain, before_root};
+ghost use Rattle.domain_list.specs.Facts.{IsChain_prop, chain_name, chain_absolute, chain_relative};
 
 use crate::labels::{
     Absolute, AbsoluteLabels, LabelIterator, NameLabels, Relative, RelativeLabels, ToLabelIter,

@@ -1,12 +1,10 @@
 //! Comparing names label by label. The calls of names stand on these functions; each is the one
 //! body for absolute and relative names of every kind.
 ghost use Rattle.std.specs.Prelude.{◌≡◌, IsTrue, ◌↔◌};
-ghost use Rattle.domain_label.specs.Low.{low, low_all};
-ghost use Rattle.domain_label.specs.Views.{label_octets};
-ghost use Rattle.domain_list.specs.Order.{order, same_name, wire_order, composed_order, lowercase_composed_order};
+ghost use Rattle.domain_label.specs.Low.{low_all};
+ghost use Rattle.domain_list.specs.Order.{order, same_name, composed_order, lowercase_composed_order};
 
 use crate::labels::LabelIterator;
-use domain_label::Label;
 use std::cmp::Ordering;
 
 /// Whether the labels that are left are the same without ASCII case (RFC 4343).
@@ -57,20 +55,6 @@ pub fn order_labels<'a, A: LabelIterator<'a>, B: LabelIterator<'a>>(a: A, b: B) 
     }
 }
 
-/// The order of the wire octets of two labels: the length octets first, and then the others.
-fn wire_cmp(x: &Label<'_>, y: &Label<'_>) -> Ordering
-    ensures { result ≡ wire_order (label_octets x.now) (label_octets y.now) }
-{
-    x.len().cmp(&y.len()).then(x.as_slice().cmp(y.as_slice()))
-}
-
-/// The same of the lowered octets.
-fn lowercase_wire_cmp(x: &Label<'_>, y: &Label<'_>) -> Ordering
-    ensures { result ≡ wire_order (low (label_octets x.now)) (low (label_octets y.now)) }
-{
-    x.len().cmp(&y.len()).then(x.cmp(y))
-}
-
 /// The order of the wire octets of the labels that are left.
 #[tactic(auto, using(crate::proofs::Steps::composed_steps))]
 pub fn composed_order_labels<'a, A: LabelIterator<'a>, B: LabelIterator<'a>>(a: A, b: B) -> Ordering
@@ -84,7 +68,7 @@ pub fn composed_order_labels<'a, A: LabelIterator<'a>, B: LabelIterator<'a>>(a: 
             (None, Some(_)) => return Ordering::Less,
             (Some(_), None) => return Ordering::Greater,
             (Some(x), Some(y)) => {
-                let order = wire_cmp(&x, &y);
+                let order = x.composed_cmp(&y);
                 if order.is_ne() {
                     return order;
                 }
@@ -109,7 +93,7 @@ pub fn lowercase_composed_order_labels<'a, A: LabelIterator<'a>, B: LabelIterato
             (None, Some(_)) => return Ordering::Less,
             (Some(_), None) => return Ordering::Greater,
             (Some(x), Some(y)) => {
-                let order = lowercase_wire_cmp(&x, &y);
+                let order = x.lowercase_composed_cmp(&y);
                 if order.is_ne() {
                     return order;
                 }

@@ -9,8 +9,9 @@ ghost use Rattle.domain_label.specs.Low.{low_all};
 ghost use Rattle.domain_label.specs.Views.{label_octets};
 ghost use Rattle.domain_label.specs.Wire.{wire, IsAbsoluteName, IsRelativeName};
 ghost use Rattle.domain_list.specs.Count.{rrsig_labels};
-ghost use Rattle.domain_list.specs.Feed.{feed, same_feed};
-ghost use Rattle.domain_list.specs.Order.{order, same_name, same_name_laws, order_laws};
+ghost use Rattle.domain_list.specs.Facts.{order_is_total, same_name_is_equivalence, same_feed};
+ghost use Rattle.domain_list.specs.Feed.{feed};
+ghost use Rattle.domain_list.specs.Order.{order, same_name};
 ghost use Rattle.domain_label.proofs.WireLaws.{IsAbsoluteName_prop, IsRelative_prop};
 ghost use Rattle.std.specs.Coded.{×_prop, le_prop};
 
@@ -230,7 +231,7 @@ impl<'a, 'x> AbsoluteLabels<'a> for AbsoluteList<'x> {}
 impl<'x> PartialEq for AbsoluteList<'x> {
     ghost eq = { on (λ name. map label_octets name.labels.now) same_name };
 
-    ghost laws = { partial_equiv_from_equiv (on_equiv (λ name. map label_octets name.labels.now) same_name_laws) };
+    ghost laws = { partial_equiv_from_equiv (on_equiv (λ name. map label_octets name.labels.now) same_name_is_equivalence) };
 
     fn eq(&self, other: &AbsoluteList<'x>) -> bool {
         same_labels(self.iter_labels(), other.iter_labels())
@@ -238,13 +239,13 @@ impl<'x> PartialEq for AbsoluteList<'x> {
 }
 
 impl<'x> Eq for AbsoluteList<'x> {
-    ghost laws = { on_equiv (λ name. map label_octets name.labels.now) same_name_laws };
+    ghost laws = { on_equiv (λ name. map label_octets name.labels.now) same_name_is_equivalence };
 }
 
 impl<'x> Ord for AbsoluteList<'x> {
     ghost cmp = { on (λ name. map label_octets name.labels.now) order };
 
-    ghost total = { on_total (λ name. map label_octets name.labels.now) order_laws };
+    ghost total = { on_total (λ name. map label_octets name.labels.now) order_is_total };
 
     ghost matches_partial_cmp = { Prim.search (comparing, rules) };
 
@@ -258,7 +259,7 @@ impl<'x> Ord for AbsoluteList<'x> {
 impl<'x> PartialOrd for AbsoluteList<'x> {
     ghost partial_cmp = { as_partial_cmp (on (λ name. map label_octets name.labels.now) order) };
 
-    ghost laws = { partial_order_from_agreeing_total (on (λ name. map label_octets name.labels.now) order) (on_total (λ name. map label_octets name.labels.now) order_laws) (λ a b. refl) (λ a b. refl) };
+    ghost laws = { partial_order_from_agreeing_total (on (λ name. map label_octets name.labels.now) order) (on_total (λ name. map label_octets name.labels.now) order_is_total) (λ a b. refl) (λ a b. refl) };
 
     fn partial_cmp(&self, other: &AbsoluteList<'x>) -> Option<Ordering> {
         Some(self.cmp(other))

@@ -1,11 +1,11 @@
 -- What is left of a list of labels without its last ones.
-use Rattle.std.proofs.Common.{◌≡◌, ◌↔◌, IsTrue, Bool, ℕ, ◌+◌, ◌≤◌, List, [], ◌∷◌, ◌++◌, length, refl, sym, ◌∙◌, ap, subst, arith, length-append, ⊎_elim}
+use Rattle.std.proofs.Common.{◌≡◌, ◌↔◌, IsTrue, Bool, ℕ, ◌+◌, ◌≤◌, List, [], ◌∷◌, ◌++◌, length, refl, sym, ◌∙◌, ap, subst, arith, ⊎_elim}
 use Rattle.domain_label.specs.Low.{low_all}
 use Rattle.domain_label.specs.Wire.{wire, labels_in, IsName, IsWire, IsAbsolute}
-use Rattle.domain_label.proofs.WireLaws.{wire_append, labels_in_wire, absolute_labels, relative_labels}
+use Rattle.domain_label.proofs.WireLaws.{length-wire_append, nil_from_wire, labels_in_wire, absolute_labels, relative_labels}
 use Rattle.domain_list.specs.Ends.{EndsWith}
 use Rattle.domain_flat.specs.Flat.{IsCutAt, IsLabelStart, IsLabelEnd}
-use Rattle.domain_flat.proofs.Cuts.{cut_within, end_start, root_long, no_wire}
+use Rattle.domain_flat.proofs.Cuts.{cut_within, end_start, root_long}
 use Rattle.domain_flat.proofs.Lowered.{low_size}
 use Rattle.domain_name.specs.Names.{IsStripped}
 
@@ -22,7 +22,7 @@ parted (l ∷ ls) (f ∷ front) back e =
     (l ∷ r.0, r.1, ap (λ x. l ∷ x) r.2, r.3)
 
 two_sizes : (ls xs ys : List (List ℕ)) → ls ≡ xs ++ ys → length (wire ls) ≡ length (wire xs) + length (wire ys)
-two_sizes ls xs ys e = ap (λ r. length (wire r)) e ∙ (ap length (wire_append xs ys) ∙ length-append (wire xs) (wire ys))
+two_sizes ls xs ys e = ap (λ r. length (wire r)) e ∙ length-wire_append xs ys
 
 -- the octets of a wire form are those of its labels
 octets_size : (o : List ℕ) → IsWire o → length (wire (labels_in o)) ≡ length o
@@ -52,7 +52,7 @@ stripped o bs rest behind n w e m parts place =
     let here : IsCutAt (labels_in o) n r.0 r.1 = record { parts = r.2; place = omega (arith, m, octets_size o w, size, same_size r.1 bs r.3) } in
     let there : IsCutAt (labels_in o) n rest behind = record { parts = parts; place = place } in
     let z = cut_within (labels_in o) n n r.0 r.1 rest behind here there (omega arith) in
-    let none : z.0 ≡ [] = no_wire z.0 (omega (arith, m, place, octets_size o w, size, same_size r.1 bs r.3, two_sizes rest r.0 z.0 z.1)) in
+    let none : z.0 ≡ [] = nil_from_wire z.0 (omega (arith, m, place, octets_size o w, size, same_size r.1 bs r.3, two_sizes rest r.0 z.0 z.1)) in
     let same : r.1 ≡ behind = z.2 ∙ ap (λ x. x ++ behind) none in
     record { suffix = behind; parts = parts; same = ap low_all (sym same) ∙ r.3 }
 

@@ -8,8 +8,8 @@ ghost use Rattle.domain_label.specs.Low.{low_all};
 ghost use Rattle.domain_label.specs.Views.{label_octets};
 ghost use Rattle.domain_label.proofs.WireLaws.{IsAbsoluteWire_prop};
 ghost use Rattle.domain_flat.specs.Faults.{AbsoluteFault, StartFault};
-ghost use Rattle.domain_flat.specs.Flat.{NameAt, IsCutAt, IsLabelStart, IsPartOf, suffixes};
-ghost use Rattle.domain_flat.specs.Views.{name_error_kind, labels_left};
+ghost use Rattle.domain_flat.specs.Flat.{NameAt, IsCutAt, IsLabelStart, IsPartOf, suffix_lists};
+ghost use Rattle.domain_flat.specs.Views.{name_error_kind, flat_labels_left};
 ghost use Rattle.domain_list.specs.Ends.{EndsWith};
 
 use crate::relative::RelativeName;
@@ -136,7 +136,7 @@ impl Name<&'static [u8]> {
 
 impl<Octs: Octets> Name<Octs> {
     ghost use Rattle.domain_name.specs.Names.{name_octets, name_labels, name_holder, relative_labels};
-    ghost use Rattle.domain_name.specs.Suffixes.{suffixes_left};
+    ghost use Rattle.domain_name.specs.Suffixes.{suffix_lists_left};
 
     /// The name whose wire form the octets are known to be.
     pub(crate) fn from_wire(octets: Octs) -> Name<Octs>
@@ -207,14 +207,14 @@ impl<Octs: Octets> Name<Octs> {
 
     /// The labels, the root among them.
     pub fn iter(&self) -> NameIter<'_>
-        ensures { labels_left result ≡ name_labels self.now }
+        ensures { flat_labels_left result ≡ name_labels self.now }
     {
         NameIter::new(self.octets.as_slice())
     }
 
     /// The name itself, and then what is left of it behind its first labels, down to the root.
     pub fn iter_suffixes(&self) -> SuffixIter<'_>
-        ensures { suffixes_left result ≡ suffixes (name_labels self.now) }
+        ensures { suffix_lists_left result ≡ suffix_lists (name_labels self.now) }
     {
         SuffixIter::new(self.for_slice())
     }

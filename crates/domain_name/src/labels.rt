@@ -71,9 +71,9 @@ impl<'a, Octs: Octets> IntoIterator for &'a Name<Octs> {
 
     type IntoIter = NameIter<'a>;
 
-    ghost use Rattle.domain_flat.specs.Views.{labels_left};
+    ghost use Rattle.domain_flat.specs.Views.{flat_labels_left};
 
-    ghost into_iter_gives = { λ name labels. labels_left labels ≡ name_labels name.now };
+    ghost into_iter_gives = { λ name labels. flat_labels_left labels ≡ name_labels name.now };
 
     fn into_iter(self) -> NameIter<'a> {
         self.iter()

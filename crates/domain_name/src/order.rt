@@ -4,8 +4,9 @@ ghost use Rattle.std.proofs.Common.{rules};
 ghost use Rattle.std.specs.Cmp.{partial_order_from_agreeing_total, partial_equiv_from_equiv, on_equiv, on_total};
 ghost use Rattle.std.specs.Cmp.Rules.{comparing};
 ghost use Rattle.std.specs.Ordering.{on, as_partial_cmp};
-ghost use Rattle.domain_list.specs.Feed.{feed, same_feed};
-ghost use Rattle.domain_list.specs.Order.{order, same_name, same_name_laws, order_laws};
+ghost use Rattle.domain_list.specs.Facts.{order_is_total, same_name_is_equivalence, same_feed};
+ghost use Rattle.domain_list.specs.Feed.{feed};
+ghost use Rattle.domain_list.specs.Order.{order, same_name};
 
 use crate::absolute::Name;
 use domain_list::comparing::{order_labels, same_labels};
@@ -20,7 +21,7 @@ impl<Octs: Octets> PartialEq for Name<Octs> {
 
     ghost eq = { on name_labels same_name };
 
-    ghost laws = { partial_equiv_from_equiv (on_equiv name_labels same_name_laws) };
+    ghost laws = { partial_equiv_from_equiv (on_equiv name_labels same_name_is_equivalence) };
 
     fn eq(&self, other: &Name<Octs>) -> bool {
         same_labels(self.iter(), other.iter())
@@ -30,7 +31,7 @@ impl<Octs: Octets> PartialEq for Name<Octs> {
 impl<Octs: Octets> Eq for Name<Octs> {
     ghost use Rattle.domain_name.specs.Names.{name_labels};
 
-    ghost laws = { on_equiv name_labels same_name_laws };
+    ghost laws = { on_equiv name_labels same_name_is_equivalence };
 }
 
 /// The order of names (RFC 4034, 6.1).
@@ -39,7 +40,7 @@ impl<Octs: Octets> Ord for Name<Octs> {
 
     ghost cmp = { on name_labels order };
 
-    ghost total = { on_total name_labels order_laws };
+    ghost total = { on_total name_labels order_is_total };
 
     ghost matches_partial_cmp = { Prim.search (comparing, rules) };
 
@@ -55,7 +56,7 @@ impl<Octs: Octets> PartialOrd for Name<Octs> {
 
     ghost partial_cmp = { as_partial_cmp (on name_labels order) };
 
-    ghost laws = { partial_order_from_agreeing_total (on name_labels order) (on_total name_labels order_laws) (λ a b. refl) (λ a b. refl) };
+    ghost laws = { partial_order_from_agreeing_total (on name_labels order) (on_total name_labels order_is_total) (λ a b. refl) (λ a b. refl) };
 
     fn partial_cmp(&self, other: &Name<Octs>) -> Option<Ordering> {
         Some(self.cmp(other))

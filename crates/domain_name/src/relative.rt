@@ -6,7 +6,7 @@ ghost use Rattle.domain_label.specs.Views.{label_octets};
 ghost use Rattle.domain_label.proofs.WireLaws.{IsRelativeWire_prop};
 ghost use Rattle.domain_flat.specs.Faults.{RelativeFault};
 ghost use Rattle.domain_flat.specs.Flat.{IsLabelEnd, IsPartOf};
-ghost use Rattle.domain_flat.specs.Views.{relative_name_error_kind, labels_left};
+ghost use Rattle.domain_flat.specs.Views.{relative_name_error_kind, flat_labels_left};
 ghost use Rattle.domain_list.specs.ChainParts.{left_part, right_part};
 ghost use Rattle.domain_list.specs.Chains.{before_root};
 ghost use Rattle.domain_list.specs.Ends.{EndsWith};
@@ -215,7 +215,7 @@ impl<Octs: Octets> RelativeName<Octs> {
 
     /// The labels.
     pub fn iter(&self) -> NameIter<'_>
-        ensures { labels_left result ≡ relative_labels self.now }
+        ensures { flat_labels_left result ≡ relative_labels self.now }
     {
         NameIter::new(self.octets.as_slice())
     }

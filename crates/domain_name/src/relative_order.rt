@@ -4,8 +4,9 @@ ghost use Rattle.std.proofs.Common.{rules};
 ghost use Rattle.std.specs.Cmp.{partial_order_from_agreeing_total, partial_equiv_from_equiv, on_equiv, on_total};
 ghost use Rattle.std.specs.Cmp.Rules.{comparing};
 ghost use Rattle.std.specs.Ordering.{on, as_partial_cmp};
-ghost use Rattle.domain_list.specs.Feed.{feed, same_feed};
-ghost use Rattle.domain_list.specs.Order.{order, same_name, same_name_laws, order_laws};
+ghost use Rattle.domain_list.specs.Facts.{order_is_total, same_name_is_equivalence, same_feed};
+ghost use Rattle.domain_list.specs.Feed.{feed};
+ghost use Rattle.domain_list.specs.Order.{order, same_name};
 
 use crate::relative::RelativeName;
 use domain_list::comparing::{order_labels, same_labels};
@@ -20,7 +21,7 @@ impl<Octs: Octets> PartialEq for RelativeName<Octs> {
 
     ghost eq = { on relative_labels same_name };
 
-    ghost laws = { partial_equiv_from_equiv (on_equiv relative_labels same_name_laws) };
+    ghost laws = { partial_equiv_from_equiv (on_equiv relative_labels same_name_is_equivalence) };
 
     fn eq(&self, other: &RelativeName<Octs>) -> bool {
         same_labels(self.iter(), other.iter())
@@ -30,7 +31,7 @@ impl<Octs: Octets> PartialEq for RelativeName<Octs> {
 impl<Octs: Octets> Eq for RelativeName<Octs> {
     ghost use Rattle.domain_name.specs.Names.{relative_labels};
 
-    ghost laws = { on_equiv relative_labels same_name_laws };
+    ghost laws = { on_equiv relative_labels same_name_is_equivalence };
 }
 
 /// The order of names, as if both had one origin (RFC 4034, 6.1).
@@ -39,7 +40,7 @@ impl<Octs: Octets> Ord for RelativeName<Octs> {
 
     ghost cmp = { on relative_labels order };
 
-    ghost total = { on_total relative_labels order_laws };
+    ghost total = { on_total relative_labels order_is_total };
 
     ghost matches_partial_cmp = { Prim.search (comparing, rules) };
 
@@ -55,7 +56,7 @@ impl<Octs: Octets> PartialOrd for RelativeName<Octs> {
 
     ghost partial_cmp = { as_partial_cmp (on relative_labels order) };
 
-    ghost laws = { partial_order_from_agreeing_total (on relative_labels order) (on_total relative_labels order_laws) (λ a b. refl) (λ a b. refl) };
+    ghost laws = { partial_order_from_agreeing_total (on relative_labels order) (on_total relative_labels order_is_total) (λ a b. refl) (λ a b. refl) };
 
     fn partial_cmp(&self, other: &RelativeName<Octs>) -> Option<Ordering> {
         Some(self.cmp(other))

@@ -11,13 +11,13 @@ pub struct SuffixIter<'a> {
 
 impl<'a> SuffixIter<'a> {
     ghost use Rattle.std.specs.Prelude.{◌≡◌};
-    ghost use Rattle.domain_flat.specs.Flat.{suffixes};
+    ghost use Rattle.domain_flat.specs.Flat.{suffix_lists};
     ghost use Rattle.domain_name.specs.Names.{name_labels};
-    ghost use Rattle.domain_name.specs.Suffixes.{suffixes_left};
+    ghost use Rattle.domain_name.specs.Suffixes.{suffix_lists_left};
 
     /// The suffixes of this name.
     pub fn new(name: Name<&'a [u8]>) -> SuffixIter<'a>
-        ensures { suffixes_left result ≡ suffixes (name_labels name.entry) }
+        ensures { suffix_lists_left result ≡ suffix_lists (name_labels name.entry) }
     {
         SuffixIter { next: Some(name) }
     }
@@ -26,13 +26,13 @@ impl<'a> SuffixIter<'a> {
 impl<'a> Iterator for SuffixIter<'a> {
     ghost use Rattle.std.specs.Iterator.{YieldsFirstBy, item_count};
     ghost use Rattle.domain_name.specs.Names.{name_labels};
-    ghost use Rattle.domain_name.specs.Suffixes.{suffixes_left};
+    ghost use Rattle.domain_name.specs.Suffixes.{suffix_lists_left};
 
     type Item = Name<&'a [u8]>;
 
-    ghost next_gives = { YieldsFirstBy name_labels suffixes_left };
+    ghost next_gives = { YieldsFirstBy name_labels suffix_lists_left };
 
-    ghost remaining = { item_count suffixes_left };
+    ghost remaining = { item_count suffix_lists_left };
 
     fn next(&mut self) -> Option<Name<&'a [u8]>> {
         let name = self.next?;

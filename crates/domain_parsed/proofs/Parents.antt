@@ -2,6 +2,7 @@
 use Rattle.std.proofs.Common.{◌≡◌, ℕ, ◌+◌, ◌-◌, ◌≤◌, ◌<◌, inl, inr, List, [], ◌∷◌, ◌++◌, length, drop, Bool, false, nat_eq, ◌↔◌, slice_range, slice_index, refl, sym, ap, arith, ◌∙◌, length-append}
 use Rattle.std.proofs.lemmas.Grind.{common_steps}
 use Rattle.std.proofs.Math.Seq.{drop-append_seam}
+use Rattle.std.proofs.lemmas.List.{nil_from_length}
 use Rattle.std.proofs.lemmas.Bool.{cases_lt, false≢true}
 use Rattle.std.proofs.lemmas.Bool.Decides.{eqb_tells}
 use Rattle.std.specs.Bool.{IsTrue}
@@ -21,10 +22,6 @@ reads_short : {m : List ℕ} {p k : ℕ} {ls : List (List ℕ)} → Reads m p k 
 reads_short (root x) l rest e = let n : 0 ≡ length l = cc in omega arith
 reads_short (label {l = l'} x r) l rest e = let same : l' ≡ l = cc in omega (arith, x.short, ap (λ l. length l) same)
 reads_short (pointer x lt r) l rest e = reads_short r l rest e
-
-length-zero_nil : (l : List ℕ) → length l ≡ 0 → l ≡ []
-length-zero_nil [] e = refl
-length-zero_nil (c ∷ l) e = absurd (omega arith)
 
 pub record Parent (m : List ℕ) (l : List ℕ) (behind n : ℕ) (compressed : Bool) : Type 0 where
   pub nonempty : 0 < length l
@@ -58,7 +55,7 @@ parent {m} {p} {behind} {l} n compressed maybe sized flat more f here =
     let short = reads_short named.reads l f.rest f.first in
     let some : 0 < length l = elim (cases_lt 0 (length l)) [
       | inl a ↦ a
-      | inr b ↦ absurd (more (f.first ∙ ap (λ ls. l ∷ ls) (f.root (omega arith)) ∙ ap (λ l. l ∷ []) (length-zero_nil l (omega arith))))
+      | inr b ↦ absurd (more (f.first ∙ ap (λ ls. l ∷ ls) (f.root (omega arith)) ∙ ap (λ l. l ∷ []) (nil_from_length l (omega arith))))
     ] in
     let rest = f.more some in
     let wires : length (wire f.rest) ≡ length (wire (labels_at m behind)) = ap (λ ls. length (wire ls)) rest.0 in

@@ -71,7 +71,7 @@ impl<Octs: Octets> fmt::Display for ParsedName<Octs> {
 
 impl<Octs: Octets> fmt::Debug for ParsedName<Octs> {
     fn fmt<W: fmt::Write>(&self, f: &mut fmt::Formatter<W>) -> fmt::Result {
-        write!(f, "ParsedName({self})")
+        write!(f, "ParsedName({self}.)")
     }
 }
 

@@ -1060,7 +1060,7 @@ fn shown_without_a_final_dot(rt: HostRuntime) {
     assert_eq!(rt; shown.as_str(), "\\001a\\000.a");
     let mut debugged = String::new(rt.alloc());
     assert!(rt; write!(debugged, "{name:?}").is_ok());
-    assert_eq!(rt; debugged.as_str(), "ParsedName(\\001a\\000.a)");
+    assert_eq!(rt; debugged.as_str(), "ParsedName(\\001a\\000.a.)");
 }
 
 #[test]

@@ -8,7 +8,7 @@ use Rattle.domain_reading.specs.Grammar.Base.{here}
 use Rattle.domain_reading.specs.Grammar.Stop.{root as stop_root, pointer as stop_pointer}
 use Rattle.domain_reading.specs.Outcomes.{NameRead}
 use Rattle.domain_reading.specs.declared.progress.Progress.{Progress}
-use Rattle.domain_reading.proofs.Reading.{length-wire_append}
+use Rattle.domain_label.proofs.WireLaws.{length-wire_append}
 use Rattle.domain_reading.proofs.Walking.{walk_reads}
 use Rattle.domain_reading.proofs.Going.{Going, Goes, leads_base, leads_reads}
 use Rattle.domain_reading.proofs.Naming.{flat_wire}

@@ -8,7 +8,8 @@ use Rattle.domain_reading.specs.Grammar.Base.{here, past}
 use Rattle.domain_reading.specs.Faults.{stop_len, Skips, SkipFault, SkipFaultAt}
 use Rattle.domain_reading.specs.declared.fault.NameFault.{NameFault}
 use Rattle.domain_reading.specs.declared.fault.NameFault.TheVariants.{ShortInput, BadLabelType, TooManyPointers, LongName}
-use Rattle.domain_reading.proofs.Reading.{label_once, pointer_once, length-wire_append}
+use Rattle.domain_label.proofs.WireLaws.{length-wire_append}
+use Rattle.domain_reading.proofs.Reading.{label_once, pointer_once}
 
 -- ---- the front is one
 

@@ -12,7 +12,8 @@ use Rattle.domain_reading.specs.declared.fault.NameFault.TheVariants.{ShortInput
 use Rattle.domain_reading.specs.Grammar.Stop.{pointer}
 use Rattle.domain_reading.specs.Progress.{label_passed, pointer_followed}
 use Rattle.domain_reading.specs.declared.progress.Progress.{Progress}
-use Rattle.domain_reading.proofs.Reading.{length-wire_append, behind_pointer}
+use Rattle.domain_label.proofs.WireLaws.{length-wire_append, nil_from_wire}
+use Rattle.domain_reading.proofs.Reading.{behind_pointer}
 
 -- pointers alone lead from p to b, each one back
 pub data Leads (m : List ℕ) (p : ℕ) : ℕ → Type 0 where
@@ -52,10 +53,6 @@ flat_label (f ∷ fs) p a x = (a.0, flat_label fs (p + 1 + length f) a.1 x)
 match_none : {A B : Type 0} (C : ℕ → Type 0) (o : Option ℕ) → (A → B) → MatchOption o A C → MatchOption o B C
 match_none C None f a = f a
 match_none C (Some e) f c = c
-
-wire_none : (fs : List (List ℕ)) → length (wire fs) ≡ 0 → fs ≡ []
-wire_none [] e = refl
-wire_none (l ∷ fs) e = absurd (omega arith)
 
 not_both : {m : List ℕ} {p q : ℕ} {l : List ℕ} → LabelAt m p l → PointerAt m p q → ⊥
 not_both x y = omega arith
@@ -108,7 +105,7 @@ going_label {m = m} {p} {w} {fs} {l} g x short = record {
 going_first : {n : ℕ} {m : List ℕ} {p : ℕ} {w : Progress} {fs : List (List ℕ)} {q : ℕ} → Going n m p w fs → PointerAt m w.at q → q < w.at → w.pointers < n → w.len ≡ 0
     → Going n m p (record { at = q; base = q; len = w.len; pointers = w.pointers + 1; compressed = w.compressed; end = Some (unwrap_or w.end (w.at + 2)) }) fs
 going_first {m = m} {p} {w} {fs} {q} g x back few none =
-    let e : fs ≡ [] = wire_none fs (sym g.len ∙ none) in
+    let e : fs ≡ [] = nil_from_wire fs (sym g.len ∙ none) in
     record {
       walk = rw add-one (past_pointer g.walk x back (omega arith));
       len = g.len;

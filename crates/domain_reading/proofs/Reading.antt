@@ -59,11 +59,7 @@ reads_more u (root x) = root (octet_more u x)
 reads_more u (label x r) = label (label_more u x) (reads_more u r)
 reads_more u (pointer x lt r) = pointer (pointer_more u x) lt (reads_more u r)
 
--- ---- sizes, and what is behind the first head
-
-pub length-wire_append : (xs ys : List (List ℕ)) → length (wire (xs ++ ys)) ≡ length (wire xs) + length (wire ys)
-length-wire_append [] ys = omega arith
-length-wire_append (x ∷ xs) ys = omega (arith, length-wire_append xs ys, length-append x (wire (xs ++ ys)), length-append x (wire xs))
+-- ---- what is behind the first head
 
 -- what is read at r, of a name that is read as ls through n pointers
 pub record RestAt (m : List ℕ) (r k n : ℕ) (fs ls : List (List ℕ)) : Type 0 where

@@ -7,7 +7,7 @@ use Rattle.domain_reading.specs.Grammar.Stop.{root, pointer}
 use Rattle.domain_reading.specs.Faults.{Skips, SkipFault, SkipFaultAt}
 use Rattle.domain_reading.specs.declared.fault.NameFault.{NameFault}
 use Rattle.domain_reading.specs.declared.fault.NameFault.TheVariants.{ShortInput, BadLabelType, TooManyPointers, LongName}
-use Rattle.domain_reading.proofs.Reading.{length-wire_append}
+use Rattle.domain_label.proofs.WireLaws.{length-wire_append}
 use Rattle.domain_reading.proofs.Walking.{head_at, is_root, is_label, is_pointer, is_cut, is_bad}
 use Rattle.domain_reading.proofs.Going.{flat_label}
 use Rattle.std.proofs.lemmas.Bool.{cases_lt}

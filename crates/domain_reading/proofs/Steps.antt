@@ -4,7 +4,8 @@ use Rattle.std.proofs.lemmas.Bool.{cases_lt}
 use Rattle.domain_label.specs.Wire.{wire, Root}
 use Rattle.domain_reading.specs.Grammar.{OctetAt, LabelAt, PointerAt, Reads, root, Names}
 use Rattle.domain_reading.specs.Labels.{labels_at, heads_at, labels_within, FirstLabel}
-use Rattle.domain_reading.proofs.Reading.{reads_once, behind_pointer, behind_label, length-wire_append}
+use Rattle.domain_label.proofs.WireLaws.{length-wire_append}
+use Rattle.domain_reading.proofs.Reading.{reads_once, behind_pointer, behind_label}
 use Rattle.domain_reading.proofs.Naming.{labels_named, heads_named, heads_few}
 use Rattle.domain_reading.proofs.Within.{within_none, within_nil, within_some, within_prefix, within_back}
 

@@ -7,7 +7,8 @@ use Rattle.domain_reading.specs.Grammar.{OctetAt, LabelAt, PointerAt, Reads, roo
 use Rattle.domain_reading.specs.Faults.{Walk, start, past_label, past_pointer, Fault, FaultAt, CutAt}
 use Rattle.domain_reading.specs.declared.fault.NameFault.{NameFault}
 use Rattle.domain_reading.specs.declared.fault.NameFault.TheVariants.{ShortInput, BadLabelType, TooManyPointers, LongName}
-use Rattle.domain_reading.proofs.Reading.{label_once, pointer_once, reads_some, RestAt, behind_label, behind_pointer, length-wire_append}
+use Rattle.domain_label.proofs.WireLaws.{length-wire_append}
+use Rattle.domain_reading.proofs.Reading.{label_once, pointer_once, reads_some, RestAt, behind_label, behind_pointer}
 
 -- a name read where a walk stands is read from the walk's start
 pub walk_reads : {n : ℕ} {m : List ℕ} {p k r : ℕ} {fs : List (List ℕ)} {j : ℕ} {ls : List (List ℕ)} → Walk n m p k fs r → Reads m r j ls → Reads m p (k + j) (fs ++ ls)

@@ -2,13 +2,12 @@
 //! and its faults are.
 #![tactic(auto)]
 
+pub mod alone;
 pub mod fault;
-pub mod first;
 pub mod head;
 pub mod heads;
 pub mod laws;
 pub mod progress;
 pub mod read;
-pub mod skip;
 
 pub use laws::reads_laws;

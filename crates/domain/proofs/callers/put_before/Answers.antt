@@ -1,5 +1,5 @@
 use Rattle.std.proofs.Common.{sym, ◌∙◌, true≢false}
-use Rattle.domain_list.specs.Chains.{relative_else}
+use Rattle.domain_list.specs.Facts.{relative_else}
 use Rattle.domain.proofs.callers.put_before.Goals as goal
 
 pub new-requires : goal.new-requires

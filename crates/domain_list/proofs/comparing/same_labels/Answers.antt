@@ -1,5 +1,5 @@
 use Rattle.std.proofs.Common.{rules}
-use Rattle.domain_list.specs.Same.{same_told}
+use Rattle.domain_list.proofs.Sameness.{same_told}
 use Rattle.domain_list.proofs.comparing.same_labels.Goals as goal
 
 pub returns : goal.returns

@@ -1,4 +1,4 @@
-use Rattle.domain_list.specs.Feed.{feed_is_wire}
+use Rattle.domain_list.specs.Facts.{feed_is_wire}
 use Rattle.domain_list.proofs.hashing.hash_labels.Goals as goal
 
 pub returns-clause-wire : goal.returns-clause-wire

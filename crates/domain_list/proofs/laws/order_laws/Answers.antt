@@ -1,6 +1,6 @@
-use Rattle.domain_list.specs.Apex.{tells_apart, keeps_together, comes_first}
-use Rattle.domain_list.specs.Order as orders
+use Rattle.domain_list.specs.Facts.{order_is_total}
+use Rattle.domain_list.proofs.ApexLaws.{tells_apart, keeps_together, comes_first}
 use Rattle.domain_list.proofs.laws.order_laws.Goals as goal
 
 pub returns : goal.returns
-returns c = record { total = orders.order_laws; apart = tells_apart; together = keeps_together; first = comes_first }
+returns c = record { total = order_is_total; apart = tells_apart; together = keeps_together; first = comes_first }

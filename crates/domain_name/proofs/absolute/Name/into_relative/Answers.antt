@@ -1,5 +1,5 @@
 use Rattle.std.proofs.Common.{arith}
-use Rattle.domain_flat.proofs.Cuts.{root_start, root_long, before_root}
+use Rattle.domain_flat.proofs.Cuts.{root_start, root_long, lacks_root}
 use Rattle.domain_name.specs.Names.{name_labels}
 use Rattle.domain_name.proofs.absolute.Name.into_relative.Goals as goal
 
@@ -11,4 +11,4 @@ truncate-requires g c =
 pub returns : goal.returns
 returns g c =
     let a = c.args.self.absolute.1.0 in
-    before_root _ _ c.truncate.ensures.parts.0 a c.truncate.ensures.parts.1 (omega (arith, c.len-len.ensures, c.truncate.ensures.place, root_long (name_labels c.args.self) a))
+    lacks_root _ _ c.truncate.ensures.parts.0 a c.truncate.ensures.parts.1 (omega (arith, c.len-len.ensures, c.truncate.ensures.place, root_long (name_labels c.args.self) a))

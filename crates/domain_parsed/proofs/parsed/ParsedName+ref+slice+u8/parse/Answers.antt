@@ -7,12 +7,12 @@ use Rattle.domain_parsed.proofs.parsed.ParsedName+ref+slice+u8.parse.Goals as go
 
 pub returns-in_err-progress-clause-exact : goal.returns-in_err-progress-clause-exact
 returns-in_err-progress-clause-exact c =
-    let none = no_name c.args.parser.now (search rules) c.pos.ensures.place c.in_err-progress.ensures.fault in
+    let none = no_name c.args.parser.now (search rules) c.pos.ensures.place c.in_err-progress.ensures.fault.0 in
     (λ ok. absurd (ok_not_err c.from_residual.result c.from_residual.ensures.0 ok), λ x. absurd (none x.0 x.1))
 
 pub returns-in_err-progress-clause-plain : goal.returns-in_err-progress-clause-plain
 returns-in_err-progress-clause-plain c = λ ls x.
-    absurd (no_name c.args.parser.now (search rules) c.pos.ensures.place c.in_err-progress.ensures.fault ls (plainly_named 255 x))
+    absurd (no_name c.args.parser.now (search rules) c.pos.ensures.place c.in_err-progress.ensures.fault.0 ls (plainly_named 255 x))
 
 pub invariant_of-result : goal.invariant_of-result
 invariant_of-result c =

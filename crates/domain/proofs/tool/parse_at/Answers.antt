@@ -1,6 +1,6 @@
 use Rattle.std.proofs.Common.{◌≤◌, length, arith, sym, ap, ◌∙◌}
 use Rattle.domain_parsed.proofs.Past.{past_end}
-use Rattle.domain.proofs.tool.read_name.Goals as goal
+use Rattle.domain.proofs.tool.parse_at.Goals as goal
 
 pub returns-then-is_err-clause-err : goal.returns-then-is_err-clause-err
 returns-then-is_err-clause-err c =

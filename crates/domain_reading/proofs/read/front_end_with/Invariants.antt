@@ -1,6 +1,6 @@
 use Rattle.std.proofs.Common.{◌-◌}
 use Rattle.domain_reading.proofs.Skipping.{Skipping}
-use Rattle.domain_reading.proofs.skip.front_end_counted.Given as goal
+use Rattle.domain_reading.proofs.read.front_end_with.Given as goal
 
 abbrev pub invariant-heads : goal.invariant-heads
 invariant-heads g l = Skipping l.message l.pos l.at l.len

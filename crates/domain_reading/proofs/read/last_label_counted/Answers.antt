@@ -4,7 +4,7 @@ use Rattle.domain_reading.specs.Labels.{labels_within, labels_at}
 use Rattle.domain_reading.proofs.Naming.{name_from_some, heads_few}
 use Rattle.domain_reading.proofs.Within.{within_none}
 use Rattle.domain_reading.proofs.Steps.{taken}
-use Rattle.domain_reading.proofs.first.last_label_counted.Goals as goal
+use Rattle.domain_reading.proofs.read.last_label_counted.Goals as goal
 
 pub labels-init : goal.labels-init
 labels-init g c =

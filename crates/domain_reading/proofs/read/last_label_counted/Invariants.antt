@@ -2,7 +2,7 @@ use Rattle.std.proofs.Common.{◌≡◌, ℕ, ◌+◌, ◌<◌, ◌≤◌, ◌++
 use Rattle.domain_label.specs.Wire.{wire}
 use Rattle.domain_reading.specs.Grammar.{Names}
 use Rattle.domain_reading.specs.Labels.{labels_at, heads_at, labels_within}
-use Rattle.domain_reading.proofs.first.last_label_counted.Given as goal
+use Rattle.domain_reading.proofs.read.last_label_counted.Given as goal
 
 abbrev pub invariant-labels : goal.invariant-labels
 invariant-labels g l = record {

@@ -1,5 +1,5 @@
 use Rattle.domain_reading.proofs.Skipping.{skip_label, skip_pointer}
-use Rattle.domain_reading.proofs.skip.front_end_counted.Goals as goal
+use Rattle.domain_reading.proofs.read.front_end_with.Goals as goal
 
 pub heads-preserved : goal.heads-preserved
 heads-preserved g c =

@@ -1,7 +1,7 @@
 use Rattle.std.proofs.Common.{◌≡◌, ◌+◌, ◌≤◌, ◌<◌, slice_index}
 use Rattle.domain_reading.specs.Grammar.{Names}
 use Rattle.domain_reading.specs.Labels.{labels_at, heads_at}
-use Rattle.domain_reading.proofs.first.first_label_counted.Given as goal
+use Rattle.domain_reading.proofs.read.first_label_counted.Given as goal
 
 abbrev pub invariant-heads : goal.invariant-heads
 invariant-heads g l = record {

@@ -1,7 +1,7 @@
 use Rattle.std.proofs.Common.{arith, refl, ◌∙◌}
 use Rattle.domain_reading.proofs.Naming.{name_from_some}
 use Rattle.domain_reading.proofs.Steps.{follow_named, root_named, slice_named, high_not_low}
-use Rattle.domain_reading.proofs.first.first_label_counted.Goals as goal
+use Rattle.domain_reading.proofs.read.first_label_counted.Goals as goal
 
 pub heads-init : goal.heads-init
 heads-init g c = record { named = name_from_some c.requires; same = refl; counted = refl; here = λ _. refl; grown = omega arith }
