@@ -9,6 +9,3 @@ pub mod to_relative_name;
 pub use flatten::{FlattenInto, FlattenName};
 pub use to_name::{MakeName, ToName};
 pub use to_relative_name::{MakeChain, MakeRelativeName, ToRelativeName};
-
-#[cfg(test)]
-mod tests;

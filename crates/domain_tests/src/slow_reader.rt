@@ -2,8 +2,8 @@
 //! place behind a name and its pieces come from the front and the base, not from the reading.
 ghost use Rattle.std.specs.Prelude.{◌≤◌, length};
 
-use crate::ParsedName;
-use domain_wire::ParseError;
+use domain::base::name::ParsedName;
+use domain::base::wire::ParseError;
 use octseq::Parser;
 use std::alloc::Global;
 use std::process::Abort;
