@@ -11,22 +11,22 @@ use std::process::Abort;
 
 /// What the calls of a name must give.
 #[derive(Clone, Copy)]
-struct Wanted {
-    wire: &'static [u8],
+pub struct Wanted<'w> {
+    wire: &'w [u8],
     /// The labels from the last one on.
-    turned: &'static [u8],
-    canonical: &'static [u8],
+    turned: &'w [u8],
+    canonical: &'w [u8],
 }
 
 /// Of `www.Example.com.`
-const ABSOLUTE: Wanted = Wanted {
+pub const ABSOLUTE: Wanted<'static> = Wanted {
     wire: WWW,
     turned: b"\0\x03com\x07Example\x03www",
     canonical: LOWER_WWW,
 };
 
 /// Of `www.Example`
-const RELATIVE: Wanted = Wanted {
+pub const RELATIVE: Wanted<'static> = Wanted {
     wire: b"\x03www\x07Example",
     turned: b"\x07Example\x03www",
     canonical: b"\x03www\x07example",
@@ -79,7 +79,7 @@ fn append_label(octets: &mut Vec<u8>, label: Label<'_>) -> Result<(), ShortBuf> 
 fn gives_labels<'a, N: ToLabelIter<'a>>(
     alloc: Global,
     name: &'a N,
-    wanted: Wanted,
+    wanted: Wanted<'_>,
 ) -> Result<bool, ShortBuf> {
     let mut given = Vec::new(alloc);
     let mut labels = name.iter_labels();
@@ -97,7 +97,7 @@ fn gives_labels<'a, N: ToLabelIter<'a>>(
 }
 
 /// Measures a name, and asks for its octets, which are lent where it lies in one piece.
-fn is_measured<'a, N: ToLabelIter<'a>>(name: &'a N, wanted: Wanted, flat: bool) -> bool {
+fn is_measured<'a, N: ToLabelIter<'a>>(name: &'a N, wanted: Wanted<'_>, flat: bool) -> bool {
     let lent = if flat { Some(wanted.wire) } else { None };
     name.compose_len() as usize == wanted.wire.len() && name.as_flat_slice() == lent
 }
@@ -105,7 +105,7 @@ fn is_measured<'a, N: ToLabelIter<'a>>(name: &'a N, wanted: Wanted, flat: bool) 
 fn is_composed<'a, N: AbsoluteLabels<'a>>(
     alloc: Global,
     name: &'a N,
-    wanted: Wanted,
+    wanted: Wanted<'_>,
 ) -> Result<bool, ShortBuf> {
     let mut plain = Vec::new(alloc);
     name.compose(&mut plain)?;
@@ -117,7 +117,7 @@ fn is_composed<'a, N: AbsoluteLabels<'a>>(
 fn is_made_flat<'a, N: AbsoluteLabels<'a>>(
     alloc: Global,
     name: &'a N,
-    wanted: Wanted,
+    wanted: Wanted<'_>,
 ) -> Result<bool, ShortBuf> {
     let made: Name<Vec<u8>> = name.to_name(alloc)?;
     let tried: Name<ArrayVec<u8, 17>> = name.try_to_name(alloc)?;
@@ -127,7 +127,7 @@ fn is_made_flat<'a, N: AbsoluteLabels<'a>>(
 fn is_made_canonical<'a, N: AbsoluteLabels<'a>>(
     alloc: Global,
     name: &'a N,
-    wanted: Wanted,
+    wanted: Wanted<'_>,
 ) -> Result<bool, ShortBuf> {
     let made: Name<Vec<u8>> = name.to_canonical_name(alloc)?;
     let tried: Name<ArrayVec<u8, 17>> = name.try_to_canonical_name(alloc)?;
@@ -137,7 +137,7 @@ fn is_made_canonical<'a, N: AbsoluteLabels<'a>>(
 fn is_copied<'a, N: AbsoluteLabels<'a>>(
     alloc: Global,
     name: &'a N,
-    wanted: Wanted,
+    wanted: Wanted<'_>,
     flat: bool,
 ) -> Result<bool, ShortBuf> {
     let owned = name.to_vec(alloc)?;
@@ -175,15 +175,15 @@ fn is_matched<'a, N: AbsoluteLabels<'a>>(name: &'a N, others: &'a Others<'a>) ->
         && !name.ends_with(other)
 }
 
-/// Asks `www.Example.com.` of any kind for all that absolute names have.
+/// Asks `www.Example.com.` of any kind for all that absolute names have. It must give [`ABSOLUTE`].
 pub fn every_call_of_absolute<'a, N: AbsoluteLabels<'a>>(
     rt: &impl Abort,
     alloc: Global,
     name: &'a N,
     others: &'a Others<'a>,
+    wanted: Wanted<'_>,
     flat: bool,
 ) -> Result<(), ShortBuf> {
-    let wanted = ABSOLUTE;
     assert!(rt; gives_labels(alloc, name, wanted)? && is_measured(name, wanted, flat));
     assert!(rt; is_composed(alloc, name, wanted)?);
     assert!(rt; is_made_flat(alloc, name, wanted)? && is_made_canonical(alloc, name, wanted)?);
@@ -198,7 +198,7 @@ pub fn every_call_of_absolute<'a, N: AbsoluteLabels<'a>>(
 fn is_relative_composed<'a, N: RelativeLabels<'a>>(
     alloc: Global,
     name: &'a N,
-    wanted: Wanted,
+    wanted: Wanted<'_>,
 ) -> Result<bool, ShortBuf> {
     let mut plain = Vec::new(alloc);
     name.compose(&mut plain)?;
@@ -210,7 +210,7 @@ fn is_relative_composed<'a, N: RelativeLabels<'a>>(
 fn is_made_flat_relative<'a, N: RelativeLabels<'a>>(
     alloc: Global,
     name: &'a N,
-    wanted: Wanted,
+    wanted: Wanted<'_>,
 ) -> Result<bool, ShortBuf> {
     let made: RelativeName<Vec<u8>> = name.to_relative_name(alloc)?;
     let tried: RelativeName<ArrayVec<u8, 12>> = name.try_to_relative_name(alloc)?;
@@ -220,7 +220,7 @@ fn is_made_flat_relative<'a, N: RelativeLabels<'a>>(
 fn is_made_canonical_relative<'a, N: RelativeLabels<'a>>(
     alloc: Global,
     name: &'a N,
-    wanted: Wanted,
+    wanted: Wanted<'_>,
 ) -> Result<bool, ShortBuf> {
     let made: RelativeName<Vec<u8>> = name.to_canonical_relative_name(alloc)?;
     let tried: RelativeName<ArrayVec<u8, 12>> = name.try_to_canonical_relative_name(alloc)?;
@@ -230,7 +230,7 @@ fn is_made_canonical_relative<'a, N: RelativeLabels<'a>>(
 fn is_relative_copied<'a, N: RelativeLabels<'a>>(
     alloc: Global,
     name: &'a N,
-    wanted: Wanted,
+    wanted: Wanted<'_>,
     flat: bool,
 ) -> Result<bool, ShortBuf> {
     let owned = name.to_vec(alloc)?;
@@ -266,15 +266,16 @@ fn is_relative_matched<'a, N: RelativeLabels<'a>>(
         && !name.ends_with(root)
 }
 
-/// Asks `www.Example` of any kind for all that relative names have and that lends the name.
+/// Asks `www.Example` of any kind for all that relative names have and that lends the name. It must give
+/// [`RELATIVE`].
 pub fn every_call_of_relative<'a, N: RelativeLabels<'a>>(
     rt: &impl Abort,
     alloc: Global,
     name: &'a N,
     others: &'a RelativeOthers<'a>,
+    wanted: Wanted<'_>,
     flat: bool,
 ) -> Result<(), ShortBuf> {
-    let wanted = RELATIVE;
     assert!(rt; gives_labels(alloc, name, wanted)? && is_measured(name, wanted, flat));
     assert!(rt; is_relative_composed(alloc, name, wanted)?);
     assert!(rt; is_made_flat_relative(alloc, name, wanted)?);

@@ -1,7 +1,8 @@
 //! Every call over names of each kind, and over kinds of the tests' own.
 
 use crate::calls::{
-    every_call_of_absolute, every_call_of_relative, names_beside, relative_names_beside,
+    ABSOLUTE, RELATIVE, every_call_of_absolute, every_call_of_relative, names_beside,
+    relative_names_beside,
 };
 use crate::lists::{AbsoluteList, Numbered, RelativeList};
 use crate::names::{SCATTERED, WWW, absolute, joined, parsed, relative, relative_joined};
@@ -44,22 +45,22 @@ fn relative_list<'x>(rt: &impl Abort, labels: &'x [Label<'static>]) -> RelativeL
 fn absolute_names_of_each_kind(rt: HostRuntime) -> Result<(), ShortBuf> {
     let others = names_beside(&rt);
     let flat = absolute(&rt, WWW);
-    every_call_of_absolute(&rt, rt.alloc(), &flat, &others, true)?;
-    every_call_of_absolute(&rt, rt.alloc(), &&flat, &others, false)?;
+    every_call_of_absolute(&rt, rt.alloc(), &flat, &others, ABSOLUTE, true)?;
+    every_call_of_absolute(&rt, rt.alloc(), &&flat, &others, ABSOLUTE, false)?;
     let scattered = parsed(&rt, SCATTERED, 15);
-    every_call_of_absolute(&rt, rt.alloc(), &scattered, &others, false)?;
+    every_call_of_absolute(&rt, rt.alloc(), &scattered, &others, ABSOLUTE, false)?;
     let chain = joined(&rt, b"\x03www", b"\x07Example\x03com\0");
-    every_call_of_absolute(&rt, rt.alloc(), &chain, &others, false)
+    every_call_of_absolute(&rt, rt.alloc(), &chain, &others, ABSOLUTE, false)
 }
 
 #[test]
 fn relative_names_of_each_kind(rt: HostRuntime) -> Result<(), ShortBuf> {
     let others = relative_names_beside(&rt);
     let flat = relative(&rt, b"\x03www\x07Example");
-    every_call_of_relative(&rt, rt.alloc(), &flat, &others, true)?;
-    every_call_of_relative(&rt, rt.alloc(), &&flat, &others, false)?;
+    every_call_of_relative(&rt, rt.alloc(), &flat, &others, RELATIVE, true)?;
+    every_call_of_relative(&rt, rt.alloc(), &&flat, &others, RELATIVE, false)?;
     let chain = relative_joined(&rt, b"\x03www", b"\x07Example");
-    every_call_of_relative(&rt, rt.alloc(), &chain, &others, false)
+    every_call_of_relative(&rt, rt.alloc(), &chain, &others, RELATIVE, false)
 }
 
 #[test]
@@ -67,12 +68,12 @@ fn absolute_names_of_other_types(rt: HostRuntime) -> Result<(), ShortBuf> {
     let others = names_beside(&rt);
     let labels = labels_of_www(&rt);
     let list = absolute_list(&rt, &labels);
-    every_call_of_absolute(&rt, rt.alloc(), &list, &others, false)?;
+    every_call_of_absolute(&rt, rt.alloc(), &list, &others, ABSOLUTE, false)?;
     let numbered = Numbered {
         name: absolute(&rt, WWW),
         number: 1,
     };
-    every_call_of_absolute(&rt, rt.alloc(), &numbered, &others, true)?;
+    every_call_of_absolute(&rt, rt.alloc(), &numbered, &others, ABSOLUTE, true)?;
     assert_eq!(rt; numbered.number, 1);
     Ok(())
 }
@@ -82,12 +83,12 @@ fn relative_names_of_other_types(rt: HostRuntime) -> Result<(), ShortBuf> {
     let others = relative_names_beside(&rt);
     let labels = labels_of_www(&rt);
     let list = relative_list(&rt, &labels[..2]);
-    every_call_of_relative(&rt, rt.alloc(), &list, &others, false)?;
+    every_call_of_relative(&rt, rt.alloc(), &list, &others, RELATIVE, false)?;
     let numbered = Numbered {
         name: relative(&rt, b"\x03www\x07Example"),
         number: 1,
     };
-    every_call_of_relative(&rt, rt.alloc(), &numbered, &others, true)
+    every_call_of_relative(&rt, rt.alloc(), &numbered, &others, RELATIVE, true)
 }
 
 #[test]
@@ -99,7 +100,7 @@ fn chains_of_other_types(rt: HostRuntime) -> Result<(), ShortBuf> {
     let Ok(chain) = left.chain(right) else {
         panic!(rt; "too long");
     };
-    every_call_of_absolute(&rt, rt.alloc(), &chain, &others, false)?;
+    every_call_of_absolute(&rt, rt.alloc(), &chain, &others, ABSOLUTE, false)?;
     let (left, right) = chain.unwrap();
     assert_eq!(rt; (left.compose_len(), right.compose_len()), (12, 5));
     assert_eq!(rt; left.chain_root().compose_len(), 13);

@@ -101,6 +101,15 @@ fn relative_names_are_made_or_refused(rt: HostRuntime) {
         refusals.look(&rt, relative_octets_of(name.to_vec(alloc)), b"\x03wWw");
         let made: Result<RelativeName<Vec<u8>>, ShortBuf> = name.to_canonical_relative_name(alloc);
         refusals.look(&rt, relative_octets_of(made), b"\x03www");
+    }
+    assert!(rt; refusals.count <= 1);
+}
+
+#[test]
+fn relative_chains_are_made_or_refused(rt: HostRuntime) {
+    let alloc = rt.alloc();
+    let mut refusals = Refusals { count: 0 };
+    for _time in 0..2u8 {
         let chain = relative_joined(&rt, b"\x03www", b"\x03com");
         refusals.look(
             &rt,

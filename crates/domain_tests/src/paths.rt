@@ -45,32 +45,39 @@ fn labels(rt: HostRuntime) {
     assert_eq!(rt; split.err(), Some(extended));
 }
 
-#[test]
-fn flat_names(rt: HostRuntime) {
-    let absolute: Result<Name<&[u8]>, NameError> = Name::from_slice(b"\x03www");
-    match absolute {
-        Ok(_) => panic!(rt; "a name"),
-        Err(e) => assert_eq!(rt; e.kind(), NameErrorKind::RelativeName),
-    }
-    let relative: Result<RelativeName<&[u8]>, RelativeNameError> = RelativeName::from_slice(b"\0");
-    match relative {
-        Ok(_) => panic!(rt; "a relative name"),
-        Err(e) => assert_eq!(rt; e.kind(), RelativeNameErrorKind::AbsoluteName),
-    }
-    let root = Name::root_ref();
-    let mut labels: NameIter<'_> = root.iter();
-    assert!(rt; labels.next_back().is_some());
-    assert_eq!(rt; absolute_paths(&root), (1, 0));
-    let mut wildcard = RelativeName::wildcard_ref();
-    assert_eq!(rt; relative_paths(&wildcard), (false, false));
-    let base = RelativeName::from_slice(b"\x03www");
-    if let Ok(base) = base {
-        assert_eq!(rt; wildcard.strip_suffix(&base), Err(StripSuffixError));
-    }
+/// Why octets aren't those of an absolute name.
+fn fault(octets: &[u8]) -> Option<NameErrorKind> {
+    let refused: NameError = Name::from_slice(octets).err()?;
+    Some(refused.kind())
+}
+
+/// Why octets aren't those of a relative name.
+fn relative_fault(octets: &[u8]) -> Option<RelativeNameErrorKind> {
+    let refused: RelativeNameError = RelativeName::from_slice(octets).err()?;
+    Some(refused.kind())
 }
 
 #[test]
-fn names_in_messages_and_chains(rt: HostRuntime) {
+fn errors_of_names(rt: HostRuntime) {
+    assert!(rt; fault(b"\x03www") == Some(NameErrorKind::RelativeName));
+    assert!(rt; relative_fault(b"\0") == Some(RelativeNameErrorKind::AbsoluteName));
+    let mut wildcard = RelativeName::wildcard_ref();
+    let base = RelativeName::wildcard_slice();
+    assert!(rt; wildcard.strip_suffix(&base).is_ok());
+    assert!(rt; wildcard.strip_suffix(&base) == Err(StripSuffixError));
+}
+
+#[test]
+fn flat_names(rt: HostRuntime) {
+    let root = Name::root_ref();
+    let mut labels: NameIter<'_> = root.iter();
+    assert!(rt; labels.next_back().is_some());
+    assert!(rt; absolute_paths(&root) == (1, 0));
+    assert!(rt; relative_paths(&RelativeName::wildcard_ref()) == (false, false));
+}
+
+#[test]
+fn names_in_messages(rt: HostRuntime) {
     let mut parser: Parser<'_> = Parser::from_ref(SCATTERED);
     let read: Result<ParsedName<&[u8]>, ParseError> = ParsedName::parse(&mut parser);
     let Ok(com) = read else {
@@ -82,32 +89,41 @@ fn names_in_messages_and_chains(rt: HostRuntime) {
     assert!(rt; suffixes.next().is_some());
     let made: Result<Name<Vec<u8>>, ShortBuf> = FlattenInto::flatten_into(com, rt.alloc());
     assert!(rt; made.is_ok());
-    let wildcard = RelativeName::wildcard_ref();
-    let chain: Result<Chain<RelativeName<&'static [u8]>, Name<&'static [u8]>>, LongChainError> =
-        Chain::new(wildcard, Name::root_ref());
-    let Ok(chain) = chain else {
-        panic!(rt; "too long");
-    };
-    let labels: ChainIter<'_, NameIter<'_>, NameIter<'_>> = chain.iter_labels();
-    assert_eq!(rt; labels.count(), 2);
-    let shown = format!(in rt.alloc(); "{}", DisplayWithDot::new(&chain));
-    assert!(rt; matches!(shown, Ok(text) if text.as_str() == "*."));
+}
+
+/// The chain of two names.
+fn chain(
+    left: RelativeName<&'static [u8]>,
+) -> Result<Chain<RelativeName<&'static [u8]>, Name<&'static [u8]>>, LongChainError> {
+    Chain::new(left, Name::root_ref())
 }
 
 #[test]
-fn wire_format_and_addresses(rt: HostRuntime) {
+fn chains(rt: HostRuntime) {
+    let Ok(chain) = chain(RelativeName::wildcard_ref()) else {
+        panic!(rt; "too long");
+    };
+    let mut labels: ChainIter<'_, NameIter<'_>, NameIter<'_>> = chain.iter_labels();
+    assert!(rt; labels.next().is_some());
+    let mut shown = String::new(rt.alloc());
+    assert!(rt; write!(shown, "{}", DisplayWithDot::new(&chain)).is_ok());
+    assert_eq!(rt; shown.as_str(), "*.");
+}
+
+#[test]
+fn wire_format(rt: HostRuntime) {
+    let read: Result<u16, ParseError> = parse_slice(&[1, 2, 0], |parser| u16::parse(parser));
+    assert!(rt; read == Err(ParseError::Form(FormError::new("trailing data"))));
+    let octets = compose_vec(rt.alloc(), |octets| 258u16.compose(octets));
+    assert!(rt; matches!(octets, Ok(octets) if octets.as_slice() == [1, 2].as_slice()));
+}
+
+#[test]
+fn addresses(rt: HostRuntime) {
     let ipv4 = Ipv4Addr::new(192, 0, 2, 1);
-    assert_eq!(rt; IpAddr::from([192u8, 0, 2, 1]), IpAddr::V4(ipv4));
-    assert_eq!(rt; <Ipv6Addr as Compose>::COMPOSE_LEN, 16);
-    let read: Result<Ipv4Addr, ParseError> = parse_slice(&[192, 0, 2, 1, 0], |parser| {
-        <Ipv4Addr as Parse<'_>>::parse(parser)
-    });
-    assert_eq!(rt;
-        read,
-        Err(ParseError::Form(FormError::new("trailing data")))
-    );
-    let octets = compose_vec(rt.alloc(), |octets| Compose::compose(&ipv4, octets));
-    assert!(rt; matches!(octets, Ok(octets) if octets.as_slice() == [192, 0, 2, 1].as_slice()));
+    assert!(rt; IpAddr::from([192u8, 0, 2, 1]) == IpAddr::V4(ipv4));
+    let ipv6 = Ipv6Addr::from([0u8; 16]);
+    assert!(rt; IpAddr::from([0u16; 8]) == IpAddr::V6(ipv6));
 }
 
 #[test]
