@@ -2,6 +2,9 @@
 //! name that stands at PLACE.
 #![tactic(auto)]
 
+mod words;
+
+use crate::words::Words;
 use domain::tool;
 use std::env;
 use std::io::ErrorKind;
@@ -32,8 +35,8 @@ fn main(rt: HostRuntime) -> ExitCode {
 
 /// The words behind the program's name.
 fn arguments(rt: &HostRuntime) -> Result<Vec<String>, ErrorKind> {
-    match env::args(rt) {
-        Ok(arguments) => match arguments.skip(1).collect(rt.alloc()) {
+    match env::args(&(Words { env: rt }, rt.alloc())) {
+        Ok(arguments) => match arguments.collect(rt.alloc()) {
             Ok(words) => Ok(words),
             Err(_) => Err(ErrorKind::OutOfMemory),
         },

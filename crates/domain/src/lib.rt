@@ -5,6 +5,4 @@ pub mod base;
 #[cfg(test)]
 mod callers;
 mod line;
-#[cfg(test)]
-mod tests;
 pub mod tool;

@@ -15,6 +15,3 @@ pub use label_mut::LabelMut;
 pub use owned::OwnedLabel;
 pub use slice_labels::SliceLabelsIter;
 pub use split::{LabelTypeError, SplitLabelError};
-
-#[cfg(test)]
-mod tests;

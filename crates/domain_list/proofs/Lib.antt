@@ -5,4 +5,3 @@ pub mod Steps
 pub mod Ending
 pub mod Written
 pub mod Chaining
-pub mod Listed

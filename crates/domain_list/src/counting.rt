@@ -1,21 +1,8 @@
 //! Counting the labels of names.
-ghost use Rattle.std.specs.Prelude.{◌≡◌, ◌<◌, ◌≤◌, ◌^◌, length};
+ghost use Rattle.std.specs.Prelude.{◌≡◌, ◌<◌, ◌^◌, length};
 ghost use Rattle.domain_list.specs.Count.{rrsig_labels};
 
 use crate::labels::LabelIterator;
-
-/// How many labels are left.
-pub fn count_labels<'a, I: LabelIterator<'a>>(labels: I) -> usize
-    requires { length (I.left labels) < 2 ^ 64 }
-    ensures { result ≡ length (I.left labels) }
-{
-    let mut labels = labels;
-    let mut count = 0;
-    while let Some(_label) = labels.next() {
-        count += 1;
-    }
-    count
-}
 
 /// How many labels are left, without the root and without a first `*` (RFC 4034, 3.1.3).
 pub fn rrsig_count<'a, I: LabelIterator<'a>>(labels: I) -> u8

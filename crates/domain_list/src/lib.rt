@@ -19,6 +19,3 @@ pub use joined::JoinedLabels;
 pub use labels::{
     Absolute, AbsoluteLabels, LabelIterator, NameLabels, Relative, RelativeLabels, ToLabelIter,
 };
-
-#[cfg(test)]
-mod tests;

@@ -14,6 +14,3 @@ pub use absolute::Name;
 pub use relative::RelativeName;
 pub use strip::StripSuffixError;
 pub use suffixes::SuffixIter;
-
-#[cfg(test)]
-mod tests;

@@ -6,11 +6,7 @@ mod iter;
 mod labels;
 mod order;
 mod parsed;
-#[cfg(test)]
-mod slow_reader;
 mod suffixes;
-#[cfg(test)]
-mod tests;
 
 pub use domain_reading::reads_laws;
 pub use iter::ParsedNameIter;

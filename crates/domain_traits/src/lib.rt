@@ -10,6 +10,3 @@ pub mod to_relative_name;
 pub use flatten::{FlattenInto, FlattenName};
 pub use to_name::ToName;
 pub use to_relative_name::ToRelativeName;
-
-#[cfg(test)]
-mod tests;

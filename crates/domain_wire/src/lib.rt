@@ -11,6 +11,3 @@ pub use compose::{Compose, compose_vec};
 pub use error::{FormError, ParseError};
 pub use net::{IpAddr, Ipv4Addr, Ipv6Addr};
 pub use parse::{Parse, parse_slice};
-
-#[cfg(test)]
-mod tests;

@@ -14,6 +14,3 @@ pub use builder::{EmptyBuilder, FreezeBuilder, FromBuilder, OctetsBuilder, Short
 pub use from::{OctetsFrom, SameOctets};
 pub use octets::{Octets, OctetsMut, Truncate};
 pub use parse::{Parser, ShortInput};
-
-#[cfg(test)]
-mod tests;

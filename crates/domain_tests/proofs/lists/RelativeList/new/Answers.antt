@@ -1,6 +1,6 @@
 use Rattle.std.proofs.Common.{rules, arith, sym, ◌∙◌, true≢false}
-use Rattle.domain_list.proofs.Listed.{more_relative, more_size}
-use Rattle.domain_list.proofs.tests.RelativeList.new.Goals as goal
+use Rattle.domain_tests.proofs.Listed.{more_relative, more_size}
+use Rattle.domain_tests.proofs.lists.RelativeList.new.Goals as goal
 
 pub loop-label-preserved : goal.loop-label-preserved
 loop-label-preserved c =

@@ -2,8 +2,8 @@
 //! place behind a name and its pieces come from the front and the base, not from the reading.
 ghost use Rattle.std.specs.Prelude.{◌≤◌, length};
 
-use crate::ParsedName;
-use domain_wire::ParseError;
+use domain::base::name::ParsedName;
+use domain::base::wire::ParseError;
 use octseq::Parser;
 use std::alloc::Global;
 use std::process::Abort;
@@ -152,7 +152,7 @@ fn skip_slowly<R: Abort>(rt: &R, message: &[u8], place: usize) -> Result<usize, 
 }
 
 /// The octets of a name's labels, each behind its length.
-pub(crate) fn wire_of<R: Abort>(rt: &R, alloc: Global, name: &ParsedName<&[u8]>) -> Vec<u8> {
+fn wire_of<R: Abort>(rt: &R, alloc: Global, name: &ParsedName<&[u8]>) -> Vec<u8> {
     let mut wire = Vec::new(alloc);
     for label in name.iter() {
         assert!(rt; wire.push(label.len() as u8).is_ok());
@@ -161,62 +161,71 @@ pub(crate) fn wire_of<R: Abort>(rt: &R, alloc: Global, name: &ParsedName<&[u8]>)
     wire
 }
 
-/// Whether `parse` answers as the slow reading does.
+/// Whether a name that was read at a place is the one that the slow reading gives, lies in as many pieces, and
+/// ends where its front does.
+fn is_as_read<R: Abort>(
+    rt: &R,
+    alloc: Global,
+    message: &[u8],
+    place: usize,
+    name: &ParsedName<&[u8]>,
+    end: usize,
+) {
+    match read_slowly(rt, alloc, message, place) {
+        Ok(wire) => assert!(rt; wire_of(rt, alloc, name) == wire, "labels at {place}"),
+        Err(_) => panic!(rt; "a name at {place}"),
+    }
+    let (_, behind) = front_slowly(rt, message, place);
+    let (stop, _) = front_slowly(rt, message, base_slowly(rt, message, place));
+    let scattered = matches!(stop, Stands::Pointer(_));
+    assert!(rt;
+        end == behind && name.is_compressed() == scattered,
+        "pieces at {place}"
+    );
+}
+
+/// Whether no name is at a place, and the first fault is this one.
+fn is_as_refused<R: Abort>(rt: &R, alloc: Global, message: &[u8], place: usize, fault: ParseError) {
+    match read_slowly(rt, alloc, message, place) {
+        Ok(_) => panic!(rt; "no name at {place}"),
+        Err(wanted) => assert!(rt; fault == wanted, "fault at {place}"),
+    }
+}
+
+/// Whether `parse` answers as the slow reading does, and a refused call leaves the parser.
 fn agrees_to_parse<R: Abort>(rt: &R, alloc: Global, octets: &[u8], place: usize, end: usize)
     requires ordered { place ≤ end }
     requires inside { end ≤ length octets.now }
 {
-    let message = &octets[..end];
     let mut parser = Parser::with_range(octets, place..end);
-    match (
-        ParsedName::parse(&mut parser),
-        read_slowly(rt, alloc, message, place),
-    ) {
-        (Ok(name), Ok(wire)) => {
-            assert_eq!(rt;
-                wire_of(rt, alloc, &name),
-                wire,
-                "labels at {place} of {end}"
-            );
-            let (_, behind) = front_slowly(rt, message, place);
-            assert_eq!(rt; parser.pos(), behind, "end at {place} of {end}");
-            let (stop, _) = front_slowly(rt, message, base_slowly(rt, message, place));
-            let scattered = matches!(stop, Stands::Pointer(_));
-            assert_eq!(rt;
-                name.is_compressed(),
-                scattered,
-                "pieces at {place} of {end}"
-            );
+    match ParsedName::parse(&mut parser) {
+        Ok(name) => is_as_read(rt, alloc, &octets[..end], place, &name, parser.pos()),
+        Err(fault) => {
+            is_as_refused(rt, alloc, &octets[..end], place, fault);
+            assert!(rt; parser.pos() == place);
         }
-        (Err(fault), Err(wanted)) => {
-            assert_eq!(rt; fault, wanted, "fault at {place} of {end}");
-            assert_eq!(rt; parser.pos(), place, "refused at {place} of {end}");
-        }
-        _ => panic!(rt; "read or refused at {place} of {end}"),
     }
 }
 
-/// Whether `skip` answers as the slow reading does.
+/// Whether `skip` answers as the slow reading does, and a refused call leaves the parser.
 fn agrees_to_skip<R: Abort>(rt: &R, octets: &[u8], place: usize, end: usize)
     requires ordered { place ≤ end }
     requires inside { end ≤ length octets.now }
 {
     let mut parser = Parser::with_range(octets, place..end);
-    match (
-        ParsedName::skip(&mut parser),
-        skip_slowly(rt, &octets[..end], place),
-    ) {
-        (Ok(()), Ok(behind)) => assert_eq!(rt; parser.pos(), behind, "skip at {place} of {end}"),
-        (Err(fault), Err(wanted)) => {
-            assert_eq!(rt; fault, wanted, "skip's fault at {place} of {end}");
-            assert_eq!(rt; parser.pos(), place, "skip refused at {place} of {end}");
-        }
-        _ => panic!(rt; "skipped or refused at {place} of {end}"),
-    }
+    let skipped = ParsedName::skip(&mut parser);
+    let (wanted, behind) = match skip_slowly(rt, &octets[..end], place) {
+        Ok(behind) => (Ok(()), behind),
+        Err(fault) => (Err(fault), place),
+    };
+    assert!(rt;
+        skipped == wanted && parser.pos() == behind,
+        "skip at {place} of {end}"
+    );
 }
 
 /// Every place, with the parser's end at every later place.
-pub(crate) fn agrees_at_every_place_and_end<R: Abort>(rt: &R, alloc: Global, octets: &[u8]) {
+pub fn agrees_at_every_place_and_end<R: Abort>(rt: &R, alloc: Global, octets: &[u8]) {
     for end in 0..octets.len() + 1 {
         for place in 0..end + 1 {
             agrees_to_parse(rt, alloc, octets, place, end);
@@ -226,7 +235,7 @@ pub(crate) fn agrees_at_every_place_and_end<R: Abort>(rt: &R, alloc: Global, oct
 }
 
 /// Every place, with the parser's end at the end of the octets.
-pub(crate) fn agrees_at_every_place<R: Abort>(rt: &R, alloc: Global, octets: &[u8]) {
+pub fn agrees_at_every_place<R: Abort>(rt: &R, alloc: Global, octets: &[u8]) {
     for place in 0..octets.len() + 1 {
         agrees_to_parse(rt, alloc, octets, place, octets.len());
         agrees_to_skip(rt, octets, place, octets.len());

@@ -1,7 +1,7 @@
 use Rattle.std.proofs.Common.{◌≡◌, ◌≤◌, length, map, take}
 use Rattle.domain_label.specs.Views.{label_octets}
 use Rattle.domain_label.specs.Wire.{wire, IsRelative}
-use Rattle.domain_list.proofs.tests.RelativeList.new.Given as goal
+use Rattle.domain_tests.proofs.lists.RelativeList.new.Given as goal
 
 abbrev pub invariant-loop-label : goal.invariant-loop-label
 invariant-loop-label l = record {

@@ -1,5 +1,5 @@
 use Rattle.octseq.proofs.Limits.{taken_within_limit}
-use Rattle.octseq.proofs.tests.append_under_limit.Goals as goal
+use Rattle.domain_tests.proofs.generic.append_under_limit.Goals as goal
 
 pub returns-clause-fits : goal.returns-clause-fits
 returns-clause-fits g c =

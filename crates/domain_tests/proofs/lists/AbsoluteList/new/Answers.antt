@@ -1,7 +1,7 @@
 use Rattle.std.proofs.Common.{rules, ◌≡◌, ◌∷◌, ◌++◌, [], arith}
 use Rattle.domain_label.specs.Views.{label_octets}
-use Rattle.domain_list.proofs.Listed.{then_root}
-use Rattle.domain_list.proofs.tests.AbsoluteList.new.Goals as goal
+use Rattle.domain_tests.proofs.Listed.{then_root}
+use Rattle.domain_tests.proofs.lists.AbsoluteList.new.Goals as goal
 
 pub invariant_of-result : goal.invariant_of-result
 invariant_of-result c =

@@ -1,0 +1,287 @@
+//! Every call that names have, over a name of any kind.
+
+use crate::names::{LOWER_WWW, WWW, absolute, relative};
+use arrayvec::ArrayVec;
+use domain::base::name::*;
+use octseq::{Octets, OctetsBuilder, ShortBuf};
+use std::alloc::Global;
+use std::borrow::CowSlice;
+use std::cmp::Ordering;
+use std::process::Abort;
+
+/// What the calls of a name must give.
+#[derive(Clone, Copy)]
+pub struct Wanted<'w> {
+    wire: &'w [u8],
+    /// The labels from the last one on.
+    turned: &'w [u8],
+    canonical: &'w [u8],
+}
+
+/// Of `www.Example.com.`
+pub const ABSOLUTE: Wanted<'static> = Wanted {
+    wire: WWW,
+    turned: b"\0\x03com\x07Example\x03www",
+    canonical: LOWER_WWW,
+};
+
+/// Of `www.Example`
+pub const RELATIVE: Wanted<'static> = Wanted {
+    wire: b"\x03www\x07Example",
+    turned: b"\x07Example\x03www",
+    canonical: b"\x03www\x07example",
+};
+
+/// Names that an absolute one is compared with.
+#[derive(Clone, Copy)]
+pub struct Others<'b> {
+    twin: Name<&'b [u8]>,
+    other: Name<&'b [u8]>,
+    start: RelativeName<&'b [u8]>,
+    end: Name<&'b [u8]>,
+}
+
+pub fn names_beside(rt: &impl Abort) -> Others<'static> {
+    Others {
+        twin: absolute(rt, b"\x03www\x07EXAMPLE\x03com\0"),
+        other: absolute(rt, b"\x02zz\x07Example\x03com\0"),
+        start: relative(rt, b"\x03WWW\x07example"),
+        end: absolute(rt, b"\x07EXAMPLE\x03com\0"),
+    }
+}
+
+/// Names that a relative one is compared with.
+#[derive(Clone, Copy)]
+pub struct RelativeOthers<'b> {
+    twin: RelativeName<&'b [u8]>,
+    other: RelativeName<&'b [u8]>,
+    start: RelativeName<&'b [u8]>,
+    end: RelativeName<&'b [u8]>,
+    root: Name<&'b [u8]>,
+}
+
+pub fn relative_names_beside(rt: &impl Abort) -> RelativeOthers<'static> {
+    RelativeOthers {
+        twin: relative(rt, b"\x03www\x07EXAMPLE"),
+        other: relative(rt, b"\x02zz\x07Example"),
+        start: relative(rt, b"\x03WWW"),
+        end: relative(rt, b"\x07EXAMPLE"),
+        root: absolute(rt, b"\0"),
+    }
+}
+
+fn append_label(octets: &mut Vec<u8>, label: Label<'_>) -> Result<(), ShortBuf> {
+    octets.append_slice(&[label.len() as u8])?;
+    octets.append_slice(label.as_slice())
+}
+
+/// Goes over the labels from both ends.
+fn gives_labels<'a, N: ToLabelIter<'a>>(
+    alloc: Global,
+    name: &'a N,
+    wanted: Wanted<'_>,
+) -> Result<bool, ShortBuf> {
+    let mut given = Vec::new(alloc);
+    let mut labels = name.iter_labels();
+    while let Some(label) = labels.next() {
+        append_label(&mut given, label)?;
+    }
+    let mut turned = Vec::new(alloc);
+    let mut labels = name.iter_labels();
+    for _time in 0..128u8 {
+        if let Some(label) = labels.next_back() {
+            append_label(&mut turned, label)?;
+        }
+    }
+    Ok(given.as_slice() == wanted.wire && turned.as_slice() == wanted.turned)
+}
+
+/// Measures a name, and asks for its octets, which are lent where it lies in one piece.
+fn is_measured<'a, N: ToLabelIter<'a>>(name: &'a N, wanted: Wanted<'_>, flat: bool) -> bool {
+    let lent = if flat { Some(wanted.wire) } else { None };
+    name.compose_len() as usize == wanted.wire.len() && name.as_flat_slice() == lent
+}
+
+fn is_composed<'a, N: AbsoluteLabels<'a>>(
+    alloc: Global,
+    name: &'a N,
+    wanted: Wanted<'_>,
+) -> Result<bool, ShortBuf> {
+    let mut plain = Vec::new(alloc);
+    name.compose(&mut plain)?;
+    let mut canonical = Vec::new(alloc);
+    name.compose_canonical(&mut canonical)?;
+    Ok(plain.as_slice() == wanted.wire && canonical.as_slice() == wanted.canonical)
+}
+
+fn is_made_flat<'a, N: AbsoluteLabels<'a>>(
+    alloc: Global,
+    name: &'a N,
+    wanted: Wanted<'_>,
+) -> Result<bool, ShortBuf> {
+    let made: Name<Vec<u8>> = name.to_name(alloc)?;
+    let tried: Name<ArrayVec<u8, 17>> = name.try_to_name(alloc)?;
+    Ok(made.as_slice() == wanted.wire && tried.as_slice() == wanted.wire)
+}
+
+fn is_made_canonical<'a, N: AbsoluteLabels<'a>>(
+    alloc: Global,
+    name: &'a N,
+    wanted: Wanted<'_>,
+) -> Result<bool, ShortBuf> {
+    let made: Name<Vec<u8>> = name.to_canonical_name(alloc)?;
+    let tried: Name<ArrayVec<u8, 17>> = name.try_to_canonical_name(alloc)?;
+    Ok(made.as_slice() == wanted.canonical && tried.as_slice() == wanted.canonical)
+}
+
+fn is_copied<'a, N: AbsoluteLabels<'a>>(
+    alloc: Global,
+    name: &'a N,
+    wanted: Wanted<'_>,
+    flat: bool,
+) -> Result<bool, ShortBuf> {
+    let owned = name.to_vec(alloc)?;
+    let cow = name.to_cow(alloc)?;
+    let same = owned.as_slice() == wanted.wire && cow.as_slice() == wanted.wire;
+    Ok(same && matches!(cow.as_octets(), CowSlice::Borrowed(_)) == flat)
+}
+
+fn is_compared<'a, N: AbsoluteLabels<'a>>(name: &'a N, others: &'a Others<'a>) -> bool {
+    let Others { twin, other, .. } = others;
+    name.name_eq(twin)
+        && !name.name_eq(other)
+        && name.name_cmp(twin) == Ordering::Equal
+        && name.name_cmp(other) == Ordering::Less
+}
+
+fn is_compared_on_the_wire<'a, N: AbsoluteLabels<'a>>(name: &'a N, others: &'a Others<'a>) -> bool {
+    let Others { twin, other, .. } = others;
+    name.composed_cmp(twin) == Ordering::Greater
+        && name.composed_cmp(other) == Ordering::Greater
+        && name.lowercase_composed_cmp(twin) == Ordering::Equal
+        && name.lowercase_composed_cmp(other) == Ordering::Greater
+}
+
+fn is_matched<'a, N: AbsoluteLabels<'a>>(name: &'a N, others: &'a Others<'a>) -> bool {
+    let Others {
+        other,
+        start,
+        end,
+        ..
+    } = others;
+    name.starts_with(start)
+        && name.ends_with(end)
+        && !name.starts_with(end)
+        && !name.ends_with(other)
+}
+
+/// Asks `www.Example.com.` of any kind for all that absolute names have. It must give [`ABSOLUTE`].
+pub fn every_call_of_absolute<'a, N: AbsoluteLabels<'a>>(
+    rt: &impl Abort,
+    alloc: Global,
+    name: &'a N,
+    others: &'a Others<'a>,
+    wanted: Wanted<'_>,
+    flat: bool,
+) -> Result<(), ShortBuf> {
+    assert!(rt; gives_labels(alloc, name, wanted)? && is_measured(name, wanted, flat));
+    assert!(rt; is_composed(alloc, name, wanted)?);
+    assert!(rt; is_made_flat(alloc, name, wanted)? && is_made_canonical(alloc, name, wanted)?);
+    assert!(rt; is_copied(alloc, name, wanted, flat)?);
+    assert!(rt; is_compared(name, others) && is_compared_on_the_wire(name, others));
+    assert!(rt; is_matched(name, others) && name.is_absolute() && name.rrsig_label_count() == 3);
+    let text = format!(in alloc; "{}", name.fmt_with_dot())?;
+    assert_eq!(rt; text.as_str(), "www.Example.com.");
+    Ok(())
+}
+
+fn is_relative_composed<'a, N: RelativeLabels<'a>>(
+    alloc: Global,
+    name: &'a N,
+    wanted: Wanted<'_>,
+) -> Result<bool, ShortBuf> {
+    let mut plain = Vec::new(alloc);
+    name.compose(&mut plain)?;
+    let mut canonical = Vec::new(alloc);
+    name.compose_canonical(&mut canonical)?;
+    Ok(plain.as_slice() == wanted.wire && canonical.as_slice() == wanted.canonical)
+}
+
+fn is_made_flat_relative<'a, N: RelativeLabels<'a>>(
+    alloc: Global,
+    name: &'a N,
+    wanted: Wanted<'_>,
+) -> Result<bool, ShortBuf> {
+    let made: RelativeName<Vec<u8>> = name.to_relative_name(alloc)?;
+    let tried: RelativeName<ArrayVec<u8, 12>> = name.try_to_relative_name(alloc)?;
+    Ok(made.as_slice() == wanted.wire && tried.as_slice() == wanted.wire)
+}
+
+fn is_made_canonical_relative<'a, N: RelativeLabels<'a>>(
+    alloc: Global,
+    name: &'a N,
+    wanted: Wanted<'_>,
+) -> Result<bool, ShortBuf> {
+    let made: RelativeName<Vec<u8>> = name.to_canonical_relative_name(alloc)?;
+    let tried: RelativeName<ArrayVec<u8, 12>> = name.try_to_canonical_relative_name(alloc)?;
+    Ok(made.as_slice() == wanted.canonical && tried.as_slice() == wanted.canonical)
+}
+
+fn is_relative_copied<'a, N: RelativeLabels<'a>>(
+    alloc: Global,
+    name: &'a N,
+    wanted: Wanted<'_>,
+    flat: bool,
+) -> Result<bool, ShortBuf> {
+    let owned = name.to_vec(alloc)?;
+    let cow = name.to_cow(alloc)?;
+    let same = owned.as_slice() == wanted.wire && cow.as_slice() == wanted.wire;
+    Ok(same && matches!(cow.as_octets(), CowSlice::Borrowed(_)) == flat)
+}
+
+fn is_relative_compared<'a, N: RelativeLabels<'a>>(
+    name: &'a N,
+    others: &'a RelativeOthers<'a>,
+) -> bool {
+    let RelativeOthers { twin, other, .. } = others;
+    name.name_eq(twin)
+        && !name.name_eq(other)
+        && name.name_cmp(twin) == Ordering::Equal
+        && name.name_cmp(other) == Ordering::Less
+}
+
+fn is_relative_matched<'a, N: RelativeLabels<'a>>(
+    name: &'a N,
+    others: &'a RelativeOthers<'a>,
+) -> bool {
+    let RelativeOthers {
+        start,
+        end,
+        root,
+        ..
+    } = others;
+    name.starts_with(start)
+        && name.ends_with(end)
+        && !name.starts_with(end)
+        && !name.ends_with(root)
+}
+
+/// Asks `www.Example` of any kind for all that relative names have and that lends the name. It must give
+/// [`RELATIVE`].
+pub fn every_call_of_relative<'a, N: RelativeLabels<'a>>(
+    rt: &impl Abort,
+    alloc: Global,
+    name: &'a N,
+    others: &'a RelativeOthers<'a>,
+    wanted: Wanted<'_>,
+    flat: bool,
+) -> Result<(), ShortBuf> {
+    assert!(rt; gives_labels(alloc, name, wanted)? && is_measured(name, wanted, flat));
+    assert!(rt; is_relative_composed(alloc, name, wanted)?);
+    assert!(rt; is_made_flat_relative(alloc, name, wanted)?);
+    assert!(rt; is_made_canonical_relative(alloc, name, wanted)?);
+    assert!(rt; is_relative_copied(alloc, name, wanted, flat)?);
+    assert!(rt; is_relative_compared(name, others) && is_relative_matched(name, others));
+    assert!(rt; !name.is_absolute() && !name.is_empty());
+    Ok(())
+}

@@ -1,0 +1,252 @@
+//! Callers that are generic over builders, octets and names: the traits' clauses suffice for them.
+ghost use Rattle.std.specs.Prelude.{◌≡◌, ◌≤◌, ◌<◌, ◌+◌, ◌++◌, ◌∷◌, [], ◌↔◌, ℕ, List, length, slice_set, IsOk, IsErr, IsSome, IfOk, IfSome, IsTrue, OnOk, OnErr, MatchBool};
+ghost use Rattle.domain_flat.specs.Flat.{IsLabelStart};
+ghost use Rattle.domain_label.specs.Low.{low, low_all};
+ghost use Rattle.domain_label.specs.Views.{label_octets};
+ghost use Rattle.domain_label.specs.Wire.{wire, wire_label};
+ghost use Rattle.domain_list.specs.Count.{rrsig_labels};
+ghost use Rattle.domain_name.specs.Names.{name_labels, relative_labels};
+ghost use Rattle.domain_parsed.specs.Views.{parsed_labels};
+
+use crate::names::{LOWER_WWW, SCATTERED, WWW, absolute, parsed};
+use arrayvec::ArrayVec;
+use domain::base::name::*;
+use octseq::{
+    EmptyBuilder, FreezeBuilder, Octets, OctetsBuilder, OctetsFrom, OctetsMut, SameOctets,
+    ShortBuf, Truncate,
+};
+use std::alloc::Global;
+use std::borrow::CowSlice;
+
+/// Under a fixed limit an append is refused exactly where the limit would be passed.
+fn append_under_limit<B: OctetsBuilder>(
+    builder: &mut B,
+    octets: &[u8],
+) -> Result<(), B::AppendError>
+    ensures fits { IfSome B.limit (λ n.
+        length (B.octets builder.old) + length octets.now ≤ n → IsOk result) }
+    ensures passes { IfSome B.limit (λ n.
+        n < length (B.octets builder.old) + length octets.now → IsErr result) }
+{
+    builder.append_slice(octets)
+}
+
+/// Writes one octet in place.
+fn write_octet<T: OctetsMut>(octets: &mut T, place: usize, octet: u8)
+    requires { place < length (T.octets octets.old) }
+    ensures octets { T.octets octets.new ≡ slice_set (T.octets octets.old) place octet }
+    ensures capacity { T.capacity octets.new ≡ T.capacity octets.old }
+{
+    octets.as_slice_mut()[place] = octet;
+}
+
+/// The room that a new builder has.
+fn room<B: EmptyBuilder>() -> Option<usize>
+    ensures { result ≡ B.ROOM }
+{
+    B::ROOM
+}
+
+/// What wraps octets and is itself no list of octets, as a name.
+#[derive(Drop)]
+struct Short<Octs: Octets> {
+    octets: Octs,
+    ghost short: { length (Octs.octets octets) ≤ 4 },
+}
+
+impl<Src: Octets, Octs: SameOctets<Src>> OctetsFrom<Short<Src>> for Short<Octs> {
+    type Error = Octs::Error;
+
+    ghost same = { λ source made. Octs.octets made.octets ≡ Src.octets source.octets };
+
+    ghost may_refuse = { λ source. Octs.may_refuse source.octets };
+
+    fn try_octets_from(alloc: Global, source: Short<Src>) -> Result<Short<Octs>, Octs::Error> {
+        let Short { octets } = source;
+        let octets = Octs::try_octets_from(alloc, octets)?;
+        Ok(Short { octets })
+    }
+}
+
+/// A builder with a fixed limit takes a label that fits.
+fn compose_under_limit<B: OctetsBuilder>(label: Label, target: &mut B) -> Result<(), B::AppendError>
+    ensures fits { IfSome B.limit (λ n. length (B.octets target.old) + (1 + length (label_octets label.entry)) ≤ n → IsOk result) }
+{
+    label.compose(target)
+}
+
+/// A label as it is signed, appended to any target.
+fn append_signed<B: OctetsBuilder>(label: Label, target: &mut B) -> Result<(), B::AppendError>
+    ensures ok { OnOk result (B.octets target.new ≡ B.octets target.old ++ wire_label (low (label_octets label.entry))) }
+    ensures err { OnErr result (B.octets target.new ≡ B.octets target.old) }
+{
+    label.compose_canonical(target)
+}
+
+/// The first label of a name, as a name. `None` where no label begins behind it, as for the root.
+fn host<'a>(name: &'a Name<&'a [u8]>) -> Option<RelativeName<&'a [u8]>>
+    ensures front { IfSome result (λ host. (zone : List (List ℕ)) × (name_labels name.now ≡ relative_labels host ++ zone)) }
+    ensures first { IfSome result (λ host. (label : List ℕ) × (rest : List (List ℕ)) × (name_labels name.now ≡ label ∷ rest) × (length (wire (relative_labels host)) ≡ length label + 1)) }
+    ensures some { (label : List ℕ) → (rest : List (List ℕ)) → name_labels name.now ≡ label ∷ rest → (IsSome result ↔ IsLabelStart (name_labels name.now) (length label + 1)) }
+{
+    let first = name.first().len() + 1;
+    if name.is_label_start(first) {
+        let (host, _zone) = name.split(first);
+        return Some(host);
+    }
+    None
+}
+
+/// Whether three names are the same without case.
+fn all_same<'a, A: AbsoluteLabels<'a>, B: AbsoluteLabels<'a>, C: AbsoluteLabels<'a>>(
+    a: &'a A,
+    b: &'a B,
+    c: &'a C,
+) -> bool
+    ensures { IsTrue result ↔ ((low_all (A.labels a.now) ≡ low_all (B.labels b.now)) × (low_all (B.labels b.now) ≡ low_all (C.labels c.now))) }
+{
+    a.name_eq(b) && b.name_eq(c)
+}
+
+/// The question for the addresses of a name: the name, and then its type and class.
+fn address_question<'a, N: AbsoluteLabels<'a>>(
+    name: &'a N,
+    alloc: Global,
+) -> Result<Vec<u8>, ShortBuf>
+    ensures { IfOk result (λ octets. octets.items ≡ wire (N.labels name.now) ++ 0 ∷ 1 ∷ 0 ∷ 1 ∷ []) }
+{
+    let mut octets = Vec::new(alloc);
+    name.compose(&mut octets)?;
+    octets.append_slice(&[0, 1, 0, 1])?;
+    Ok(octets)
+}
+
+/// A name of any kind as a key: in one piece, owned, and lowered.
+fn key<'a, N: AbsoluteLabels<'a>>(name: &'a N, alloc: Global) -> Result<Name<Vec<u8>>, ShortBuf>
+    ensures { IfOk result (λ made. name_labels made ≡ low_all (N.labels name.now)) }
+{
+    name.to_canonical_name(alloc)
+}
+
+/// What a name of any kind has for a signature: its canonical octets and its number of labels.
+fn signed<'a, N: AbsoluteLabels<'a>>(name: &'a N, alloc: Global) -> Result<(Vec<u8>, u8), ShortBuf>
+    ensures octets { IfOk result (λ both. both.0.items ≡ wire (low_all (N.labels name.now))) }
+    ensures count { IfOk result (λ both. both.1 ≡ rrsig_labels (N.labels name.now)) }
+{
+    let mut octets = Vec::new(alloc);
+    name.compose_canonical(&mut octets)?;
+    Ok((octets, name.rrsig_label_count()))
+}
+
+/// Leaves out the first label, as `parent` does.
+fn drop_first(name: &mut ParsedName<&[u8]>) -> bool
+    ensures { MatchBool result ((l : List ℕ) × (parsed_labels name.old ≡ l ∷ parsed_labels name.new)) (name.new ≡ name.old) }
+{
+    name.split_first().is_some()
+}
+
+#[test]
+fn builders_take_what_is_under_their_limit(rt: HostRuntime) {
+    assert!(rt; room::<ArrayVec<u8, 3>>() == Some(3) && room::<Vec<u8>>().is_none());
+    let mut array = ArrayVec::<u8, 3>::empty(rt.alloc());
+    for (octets, fits) in [
+        (b"ab".as_slice(), true),
+        (b"cd", false),
+        (b"c", true),
+        (b"d", false),
+        (b"", true),
+    ] {
+        let taken = append_under_limit(&mut &mut array, octets).is_ok();
+        assert_eq!(rt; taken, fits);
+    }
+    assert_eq!(rt; array.freeze().as_slice(), b"abc".as_slice());
+}
+
+#[test]
+fn octets_are_written_in_place(rt: HostRuntime) {
+    let mut array = ArrayVec::<u8, 4>::from([1, 2, 3, 4]);
+    write_octet(&mut array, 1, 9);
+    write_octet(&mut &mut array, 2, 8);
+    Truncate::truncate(&mut &mut array, 3);
+    assert_eq!(rt; Octets::as_slice(&&mut array), [1, 9, 8].as_slice());
+}
+
+#[test]
+fn octets_that_may_be_lent_are_shortened(rt: HostRuntime) {
+    let mut borrowed = CowSlice::Borrowed(b"abc".as_slice());
+    Truncate::truncate(&mut borrowed, 1);
+    assert_eq!(rt; Octets::as_slice(&borrowed), b"a".as_slice());
+    if let Ok(vec) = Vec::from_slice(rt.alloc(), b"abc") {
+        let mut owned = CowSlice::Owned(vec);
+        Truncate::truncate(&mut owned, 2);
+        assert_eq!(rt; Octets::as_slice(&&owned), b"ab".as_slice());
+    }
+}
+
+#[test]
+fn a_wrapper_takes_over_octets(rt: HostRuntime) {
+    for (octets, fits) in [(b"abc".as_slice(), true), (b"abcd", false)] {
+        assert!(rt; octets.len() <= 4);
+        match Short::<ArrayVec<u8, 3>>::try_octets_from(rt.alloc(), Short { octets }) {
+            Ok(made) => assert!(rt; fits && Octets::as_slice(&made.octets) == octets),
+            Err(ShortBuf) => assert!(rt; !fits),
+        }
+    }
+}
+
+#[test]
+fn labels_are_signed(rt: HostRuntime) {
+    let Ok((label, _)) = Label::split_from(b"\x0312C") else {
+        panic!(rt; "no label");
+    };
+    let mut octets = ArrayVec::<u8, 8>::new();
+    assert!(rt; compose_under_limit(label, &mut octets).is_ok());
+    assert!(rt; append_signed(label, &mut octets).is_ok());
+    assert!(rt; append_signed(Label::root(), &mut octets).is_err());
+    assert_eq!(rt; octets.as_slice(), b"\x0312C\x0312c".as_slice());
+}
+
+#[test]
+fn hosts_are_first_labels(rt: HostRuntime) {
+    for (octets, wanted) in [(WWW, b"\x03www".as_slice()), (b"\x03com\0", b"\x03com")] {
+        match host(&absolute(&rt, octets)) {
+            Some(host) => assert_eq!(rt; host.as_slice(), wanted),
+            None => panic!(rt; "no host"),
+        }
+    }
+    assert!(rt; host(&Name::root_ref()).is_none());
+}
+
+#[test]
+fn callers_compare_names_of_any_kind(rt: HostRuntime) {
+    let name = parsed(&rt, SCATTERED, 15);
+    assert!(rt; all_same(&absolute(&rt, WWW), &name, &&absolute(&rt, LOWER_WWW)));
+}
+
+#[test]
+fn callers_get_octets_of_names_of_any_kind(rt: HostRuntime) {
+    let name = parsed(&rt, SCATTERED, 15);
+    let question = b"\x03www\x07Example\x03com\0\0\x01\0\x01".as_slice();
+    match address_question(&name, rt.alloc()) {
+        Ok(octets) => assert_eq!(rt; octets.as_slice(), question),
+        Err(_) => panic!(rt; "memory"),
+    }
+    match key(&name, rt.alloc()) {
+        Ok(key) => assert_eq!(rt; key.as_slice(), LOWER_WWW),
+        Err(_) => panic!(rt; "memory"),
+    }
+    match signed(&name, rt.alloc()) {
+        Ok((octets, count)) => assert!(rt; octets.as_slice() == LOWER_WWW && count == 3),
+        Err(_) => panic!(rt; "memory"),
+    }
+}
+
+#[test]
+fn a_name_is_shortened_to_the_root(rt: HostRuntime) {
+    let mut name = parsed(&rt, SCATTERED, 15);
+    for left in [3usize, 2, 1] {
+        assert!(rt; drop_first(&mut name));
+        assert_eq!(rt; name.label_count(), left);
+    }
+    assert!(rt; !drop_first(&mut name) && name.is_root());
+}

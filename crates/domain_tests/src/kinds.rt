@@ -1,0 +1,122 @@
+//! Every call over names of each kind, and over kinds of the tests' own.
+
+use crate::calls::{
+    ABSOLUTE, RELATIVE, every_call_of_absolute, every_call_of_relative, names_beside,
+    relative_names_beside,
+};
+use crate::lists::{AbsoluteList, Numbered, RelativeList};
+use crate::names::{SCATTERED, WWW, absolute, joined, parsed, relative, relative_joined};
+use domain::base::name::*;
+use octseq::ShortBuf;
+use std::process::Abort;
+
+fn label(rt: &impl Abort, octets: &'static [u8]) -> Label<'static> {
+    match Label::from_slice(octets) {
+        Ok(label) => label,
+        Err(_) => panic!(rt; "no label"),
+    }
+}
+
+/// The labels of `www.Example.com.`
+fn labels_of_www(rt: &impl Abort) -> [Label<'static>; 4] {
+    [
+        label(rt, b"www"),
+        label(rt, b"Example"),
+        label(rt, b"com"),
+        Label::root(),
+    ]
+}
+
+fn absolute_list<'x>(rt: &impl Abort, labels: &'x [Label<'static>]) -> AbsoluteList<'x> {
+    match AbsoluteList::new(labels) {
+        Some(name) => name,
+        None => panic!(rt; "no absolute name"),
+    }
+}
+
+fn relative_list<'x>(rt: &impl Abort, labels: &'x [Label<'static>]) -> RelativeList<'x> {
+    match RelativeList::new(labels) {
+        Some(name) => name,
+        None => panic!(rt; "no relative name"),
+    }
+}
+
+#[test]
+fn absolute_names_of_each_kind(rt: HostRuntime) -> Result<(), ShortBuf> {
+    let others = names_beside(&rt);
+    let flat = absolute(&rt, WWW);
+    every_call_of_absolute(&rt, rt.alloc(), &flat, &others, ABSOLUTE, true)?;
+    every_call_of_absolute(&rt, rt.alloc(), &&flat, &others, ABSOLUTE, false)?;
+    let scattered = parsed(&rt, SCATTERED, 15);
+    every_call_of_absolute(&rt, rt.alloc(), &scattered, &others, ABSOLUTE, false)?;
+    let chain = joined(&rt, b"\x03www", b"\x07Example\x03com\0");
+    every_call_of_absolute(&rt, rt.alloc(), &chain, &others, ABSOLUTE, false)
+}
+
+#[test]
+fn relative_names_of_each_kind(rt: HostRuntime) -> Result<(), ShortBuf> {
+    let others = relative_names_beside(&rt);
+    let flat = relative(&rt, b"\x03www\x07Example");
+    every_call_of_relative(&rt, rt.alloc(), &flat, &others, RELATIVE, true)?;
+    every_call_of_relative(&rt, rt.alloc(), &&flat, &others, RELATIVE, false)?;
+    let chain = relative_joined(&rt, b"\x03www", b"\x07Example");
+    every_call_of_relative(&rt, rt.alloc(), &chain, &others, RELATIVE, false)
+}
+
+#[test]
+fn absolute_names_of_other_types(rt: HostRuntime) -> Result<(), ShortBuf> {
+    let others = names_beside(&rt);
+    let labels = labels_of_www(&rt);
+    let list = absolute_list(&rt, &labels);
+    every_call_of_absolute(&rt, rt.alloc(), &list, &others, ABSOLUTE, false)?;
+    let numbered = Numbered {
+        name: absolute(&rt, WWW),
+        number: 1,
+    };
+    every_call_of_absolute(&rt, rt.alloc(), &numbered, &others, ABSOLUTE, true)?;
+    assert_eq!(rt; numbered.number, 1);
+    Ok(())
+}
+
+#[test]
+fn relative_names_of_other_types(rt: HostRuntime) -> Result<(), ShortBuf> {
+    let others = relative_names_beside(&rt);
+    let labels = labels_of_www(&rt);
+    let list = relative_list(&rt, &labels[..2]);
+    every_call_of_relative(&rt, rt.alloc(), &list, &others, RELATIVE, false)?;
+    let numbered = Numbered {
+        name: relative(&rt, b"\x03www\x07Example"),
+        number: 1,
+    };
+    every_call_of_relative(&rt, rt.alloc(), &numbered, &others, RELATIVE, true)
+}
+
+#[test]
+fn chains_of_other_types(rt: HostRuntime) -> Result<(), ShortBuf> {
+    let others = names_beside(&rt);
+    let labels = labels_of_www(&rt);
+    let left = relative_list(&rt, &labels[..2]);
+    let right = absolute_list(&rt, &labels[2..]);
+    let Ok(chain) = left.chain(right) else {
+        panic!(rt; "too long");
+    };
+    every_call_of_absolute(&rt, rt.alloc(), &chain, &others, ABSOLUTE, false)?;
+    let (left, right) = chain.unwrap();
+    assert_eq!(rt; (left.compose_len(), right.compose_len()), (12, 5));
+    assert_eq!(rt; left.chain_root().compose_len(), 13);
+    Ok(())
+}
+
+#[test]
+fn names_of_other_types_are_at_most_so_long(rt: HostRuntime) {
+    let labels = [label(&rt, b"123456789"); 26];
+    assert!(rt; RelativeList::new(&labels).is_none());
+    let long = relative_list(&rt, &labels[..25]);
+    assert!(rt; AbsoluteList::new(&labels[..25]).is_none());
+    assert!(rt; long.chain(relative(&rt, b"\x041234")).is_err());
+    assert!(rt; long.chain(absolute(&rt, b"\x041234\0")).is_err());
+    let Ok(chain) = long.chain(relative(&rt, b"\x03123")) else {
+        panic!(rt; "too long");
+    };
+    assert_eq!(rt; chain.compose_len(), 254);
+}

@@ -1,0 +1,35 @@
+//! Tests of what neither a contract nor a table of calls shows: calls over types of one's own, buffers that
+//! are full, memory that is refused, readers and writers that fail, and names read a second time by a slow
+//! reader. Calls whose answers are values stand in the table of the program `conformance`.
+#![tactic(auto)]
+
+#[cfg(test)]
+mod calls;
+#[cfg(test)]
+mod engines;
+#[cfg(test)]
+mod flattening;
+#[cfg(test)]
+mod generic;
+#[cfg(test)]
+mod kinds;
+#[cfg(test)]
+mod labels;
+#[cfg(test)]
+mod lists;
+#[cfg(test)]
+mod memory;
+#[cfg(test)]
+mod messages;
+#[cfg(test)]
+mod names;
+#[cfg(test)]
+mod paths;
+#[cfg(test)]
+mod room;
+#[cfg(test)]
+mod slow_reader;
+#[cfg(test)]
+mod texts;
+#[cfg(test)]
+mod words;

@@ -1,0 +1,214 @@
+//! Memory that is refused.
+//!
+//! `rt try --test --fail-alloc N` refuses the Nth request of a test. Each call here is made twice, and at
+//! most one of all is refused: so it gives the right octets or `ShortBuf`, whichever request is refused, and a
+//! call that always refuses is told with no request refused.
+
+use crate::names::{LOWER_WWW, SCATTERED, WWW, absolute, parsed, relative, relative_joined};
+use arrayvec::ArrayVec;
+use domain::base::name::*;
+use domain::base::wire::{Compose, compose_vec};
+use domain::tool::{ToolError, name_at};
+use octseq::{EmptyBuilder, Octets, OctetsBuilder, OctetsFrom, ShortBuf};
+use std::process::Abort;
+
+/// How many calls were refused.
+#[derive(Clone, Copy)]
+struct Refusals {
+    count: u8,
+}
+
+impl Refusals {
+    /// Looks at what a call gave, octets or a refusal.
+    fn look<Octs: Octets + Drop>(
+        &mut self,
+        rt: &impl Abort,
+        made: Result<Octs, ShortBuf>,
+        wanted: &[u8],
+    ) {
+        match made {
+            Ok(octets) => assert_eq!(rt; octets.as_slice(), wanted),
+            Err(ShortBuf) => self.count = self.count.saturating_add(1),
+        }
+    }
+}
+
+fn octets_of<Octs: Octets + Drop>(made: Result<Name<Octs>, ShortBuf>) -> Result<Octs, ShortBuf> {
+    match made {
+        Ok(name) => Ok(name.into_octets()),
+        Err(e) => Err(e),
+    }
+}
+
+fn relative_octets_of<Octs: Octets + Drop>(
+    made: Result<RelativeName<Octs>, ShortBuf>,
+) -> Result<Octs, ShortBuf> {
+    match made {
+        Ok(name) => Ok(name.into_octets()),
+        Err(e) => Err(e),
+    }
+}
+
+/// The longest absolute name, 255 octets.
+const LONGEST: &[u8] =
+    b"\x09123456789\x09123456789\x09123456789\x09123456789\x09123456789\x09123456789\x09123456789\x09123456789\x09123456789\x09123456789\x09123456789\x09123456789\x09123456789\x09123456789\x09123456789\x09123456789\x09123456789\x09123456789\x09123456789\x09123456789\x09123456789\x09123456789\x09123456789\x09123456789\x09123456789\x03123\0";
+
+#[test]
+fn absolute_names_are_made_or_refused(rt: HostRuntime) {
+    let alloc = rt.alloc();
+    let mut refusals = Refusals { count: 0 };
+    for _time in 0..2u8 {
+        refusals.look(&rt, octets_of(Name::root_vec(alloc)), b"\0");
+        for octets in [b"\0".as_slice(), WWW, LONGEST] {
+            let name = absolute(&rt, octets);
+            refusals.look(&rt, octets_of(name.to_vec(alloc)), octets);
+            let made: Result<Name<Vec<u8>>, ShortBuf> = name.to_name(alloc);
+            refusals.look(&rt, octets_of(made), octets);
+            let made: Result<Name<Vec<u8>>, ShortBuf> = name.flatten_into(alloc);
+            refusals.look(&rt, octets_of(made), octets);
+        }
+    }
+    assert!(rt; refusals.count <= 1);
+}
+
+#[test]
+fn scattered_names_are_made_or_refused(rt: HostRuntime) {
+    let alloc = rt.alloc();
+    let mut refusals = Refusals { count: 0 };
+    for _time in 0..2u8 {
+        let name = parsed(&rt, SCATTERED, 15);
+        refusals.look(&rt, octets_of(name.to_cow(alloc)), WWW);
+        let made: Result<Name<Vec<u8>>, ShortBuf> = name.to_canonical_name(alloc);
+        refusals.look(&rt, octets_of(made), LOWER_WWW);
+        let made: Result<Name<Vec<u8>>, ShortBuf> = name.flatten_into(alloc);
+        refusals.look(&rt, octets_of(made), WWW);
+    }
+    assert!(rt; refusals.count <= 1);
+}
+
+#[test]
+fn relative_names_are_made_or_refused(rt: HostRuntime) {
+    let alloc = rt.alloc();
+    let mut refusals = Refusals { count: 0 };
+    for _time in 0..2u8 {
+        refusals.look(&rt, relative_octets_of(RelativeName::empty_vec(alloc)), b"");
+        refusals.look(
+            &rt,
+            relative_octets_of(RelativeName::wildcard_vec(alloc)),
+            b"\x01*",
+        );
+        let name = relative(&rt, b"\x03wWw");
+        refusals.look(&rt, relative_octets_of(name.to_vec(alloc)), b"\x03wWw");
+        let made: Result<RelativeName<Vec<u8>>, ShortBuf> = name.to_canonical_relative_name(alloc);
+        refusals.look(&rt, relative_octets_of(made), b"\x03www");
+    }
+    assert!(rt; refusals.count <= 1);
+}
+
+#[test]
+fn relative_chains_are_made_or_refused(rt: HostRuntime) {
+    let alloc = rt.alloc();
+    let mut refusals = Refusals { count: 0 };
+    for _time in 0..2u8 {
+        let chain = relative_joined(&rt, b"\x03www", b"\x03com");
+        refusals.look(
+            &rt,
+            relative_octets_of(chain.to_cow(alloc)),
+            b"\x03www\x03com",
+        );
+        let made: Result<RelativeName<Vec<u8>>, ShortBuf> = chain.to_relative_name(alloc);
+        refusals.look(&rt, relative_octets_of(made), b"\x03www\x03com");
+    }
+    assert!(rt; refusals.count <= 1);
+}
+
+#[test]
+fn copies_are_made_or_refused(rt: HostRuntime) -> Result<(), ShortBuf> {
+    let alloc = rt.alloc();
+    for octets in [b"\0".as_slice(), WWW, LONGEST] {
+        let held: Name<Vec<u8>> = Name::try_octets_from(alloc, absolute(&rt, octets))?;
+        let mut refusals = Refusals { count: 0 };
+        for _time in 0..2u8 {
+            refusals.look(&rt, octets_of(held.clone(alloc)), octets);
+        }
+        assert!(rt; refusals.count <= 1);
+    }
+    Ok(())
+}
+
+#[test]
+fn long_messages_are_copied_or_refused(rt: HostRuntime) -> Result<(), ShortBuf> {
+    let alloc = rt.alloc();
+    let octets: Name<Vec<u8>> = Name::try_octets_from(alloc, absolute(&rt, LONGEST))?;
+    let mut name = ParsedName::from(octets);
+    assert!(rt; name.parent());
+    let mut refused = 0u8;
+    for _time in 0..2u8 {
+        match name.clone(alloc) {
+            Ok(copy) => assert!(rt; copy == name && copy.label_count() == 26),
+            Err(ShortBuf) => refused = refused.saturating_add(1),
+        }
+    }
+    assert!(rt; refused <= 1);
+    Ok(())
+}
+
+#[test]
+fn names_in_arrays_are_never_refused_a_copy(rt: HostRuntime) -> Result<(), ShortBuf> {
+    let alloc = rt.alloc();
+    let held: Name<ArrayVec<u8, 20>> = Name::try_octets_from(alloc, absolute(&rt, WWW))?;
+    let mut name = ParsedName::from(held.clone(alloc)?);
+    assert!(rt; name.parent() && name.parent());
+    let copy = name.clone(alloc)?;
+    assert!(rt; copy == name && copy.label_count() == 2);
+    let held: RelativeName<ArrayVec<u8, 2>> = RelativeName::wildcard(alloc)?;
+    assert_eq!(rt; held.clone(alloc)?.as_slice(), b"\x01*".as_slice());
+    Ok(())
+}
+
+#[test]
+fn octets_are_appended_or_refused(rt: HostRuntime) {
+    let alloc = rt.alloc();
+    let mut refusals = Refusals { count: 0 };
+    for _time in 0..2u8 {
+        let composed = compose_vec(alloc, |octets| {
+            258u16.compose(octets)?;
+            octets.append_slice(LONGEST)
+        });
+        if let Ok(octets) = &composed {
+            assert_eq!(rt; octets.len(), 257);
+        }
+        refusals.look(&rt, composed.map(|_octets| b"".as_slice()), b"");
+        let mut octets = Vec::new(alloc);
+        match absolute(&rt, WWW).compose(&mut octets) {
+            Ok(()) => refusals.look(&rt, Ok(octets), WWW),
+            Err(e) => {
+                assert!(rt; octets.is_empty());
+                refusals.look(&rt, Err::<Vec<u8>, ShortBuf>(e), b"");
+            }
+        }
+        let made = <Vec<u8> as EmptyBuilder>::with_capacity(alloc, 300);
+        refusals.look(&rt, made, b"");
+    }
+    assert!(rt; refusals.count <= 1);
+    assert!(rt; compose_vec(alloc, |_octets| Err(ShortBuf)).is_err());
+    assert!(rt; <Vec<u8> as EmptyBuilder>::with_capacity(alloc, usize::MAX).is_err());
+}
+
+#[test]
+fn the_engine_answers_or_tells_of_memory(rt: HostRuntime) {
+    let mut refused = 0u8;
+    for _time in 0..2u8 {
+        let mut input = SCATTERED;
+        let mut output = ArrayVec::<u8, 20>::new();
+        match name_at(rt.alloc(), &mut input, &mut output, 15) {
+            Ok(()) => assert_eq!(rt; output.as_slice(), b"www.Example.com.\n".as_slice()),
+            Err(e) => {
+                assert_eq!(rt; e, ToolError::Memory);
+                assert!(rt; output.is_empty());
+                refused = refused.saturating_add(1);
+            }
+        }
+    }
+    assert!(rt; refused <= 1);
+}

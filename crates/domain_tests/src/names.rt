@@ -1,0 +1,55 @@
+//! Names that the tests are made of.
+
+use domain::base::name::*;
+use octseq::Parser;
+use std::process::Abort;
+
+pub const WWW: &[u8] = b"\x03www\x07Example\x03com\0";
+
+/// The same with A to Z as a to z.
+pub const LOWER_WWW: &[u8] = b"\x03www\x07example\x03com\0";
+
+/// `com` at 0, `Example` and a pointer to it at 5, `www` and a pointer to that at 15.
+pub const SCATTERED: &[u8] = b"\x03com\0\x07Example\xc0\0\x03www\xc0\x05";
+
+pub fn absolute<'a>(rt: &impl Abort, octets: &'a [u8]) -> Name<&'a [u8]> {
+    match Name::from_slice(octets) {
+        Ok(name) => name,
+        Err(_) => panic!(rt; "no absolute name"),
+    }
+}
+
+pub fn relative<'a>(rt: &impl Abort, octets: &'a [u8]) -> RelativeName<&'a [u8]> {
+    match RelativeName::from_slice(octets) {
+        Ok(name) => name,
+        Err(_) => panic!(rt; "no relative name"),
+    }
+}
+
+/// The name at a place of a message.
+pub fn parsed<'a>(rt: &impl Abort, octets: &'a [u8], place: usize) -> ParsedName<&'a [u8]> {
+    let mut parser = Parser::from_ref(octets);
+    assert!(rt; parser.advance(place).is_ok());
+    match ParsedName::parse(&mut parser) {
+        Ok(name) => name,
+        Err(_) => panic!(rt; "no name at {place}"),
+    }
+}
+
+pub type Joined<'a> = Chain<RelativeName<&'a [u8]>, Name<&'a [u8]>>;
+
+pub type RelativeJoined<'a> = Chain<RelativeName<&'a [u8]>, RelativeName<&'a [u8]>>;
+
+pub fn joined<'a>(rt: &impl Abort, left: &'a [u8], right: &'a [u8]) -> Joined<'a> {
+    match Chain::new(relative(rt, left), absolute(rt, right)) {
+        Ok(name) => name,
+        Err(_) => panic!(rt; "too long"),
+    }
+}
+
+pub fn relative_joined<'a>(rt: &impl Abort, left: &'a [u8], right: &'a [u8]) -> RelativeJoined<'a> {
+    match Chain::new(relative(rt, left), relative(rt, right)) {
+        Ok(name) => name,
+        Err(_) => panic!(rt; "too long"),
+    }
+}
