@@ -36,6 +36,6 @@ pub mod name {
     pub use domain_name::suffixes::SuffixIter;
     pub use domain_parsed::{ParsedName, ParsedNameIter, ParsedSuffixIter};
     pub use domain_traits::{
-        FlattenInto, MakeChain, MakeName, MakeRelativeName, ToName, ToRelativeName,
+        FlattenInto, FlattenName, MakeChain, MakeName, MakeRelativeName, ToName, ToRelativeName,
     };
 }

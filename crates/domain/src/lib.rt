@@ -2,8 +2,6 @@
 #![tactic(auto)]
 
 pub mod base;
-#[cfg(test)]
-mod callers;
 mod line;
 #[cfg(test)]
 mod tests;

@@ -10,7 +10,8 @@ use domain_label::Label;
 
 /// An iterator over the labels of a name.
 ///
-/// Any mixture of `next` and `next_back` gives each label once, and then `None` for good.
+/// `next` and `next_back` may be mixed at will: no label comes twice and none is left out. Behind the
+/// last one it stays at `None`.
 pub trait LabelIterator<'a>: Iterator<Item = Label<'a>> + DoubleEndedIterator + Copy {
     /// The labels that are left.
     ghost left: { Self → List (List ℕ) };
