@@ -23,7 +23,6 @@ pub mod name {
     pub use domain_label::owned::OwnedLabel;
     pub use domain_label::slice_labels::SliceLabelsIter;
     pub use domain_label::split::{LabelTypeError, SplitLabelError};
-    pub use domain_list::calls::{CompareNames, CompareRelativeNames, MatchEnds};
     pub use domain_list::chain::{Chain, ChainIter, LongChainError};
     pub use domain_list::dotted::DisplayWithDot;
     pub use domain_list::labels::{
@@ -35,7 +34,5 @@ pub mod name {
     pub use domain_name::relative::RelativeName;
     pub use domain_name::suffixes::SuffixIter;
     pub use domain_parsed::{ParsedName, ParsedNameIter, ParsedSuffixIter};
-    pub use domain_traits::{
-        FlattenInto, FlattenName, MakeChain, MakeName, MakeRelativeName, ToName, ToRelativeName,
-    };
+    pub use domain_traits::{FlattenInto, FlattenName, ToName, ToRelativeName};
 }

@@ -5,7 +5,9 @@ ghost use Rattle.std.specs.Iterator.{IsFinite, YieldsFirstBy, YieldsLastBy};
 ghost use Rattle.domain_label.specs.declared.label.Label.{Label};
 ghost use Rattle.domain_label.specs.Views.{label_octets};
 ghost use Rattle.domain_label.specs.Wire.{wire, IsAbsolute, IsAbsoluteName, IsRelativeName, IsName};
+ghost use Rattle.domain_list.specs.Ends.{StartsWith, EndsWith};
 
+use crate::ends::{begins_with, finishes_with};
 use domain_label::Label;
 
 /// An iterator over the labels of a name.
@@ -73,6 +75,21 @@ pub trait ToLabelIter<'a>: NameLabels {
     fn as_flat_slice(&'a self) -> Option<&'a [u8]>
         ensures wire { IfSome result (λ s. s.now ≡ wire (Self.labels self.now)) }
         ensures given { IsSome result ↔ lies_flat self.now };
+
+    /// Whether the name begins with the labels of `other`, a name of any kind, without ASCII case.
+    final fn starts_with<N: ToLabelIter<'a>>(&'a self, other: &'a N) -> bool
+        ensures { IsTrue result ↔ StartsWith (Self.labels self.now) (N.labels other.now) }
+    {
+        begins_with(self.iter_labels(), other.iter_labels())
+    }
+
+    /// Whether the name ends with the labels of `other`, a name of any kind, without ASCII case. No
+    /// relative name ends with an absolute one.
+    final fn ends_with<N: ToLabelIter<'a>>(&'a self, other: &'a N) -> bool
+        ensures { IsTrue result ↔ EndsWith (Self.labels self.now) (N.labels other.now) }
+    {
+        finishes_with(self.iter_labels(), other.iter_labels())
+    }
 }
 
 /// An absolute name whose labels can be gone over.

@@ -1,7 +1,6 @@
 //! What all names have: a list of labels, whatever lies in memory.
 #![tactic(auto)]
 
-pub mod calls;
 pub mod chain;
 pub mod comparing;
 pub mod composing;
@@ -14,7 +13,6 @@ pub mod labels;
 pub mod laws;
 pub mod lent;
 
-pub use calls::{CompareNames, CompareRelativeNames, MatchEnds};
 pub use chain::{Chain, ChainIter, LongChainError};
 pub use dotted::DisplayWithDot;
 pub use joined::JoinedLabels;

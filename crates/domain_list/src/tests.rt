@@ -14,13 +14,15 @@ ghost use Rattle.domain_list.specs.Order.{order, same_name, same_name_laws, orde
 ghost use Rattle.domain_label.proofs.WireLaws.{IsAbsoluteName_prop, IsRelative_prop};
 ghost use Rattle.std.specs.Coded.{×_prop, le_prop};
 
-use crate::comparing::{order_labels, same_labels};
+use crate::comparing::{
+    composed_order_labels, eq_labels, lowercase_composed_order_labels, order_labels, same_labels,
+};
 use crate::composing::{compose_canonical_labels, compose_labels};
 use crate::counting::{count_labels, rrsig_count};
 use crate::hashing::hash_labels;
 use crate::{
-    Absolute, AbsoluteLabels, Chain, CompareNames, CompareRelativeNames, DisplayWithDot,
-    LabelIterator, LongChainError, MatchEnds, NameLabels, Relative, RelativeLabels, ToLabelIter,
+    Absolute, AbsoluteLabels, Chain, DisplayWithDot, LabelIterator, LongChainError, NameLabels,
+    Relative, RelativeLabels, ToLabelIter,
 };
 use arrayvec::ArrayVec;
 use domain_label::Label;
@@ -30,6 +32,29 @@ use std::hash::{DefaultHasher, Hash, Hasher};
 use std::test::Fail;
 
 // Names of the tests' own: a slice of labels.
+
+/// Names of any kinds compared by their labels.
+trait CompareLabels<'a>: ToLabelIter<'a> {
+    final fn name_eq<N: ToLabelIter<'a>>(&'a self, other: &'a N) -> bool
+        ensures { IsTrue result ↔ (low_all (Self.labels self.now) ≡ low_all (N.labels other.now)) }
+    {
+        eq_labels(self.iter_labels(), other.iter_labels())
+    }
+
+    final fn name_cmp<N: ToLabelIter<'a>>(&'a self, other: &'a N) -> Ordering {
+        order_labels(self.iter_labels(), other.iter_labels())
+    }
+
+    final fn composed_cmp<N: ToLabelIter<'a>>(&'a self, other: &'a N) -> Ordering {
+        composed_order_labels(self.iter_labels(), other.iter_labels())
+    }
+
+    final fn lowercase_composed_cmp<N: ToLabelIter<'a>>(&'a self, other: &'a N) -> Ordering {
+        lowercase_composed_order_labels(self.iter_labels(), other.iter_labels())
+    }
+}
+
+impl<'a, L: ToLabelIter<'a>> CompareLabels<'a> for L {}
 
 /// The labels of a slice, from both ends.
 #[derive(Clone, Copy)]

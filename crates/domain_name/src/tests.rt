@@ -11,9 +11,12 @@ use crate::suffixes::SuffixIter;
 use arrayvec::ArrayVec;
 use domain_flat::{NameError, NameErrorKind, NameIter, RelativeNameError, RelativeNameErrorKind};
 use domain_label::{Label, LabelTypeError, SplitLabelError};
+use domain_list::comparing::{
+    composed_order_labels, eq_labels, lowercase_composed_order_labels, order_labels,
+};
 use domain_list::{
-    AbsoluteLabels, Chain, CompareNames, CompareRelativeNames, DisplayWithDot, LongChainError,
-    MatchEnds, NameLabels, Relative, RelativeLabels,
+    AbsoluteLabels, Chain, DisplayWithDot, LongChainError, NameLabels, Relative, RelativeLabels,
+    ToLabelIter,
 };
 use domain_wire::{FormError, ParseError};
 use octseq::{Octets, OctetsFrom, Parser, ShortBuf};
@@ -22,6 +25,27 @@ use std::cmp::Ordering;
 use std::hash::{DefaultHasher, Hash, Hasher};
 use std::process::Abort;
 use std::test::Fail;
+
+/// Names of any kinds compared by their labels.
+trait CompareLabels<'a>: ToLabelIter<'a> {
+    final fn name_eq<N: ToLabelIter<'a>>(&'a self, other: &'a N) -> bool {
+        eq_labels(self.iter_labels(), other.iter_labels())
+    }
+
+    final fn name_cmp<N: ToLabelIter<'a>>(&'a self, other: &'a N) -> Ordering {
+        order_labels(self.iter_labels(), other.iter_labels())
+    }
+
+    final fn composed_cmp<N: ToLabelIter<'a>>(&'a self, other: &'a N) -> Ordering {
+        composed_order_labels(self.iter_labels(), other.iter_labels())
+    }
+
+    final fn lowercase_composed_cmp<N: ToLabelIter<'a>>(&'a self, other: &'a N) -> Ordering {
+        lowercase_composed_order_labels(self.iter_labels(), other.iter_labels())
+    }
+}
+
+impl<'a, L: ToLabelIter<'a>> CompareLabels<'a> for L {}
 
 const WWW: &[u8] = b"\x03www\x07example\x03com\0";
 

@@ -7,7 +7,7 @@ ghost use Rattle.domain_traits.specs.Room.{MayLackRoom};
 
 use crate::parsed::ParsedName;
 use domain_name::Name;
-use domain_traits::{FlattenInto, FlattenName, MakeName};
+use domain_traits::{FlattenInto, FlattenName, ToName};
 use octseq::{EmptyBuilder, FromBuilder, Octets, ShortBuf};
 use std::alloc::Global;
 

@@ -7,12 +7,9 @@ use crate::slow_reader::{agrees_at_every_place, agrees_at_every_place_and_end, w
 use crate::{ParsedName, ParsedNameIter};
 use arrayvec::ArrayVec;
 use domain_list::composing::compose_labels;
-use domain_list::{
-    AbsoluteLabels, Chain, CompareNames, LabelIterator, MatchEnds, NameLabels, Relative,
-    ToLabelIter,
-};
+use domain_list::{AbsoluteLabels, Chain, LabelIterator, NameLabels, Relative, ToLabelIter};
 use domain_name::{Name, RelativeName};
-use domain_traits::{FlattenInto, FlattenName, MakeName, ToName};
+use domain_traits::{FlattenInto, FlattenName, ToName};
 use domain_wire::ParseError;
 use octseq::{OctetsBuilder, OctetsFrom, Parser, ShortBuf};
 use std::alloc::Global;

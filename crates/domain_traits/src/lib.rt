@@ -7,8 +7,8 @@ pub mod to_name;
 pub mod to_relative_name;
 
 pub use flatten::{FlattenInto, FlattenName};
-pub use to_name::{MakeName, ToName};
-pub use to_relative_name::{MakeChain, MakeRelativeName, ToRelativeName};
+pub use to_name::ToName;
+pub use to_relative_name::ToRelativeName;
 
 #[cfg(test)]
 mod tests;

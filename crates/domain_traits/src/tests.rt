@@ -5,14 +5,12 @@ ghost use Rattle.domain_label.specs.Wire.{wire};
 ghost use Rattle.domain_list.specs.Count.{rrsig_labels};
 ghost use Rattle.domain_name.specs.Names.{name_labels};
 
-use crate::{
-    FlattenInto, FlattenName, MakeChain, MakeName, MakeRelativeName, ToName, ToRelativeName,
-};
+use crate::{FlattenInto, FlattenName, ToName, ToRelativeName};
 use arrayvec::ArrayVec;
 use domain_label::Label;
 use domain_list::{
-    Absolute, AbsoluteLabels, Chain, CompareNames, CompareRelativeNames, LabelIterator, MatchEnds,
-    NameLabels, Relative, RelativeLabels, ToLabelIter,
+    Absolute, AbsoluteLabels, Chain, LabelIterator, NameLabels, Relative, RelativeLabels,
+    ToLabelIter,
 };
 use domain_name::{Name, RelativeName};
 use octseq::{EmptyBuilder, Octets, OctetsBuilder, ShortBuf};
@@ -456,7 +454,7 @@ fn every_call_of_relative<'a, N: RelativeLabels<'a>>(
 }
 
 /// The chain of a relative name of any kind and an absolute name.
-fn chain_of_relative<'b, N: Relative + Copy>(
+fn chain_of_relative<'b, N: RelativeLabels<'b> + Copy>(
     rt: &impl Abort,
     name: N,
     rest: Name<&'b [u8]>,
@@ -468,7 +466,7 @@ fn chain_of_relative<'b, N: Relative + Copy>(
 }
 
 /// Whether no chain is made of a relative name of any kind and one that is too long for it.
-fn refuses_a_long_chain<N: Relative + Copy>(rt: &impl Abort, name: N) -> bool {
+fn refuses_a_long_chain<'b, N: RelativeLabels<'b> + Copy>(rt: &impl Abort, name: N) -> bool {
     name.chain(relative(rt, LONG)).is_err()
 }
 
@@ -544,7 +542,7 @@ fn long_chains_of_each_kind_are_refused(rt: HostRuntime) {
 }
 
 /// The chain of a relative name of any kind and the root.
-fn with_root<'b, N: Relative + Copy>(name: N) -> Chain<N, Name<&'b [u8]>> {
+fn with_root<'b, N: RelativeLabels<'b> + Copy>(name: N) -> Chain<N, Name<&'b [u8]>> {
     name.chain_root()
 }
 
@@ -590,7 +588,7 @@ fn flat_names_are_composed_lowered(rt: HostRuntime) -> Result<(), Fail> {
 }
 
 /// How many octets a relative name of any kind has with a root behind it.
-fn len_with_root<L: Relative + Drop>(name: L) -> u16 {
+fn len_with_root<'a, L: RelativeLabels<'a> + Drop>(name: L) -> u16 {
     name.chain_root().compose_len()
 }
 
