@@ -1,6 +1,7 @@
 //! Flat names and their parts.
 ghost use Rattle.std.specs.Prelude.{◌≡◌, ◌++◌, ◌∷◌, ◌+◌, ◌↔◌, ℕ, List, length, IfSome, IsSome};
 ghost use Rattle.domain_flat.specs.Flat.{IsLabelStart};
+ghost use Rattle.domain_label.specs.Views.{label_octets};
 ghost use Rattle.domain_label.specs.Wire.{wire, IsAbsoluteWire};
 ghost use Rattle.domain_name.specs.Names.{name_labels, name_octets, relative_labels};
 
@@ -13,6 +14,13 @@ pub fn known_name(octets: &[u8]) -> Option<Name<&[u8]>>
     ensures name { IfSome result (λ name. name_octets name ≡ octets.now) }
 {
     Name::from_slice(octets).ok()
+}
+
+/// The first label of a name, as `www` of `www.example.com`.
+pub fn first_label<'a>(name: &'a Name<&[u8]>) -> Option<Label<'a>>
+    ensures { IfSome result (λ label. (rest : List (List ℕ)) × (name_labels name.now ≡ label_octets label ∷ rest)) }
+{
+    name.iter().next()
 }
 
 /// The first label of a name, as a name. `None` where no label begins behind it, as for the root.
