@@ -85,6 +85,19 @@ pub trait ToLabelIter<'a>: NameLabels {
 
     /// Whether the name ends with the labels of `other`, a name of any kind, without ASCII case. No
     /// relative name ends with an absolute one.
+    ///
+    /// In `crates/examples/src/comparing.rt`, where it is proved:
+    ///
+    /// ```rust
+    /// pub fn is_in_zone<'a, N: AbsoluteLabels<'a>, A: AbsoluteLabels<'a>>(
+    ///     name: &'a N,
+    ///     apex: &'a A,
+    /// ) -> bool
+    ///     ensures { IsTrue result ↔ EndsWith (N.labels name.now) (A.labels apex.now) }
+    /// {
+    ///     name.ends_with(apex)
+    /// }
+    /// ```
     final fn ends_with<N: ToLabelIter<'a>>(&'a self, other: &'a N) -> bool
         ensures { IsTrue result ↔ EndsWith (Self.labels self.now) (N.labels other.now) }
     {

@@ -2,22 +2,21 @@
 ghost use Rattle.std.specs.Prelude.{◌≡◌, ◌∷◌};
 ghost use Rattle.std.specs.Iterator.{YieldsFirstBy, YieldsLastBy, item_count};
 ghost use Rattle.domain_label.specs.Views.{label_octets};
-ghost use Rattle.domain_flat.specs.Views.{labels_left};
 ghost use Rattle.examples.specs.Hosts.{left_of};
 
 use domain::base::name::*;
 
-/// The labels of a host's name, from either end.
+/// A label, and then those that another iterator gives, from either end.
 #[derive(Clone, Copy)]
-pub struct HostLabels<'a> {
+pub struct HostLabels<'a, I> {
     first: Option<Label<'a>>,
-    zone: NameIter<'a>,
+    zone: I,
 }
 
-impl<'a> HostLabels<'a> {
+impl<'a, I: LabelIterator<'a>> HostLabels<'a, I> {
     /// A label, and then those of a zone's name.
-    pub fn new(first: Label<'a>, zone: NameIter<'a>) -> HostLabels<'a>
-        ensures { left_of result ≡ label_octets first.entry ∷ labels_left zone.entry }
+    pub fn new(first: Label<'a>, zone: I) -> HostLabels<'a, I>
+        ensures { left_of I.left result ≡ label_octets first.entry ∷ I.left zone }
     {
         HostLabels {
             first: Some(first),
@@ -26,12 +25,12 @@ impl<'a> HostLabels<'a> {
     }
 }
 
-impl<'a> Iterator for HostLabels<'a> {
+impl<'a, I: LabelIterator<'a>> Iterator for HostLabels<'a, I> {
     type Item = Label<'a>;
 
-    ghost next_gives = { YieldsFirstBy label_octets left_of };
+    ghost next_gives = { YieldsFirstBy label_octets (left_of I.left) };
 
-    ghost remaining = { item_count left_of };
+    ghost remaining = { item_count (left_of I.left) };
 
     fn next(&mut self) -> Option<Label<'a>> {
         match self.first.take() {
@@ -41,8 +40,8 @@ impl<'a> Iterator for HostLabels<'a> {
     }
 }
 
-impl<'a> DoubleEndedIterator for HostLabels<'a> {
-    ghost next_back_gives = { YieldsLastBy label_octets left_of };
+impl<'a, I: LabelIterator<'a>> DoubleEndedIterator for HostLabels<'a, I> {
+    ghost next_back_gives = { YieldsLastBy label_octets (left_of I.left) };
 
     fn next_back(&mut self) -> Option<Label<'a>> {
         match self.zone.next_back() {
@@ -52,8 +51,8 @@ impl<'a> DoubleEndedIterator for HostLabels<'a> {
     }
 }
 
-impl<'a> LabelIterator<'a> for HostLabels<'a> {
-    ghost left = { left_of };
+impl<'a, I: LabelIterator<'a>> LabelIterator<'a> for HostLabels<'a, I> {
+    ghost left = { left_of I.left };
 
     ghost ready = { λ s. tt };
 

@@ -56,9 +56,9 @@ impl Absolute for Host {
 }
 
 impl<'a> ToLabelIter<'a> for Host {
-    type LabelIter = HostLabels<'a>;
+    type LabelIter = HostLabels<'a, NameIter<'a>>;
 
-    fn iter_labels(&'a self) -> HostLabels<'a> {
+    fn iter_labels(&'a self) -> HostLabels<'a, NameIter<'a>> {
         HostLabels::new(self.label.as_label(), self.zone.iter())
     }
 
