@@ -2,7 +2,5 @@
 #![tactic(auto)]
 
 pub mod base;
-#[cfg(test)]
-mod callers;
 mod line;
 pub mod tool;

@@ -192,8 +192,8 @@ fn at_place<R: Read, W: Write, E: Write>(
     }
 }
 
-/// Does what the words behind the program's name say, and answers the status to end with: 0 where it is
-/// done, 1 where the input is refused, 2 for other words, 3 where reading, writing or memory failed. The
+/// Carries out the words that follow the program's name. The answer is the status to end with: 0 where it
+/// is done, 1 where the input is refused, 2 for other words, 3 where reading, writing or memory failed. The
 /// reason is written to `errors`; that this fails changes no status.
 pub fn run<R: Read, W: Write, E: Write>(
     alloc: Global,

@@ -10,7 +10,8 @@ use std::marker::PhantomData;
 
 /// The labels of a flat name, from either end.
 ///
-/// Any mixture of `next` and `next_back` gives each label once, and then `None` for good.
+/// `next` and `next_back` may be mixed at will: no label comes twice and none is left out. Behind the
+/// last one it stays at `None`.
 #[derive(Clone, Copy, Debug)]
 pub struct NameIter<'a> {
     octets: &'a [u8],

@@ -26,6 +26,11 @@ impl fmt::Display for LongLabelError {
 impl Error for LongLabelError {}
 
 /// A label: at most 63 octets, of any values (RFC 1035, 3.1). The empty label is the root label.
+///
+/// It is one part of a name, and lends the octets in which it lies; it is Copy. The iterators over names
+/// give labels, and `from_slice` makes one of octets, `split_from` of the beginning of a wire form. An
+/// [`OwnedLabel`](crate::OwnedLabel) keeps the octets itself. Two are equal, ordered and hashed without
+/// ASCII case (RFC 4343; RFC 4034, 6.1).
 #[derive(Clone, Copy)]
 pub struct Label<'a> {
     octets: &'a [u8],

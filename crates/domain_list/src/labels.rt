@@ -12,7 +12,8 @@ use domain_label::Label;
 
 /// An iterator over the labels of a name.
 ///
-/// Any mixture of `next` and `next_back` gives each label once, and then `None` for good.
+/// `next` and `next_back` may be mixed at will: no label comes twice and none is left out. Behind the
+/// last one it stays at `None`.
 pub trait LabelIterator<'a>: Iterator<Item = Label<'a>> + DoubleEndedIterator + Copy {
     /// The labels that are left.
     ghost left: { Self → List (List ℕ) };
@@ -84,6 +85,19 @@ pub trait ToLabelIter<'a>: NameLabels {
 
     /// Whether the name ends with the labels of `other`, a name of any kind, without ASCII case. No
     /// relative name ends with an absolute one.
+    ///
+    /// In `crates/examples/src/comparing.rt`, where it is proved:
+    ///
+    /// ```rust
+    /// pub fn is_in_zone<'a, N: AbsoluteLabels<'a>, A: AbsoluteLabels<'a>>(
+    ///     name: &'a N,
+    ///     apex: &'a A,
+    /// ) -> bool
+    ///     ensures { IsTrue result ↔ EndsWith (N.labels name.now) (A.labels apex.now) }
+    /// {
+    ///     name.ends_with(apex)
+    /// }
+    /// ```
     final fn ends_with<N: ToLabelIter<'a>>(&'a self, other: &'a N) -> bool
         ensures { IsTrue result ↔ EndsWith (Self.labels self.now) (N.labels other.now) }
     {

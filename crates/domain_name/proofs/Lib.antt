@@ -1,1 +1,2 @@
 mod Stripping
+pub mod Shapes

@@ -25,6 +25,14 @@ use std::alloc::{AllocError, Global};
 use std::ops::Range;
 
 /// An absolute name: labels and the root, at most 255 octets, in one piece of octets (RFC 1035, 3.1).
+///
+/// It is for names that are kept: owners, zones, keys of maps. `Octs` says where its octets lie:
+/// `&[u8]` lends them, and the name is then Copy; `Vec<u8>` has them in memory of its own; an
+/// `ArrayVec<u8, 255>` has room for each name without any memory.
+///
+/// It is made of octets in wire form by `from_octets`, `from_slice` and `parse`, and of names of other
+/// kinds by `to_name` and `flatten_into`. Two are equal, ordered and hashed by their labels without ASCII
+/// case (RFC 4343; RFC 4034, 6.1).
 pub struct Name<Octs: Octets> {
     octets: Octs,
     ghost absolute: { IsAbsoluteWire (Octs.octets octets) } by { IsAbsoluteWire_prop (Octs.octets octets) },
@@ -67,6 +75,17 @@ impl<'a> Name<&'a [u8]> {
     ghost use Rattle.domain_name.specs.Names.{name_octets, name_labels};
 
     /// The name whose wire form the octets are, with the errors of `from_octets`.
+    ///
+    /// In `crates/examples/src/flat_names.rt`, where it is proved:
+    ///
+    /// ```rust
+    /// pub fn known_name(octets: &[u8]) -> Option<Name<&[u8]>>
+    ///     ensures some { IsSome result ↔ IsAbsoluteWire octets.now }
+    ///     ensures name { IfSome result (λ name. name_octets name ≡ octets.now) }
+    /// {
+    ///     Name::from_slice(octets).ok()
+    /// }
+    /// ```
     pub fn from_slice(octets: &'a [u8]) -> Result<Name<&'a [u8]>, NameError>
         ensures ok { IfOk result (λ name. name_octets name ≡ octets.now) }
         ensures list { (ls : List (List ℕ)) → IsAbsoluteName ls → octets.now ≡ wire ls → IfOk result (λ name. name_labels name ≡ ls) }
@@ -206,6 +225,16 @@ impl<Octs: Octets> Name<Octs> {
     }
 
     /// The labels, the root among them.
+    ///
+    /// In `crates/examples/src/flat_names.rt`, where it is proved:
+    ///
+    /// ```rust
+    /// pub fn first_label<'a>(name: &'a Name<&[u8]>) -> Option<Label<'a>>
+    ///     ensures { IfSome result (λ label. (rest : List (List ℕ)) × (name_labels name.now ≡ label_octets label ∷ rest)) }
+    /// {
+    ///     name.iter().next()
+    /// }
+    /// ```
     pub fn iter(&self) -> NameIter<'_>
         ensures { flat_labels_left result ≡ name_labels self.now }
     {

@@ -23,6 +23,13 @@ use std::ops::Range;
 
 /// A relative name: labels without the root, at most 254 octets, in one piece of octets. It may have no
 /// label.
+///
+/// It is for the beginnings of names, as that of a host in its zone; it becomes whole by `chain` and
+/// `chain_root`. `Octs` says where its octets lie, as in a [`Name`](crate::Name).
+///
+/// It is made of octets in wire form by `from_octets` and `from_slice`, of the parts of a `Name` by
+/// `split`, `slice`, `truncate` and `strip_suffix`, and of relative names of other kinds by
+/// `to_relative_name`.
 pub struct RelativeName<Octs: Octets> {
     octets: Octs,
     ghost relative: { IsRelativeWire (Octs.octets octets) } by { IsRelativeWire_prop (Octs.octets octets) },

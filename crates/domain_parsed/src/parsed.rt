@@ -24,6 +24,10 @@ const MAX_POINTERS: u8 = 255;
 ///
 /// It has at most 255 octets with the root label, and at most 255 compression pointers lead along it.
 /// It keeps the octets of the whole message and a place in them.
+///
+/// It is for names that are read from a message and looked at while that is at hand: nothing is copied, and
+/// over `&[u8]` it is Copy. `parse` makes one, and `From` makes one of a flat name. To keep a name
+/// without its message, make a flat one of it by `flatten_into` or `to_name`.
 pub struct ParsedName<Octs: Octets> {
     octets: Octs,
     pos: usize,
@@ -64,6 +68,19 @@ impl<'a> ParsedName<&'a [u8]> {
     /// - "invalid label type" at a head from 0x40 to 0xbf;
     /// - "too many compression pointers" at one that doesn't lead back, and at a 256th;
     /// - "long domain name" where the labels and their length octets are more than 254 before the root.
+    ///
+    /// In `crates/examples/src/reading.rt`, where it is proved:
+    ///
+    /// ```rust
+    /// pub fn question<'a>(parser: &mut Parser<'a>) -> Result<(ParsedName<&'a [u8]>, u16, u16), ParseError>
+    ///     ensures { IfOk result (λ read. Names 255 (message parser.old) (place parser.old) (parsed_labels read.0)) }
+    /// {
+    ///     let name = ParsedName::parse(parser)?;
+    ///     let rtype = parser.parse_u16_be()?;
+    ///     let class = parser.parse_u16_be()?;
+    ///     Ok((name, rtype, class))
+    /// }
+    /// ```
     pub fn parse(parser: &mut Parser<'a>) -> Result<ParsedName<&'a [u8]>, ParseError>
         ensures exact { IsOk result ↔ ((ls : List (List ℕ)) × Names 255 (message parser.old) (place parser.old) ls) }
         ensures labels { IfOk result (λ name. Names 255 (message parser.old) (place parser.old) (parsed_labels name)) }
@@ -107,6 +124,18 @@ impl<'a> ParsedName<&'a [u8]> {
     ///
     /// `ShortInput` and "invalid label type" as `parse`, "long domain name" past the 255 octets. The
     /// parser then stays where it is. Where `parse` succeeds, this does, and moves to the same place.
+    ///
+    /// In `crates/examples/src/reading.rt`, where it is proved:
+    ///
+    /// ```rust
+    /// pub fn skip_question(parser: &mut Parser<'_>) -> Result<(), ParseError>
+    ///     ensures { OnOk result ((e : ℕ) × Skips (message parser.old) (place parser.old) e × (place parser.new ≡ e + 4)) }
+    /// {
+    ///     ParsedName::skip(parser)?;
+    ///     parser.advance(4)?;
+    ///     Ok(())
+    /// }
+    /// ```
     pub fn skip(parser: &mut Parser<'a>) -> Result<(), ParseError>
         ensures exact { IsOk result ↔ ((e : ℕ) × Skips (message parser.old) (place parser.old) e) }
         ensures moves { OnOk result (SkipsFront parser.old parser.new) }
@@ -172,6 +201,19 @@ impl<Octs: Octets> ParsedName<Octs> {
     }
 
     /// The labels, the root label last. They can be taken from either end.
+    ///
+    /// In `crates/examples/src/reading.rt`, where it is proved:
+    ///
+    /// ```rust
+    /// pub fn top_label<'a>(name: &'a ParsedName<&[u8]>) -> Option<Label<'a>>
+    ///     ensures { IfSome result (λ label. (front : List (List ℕ)) × (root : List ℕ)
+    ///         × (parsed_labels name.now ≡ front ++ label_octets label ∷ root ∷ [])) }
+    /// {
+    ///     let mut labels = name.iter();
+    ///     labels.next_back()?;
+    ///     labels.next_back()
+    /// }
+    /// ```
     pub fn iter(&self) -> ParsedNameIter<'_>
         ensures { labels_left result ≡ parsed_labels self.now }
     {

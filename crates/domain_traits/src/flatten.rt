@@ -25,6 +25,16 @@ pub trait FlattenInto<Target>: Sized {
         ensures err { OnErr result (may_refuse self) };
 
     /// The same as `try_flatten_into`.
+    ///
+    /// In `crates/examples/src/flattening.rt`, where it is proved:
+    ///
+    /// ```rust
+    /// pub fn own_name(name: ParsedName<&[u8]>, alloc: Global) -> Result<Name<Vec<u8>>, ShortBuf>
+    ///     ensures { IfOk result (λ flat. name_labels flat ≡ parsed_labels name.entry) }
+    /// {
+    ///     name.flatten_into(alloc)
+    /// }
+    /// ```
     fn flatten_into(self, alloc: Global) -> Result<Target, ShortBuf>
         ensures ok { IfOk result (λ made. same self made) }
         ensures err { OnErr result (may_refuse self) };

@@ -45,6 +45,19 @@ pub trait ToName<'a>: AbsoluteLabels<'a> {
     }
 
     /// The same as `try_to_name`.
+    ///
+    /// In `crates/examples/src/flattening.rt`, where it is proved:
+    ///
+    /// ```rust
+    /// pub fn copy_name<'a, N: AbsoluteLabels<'a>>(
+    ///     name: &'a N,
+    ///     alloc: Global,
+    /// ) -> Result<Name<Vec<u8>>, ShortBuf>
+    ///     ensures { IfOk result (λ flat. name_labels flat ≡ N.labels name.now) }
+    /// {
+    ///     name.to_name(alloc)
+    /// }
+    /// ```
     final fn to_name<Octs: FromBuilder + Drop>(
         &'a self,
         alloc: Global,
@@ -109,6 +122,22 @@ pub trait ToName<'a>: AbsoluteLabels<'a> {
     ///
     /// The target's error where the octets don't fit, or where there was no memory for them; the target
     /// is then as before. Where they fit its spare capacity, there is none.
+    ///
+    /// In `crates/examples/src/flattening.rt`, where it is proved:
+    ///
+    /// ```rust
+    /// pub fn address_question<'a, N: AbsoluteLabels<'a>>(
+    ///     name: &'a N,
+    ///     alloc: Global,
+    /// ) -> Result<Vec<u8>, ShortBuf>
+    ///     ensures { IfOk result (λ octets. octets.items ≡ wire (N.labels name.now) ++ 0 ∷ 1 ∷ 0 ∷ 1 ∷ []) }
+    /// {
+    ///     let mut octets = Vec::new(alloc);
+    ///     name.compose(&mut octets)?;
+    ///     octets.append_slice(&[0, 1, 0, 1])?;
+    ///     Ok(octets)
+    /// }
+    /// ```
     final fn compose<Target: OctetsBuilder>(
         &'a self,
         target: &mut Target,
@@ -141,6 +170,16 @@ pub trait ToName<'a>: AbsoluteLabels<'a> {
     }
 
     /// Whether the labels are the same without ASCII case (RFC 4343).
+    ///
+    /// In `crates/examples/src/comparing.rt`, where it is proved:
+    ///
+    /// ```rust
+    /// pub fn is_owner(name: &ParsedName<&[u8]>, owner: &Name<Vec<u8>>) -> bool
+    ///     ensures { IsTrue result ↔ (low_all (parsed_labels name.now) ≡ low_all (name_labels owner.now)) }
+    /// {
+    ///     name.name_eq(owner)
+    /// }
+    /// ```
     final fn name_eq<N: AbsoluteLabels<'a>>(&'a self, other: &'a N) -> bool
         ensures { IsTrue result ↔ (low_all (Self.labels self.now) ≡ low_all (N.labels other.now)) }
     {
@@ -149,6 +188,16 @@ pub trait ToName<'a>: AbsoluteLabels<'a> {
 
     /// The order of names: labels are compared from the right, as lists of octets without ASCII case
     /// (RFC 4034, 6.1). It is `Equal` exactly where `name_eq` is true.
+    ///
+    /// In `crates/examples/src/comparing.rt`, where it is proved:
+    ///
+    /// ```rust
+    /// pub fn place_in_zone(name: &ParsedName<&[u8]>, other: &Name<Vec<u8>>) -> Ordering
+    ///     ensures { result ≡ order (parsed_labels name.now) (name_labels other.now) }
+    /// {
+    ///     name.name_cmp(other)
+    /// }
+    /// ```
     final fn name_cmp<N: AbsoluteLabels<'a>>(&'a self, other: &'a N) -> Ordering
         ensures { result ≡ order (Self.labels self.now) (N.labels other.now) }
     {
@@ -178,6 +227,17 @@ pub trait ToName<'a>: AbsoluteLabels<'a> {
     }
 
     /// Shows the name with a dot behind each label, and the root as a dot (RFC 1035, 5.1).
+    ///
+    /// In `crates/examples/src/reading.rt`, where it is proved:
+    ///
+    /// ```rust
+    /// pub fn shown(name: &ParsedName<&[u8]>, alloc: Global) -> Result<String, AllocError>
+    ///     ensures { IfOk result (λ text. string_bytes text ≡ dotted (parsed_labels name.now)) }
+    /// {
+    ///     let dotted = name.fmt_with_dot();
+    ///     format!(in alloc; "{dotted}")
+    /// }
+    /// ```
     final fn fmt_with_dot(&'a self) -> DisplayWithDot<'a, Self>
     where
         Self: Sized,

@@ -1,0 +1,2 @@
+pub mod CharacterStrings
+pub mod Hosts

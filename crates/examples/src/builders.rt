@@ -1,0 +1,33 @@
+//! Octets of the caller's choice: what they are made of, and how many fit.
+ghost use Rattle.std.specs.Prelude.{◌≡◌, ◌+◌, ◌<◌, ◌≤◌, ℕ, length, IfOk, IsOk, IsErr, OnErr, IfSome};
+ghost use Rattle.domain_label.specs.Wire.{wire};
+
+use domain::base::name::*;
+use octseq::{OctetsBuilder, SameOctets, ShortBuf};
+use std::alloc::Global;
+
+/// The octets in a value of the caller's choice.
+pub fn keep<'a, Octs: SameOctets<&'a [u8]>>(
+    alloc: Global,
+    octets: &'a [u8],
+) -> Result<Octs, ShortBuf>
+    ensures same { IfOk result (λ kept. Octs.octets kept ≡ octets.now) }
+    ensures err { OnErr result (Octs.may_refuse octets.entry) }
+{
+    match Octs::try_octets_from(alloc, octets) {
+        Ok(kept) => Ok(kept),
+        Err(refused) => Err(refused.into()),
+    }
+}
+
+/// Appends a name to octets of any kind. Where their number is limited, the name is taken where it fits
+/// the limit, and refused where it would pass it.
+pub fn append_name<'a, N: AbsoluteLabels<'a>, B: OctetsBuilder>(
+    name: &'a N,
+    target: &mut B,
+) -> Result<(), B::AppendError>
+    ensures fits { IfSome B.limit (λ n. length (B.octets target.old) + length (wire (N.labels name.now)) ≤ n → IsOk result) }
+    ensures passes { IfSome B.limit (λ n. n < length (B.octets target.old) + length (wire (N.labels name.now)) → IsErr result) }
+{
+    name.compose(target)
+}

@@ -1,0 +1,38 @@
+//! Flat names and their parts.
+ghost use Rattle.std.specs.Prelude.{◌≡◌, ◌++◌, ◌∷◌, ◌+◌, ◌↔◌, ℕ, List, length, IfSome, IsSome};
+ghost use Rattle.domain_flat.specs.Flat.{IsLabelStart};
+ghost use Rattle.domain_label.specs.Views.{label_octets};
+ghost use Rattle.domain_label.specs.Wire.{wire, IsAbsoluteWire};
+ghost use Rattle.domain_name.specs.Names.{name_labels, name_octets, relative_labels};
+
+use domain::base::name::*;
+
+/// A name that is kept as octets in wire form, as `\x07example\x03com\0`. `None` where the octets are no
+/// such form.
+pub fn known_name(octets: &[u8]) -> Option<Name<&[u8]>>
+    ensures some { IsSome result ↔ IsAbsoluteWire octets.now }
+    ensures name { IfSome result (λ name. name_octets name ≡ octets.now) }
+{
+    Name::from_slice(octets).ok()
+}
+
+/// The first label of a name, as `www` of `www.example.com`.
+pub fn first_label<'a>(name: &'a Name<&[u8]>) -> Option<Label<'a>>
+    ensures { IfSome result (λ label. (rest : List (List ℕ)) × (name_labels name.now ≡ label_octets label ∷ rest)) }
+{
+    name.iter().next()
+}
+
+/// The first label of a name, as a name. `None` where no label begins behind it, as for the root.
+pub fn host<'a>(name: &'a Name<&'a [u8]>) -> Option<RelativeName<&'a [u8]>>
+    ensures front { IfSome result (λ host. (zone : List (List ℕ)) × (name_labels name.now ≡ relative_labels host ++ zone)) }
+    ensures first { IfSome result (λ host. (label : List ℕ) × (rest : List (List ℕ)) × (name_labels name.now ≡ label ∷ rest) × (length (wire (relative_labels host)) ≡ length label + 1)) }
+    ensures some { (label : List ℕ) → (rest : List (List ℕ)) → name_labels name.now ≡ label ∷ rest → (IsSome result ↔ IsLabelStart (name_labels name.now) (length label + 1)) }
+{
+    let first = name.first().len() + 1;
+    if name.is_label_start(first) {
+        let (host, _zone) = name.split(first);
+        return Some(host);
+    }
+    None
+}

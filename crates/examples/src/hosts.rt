@@ -1,0 +1,72 @@
+//! A type of one's own with an iterator of its own: the hosts of a zone.
+ghost use Rattle.std.specs.Prelude.{◌≡◌, ◌<◌, ◌+◌, ◌∷◌, ◌⊎◌, ◌↔◌, List, ℕ, [], length, IsNone, IfSome};
+ghost use Rattle.std.proofs.Common.{inl};
+ghost use Rattle.domain_label.specs.Views.{owned_octets};
+ghost use Rattle.domain_label.specs.Wire.{wire, IsAbsoluteName};
+ghost use Rattle.domain_label.proofs.WireLaws.{IsAbsoluteName_prop};
+ghost use Rattle.domain_name.specs.Names.{name_labels};
+
+use crate::host_labels::HostLabels;
+use domain::base::name::*;
+
+/// A host of a zone: the first label of its name, and the zone's name.
+#[derive(Drop)]
+pub struct Host {
+    label: OwnedLabel,
+    zone: Name<Vec<u8>>,
+    ghost named: { IsAbsoluteName (owned_octets label ∷ name_labels zone) } by { IsAbsoluteName_prop (owned_octets label ∷ name_labels zone) },
+}
+
+impl Host {
+    ghost use Rattle.examples.specs.Hosts.{labels_of};
+
+    /// The host of this label in the zone.
+    ///
+    /// `None` where the label is the root's, or the name would have more than 255 octets.
+    pub fn new(label: OwnedLabel, zone: Name<Vec<u8>>) -> Option<Host>
+        ensures labels { IfSome result (λ host. labels_of host ≡ owned_octets label ∷ name_labels zone) }
+        ensures none { IsNone result ↔ ((owned_octets label ≡ []) ⊎ (255 < length (wire (owned_octets label ∷ name_labels zone)))) }
+    {
+        let len = label.as_label().len();
+        if len == 0 || len + 1 + zone.len() > 255 {
+            return None;
+        }
+        Some(Host { label, zone })
+    }
+}
+
+impl NameLabels for Host {
+    ghost use Rattle.examples.specs.Hosts.{labels_of};
+
+    ghost labels = { λ host. labels_of host };
+
+    fn compose_len(&self) -> u16 {
+        self.label.as_label().len() as u16 + 1 + self.zone.compose_len()
+    }
+
+    fn is_absolute(&self) -> bool {
+        true
+    }
+
+    ghost lawful = { λ host. inl host.named };
+}
+
+impl Absolute for Host {
+    ghost absolute = { λ host. host.named };
+}
+
+impl<'a> ToLabelIter<'a> for Host {
+    type LabelIter = HostLabels<'a, NameIter<'a>>;
+
+    fn iter_labels(&'a self) -> HostLabels<'a, NameIter<'a>> {
+        HostLabels::new(self.label.as_label(), self.zone.iter())
+    }
+
+    ghost lies_flat = { λ _. ⊥ };
+
+    fn as_flat_slice(&'a self) -> Option<&'a [u8]> {
+        None
+    }
+}
+
+impl<'a> AbsoluteLabels<'a> for Host {}

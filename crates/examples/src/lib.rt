@@ -1,0 +1,20 @@
+//! What the documents show of calling the library, as a crate of a caller's own would have it: each
+//! function stands here as the documents have it, with its contract, and is proved.
+#![tactic(auto)]
+
+pub mod builders;
+pub mod chains;
+pub mod character_strings;
+pub mod comparing;
+pub mod exchange;
+pub mod flat_names;
+pub mod flattening;
+pub mod host_labels;
+pub mod hosts;
+pub mod labels;
+pub mod octets;
+pub mod owners;
+pub mod program;
+pub mod reading;
+pub mod values;
+pub mod wrapped;

@@ -1,0 +1,50 @@
+//! Reading names from messages, and going over their labels.
+ghost use Rattle.std.specs.Prelude.{◌≡◌, ◌+◌, ◌++◌, ◌∷◌, [], ℕ, List, string_bytes, IfOk, IfSome, OnOk};
+ghost use Rattle.domain_label.specs.Text.{dotted};
+ghost use Rattle.domain_label.specs.Views.{label_octets};
+ghost use Rattle.domain_parsed.specs.Views.{parsed_labels};
+ghost use Rattle.domain_reading.specs.Faults.{Skips};
+ghost use Rattle.domain_reading.specs.Grammar.{Names};
+ghost use Rattle.octseq.specs.Parsing.{message, place};
+
+use domain::base::name::*;
+use domain::base::wire::ParseError;
+use octseq::Parser;
+use std::alloc::{AllocError, Global};
+
+/// The name at the parser's place, the type and the class behind it.
+pub fn question<'a>(parser: &mut Parser<'a>) -> Result<(ParsedName<&'a [u8]>, u16, u16), ParseError>
+    ensures { IfOk result (λ read. Names 255 (message parser.old) (place parser.old) (parsed_labels read.0)) }
+{
+    let name = ParsedName::parse(parser)?;
+    let rtype = parser.parse_u16_be()?;
+    let class = parser.parse_u16_be()?;
+    Ok((name, rtype, class))
+}
+
+/// Passes over a question: the name, and the four octets of its type and class.
+pub fn skip_question(parser: &mut Parser<'_>) -> Result<(), ParseError>
+    ensures { OnOk result ((e : ℕ) × Skips (message parser.old) (place parser.old) e × (place parser.new ≡ e + 4)) }
+{
+    ParsedName::skip(parser)?;
+    parser.advance(4)?;
+    Ok(())
+}
+
+/// The label right before the root, as `com` of `www.example.com`. `None` for the root.
+pub fn top_label<'a>(name: &'a ParsedName<&[u8]>) -> Option<Label<'a>>
+    ensures { IfSome result (λ label. (front : List (List ℕ)) × (root : List ℕ)
+        × (parsed_labels name.now ≡ front ++ label_octets label ∷ root ∷ [])) }
+{
+    let mut labels = name.iter();
+    labels.next_back()?;
+    labels.next_back()
+}
+
+/// A name for people to read: each label with a dot behind it, and the root as a dot.
+pub fn shown(name: &ParsedName<&[u8]>, alloc: Global) -> Result<String, AllocError>
+    ensures { IfOk result (λ text. string_bytes text ≡ dotted (parsed_labels name.now)) }
+{
+    let dotted = name.fmt_with_dot();
+    format!(in alloc; "{dotted}")
+}

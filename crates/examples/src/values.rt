@@ -1,0 +1,62 @@
+//! Values that are written to and read from messages.
+ghost use Rattle.std.specs.Prelude.{◌≡◌, ◌++◌, ◌<◌, ℕ, length, IsOk, IfOk, IfErr, OnOk, OnErr};
+ghost use Rattle.std.specs.Int.{w16, to_be_bytes, from_be_bytes};
+ghost use Rattle.domain_wire.specs.Refusals.{refusal, short_input};
+ghost use Rattle.octseq.specs.Parsing.{message, place};
+
+use domain::base::wire::{Compose, Parse, ParseError, compose_vec, parse_slice};
+use octseq::{OctetsBuilder, Parser, ShortBuf};
+use std::alloc::Global;
+
+/// Composes two values, or nothing.
+pub fn compose_two<A: Compose, B: Compose, Target: OctetsBuilder>(
+    first: &A,
+    second: &B,
+    target: &mut Target,
+) -> Result<(), Target::AppendError>
+    ensures ok { OnOk result (Target.octets target.new
+        ≡ Target.octets target.old ++ A.composed_octets first.now ++ B.composed_octets second.now) }
+    ensures err { OnErr result (Target.octets target.new ≡ Target.octets target.old) }
+{
+    let len = target.as_slice().len();
+    first.compose(target)?;
+    match second.compose(target) {
+        Ok(()) => Ok(()),
+        Err(e) => {
+            target.truncate(len);
+            Err(e)
+        }
+    }
+}
+
+/// Reads two values, one behind the other, or neither.
+pub fn parse_two<'a, A: Parse<'a> + Drop, B: Parse<'a> + Drop, E: From<ParseError>>(
+    parser: &mut Parser<'a>,
+) -> Result<(A, B), E>
+    ensures ok { IfOk result (λ read. (between : ℕ)
+        × A.stands (message parser.old) (place parser.old) (A.seen read.0) between
+        × B.stands (message parser.old) between (B.seen read.1) (place parser.new)) }
+    ensures err { OnErr result (parser.new ≡ parser.old) }
+{
+    let mut ahead = *parser;
+    let first = A::parse(&mut ahead)?;
+    let second = B::parse(&mut ahead)?;
+    *parser = ahead;
+    Ok((first, second))
+}
+
+/// The number that these two octets are.
+pub fn number(octets: &[u8]) -> Result<u16, ParseError>
+    ensures value { IfOk result (λ n. n ≡ from_be_bytes w16 octets.now) }
+    ensures found { length octets.now ≡ 2 → IsOk result }
+    ensures short { length octets.now < 2 → IfErr result (λ e. refusal e ≡ short_input) }
+{
+    parse_slice(octets, |parser| u16::parse(parser))
+}
+
+/// The octets of a number.
+pub fn octets_of(alloc: Global, number: u16) -> Result<Vec<u8>, ShortBuf>
+    ensures { IfOk result (λ octets. octets.items ≡ to_be_bytes w16 number) }
+{
+    compose_vec(alloc, |octets| number.compose(octets))
+}
