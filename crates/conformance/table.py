@@ -14,6 +14,7 @@ import subprocess
 import sys
 
 rows = []  # (line, answer or None, whether the answerer lacks it)
+promised = []  # (line, what must stand in its answer): the order of RFC 4034, 6.1
 
 
 def hx(octets):
@@ -261,6 +262,8 @@ row("label", b"\x1f\x21\x5b\x7e\x7f\xff", b"")
 for octet in range(256):
     row("label", bytes([octet]), bytes([(octet + 32) % 256]))
     row("label", b"a" + bytes([octet]) + b"Z", b"A" + bytes([octet ^ 0x20]) + b"z")
+row("label", b"\x80" * 63, b"\xff" * 63)
+row("label", b"\0" * 63, b"\0" * 62)
 LABELS = [b"", b"\1", b"*", b"\xc8", b"example", b"eXAMple", b"e4ample", b"aB", b"z", b"Ba", b"Ab", b"12C", b"*w", b"[\xc1",
           b"{\xe1", b"@", b"`", b"a" * 63, b"A" * 62 + b"b", b"a" * 62, b"www", b"\0", b"\xff", b"\0\0"]
 for one in LABELS:
@@ -321,9 +324,9 @@ told("rel", b"\x3f" + b"\0" * 63, "ok")
 told("rel", b"\x40" + b"\0" * 64, "err BadLabel(Extended(64)) unknown extended label 0x40")
 topic("octets at the limits, cut, and with each head")
 for total in (252, 253, 254, 255, 256, 257):
-    for last in (1, 30, 63):
+    for last in (1, 63):
         octets = of_len(total, last)
-        for made in (octets, octets[:-1], octets + b"\0", octets + b"\0\0", octets + b"\xc0\0", octets + b"\x40", octets + b"\5a", octets + b"\xc0"):
+        for made in (octets, octets[:-1], octets + b"\0", octets + b"\0\0", octets + b"\xc0\0", octets + b"\x40", octets + b"\5a"):
             row("name", made)
             row("rel", made)
     for octets in (of_len(total - 1) + b"\0", b"\1a" * ((total - 1) // 2) + (b"\0" if total % 2 else b"\1")):
@@ -339,7 +342,7 @@ for size in range(61, 67):
         row("nparse", octets, 0)
         row("skip", octets, 0)
         row("splitlabel", octets)
-for octets in (WWW, WWW + b"\0", RELATIVE + b"\xc0\0", RELATIVE + b"\x80", SCATTERED):
+for octets in (WWW + b"\0", RELATIVE + b"\xc0\0", RELATIVE + b"\x80", SCATTERED):
     for cut in range(len(octets) + 1):
         row("name", octets[:cut])
         row("rel", octets[:cut])
@@ -393,11 +396,13 @@ for message, place in PLACED:
     row("lentpforms", message, place)
     row("pforms", message.replace(b"example", b"Example"), place)
     row("lentpforms", message.replace(b"example", b"Example"), place)
-told("forms", WWW, "made={0} canonical={0} cow=lent held={0} lowered={0} composed=err aa err aa".format(hx(WWW)))
-told("forms", absolute(b"com"), "made={0} canonical={0} cow=lent held={0} lowered={0} composed=ok aa{0} ok aa{0}".format(hx(absolute(b"com"))))
-told("pforms", SCATTERED, 15, "made={0} canonical={0} cow=own held={0} lowered={0} composed=err aa err aa".format(hx(WWW)))
-told("forms", absolute(b"wWw", b"Z"), "made=0377577700 canonical=-".replace("0377577700 canonical=-", "03775777015a00 canonical=0377777" "7017a00")
-     + " cow=lent held=03775777015a00 lowered=0377777" "7017a00 composed=ok aa03775777015a00 ok aa03777777017a00")
+told("forms", WWW, "made={0} canonical={0} cow=lent held={0} lowered={0} composed=err aa err aa dotted={1} rrsig=3".format(hx(WWW), hx(b"www.example.com.")))
+told("forms", absolute(b"com"), "made={0} canonical={0} cow=lent held={0} lowered={0} composed=ok aa{0} ok aa{0} dotted={1} rrsig=1".format(hx(absolute(b"com")), hx(b"com.")))
+told("pforms", SCATTERED, 15, "made={0} canonical={0} cow=own held={0} lowered={0} composed=err aa err aa dotted={1} rrsig=3".format(hx(WWW), hx(b"www.example.com.")))
+told("forms", absolute(b"wWw", b"Z"), "made={0} canonical={1} cow=lent held={0} lowered={1} composed=ok aa{0} ok aa{1} dotted={2} rrsig=2".format(
+    hx(absolute(b"wWw", b"Z")), hx(absolute(b"www", b"z")), hx(b"wWw.Z.")))
+told("chainforms", rel(b"www"), absolute(b"com"), "made={0} canonical={0} cow=own held={0} lowered={0} composed=ok aa{0} ok aa{0} dotted={1} rrsig=2".format(
+    hx(absolute(b"www", b"com")), hx(b"www.com.")))
 row("forms", absolute(b"www", b"examples", b"com"))
 row("pforms", b"\3com\0\7exampleS\xc0\0\3www\xc0\5".replace(b"\7exampleS", b"\10exampleS"), 16)
 topic("names shown, and their labels")
@@ -502,12 +507,30 @@ for one in SET[:26]:
     for other in rnd.sample(SET[:26], 6):
         row("pname", b"\3com\0" + one + pointer(4), 4 + len(one), other)
 
+for name, start, answer in ((WWW, rel(b"www"), "1000"), (WWW, rel(b"com"), "0000"), (WWW, b"", "1100"), (WWW, rel(b"example", b"com"), "0000")):
+    told("ends", name, start, answer)
+for one, other in ((WWW, MIXED), (WWW, WWW)):
+    told("cmp", one, other, "eq=1 cmp== composed=%s lower== starts=1 ends=1 hash=%s %s" % ("=" if one == other else ">", hx(WWW), hx(WWW)))
+for place, other in enumerate(RISING):
+    for at, one in enumerate(RISING):
+        cmp = "<" if at < place else "=" if at == place else ">"
+        promised.append(("cmp %s %s" % (hx(one), hx(other)), " cmp=%s " % cmp))
+        promised.append(("relcmp %s %s" % (hx(one[:-1]), hx(other[:-1])), " cmp=%s " % cmp))
+BESIDE = b"".join(RISING)
+for at, one in enumerate(RISING):
+    for place, other in enumerate(RISING):
+        cmp = "<" if at < place else "=" if at == place else ">"
+        row("pcmp", BESIDE, len(b"".join(RISING[:at])), len(b"".join(RISING[:place])))
+        promised.append((rows[-1][0], " cmp=%s " % cmp))
+told("walk", b"123\0", 3, "- - - f00 none f00 1 0 - 2e 00")
+
 topic("chains")
 told("chain", LONG, b"\x03123", "ok %s 254 %s" % (hx(LONG + b"\x03123"), ",".join(["313233"] + [hx(b"123456789")] * 25)))
 told("chain", LONG, b"\0041234", "err long domain name")
+told("rooted", LONG + b"\x03123", "ok %s 255 %s %s" % (hx(LONG + b"\x03123\0"), ",".join(["-", "313233"] + [hx(b"123456789")] * 25), hx(b"123456789." * 25 + b"123.")))
 told("chain", rel(b"www"), absolute(b"com"), "ok 0377777703636f6d00 9 -,636f6d,777777")
 for total in (252, 253, 254, 255, 256, 257):
-    for left in (2, 64, 128, 200, 250):
+    for left in (2, 128, 250):
         right = total - left
         if right >= 2:
             row("chain", of_len(left), of_len(right))
@@ -586,6 +609,13 @@ told("rest", MOST, 509, 126, "61,- -,61 61,- c016100")
 row("rest", MOST, 509, 0)
 row("rest", MOST, 509, 100)
 row("pforms", MOST, 509)
+row("walk", MOST, 509)
+row("walk", b"\x03123\0" + LONG + b"\xc0\0" + b"12", 5)
+row("walk", b"\x041234\0" + LONG + b"\xc0\0" + b"12", 6)
+row("walk", rel(*[b"\x80" * 63] * 3, b"\xff" * 61) + b"\0", 0)
+row("walk", absolute(octet_label), 0)
+for place in (0, 4, 12, 16):
+    row("walk", WWW, place)
 for message in (SCATTERED, FLAT_POINTER, ONCE, INSIDE, b"\1a\xc0\0", b"\1a\1b\xc0\0", b"\4\1a\xc0\1\xc0\1", b"\xc0\2\xc0\00012", b"\3www\xc0\xee12", b"\3www\xc0\00412"):
     for place in range(len(message) + 1):
         message_rows(message, place)
@@ -688,6 +718,11 @@ def main():
             wrong += 1
             print("different:", line[:200], "\n  wanted:", (wanted or "")[:300], "\n  is:    ", answer[:300], file=sys.stderr)
         out.append(answer)
+    told_by = dict(zip((it[0] for it in table), out))
+    for line, part in promised:
+        if part not in told_by[line]:
+            wrong += 1
+            print("not in order:", line, told_by[line], file=sys.stderr)
     folder = os.path.dirname(os.path.abspath(__file__))
     with open(os.path.join(folder, "stdin"), "w") as file:
         file.write(text)

@@ -1,6 +1,6 @@
 //! An answer in the making.
 
-use crate::fail::{Call, Fail};
+use crate::fail::Fail;
 use domain::base::name::LabelIterator;
 use std::alloc::{AllocError, Global};
 use std::cmp::Ordering;
@@ -17,6 +17,8 @@ pub struct Answer {
     alloc: Global,
     octets: Vec<u8>,
     fail: Option<Fail>,
+    /// The call that did not agree, where one did not.
+    wrong: Vec<u8>,
 }
 
 impl Answer {
@@ -25,6 +27,7 @@ impl Answer {
             alloc,
             octets: Vec::new(alloc),
             fail: None,
+            wrong: Vec::new(alloc),
         }
     }
 
@@ -38,9 +41,9 @@ impl Answer {
             None => out.extend_from_slice(self.octets.as_slice())?,
             Some(Fail::Bad) => out.extend_from_slice(b"bad")?,
             Some(Fail::Memory) => out.extend_from_slice(b"memory")?,
-            Some(Fail::Wrong(call)) => {
+            Some(Fail::Wrong) => {
                 out.extend_from_slice(b"wrong ")?;
-                out.extend_from_slice(call.text().as_bytes())?;
+                out.extend_from_slice(self.wrong.as_slice())?;
             }
         }
         out.extend_from_slice(b"\n")
@@ -58,15 +61,27 @@ impl Answer {
         }
     }
 
+    /// A call that did not agree with another one.
+    pub fn wrong(&mut self, call: &[u8]) {
+        if self.fail.is_some() {
+            return;
+        }
+        self.fail = Some(Fail::Wrong);
+        self.wrong.clear();
+        if self.wrong.extend_from_slice(call).is_err() {
+            self.fail = Some(Fail::Memory);
+        }
+    }
+
     /// Two calls that must agree.
-    pub fn agree(&mut self, holds: bool, call: Call) {
+    pub fn agree(&mut self, holds: bool, call: &[u8]) {
         if !holds {
-            self.fail(Fail::Wrong(call));
+            self.wrong(call);
         }
     }
 
     /// Two slices that must be the same.
-    pub fn same(&mut self, a: &[u8], b: &[u8], call: Call) {
+    pub fn same(&mut self, a: &[u8], b: &[u8], call: &[u8]) {
         self.agree(a == b, call);
     }
 
@@ -103,6 +118,28 @@ impl Answer {
             Ok(text) => self.put_hex(text.as_bytes()),
             Err(_) => self.fail(Fail::Memory),
         }
+    }
+
+    // Each of these appends a word first.
+
+    pub fn put_hex_behind(&mut self, word: &[u8], octets: &[u8]) {
+        self.put(word);
+        self.put_hex(octets);
+    }
+
+    pub fn put_text_behind<D: Display + Drop>(&mut self, word: &[u8], value: D) {
+        self.put(word);
+        self.put_text(value);
+    }
+
+    pub fn put_shown_behind<D: Display + Drop>(&mut self, word: &[u8], value: D) {
+        self.put(word);
+        self.put_shown(value);
+    }
+
+    pub fn put_number_behind(&mut self, word: &[u8], value: usize) {
+        self.put(word);
+        self.put_number(value);
     }
 
     pub fn put_number(&mut self, value: usize) {

@@ -4,7 +4,7 @@ use crate::answer::Answer;
 use crate::compare::{
     put_beside_chain, put_beside_relative_chain, put_ends_beside_chain, put_parsed_beside_chain,
 };
-use crate::fail::{Call, Fail};
+use crate::fail::Fail;
 use crate::flat::put_stripped;
 use crate::made::{put_chain_forms, put_relative_chain_forms};
 use crate::message::name_at;
@@ -32,8 +32,7 @@ fn relative_chain<'a>(left: &'a [u8], right: &'a [u8]) -> Option<Relatively<'a>>
 fn put_chain_of<'a, I: LabelIterator<'a>>(out: &mut Answer, len: u16, front: I, back: I) {
     out.put(b"ok ");
     put_wire(out, front);
-    out.put(b" ");
-    out.put_text(len);
+    out.put_text_behind(b" ", len);
     out.put(b" ");
     out.put_turned(back);
 }
@@ -54,8 +53,7 @@ fn put_wire<'a, I: LabelIterator<'a>>(out: &mut Answer, labels: I) {
 }
 
 fn put_refusal(out: &mut Answer, error: LongChainError) {
-    out.put(b"err ");
-    out.put_text(error);
+    out.put_text_behind(b"err ", error);
 }
 
 /// `chain L R`
@@ -77,9 +75,9 @@ fn put_absolute_chain(out: &mut Answer, left: RelativeName<&[u8]>, right: Name<&
         Ok(chain) => {
             let (front, back) = (chain.iter_labels(), chain.iter_labels());
             put_chain_of(out, chain.compose_len(), front, back);
-            out.agree(chain.is_absolute(), Call::IsAbsolute);
+            out.agree(chain.is_absolute(), b"is_absolute");
             let (one, other) = chain.unwrap();
-            out.agree(one == left && other == right, Call::Unwrap);
+            out.agree(one == left && other == right, b"unwrap");
         }
         Err(error) => put_refusal(out, error),
     }
@@ -90,7 +88,7 @@ fn put_relative_chain(out: &mut Answer, left: RelativeName<&[u8]>, right: Relati
         Ok(chain) => {
             let (front, back) = (chain.iter_labels(), chain.iter_labels());
             put_chain_of(out, chain.compose_len(), front, back);
-            out.agree(!chain.is_absolute(), Call::IsAbsolute);
+            out.agree(!chain.is_absolute(), b"is_absolute");
         }
         Err(error) => put_refusal(out, error),
     }
@@ -130,8 +128,7 @@ pub fn put_rooted(out: &mut Answer, octets: &[u8]) {
     let chain = name.chain_root();
     let (front, back) = (chain.iter_labels(), chain.iter_labels());
     put_chain_of(out, chain.compose_len(), front, back);
-    out.put(b" ");
-    out.put_shown(chain.fmt_with_dot());
+    out.put_shown_behind(b" ", chain.fmt_with_dot());
 }
 
 /// `chaincmp L R NAME`
@@ -140,7 +137,7 @@ pub fn put_chaincmp(out: &mut Answer, left: &[u8], right: &[u8], octets: &[u8]) 
         return out.fail(Fail::Bad);
     };
     match Name::from_slice(octets) {
-        Ok(name) => put_beside_chain(out, chain, name),
+        Ok(name) => put_beside_chain(out, &chain, &name),
         Err(_) => out.fail(Fail::Bad),
     }
 }
@@ -151,7 +148,7 @@ pub fn put_chainrel(out: &mut Answer, left: &[u8], right: &[u8], octets: &[u8]) 
         return out.fail(Fail::Bad);
     };
     match RelativeName::from_slice(octets) {
-        Ok(name) => put_beside_relative_chain(out, chain, name),
+        Ok(name) => put_beside_relative_chain(out, &chain, &name),
         Err(_) => out.fail(Fail::Bad),
     }
 }
@@ -162,7 +159,7 @@ pub fn put_chainends(out: &mut Answer, left: &[u8], right: &[u8], octets: &[u8])
         return out.fail(Fail::Bad);
     };
     match Name::from_slice(octets) {
-        Ok(name) => put_ends_beside_chain(out, name, chain),
+        Ok(name) => put_ends_beside_chain(out, &name, &chain),
         Err(_) => out.fail(Fail::Bad),
     }
 }
@@ -184,7 +181,7 @@ pub fn put_pchain(out: &mut Answer, message: &[u8], place: usize, left: &[u8], r
         return out.fail(Fail::Bad);
     };
     match absolute_chain(left, right) {
-        Some(chain) => put_parsed_beside_chain(out, parsed, chain),
+        Some(chain) => put_parsed_beside_chain(out, &parsed, &chain),
         None => out.fail(Fail::Bad),
     }
 }

@@ -114,7 +114,20 @@ fn respond_to_more(
         let place = fields.number()?;
         let others = fields.octets(out.alloc())?;
         respond_beside(call, octets, place, others.as_slice(), out);
-    } else if word == b"parser".as_slice() {
+    } else {
+        return respond_to_many(word, octets, fields, out);
+    }
+    Ok(())
+}
+
+/// The words with more fields than others.
+fn respond_to_many(
+    word: &[u8],
+    octets: &[u8],
+    fields: &mut Fields<'_>,
+    out: &mut Answer,
+) -> Result<(), Fail> {
+    if word == b"parser".as_slice() {
         let begin = fields.number()?;
         let end = fields.number()?;
         put_calls(out, octets, begin, end, fields.next().ok_or(Fail::Bad)?);

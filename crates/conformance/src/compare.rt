@@ -1,7 +1,7 @@
 //! Names compared, with names of their kind and of others.
 
 use crate::answer::Answer;
-use crate::fail::{Call, Fail};
+use crate::fail::Fail;
 use crate::message::name_at;
 use domain::base::name::*;
 use std::hash::{DefaultHasher, Hash, Hasher};
@@ -24,7 +24,7 @@ fn put_fed<'a, N: AbsoluteLabels<'a> + Hash>(out: &mut Answer, name: &'a N) {
     }
     let mut hasher = DefaultHasher::new();
     name.hash(&mut hasher);
-    out.agree(hasher.finish() == digest(octets.as_slice()), Call::Hash);
+    out.agree(hasher.finish() == digest(octets.as_slice()), b"hash");
     out.put_hex(octets.as_slice());
 }
 
@@ -35,7 +35,7 @@ fn put_relative_fed(out: &mut Answer, name: RelativeName<&[u8]>) {
     }
     let mut hasher = DefaultHasher::new();
     name.hash(&mut hasher);
-    out.agree(hasher.finish() == digest(octets.as_slice()), Call::Hash);
+    out.agree(hasher.finish() == digest(octets.as_slice()), b"hash");
     out.put_hex(octets.as_slice());
 }
 
@@ -74,9 +74,9 @@ pub fn put_cmp(out: &mut Answer, a: &[u8], b: &[u8]) {
     };
     put_compared(out, &a, &b);
     let order = a.name_cmp(&b);
-    out.agree((a == b) == a.name_eq(&b), Call::Eq);
-    out.agree(a.cmp(&b) == order, Call::Cmp);
-    out.agree(a.partial_cmp(&b) == Some(order), Call::PartialCmp);
+    out.agree((a == b) == a.name_eq(&b), b"==");
+    out.agree(a.cmp(&b) == order, b"cmp");
+    out.agree(a.partial_cmp(&b) == Some(order), b"partial_cmp");
 }
 
 /// `relcmp A B`
@@ -95,14 +95,11 @@ pub fn put_relcmp(out: &mut Answer, a: &[u8], b: &[u8]) {
 }
 
 fn put_relative_pair(out: &mut Answer, a: RelativeName<&[u8]>, b: RelativeName<&[u8]>) {
+    put_relative_related(out, &a, &b);
     let order = a.name_cmp(&b);
-    out.put_bit(b"eq=", a.name_eq(&b));
-    out.put_order(b" cmp=", order);
-    out.put_bit(b" starts=", a.starts_with(&b));
-    out.put_bit(b" ends=", a.ends_with(&b));
-    out.agree((a == b) == a.name_eq(&b), Call::Eq);
-    out.agree(a.cmp(&b) == order, Call::Cmp);
-    out.agree(a.partial_cmp(&b) == Some(order), Call::PartialCmp);
+    out.agree((a == b) == a.name_eq(&b), b"==");
+    out.agree(a.cmp(&b) == order, b"cmp");
+    out.agree(a.partial_cmp(&b) == Some(order), b"partial_cmp");
 }
 
 /// `pcmp MSG P Q`
@@ -117,9 +114,9 @@ pub fn put_pcmp(out: &mut Answer, message: &[u8], left: usize, right: usize) {
     out.put(b" / ");
     put_beside_twin(out, left, right);
     let order = left.name_cmp(&right);
-    out.agree((left == right) == left.name_eq(&right), Call::Eq);
-    out.agree(left.cmp(&right) == order, Call::Cmp);
-    out.agree(left.partial_cmp(&right) == Some(order), Call::PartialCmp);
+    out.agree((left == right) == left.name_eq(&right), b"==");
+    out.agree(left.cmp(&right) == order, b"cmp");
+    out.agree(left.partial_cmp(&right) == Some(order), b"partial_cmp");
 }
 
 /// The left name beside the flat twin of the right one.
@@ -182,45 +179,54 @@ pub fn put_prel(out: &mut Answer, message: &[u8], place: usize, octets: &[u8]) {
     }
 }
 
-/// A chain and an absolute name, on either side.
-pub fn put_beside_chain(
+/// How a relative name compares with another.
+fn put_relative_related<'a, A: RelativeLabels<'a>, B: RelativeLabels<'a>>(
     out: &mut Answer,
-    chain: Chain<RelativeName<&[u8]>, Name<&[u8]>>,
-    name: Name<&[u8]>,
+    a: &'a A,
+    b: &'a B,
 ) {
-    put_related(out, &chain, &name);
+    out.put_bit(b"eq=", a.name_eq(b));
+    out.put_order(b" cmp=", a.name_cmp(b));
+    out.put_bit(b" starts=", a.starts_with(b));
+    out.put_bit(b" ends=", a.ends_with(b));
+}
+
+/// A chain and an absolute name, on either side.
+pub fn put_beside_chain<'a>(
+    out: &mut Answer,
+    chain: &'a Chain<RelativeName<&'a [u8]>, Name<&'a [u8]>>,
+    name: &'a Name<&'a [u8]>,
+) {
+    put_related(out, chain, name);
     out.put(b" / ");
-    put_related(out, &name, &chain);
+    put_related(out, name, chain);
 }
 
 /// A name in a message and a chain.
-pub fn put_parsed_beside_chain(
+pub fn put_parsed_beside_chain<'a>(
     out: &mut Answer,
-    parsed: ParsedName<&[u8]>,
-    chain: Chain<RelativeName<&[u8]>, Name<&[u8]>>,
+    parsed: &'a ParsedName<&'a [u8]>,
+    chain: &'a Chain<RelativeName<&'a [u8]>, Name<&'a [u8]>>,
 ) {
-    put_related(out, &parsed, &chain);
+    put_related(out, parsed, chain);
 }
 
-/// A chain of relative names and a relative name.
-pub fn put_beside_relative_chain(
+/// A chain of relative names and a relative name, on either side.
+pub fn put_beside_relative_chain<'a>(
     out: &mut Answer,
-    chain: Chain<RelativeName<&[u8]>, RelativeName<&[u8]>>,
-    name: RelativeName<&[u8]>,
+    chain: &'a Chain<RelativeName<&'a [u8]>, RelativeName<&'a [u8]>>,
+    name: &'a RelativeName<&'a [u8]>,
 ) {
-    out.put_bit(b"eq=", chain.name_eq(&name));
-    out.put_order(b" cmp=", chain.name_cmp(&name));
-    out.put_bit(b" starts=", chain.starts_with(&name));
-    out.put_bit(b" ends=", chain.ends_with(&name));
-    out.put_bit(b" / starts=", name.starts_with(&chain));
-    out.put_bit(b" ends=", name.ends_with(&chain));
+    put_relative_related(out, chain, name);
+    out.put(b" / ");
+    put_relative_related(out, name, chain);
 }
 
-/// A chain of relative names and an absolute name.
-pub fn put_ends_beside_chain(
+/// An absolute name and a chain of relative names.
+pub fn put_ends_beside_chain<'a>(
     out: &mut Answer,
-    name: Name<&[u8]>,
-    chain: Chain<RelativeName<&[u8]>, RelativeName<&[u8]>>,
+    name: &'a Name<&'a [u8]>,
+    chain: &'a Chain<RelativeName<&'a [u8]>, RelativeName<&'a [u8]>>,
 ) {
-    put_ends_of(out, &name, &chain);
+    put_ends_of(out, name, chain);
 }

@@ -1,7 +1,7 @@
 //! Absolute names in one piece.
 
 use crate::answer::Answer;
-use crate::fail::{Call, Fail};
+use crate::fail::Fail;
 use crate::labels::put_name_error;
 use domain::base::name::*;
 
@@ -9,7 +9,7 @@ use domain::base::name::*;
 pub fn put_name(out: &mut Answer, octets: &[u8]) {
     match Name::from_slice(octets) {
         Ok(name) => {
-            out.same(name.as_slice(), octets, Call::FromSlice);
+            out.same(name.as_slice(), octets, b"from_slice");
             out.put(b"ok");
         }
         Err(error) => {
@@ -25,26 +25,21 @@ pub fn put_show(out: &mut Answer, octets: &[u8]) {
         return out.fail(Fail::Bad);
     };
     put_texts(out, name);
-    out.put(b" rrsig=");
-    out.put_text(name.rrsig_label_count());
-    out.put(b" labels=");
-    out.put_number(name.label_count());
+    out.put_text_behind(b" rrsig=", name.rrsig_label_count());
+    out.put_number_behind(b" labels=", name.label_count());
     out.put(b" canonical=");
     put_canonical(out, name);
-    out.put(b" first=");
-    out.put_hex(name.first().as_slice());
+    out.put_hex_behind(b" first=", name.first().as_slice());
     out.put(b" suffixes=");
     put_suffixes(out, name);
-    out.agree(name.last().is_root(), Call::Last);
-    out.agree(name.compose_len() as usize == name.len(), Call::ComposeLen);
-    out.agree(name.is_root() == (name.len() == 1), Call::IsRoot);
+    out.agree(name.last().is_root(), b"last");
+    out.agree(name.compose_len() as usize == name.len(), b"compose_len");
+    out.agree(name.is_root() == (name.len() == 1), b"is_root");
 }
 
 fn put_texts(out: &mut Answer, name: Name<&[u8]>) {
-    out.put(b"text=");
-    out.put_shown(&name);
-    out.put(b" dotted=");
-    out.put_shown(name.fmt_with_dot());
+    out.put_shown_behind(b"text=", &name);
+    out.put_shown_behind(b" dotted=", name.fmt_with_dot());
 }
 
 fn put_canonical(out: &mut Answer, name: Name<&[u8]>) {
@@ -57,7 +52,7 @@ fn put_canonical(out: &mut Answer, name: Name<&[u8]>) {
         return out.fail(Fail::Memory);
     };
     again.make_canonical();
-    out.same(again.as_slice(), canonical.as_slice(), Call::MakeCanonical);
+    out.same(again.as_slice(), canonical.as_slice(), b"make_canonical");
 }
 
 fn put_suffixes(out: &mut Answer, name: Name<&[u8]>) {
@@ -93,19 +88,18 @@ fn gives_labels(out: &mut Answer, name: Name<&[u8]>) {
     if refused {
         out.fail(Fail::Memory);
     }
-    out.same(octets.as_slice(), name.as_slice(), Call::IntoIter);
+    out.same(octets.as_slice(), name.as_slice(), b"into_iter");
 }
 
 /// The first label and the rest, which is the parent.
 fn put_rest(out: &mut Answer, name: Name<&[u8]>, is_first: &mut bool) {
     match name.split_first() {
-        None => out.agree(name.parent().is_none(), Call::Parent),
+        None => out.agree(name.parent().is_none(), b"parent"),
         Some((label, rest)) => {
             out.put_comma(is_first);
             out.put_hex(label.as_slice());
-            out.put(b":");
-            out.put_hex(rest.as_slice());
-            out.agree(name.parent() == Some(rest), Call::Parent);
+            out.put_hex_behind(b":", rest.as_slice());
+            out.agree(name.parent() == Some(rest), b"parent");
         }
     }
 }
@@ -119,13 +113,11 @@ pub fn put_split(out: &mut Answer, octets: &[u8], mid: usize) {
         return out.put(b"no");
     }
     let (left, right) = name.split(mid);
-    out.put(b"yes ");
-    out.put_hex(left.as_slice());
-    out.put(b" ");
-    out.put_hex(right.as_slice());
-    out.agree(name.slice_from(mid) == right, Call::SliceFrom);
-    out.agree(name.range_from(mid) == right, Call::RangeFrom);
-    out.agree(name.truncate(mid) == left, Call::Truncate);
+    out.put_hex_behind(b"yes ", left.as_slice());
+    out.put_hex_behind(b" ", right.as_slice());
+    out.agree(name.slice_from(mid) == right, b"slice_from");
+    out.agree(name.range_from(mid) == right, b"range_from");
+    out.agree(name.truncate(mid) == left, b"truncate");
 }
 
 /// `part NAME BEGIN END`
@@ -135,9 +127,8 @@ pub fn put_part(out: &mut Answer, octets: &[u8], begin: usize, end: usize) {
     };
     if begin <= end && name.is_label_start(begin) && name.is_label_start(end) {
         let part = name.slice(begin..end);
-        out.put(b"yes ");
-        out.put_hex(part.as_slice());
-        out.agree(name.range(begin..end) == part, Call::Range);
+        out.put_hex_behind(b"yes ", part.as_slice());
+        out.agree(name.range(begin..end) == part, b"range");
     } else {
         out.put(b"no");
     }
@@ -157,12 +148,10 @@ pub fn put_strip(out: &mut Answer, octets: &[u8], base: &[u8]) {
 pub fn put_stripped(out: &mut Answer, stripped: Result<RelativeName<&[u8]>, Name<&[u8]>>) {
     match stripped {
         Ok(rest) => {
-            out.put(b"ok ");
-            out.put_hex(rest.as_slice());
+            out.put_hex_behind(b"ok ", rest.as_slice());
         }
         Err(name) => {
-            out.put(b"err ");
-            out.put_hex(name.as_slice());
+            out.put_hex_behind(b"err ", name.as_slice());
         }
     }
 }

@@ -1,7 +1,7 @@
 //! Names over octets of their own: made, copied, and taken apart.
 
 use crate::answer::Answer;
-use crate::fail::{Call, Fail};
+use crate::fail::Fail;
 use arrayvec::ArrayVec;
 use domain::base::name::*;
 use octseq::{Octets, OctetsFrom, ShortBuf};
@@ -19,12 +19,11 @@ pub fn put_keep(out: &mut Answer, octets: &[u8]) {
         return out.fail(Fail::Memory);
     };
     out.put_hex(copy.as_slice());
-    out.same(name.for_ref().as_slice(), octets, Call::ForRef);
-    out.same(name.for_slice().as_slice(), octets, Call::ForSlice);
-    out.same(name.as_octets().as_slice(), octets, Call::AsOctets);
-    out.same(copy.into_octets().as_slice(), octets, Call::IntoOctets);
-    out.put(b" ");
-    out.put_hex(name.into_relative().as_slice());
+    out.same(name.for_ref().as_slice(), octets, b"for_ref");
+    out.same(name.for_slice().as_slice(), octets, b"for_slice");
+    out.same(name.as_octets().as_slice(), octets, b"as_octets");
+    out.same(copy.into_octets().as_slice(), octets, b"into_octets");
+    out.put_hex_behind(b" ", name.into_relative().as_slice());
     is_kept_in_an_array(out, octets);
     is_made_of_slice(out, octets);
 }
@@ -34,11 +33,11 @@ fn is_kept_in_an_array(out: &mut Answer, octets: &[u8]) {
         return out.fail(Fail::Bad);
     };
     let Ok(name) = Name::from_octets(held) else {
-        return out.fail(Fail::Wrong(Call::FromOctets));
+        return out.wrong(b"from_octets");
     };
     match name.clone(out.alloc()) {
-        Ok(copy) => out.same(copy.as_slice(), octets, Call::Clone),
-        Err(_) => out.fail(Fail::Wrong(Call::Clone)),
+        Ok(copy) => out.same(copy.as_slice(), octets, b"clone"),
+        Err(_) => out.wrong(b"clone"),
     }
 }
 
@@ -48,16 +47,16 @@ fn is_made_of_slice(out: &mut Answer, octets: &[u8]) {
         return out.fail(Fail::Bad);
     };
     match name_over_vec(out, name) {
-        Ok(made) => out.same(made.as_slice(), octets, Call::TryOctetsFrom),
+        Ok(made) => out.same(made.as_slice(), octets, b"try_octets_from"),
         Err(_) => out.fail(Fail::Memory),
     }
     match Name::<ArrayVec<u8, 255>>::try_octets_from(out.alloc(), name) {
-        Ok(made) => out.same(made.as_slice(), octets, Call::TryOctetsFrom),
-        Err(_) => out.fail(Fail::Wrong(Call::TryOctetsFrom)),
+        Ok(made) => out.same(made.as_slice(), octets, b"try_octets_from"),
+        Err(_) => out.wrong(b"try_octets_from"),
     }
     match Name::<CowSlice<'_, u8>>::try_octets_from(out.alloc(), name) {
-        Ok(made) => out.same(made.as_slice(), octets, Call::TryOctetsFrom),
-        Err(_) => out.fail(Fail::Wrong(Call::TryOctetsFrom)),
+        Ok(made) => out.same(made.as_slice(), octets, b"try_octets_from"),
+        Err(_) => out.wrong(b"try_octets_from"),
     }
 }
 
@@ -77,10 +76,10 @@ pub fn put_relkeep(out: &mut Answer, octets: &[u8]) {
         return out.fail(Fail::Memory);
     };
     out.put_hex(copy.as_slice());
-    out.same(name.for_ref().as_slice(), octets, Call::ForRef);
-    out.same(name.for_slice().as_slice(), octets, Call::ForSlice);
-    out.same(name.as_octets().as_slice(), octets, Call::AsOctets);
-    out.same(copy.into_octets().as_slice(), octets, Call::IntoOctets);
+    out.same(name.for_ref().as_slice(), octets, b"for_ref");
+    out.same(name.for_slice().as_slice(), octets, b"for_slice");
+    out.same(name.as_octets().as_slice(), octets, b"as_octets");
+    out.same(copy.into_octets().as_slice(), octets, b"into_octets");
     is_relative_in_an_array(out, octets);
 }
 
@@ -90,10 +89,10 @@ fn is_relative_in_an_array(out: &mut Answer, octets: &[u8]) {
     };
     match RelativeName::<ArrayVec<u8, 255>>::try_octets_from(out.alloc(), name) {
         Ok(made) => match made.clone(out.alloc()) {
-            Ok(copy) => out.same(copy.as_slice(), octets, Call::Clone),
-            Err(_) => out.fail(Fail::Wrong(Call::Clone)),
+            Ok(copy) => out.same(copy.as_slice(), octets, b"clone"),
+            Err(_) => out.wrong(b"clone"),
         },
-        Err(_) => out.fail(Fail::Wrong(Call::TryOctetsFrom)),
+        Err(_) => out.wrong(b"try_octets_from"),
     }
 }
 
@@ -115,7 +114,7 @@ pub fn put_fromflat(out: &mut Answer, octets: &[u8], labels: usize) {
     let Ok(copy) = name.clone(out.alloc()) else {
         return out.fail(Fail::Memory);
     };
-    out.agree(copy == name, Call::Clone);
+    out.agree(copy == name, b"clone");
     out.put_number(copy.label_count());
     out.put(if copy.is_compressed() { b" c " } else { b" f " });
     match copy.as_flat_slice() {
@@ -130,12 +129,12 @@ fn is_cloned_in_an_array(out: &mut Answer, octets: &[u8]) {
         return out.fail(Fail::Bad);
     };
     let Ok(flat) = Name::from_octets(held) else {
-        return out.fail(Fail::Wrong(Call::FromOctets));
+        return out.wrong(b"from_octets");
     };
     let name = ParsedName::from(flat);
     match name.clone(out.alloc()) {
-        Ok(copy) => out.agree(copy == name, Call::Clone),
-        Err(_) => out.fail(Fail::Wrong(Call::Clone)),
+        Ok(copy) => out.agree(copy == name, b"clone"),
+        Err(_) => out.wrong(b"clone"),
     }
 }
 
@@ -143,20 +142,22 @@ fn is_cloned_in_an_array(out: &mut Answer, octets: &[u8]) {
 pub fn put_root(out: &mut Answer) {
     let root = Name::root_ref();
     out.put_hex(root.as_slice());
-    out.agree(Name::root_slice() == root, Call::RootSlice);
+    out.agree(Name::root_slice() == root, b"root_slice");
+    out.agree(Label::root().as_slice().is_empty(), b"root of labels");
+    out.agree(Label::MAX_LEN == 63, b"MAX_LEN");
+    out.agree(Name::<&'static [u8]>::MAX_LEN == 255, b"MAX_LEN");
     match Name::root_vec(out.alloc()) {
-        Ok(made) => out.same(made.as_slice(), root.as_slice(), Call::RootVec),
+        Ok(made) => out.same(made.as_slice(), root.as_slice(), b"root_vec"),
         Err(_) => out.fail(Fail::Memory),
     }
     match Name::<ArrayVec<u8, 1>>::root(out.alloc()) {
-        Ok(made) => out.same(made.as_slice(), root.as_slice(), Call::Root),
-        Err(_) => out.fail(Fail::Wrong(Call::Root)),
+        Ok(made) => out.same(made.as_slice(), root.as_slice(), b"root"),
+        Err(_) => out.wrong(b"root"),
     }
     match Name::<ArrayVec<u8, 0>>::root(out.alloc()) {
-        Ok(_) => out.fail(Fail::Wrong(Call::Root)),
+        Ok(_) => out.wrong(b"root"),
         Err(error) => {
-            out.put(b" ");
-            out.put_text(error);
+            out.put_text_behind(b" ", error);
         }
     }
 }
@@ -165,14 +166,14 @@ pub fn put_root(out: &mut Answer) {
 pub fn put_empty(out: &mut Answer) {
     let empty = RelativeName::empty_ref();
     out.put_hex(empty.as_slice());
-    out.agree(RelativeName::empty_slice() == empty, Call::EmptySlice);
+    out.agree(RelativeName::empty_slice() == empty, b"empty_slice");
     match RelativeName::empty_vec(out.alloc()) {
-        Ok(made) => out.same(made.as_slice(), empty.as_slice(), Call::EmptyVec),
-        Err(_) => out.fail(Fail::Wrong(Call::EmptyVec)),
+        Ok(made) => out.same(made.as_slice(), empty.as_slice(), b"empty_vec"),
+        Err(_) => out.wrong(b"empty_vec"),
     }
     match RelativeName::<ArrayVec<u8, 0>>::empty(out.alloc()) {
-        Ok(made) => out.same(made.as_slice(), empty.as_slice(), Call::Empty),
-        Err(_) => out.fail(Fail::Wrong(Call::Empty)),
+        Ok(made) => out.same(made.as_slice(), empty.as_slice(), b"empty"),
+        Err(_) => out.wrong(b"empty"),
     }
 }
 
@@ -182,21 +183,20 @@ pub fn put_wildcard(out: &mut Answer) {
     out.put_hex(wildcard.as_slice());
     out.agree(
         RelativeName::wildcard_slice() == wildcard,
-        Call::WildcardSlice,
+        b"wildcard_slice",
     );
     match RelativeName::wildcard_vec(out.alloc()) {
-        Ok(made) => out.same(made.as_slice(), wildcard.as_slice(), Call::WildcardVec),
+        Ok(made) => out.same(made.as_slice(), wildcard.as_slice(), b"wildcard_vec"),
         Err(_) => out.fail(Fail::Memory),
     }
     match RelativeName::<ArrayVec<u8, 2>>::wildcard(out.alloc()) {
-        Ok(made) => out.same(made.as_slice(), wildcard.as_slice(), Call::Wildcard),
-        Err(_) => out.fail(Fail::Wrong(Call::Wildcard)),
+        Ok(made) => out.same(made.as_slice(), wildcard.as_slice(), b"wildcard"),
+        Err(_) => out.wrong(b"wildcard"),
     }
     match RelativeName::<ArrayVec<u8, 1>>::wildcard(out.alloc()) {
-        Ok(_) => out.fail(Fail::Wrong(Call::Wildcard)),
+        Ok(_) => out.wrong(b"wildcard"),
         Err(error) => {
-            out.put(b" ");
-            out.put_text(error);
+            out.put_text_behind(b" ", error);
         }
     }
 }

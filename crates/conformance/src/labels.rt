@@ -1,9 +1,11 @@
 //! Labels: split from octets, compared, composed, and lowered in place.
 
 use crate::answer::Answer;
-use crate::fail::{Call, Fail};
+use crate::fail::Fail;
+use arrayvec::ArrayVec;
 use domain::base::name::*;
 use domain::base::wire::{FormError, ParseError};
+use octseq::OctetsBuilder;
 use std::hash::{DefaultHasher, Hash, Hasher};
 
 /// `label A B`
@@ -22,19 +24,46 @@ fn put_two_labels(out: &mut Answer, a: Label<'_>, b: Label<'_>) {
     out.put_order(b" cmp=", a.cmp(&b));
     out.put_order(b" composed=", a.composed_cmp(&b));
     out.put_order(b" lower=", a.lowercase_composed_cmp(&b));
-    out.put(b" text=");
-    out.put_shown(a);
+    out.put_shown_behind(b" text=", a);
     out.put_bit(b" root=", a.is_root());
     out.put_bit(b" wild=", a.is_wildcard());
     out.put(b" wire=");
     put_composed(out, a);
     out.put(b" canonical=");
     put_lowered(out, a);
-    out.put(b" len=");
-    out.put_text(a.compose_len());
+    out.put_text_behind(b" len=", a.compose_len());
     is_compared_as_owned(out, a, b);
     gives_octets(out, a);
     is_owned(out, a);
+    is_composed_where_it_fits(out, a);
+}
+
+/// A label goes into the room that it just fits, and an octet less refuses it and stays.
+fn is_composed_where_it_fits(out: &mut Answer, label: Label<'_>) {
+    let len = usize::from(label.compose_len());
+    let mut fits = room_for(out, len);
+    out.agree(label.compose(&mut fits).is_ok(), b"compose of what fits");
+    let mut full = room_for(out, len);
+    out.agree(full.append_slice(b"\xee").is_ok(), b"append_slice");
+    let held = full.len();
+    out.agree(
+        label.compose(&mut full).is_err(),
+        b"compose of what exceeds the room",
+    );
+    out.agree(
+        label.compose_canonical(&mut full).is_err(),
+        b"compose of what exceeds the room",
+    );
+    out.agree(full.len() == held, b"compose of what exceeds the room");
+}
+
+/// An array of 64 octets that has room for so many more.
+fn room_for(out: &mut Answer, len: usize) -> ArrayVec<u8, 64> {
+    let mut room = ArrayVec::<u8, 64>::new();
+    for _octet in len..64 {
+        out.agree(room.append_slice(b"\xee").is_ok(), b"append_slice");
+    }
+    room
 }
 
 fn put_composed(out: &mut Answer, label: Label<'_>) {
@@ -44,7 +73,7 @@ fn put_composed(out: &mut Answer, label: Label<'_>) {
     }
     out.put_hex(wire.as_slice());
     let owned = OwnedLabel::from_label(label);
-    out.same(owned.as_wire_slice(), wire.as_slice(), Call::AsWireSlice);
+    out.same(owned.as_wire_slice(), wire.as_slice(), b"as_wire_slice");
 }
 
 fn put_lowered(out: &mut Answer, label: Label<'_>) {
@@ -57,18 +86,14 @@ fn put_lowered(out: &mut Answer, label: Label<'_>) {
     out.same(
         canonical.as_wire_slice(),
         lowered.as_slice(),
-        Call::ToCanonical,
+        b"to_canonical",
     );
     let mut owned = OwnedLabel::from_label(label);
     owned.make_canonical();
-    out.same(
-        owned.as_wire_slice(),
-        lowered.as_slice(),
-        Call::MakeCanonical,
-    );
+    out.same(owned.as_wire_slice(), lowered.as_slice(), b"make_canonical");
     let mut lent = OwnedLabel::from_label(label);
     lower_lent(&mut lent);
-    out.same(lent.as_wire_slice(), lowered.as_slice(), Call::AsLabelMut);
+    out.same(lent.as_wire_slice(), lowered.as_slice(), b"as_label_mut");
 }
 
 fn lower_lent(owned: &mut OwnedLabel) {
@@ -92,31 +117,31 @@ fn owned_hash_of(label: OwnedLabel) -> u64 {
 fn is_compared_as_owned(out: &mut Answer, a: Label<'_>, b: Label<'_>) {
     let left = OwnedLabel::from(a);
     let right = OwnedLabel::from(b);
-    out.agree((left == right) == (a == b), Call::OwnedEq);
-    out.agree(left.cmp(&right) == a.cmp(&b), Call::CmpOfOwnedLabels);
-    out.agree(a.partial_cmp(&b) == Some(a.cmp(&b)), Call::PartialCmp);
-    out.agree(a != b || hash_of(a) == hash_of(b), Call::Hash);
-    out.agree(owned_hash_of(left) == hash_of(a), Call::HashOfOwnedLabels);
+    out.agree((left == right) == (a == b), b"== of owned labels");
+    out.agree(left.cmp(&right) == a.cmp(&b), b"cmp of owned labels");
+    out.agree(a.partial_cmp(&b) == Some(a.cmp(&b)), b"partial_cmp");
+    out.agree(a != b || hash_of(a) == hash_of(b), b"hash");
+    out.agree(owned_hash_of(left) == hash_of(a), b"hash of owned labels");
 }
 
 /// The octets of a label come from its iterators.
 fn gives_octets(out: &mut Answer, label: Label<'_>) {
     let octets = label.as_slice();
-    out.agree(label.len() == octets.len(), Call::Len);
-    out.agree(label.is_empty() == octets.is_empty(), Call::IsEmpty);
-    out.agree(label.iter().eq(octets.iter().copied()), Call::Iter);
-    out.agree(label.into_iter().eq(octets.iter().copied()), Call::IntoIter);
+    out.agree(label.len() == octets.len(), b"len");
+    out.agree(label.is_empty() == octets.is_empty(), b"is_empty");
+    out.agree(label.iter().eq(octets.iter().copied()), b"iter");
+    out.agree(label.into_iter().eq(octets.iter().copied()), b"into_iter");
 }
 
 /// An owned label lends the label that it was made from, and is shown as that.
 fn is_owned(out: &mut Answer, label: Label<'_>) {
     let owned = OwnedLabel::from_label(label);
-    out.same(owned.as_label().as_slice(), label.as_slice(), Call::AsLabel);
+    out.same(owned.as_label().as_slice(), label.as_slice(), b"as_label");
     match (
         format!(in out.alloc(); "{owned}"),
         format!(in out.alloc(); "{label}"),
     ) {
-        (Ok(one), Ok(other)) => out.same(one.as_bytes(), other.as_bytes(), Call::TextOfOwnedLabels),
+        (Ok(one), Ok(other)) => out.same(one.as_bytes(), other.as_bytes(), b"text of owned labels"),
         _ => out.fail(Fail::Memory),
     }
 }
@@ -141,8 +166,7 @@ fn put_label_type_alone(out: &mut Answer, kind: LabelTypeError) {
     match kind {
         LabelTypeError::Undefined => out.put(b"Undefined"),
         LabelTypeError::Extended(head) => {
-            out.put(b"Extended(");
-            out.put_text(head);
+            out.put_text_behind(b"Extended(", head);
             out.put(b")");
         }
     }
@@ -152,10 +176,8 @@ fn put_label_type_alone(out: &mut Answer, kind: LabelTypeError) {
 pub fn put_splitlabel(out: &mut Answer, octets: &[u8]) {
     match Label::split_from(octets) {
         Ok((label, rest)) => {
-            out.put(b"ok ");
-            out.put_hex(label.as_slice());
-            out.put(b" ");
-            out.put_hex(rest);
+            out.put_hex_behind(b"ok ", label.as_slice());
+            out.put_hex_behind(b" ", rest);
         }
         Err(error) => {
             out.put(b"err ");
@@ -167,20 +189,18 @@ pub fn put_splitlabel(out: &mut Answer, octets: &[u8]) {
 fn put_split_error(out: &mut Answer, error: SplitLabelError) {
     match error {
         SplitLabelError::Pointer(target) => {
-            out.put(b"Pointer(");
-            out.put_text(target);
+            out.put_text_behind(b"Pointer(", target);
             return out.put(b")");
         }
         SplitLabelError::BadType(kind) => {
             out.put(b"BadType(");
             put_label_type_alone(out, kind);
             out.put(b")");
-            out.agree(SplitLabelError::from(kind) == error, Call::From);
+            out.agree(SplitLabelError::from(kind) == error, b"from");
         }
         SplitLabelError::ShortInput => out.put(b"ShortInput"),
     }
-    out.put(b" ");
-    out.put_text(error);
+    out.put_text_behind(b" ", error);
 }
 
 /// `splitmut OCTETS`
@@ -192,18 +212,15 @@ pub fn put_splitmut(out: &mut Answer, octets: &[u8]) {
     match LabelMut::split_from_mut(copy.as_mut_slice()) {
         Ok((mut label, rest)) => {
             label.make_canonical();
-            out.put(b"ok ");
-            out.put_hex(label.as_label().as_slice());
-            out.put(b" ");
-            out.put_hex(&*rest);
+            out.put_hex_behind(b"ok ", label.as_label().as_slice());
+            out.put_hex_behind(b" ", &*rest);
         }
         Err(error) => {
             out.put(b"err ");
             put_split_error(out, error);
         }
     }
-    out.put(b" ");
-    out.put_hex(copy.as_slice());
+    out.put_hex_behind(b" ", copy.as_slice());
 }
 
 /// `labelmut OCTETS`
@@ -215,16 +232,13 @@ pub fn put_labelmut(out: &mut Answer, octets: &[u8]) {
     match LabelMut::from_slice_mut(copy.as_mut_slice()) {
         Ok(mut label) => {
             label.make_canonical();
-            out.put(b"ok ");
-            out.put_hex(label.as_label().as_slice());
+            out.put_hex_behind(b"ok ", label.as_label().as_slice());
         }
         Err(error) => {
-            out.put(b"err ");
-            out.put_text(error);
+            out.put_text_behind(b"err ", error);
         }
     }
-    out.put(b" ");
-    out.put_hex(copy.as_slice());
+    out.put_hex_behind(b" ", copy.as_slice());
 }
 
 /// `labelfill OCTETS`: each octet of the label is written over with a star.
@@ -249,9 +263,8 @@ pub fn put_parse_error(out: &mut Answer, error: ParseError) {
     match error {
         ParseError::ShortInput => out.put(b"ShortInput"),
         ParseError::Form(form) => {
-            out.put(b"Form ");
-            out.put_text(form);
-            out.agree(ParseError::from(form) == error, Call::From);
+            out.put_text_behind(b"Form ", form);
+            out.agree(ParseError::from(form) == error, b"from");
         }
     }
 }
@@ -268,9 +281,9 @@ pub fn put_labelerrors(out: &mut Answer, octets: &[u8]) {
             out.put(b" relative=");
             put_relative_name_error(out, RelativeNameError::from(error));
             if let SplitLabelError::BadType(kind) = error {
-                out.agree(NameError::from(kind) == NameError::from(error), Call::From);
+                out.agree(NameError::from(kind) == NameError::from(error), b"from");
                 let relative = RelativeNameError::from(error);
-                out.agree(RelativeNameError::from(kind) == relative, Call::From);
+                out.agree(RelativeNameError::from(kind) == relative, b"from");
             }
         }
     }
@@ -281,8 +294,7 @@ pub fn put_nameerrors(out: &mut Answer, octets: &[u8]) {
     match Name::from_slice(octets) {
         Ok(_) => out.put(b"ok"),
         Err(error) => {
-            out.put(b"form=");
-            out.put_text(FormError::from(error));
+            out.put_text_behind(b"form=", FormError::from(error));
             out.put(b" parse=");
             put_parse_error(out, ParseError::from(error));
         }
@@ -298,8 +310,7 @@ pub fn put_name_error(out: &mut Answer, error: NameError) {
         NameErrorKind::TrailingData => out.put(b"TrailingData"),
         NameErrorKind::ShortInput => out.put(b"ShortInput"),
     }
-    out.put(b" ");
-    out.put_text(error);
+    out.put_text_behind(b" ", error);
 }
 
 pub fn put_relative_name_error(out: &mut Answer, error: RelativeNameError) {
@@ -310,7 +321,6 @@ pub fn put_relative_name_error(out: &mut Answer, error: RelativeNameError) {
         RelativeNameErrorKind::LongName => out.put(b"LongName"),
         RelativeNameErrorKind::AbsoluteName => out.put(b"AbsoluteName"),
     }
-    out.put(b" ");
-    out.put_text(error);
-    out.agree(RelativeNameError::from(error.kind()) == error, Call::From);
+    out.put_text_behind(b" ", error);
+    out.agree(RelativeNameError::from(error.kind()) == error, b"from");
 }

@@ -1,7 +1,7 @@
 //! What a name of any kind is made into.
 
 use crate::answer::Answer;
-use crate::fail::{Call, Fail};
+use crate::fail::Fail;
 use crate::message::name_at;
 use arrayvec::ArrayVec;
 use domain::base::name::*;
@@ -24,29 +24,35 @@ fn put_cow(out: &mut Answer, octets: &CowSlice<'_, u8>) {
 }
 
 /// The name over a `Vec`, its canonical form, whether `to_cow` lends, the same over 17 octets, and
-/// what is composed into 17 octets behind one octet.
+/// what is composed into 17 octets behind one octet; the text with a final dot, and the labels that a signature
+/// counts.
 fn put_forms<'a, N: AbsoluteLabels<'a>>(out: &mut Answer, name: &'a N) {
     put_vec(out, name);
     put_canonical(out, name);
     put_lent(out, name);
     put_held(out, name);
     put_appended(out, name);
+    put_dotted(out, name);
+}
+
+fn put_dotted<'a, N: AbsoluteLabels<'a>>(out: &mut Answer, name: &'a N) {
+    out.put_shown_behind(b" dotted=", name.fmt_with_dot());
+    out.put_text_behind(b" rrsig=", name.rrsig_label_count());
 }
 
 fn put_vec<'a, N: AbsoluteLabels<'a>>(out: &mut Answer, name: &'a N) {
     let Ok(made) = name.to_vec(out.alloc()) else {
         return out.fail(Fail::Memory);
     };
-    out.put(b"made=");
-    out.put_hex(made.as_slice());
+    out.put_hex_behind(b"made=", made.as_slice());
     let mut octets: Vec<u8> = Vec::new(out.alloc());
     if name.compose(&mut octets).is_err() {
         out.fail(Fail::Memory);
     }
-    out.same(octets.as_slice(), made.as_slice(), Call::Compose);
+    out.same(octets.as_slice(), made.as_slice(), b"compose");
     let again: Result<Name<Vec<u8>>, _> = name.to_name(out.alloc());
     match again {
-        Ok(again) => out.same(again.as_slice(), made.as_slice(), Call::ToName),
+        Ok(again) => out.same(again.as_slice(), made.as_slice(), b"to_name"),
         Err(_) => out.fail(Fail::Memory),
     }
 }
@@ -56,13 +62,12 @@ fn put_canonical<'a, N: AbsoluteLabels<'a>>(out: &mut Answer, name: &'a N) {
     let Ok(made) = made else {
         return out.fail(Fail::Memory);
     };
-    out.put(b" canonical=");
-    out.put_hex(made.as_slice());
+    out.put_hex_behind(b" canonical=", made.as_slice());
     let mut octets: Vec<u8> = Vec::new(out.alloc());
     if name.compose_canonical(&mut octets).is_err() {
         out.fail(Fail::Memory);
     }
-    out.same(octets.as_slice(), made.as_slice(), Call::ComposeCanonical);
+    out.same(octets.as_slice(), made.as_slice(), b"compose_canonical");
 }
 
 fn put_lent<'a, N: AbsoluteLabels<'a>>(out: &mut Answer, name: &'a N) {
@@ -73,9 +78,9 @@ fn put_lent<'a, N: AbsoluteLabels<'a>>(out: &mut Answer, name: &'a N) {
     let Ok(made) = name.to_vec(out.alloc()) else {
         return out.fail(Fail::Memory);
     };
-    out.same(cow.as_slice(), made.as_slice(), Call::ToCow);
+    out.same(cow.as_slice(), made.as_slice(), b"to_cow");
     if let Some(lent) = name.as_flat_slice() {
-        out.same(lent, made.as_slice(), Call::AsFlatSlice);
+        out.same(lent, made.as_slice(), b"as_flat_slice");
     }
 }
 
@@ -96,12 +101,12 @@ fn put_held<'a, N: AbsoluteLabels<'a>>(out: &mut Answer, name: &'a N) {
 
 fn put_appended<'a, N: AbsoluteLabels<'a>>(out: &mut Answer, name: &'a N) {
     let mut target = ArrayVec::<u8, 17>::new();
-    out.agree(target.append_slice(HELD).is_ok(), Call::AppendSlice);
+    out.agree(target.append_slice(HELD).is_ok(), b"append_slice");
     let refused = name.compose(&mut target).is_err();
     out.put(b" composed=");
     put_composed(out, refused, target.as_slice());
     let mut target = ArrayVec::<u8, 17>::new();
-    out.agree(target.append_slice(HELD).is_ok(), Call::AppendSlice);
+    out.agree(target.append_slice(HELD).is_ok(), b"append_slice");
     let refused = name.compose_canonical(&mut target).is_err();
     out.put(b" ");
     put_composed(out, refused, target.as_slice());
@@ -144,8 +149,7 @@ pub fn put_chain_forms(out: &mut Answer, left: RelativeName<&[u8]>, right: Name<
     match left.chain(right) {
         Ok(chain) => put_forms(out, &chain),
         Err(error) => {
-            out.put(b"err ");
-            out.put_text(error);
+            out.put_text_behind(b"err ", error);
         }
     }
 }
@@ -163,17 +167,16 @@ fn put_relative_vec<'a, N: RelativeLabels<'a>>(out: &mut Answer, name: &'a N) {
     let Ok(made) = name.to_vec(out.alloc()) else {
         return out.fail(Fail::Memory);
     };
-    out.put(b"made=");
-    out.put_hex(made.as_slice());
-    out.agree(name.is_empty() == made.is_empty(), Call::IsEmpty);
+    out.put_hex_behind(b"made=", made.as_slice());
+    out.agree(name.is_empty() == made.is_empty(), b"is_empty");
     let mut octets: Vec<u8> = Vec::new(out.alloc());
     if name.compose(&mut octets).is_err() {
         out.fail(Fail::Memory);
     }
-    out.same(octets.as_slice(), made.as_slice(), Call::Compose);
+    out.same(octets.as_slice(), made.as_slice(), b"compose");
     let again: Result<RelativeName<Vec<u8>>, _> = name.to_relative_name(out.alloc());
     match again {
-        Ok(again) => out.same(again.as_slice(), made.as_slice(), Call::ToRelativeName),
+        Ok(again) => out.same(again.as_slice(), made.as_slice(), b"to_relative_name"),
         Err(_) => out.fail(Fail::Memory),
     }
 }
@@ -183,13 +186,12 @@ fn put_relative_canonical<'a, N: RelativeLabels<'a>>(out: &mut Answer, name: &'a
     let Ok(made) = made else {
         return out.fail(Fail::Memory);
     };
-    out.put(b" canonical=");
-    out.put_hex(made.as_slice());
+    out.put_hex_behind(b" canonical=", made.as_slice());
     let mut octets: Vec<u8> = Vec::new(out.alloc());
     if name.compose_canonical(&mut octets).is_err() {
         out.fail(Fail::Memory);
     }
-    out.same(octets.as_slice(), made.as_slice(), Call::ComposeCanonical);
+    out.same(octets.as_slice(), made.as_slice(), b"compose_canonical");
 }
 
 fn put_relative_lent<'a, N: RelativeLabels<'a>>(out: &mut Answer, name: &'a N) {
@@ -200,9 +202,9 @@ fn put_relative_lent<'a, N: RelativeLabels<'a>>(out: &mut Answer, name: &'a N) {
     let Ok(made) = name.to_vec(out.alloc()) else {
         return out.fail(Fail::Memory);
     };
-    out.same(cow.as_slice(), made.as_slice(), Call::ToCow);
+    out.same(cow.as_slice(), made.as_slice(), b"to_cow");
     if let Some(lent) = name.as_flat_slice() {
-        out.same(lent, made.as_slice(), Call::AsFlatSlice);
+        out.same(lent, made.as_slice(), b"as_flat_slice");
     }
 }
 
@@ -225,12 +227,12 @@ fn put_relative_held<'a, N: RelativeLabels<'a>>(out: &mut Answer, name: &'a N) {
 
 fn put_relative_appended<'a, N: RelativeLabels<'a>>(out: &mut Answer, name: &'a N) {
     let mut target = ArrayVec::<u8, 17>::new();
-    out.agree(target.append_slice(HELD).is_ok(), Call::AppendSlice);
+    out.agree(target.append_slice(HELD).is_ok(), b"append_slice");
     let refused = name.compose(&mut target).is_err();
     out.put(b" composed=");
     put_composed(out, refused, target.as_slice());
     let mut target = ArrayVec::<u8, 17>::new();
-    out.agree(target.append_slice(HELD).is_ok(), Call::AppendSlice);
+    out.agree(target.append_slice(HELD).is_ok(), b"append_slice");
     let refused = name.compose_canonical(&mut target).is_err();
     out.put(b" ");
     put_composed(out, refused, target.as_slice());
@@ -261,8 +263,7 @@ pub fn put_relative_chain_forms(
     match left.chain(right) {
         Ok(chain) => put_relative_forms(out, &chain),
         Err(error) => {
-            out.put(b"err ");
-            out.put_text(error);
+            out.put_text_behind(b"err ", error);
         }
     }
 }

@@ -1,7 +1,7 @@
 //! Names in messages: read, passed over, and walked.
 
 use crate::answer::Answer;
-use crate::fail::{Call, Fail};
+use crate::fail::Fail;
 use arrayvec::ArrayVec;
 use domain::base::name::*;
 use domain::base::wire::ParseError;
@@ -25,10 +25,8 @@ pub fn name_at(message: &[u8], place: usize) -> Option<ParsedName<&[u8]>> {
 }
 
 fn put_refusal(out: &mut Answer, place: usize, error: ParseError) {
-    out.put(b"err ");
-    out.put_number(place);
-    out.put(b" ");
-    out.put_text(error);
+    out.put_number_behind(b"err ", place);
+    out.put_text_behind(b" ", error);
 }
 
 pub fn put_parse(out: &mut Answer, message: &[u8], place: usize, end: usize) {
@@ -38,14 +36,14 @@ pub fn put_parse(out: &mut Answer, message: &[u8], place: usize, end: usize) {
     let mut twin = parser;
     let read = ParsedName::parse(&mut parser);
     let again = ParsedName::parse_ref(&mut twin);
-    out.agree(twin.pos() == parser.pos(), Call::ParseRef);
+    out.agree(twin.pos() == parser.pos(), b"parse_ref");
     match read {
         Ok(name) => {
-            out.agree(is_same_read(again, name), Call::ParseRef);
+            out.agree(is_same_read(again, name), b"parse_ref");
             put_read(out, name, parser.pos());
         }
         Err(error) => {
-            out.agree(again == Err(error), Call::ParseRef);
+            out.agree(again == Err(error), b"parse_ref");
             put_refusal(out, parser.pos(), error);
         }
     }
@@ -62,8 +60,7 @@ fn put_read(out: &mut Answer, name: ParsedName<&[u8]>, place: usize) {
     let Ok(flat) = name.to_vec(out.alloc()) else {
         return out.fail(Fail::Memory);
     };
-    out.put(b"ok ");
-    out.put_hex(flat.as_slice());
+    out.put_hex_behind(b"ok ", flat.as_slice());
     out.put(if name.is_compressed() { b" c " } else { b" f " });
     out.put_number(place);
     is_measured_as(out, name, flat.for_slice());
@@ -74,45 +71,41 @@ fn put_read(out: &mut Answer, name: ParsedName<&[u8]>, place: usize) {
 /// What a name in a message tells of its octets is what its flat twin tells.
 fn is_measured_as(out: &mut Answer, name: ParsedName<&[u8]>, flat: Name<&[u8]>) {
     let len = flat.len();
-    out.agree(name.compose_len() as usize == len, Call::ComposeLen);
-    out.agree(name.is_root() == (len == 1), Call::IsRoot);
-    out.agree(name.is_absolute(), Call::IsAbsolute);
+    out.agree(name.compose_len() as usize == len, b"compose_len");
+    out.agree(name.is_root() == (len == 1), b"is_root");
+    out.agree(name.is_absolute(), b"is_absolute");
     match name.as_flat_slice() {
         Some(lent) => {
-            out.agree(!name.is_compressed(), Call::AsFlatSlice);
-            out.same(lent, flat.as_slice(), Call::AsFlatSlice);
+            out.agree(!name.is_compressed(), b"as_flat_slice");
+            out.same(lent, flat.as_slice(), b"as_flat_slice");
         }
-        None => out.agree(name.is_compressed(), Call::AsFlatSlice),
+        None => out.agree(name.is_compressed(), b"as_flat_slice"),
     }
 }
 
 /// The labels of a name in a message are those of its flat twin.
 fn has_parts_of(out: &mut Answer, name: ParsedName<&[u8]>, flat: Name<&[u8]>) {
-    out.agree(name.label_count() == flat.label_count(), Call::LabelCount);
-    out.same(
-        name.first().as_slice(),
-        flat.first().as_slice(),
-        Call::First,
-    );
-    out.agree(name.last().is_root(), Call::Last);
-    out.agree(name.name_eq(&flat), Call::NameEq);
+    out.agree(name.label_count() == flat.label_count(), b"label_count");
+    out.same(name.first().as_slice(), flat.first().as_slice(), b"first");
+    out.agree(name.last().is_root(), b"last");
+    out.agree(name.name_eq(&flat), b"name_eq");
     let twin = ParsedName::from(flat);
-    out.agree(twin == name && !twin.is_compressed(), Call::From);
+    out.agree(twin == name && !twin.is_compressed(), b"from");
     let lent = name.ref_octets();
-    out.agree(lent.deref_octets() == name, Call::DerefOctets);
+    out.agree(lent.deref_octets() == name, b"deref_octets");
 }
 
 /// A name in a message is flattened over a `Vec` and over an array of 255 octets.
 fn is_flattened(out: &mut Answer, name: ParsedName<&[u8]>, wire: &[u8]) {
     let flattened: Result<Name<Vec<u8>>, _> = name.flatten_into(out.alloc());
     match flattened {
-        Ok(made) => out.same(made.as_slice(), wire, Call::FlattenInto),
+        Ok(made) => out.same(made.as_slice(), wire, b"flatten_into"),
         Err(_) => out.fail(Fail::Memory),
     }
     let held: Result<Name<ArrayVec<u8, 255>>, _> = name.try_flatten_into(out.alloc());
     match held {
-        Ok(made) => out.same(made.as_slice(), wire, Call::TryFlattenInto),
-        Err(_) => out.fail(Fail::Wrong(Call::TryFlattenInto)),
+        Ok(made) => out.same(made.as_slice(), wire, b"try_flatten_into"),
+        Err(_) => out.wrong(b"try_flatten_into"),
     }
 }
 
@@ -122,8 +115,7 @@ pub fn put_skip(out: &mut Answer, message: &[u8], place: usize, end: usize) {
     };
     match ParsedName::skip(&mut parser) {
         Ok(()) => {
-            out.put(b"ok ");
-            out.put_number(parser.pos());
+            out.put_number_behind(b"ok ", parser.pos());
         }
         Err(error) => put_refusal(out, parser.pos(), error),
     }
@@ -135,10 +127,8 @@ pub fn put_nparse(out: &mut Answer, message: &[u8], place: usize, end: usize) {
     };
     match Name::parse(&mut parser) {
         Ok(name) => {
-            out.put(b"ok ");
-            out.put_hex(name.as_slice());
-            out.put(b" ");
-            out.put_number(parser.pos());
+            out.put_hex_behind(b"ok ", name.as_slice());
+            out.put_number_behind(b" ", parser.pos());
         }
         Err(error) => put_refusal(out, parser.pos(), error),
     }
@@ -187,7 +177,7 @@ fn put_suffixes(out: &mut Answer, name: ParsedName<&[u8]>) {
         out.put_comma(&mut is_first);
         put_part_of(out, suffix);
     }
-    out.agree(suffixes.next().is_none(), Call::IterSuffixes);
+    out.agree(suffixes.next().is_none(), b"iter_suffixes");
 }
 
 fn put_parents(out: &mut Answer, name: ParsedName<&[u8]>) {
@@ -201,7 +191,7 @@ fn put_parents(out: &mut Answer, name: ParsedName<&[u8]>) {
         put_part_of(out, rest);
     }
     out.put_none(is_first);
-    out.agree(rest.is_root() && !rest.parent(), Call::Parent);
+    out.agree(rest.is_root() && !rest.parent(), b"parent");
 }
 
 fn put_firsts(out: &mut Answer, name: ParsedName<&[u8]>) {
@@ -218,19 +208,16 @@ fn put_firsts(out: &mut Answer, name: ParsedName<&[u8]>) {
     put_part_of(out, rest);
     out.agree(
         rest.is_root() && rest.split_first().is_none(),
-        Call::SplitFirst,
+        b"split_first",
     );
 }
 
 /// The counts, the texts and the canonical wire form.
 fn put_numbers(out: &mut Answer, name: ParsedName<&[u8]>) {
     out.put_number(name.label_count());
-    out.put(b" ");
-    out.put_text(name.rrsig_label_count());
-    out.put(b" ");
-    out.put_shown(&name);
-    out.put(b" ");
-    out.put_shown(name.fmt_with_dot());
+    out.put_text_behind(b" ", name.rrsig_label_count());
+    out.put_shown_behind(b" ", &name);
+    out.put_shown_behind(b" ", name.fmt_with_dot());
     out.put(b" ");
     put_canonical(out, name);
 }

@@ -1,7 +1,7 @@
 //! Numbers and addresses on the wire.
 
 use crate::answer::Answer;
-use crate::fail::{Call, Fail};
+use crate::fail::Fail;
 use crate::message::parser_at;
 use arrayvec::ArrayVec;
 use domain::base::net::{Ipv4Addr, Ipv6Addr};
@@ -19,8 +19,7 @@ fn put_parsed<T: Display + Drop>(out: &mut Answer, value: Result<T, ParseError>,
 }
 
 fn put_place(out: &mut Answer, place: usize) {
-    out.put(b"@");
-    out.put_number(place);
+    out.put_number_behind(b"@", place);
     out.put(b";");
 }
 
@@ -111,9 +110,10 @@ pub fn put_composed<T: Compose>(out: &mut Answer, value: &T, len: usize) {
         out.fail(Fail::Memory);
     }
     out.put_hex(octets.as_slice());
-    out.agree(octets.len() == len, Call::Compose);
-    out.agree(usize::from(T::COMPOSE_LEN) == len, Call::ComposeLenConstant);
-    out.agree(usize::from(value.composed_len()) == len, Call::ComposedLen);
+    out.agree(octets.len() == len, b"compose");
+    out.agree(usize::from(T::COMPOSE_LEN) == len, b"COMPOSE_LEN");
+    out.agree(<&T>::COMPOSE_LEN == T::COMPOSE_LEN, b"COMPOSE_LEN");
+    out.agree(usize::from(value.composed_len()) == len, b"composed_len");
     is_refused_by_a_full_room(out, value, len);
 }
 
@@ -121,20 +121,23 @@ fn is_refused_by_a_full_room<T: Compose>(out: &mut Answer, value: &T, len: usize
     let mut fits = room_for(out, len);
     out.agree(
         (&value).compose(&mut &mut fits).is_ok(),
-        Call::ComposeWhatFits,
+        b"compose of what fits",
     );
     let mut full = room_for(out, len);
-    out.agree(full.append_slice(b"\xee").is_ok(), Call::AppendSlice);
+    out.agree(full.append_slice(b"\xee").is_ok(), b"append_slice");
     let held = full.len();
-    out.agree(value.compose(&mut full).is_err(), Call::ComposeTooMuch);
-    out.agree(full.len() == held, Call::ComposeTooMuch);
+    out.agree(
+        value.compose(&mut full).is_err(),
+        b"compose of what exceeds the room",
+    );
+    out.agree(full.len() == held, b"compose of what exceeds the room");
 }
 
 /// An array of 16 octets that has room for so many more.
 fn room_for(out: &mut Answer, len: usize) -> ArrayVec<u8, 16> {
     let mut room = ArrayVec::<u8, 16>::new();
     for _octet in len..16 {
-        out.agree(room.append_slice(b"\xee").is_ok(), Call::AppendSlice);
+        out.agree(room.append_slice(b"\xee").is_ok(), b"append_slice");
     }
     room
 }

@@ -1,7 +1,7 @@
 //! Octets of each kind: shortened, written, appended to, and made of one another.
 
 use crate::answer::Answer;
-use crate::fail::{Call, Fail};
+use crate::fail::Fail;
 use arrayvec::ArrayVec;
 use octseq::{
     EmptyBuilder, FreezeBuilder, FromBuilder, Octets, OctetsBuilder, OctetsFrom, OctetsMut,
@@ -13,9 +13,9 @@ use std::borrow::CowSlice;
 fn is_shortened<T: Truncate + Drop>(out: &mut Answer, octets: T, len: usize, left: &[u8]) {
     let mut octets = octets;
     Truncate::truncate(&mut octets, len);
-    out.same(Octets::as_slice(&octets), left, Call::Truncate);
+    out.same(Octets::as_slice(&octets), left, b"truncate");
     Truncate::truncate(&mut &mut octets, len);
-    out.same(Octets::as_slice(&&octets), left, Call::Truncate);
+    out.same(Octets::as_slice(&&octets), left, b"truncate");
 }
 
 /// `truncate OCTETS LEN`
@@ -95,35 +95,32 @@ pub fn put_append(out: &mut Answer, first: &[u8], second: &[u8]) {
 
 /// A new builder has its room, and what was appended goes over.
 fn is_frozen(out: &mut Answer, octets: &[u8]) {
-    out.agree(
-        <ArrayVec<u8, 8> as EmptyBuilder>::ROOM == Some(8),
-        Call::Room,
-    );
-    out.agree(<Vec<u8> as EmptyBuilder>::ROOM.is_none(), Call::Room);
+    out.agree(<ArrayVec<u8, 8> as EmptyBuilder>::ROOM == Some(8), b"ROOM");
+    out.agree(<Vec<u8> as EmptyBuilder>::ROOM.is_none(), b"ROOM");
     let room: Result<ArrayVec<u8, 8>, ShortBuf> = EmptyBuilder::with_capacity(
         out.alloc(),
         octets.len(),
     );
-    out.agree(room.is_ok(), Call::WithCapacity);
+    out.agree(room.is_ok(), b"with_capacity");
     let made: Result<Vec<u8>, ShortBuf> = EmptyBuilder::with_capacity(out.alloc(), octets.len());
     let Ok(mut builder) = made else {
         return out.fail(Fail::Memory);
     };
-    out.agree(builder.capacity() >= octets.len(), Call::WithCapacity);
+    out.agree(builder.capacity() >= octets.len(), b"with_capacity");
     if OctetsBuilder::append_slice(&mut builder, octets).is_err() {
         out.fail(Fail::Memory);
     }
     let frozen = FreezeBuilder::freeze(builder);
-    out.same(frozen.as_slice(), octets, Call::Freeze);
+    out.same(frozen.as_slice(), octets, b"freeze");
     let again = <Vec<u8> as FromBuilder>::from_builder(frozen);
-    out.same(again.as_slice(), octets, Call::FromBuilder);
+    out.same(again.as_slice(), octets, b"from_builder");
 }
 
 /// `from OCTETS`: over an array of 4 octets, and over octets of the other kinds.
 pub fn put_from(out: &mut Answer, octets: &[u8]) {
     match <&[u8]>::try_octets_from(out.alloc(), octets) {
         Ok(made) => out.put_hex(made),
-        Err(_) => out.fail(Fail::Wrong(Call::TryOctetsFrom)),
+        Err(_) => out.wrong(b"try_octets_from"),
     }
     out.put(b" ");
     let held: Result<ArrayVec<u8, 4>, ShortBuf> = ArrayVec::<u8, 4>::try_octets_from(
@@ -135,10 +132,25 @@ pub fn put_from(out: &mut Answer, octets: &[u8]) {
         Err(error) => out.put_text(error),
     }
     match CowSlice::<'_, u8>::try_octets_from(out.alloc(), octets) {
-        Ok(made) => out.same(Octets::as_slice(&made), octets, Call::TryOctetsFrom),
-        Err(_) => out.fail(Fail::Wrong(Call::TryOctetsFrom)),
+        Ok(made) => out.same(Octets::as_slice(&made), octets, b"try_octets_from"),
+        Err(_) => out.wrong(b"try_octets_from"),
     }
     is_made_of_vec(out, octets);
+    is_made_of_itself(out, octets);
+}
+
+fn is_made_of_itself(out: &mut Answer, octets: &[u8]) {
+    match CowSlice::<'_, u8>::try_octets_from(out.alloc(), CowSlice::Borrowed(octets)) {
+        Ok(made) => out.same(Octets::as_slice(&made), octets, b"try_octets_from"),
+        Err(_) => out.wrong(b"try_octets_from"),
+    }
+    let Ok(held) = ArrayVec::<u8, 255>::try_from(octets) else {
+        return out.fail(Fail::Bad);
+    };
+    match ArrayVec::<u8, 255>::try_octets_from(out.alloc(), held) {
+        Ok(made) => out.same(made.as_slice(), octets, b"try_octets_from"),
+        Err(_) => out.wrong(b"try_octets_from"),
+    }
 }
 
 fn is_made_of_vec(out: &mut Answer, octets: &[u8]) {
@@ -146,11 +158,11 @@ fn is_made_of_vec(out: &mut Answer, octets: &[u8]) {
         return out.fail(Fail::Memory);
     };
     let Ok(same) = Vec::<u8>::try_octets_from(out.alloc(), made) else {
-        return out.fail(Fail::Wrong(Call::TryOctetsFrom));
+        return out.wrong(b"try_octets_from");
     };
-    out.same(same.as_slice(), octets, Call::TryOctetsFrom);
+    out.same(same.as_slice(), octets, b"try_octets_from");
     match CowSlice::<'_, u8>::try_octets_from(out.alloc(), same) {
-        Ok(made) => out.same(Octets::as_slice(&made), octets, Call::TryOctetsFrom),
-        Err(_) => out.fail(Fail::Wrong(Call::TryOctetsFrom)),
+        Ok(made) => out.same(Octets::as_slice(&made), octets, b"try_octets_from"),
+        Err(_) => out.wrong(b"try_octets_from"),
     }
 }

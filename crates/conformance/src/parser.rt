@@ -1,7 +1,7 @@
 //! The calls of a parser, one after another.
 
 use crate::answer::Answer;
-use crate::fail::{Call, Fail};
+use crate::fail::Fail;
 use crate::fields::{decimal, split_once};
 use crate::message::parser_at;
 use octseq::{Parser, ShortInput};
@@ -95,20 +95,15 @@ pub fn put_calls(out: &mut Answer, octets: &[u8], begin: usize, end: usize, call
         return out.fail(Fail::Bad);
     };
     out.put_hex(parser.octets_ref());
-    out.put(b" ");
-    out.put_hex(parser.as_slice());
+    out.put_hex_behind(b" ", parser.as_slice());
     for field in calls.split(|octet| *octet == b';') {
         let Some(call) = call_of(field) else {
             return out.fail(Fail::Bad);
         };
         out.put(b" ");
         put_call(out, &mut parser, call);
-        out.put(b"@");
-        out.put_number(parser.pos());
-        out.agree(
-            parser.remaining() == parser.peek_all().len(),
-            Call::Remaining,
-        );
+        out.put_number_behind(b"@", parser.pos());
+        out.agree(parser.remaining() == parser.peek_all().len(), b"remaining");
     }
 }
 

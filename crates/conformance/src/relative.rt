@@ -1,7 +1,7 @@
 //! Relative names in one piece.
 
 use crate::answer::Answer;
-use crate::fail::{Call, Fail};
+use crate::fail::Fail;
 use crate::labels::put_relative_name_error;
 use domain::base::name::*;
 
@@ -9,7 +9,7 @@ use domain::base::name::*;
 pub fn put_rel(out: &mut Answer, octets: &[u8]) {
     match RelativeName::from_slice(octets) {
         Ok(name) => {
-            out.same(name.as_slice(), octets, Call::FromSlice);
+            out.same(name.as_slice(), octets, b"from_slice");
             out.put(b"ok");
         }
         Err(error) => {
@@ -31,20 +31,17 @@ pub fn put_relshow(out: &mut Answer, octets: &[u8]) {
     let Ok(name) = RelativeName::from_slice(octets) else {
         return out.fail(Fail::Bad);
     };
-    out.put(b"text=");
-    out.put_shown(&name);
-    out.put(b" ndots=");
-    out.put_number(name.ndots());
-    out.put(b" labels=");
-    out.put_number(name.label_count());
+    out.put_shown_behind(b"text=", &name);
+    out.put_number_behind(b" ndots=", name.ndots());
+    out.put_number_behind(b" labels=", name.label_count());
     out.put(b" canonical=");
     put_canonical(out, name);
     out.put(b" first=");
     put_label_or_none(out, name.first());
     out.put(b" last=");
     put_label_or_none(out, name.last());
-    out.agree(name.compose_len() as usize == name.len(), Call::ComposeLen);
-    out.agree(name.is_empty() == (name.len() == 0), Call::IsEmpty);
+    out.agree(name.compose_len() as usize == name.len(), b"compose_len");
+    out.agree(name.is_empty() == (name.len() == 0), b"is_empty");
 }
 
 fn put_canonical(out: &mut Answer, name: RelativeName<&[u8]>) {
@@ -57,7 +54,7 @@ fn put_canonical(out: &mut Answer, name: RelativeName<&[u8]>) {
         return out.fail(Fail::Memory);
     };
     again.make_canonical();
-    out.same(again.as_slice(), canonical.as_slice(), Call::MakeCanonical);
+    out.same(again.as_slice(), canonical.as_slice(), b"make_canonical");
 }
 
 /// `relwalk NAME`
@@ -81,7 +78,7 @@ fn gives_labels(out: &mut Answer, name: RelativeName<&[u8]>) {
     if refused {
         out.fail(Fail::Memory);
     }
-    out.same(octets.as_slice(), name.as_slice(), Call::IntoIter);
+    out.same(octets.as_slice(), name.as_slice(), b"into_iter");
 }
 
 /// The first label and the rest, which is the parent.
@@ -89,13 +86,12 @@ fn put_first(out: &mut Answer, name: RelativeName<&[u8]>) {
     match name.split_first() {
         None => {
             out.put(b"none");
-            out.agree(name.parent().is_none(), Call::Parent);
+            out.agree(name.parent().is_none(), b"parent");
         }
         Some((label, rest)) => {
             out.put_hex(label.as_slice());
-            out.put(b":");
-            out.put_hex(rest.as_slice());
-            out.agree(name.parent() == Some(rest), Call::Parent);
+            out.put_hex_behind(b":", rest.as_slice());
+            out.agree(name.parent() == Some(rest), b"parent");
         }
     }
 }
@@ -109,13 +105,11 @@ pub fn put_relsplit(out: &mut Answer, octets: &[u8], mid: usize) {
         return out.put(b"no");
     }
     let (left, right) = name.split(mid);
-    out.put(b"yes ");
-    out.put_hex(left.as_slice());
-    out.put(b" ");
-    out.put_hex(right.as_slice());
+    out.put_hex_behind(b"yes ", left.as_slice());
+    out.put_hex_behind(b" ", right.as_slice());
     let mut short = name;
     short.truncate(mid);
-    out.same(short.as_slice(), left.as_slice(), Call::Truncate);
+    out.same(short.as_slice(), left.as_slice(), b"truncate");
 }
 
 /// `relpart NAME BEGIN END`
@@ -125,9 +119,8 @@ pub fn put_relpart(out: &mut Answer, octets: &[u8], begin: usize, end: usize) {
     };
     if begin <= end && name.is_label_start(begin) && name.is_label_start(end) {
         let part = name.slice(begin..end);
-        out.put(b"yes ");
-        out.put_hex(part.as_slice());
-        out.agree(name.range(begin..end) == part, Call::Range);
+        out.put_hex_behind(b"yes ", part.as_slice());
+        out.agree(name.range(begin..end) == part, b"range");
     } else {
         out.put(b"no");
     }
@@ -143,14 +136,11 @@ pub fn put_relstrip(out: &mut Answer, octets: &[u8], base: &[u8]) {
     };
     match name.strip_suffix(&base) {
         Ok(()) => {
-            out.put(b"ok ");
-            out.put_hex(name.as_slice());
+            out.put_hex_behind(b"ok ", name.as_slice());
         }
         Err(error) => {
-            out.put(b"err ");
-            out.put_hex(name.as_slice());
-            out.put(b" ");
-            out.put_text(error);
+            out.put_hex_behind(b"err ", name.as_slice());
+            out.put_text_behind(b" ", error);
         }
     }
 }
