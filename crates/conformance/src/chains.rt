@@ -1,0 +1,187 @@
+//! Chains of two names.
+
+use crate::answer::Answer;
+use crate::compare::{
+    put_beside_chain, put_beside_relative_chain, put_ends_beside_chain, put_parsed_beside_chain,
+};
+use crate::fail::Fail;
+use crate::flat::put_stripped;
+use crate::made::{put_chain_forms, put_relative_chain_forms};
+use crate::message::name_at;
+use domain::base::name::*;
+
+type Absolutely<'a> = Chain<RelativeName<&'a [u8]>, Name<&'a [u8]>>;
+
+type Relatively<'a> = Chain<RelativeName<&'a [u8]>, RelativeName<&'a [u8]>>;
+
+/// The chain of a relative and an absolute name, where it isn't too long.
+fn absolute_chain<'a>(left: &'a [u8], right: &'a [u8]) -> Option<Absolutely<'a>> {
+    let left = RelativeName::from_slice(left).ok()?;
+    let right = Name::from_slice(right).ok()?;
+    left.chain(right).ok()
+}
+
+/// The chain of two relative names, where it isn't too long.
+fn relative_chain<'a>(left: &'a [u8], right: &'a [u8]) -> Option<Relatively<'a>> {
+    let left = RelativeName::from_slice(left).ok()?;
+    let right = RelativeName::from_slice(right).ok()?;
+    left.chain(right).ok()
+}
+
+/// A chain's wire form, its length and its labels from the back.
+fn put_chain_of<'a, I: LabelIterator<'a>>(out: &mut Answer, len: u16, front: I, back: I) {
+    out.put(b"ok ");
+    put_wire(out, front);
+    out.put_text_behind(b" ", len);
+    out.put(b" ");
+    out.put_turned(back);
+}
+
+/// The wire form of labels, written label by label.
+fn put_wire<'a, I: LabelIterator<'a>>(out: &mut Answer, labels: I) {
+    let mut octets: Vec<u8> = Vec::new(out.alloc());
+    let mut labels = labels;
+    for _time in 0..1000u32 {
+        let Some(label) = labels.next() else {
+            break;
+        };
+        if label.compose(&mut octets).is_err() {
+            out.fail(Fail::Memory);
+        }
+    }
+    out.put_hex(octets.as_slice());
+}
+
+fn put_refusal(out: &mut Answer, error: LongChainError) {
+    out.put_text_behind(b"err ", error);
+}
+
+/// `chain L R`
+pub fn put_chain(out: &mut Answer, left: &[u8], right: &[u8]) {
+    let Ok(left) = RelativeName::from_slice(left) else {
+        return out.fail(Fail::Bad);
+    };
+    match Name::from_slice(right) {
+        Ok(right) => put_absolute_chain(out, left, right),
+        Err(_) => match RelativeName::from_slice(right) {
+            Ok(right) => put_relative_chain(out, left, right),
+            Err(_) => out.fail(Fail::Bad),
+        },
+    }
+}
+
+fn put_absolute_chain(out: &mut Answer, left: RelativeName<&[u8]>, right: Name<&[u8]>) {
+    match left.chain(right) {
+        Ok(chain) => {
+            let (front, back) = (chain.iter_labels(), chain.iter_labels());
+            put_chain_of(out, chain.compose_len(), front, back);
+            out.agree(chain.is_absolute(), b"is_absolute");
+            let (one, other) = chain.unwrap();
+            out.agree(one == left && other == right, b"unwrap");
+        }
+        Err(error) => put_refusal(out, error),
+    }
+}
+
+fn put_relative_chain(out: &mut Answer, left: RelativeName<&[u8]>, right: RelativeName<&[u8]>) {
+    match left.chain(right) {
+        Ok(chain) => {
+            let (front, back) = (chain.iter_labels(), chain.iter_labels());
+            put_chain_of(out, chain.compose_len(), front, back);
+            out.agree(!chain.is_absolute(), b"is_absolute");
+        }
+        Err(error) => put_refusal(out, error),
+    }
+}
+
+/// `chainforms L R`
+pub fn put_chainforms(out: &mut Answer, left: &[u8], right: &[u8]) {
+    let Ok(left) = RelativeName::from_slice(left) else {
+        return out.fail(Fail::Bad);
+    };
+    match Name::from_slice(right) {
+        Ok(right) => put_chain_forms(out, left, right),
+        Err(_) => match RelativeName::from_slice(right) {
+            Ok(right) => put_relative_chain_forms(out, left, right),
+            Err(_) => out.fail(Fail::Bad),
+        },
+    }
+}
+
+/// `chainwalk L R`: the labels of a chain of relative names, and what it has with the root behind it.
+pub fn put_chainwalk(out: &mut Answer, left: &[u8], right: &[u8]) {
+    let Some(chain) = relative_chain(left, right) else {
+        return out.fail(Fail::Bad);
+    };
+    out.put_orders(
+        chain.iter_labels(),
+        chain.iter_labels(),
+        chain.iter_labels(),
+    );
+}
+
+/// `rooted NAME`: the name with the root behind it.
+pub fn put_rooted(out: &mut Answer, octets: &[u8]) {
+    let Ok(name) = RelativeName::from_slice(octets) else {
+        return out.fail(Fail::Bad);
+    };
+    let chain = name.chain_root();
+    let (front, back) = (chain.iter_labels(), chain.iter_labels());
+    put_chain_of(out, chain.compose_len(), front, back);
+    out.put_shown_behind(b" ", chain.fmt_with_dot());
+}
+
+/// `chaincmp L R NAME`
+pub fn put_chaincmp(out: &mut Answer, left: &[u8], right: &[u8], octets: &[u8]) {
+    let Some(chain) = absolute_chain(left, right) else {
+        return out.fail(Fail::Bad);
+    };
+    match Name::from_slice(octets) {
+        Ok(name) => put_beside_chain(out, &chain, &name),
+        Err(_) => out.fail(Fail::Bad),
+    }
+}
+
+/// `chainrel L R RELATIVE`
+pub fn put_chainrel(out: &mut Answer, left: &[u8], right: &[u8], octets: &[u8]) {
+    let Some(chain) = relative_chain(left, right) else {
+        return out.fail(Fail::Bad);
+    };
+    match RelativeName::from_slice(octets) {
+        Ok(name) => put_beside_relative_chain(out, &chain, &name),
+        Err(_) => out.fail(Fail::Bad),
+    }
+}
+
+/// `chainends L R NAME`
+pub fn put_chainends(out: &mut Answer, left: &[u8], right: &[u8], octets: &[u8]) {
+    let Some(chain) = relative_chain(left, right) else {
+        return out.fail(Fail::Bad);
+    };
+    match Name::from_slice(octets) {
+        Ok(name) => put_ends_beside_chain(out, &name, &chain),
+        Err(_) => out.fail(Fail::Bad),
+    }
+}
+
+/// `chainstrip L R NAME`: the name without the chain at its end.
+pub fn put_chainstrip(out: &mut Answer, left: &[u8], right: &[u8], octets: &[u8]) {
+    let Some(chain) = absolute_chain(left, right) else {
+        return out.fail(Fail::Bad);
+    };
+    match Name::from_slice(octets) {
+        Ok(name) => put_stripped(out, name.strip_suffix(&chain)),
+        Err(_) => out.fail(Fail::Bad),
+    }
+}
+
+/// `pchain MSG PLACE L R`
+pub fn put_pchain(out: &mut Answer, message: &[u8], place: usize, left: &[u8], right: &[u8]) {
+    let Some(parsed) = name_at(message, place) else {
+        return out.fail(Fail::Bad);
+    };
+    match absolute_chain(left, right) {
+        Some(chain) => put_parsed_beside_chain(out, &parsed, &chain),
+        None => out.fail(Fail::Bad),
+    }
+}

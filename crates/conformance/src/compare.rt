@@ -1,0 +1,232 @@
+//! Names compared, with names of their kind and of others.
+
+use crate::answer::Answer;
+use crate::fail::Fail;
+use crate::message::name_at;
+use domain::base::name::*;
+use std::hash::{DefaultHasher, Hash, Hasher};
+
+/// The digest of octets, each fed as one number.
+fn digest(octets: &[u8]) -> u64 {
+    let mut hasher = DefaultHasher::new();
+    for octet in octets {
+        hasher.write_u8(*octet);
+    }
+    hasher.finish()
+}
+
+/// The octets that an absolute name feeds a hasher: they are those of its lowered wire form, which its
+/// digest tells.
+fn put_fed<'a, N: AbsoluteLabels<'a> + Hash>(out: &mut Answer, name: &'a N) {
+    let mut octets = Vec::new(out.alloc());
+    if name.compose_canonical(&mut octets).is_err() {
+        out.fail(Fail::Memory);
+    }
+    let mut hasher = DefaultHasher::new();
+    name.hash(&mut hasher);
+    out.agree(hasher.finish() == digest(octets.as_slice()), b"hash");
+    out.put_hex(octets.as_slice());
+}
+
+fn put_relative_fed(out: &mut Answer, name: RelativeName<&[u8]>) {
+    let mut octets = Vec::new(out.alloc());
+    if name.compose_canonical(&mut octets).is_err() {
+        out.fail(Fail::Memory);
+    }
+    let mut hasher = DefaultHasher::new();
+    name.hash(&mut hasher);
+    out.agree(hasher.finish() == digest(octets.as_slice()), b"hash");
+    out.put_hex(octets.as_slice());
+}
+
+fn put_related<'a, A: AbsoluteLabels<'a>, B: AbsoluteLabels<'a>>(
+    out: &mut Answer,
+    a: &'a A,
+    b: &'a B,
+) {
+    out.put_bit(b"eq=", a.name_eq(b));
+    out.put_order(b" cmp=", a.name_cmp(b));
+    out.put_order(b" composed=", a.composed_cmp(b));
+    out.put_order(b" lower=", a.lowercase_composed_cmp(b));
+    out.put_bit(b" starts=", a.starts_with(b));
+    out.put_bit(b" ends=", a.ends_with(b));
+}
+
+fn put_compared<'a, A: AbsoluteLabels<'a> + Hash, B: AbsoluteLabels<'a> + Hash>(
+    out: &mut Answer,
+    a: &'a A,
+    b: &'a B,
+) {
+    put_related(out, a, b);
+    out.put(b" hash=");
+    put_fed(out, a);
+    out.put(b" ");
+    put_fed(out, b);
+}
+
+/// `cmp A B`
+pub fn put_cmp(out: &mut Answer, a: &[u8], b: &[u8]) {
+    let Ok(a) = Name::from_slice(a) else {
+        return out.fail(Fail::Bad);
+    };
+    let Ok(b) = Name::from_slice(b) else {
+        return out.fail(Fail::Bad);
+    };
+    put_compared(out, &a, &b);
+    let order = a.name_cmp(&b);
+    out.agree((a == b) == a.name_eq(&b), b"==");
+    out.agree(a.cmp(&b) == order, b"cmp");
+    out.agree(a.partial_cmp(&b) == Some(order), b"partial_cmp");
+}
+
+/// `relcmp A B`
+pub fn put_relcmp(out: &mut Answer, a: &[u8], b: &[u8]) {
+    let Ok(a) = RelativeName::from_slice(a) else {
+        return out.fail(Fail::Bad);
+    };
+    let Ok(b) = RelativeName::from_slice(b) else {
+        return out.fail(Fail::Bad);
+    };
+    put_relative_pair(out, a, b);
+    out.put(b" hash=");
+    put_relative_fed(out, a);
+    out.put(b" ");
+    put_relative_fed(out, b);
+}
+
+fn put_relative_pair(out: &mut Answer, a: RelativeName<&[u8]>, b: RelativeName<&[u8]>) {
+    put_relative_related(out, &a, &b);
+    let order = a.name_cmp(&b);
+    out.agree((a == b) == a.name_eq(&b), b"==");
+    out.agree(a.cmp(&b) == order, b"cmp");
+    out.agree(a.partial_cmp(&b) == Some(order), b"partial_cmp");
+}
+
+/// `pcmp MSG P Q`
+pub fn put_pcmp(out: &mut Answer, message: &[u8], left: usize, right: usize) {
+    let Some(left) = name_at(message, left) else {
+        return out.fail(Fail::Bad);
+    };
+    let Some(right) = name_at(message, right) else {
+        return out.fail(Fail::Bad);
+    };
+    put_compared(out, &left, &right);
+    out.put(b" / ");
+    put_beside_twin(out, left, right);
+    let order = left.name_cmp(&right);
+    out.agree((left == right) == left.name_eq(&right), b"==");
+    out.agree(left.cmp(&right) == order, b"cmp");
+    out.agree(left.partial_cmp(&right) == Some(order), b"partial_cmp");
+}
+
+/// The left name beside the flat twin of the right one.
+fn put_beside_twin(out: &mut Answer, left: ParsedName<&[u8]>, right: ParsedName<&[u8]>) {
+    match right.to_vec(out.alloc()) {
+        Ok(owned) => put_beside_flat(out, left, owned.for_slice()),
+        Err(_) => out.fail(Fail::Memory),
+    }
+}
+
+/// A name in a message and a flat one, on either side.
+fn put_beside_flat(out: &mut Answer, parsed: ParsedName<&[u8]>, flat: Name<&[u8]>) {
+    put_compared(out, &parsed, &flat);
+    out.put(b" / ");
+    put_compared(out, &flat, &parsed);
+}
+
+/// `pname MSG PLACE NAME`
+pub fn put_pname(out: &mut Answer, message: &[u8], place: usize, octets: &[u8]) {
+    let Some(parsed) = name_at(message, place) else {
+        return out.fail(Fail::Bad);
+    };
+    match Name::from_slice(octets) {
+        Ok(name) => put_beside_flat(out, parsed, name),
+        Err(_) => out.fail(Fail::Bad),
+    }
+}
+
+/// Whether an absolute name begins and ends with a relative one, and the relative one with it.
+fn put_ends_of<'a, A: AbsoluteLabels<'a>, R: RelativeLabels<'a>>(
+    out: &mut Answer,
+    a: &'a A,
+    r: &'a R,
+) {
+    out.put_bit(b"", a.starts_with(r));
+    out.put_bit(b"", a.ends_with(r));
+    out.put_bit(b"", r.starts_with(a));
+    out.put_bit(b"", r.ends_with(a));
+}
+
+/// `ends ABSOLUTE RELATIVE`
+pub fn put_ends(out: &mut Answer, absolute: &[u8], relative: &[u8]) {
+    let Ok(a) = Name::from_slice(absolute) else {
+        return out.fail(Fail::Bad);
+    };
+    let Ok(r) = RelativeName::from_slice(relative) else {
+        return out.fail(Fail::Bad);
+    };
+    put_ends_of(out, &a, &r);
+}
+
+/// `prel MSG PLACE RELATIVE`
+pub fn put_prel(out: &mut Answer, message: &[u8], place: usize, octets: &[u8]) {
+    let Some(parsed) = name_at(message, place) else {
+        return out.fail(Fail::Bad);
+    };
+    match RelativeName::from_slice(octets) {
+        Ok(name) => put_ends_of(out, &parsed, &name),
+        Err(_) => out.fail(Fail::Bad),
+    }
+}
+
+/// How a relative name compares with another.
+fn put_relative_related<'a, A: RelativeLabels<'a>, B: RelativeLabels<'a>>(
+    out: &mut Answer,
+    a: &'a A,
+    b: &'a B,
+) {
+    out.put_bit(b"eq=", a.name_eq(b));
+    out.put_order(b" cmp=", a.name_cmp(b));
+    out.put_bit(b" starts=", a.starts_with(b));
+    out.put_bit(b" ends=", a.ends_with(b));
+}
+
+/// A chain and an absolute name, on either side.
+pub fn put_beside_chain<'a>(
+    out: &mut Answer,
+    chain: &'a Chain<RelativeName<&'a [u8]>, Name<&'a [u8]>>,
+    name: &'a Name<&'a [u8]>,
+) {
+    put_related(out, chain, name);
+    out.put(b" / ");
+    put_related(out, name, chain);
+}
+
+/// A name in a message and a chain.
+pub fn put_parsed_beside_chain<'a>(
+    out: &mut Answer,
+    parsed: &'a ParsedName<&'a [u8]>,
+    chain: &'a Chain<RelativeName<&'a [u8]>, Name<&'a [u8]>>,
+) {
+    put_related(out, parsed, chain);
+}
+
+/// A chain of relative names and a relative name, on either side.
+pub fn put_beside_relative_chain<'a>(
+    out: &mut Answer,
+    chain: &'a Chain<RelativeName<&'a [u8]>, RelativeName<&'a [u8]>>,
+    name: &'a RelativeName<&'a [u8]>,
+) {
+    put_relative_related(out, chain, name);
+    out.put(b" / ");
+    put_relative_related(out, name, chain);
+}
+
+/// An absolute name and a chain of relative names.
+pub fn put_ends_beside_chain<'a>(
+    out: &mut Answer,
+    name: &'a Name<&'a [u8]>,
+    chain: &'a Chain<RelativeName<&'a [u8]>, RelativeName<&'a [u8]>>,
+) {
+    put_ends_of(out, name, chain);
+}

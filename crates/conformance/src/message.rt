@@ -1,0 +1,247 @@
+//! Names in messages: read, passed over, and walked.
+
+use crate::answer::Answer;
+use crate::fail::Fail;
+use arrayvec::ArrayVec;
+use domain::base::name::*;
+use domain::base::wire::ParseError;
+use octseq::Parser;
+
+/// A parser of a message at a place, with an end.
+pub fn parser_at(message: &[u8], place: usize, end: usize) -> Option<Parser<'_>> {
+    if place > end || end > message.len() {
+        return None;
+    }
+    Some(Parser::with_range(message, place..end))
+}
+
+/// The name at a place of a message.
+pub fn name_at(message: &[u8], place: usize) -> Option<ParsedName<&[u8]>> {
+    let mut parser = parser_at(message, place, message.len())?;
+    match ParsedName::parse(&mut parser) {
+        Ok(name) => Some(name),
+        Err(_) => None,
+    }
+}
+
+fn put_refusal(out: &mut Answer, place: usize, error: ParseError) {
+    out.put_number_behind(b"err ", place);
+    out.put_text_behind(b" ", error);
+}
+
+pub fn put_parse(out: &mut Answer, message: &[u8], place: usize, end: usize) {
+    let Some(mut parser) = parser_at(message, place, end) else {
+        return out.fail(Fail::Bad);
+    };
+    let mut twin = parser;
+    let read = ParsedName::parse(&mut parser);
+    let again = ParsedName::parse_ref(&mut twin);
+    out.agree(twin.pos() == parser.pos(), b"parse_ref");
+    match read {
+        Ok(name) => {
+            out.agree(is_same_read(again, name), b"parse_ref");
+            put_read(out, name, parser.pos());
+        }
+        Err(error) => {
+            out.agree(again == Err(error), b"parse_ref");
+            put_refusal(out, parser.pos(), error);
+        }
+    }
+}
+
+fn is_same_read(read: Result<ParsedName<&[u8]>, ParseError>, name: ParsedName<&[u8]>) -> bool {
+    match read {
+        Ok(same) => same == name && same.is_compressed() == name.is_compressed(),
+        Err(_) => false,
+    }
+}
+
+fn put_read(out: &mut Answer, name: ParsedName<&[u8]>, place: usize) {
+    let Ok(flat) = name.to_vec(out.alloc()) else {
+        return out.fail(Fail::Memory);
+    };
+    out.put_hex_behind(b"ok ", flat.as_slice());
+    out.put(if name.is_compressed() { b" c " } else { b" f " });
+    out.put_number(place);
+    is_measured_as(out, name, flat.for_slice());
+    has_parts_of(out, name, flat.for_slice());
+    is_flattened(out, name, flat.as_slice());
+}
+
+/// What a name in a message tells of its octets is what its flat twin tells.
+fn is_measured_as(out: &mut Answer, name: ParsedName<&[u8]>, flat: Name<&[u8]>) {
+    let len = flat.len();
+    out.agree(name.compose_len() as usize == len, b"compose_len");
+    out.agree(name.is_root() == (len == 1), b"is_root");
+    out.agree(name.is_absolute(), b"is_absolute");
+    match name.as_flat_slice() {
+        Some(lent) => {
+            out.agree(!name.is_compressed(), b"as_flat_slice");
+            out.same(lent, flat.as_slice(), b"as_flat_slice");
+        }
+        None => out.agree(name.is_compressed(), b"as_flat_slice"),
+    }
+}
+
+/// The labels of a name in a message are those of its flat twin.
+fn has_parts_of(out: &mut Answer, name: ParsedName<&[u8]>, flat: Name<&[u8]>) {
+    out.agree(name.label_count() == flat.label_count(), b"label_count");
+    out.same(name.first().as_slice(), flat.first().as_slice(), b"first");
+    out.agree(name.last().is_root(), b"last");
+    out.agree(name.name_eq(&flat), b"name_eq");
+    let twin = ParsedName::from(flat);
+    out.agree(twin == name && !twin.is_compressed(), b"from");
+    let lent = name.ref_octets();
+    out.agree(lent.deref_octets() == name, b"deref_octets");
+}
+
+/// A name in a message is flattened over a `Vec` and over an array of 255 octets.
+fn is_flattened(out: &mut Answer, name: ParsedName<&[u8]>, wire: &[u8]) {
+    let flattened: Result<Name<Vec<u8>>, _> = name.flatten_into(out.alloc());
+    match flattened {
+        Ok(made) => out.same(made.as_slice(), wire, b"flatten_into"),
+        Err(_) => out.fail(Fail::Memory),
+    }
+    let held: Result<Name<ArrayVec<u8, 255>>, _> = name.try_flatten_into(out.alloc());
+    match held {
+        Ok(made) => out.same(made.as_slice(), wire, b"try_flatten_into"),
+        Err(_) => out.wrong(b"try_flatten_into"),
+    }
+}
+
+pub fn put_skip(out: &mut Answer, message: &[u8], place: usize, end: usize) {
+    let Some(mut parser) = parser_at(message, place, end) else {
+        return out.fail(Fail::Bad);
+    };
+    match ParsedName::skip(&mut parser) {
+        Ok(()) => {
+            out.put_number_behind(b"ok ", parser.pos());
+        }
+        Err(error) => put_refusal(out, parser.pos(), error),
+    }
+}
+
+pub fn put_nparse(out: &mut Answer, message: &[u8], place: usize, end: usize) {
+    let Some(mut parser) = parser_at(message, place, end) else {
+        return out.fail(Fail::Bad);
+    };
+    match Name::parse(&mut parser) {
+        Ok(name) => {
+            out.put_hex_behind(b"ok ", name.as_slice());
+            out.put_number_behind(b" ", parser.pos());
+        }
+        Err(error) => put_refusal(out, parser.pos(), error),
+    }
+}
+
+pub fn put_walk(out: &mut Answer, message: &[u8], place: usize) {
+    let Some(mut parser) = parser_at(message, place, message.len()) else {
+        return out.fail(Fail::Bad);
+    };
+    match ParsedName::parse(&mut parser) {
+        Ok(name) => put_walked(out, name),
+        Err(_) => out.put(b"err"),
+    }
+}
+
+fn put_walked(out: &mut Answer, name: ParsedName<&[u8]>) {
+    out.put_orders(name.iter(), name.iter(), name.iter());
+    out.put(b" ");
+    put_suffixes(out, name);
+    out.put(b" ");
+    put_parents(out, name);
+    out.put(b" ");
+    put_firsts(out, name);
+    out.put(b" ");
+    put_numbers(out, name);
+}
+
+/// The flag and the flat wire form of a name in a message.
+fn put_part_of(out: &mut Answer, name: ParsedName<&[u8]>) {
+    match name.to_vec(out.alloc()) {
+        Ok(flat) => {
+            out.put(if name.is_compressed() { b"c" } else { b"f" });
+            out.put_hex(flat.as_slice());
+        }
+        Err(_) => out.fail(Fail::Memory),
+    }
+}
+
+fn put_suffixes(out: &mut Answer, name: ParsedName<&[u8]>) {
+    let mut suffixes = name.iter_suffixes();
+    let mut is_first = true;
+    for _time in 0..1000u32 {
+        let Some(suffix) = suffixes.next() else {
+            break;
+        };
+        out.put_comma(&mut is_first);
+        put_part_of(out, suffix);
+    }
+    out.agree(suffixes.next().is_none(), b"iter_suffixes");
+}
+
+fn put_parents(out: &mut Answer, name: ParsedName<&[u8]>) {
+    let mut rest = name;
+    let mut is_first = true;
+    for _time in 0..1000u32 {
+        if !rest.parent() {
+            break;
+        }
+        out.put_comma(&mut is_first);
+        put_part_of(out, rest);
+    }
+    out.put_none(is_first);
+    out.agree(rest.is_root() && !rest.parent(), b"parent");
+}
+
+fn put_firsts(out: &mut Answer, name: ParsedName<&[u8]>) {
+    let mut rest = name;
+    let mut is_first = true;
+    for _time in 0..1000u32 {
+        let Some(first) = rest.split_first() else {
+            break;
+        };
+        out.put_comma(&mut is_first);
+        out.put_hex(first.as_slice());
+    }
+    out.put_comma(&mut is_first);
+    put_part_of(out, rest);
+    out.agree(
+        rest.is_root() && rest.split_first().is_none(),
+        b"split_first",
+    );
+}
+
+/// The counts, the texts and the canonical wire form.
+fn put_numbers(out: &mut Answer, name: ParsedName<&[u8]>) {
+    out.put_number(name.label_count());
+    out.put_text_behind(b" ", name.rrsig_label_count());
+    out.put_shown_behind(b" ", &name);
+    out.put_shown_behind(b" ", name.fmt_with_dot());
+    out.put(b" ");
+    put_canonical(out, name);
+}
+
+fn put_canonical(out: &mut Answer, name: ParsedName<&[u8]>) {
+    let made: Result<Name<Vec<u8>>, _> = name.to_canonical_name(out.alloc());
+    match made {
+        Ok(canonical) => out.put_hex(canonical.as_slice()),
+        Err(_) => out.fail(Fail::Memory),
+    }
+}
+
+/// `rest MSG PLACE N`: the labels of what is left of a name without its first labels, from both ends.
+pub fn put_rest(out: &mut Answer, message: &[u8], place: usize, labels: usize) {
+    let Some(name) = name_at(message, place) else {
+        return out.fail(Fail::Bad);
+    };
+    let mut rest = name;
+    for _label in 0..labels.min(1000) {
+        if rest.split_first().is_none() {
+            break;
+        }
+    }
+    out.put_orders(rest.iter(), rest.iter(), rest.iter());
+    out.put(b" ");
+    put_part_of(out, rest);
+}

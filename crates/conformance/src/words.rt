@@ -1,0 +1,305 @@
+//! The words of the calls, by what stands behind them.
+
+/// `OCTETS`
+#[derive(Clone, Copy)]
+pub enum Alone {
+    Name,
+    Rel,
+    Show,
+    Relshow,
+    Flatwalk,
+    Relwalk,
+    Splitlabel,
+    Splitmut,
+    Labelmut,
+    Labelfill,
+    Labelerrors,
+    Nameerrors,
+}
+
+/// `OCTETS`: names made, octets made of octets, and addresses
+#[derive(Clone, Copy)]
+pub enum Owned {
+    Forms,
+    Lentforms,
+    Relforms,
+    Lentrelforms,
+    Keep,
+    Relkeep,
+    Rooted,
+    From,
+    Whole,
+    Address,
+}
+
+/// `OCTETS NUMBER`
+#[derive(Clone, Copy)]
+pub enum Placed {
+    Split,
+    Relsplit,
+    Walk,
+    Slice,
+    Ints,
+    Arrays,
+    Truncate,
+    Pforms,
+    Lentpforms,
+    Fromflat,
+}
+
+/// `OCTETS PLACE`, and an end
+#[derive(Clone, Copy)]
+pub enum Message {
+    Parse,
+    Skip,
+    Nparse,
+}
+
+/// `OCTETS NUMBER NUMBER`
+#[derive(Clone, Copy)]
+pub enum Ranged {
+    Part,
+    Relpart,
+    Pcmp,
+    Rest,
+}
+
+/// `OCTETS OCTETS`
+#[derive(Clone, Copy)]
+pub enum Paired {
+    Cmp,
+    Relcmp,
+    Strip,
+    Relstrip,
+    Chain,
+    Chainwalk,
+    Chainforms,
+    Label,
+    Ends,
+    Append,
+    Composevec,
+}
+
+/// `OCTETS OCTETS OCTETS`
+#[derive(Clone, Copy)]
+pub enum Joined {
+    Chaincmp,
+    Chainrel,
+    Chainends,
+    Chainstrip,
+}
+
+/// `OCTETS PLACE OCTETS`
+#[derive(Clone, Copy)]
+pub enum Beside {
+    Pname,
+    Prel,
+    Write,
+}
+
+fn is(word: &[u8], known: &[u8]) -> bool {
+    word == known
+}
+
+pub fn find_alone(word: &[u8]) -> Option<Alone> {
+    if is(word, b"name") {
+        return Some(Alone::Name);
+    }
+    if is(word, b"rel") {
+        return Some(Alone::Rel);
+    }
+    if is(word, b"show") {
+        return Some(Alone::Show);
+    }
+    if is(word, b"relshow") {
+        return Some(Alone::Relshow);
+    }
+    if is(word, b"flatwalk") {
+        return Some(Alone::Flatwalk);
+    }
+    if is(word, b"relwalk") {
+        return Some(Alone::Relwalk);
+    }
+    if is(word, b"splitlabel") {
+        return Some(Alone::Splitlabel);
+    }
+    if is(word, b"splitmut") {
+        return Some(Alone::Splitmut);
+    }
+    if is(word, b"labelmut") {
+        return Some(Alone::Labelmut);
+    }
+    if is(word, b"labelfill") {
+        return Some(Alone::Labelfill);
+    }
+    if is(word, b"labelerrors") {
+        return Some(Alone::Labelerrors);
+    }
+    if is(word, b"nameerrors") {
+        return Some(Alone::Nameerrors);
+    }
+    None
+}
+
+pub fn find_owned(word: &[u8]) -> Option<Owned> {
+    if is(word, b"forms") {
+        return Some(Owned::Forms);
+    }
+    if is(word, b"lentforms") {
+        return Some(Owned::Lentforms);
+    }
+    if is(word, b"relforms") {
+        return Some(Owned::Relforms);
+    }
+    if is(word, b"lentrelforms") {
+        return Some(Owned::Lentrelforms);
+    }
+    if is(word, b"keep") {
+        return Some(Owned::Keep);
+    }
+    if is(word, b"relkeep") {
+        return Some(Owned::Relkeep);
+    }
+    if is(word, b"rooted") {
+        return Some(Owned::Rooted);
+    }
+    if is(word, b"from") {
+        return Some(Owned::From);
+    }
+    if is(word, b"whole") {
+        return Some(Owned::Whole);
+    }
+    if is(word, b"address") {
+        return Some(Owned::Address);
+    }
+    None
+}
+
+pub fn find_placed(word: &[u8]) -> Option<Placed> {
+    if is(word, b"split") {
+        return Some(Placed::Split);
+    }
+    if is(word, b"relsplit") {
+        return Some(Placed::Relsplit);
+    }
+    if is(word, b"walk") {
+        return Some(Placed::Walk);
+    }
+    if is(word, b"slice") {
+        return Some(Placed::Slice);
+    }
+    if is(word, b"ints") {
+        return Some(Placed::Ints);
+    }
+    if is(word, b"arrays") {
+        return Some(Placed::Arrays);
+    }
+    if is(word, b"truncate") {
+        return Some(Placed::Truncate);
+    }
+    if is(word, b"pforms") {
+        return Some(Placed::Pforms);
+    }
+    if is(word, b"lentpforms") {
+        return Some(Placed::Lentpforms);
+    }
+    if is(word, b"fromflat") {
+        return Some(Placed::Fromflat);
+    }
+    None
+}
+
+pub fn find_message(word: &[u8]) -> Option<Message> {
+    if is(word, b"parse") {
+        return Some(Message::Parse);
+    }
+    if is(word, b"skip") {
+        return Some(Message::Skip);
+    }
+    if is(word, b"nparse") {
+        return Some(Message::Nparse);
+    }
+    None
+}
+
+pub fn find_ranged(word: &[u8]) -> Option<Ranged> {
+    if is(word, b"part") {
+        return Some(Ranged::Part);
+    }
+    if is(word, b"relpart") {
+        return Some(Ranged::Relpart);
+    }
+    if is(word, b"pcmp") {
+        return Some(Ranged::Pcmp);
+    }
+    if is(word, b"rest") {
+        return Some(Ranged::Rest);
+    }
+    None
+}
+
+pub fn find_paired(word: &[u8]) -> Option<Paired> {
+    if is(word, b"cmp") {
+        return Some(Paired::Cmp);
+    }
+    if is(word, b"relcmp") {
+        return Some(Paired::Relcmp);
+    }
+    if is(word, b"strip") {
+        return Some(Paired::Strip);
+    }
+    if is(word, b"relstrip") {
+        return Some(Paired::Relstrip);
+    }
+    if is(word, b"chain") {
+        return Some(Paired::Chain);
+    }
+    if is(word, b"chainwalk") {
+        return Some(Paired::Chainwalk);
+    }
+    if is(word, b"chainforms") {
+        return Some(Paired::Chainforms);
+    }
+    if is(word, b"label") {
+        return Some(Paired::Label);
+    }
+    if is(word, b"ends") {
+        return Some(Paired::Ends);
+    }
+    if is(word, b"append") {
+        return Some(Paired::Append);
+    }
+    if is(word, b"composevec") {
+        return Some(Paired::Composevec);
+    }
+    None
+}
+
+pub fn find_joined(word: &[u8]) -> Option<Joined> {
+    if is(word, b"chaincmp") {
+        return Some(Joined::Chaincmp);
+    }
+    if is(word, b"chainrel") {
+        return Some(Joined::Chainrel);
+    }
+    if is(word, b"chainends") {
+        return Some(Joined::Chainends);
+    }
+    if is(word, b"chainstrip") {
+        return Some(Joined::Chainstrip);
+    }
+    None
+}
+
+pub fn find_beside(word: &[u8]) -> Option<Beside> {
+    if is(word, b"pname") {
+        return Some(Beside::Pname);
+    }
+    if is(word, b"prel") {
+        return Some(Beside::Prel);
+    }
+    if is(word, b"write") {
+        return Some(Beside::Write);
+    }
+    None
+}
