@@ -1,6 +1,8 @@
 mod LowLemmas
 mod OwnedLemmas
 mod OwnedMemory
+pub mod ReadOnce
+pub mod Scanning
 pub mod SplitLaws
 mod WalkLemmas
 pub mod WireLaws

@@ -7,3 +7,5 @@ pub mod Hex
 pub mod Told
 pub mod Views
 pub mod Lending
+pub mod Spelling
+pub mod Scanning

@@ -6,6 +6,8 @@ use Rattle.domain_label.specs.declared.split.SplitLabelError.{SplitLabelError}
 use Rattle.domain_label.specs.declared.split.SplitLabelError.TheVariants.{Pointer, BadType, ShortInput}
 use Rattle.domain_label.specs.declared.split.LabelTypeError.{LabelTypeError}
 use Rattle.domain_label.specs.declared.split.LabelTypeError.TheVariants.{Undefined, Extended}
+use Rattle.domain_label.specs.declared.symbol.SymbolCharsError.{SymbolCharsError}
+use Rattle.domain_label.specs.declared.symbol.SymbolCharsError.TheVariants as broken
 
 abbrev pub label_type_text : LabelTypeError → List ℕ
 label_type_text Undefined = codes "undefined label type"
@@ -21,3 +23,7 @@ abbrev pub split_refusal : SplitLabelError → Refusal
 split_refusal (Pointer place) = form (codes "compressed domain name")
 split_refusal (BadType label_type) = form (codes "invalid label type")
 split_refusal ShortInput = short_input
+
+abbrev pub symbol_chars_text : SymbolCharsError → List ℕ
+symbol_chars_text broken.ShortInput = codes "unexpected end of input"
+symbol_chars_text broken.BadEscape = codes "illegal escape sequence"

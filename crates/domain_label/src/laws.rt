@@ -1,6 +1,7 @@
 //! Laws of the definitions.
 ghost use Rattle.std.specs.Prelude.{◌≡◌, ℕ, List, length};
 ghost use Rattle.domain_label.specs.Lending.{with_octets};
+ghost use Rattle.domain_label.specs.Spelling.{IsReadOnce};
 ghost use Rattle.domain_label.specs.Splitting.{BeginsWithLabel, SplitFault};
 ghost use Rattle.domain_label.specs.Views.{owned_octets};
 ghost use Rattle.domain_label.specs.Wire.{wire, labels_in, IsAbsolute, IsRelative};
@@ -28,4 +29,9 @@ pub fn split_laws()
     ensures one_label { (o a b r s : List ℕ) → BeginsWithLabel o a r → BeginsWithLabel o b s → (a ≡ b) × (r ≡ s) }
     ensures one_fault { (o : List ℕ) (d e : SplitLabelError) → SplitFault o d → SplitFault o e → d ≡ e }
     ensures not_both { (o l rest : List ℕ) (e : SplitLabelError) → BeginsWithLabel o l rest → SplitFault o e → ⊥ }
+{}
+
+/// Each text is read in exactly one way, as symbols and at most a broken escape behind them.
+pub fn scan_laws()
+    ensures { (cs : List ℕ) → IsReadOnce cs }
 {}
