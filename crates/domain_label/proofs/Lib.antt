@@ -1,3 +1,4 @@
+mod LabelReading
 mod LowLemmas
 mod OwnedLemmas
 mod OwnedMemory

@@ -153,7 +153,7 @@ printable_or_not c = at (leb_tells 32 c) (leb_tells c 126)
     at (inl a) (inr b) = inr (inr b.1)
     at (inr a) b = inr (inl a.1)
 
-backslash_or_not : (c : ℕ) → (c ≡ 92) ⊎ (c ≢ 92)
+pub backslash_or_not : (c : ℕ) → (c ≡ 92) ⊎ (c ≢ 92)
 backslash_or_not c = at (leb_tells c 92) (leb_tells 92 c)
   where
     at : ((leb c 92 ≡ true) × (c ≤ 92)) ⊎ ((leb c 92 ≡ false) × (92 < c)) → ((leb 92 c ≡ true) × (92 ≤ c)) ⊎ ((leb 92 c ≡ false) × (c < 92)) → (c ≡ 92) ⊎ (c ≢ 92)
@@ -169,11 +169,10 @@ within_255 n = at (leb_tells n 255)
     at (inr a) = inr a.1
 
 -- what the characters behind a backslash make
-pub SymbolOrFault : List ℕ → Type 0
+abbrev pub SymbolOrFault : List ℕ → Type 0
 SymbolOrFault cs = ((s : Symbol) × (rest : List ℕ) × HasSpelling s × (cs ≡ spelling s ++ rest)) ⊎ ((e : SymbolCharsError) × IsBroken cs e)
 
 third : (a b : ℕ) (cs : List ℕ) → IsDigit a → IsDigit b → SymbolOrFault (92 ∷ a ∷ b ∷ cs)
-unfolding SymbolOrFault
 third a b [] d f = inr (ShortInput, (a ∷ b ∷ [], refl, omega arith, (d, (f, tt))))
 third a b (c ∷ cs) d f = at (digit_or_not c)
   where
@@ -193,7 +192,6 @@ third a b (c ∷ cs) d f = at (digit_or_not c)
     at (inr n) = inr (BadEscape, (a ∷ b ∷ [], c, cs, refl, (d, (f, tt)), inl n))
 
 second : (a : ℕ) (cs : List ℕ) → IsDigit a → SymbolOrFault (92 ∷ a ∷ cs)
-unfolding SymbolOrFault
 second a [] d = inr (ShortInput, (a ∷ [], refl, omega arith, (d, tt)))
 second a (b ∷ cs) d = at (digit_or_not b)
   where
@@ -202,7 +200,6 @@ second a (b ∷ cs) d = at (digit_or_not b)
     at (inr n) = inr (BadEscape, (a ∷ [], b, cs, refl, (d, tt), n))
 
 behind : (cs : List ℕ) → SymbolOrFault (92 ∷ cs)
-unfolding SymbolOrFault
 behind [] = inr (ShortInput, ([], refl, omega arith, tt))
 behind (a ∷ cs) = at (digit_or_not a) (printable_or_not a)
   where
@@ -212,7 +209,6 @@ behind (a ∷ cs) = at (digit_or_not a) (printable_or_not a)
     at (inr n) (inr p) = inr (BadEscape, ([], a, cs, refl, tt, (n, p)))
 
 pub first : (c : ℕ) (cs : List ℕ) → SymbolOrFault (c ∷ cs)
-unfolding SymbolOrFault
 first c cs = at (backslash_or_not c)
   where
     at : (c ≡ 92) ⊎ (c ≢ 92) → SymbolOrFault (c ∷ cs)
@@ -225,7 +221,6 @@ shorter (SimpleEscape c) cs rest e = let k : length cs ≡ length (92 ∷ c ∷ 
 shorter (DecimalEscape n) cs rest e = let k : length cs ≡ length (92 ∷ (48 + n / 100) ∷ (48 + n / 10 % 10) ∷ (48 + n % 10) ∷ rest) = ap length e in omega arith
 
 reading : (n : ℕ) (cs : List ℕ) → length cs ≤ n → (items : List (Result Symbol SymbolCharsError)) × Reads cs items
-unfolding SymbolOrFault
 reading n [] h = ([], refl)
 reading zero (c ∷ cs) h = absurd (omega arith)
 reading (suc n) (c ∷ cs) h = at (first c cs) (λ rest k. reading n rest k)

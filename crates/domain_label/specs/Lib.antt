@@ -9,3 +9,4 @@ pub mod Views
 pub mod Lending
 pub mod Spelling
 pub mod Scanning
+pub mod LabelText

@@ -7,6 +7,8 @@ use Rattle.domain_label.specs.declared.symbols.Symbols.{Symbols}
 use Rattle.domain_label.specs.declared.whole.WholeSymbols.{WholeSymbols}
 use Rattle.domain_label.specs.declared.symbol.SymbolCharsError.TheVariants.{ShortInput, BadEscape}
 use Rattle.domain_label.specs.Spelling.{spelling, HasSpelling, IsBroken, IsDigit, IsNoDigit}
+use Rattle.domain_label.specs.LabelText.{IsLabelSymbol, IsBrokenInLabel, BeginsWithOctet, NoOctet}
+use Rattle.domain_label.specs.declared.label_text.LabelFromStrErrorKind.{LabelFromStrErrorKind}
 
 abbrev pub is_done : {I : Type 0} → Symbols I → Bool
 is_done s = s.done
@@ -48,3 +50,13 @@ abbrev pub WholeSteps : {I : Type 0} → (I → Option Symbol → I → Type 0) 
 WholeSteps steps s None t = steps s.symbols None t.symbols
 WholeSteps steps s (Some (Ok x)) t = steps s.symbols (Some x) t.symbols
 WholeSteps steps s (Some (Err e)) t = ⊥
+
+-- What was read of an escape in the text of a label, and what is left.
+abbrev pub GivesLabelEscape : {I : Type 0} → (I → Option ℕ → I → Type 0) → List ℕ → Result Symbol SymbolCharsError → I → Type 0
+GivesLabelEscape steps cs (Err e) left = IsBrokenInLabel (92 ∷ cs) e
+GivesLabelEscape steps cs (Ok s) left = IsLabelSymbol s × ((rest : List ℕ) × (92 ∷ cs ≡ spelling s ++ rest) × AlwaysYields steps (λ c. c) left rest)
+
+-- What was read of the octet that a text begins with, and what is left.
+abbrev pub GivesOctet : {I : Type 0} → (I → Option ℕ → I → Type 0) → Bool → List ℕ → Result ℕ LabelFromStrErrorKind → I → Type 0
+GivesOctet steps start cs (Err why) left = NoOctet start cs why
+GivesOctet steps start cs (Ok c) left = (rest : List ℕ) × BeginsWithOctet start cs c rest × AlwaysYields steps (λ c. c) left rest

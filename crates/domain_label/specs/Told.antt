@@ -2,6 +2,8 @@
 use Rattle.std.specs.Prelude.{ℕ, ◌/◌, ◌%◌, List, [], ◌∷◌, ◌++◌, codes}
 use Rattle.domain_label.specs.Hex.{hex_digit}
 use Rattle.domain_wire.specs.Refusals.{Refusal, short_input, form}
+use Rattle.domain_label.specs.declared.label_text.LabelFromStrErrorKind.{LabelFromStrErrorKind}
+use Rattle.domain_label.specs.declared.label_text.LabelFromStrErrorKind.TheVariants.{SymbolChars, BadSymbol, BinaryLabel, LongLabel}
 use Rattle.domain_label.specs.declared.split.SplitLabelError.{SplitLabelError}
 use Rattle.domain_label.specs.declared.split.SplitLabelError.TheVariants.{Pointer, BadType, ShortInput}
 use Rattle.domain_label.specs.declared.split.LabelTypeError.{LabelTypeError}
@@ -27,3 +29,9 @@ split_refusal ShortInput = short_input
 abbrev pub symbol_chars_text : SymbolCharsError → List ℕ
 symbol_chars_text broken.ShortInput = codes "unexpected end of input"
 symbol_chars_text broken.BadEscape = codes "illegal escape sequence"
+
+abbrev pub label_from_str_text : LabelFromStrErrorKind → List ℕ
+label_from_str_text (SymbolChars e) = symbol_chars_text e
+label_from_str_text (BadSymbol e) = codes "illegal character"
+label_from_str_text BinaryLabel = codes "a binary label was encountered"
+label_from_str_text LongLabel = codes "label length limit exceeded"

@@ -1,5 +1,6 @@
 //! Laws of the definitions.
 ghost use Rattle.std.specs.Prelude.{◌≡◌, ℕ, List, length};
+ghost use Rattle.domain_label.specs.LabelText.{OneLabel};
 ghost use Rattle.domain_label.specs.Lending.{with_octets};
 ghost use Rattle.domain_label.specs.Spelling.{IsReadOnce};
 ghost use Rattle.domain_label.specs.Splitting.{BeginsWithLabel, SplitFault};
@@ -31,7 +32,9 @@ pub fn split_laws()
     ensures not_both { (o l rest : List ℕ) (e : SplitLabelError) → BeginsWithLabel o l rest → SplitFault o e → ⊥ }
 {}
 
-/// Each text is read in exactly one way, as symbols and at most a broken escape behind them.
+/// Each text is read in exactly one way, as symbols and at most a broken escape behind them; and it is
+/// the text of exactly one label, or has exactly one fault, never both.
 pub fn scan_laws()
-    ensures { (cs : List ℕ) → IsReadOnce cs }
+    ensures symbols { (cs : List ℕ) → IsReadOnce cs }
+    ensures labels { (cs : List ℕ) → OneLabel cs }
 {}

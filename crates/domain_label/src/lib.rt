@@ -5,6 +5,7 @@ pub mod compose;
 mod escape;
 pub mod label;
 pub mod label_mut;
+pub mod label_text;
 pub mod laws;
 pub mod order;
 pub mod owned;
@@ -17,6 +18,7 @@ mod whole;
 
 pub use label::{Label, LongLabelError};
 pub use label_mut::LabelMut;
+pub use label_text::{LabelFromStrError, LabelFromStrErrorKind};
 pub use owned::OwnedLabel;
 pub use slice_labels::SliceLabelsIter;
 pub use split::{LabelTypeError, SplitLabelError};
