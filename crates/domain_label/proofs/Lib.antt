@@ -1,6 +1,9 @@
+mod LabelReading
 mod LowLemmas
 mod OwnedLemmas
 mod OwnedMemory
+pub mod ReadOnce
+pub mod Scanning
 pub mod Shapes
 pub mod SplitLaws
 mod WalkLemmas

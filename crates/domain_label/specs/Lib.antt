@@ -8,3 +8,6 @@ pub mod Hex
 pub mod Told
 pub mod Views
 pub mod Lending
+pub mod Spelling
+pub mod Scanning
+pub mod LabelText

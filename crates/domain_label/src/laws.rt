@@ -1,6 +1,8 @@
 //! Laws of the definitions.
 ghost use Rattle.std.specs.Prelude.{◌≡◌, ℕ, List, length};
+ghost use Rattle.domain_label.specs.LabelText.{OneLabel};
 ghost use Rattle.domain_label.specs.Lending.{with_octets};
+ghost use Rattle.domain_label.specs.Spelling.{IsReadOnce};
 ghost use Rattle.domain_label.specs.Splitting.{BeginsWithLabel, SplitFault};
 ghost use Rattle.domain_label.specs.Views.{owned_octets};
 ghost use Rattle.domain_label.specs.Wire.{wire, labels_in, IsAbsolute, IsRelative};
@@ -28,4 +30,11 @@ pub fn split_laws()
     ensures one_label { (o a b r s : List ℕ) → BeginsWithLabel o a r → BeginsWithLabel o b s → (a ≡ b) × (r ≡ s) }
     ensures one_fault { (o : List ℕ) (d e : SplitLabelError) → SplitFault o d → SplitFault o e → d ≡ e }
     ensures not_both { (o l rest : List ℕ) (e : SplitLabelError) → BeginsWithLabel o l rest → SplitFault o e → ⊥ }
+{}
+
+/// Each text is read in exactly one way, as symbols and at most a broken escape behind them; and it is
+/// the text of exactly one label, or has exactly one fault, never both.
+pub fn scan_laws()
+    ensures symbols { (cs : List ℕ) → IsReadOnce cs }
+    ensures labels { (cs : List ℕ) → OneLabel cs }
 {}

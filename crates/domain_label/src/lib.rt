@@ -1,17 +1,24 @@
-//! Labels: what names are made of.
+//! Labels, what names are made of, and the symbols of their text.
 #![tactic(auto)]
 
 pub mod compose;
+mod escape;
 pub mod label;
 pub mod label_mut;
+pub mod label_text;
 pub mod laws;
 pub mod order;
 pub mod owned;
+pub mod scan;
 pub mod slice_labels;
 pub mod split;
+mod symbol;
+mod symbols;
+mod whole;
 
 pub use label::{Label, LongLabelError};
 pub use label_mut::LabelMut;
+pub use label_text::{LabelFromStrError, LabelFromStrErrorKind};
 pub use owned::OwnedLabel;
 pub use slice_labels::SliceLabelsIter;
 pub use split::{LabelTypeError, SplitLabelError};

@@ -1,8 +1,9 @@
 //! A label that owns its octets.
-ghost use Rattle.std.specs.Prelude.{◌≡◌, ◌≤◌, Some, take, drop};
+ghost use Rattle.std.specs.Prelude.{◌≡◌, ◌≤◌, ℕ, List, Some, take, drop};
 ghost use Rattle.std.specs.Borrow.{sem};
 ghost use Rattle.std.specs.Cmp.{partial_order_from_own_ties};
 ghost use Rattle.std.specs.Cmp.Rules.{comparing};
+ghost use Rattle.std.specs.Iterator.{AlwaysYields, IsFinite};
 ghost use Rattle.std.specs.Ordering.{on, as_partial_cmp};
 ghost use Rattle.std.proofs.Common.{rules};
 ghost use Rattle.domain_label.specs.Facts.{feeds_alike};
@@ -12,9 +13,12 @@ ghost use Rattle.domain_label.specs.Wire.{wire_label};
 
 use crate::label::Label;
 use crate::label_mut::LabelMut;
+use crate::label_text::{LabelFromStrError, LabelFromStrErrorKind, next_octet};
+use arrayvec::ArrayVec;
 use std::cmp::Ordering;
 use std::fmt;
 use std::hash::{Hash, Hasher};
+use std::str::FromStr;
 
 /// A label that owns its octets, in its wire form.
 #[derive(Clone, Copy)]
@@ -25,6 +29,7 @@ pub struct OwnedLabel {
 }
 
 impl OwnedLabel {
+    ghost use Rattle.domain_label.specs.LabelText.{ReadsLabel};
     ghost use Rattle.domain_label.specs.Lending.{LendsLabel, LendsOctets};
     ghost use Rattle.domain_label.specs.Views.{label_octets, label_mut_octets, owned_octets};
 
@@ -37,6 +42,37 @@ impl OwnedLabel {
         wire[0] = octets.len() as u8;
         wire[1..octets.len() + 1].copy_from_slice(octets);
         OwnedLabel { wire }
+    }
+
+    /// Reads a label from text (RFC 1035, 5.1). The empty text is that of the root label.
+    ///
+    /// A character from space to tilde stands for itself, but for dot and backslash. A backslash and three
+    /// decimal digits of value at most 255 are that octet, and one before an ASCII character that isn't a
+    /// digit is that character, a control character too.
+    ///
+    /// The first fault decides. Any other character, and a plain dot, is `BadSymbol`. A broken escape is
+    /// `SymbolChars`: `ShortInput` where the text ends inside it, else `BadEscape`. `\[` at the start is
+    /// `BinaryLabel`. Anything behind 63 octets is `LongLabel`, before it is looked at. By
+    /// `laws::scan_laws` each text is that of one label or has one fault, so the answer is just that.
+    pub fn from_chars<I: Iterator<Item = char> + Drop>(
+        chars: I,
+    ) -> Result<OwnedLabel, LabelFromStrError>
+        requires can { I.can_next chars }
+        requires ends { IsFinite (I.remaining chars) }
+        ensures { (cs : List ℕ) → AlwaysYields I.next_gives (λ c. c) chars cs → ReadsLabel cs result }
+    {
+        let mut chars = chars;
+        let mut octets = ArrayVec::<u8, 63>::new();
+        while let Some(c) = chars.next() {
+            if octets.len() >= Label::MAX_LEN {
+                return Err(LabelFromStrErrorKind::LongLabel.into());
+            }
+            match next_octet(c, octets.is_empty(), &mut chars) {
+                Ok(octet) => octets.push(octet),
+                Err(kind) => return Err(kind.into()),
+            }
+        }
+        Ok(OwnedLabel::from_label(Label::of_short(octets.as_slice())))
     }
 
     /// Makes A to Z a to z, in place (RFC 4034, 6.2).
@@ -92,6 +128,20 @@ impl<'a> From<Label<'a>> for OwnedLabel {
 
     fn from(label: Label<'a>) -> OwnedLabel {
         OwnedLabel::from_label(label)
+    }
+}
+
+/// By `from_chars`.
+impl FromStr for OwnedLabel {
+    ghost use Rattle.std.specs.Str.{chars};
+    ghost use Rattle.domain_label.specs.LabelText.{ReadsLabel};
+
+    type Err = LabelFromStrError;
+
+    ghost from_str_gives = { λ text result. ReadsLabel (chars text) result };
+
+    fn from_str(s: &str) -> Result<OwnedLabel, LabelFromStrError> {
+        OwnedLabel::from_chars(s.chars())
     }
 }
 

@@ -1,0 +1,62 @@
+-- What an iterator over the symbols of a text gives.
+use Rattle.std.specs.Prelude.{◌≡◌, ℕ, Bool, true, false, List, [], ◌∷◌, ◌++◌, Option, Some, None, Result, Ok, Err}
+use Rattle.std.specs.Iterator.{AlwaysYields, IsFinite, Count}
+use Rattle.domain_label.specs.declared.symbol.Symbol.{Symbol}
+use Rattle.domain_label.specs.declared.symbol.SymbolCharsError.{SymbolCharsError}
+use Rattle.domain_label.specs.declared.symbols.Symbols.{Symbols}
+use Rattle.domain_label.specs.declared.whole.WholeSymbols.{WholeSymbols}
+use Rattle.domain_label.specs.declared.symbol.SymbolCharsError.TheVariants.{ShortInput, BadEscape}
+use Rattle.domain_label.specs.Spelling.{spelling, HasSpelling, IsBroken, IsDigit, IsNoDigit}
+use Rattle.domain_label.specs.LabelText.{IsLabelSymbol, IsBrokenInLabel, BeginsWithOctet, NoOctet}
+use Rattle.domain_label.specs.declared.label_text.LabelFromStrErrorKind.{LabelFromStrErrorKind}
+
+abbrev pub is_done : {I : Type 0} → Symbols I → Bool
+is_done s = s.done
+
+abbrev pub chars_of : {I : Type 0} → Symbols I → I
+chars_of s = s.chars
+
+-- What a call gives where the characters cs are left, and whether the text is done.
+abbrev pub Gives : {I : Type 0} → (I → Option ℕ → I → Type 0) → List ℕ → Option (Result Symbol SymbolCharsError) → I → Bool → Type 0
+Gives steps cs None left done = (cs ≡ []) × (done ≡ true)
+Gives steps cs (Some (Err e)) left done = IsBroken cs e × (done ≡ true)
+Gives steps cs (Some (Ok s)) left done = HasSpelling s × (done ≡ false) × ((rest : List ℕ) × (cs ≡ spelling s ++ rest) × AlwaysYields steps (λ c. c) left rest)
+
+-- A call gives what the characters that are left begin with, and nothing once the text is done.
+pub record SymbolSteps {I : Type 0} (steps : I → Option ℕ → I → Type 0) (s : Symbols I) (r : Option (Result Symbol SymbolCharsError)) (t : Symbols I) : Type 0 where
+  pub over : s.done ≡ true → (r ≡ None) × (t.done ≡ true)
+  pub on : s.done ≡ false → (cs : List ℕ) → AlwaysYields steps (λ c. c) s.chars cs → Gives steps cs r t.chars t.done
+
+-- The source may be called, and ends.
+abbrev pub CanScan : {I : Type 0} → (I → Type 0) → (I → Count) → Symbols I → Type 0
+CanScan can left s = s.done ≡ false → can s.chars × IsFinite (left s.chars)
+
+-- What was read of an escape, and what is left.
+abbrev pub GivesEscape : {I : Type 0} → (I → Option ℕ → I → Type 0) → List ℕ → Result Symbol SymbolCharsError → I → Type 0
+GivesEscape steps cs (Err e) left = IsBroken (92 ∷ cs) e
+GivesEscape steps cs (Ok s) left = HasSpelling s × ((rest : List ℕ) × (92 ∷ cs ≡ spelling s ++ rest) × AlwaysYields steps (λ c. c) left rest)
+
+-- What was read of a digit that continues an escape, and what is left.
+abbrev pub GivesDigit : {I : Type 0} → (I → Option ℕ → I → Type 0) → List ℕ → Result ℕ SymbolCharsError → I → Type 0
+GivesDigit steps cs (Err ShortInput) left = cs ≡ []
+GivesDigit steps cs (Err BadEscape) left = (c : ℕ) × (rest : List ℕ) × (cs ≡ c ∷ rest) × IsNoDigit c
+GivesDigit steps cs (Ok d) left = IsDigit d × ((rest : List ℕ) × (cs ≡ d ∷ rest) × AlwaysYields steps (λ c. c) left rest)
+
+abbrev pub symbols_of : {I : Type 0} → WholeSymbols I → I
+symbols_of s = s.symbols
+
+-- A call gives the next of the symbols.
+abbrev pub WholeSteps : {I : Type 0} → (I → Option Symbol → I → Type 0) → WholeSymbols I → Option (Result Symbol SymbolCharsError) → WholeSymbols I → Type 0
+WholeSteps steps s None t = steps s.symbols None t.symbols
+WholeSteps steps s (Some (Ok x)) t = steps s.symbols (Some x) t.symbols
+WholeSteps steps s (Some (Err e)) t = ⊥
+
+-- What was read of an escape in the text of a label, and what is left.
+abbrev pub GivesLabelEscape : {I : Type 0} → (I → Option ℕ → I → Type 0) → List ℕ → Result Symbol SymbolCharsError → I → Type 0
+GivesLabelEscape steps cs (Err e) left = IsBrokenInLabel (92 ∷ cs) e
+GivesLabelEscape steps cs (Ok s) left = IsLabelSymbol s × ((rest : List ℕ) × (92 ∷ cs ≡ spelling s ++ rest) × AlwaysYields steps (λ c. c) left rest)
+
+-- What was read of the octet that a text begins with, and what is left.
+abbrev pub GivesOctet : {I : Type 0} → (I → Option ℕ → I → Type 0) → Bool → List ℕ → Result ℕ LabelFromStrErrorKind → I → Type 0
+GivesOctet steps start cs (Err why) left = NoOctet start cs why
+GivesOctet steps start cs (Ok c) left = (rest : List ℕ) × BeginsWithOctet start cs c rest × AlwaysYields steps (λ c. c) left rest

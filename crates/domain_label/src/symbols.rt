@@ -1,0 +1,64 @@
+//! An iterator over the symbols of a text.
+ghost use Rattle.std.specs.Prelude.{◌≡◌, ℕ, List, Result, false};
+ghost use Rattle.std.specs.Iterator.{AlwaysYields, IsFinite, count_unless};
+ghost use Rattle.domain_label.specs.declared.symbol.Symbol.{Symbol};
+ghost use Rattle.domain_label.specs.declared.symbol.SymbolCharsError.{SymbolCharsError};
+ghost use Rattle.domain_label.specs.Spelling.{Reads};
+ghost use Rattle.domain_label.specs.Scanning.{SymbolSteps, CanScan, is_done, chars_of};
+
+use crate::escape::escape;
+use crate::symbol::{Symbol, SymbolCharsError};
+
+/// The symbols of a text, in order (RFC 1035, 5.1). Each text has exactly one reading, by
+/// `laws::scan_laws`.
+///
+/// A broken escape is an error, and the last item: `ShortInput` where the text ends inside it, `BadEscape`
+/// at the first character that breaks it or behind three digits whose value is over 255.
+#[derive(Drop)]
+pub struct Symbols<I> {
+    chars: I,
+    done: bool,
+}
+
+impl<I: Iterator<Item = char> + Drop> Symbols<I> {
+    /// The symbols that the characters spell. Nothing is read yet.
+    #[inline(always)]
+    pub fn new(chars: I) -> Self
+        ensures items { (cs : List ℕ) (items : List (Result Symbol SymbolCharsError)) → AlwaysYields I.next_gives (λ c. c) chars cs → Reads cs items → AlwaysYields (SymbolSteps I.next_gives) (λ x. x) result items }
+        ensures can { I.can_next chars → IsFinite (I.remaining chars) → CanScan I.can_next I.remaining result }
+        ensures ends { IsFinite (I.remaining chars) → IsFinite (count_unless (is_done result) (I.remaining (chars_of result))) }
+    {
+        Symbols { chars, done: false }
+    }
+}
+
+impl<I: Iterator<Item = char> + Drop> Iterator for Symbols<I> {
+    type Item = Result<Symbol, SymbolCharsError>;
+
+    ghost can_next = { CanScan I.can_next I.remaining };
+
+    ghost next_gives = { SymbolSteps I.next_gives };
+
+    ghost remaining = { λ s. count_unless (is_done s) (I.remaining (chars_of s)) };
+
+    #[inline(always)]
+    fn next(&mut self) -> Option<Result<Symbol, SymbolCharsError>> {
+        if self.done {
+            return None;
+        }
+        match self.chars.next() {
+            None => {
+                self.done = true;
+                None
+            }
+            Some('\\') => match escape(&mut self.chars) {
+                Ok(symbol) => Some(Ok(symbol)),
+                Err(error) => {
+                    self.done = true;
+                    Some(Err(error))
+                }
+            },
+            Some(c) => Some(Ok(Symbol::Char(c))),
+        }
+    }
+}
