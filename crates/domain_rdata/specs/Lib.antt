@@ -1,0 +1,4 @@
+pub mod FlatNames
+pub mod ReadBack
+pub mod RecordData
+pub mod Rtypes
