@@ -2,6 +2,7 @@
 #![tactic(auto)]
 
 pub mod compose;
+pub mod hex;
 pub mod label;
 pub mod label_mut;
 pub mod laws;

@@ -1,5 +1,8 @@
 //! What record data is read and composed by (RFC 1035, 3.2.1).
-ghost use Rattle.std.specs.Prelude.{◌≡◌, ℕ, ◌++◌, ◌+◌, ◌<◌, ◌≤◌, List, length, take, drop, OnOk, OnErr, IfSome, IfErr, Bool, false, Option, Some, None, codes};
+ghost use Rattle.std.specs.Prelude.{◌≡◌, ℕ, ◌++◌, ◌+◌, ◌<◌, ◌≤◌, List, length, take, drop, ◌↔◌, OnOk, OnErr, IfSome, IfOk, IfErr, IsNone, Bool, false, Some};
+ghost use Rattle.octseq.specs.Parsing.{message, place, MovesTo};
+ghost use Rattle.domain_wire.specs.Values.{IsReading};
+ghost use Rattle.domain_wire.specs.declared.error.ParseError.{ParseError};
 ghost use Rattle.std.specs.Int.{w16, to_be_bytes};
 ghost use Rattle.domain_rdata.specs.ReadBack.{Appended, Exceeds};
 ghost use Rattle.domain_rdata.specs.RecordData.{LengthAndData, LengthAndCanonical, ComposeRefused, CanonicalRefused};
@@ -8,6 +11,8 @@ ghost use Rattle.domain_rdata.specs.Rtypes.{rtype_number};
 use crate::composer::Composer;
 use crate::long::LongRecordData;
 use crate::rtype::Rtype;
+use domain_wire::ParseError;
+use octseq::Parser;
 use std::error::Error;
 use std::fmt;
 
@@ -210,4 +215,68 @@ impl<T: ComposeRecordData> ComposeRecordData for &T {
     ) -> Result<(), Target::AppendError> {
         (**self).compose_canonical_rdata(target)
     }
+}
+
+/// Record data that is read from a message, of the types that it is made for.
+pub trait ParseRecordData<'a>: RecordData + Sized {
+    /// What contracts see of the data.
+    ghost View: { Type 0 };
+
+    /// What contracts see of this data.
+    ghost seen: { Self → View };
+
+    /// Whether records of the type with this number have such data.
+    ghost reads_type: { ℕ → Bool };
+
+    /// Data of this type that is seen so stands in the octets at the first place, and the second place
+    /// is behind it.
+    ghost stands: { ℕ → List ℕ → ℕ → View → ℕ → Type 0 };
+
+    /// No data of this type stands in the octets at the place, and the error tells why.
+    ghost fails: { ℕ → List ℕ → ℕ → ParseError → Type 0 };
+
+    /// Reads data from the place of the parser on, to its end, and moves the parser behind it.
+    ///
+    /// `None` exactly where records of this type have other data. `None` and a refusal leave the parser
+    /// where it stood.
+    fn parse_rdata(rtype: Rtype, parser: &mut Parser<'a>) -> Result<Option<Self>, ParseError>
+        ensures ok { IfOk result (λ read. IfSome read (λ it. stands (rtype_number rtype) (message parser.old) (place parser.old) (seen it) (place parser.new))) }
+        ensures of_type { IfOk result (λ read. IfSome read (λ it. Self.type_number it ≡ rtype_number rtype)) }
+        ensures none { IfOk result (λ read. IsNone read ↔ (reads_type (rtype_number rtype) ≡ false)) }
+        ensures passed { IfOk result (λ read. IsNone read → parser.new ≡ parser.old) }
+        ensures moves { OnOk result (MovesTo parser.old parser.new (place parser.new)) }
+        ensures refused { IfErr result (λ e. fails (rtype_number rtype) (message parser.old) (place parser.old) e) }
+        ensures err { OnErr result (parser.new ≡ parser.old) };
+
+    /// At each place stands one value or one fault is told, and never both.
+    ghost lawful: { (rtype : ℕ) → IsReading (stands rtype) (fails rtype) };
+}
+
+/// Record data that is read from a message whatever its type.
+pub trait ParseAnyRecordData<'a>: RecordData + Sized {
+    /// What contracts see of the data.
+    ghost View: { Type 0 };
+
+    /// What contracts see of this data.
+    ghost seen: { Self → View };
+
+    /// Data of this type that is seen so stands in the octets at the first place, and the second place
+    /// is behind it.
+    ghost stands: { ℕ → List ℕ → ℕ → View → ℕ → Type 0 };
+
+    /// No data of this type stands in the octets at the place, and the error tells why.
+    ghost fails: { ℕ → List ℕ → ℕ → ParseError → Type 0 };
+
+    /// Reads data from the place of the parser on, to its end, and moves the parser behind it.
+    ///
+    /// A refusal leaves the parser where it stood.
+    fn parse_any_rdata(rtype: Rtype, parser: &mut Parser<'a>) -> Result<Self, ParseError>
+        ensures ok { IfOk result (λ it. stands (rtype_number rtype) (message parser.old) (place parser.old) (seen it) (place parser.new)) }
+        ensures of_type { IfOk result (λ it. Self.type_number it ≡ rtype_number rtype) }
+        ensures moves { OnOk result (MovesTo parser.old parser.new (place parser.new)) }
+        ensures refused { IfErr result (λ e. fails (rtype_number rtype) (message parser.old) (place parser.old) e) }
+        ensures err { OnErr result (parser.new ≡ parser.old) };
+
+    /// At each place stands one value or one fault is told, and never both.
+    ghost lawful: { (rtype : ℕ) → IsReading (stands rtype) (fails rtype) };
 }
