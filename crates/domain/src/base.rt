@@ -2,6 +2,7 @@
 
 /// Reading from and writing to messages.
 pub mod wire {
+    pub use domain_rdata::Composer;
     pub use domain_wire::compose::{Compose, compose_vec};
     pub use domain_wire::error::{FormError, ParseError};
     pub use domain_wire::parse::{Parse, parse_slice};
@@ -37,5 +38,23 @@ pub mod name {
     pub use domain_parsed::{ParsedName, ParsedNameIter, ParsedSuffixIter};
     pub use domain_traits::{
         FlattenInto, MakeChain, MakeName, MakeRelativeName, ToName, ToRelativeName,
+    };
+}
+
+/// Serial numbers.
+pub mod serial {
+    pub use domain_serial::{IllegalSignatureTime, Serial};
+}
+
+/// The canonical order of values.
+pub mod cmp {
+    pub use domain_wire::cmp::CanonicalOrd;
+}
+
+/// Record data.
+pub mod rdata {
+    pub use domain_rdata::{
+        ComposeRdataError, ComposeRecordData, LongRecordData, ParseAnyRecordData, ParseRecordData,
+        RecordData, Rtype, UnknownRecordData,
     };
 }

@@ -4,7 +4,10 @@
 pub mod base;
 #[cfg(test)]
 mod callers;
+mod entry;
 mod line;
+mod list;
+pub mod section;
 #[cfg(test)]
 mod tests;
 pub mod tool;

@@ -48,7 +48,7 @@ impl fmt::Display for ToolError {
 impl Error for ToolError {}
 
 /// Reads the input to its end.
-fn read_all<R: Read>(alloc: Global, input: &mut R) -> Result<Vec<u8>, ToolError>
+pub(crate) fn read_all<R: Read>(alloc: Global, input: &mut R) -> Result<Vec<u8>, ToolError>
     ensures octets { IfOk result (λ octets. IfSome (R.remaining input.old) (λ m. octets.items ≡ m)) }
     ensures whole { OnOk result (IsAtEnd (R.remaining input.new)) }
     ensures err { IfErr result (λ e. (e ≡ ToolError.Read) ⊎ (e ≡ ToolError.Memory)) }
@@ -75,7 +75,7 @@ fn read_name(message: &[u8], place: u32) -> Result<ParsedName<&[u8]>, ParseError
 
 /// Why a text wasn't written.
 #[derive(Clone, Copy)]
-enum WriteFault {
+pub(crate) enum WriteFault {
     Refused,
     Memory,
 }
@@ -95,7 +95,10 @@ impl From<WriteFault> for ToolError {
 
 /// Writes a text and a newline. They are put together on the stack and written by one call, without any
 /// memory; a longer line is written piece by piece.
-fn write_line<D: fmt::Display + Drop, W: Write>(output: &mut W, text: D) -> Result<(), WriteFault>
+pub(crate) fn write_line<D: fmt::Display + Drop, W: Write>(
+    output: &mut W,
+    text: D,
+) -> Result<(), WriteFault>
     ensures { OnOk result (IfSome (D.output text) (λ shown. Appends (W.contents output.old) (W.contents output.new) (shown ++ 10 ∷ []))) }
 {
     let written = match line_of(&text) {
