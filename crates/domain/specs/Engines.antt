@@ -6,17 +6,13 @@ use Rattle.domain_wire.specs.declared.error.ParseError.{ParseError}
 use Rattle.domain_wire.specs.Refusals.{refusal, refusal_text}
 use Rattle.domain_label.specs.Text.{dotted}
 use Rattle.domain_reading.specs.Grammar.{Names}
-use Rattle.domain_reading.specs.Outcomes.{HasNoName}
+pub use Rattle.domain.specs.NameFaults.{NoNameAt}
 use Rattle.domain.specs.declared.tool.ToolError.{ToolError}
 use Rattle.domain.specs.declared.tool.ToolError.TheVariants.{Parse, Read, Write, Memory}
 
 -- The name at p in m was written, with a final dot and a newline, and nothing else.
 abbrev pub WritesNameAt : List ℕ → ℕ → Option (List ℕ) → Option (List ℕ) → Type 0
 WritesNameAt m p old new = (ls : List (List ℕ)) × Names 255 m p ls × Appends old new (dotted ls ++ 10 ∷ [])
-
--- No name is at p in m, and the error tells the fault.
-abbrev pub NoNameAt : List ℕ → ℕ → ParseError → Type 0
-NoNameAt m p e = HasNoName 255 m p (refusal e)
 
 -- The engine answered: it did its work, or the input isn't what is asked for.
 abbrev pub OnAnswer : Result (Unit {0}) ToolError → Type 0 → Type 0

@@ -1,1 +1,6 @@
 pub mod Engines
+pub mod Lines
+pub mod NameFaults
+pub mod Entries
+pub mod Written
+pub mod Counted

@@ -2,6 +2,7 @@
 
 /// Reading from and writing to messages.
 pub mod wire {
+    pub use domain_rdata::Composer;
     pub use domain_wire::compose::{Compose, compose_vec};
     pub use domain_wire::error::{FormError, ParseError};
     pub use domain_wire::parse::{Parse, parse_slice};
@@ -28,6 +29,7 @@ pub mod name {
     pub use domain_flat::iter::NameIter;
     pub use domain_label::label::{Label, LongLabelError};
     pub use domain_label::label_mut::LabelMut;
+    pub use domain_label::label_text::{LabelFromStrError, LabelFromStrErrorKind};
     pub use domain_label::owned::OwnedLabel;
     pub use domain_label::slice_labels::SliceLabelsIter;
     pub use domain_label::split::{LabelTypeError, SplitLabelError};
@@ -43,4 +45,27 @@ pub mod name {
     pub use domain_name::suffixes::SuffixIter;
     pub use domain_parsed::{ParsedName, ParsedNameIter, ParsedSuffixIter};
     pub use domain_traits::{FlattenInto, FlattenName, ToName, ToRelativeName};
+}
+
+/// Serial numbers.
+pub mod serial {
+    pub use domain_serial::{IllegalSignatureTime, Serial};
+}
+
+/// The canonical order of values.
+pub mod cmp {
+    pub use domain_wire::cmp::CanonicalOrd;
+}
+
+/// Record data.
+pub mod rdata {
+    pub use domain_rdata::{
+        ComposeRdataError, ComposeRecordData, LongRecordData, ParseAnyRecordData, ParseRecordData,
+        RecordData, Rtype, UnknownRecordData,
+    };
+}
+
+/// Symbols of presentation text (RFC 1035, 5.1).
+pub mod scan {
+    pub use domain_label::scan::{BadSymbol, Symbol, SymbolCharsError, Symbols};
 }

@@ -2,5 +2,8 @@
 #![tactic(auto)]
 
 pub mod base;
+mod entry;
 mod line;
+mod list;
+pub mod section;
 pub mod tool;

@@ -7,6 +7,8 @@ ghost use Rattle.domain_parsed.specs.Views.{parsed_labels};
 ghost use Rattle.domain.specs.Engines.{AsksAt, IfRefused, NoNameAt, OnAnswer, OnNoWork, TellsPlace, WritesNameAt};
 ghost use Rattle.domain_wire.specs.declared.error.ParseError.{ParseError};
 
+pub use crate::list::list;
+
 use crate::base::name::{DisplayWithDot, ParsedName};
 use crate::base::wire::ParseError;
 use crate::line::line_of;
@@ -48,7 +50,7 @@ impl fmt::Display for ToolError {
 impl Error for ToolError {}
 
 /// Reads the input to its end.
-fn read_all<R: Read>(alloc: Global, input: &mut R) -> Result<Vec<u8>, ToolError>
+pub(crate) fn read_all<R: Read>(alloc: Global, input: &mut R) -> Result<Vec<u8>, ToolError>
     ensures octets { IfOk result (λ octets. IfSome (R.remaining input.old) (λ m. octets.items ≡ m)) }
     ensures whole { OnOk result (IsAtEnd (R.remaining input.new)) }
     ensures err { IfErr result (λ e. (e ≡ ToolError.Read) ⊎ (e ≡ ToolError.Memory)) }
@@ -75,7 +77,7 @@ fn parse_at(message: &[u8], place: u32) -> Result<ParsedName<&[u8]>, ParseError>
 
 /// Why a text wasn't written.
 #[derive(Clone, Copy)]
-enum WriteFault {
+pub(crate) enum WriteFault {
     Refused,
     Memory,
 }
@@ -95,7 +97,10 @@ impl From<WriteFault> for ToolError {
 
 /// Writes a text and a newline. They are put together on the stack and written by one call, without any
 /// memory; a longer line is written piece by piece.
-fn write_line<D: fmt::Display + Drop, W: Write>(output: &mut W, text: D) -> Result<(), WriteFault>
+pub(crate) fn write_line<D: fmt::Display + Drop, W: Write>(
+    output: &mut W,
+    text: D,
+) -> Result<(), WriteFault>
     ensures { OnOk result (IfSome (D.output text) (λ shown. Appends (W.contents output.old) (W.contents output.new) (shown ++ 10 ∷ []))) }
 {
     let written = match line_of(&text) {

@@ -3,6 +3,7 @@
 
 pub mod compose;
 mod escape;
+pub mod hex;
 pub mod label;
 pub mod label_mut;
 pub mod label_text;

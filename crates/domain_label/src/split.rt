@@ -1,7 +1,7 @@
 //! Why octets begin with no label.
-ghost use Rattle.std.specs.Prelude.{◌≡◌, ◌<◌, Some, codes};
-ghost use Rattle.domain_label.specs.Hex.{hex_digit};
+ghost use Rattle.std.specs.Prelude.{◌≡◌, Some, codes};
 
+use crate::hex::hex_digit;
 use domain_wire::ParseError;
 use std::error::Error;
 use std::fmt;
@@ -34,18 +34,6 @@ impl fmt::Display for LabelTypeError {
 }
 
 impl Error for LabelTypeError {}
-
-/// A digit from 0 to 9 or a to f.
-fn hex_digit(digit: u8) -> char
-    requires { digit < 16 }
-    ensures { result ≡ hex_digit digit }
-{
-    if digit < 10 {
-        (digit + b'0') as char
-    } else {
-        (digit - 10 + b'a') as char
-    }
-}
 
 /// Why octets begin with no whole label.
 #[derive(Clone, Copy, Debug, PartialEq, Eq)]

@@ -11,6 +11,7 @@ ghost use Rattle.domain_list.specs.Order.{order, same_name};
 use crate::parsed::ParsedName;
 use domain_list::comparing::{order_labels, same_labels};
 use domain_list::hashing::hash_labels;
+use domain_wire::CanonicalOrd;
 use octseq::Octets;
 use std::cmp::Ordering;
 use std::hash::{Hash, Hasher};
@@ -60,6 +61,19 @@ impl<Octs: Octets> PartialOrd for ParsedName<Octs> {
 
     fn partial_cmp(&self, other: &ParsedName<Octs>) -> Option<Ordering> {
         Some(self.cmp(other))
+    }
+}
+
+/// The canonical order of names is that of `Ord` (RFC 4034, 6.1).
+impl<Octs: Octets> CanonicalOrd for ParsedName<Octs> {
+    ghost use Rattle.domain_parsed.specs.Views.{parsed_labels};
+
+    ghost canonical_order = { on parsed_labels order };
+
+    ghost total = { on_total parsed_labels order_is_total };
+
+    fn canonical_cmp(&self, other: &ParsedName<Octs>) -> Ordering {
+        self.cmp(other)
     }
 }
 

@@ -1,12 +1,14 @@
 //! Values on the wire: how they are read and written, and why a reading fails.
 #![tactic(auto)]
 
+pub mod cmp;
 pub mod compose;
 pub mod error;
 pub mod laws;
 pub mod net;
 pub mod parse;
 
+pub use cmp::CanonicalOrd;
 pub use compose::{Compose, compose_vec};
 pub use error::{FormError, ParseError};
 pub use net::{IpAddr, Ipv4Addr, Ipv6Addr};

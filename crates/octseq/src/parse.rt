@@ -2,7 +2,7 @@
 //!
 //! Contracts speak of a parser by the words of `specs/Parsing.antt`: the octets up to its end, its
 //! place in them, and the octets that are left.
-ghost use Rattle.std.specs.Prelude.{◌≡◌, ◌<◌, ◌≤◌, ◌↔◌, length, take, IfOk, IsErr, OnOk, OnErr, Some, codes};
+ghost use Rattle.std.specs.Prelude.{◌≡◌, ◌+◌, ◌<◌, ◌≤◌, ◌↔◌, length, take, IfOk, IsErr, OnOk, OnErr, Some, codes};
 ghost use Rattle.std.specs.Int.{w8, w16, w32, w64, from_be_bytes, cast_signed};
 
 use std::error::Error;
@@ -163,6 +163,23 @@ impl<'a> Parser<'a> {
         let octets = self.peek(n)?;
         self.pos += octets.len();
         Ok(octets)
+    }
+
+    /// A parser over the next `n` octets, and goes over them.
+    ///
+    /// Its places count from the start of the same slice. `ShortInput` where fewer are left.
+    pub fn parse_parser(&mut self, n: usize) -> Result<Parser<'a>, ShortInput>
+        ensures whole { IfOk result (λ part. whole part ≡ whole self.old) }
+        ensures message { IfOk result (λ part. message part ≡ take (place self.old + n) (message self.old)) }
+        ensures place { IfOk result (λ part. place part ≡ place self.old) }
+        ensures moves { OnOk result (MovesOver self.old self.new n) }
+        ensures short { IsErr result ↔ LacksOctets self.old n }
+        ensures err { OnErr result (self.new ≡ self.old) }
+    {
+        let mut part = *self;
+        self.advance(n)?;
+        part.end = self.pos;
+        Ok(part)
     }
 
     /// Fills a buffer with the next octets.

@@ -1,0 +1,2 @@
+pub mod WireForms
+pub mod Lengths

@@ -1,0 +1,7 @@
+pub mod AnyData
+pub mod FlatNames
+pub mod ReadBack
+pub mod RecordData
+pub mod Rtypes
+pub mod Unknown
+pub mod UnknownReading

@@ -1,0 +1,56 @@
+-- What composing record data may append.
+use Rattle.std.specs.Prelude.{◌≡◌, ℕ, ◌+◌, ◌<◌, ◌≤◌, Bool, false, List, ◌++◌, length, codes}
+use Rattle.std.specs.Int.{w16, to_be_bytes}
+use Rattle.domain_rdata.specs.declared.record_data.ComposeRdataError.{ComposeRdataError}
+use Rattle.domain_rdata.specs.declared.record_data.ComposeRdataError.TheVariants.{Append, Long}
+use Rattle.domain_label.specs.Wire.{wire}
+use Rattle.domain_rdata.specs.ReadBack.{ReadsBack}
+
+-- The octets of a name behind t: those of the wire form, and where names may be written shorter, any that
+-- are read back as an equal name and are no more.
+pub record NameOctets (ls : List (List ℕ)) (compresses : Bool) (t s : List ℕ) : Type 0 where
+  pub read : ReadsBack t ls s
+  pub flat : compresses ≡ false → s ≡ wire ls
+
+-- A length in two octets and then as many octets of data were appended.
+-- When the data was composed, two octets stood before it.
+pub record LengthAndData (May : List ℕ → List ℕ → Type 0) (old new : List ℕ) : Type 0 where
+  pub before : List ℕ
+  pub two : length before ≡ 2
+  pub octets : List ℕ
+  pub allowed : May (old ++ before) octets
+  pub few : length octets ≤ 65535
+  pub all : new ≡ old ++ to_be_bytes w16 (length octets) ++ octets
+
+-- Two octets, or these and data that may be composed, exceed the spare capacity.
+pub data ExceedsWithLength (May : List ℕ → List ℕ → Type 0) (old : List ℕ) (capacity : ℕ) : Type 0 where
+  no_length : capacity < length old + 2 → ExceedsWithLength May old capacity
+  no_data : (before s : List ℕ) → length before ≡ 2 → May (old ++ before) s → capacity < length old + 2 + length s → ExceedsWithLength May old capacity
+
+-- Data that may be composed has more octets than a length tells.
+pub record IsTooLong (May : List ℕ → List ℕ → Type 0) (old : List ℕ) : Type 0 where
+  pub before : List ℕ
+  pub two : length before ≡ 2
+  pub octets : List ℕ
+  pub allowed : May (old ++ before) octets
+  pub many : 65535 < length octets
+
+-- Why nothing was appended.
+abbrev pub ComposeRefused : {E : Type 0} → (List ℕ → List ℕ → Type 0) → List ℕ → ℕ → ComposeRdataError E → Type 0
+ComposeRefused May old capacity (Append e) = ExceedsWithLength May old capacity
+ComposeRefused May old capacity (Long _) = IsTooLong May old
+
+-- The length of the canonical form in two octets and then the form were appended.
+pub record LengthAndCanonical (form old new : List ℕ) : Type 0 where
+  pub few : length form ≤ 65535
+  pub all : new ≡ old ++ to_be_bytes w16 (length form) ++ form
+
+-- Why the canonical form wasn't appended with its length.
+abbrev pub CanonicalRefused : {E : Type 0} → List ℕ → List ℕ → ℕ → ComposeRdataError E → Type 0
+CanonicalRefused form old capacity (Append e) = capacity < length old + 2 + length form
+CanonicalRefused form old capacity (Long _) = 65535 < length form
+
+-- the text that tells why
+abbrev pub compose_error_text : {E : Type 0} → ComposeRdataError E → List ℕ
+compose_error_text (Append e) = codes "buffer size exceeded"
+compose_error_text (Long _) = codes "record data too long"

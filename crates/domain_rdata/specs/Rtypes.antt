@@ -1,0 +1,6 @@
+-- What contracts see of the type of a record: its number.
+use Rattle.std.specs.Prelude.{ℕ}
+use Rattle.domain_rdata.specs.declared.rtype.Rtype.{Rtype}
+
+abbrev pub rtype_number : Rtype → ℕ
+rtype_number rtype = rtype.0

@@ -1,0 +1,123 @@
+//! What messages are composed into.
+ghost use Rattle.std.specs.Prelude.{◌≡◌, ℕ, ◌++◌, ◌+◌, ◌<◌, ◌≤◌, List, length, OnOk, OnErr, Bool, false, refl};
+ghost use Rattle.domain_label.specs.Wire.{wire, labels_in, IsAbsoluteName, IsAbsoluteWire};
+ghost use Rattle.domain_rdata.specs.ReadBack.{ReadsBack, Appended, Exceeds};
+ghost use Rattle.domain_rdata.specs.FlatNames.{flat_reads_back};
+
+use arrayvec::ArrayVec;
+use domain_list::AbsoluteLabels;
+use domain_list::composing::compose_labels;
+use octseq::{OctetsBuilder, OctetsMut};
+
+/// The wire form of a name, put together on the stack.
+fn wire_octets<'a, N: AbsoluteLabels<'a>>(name: &'a N) -> ArrayVec<u8, 255>
+    ensures { result.items ≡ wire (N.labels name.now) }
+{
+    let mut octets = ArrayVec::new();
+    let Ok(()) = compose_labels(name.iter_labels(), &mut octets) else {
+        unreachable!();
+    };
+    octets
+}
+
+/// What a message is composed into. It may write a name shorter than its wire form, by a pointer to where
+/// an equal name was written before (RFC 1035, 4.1.4).
+pub trait Composer: OctetsBuilder + OctetsMut {
+    /// The octets that may be appended for the labels of an absolute name, given what was composed.
+    ghost may_append: { Self → List (List ℕ) → List ℕ → Type 0 };
+
+    /// Whether names may be written shorter than their wire form.
+    ghost compresses: { Bool };
+
+    /// Appends octets that may be appended for the name whose wire form is given, or nothing.
+    ///
+    /// It is refused only where such octets exceed the spare capacity, and the octets are then as before.
+    fn append_flat_name(&mut self, name: &[u8]) -> Result<(), Self::AppendError>
+        requires { IsAbsoluteWire name.now }
+        ensures ok { OnOk result (Appended (may_append self.old (labels_in name.now)) (Self.octets self.old) (Self.octets self.new)) }
+        ensures err { OnErr result (Self.octets self.new ≡ Self.octets self.old) }
+        ensures full { OnErr result (Exceeds (may_append self.old (labels_in name.now)) (Self.octets self.old) (Self.capacity self.old)) }
+        ensures capacity { Self.capacity self.old ≤ Self.capacity self.new };
+
+    /// Whether names may be written shorter than their wire form.
+    fn can_compress(&self) -> bool
+        ensures { result ≡ compresses };
+
+    /// Appends octets that may be appended for the name, or nothing.
+    ///
+    /// It is refused only where such octets exceed the spare capacity, and the octets are then as before.
+    final fn append_compressed_name<'a, N: AbsoluteLabels<'a>>(
+        &mut self,
+        name: &'a N,
+    ) -> Result<(), Self::AppendError>
+        ensures ok { OnOk result (Appended (may_append self.old (N.labels name.now)) (Self.octets self.old) (Self.octets self.new)) }
+        ensures err { OnErr result (Self.octets self.new ≡ Self.octets self.old) }
+        ensures full { OnErr result (Exceeds (may_append self.old (N.labels name.now)) (Self.octets self.old) (Self.capacity self.old)) }
+        ensures capacity { Self.capacity self.old ≤ Self.capacity self.new }
+    {
+        if let Some(octets) = name.as_flat_slice() {
+            return self.append_flat_name(octets);
+        }
+        self.append_flat_name(&wire_octets(name))
+    }
+
+    /// What may be appended is read as an equal name.
+    ghost reads_back: { (c : Self) (ls : List (List ℕ)) (s : List ℕ) → IsAbsoluteName ls → may_append c ls s → ReadsBack (Self.octets c) ls s };
+
+    /// Without compression it is the wire form.
+    ghost flat: { (c : Self) (ls : List (List ℕ)) (s : List ℕ) → compresses ≡ false → may_append c ls s → s ≡ wire ls };
+}
+
+impl Composer for Vec<u8> {
+    ghost may_append = { λ _ ls s. s ≡ wire ls };
+
+    ghost compresses = { false };
+
+    fn append_flat_name(&mut self, name: &[u8]) -> Result<(), Self::AppendError> {
+        self.append_slice(name)
+    }
+
+    fn can_compress(&self) -> bool {
+        false
+    }
+
+    ghost reads_back = { λ c ls s. flat_reads_back c.items ls s };
+
+    ghost flat = { λ _ _ _ _ h. h };
+}
+
+impl<const N: usize> Composer for ArrayVec<u8, N> {
+    ghost may_append = { λ _ ls s. s ≡ wire ls };
+
+    ghost compresses = { false };
+
+    fn append_flat_name(&mut self, name: &[u8]) -> Result<(), Self::AppendError> {
+        self.append_slice(name)
+    }
+
+    fn can_compress(&self) -> bool {
+        false
+    }
+
+    ghost reads_back = { λ c ls s. flat_reads_back c.items ls s };
+
+    ghost flat = { λ _ _ _ _ h. h };
+}
+
+impl<T: Composer> Composer for &mut T {
+    ghost may_append = { λ c. T.may_append c.now };
+
+    ghost compresses = { T.compresses };
+
+    fn append_flat_name(&mut self, name: &[u8]) -> Result<(), Self::AppendError> {
+        (**self).append_flat_name(name)
+    }
+
+    fn can_compress(&self) -> bool {
+        (**self).can_compress()
+    }
+
+    ghost reads_back = { λ c. T.reads_back c.now };
+
+    ghost flat = { λ c. T.flat c.now };
+}

@@ -1,0 +1,282 @@
+//! What record data is read and composed by (RFC 1035, 3.2.1).
+ghost use Rattle.std.specs.Prelude.{◌≡◌, ℕ, ◌++◌, ◌+◌, ◌<◌, ◌≤◌, List, length, take, drop, ◌↔◌, OnOk, OnErr, IfSome, IfOk, IfErr, IsNone, Bool, false, Some};
+ghost use Rattle.octseq.specs.Parsing.{message, place, MovesTo};
+ghost use Rattle.domain_wire.specs.Values.{IsReading};
+ghost use Rattle.domain_wire.specs.declared.error.ParseError.{ParseError};
+ghost use Rattle.std.specs.Int.{w16, to_be_bytes};
+ghost use Rattle.domain_rdata.specs.ReadBack.{Appended, Exceeds};
+ghost use Rattle.domain_rdata.specs.RecordData.{LengthAndData, LengthAndCanonical, ComposeRefused, CanonicalRefused};
+ghost use Rattle.domain_rdata.specs.Rtypes.{rtype_number};
+
+use crate::composer::Composer;
+use crate::long::LongRecordData;
+use crate::rtype::Rtype;
+use domain_wire::ParseError;
+use octseq::Parser;
+use std::error::Error;
+use std::fmt;
+
+/// Why record data couldn't be appended with its length.
+#[derive(Clone, Copy, Debug, Drop)]
+pub enum ComposeRdataError<E> {
+    /// The target refused octets.
+    Append(E),
+    /// The data has more than 65,535 octets.
+    Long(LongRecordData),
+}
+
+impl<E> fmt::Display for ComposeRdataError<E> {
+    ghost use Rattle.domain_rdata.specs.RecordData.{compose_error_text};
+
+    ghost output = { λ e. Some (compose_error_text e) };
+
+    fn fmt<W: fmt::Write>(&self, f: &mut fmt::Formatter<W>) -> fmt::Result {
+        match self {
+            ComposeRdataError::Append(_) => write!(f, "buffer size exceeded"),
+            ComposeRdataError::Long(_) => write!(f, "record data too long"),
+        }
+    }
+}
+
+impl<E: fmt::Debug + Drop> Error for ComposeRdataError<E> {}
+
+/// Writes a length over the two octets at a place.
+fn write_length(octets: &mut [u8], place: usize, len: u16)
+    requires { place + 2 ≤ length octets.old }
+    ensures { octets.new ≡ take place octets.old ++ (to_be_bytes w16 len ++ drop (place + 2) octets.old) }
+{
+    octets[place..place + 2].copy_from_slice(&len.to_be_bytes());
+}
+
+/// Data of a record.
+pub trait RecordData {
+    /// The number of the type of the record.
+    ghost type_number: { Self → ℕ };
+
+    /// The type of the record.
+    fn rtype(&self) -> Rtype
+        ensures { rtype_number result ≡ type_number self.now };
+}
+
+/// Record data that can be composed.
+///
+/// A type says by `composed` which octets may be appended: those of its fields one after the other,
+/// where a target may write a name shorter. So a type owes nothing to any kind of target.
+pub trait ComposeRecordData: RecordData {
+    /// The octets that may be appended to these octets of a target, which may write names shorter or
+    /// not.
+    ghost composed: { Self → Bool → List ℕ → List ℕ → Type 0 };
+
+    /// The octets of the canonical form (RFC 4034, 6.2).
+    ghost canonical: { Self → List ℕ };
+
+    /// How many octets the data has, where that is known: whichever may be appended to a target that
+    /// writes names shorter, if `compress`; else to one that doesn't, and those of the canonical form.
+    fn rdlen(&self, compress: bool) -> Option<u16>
+        ensures composed { IfSome result (λ n. (t s : List ℕ) → composed self.now compress t s → length s ≡ n) }
+        ensures canonical { compress ≡ false → IfSome result (λ n. length (canonical self.now) ≡ n) };
+
+    /// Appends the data, or nothing.
+    ///
+    /// It is refused only where octets that may be appended exceed the spare capacity of the target,
+    /// and leaves its octets then.
+    fn compose_rdata<Target: Composer>(
+        &self,
+        target: &mut Target,
+    ) -> Result<(), Target::AppendError>
+        ensures ok { OnOk result (Appended (composed self.now Target.compresses (Target.octets target.old)) (Target.octets target.old) (Target.octets target.new)) }
+        ensures err { OnErr result (Target.octets target.new ≡ Target.octets target.old) }
+        ensures full { OnErr result (Exceeds (composed self.now Target.compresses (Target.octets target.old)) (Target.octets target.old) (Target.capacity target.old)) }
+        ensures capacity { Target.capacity target.old ≤ Target.capacity target.new };
+
+    /// Appends the canonical form of the data, which is never compressed, or nothing (RFC 4034, 6.2).
+    ///
+    /// It is refused only where its octets exceed the spare capacity of the target, and leaves its
+    /// octets then.
+    fn compose_canonical_rdata<Target: Composer>(
+        &self,
+        target: &mut Target,
+    ) -> Result<(), Target::AppendError>
+        ensures ok { OnOk result (Target.octets target.new ≡ Target.octets target.old ++ canonical self.now) }
+        ensures err { OnErr result (Target.octets target.new ≡ Target.octets target.old) }
+        ensures full { OnErr result (Target.capacity target.old < length (Target.octets target.old) + length (canonical self.now)) }
+        ensures capacity { Target.capacity target.old ≤ Target.capacity target.new };
+
+    /// Appends the length of the data in two octets, and the data, or nothing.
+    ///
+    /// `Long` only where data that may be appended has more than 65,535 octets, `Append` only where it
+    /// exceeds, with its length, the spare capacity. The target's octets are then as before.
+    final fn compose_len_rdata<Target: Composer>(
+        &self,
+        target: &mut Target,
+    ) -> Result<(), ComposeRdataError<Target::AppendError>>
+        ensures ok { OnOk result (LengthAndData (composed self.now Target.compresses) (Target.octets target.old) (Target.octets target.new)) }
+        ensures err { OnErr result (Target.octets target.new ≡ Target.octets target.old) }
+        ensures why { IfErr result (λ e. ComposeRefused (composed self.now Target.compresses) (Target.octets target.old) (Target.capacity target.old) e) }
+        ensures capacity { Target.capacity target.old ≤ Target.capacity target.new }
+    {
+        let start = target.as_slice().len();
+        if let Some(len) = self.rdlen(Target::can_compress(target)) {
+            if let Err(e) = target.append_slice(&len.to_be_bytes()) {
+                return Err(ComposeRdataError::Append(e));
+            }
+            if let Err(e) = self.compose_rdata(target) {
+                target.truncate(start);
+                return Err(ComposeRdataError::Append(e));
+            }
+            return Ok(());
+        }
+        if let Err(e) = target.append_slice(&[0, 0]) {
+            return Err(ComposeRdataError::Append(e));
+        }
+        if let Err(e) = self.compose_rdata(target) {
+            target.truncate(start);
+            return Err(ComposeRdataError::Append(e));
+        }
+        let data = start + 2;
+        let len = target.as_slice().len() - data;
+        if len > 65535 {
+            target.truncate(start);
+            return Err(ComposeRdataError::Long(LongRecordData));
+        }
+        write_length(target.as_slice_mut(), start, len as u16);
+        Ok(())
+    }
+
+    /// Appends the length of the canonical form in two octets, and the canonical form, or nothing.
+    ///
+    /// `Long` only where it has more than 65,535 octets, `Append` only where it exceeds, with its
+    /// length, the spare capacity. The target's octets are then as before.
+    final fn compose_canonical_len_rdata<Target: Composer>(
+        &self,
+        target: &mut Target,
+    ) -> Result<(), ComposeRdataError<Target::AppendError>>
+        ensures ok { OnOk result (LengthAndCanonical (canonical self.now) (Target.octets target.old) (Target.octets target.new)) }
+        ensures err { OnErr result (Target.octets target.new ≡ Target.octets target.old) }
+        ensures why { IfErr result (λ e. CanonicalRefused (canonical self.now) (Target.octets target.old) (Target.capacity target.old) e) }
+        ensures capacity { Target.capacity target.old ≤ Target.capacity target.new }
+    {
+        let start = target.as_slice().len();
+        if let Some(len) = self.rdlen(false) {
+            if let Err(e) = target.append_slice(&len.to_be_bytes()) {
+                return Err(ComposeRdataError::Append(e));
+            }
+            if let Err(e) = self.compose_canonical_rdata(target) {
+                target.truncate(start);
+                return Err(ComposeRdataError::Append(e));
+            }
+            return Ok(());
+        }
+        if let Err(e) = target.append_slice(&[0, 0]) {
+            return Err(ComposeRdataError::Append(e));
+        }
+        if let Err(e) = self.compose_canonical_rdata(target) {
+            target.truncate(start);
+            return Err(ComposeRdataError::Append(e));
+        }
+        let data = start + 2;
+        let len = target.as_slice().len() - data;
+        if len > 65535 {
+            target.truncate(start);
+            return Err(ComposeRdataError::Long(LongRecordData));
+        }
+        write_length(target.as_slice_mut(), start, len as u16);
+        Ok(())
+    }
+}
+
+impl<T: RecordData> RecordData for &T {
+    ghost type_number = { λ it. T.type_number it.now };
+
+    fn rtype(&self) -> Rtype {
+        (**self).rtype()
+    }
+}
+
+impl<T: ComposeRecordData> ComposeRecordData for &T {
+    ghost composed = { λ it. T.composed it.now };
+
+    ghost canonical = { λ it. T.canonical it.now };
+
+    fn rdlen(&self, compress: bool) -> Option<u16> {
+        (**self).rdlen(compress)
+    }
+
+    fn compose_rdata<Target: Composer>(
+        &self,
+        target: &mut Target,
+    ) -> Result<(), Target::AppendError> {
+        (**self).compose_rdata(target)
+    }
+
+    fn compose_canonical_rdata<Target: Composer>(
+        &self,
+        target: &mut Target,
+    ) -> Result<(), Target::AppendError> {
+        (**self).compose_canonical_rdata(target)
+    }
+}
+
+/// Record data that is read from a message, of the types that it is made for.
+pub trait ParseRecordData<'a>: RecordData + Sized {
+    /// What contracts see of the data.
+    ghost View: { Type 0 };
+
+    /// What contracts see of this data.
+    ghost seen: { Self → View };
+
+    /// Whether records of the type with this number have such data.
+    ghost reads_type: { ℕ → Bool };
+
+    /// Data of this type that is seen so stands in the octets at the first place, and the second place
+    /// is behind it.
+    ghost stands: { ℕ → List ℕ → ℕ → View → ℕ → Type 0 };
+
+    /// No data of this type stands in the octets at the place, and the error tells why.
+    ghost fails: { ℕ → List ℕ → ℕ → ParseError → Type 0 };
+
+    /// Reads data from the place of the parser on, to its end, and moves the parser behind it.
+    ///
+    /// `None` exactly where records of this type have other data. `None` and a refusal leave the parser
+    /// where it stood.
+    fn parse_rdata(rtype: Rtype, parser: &mut Parser<'a>) -> Result<Option<Self>, ParseError>
+        ensures ok { IfOk result (λ read. IfSome read (λ it. stands (rtype_number rtype) (message parser.old) (place parser.old) (seen it) (place parser.new))) }
+        ensures of_type { IfOk result (λ read. IfSome read (λ it. Self.type_number it ≡ rtype_number rtype)) }
+        ensures none { IfOk result (λ read. IsNone read ↔ (reads_type (rtype_number rtype) ≡ false)) }
+        ensures passed { IfOk result (λ read. IsNone read → parser.new ≡ parser.old) }
+        ensures moves { OnOk result (MovesTo parser.old parser.new (place parser.new)) }
+        ensures refused { IfErr result (λ e. fails (rtype_number rtype) (message parser.old) (place parser.old) e) }
+        ensures err { OnErr result (parser.new ≡ parser.old) };
+
+    /// At each place stands one value or one fault is told, and never both.
+    ghost lawful: { (rtype : ℕ) → IsReading (stands rtype) (fails rtype) };
+}
+
+/// Record data that is read from a message whatever its type.
+pub trait ParseAnyRecordData<'a>: RecordData + Sized {
+    /// What contracts see of the data.
+    ghost View: { Type 0 };
+
+    /// What contracts see of this data.
+    ghost seen: { Self → View };
+
+    /// Data of this type that is seen so stands in the octets at the first place, and the second place
+    /// is behind it.
+    ghost stands: { ℕ → List ℕ → ℕ → View → ℕ → Type 0 };
+
+    /// No data of this type stands in the octets at the place, and the error tells why.
+    ghost fails: { ℕ → List ℕ → ℕ → ParseError → Type 0 };
+
+    /// Reads data from the place of the parser on, to its end, and moves the parser behind it.
+    ///
+    /// A refusal leaves the parser where it stood.
+    fn parse_any_rdata(rtype: Rtype, parser: &mut Parser<'a>) -> Result<Self, ParseError>
+        ensures ok { IfOk result (λ it. stands (rtype_number rtype) (message parser.old) (place parser.old) (seen it) (place parser.new)) }
+        ensures of_type { IfOk result (λ it. Self.type_number it ≡ rtype_number rtype) }
+        ensures moves { OnOk result (MovesTo parser.old parser.new (place parser.new)) }
+        ensures refused { IfErr result (λ e. fails (rtype_number rtype) (message parser.old) (place parser.old) e) }
+        ensures err { OnErr result (parser.new ≡ parser.old) };
+
+    /// At each place stands one value or one fault is told, and never both.
+    ghost lawful: { (rtype : ℕ) → IsReading (stands rtype) (fails rtype) };
+}
