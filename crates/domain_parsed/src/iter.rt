@@ -6,6 +6,7 @@ ghost use Rattle.domain_reading.specs.Labels.{labels_at, labels_within};
 
 use domain_label::Label;
 use domain_reading::alone::{first_label, last_label};
+use std::marker::PhantomData;
 
 /// The labels of a name in a message, the root label last.
 ///
@@ -16,6 +17,7 @@ pub struct ParsedNameIter<'a> {
     octets: &'a [u8],
     pos: usize,
     len: u16,
+    of: PhantomData<Label<'a>>,
     ghost sized: { len ≡ length (wire (labels_within len (labels_at octets.now pos))) },
     ghost named: { ∥ (0 < len → Names 255 octets.now pos (labels_at octets.now pos)) ∥₁ },
 }
@@ -29,7 +31,12 @@ impl<'a> ParsedNameIter<'a> {
         requires sized { len ≡ length (wire (labels_at octets.now pos)) }
         ensures { labels_left result ≡ labels_at octets.now pos }
     {
-        ParsedNameIter { octets, pos, len }
+        ParsedNameIter {
+            octets,
+            pos,
+            len,
+            of: PhantomData,
+        }
     }
 }
 
