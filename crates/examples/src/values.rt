@@ -1,7 +1,8 @@
 //! Values that are written to and read from messages.
-ghost use Rattle.std.specs.Prelude.{◌≡◌, ◌++◌, ◌<◌, ℕ, length, IsOk, IfOk, IfErr, OnOk, OnErr};
+ghost use Rattle.std.specs.Prelude.{◌≡◌, ◌++◌, ◌<◌, ◌⊎◌, ℕ, length, IsOk, IfOk, IfErr, OnOk, OnErr};
 ghost use Rattle.std.specs.Int.{w16, to_be_bytes, from_be_bytes};
 ghost use Rattle.domain_wire.specs.Refusals.{refusal, short_input};
+ghost use Rattle.domain_wire.specs.declared.error.ParseError.{ParseError};
 ghost use Rattle.octseq.specs.Parsing.{message, place};
 
 use domain::base::wire::{Compose, Parse, ParseError, compose_vec, parse_slice};
@@ -36,6 +37,10 @@ pub fn parse_two<'a, A: Parse<'a> + Drop, B: Parse<'a> + Drop, E: From<ParseErro
     ensures ok { IfOk result (λ read. (between : ℕ)
         × A.stands (message parser.old) (place parser.old) (A.seen read.0) between
         × B.stands (message parser.old) between (B.seen read.1) (place parser.new)) }
+    ensures refused { IfErr result (λ e. (told : ParseError) × E.from_gives told e
+        × (A.fails (message parser.old) (place parser.old) told
+        ⊎ ((seen : A.View) × (between : ℕ) × A.stands (message parser.old) (place parser.old) seen between
+        × B.fails (message parser.old) between told))) }
     ensures err { OnErr result (parser.new ≡ parser.old) }
 {
     let mut ahead = *parser;
