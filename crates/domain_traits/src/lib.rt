@@ -1,4 +1,5 @@
-//! What names of every kind can be made into: octets, flat names, chains and text.
+//! The calls of names of every kind: what they can be made into, octets, flat names, chains and text, and
+//! how they compare.
 #![tactic(auto)]
 
 mod building;

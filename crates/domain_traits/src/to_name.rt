@@ -24,8 +24,9 @@ use std::cmp::Ordering;
 
 /// The calls that absolute names of every kind have.
 ///
-/// Each type with [`AbsoluteLabels`] has them. No type writes one of its own: each is one body, which
-/// asks for the labels of the name alone.
+/// Each type with [`AbsoluteLabels`] has them, with nothing to write. Each call is one body for all types,
+/// and what it gives depends on the name's list of labels alone; only `to_cow` also looks at how the
+/// name lies in memory.
 pub trait ToName<'a>: AbsoluteLabels<'a> {
     /// The same name in one piece, over octets of the caller's choice.
     ///

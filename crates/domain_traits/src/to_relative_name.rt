@@ -21,8 +21,9 @@ use std::cmp::Ordering;
 
 /// The calls that relative names of every kind have.
 ///
-/// Each type with [`RelativeLabels`] has them. No type writes one of its own: each is one body, which
-/// asks for the labels of the name alone.
+/// Each type with [`RelativeLabels`] has them, with nothing to write. Each call is one body for all types,
+/// and what it gives depends on the name's list of labels alone; only `to_cow` also looks at how the
+/// name lies in memory.
 pub trait ToRelativeName<'a>: RelativeLabels<'a> {
     /// The same name in one piece, over octets of the caller's choice.
     ///
@@ -160,6 +161,9 @@ pub trait ToRelativeName<'a>: RelativeLabels<'a> {
 
     /// The absolute name of these labels and the root. It can't be refused, since a relative name leaves
     /// an octet for the root.
+    ///
+    /// A function that is generic over names answers it as `Chain<N, Name<&'a [u8]>>`, with the lifetime
+    /// of its bound: one that names `'static` beside it isn't covered by the checker.
     final fn chain_root(self) -> Chain<Self, Name<&'static [u8]>>
     where
         Self: Sized + Drop,
