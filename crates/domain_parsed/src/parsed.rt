@@ -129,7 +129,9 @@ impl<'a> ParsedName<&'a [u8]> {
     ///
     /// ```rust
     /// pub fn skip_question(parser: &mut Parser<'_>) -> Result<(), ParseError>
-    ///     ensures { OnOk result ((e : ℕ) × Skips (message parser.old) (place parser.old) e × (place parser.new ≡ e + 4)) }
+    ///     ensures ok { OnOk result ((e : ℕ) × Skips (message parser.old) (place parser.old) e × (place parser.new ≡ e + 4)) }
+    ///     ensures err { OnErr result (((why : NameFault) × SkipFault (message parser.old) (place parser.old) why)
+    ///         ⊎ ((e : ℕ) × Skips (message parser.old) (place parser.old) e × (length (message parser.old) < e + 4))) }
     /// {
     ///     ParsedName::skip(parser)?;
     ///     parser.advance(4)?;
@@ -206,8 +208,9 @@ impl<Octs: Octets> ParsedName<Octs> {
     ///
     /// ```rust
     /// pub fn top_label<'a>(name: &'a ParsedName<&[u8]>) -> Option<Label<'a>>
-    ///     ensures { IfSome result (λ label. (front : List (List ℕ)) × (root : List ℕ)
+    ///     ensures some { IfSome result (λ label. (front : List (List ℕ)) × (root : List ℕ)
     ///         × (parsed_labels name.now ≡ front ++ label_octets label ∷ root ∷ [])) }
+    ///     ensures none { IsNone result ↔ (parsed_labels name.now ≡ Root) }
     /// {
     ///     let mut labels = name.iter();
     ///     labels.next_back()?;

@@ -18,7 +18,8 @@ pub fn known_name(octets: &[u8]) -> Option<Name<&[u8]>>
 
 /// The first label of a name, as `www` of `www.example.com`.
 pub fn first_label<'a>(name: &'a Name<&[u8]>) -> Option<Label<'a>>
-    ensures { IfSome result (λ label. (rest : List (List ℕ)) × (name_labels name.now ≡ label_octets label ∷ rest)) }
+    ensures label { IfSome result (λ label. (rest : List (List ℕ)) × (name_labels name.now ≡ label_octets label ∷ rest)) }
+    ensures some { IsSome result }
 {
     name.iter().next()
 }

@@ -1,10 +1,12 @@
 //! Reading names from messages, and going over their labels.
-ghost use Rattle.std.specs.Prelude.{◌≡◌, ◌+◌, ◌++◌, ◌∷◌, [], ℕ, List, string_bytes, IfOk, IfSome, OnOk};
+ghost use Rattle.std.specs.Prelude.{◌≡◌, ◌<◌, ◌+◌, ◌++◌, ◌∷◌, ◌⊎◌, ◌↔◌, [], ℕ, List, length, string_bytes, IfOk, IfSome, IsNone, OnOk, OnErr};
 ghost use Rattle.domain_label.specs.Text.{dotted};
 ghost use Rattle.domain_label.specs.Views.{label_octets};
+ghost use Rattle.domain_label.specs.Wire.{Root};
 ghost use Rattle.domain_parsed.specs.Views.{parsed_labels};
-ghost use Rattle.domain_reading.specs.Faults.{Skips};
+ghost use Rattle.domain_reading.specs.Faults.{Skips, SkipFault};
 ghost use Rattle.domain_reading.specs.Grammar.{Names};
+ghost use Rattle.domain_reading.specs.declared.fault.NameFault.{NameFault};
 ghost use Rattle.octseq.specs.Parsing.{message, place};
 
 use domain::base::name::*;
@@ -24,7 +26,9 @@ pub fn question<'a>(parser: &mut Parser<'a>) -> Result<(ParsedName<&'a [u8]>, u1
 
 /// Passes over a question: the name, and the four octets of its type and class.
 pub fn skip_question(parser: &mut Parser<'_>) -> Result<(), ParseError>
-    ensures { OnOk result ((e : ℕ) × Skips (message parser.old) (place parser.old) e × (place parser.new ≡ e + 4)) }
+    ensures ok { OnOk result ((e : ℕ) × Skips (message parser.old) (place parser.old) e × (place parser.new ≡ e + 4)) }
+    ensures err { OnErr result (((why : NameFault) × SkipFault (message parser.old) (place parser.old) why)
+        ⊎ ((e : ℕ) × Skips (message parser.old) (place parser.old) e × (length (message parser.old) < e + 4))) }
 {
     ParsedName::skip(parser)?;
     parser.advance(4)?;
@@ -33,8 +37,9 @@ pub fn skip_question(parser: &mut Parser<'_>) -> Result<(), ParseError>
 
 /// The label right before the root, as `com` of `www.example.com`. `None` for the root.
 pub fn top_label<'a>(name: &'a ParsedName<&[u8]>) -> Option<Label<'a>>
-    ensures { IfSome result (λ label. (front : List (List ℕ)) × (root : List ℕ)
+    ensures some { IfSome result (λ label. (front : List (List ℕ)) × (root : List ℕ)
         × (parsed_labels name.now ≡ front ++ label_octets label ∷ root ∷ [])) }
+    ensures none { IsNone result ↔ (parsed_labels name.now ≡ Root) }
 {
     let mut labels = name.iter();
     labels.next_back()?;

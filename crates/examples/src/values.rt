@@ -1,8 +1,9 @@
 //! Values that are written to and read from messages.
-ghost use Rattle.std.specs.Prelude.{◌≡◌, ◌++◌, ◌<◌, ℕ, length, IsOk, IfOk, IfErr, OnOk, OnErr};
+ghost use Rattle.std.specs.Prelude.{◌≡◌, ◌++◌, ◌<◌, ◌⊎◌, ℕ, length, IsOk, IfOk, IfErr, OnOk, OnErr};
 ghost use Rattle.std.specs.Int.{w16, to_be_bytes, from_be_bytes};
 ghost use Rattle.domain_wire.specs.Refusals.{refusal, short_input};
-ghost use Rattle.octseq.specs.Parsing.{message, place};
+ghost use Rattle.domain_wire.specs.declared.error.ParseError.{ParseError};
+ghost use Rattle.octseq.specs.Parsing.{message, place, next, MovesOver, MovesTo};
 
 use domain::base::wire::{Compose, Parse, ParseError, compose_vec, parse_slice};
 use octseq::{OctetsBuilder, Parser, ShortBuf};
@@ -36,6 +37,11 @@ pub fn parse_two<'a, A: Parse<'a> + Drop, B: Parse<'a> + Drop, E: From<ParseErro
     ensures ok { IfOk result (λ read. (between : ℕ)
         × A.stands (message parser.old) (place parser.old) (A.seen read.0) between
         × B.stands (message parser.old) between (B.seen read.1) (place parser.new)) }
+    ensures moves { OnOk result (MovesTo parser.old parser.new (place parser.new)) }
+    ensures refused { IfErr result (λ e. (told : ParseError) × E.from_gives told e
+        × (A.fails (message parser.old) (place parser.old) told
+        ⊎ ((seen : A.View) × (between : ℕ) × A.stands (message parser.old) (place parser.old) seen between
+        × B.fails (message parser.old) between told))) }
     ensures err { OnErr result (parser.new ≡ parser.old) }
 {
     let mut ahead = *parser;
@@ -43,6 +49,15 @@ pub fn parse_two<'a, A: Parse<'a> + Drop, B: Parse<'a> + Drop, E: From<ParseErro
     let second = B::parse(&mut ahead)?;
     *parser = ahead;
     Ok((first, second))
+}
+
+/// The type and the class of a question, which stand behind its name.
+pub fn type_and_class(parser: &mut Parser<'_>) -> Result<(u16, u16), ParseError>
+    ensures rtype { IfOk result (λ read. read.0 ≡ from_be_bytes w16 (next parser.old 2)) }
+    ensures moves { OnOk result (MovesOver parser.old parser.new 4) }
+    ensures err { OnErr result (parser.new ≡ parser.old) }
+{
+    parse_two(parser)
 }
 
 /// The number that these two octets are.
