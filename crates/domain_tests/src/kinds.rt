@@ -49,7 +49,7 @@ fn absolute_names_of_each_kind(rt: HostRuntime) -> Result<(), ShortBuf> {
     every_call_of_absolute(&rt, rt.alloc(), &&flat, &others, ABSOLUTE, false)?;
     let scattered = parsed(&rt, SCATTERED, 15);
     every_call_of_absolute(&rt, rt.alloc(), &scattered, &others, ABSOLUTE, false)?;
-    let chain = joined(&rt, b"\x03www", b"\x07Example\x03com\0");
+    let chain = joined(&rt, b"\x03www", parsed(&rt, SCATTERED, 5));
     every_call_of_absolute(&rt, rt.alloc(), &chain, &others, ABSOLUTE, false)
 }
 

@@ -10,6 +10,7 @@ use domain::base::name::*;
 use domain::base::wire::{Compose, compose_vec};
 use domain::tool::{ToolError, name_at};
 use octseq::{EmptyBuilder, Octets, OctetsBuilder, OctetsFrom, ShortBuf};
+use std::alloc::Global;
 use std::process::Abort;
 
 /// How many calls were refused.
@@ -123,34 +124,39 @@ fn relative_chains_are_made_or_refused(rt: HostRuntime) {
 }
 
 #[test]
-fn copies_are_made_or_refused(rt: HostRuntime) -> Result<(), ShortBuf> {
+fn copies_are_made_or_refused(rt: HostRuntime) {
     let alloc = rt.alloc();
-    for octets in [b"\0".as_slice(), WWW, LONGEST] {
-        let held: Name<Vec<u8>> = Name::try_octets_from(alloc, absolute(&rt, octets))?;
-        let mut refusals = Refusals { count: 0 };
-        for _time in 0..2u8 {
-            refusals.look(&rt, octets_of(held.clone(alloc)), octets);
+    let mut refusals = Refusals { count: 0 };
+    for _time in 0..2u8 {
+        for octets in [b"\0".as_slice(), WWW, LONGEST] {
+            let held: Result<Name<Vec<u8>>, ShortBuf> = Name::try_octets_from(
+                alloc,
+                absolute(&rt, octets),
+            );
+            match held {
+                Ok(name) => refusals.look(&rt, octets_of(name.clone(alloc)), octets),
+                Err(e) => refusals.look(&rt, Err::<Vec<u8>, ShortBuf>(e), b""),
+            }
         }
-        assert!(rt; refusals.count <= 1);
     }
+    assert!(rt; refusals.count <= 1);
+}
+
+/// Copies what is left of the longest name without its first label. `ShortBuf` where memory is refused.
+fn copy_rest(rt: &impl Abort, alloc: Global) -> Result<(), ShortBuf> {
+    let octets: Name<Vec<u8>> = Name::try_octets_from(alloc, absolute(rt, LONGEST))?;
+    let mut name = ParsedName::from(octets);
+    assert!(rt; name.parent());
+    let copy = name.clone(alloc)?;
+    assert!(rt; copy == name && copy.label_count() == 26);
     Ok(())
 }
 
 #[test]
-fn long_messages_are_copied_or_refused(rt: HostRuntime) -> Result<(), ShortBuf> {
-    let alloc = rt.alloc();
-    let octets: Name<Vec<u8>> = Name::try_octets_from(alloc, absolute(&rt, LONGEST))?;
-    let mut name = ParsedName::from(octets);
-    assert!(rt; name.parent());
-    let mut refused = 0u8;
-    for _time in 0..2u8 {
-        match name.clone(alloc) {
-            Ok(copy) => assert!(rt; copy == name && copy.label_count() == 26),
-            Err(ShortBuf) => refused = refused.saturating_add(1),
-        }
-    }
-    assert!(rt; refused <= 1);
-    Ok(())
+fn names_in_messages_are_copied_or_refused(rt: HostRuntime) {
+    let first = copy_rest(&rt, rt.alloc());
+    let second = copy_rest(&rt, rt.alloc());
+    assert!(rt; first.is_ok() || second.is_ok());
 }
 
 #[test]

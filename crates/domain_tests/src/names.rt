@@ -36,12 +36,12 @@ pub fn parsed<'a>(rt: &impl Abort, octets: &'a [u8], place: usize) -> ParsedName
     }
 }
 
-pub type Joined<'a> = Chain<RelativeName<&'a [u8]>, Name<&'a [u8]>>;
+pub type Joined<'a> = Chain<RelativeName<&'a [u8]>, ParsedName<&'a [u8]>>;
 
 pub type RelativeJoined<'a> = Chain<RelativeName<&'a [u8]>, RelativeName<&'a [u8]>>;
 
-pub fn joined<'a>(rt: &impl Abort, left: &'a [u8], right: &'a [u8]) -> Joined<'a> {
-    match Chain::new(relative(rt, left), absolute(rt, right)) {
+pub fn joined<'a>(rt: &impl Abort, left: &'a [u8], right: ParsedName<&'a [u8]>) -> Joined<'a> {
+    match Chain::new(relative(rt, left), right) {
         Ok(name) => name,
         Err(_) => panic!(rt; "too long"),
     }

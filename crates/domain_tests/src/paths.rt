@@ -115,7 +115,7 @@ fn wire_format(rt: HostRuntime) {
     let read: Result<u16, ParseError> = parse_slice(&[1, 2, 0], |parser| u16::parse(parser));
     assert!(rt; read == Err(ParseError::Form(FormError::new("trailing data"))));
     let octets = compose_vec(rt.alloc(), |octets| 258u16.compose(octets));
-    assert!(rt; matches!(octets, Ok(octets) if octets.as_slice() == [1, 2].as_slice()));
+    assert!(rt; matches!(&octets, Ok(octets) if octets.as_slice() == [1, 2].as_slice()));
 }
 
 #[test]
