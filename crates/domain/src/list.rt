@@ -112,7 +112,8 @@ fn list_message<W: Write>(message: &[u8], output: &mut W) -> Result<(), ToolErro
 /// last one are ignored. A line has the word of the section (`question`, `answer`, `authority`,
 /// `additional`), the name with a final dot, type and class, and for a record its time to live and its
 /// data in the generic text of RFC 3597. `Parse` where the header or an entry isn't there, with the fault
-/// of its name, else `ShortInput`; the lines of the entries before it are written then.
+/// of its name, else `ShortInput`; the lines of the entries before it are written then. `Read` where the
+/// input couldn't be read; nothing is written then.
 pub fn list<R: Read, W: Write>(
     alloc: Global,
     input: &mut R,
@@ -121,6 +122,7 @@ pub fn list<R: Read, W: Write>(
     ensures whole { OnAnswer result (IsAtEnd (R.remaining input.new)) }
     ensures written { OnOk result (IfSome (R.remaining input.old) (λ m. (text : List ℕ) × IsListing m text × Appends (W.contents output.old) (W.contents output.new) text)) }
     ensures refused { IfRefused result (λ e. IfSome (R.remaining input.old) (λ m. (text : List ℕ) × StopsListing m text e × Appends (W.contents output.old) (W.contents output.new) text)) }
+    ensures nothing_written { IfErr result (λ e. (e ≡ ToolError.Read) → Keeps (W.contents output.old) (W.contents output.new)) }
 {
     let octets = read_all(alloc, input)?;
     list_message(octets.as_slice(), output)

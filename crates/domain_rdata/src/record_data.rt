@@ -70,9 +70,14 @@ pub trait ComposeRecordData: RecordData {
     /// The octets of the canonical form (RFC 4034, 6.2).
     ghost canonical: { Self → List ℕ };
 
+    /// Whether the number of the octets is known, for a target that may write names shorter or for one
+    /// that doesn't.
+    ghost knows_len: { Self → Bool → Bool };
+
     /// How many octets the data has, where that is known: whichever may be appended to a target that
     /// writes names shorter, if `compress`; else to one that doesn't, and those of the canonical form.
     fn rdlen(&self, compress: bool) -> Option<u16>
+        ensures known { IsNone result ↔ (knows_len self.now compress ≡ false) }
         ensures composed { IfSome result (λ n. (t s : List ℕ) → composed self.now compress t s → length s ≡ n) }
         ensures canonical { compress ≡ false → IfSome result (λ n. length (canonical self.now) ≡ n) };
 
@@ -197,6 +202,8 @@ impl<T: ComposeRecordData> ComposeRecordData for &T {
     ghost composed = { λ it. T.composed it.now };
 
     ghost canonical = { λ it. T.canonical it.now };
+
+    ghost knows_len = { λ it. T.knows_len it.now };
 
     fn rdlen(&self, compress: bool) -> Option<u16> {
         (**self).rdlen(compress)

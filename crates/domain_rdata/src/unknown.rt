@@ -150,6 +150,8 @@ impl<Octs: Octets> ComposeRecordData for UnknownRecordData<Octs> {
 
     ghost canonical = { data_octets };
 
+    ghost knows_len = { λ _ _. true };
+
     fn rdlen(&self, _compress: bool) -> Option<u16> {
         Some(self.octets.as_slice().len() as u16)
     }
@@ -158,7 +160,7 @@ impl<Octs: Octets> ComposeRecordData for UnknownRecordData<Octs> {
         &self,
         target: &mut Target,
     ) -> Result<(), Target::AppendError> {
-        target.append_slice(self.octets.as_slice())
+        self.compose_canonical_rdata(target)
     }
 
     fn compose_canonical_rdata<Target: Composer>(

@@ -3,5 +3,7 @@
 
 pub mod laws;
 pub mod serial;
+#[cfg(test)]
+mod tests;
 
 pub use serial::{IllegalSignatureTime, Serial};
