@@ -1,1 +1,3 @@
 mod Stripping
+pub mod Calling
+pub mod OneOutcomes
