@@ -14,7 +14,7 @@ use octseq::{EmptyBuilder, FreezeBuilder, Octets, OctetsBuilder, OctetsFrom, Oct
 use std::alloc::Global;
 use std::marker::Model;
 
-/// Finished labels and at most one open label, which has at least one octet.
+/// Labels that are finished, and maybe one that is still open and has octets already.
 #[derive(Drop)]
 pub struct LabelsBuilder<B: OctetsBuilder + OctetsMut> {
     pub(crate) builder: B,

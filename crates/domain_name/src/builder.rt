@@ -27,12 +27,13 @@ use domain_list::{AbsoluteLabels, RelativeLabels};
 use octseq::{EmptyBuilder, FreezeBuilder, Octets, OctetsBuilder, OctetsMut, ShortBuf};
 use std::alloc::Global;
 
-/// A name that is put together: finished labels and at most one open label, which has at least one octet.
+/// A name that is being put together: labels that are finished, and maybe one that is still open and has
+/// octets already.
 ///
-/// All of it, length octets too, is never more than 254 octets, so that the root can follow. A refused call
-/// changes nothing, and an open label stays open; `append_symbols` and `append_chars` keep what the symbols
-/// before the fault made. `ShortBuf` is answered where the octets don't fit the builder beneath, or where
-/// memory was refused.
+/// With the length octets it never has more than 254, so that the root can follow. What is refused changes
+/// nothing, not even whether a label is open; only `append_symbols` and `append_chars` keep the symbols in
+/// front of the one that was refused. `ShortBuf` is answered where the octets don't fit the builder beneath,
+/// or where memory was refused.
 #[derive(Drop)]
 pub struct NameBuilder<B: OctetsBuilder + OctetsMut> {
     labels: LabelsBuilder<B>,

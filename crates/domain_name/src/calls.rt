@@ -12,23 +12,23 @@ use octseq::{OctetsBuilder, OctetsMut};
 /// A call of a [`NameBuilder`] that changes it and leaves it in hand, with the call's argument.
 #[derive(Clone, Copy)]
 pub enum BuilderCall<'a> {
-    /// `push`.
+    /// Adds an octet, by `push`.
     Push(u8),
-    /// `push_symbol`.
+    /// Adds a symbol, by `push_symbol`.
     PushSymbol(Symbol),
-    /// `append_slice`.
+    /// Adds octets to the open label, by `append_slice`.
     AppendSlice(&'a [u8]),
-    /// `end_label`.
+    /// Finishes it, by `end_label`.
     EndLabel,
-    /// `append_label`.
+    /// Adds a label, by `append_label`.
     AppendLabel(&'a [u8]),
-    /// `append_dec_u8_label`.
+    /// Adds decimal digits, by `append_dec_u8_label`.
     AppendDecU8Label(u8),
-    /// `append_hex_digit_label`.
+    /// Adds a digit, by `append_hex_digit_label`.
     AppendHexDigitLabel(u8),
-    /// `append_name`.
+    /// Adds a relative name, by `append_name`.
     AppendName(RelativeName<&'a [u8]>),
-    /// `append_chars`.
+    /// Adds a text, by `append_chars`.
     AppendChars(&'a str),
 }
 
