@@ -13,6 +13,11 @@ pub mod net {
     pub use domain_wire::net::{IpAddr, Ipv4Addr, Ipv6Addr};
 }
 
+/// Symbols of presentation text.
+pub mod scan {
+    pub use domain_label::scan::{BadSymbol, Symbol, SymbolCharsError, Symbols};
+}
+
 /// Labels and names.
 ///
 /// A domain name is a list of labels, the most special one first and the root label last, as `www`,
@@ -23,6 +28,10 @@ pub mod net {
 ///
 /// docs/NAMES.md tells what names are, docs/CALLING.md how to use them.
 pub mod name {
+    pub use domain_builder::{
+        FromStrError, PresentationError, PresentationErrorKind, PushError, PushNameError,
+        RelativeFromStrError, text_laws,
+    };
     pub use domain_flat::error::{
         NameError, NameErrorKind, RelativeNameError, RelativeNameErrorKind,
     };
@@ -39,8 +48,10 @@ pub mod name {
         Absolute, AbsoluteLabels, LabelIterator, NameLabels, Relative, RelativeLabels, ToLabelIter,
     };
     pub use domain_list::laws::order_laws;
-    pub use domain_name::StripSuffixError;
+    pub use domain_name::{StripSuffixError, builder_laws};
     pub use domain_name::absolute::Name;
+    pub use domain_name::builder::NameBuilder;
+    pub use domain_name::calls::BuilderCall;
     pub use domain_name::relative::RelativeName;
     pub use domain_name::suffixes::SuffixIter;
     pub use domain_parsed::{ParsedName, ParsedNameIter, ParsedSuffixIter};
@@ -63,9 +74,4 @@ pub mod rdata {
         ComposeRdataError, ComposeRecordData, LongRecordData, ParseAnyRecordData, ParseRecordData,
         RecordData, Rtype, UnknownRecordData,
     };
-}
-
-/// Symbols of presentation text (RFC 1035, 5.1).
-pub mod scan {
-    pub use domain_label::scan::{BadSymbol, Symbol, SymbolCharsError, Symbols};
 }

@@ -1,2 +1,4 @@
 mod Stripping
 pub mod Shapes
+pub mod Calling
+pub mod OneOutcomes

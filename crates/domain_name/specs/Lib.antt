@@ -1,2 +1,4 @@
 pub mod Names
 pub mod Suffixes
+pub mod Builders
+pub mod Calls

@@ -1,0 +1,11 @@
+pub mod Sizes
+pub mod Grammar
+pub mod OneOutcome
+pub mod Buffering
+pub mod Reading
+pub mod Outcomes
+pub mod Building
+pub mod Pushes
+pub mod Spelled
+pub mod Digits
+pub mod Reversing

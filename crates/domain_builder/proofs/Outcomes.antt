@@ -1,0 +1,115 @@
+-- What a text's outcome over its items says of its characters.
+use Rattle.std.proofs.Common.{◌≡◌, ℕ, ◌⊎◌, inl, inr, List, length, Option, Some, None, Result, Ok, Err, sym, ◌∙◌, subst, MatchResult, IfOk, IfErr}
+use Rattle.octseq.specs.Room.{MayLackRoom}
+use Rattle.domain_label.specs.Wire.{wire}
+use Rattle.domain_label.specs.Spelling.{Reads}
+use Rattle.domain_label.proofs.ReadOnce.{read_once}
+use Rattle.domain_builder.specs.Parts.{parts}
+use Rattle.domain_label.specs.Spelling.{JustOne}
+use Rattle.domain_builder.specs.TextGrammar.{IsNameText, NameFault, IsRelativeText, NoRelative, SpellsName, SpellsNoName, SpellsRelative, SpellsNoRelative}
+use Rattle.domain_builder.specs.Told.{MatchFromStr, MatchRelativeFromStr, NoName, NoRelativeName, presentation_fault, presentation_error_kind}
+use Rattle.domain_builder.specs.declared.part.Fault.{Fault}
+use Rattle.domain_builder.specs.declared.error.FromStrError.{FromStrError}
+use Rattle.domain_builder.specs.declared.error.FromStrError.TheVariants.{Presentation, ShortBuf}
+use Rattle.domain_builder.specs.declared.error.RelativeFromStrError.{RelativeFromStrError}
+use Rattle.domain_builder.specs.declared.error.RelativeFromStrError.TheVariants.{FromStr, AbsoluteName}
+use Rattle.domain_builder.proofs.OneOutcome.{one_name, one_relative}
+use Rattle.domain_builder.proofs.Reading.{Item}
+
+-- ---- parts have one outcome
+
+-- P of some, or Q of some, and never two of either or one of each
+two_of : {A B : Type 0} (P : A → Type 0) (Q : B → Type 0) → ((JustOne P × ((b : B) → Q b → ⊥)) ⊎ (JustOne Q × ((a : A) → P a → ⊥))) → (a c : A) → P a → P c → a ≡ c
+two_of P Q (inl h) a c p q = h.0.2 a p ∙ sym (h.0.2 c q)
+two_of P Q (inr h) a c p q = absurd (h.1 a p)
+
+never_both : {A B : Type 0} (P : A → Type 0) (Q : B → Type 0) → ((JustOne P × ((b : B) → Q b → ⊥)) ⊎ (JustOne Q × ((a : A) → P a → ⊥))) → (a : A) (b : B) → P a → Q b → ⊥
+never_both P Q (inl h) a b p q = h.1 b q
+never_both P Q (inr h) a b p q = h.1 a p
+
+two_faults : {A B : Type 0} (P : A → Type 0) (Q : B → Type 0) → ((JustOne P × ((b : B) → Q b → ⊥)) ⊎ (JustOne Q × ((a : A) → P a → ⊥))) → (b d : B) → Q b → Q d → b ≡ d
+two_faults P Q (inl h) b d p q = absurd (h.1 b p)
+two_faults P Q (inr h) b d p q = h.0.2 b p ∙ sym (h.0.2 d q)
+
+-- the items of a text
+pub items_of : (cs : List ℕ) → List Item
+items_of cs = (read_once cs).0
+
+pub items_read : (cs : List ℕ) → Reads cs (items_of cs)
+unfolding items_of
+items_read cs = (read_once cs).1
+
+pub same_items : (cs : List ℕ) (items : List Item) → Reads cs items → items ≡ items_of cs
+unfolding items_of
+same_items cs items r = (read_once cs).2 items r
+
+-- ---- absolute names
+
+module _ {N : Type 0} (labels : N → List (List ℕ)) (room : Option ℕ) (cs : List ℕ) (r : Result N FromStrError) (h : MatchResult r (λ n. IsNameText (parts (items_of cs)) (labels n)) (λ e. NoName room (parts (items_of cs)) e)) where
+  pub name_ok : IfOk r (λ n. SpellsName cs (labels n))
+  name_ok = at r h
+    where
+      at : (r : Result N FromStrError) → MatchResult r (λ n. IsNameText (parts (items_of cs)) (labels n)) (λ e. NoName room (parts (items_of cs)) e) → IfOk r (λ n. SpellsName cs (labels n))
+      at (Ok n) h = (items_of cs, items_read cs, h)
+      at (Err e) h = tt
+
+  pub name_err : IfErr r (λ e. MatchFromStr e (SpellsNoName cs) ((ls : List (List ℕ)) × SpellsName cs ls × MayLackRoom room (length (wire ls))))
+  name_err = at r h
+    where
+      at : (r : Result N FromStrError) → MatchResult r (λ n. IsNameText (parts (items_of cs)) (labels n)) (λ e. NoName room (parts (items_of cs)) e) → IfErr r (λ e. MatchFromStr e (SpellsNoName cs) ((ls : List (List ℕ)) × SpellsName cs ls × MayLackRoom room (length (wire ls))))
+      at (Ok n) h = tt
+      at (Err (Presentation p)) h = (items_of cs, items_read cs, h)
+      at (Err ShortBuf) h = (h.0, (items_of cs, items_read cs, h.1), h.2)
+
+  pub name_accepts : (ls : List (List ℕ)) → SpellsName cs ls → MatchResult r (λ n. labels n ≡ ls) (λ e. MatchFromStr e (λ _. ⊥) (MayLackRoom room (length (wire ls))))
+  name_accepts ls s = at r h (subst (λ (z : List Item). IsNameText (parts z) ls) (same_items cs s.0 s.1) s.2)
+    where
+      at : (r : Result N FromStrError) → MatchResult r (λ n. IsNameText (parts (items_of cs)) (labels n)) (λ e. NoName room (parts (items_of cs)) e) → IsNameText (parts (items_of cs)) ls → MatchResult r (λ n. labels n ≡ ls) (λ e. MatchFromStr e (λ _. ⊥) (MayLackRoom room (length (wire ls))))
+      at (Ok n) h t = two_of (IsNameText (parts (items_of cs))) (NameFault (parts (items_of cs))) (one_name (parts (items_of cs))) (labels n) ls h t
+      at (Err (Presentation p)) h t = never_both (IsNameText (parts (items_of cs))) (NameFault (parts (items_of cs))) (one_name (parts (items_of cs))) ls (presentation_fault (presentation_error_kind p)) t h
+      at (Err ShortBuf) h t = subst (λ (z : List (List ℕ)). MayLackRoom room (length (wire z))) (two_of (IsNameText (parts (items_of cs))) (NameFault (parts (items_of cs))) (one_name (parts (items_of cs))) h.0 ls h.1 t) h.2
+
+  pub name_exact : (f : Fault) → SpellsNoName cs f → MatchResult r (λ _. ⊥) (λ e. MatchFromStr e (λ told. told ≡ f) ⊥)
+  name_exact f s = at r h (subst (λ (z : List Item). NameFault (parts z) f) (same_items cs s.0 s.1) s.2)
+    where
+      at : (r : Result N FromStrError) → MatchResult r (λ n. IsNameText (parts (items_of cs)) (labels n)) (λ e. NoName room (parts (items_of cs)) e) → NameFault (parts (items_of cs)) f → MatchResult r (λ _. ⊥) (λ e. MatchFromStr e (λ told. told ≡ f) ⊥)
+      at (Ok n) h t = never_both (IsNameText (parts (items_of cs))) (NameFault (parts (items_of cs))) (one_name (parts (items_of cs))) (labels n) f h t
+      at (Err (Presentation p)) h t = two_faults (IsNameText (parts (items_of cs))) (NameFault (parts (items_of cs))) (one_name (parts (items_of cs))) (presentation_fault (presentation_error_kind p)) f h t
+      at (Err ShortBuf) h t = never_both (IsNameText (parts (items_of cs))) (NameFault (parts (items_of cs))) (one_name (parts (items_of cs))) h.0 f h.1 t
+
+-- ---- relative names
+
+module _ {N : Type 0} (labels : N → List (List ℕ)) (room : Option ℕ) (cs : List ℕ) (r : Result N RelativeFromStrError) (h : MatchResult r (λ n. IsRelativeText (parts (items_of cs)) (labels n)) (λ e. NoRelativeName room (parts (items_of cs)) e)) where
+  pub relative_ok : IfOk r (λ n. SpellsRelative cs (labels n))
+  relative_ok = at r h
+    where
+      at : (r : Result N RelativeFromStrError) → MatchResult r (λ n. IsRelativeText (parts (items_of cs)) (labels n)) (λ e. NoRelativeName room (parts (items_of cs)) e) → IfOk r (λ n. SpellsRelative cs (labels n))
+      at (Ok n) h = (items_of cs, items_read cs, h)
+      at (Err e) h = tt
+
+  pub relative_err : IfErr r (λ e. MatchRelativeFromStr e (SpellsNoRelative cs) ((ls : List (List ℕ)) × SpellsRelative cs ls × MayLackRoom room (length (wire ls))))
+  relative_err = at r h
+    where
+      at : (r : Result N RelativeFromStrError) → MatchResult r (λ n. IsRelativeText (parts (items_of cs)) (labels n)) (λ e. NoRelativeName room (parts (items_of cs)) e) → IfErr r (λ e. MatchRelativeFromStr e (SpellsNoRelative cs) ((ls : List (List ℕ)) × SpellsRelative cs ls × MayLackRoom room (length (wire ls))))
+      at (Ok n) h = tt
+      at (Err AbsoluteName) h = (items_of cs, items_read cs, h)
+      at (Err (FromStr (Presentation p))) h = (items_of cs, items_read cs, h)
+      at (Err (FromStr ShortBuf)) h = (h.0, (items_of cs, items_read cs, h.1), h.2)
+
+  pub relative_accepts : (ls : List (List ℕ)) → SpellsRelative cs ls → MatchResult r (λ n. labels n ≡ ls) (λ e. MatchRelativeFromStr e (λ _. ⊥) (MayLackRoom room (length (wire ls))))
+  relative_accepts ls s = at r h (subst (λ (z : List Item). IsRelativeText (parts z) ls) (same_items cs s.0 s.1) s.2)
+    where
+      at : (r : Result N RelativeFromStrError) → MatchResult r (λ n. IsRelativeText (parts (items_of cs)) (labels n)) (λ e. NoRelativeName room (parts (items_of cs)) e) → IsRelativeText (parts (items_of cs)) ls → MatchResult r (λ n. labels n ≡ ls) (λ e. MatchRelativeFromStr e (λ _. ⊥) (MayLackRoom room (length (wire ls))))
+      at (Ok n) h t = two_of (IsRelativeText (parts (items_of cs))) (NoRelative (parts (items_of cs))) (one_relative (parts (items_of cs))) (labels n) ls h t
+      at (Err AbsoluteName) h t = never_both (IsRelativeText (parts (items_of cs))) (NoRelative (parts (items_of cs))) (one_relative (parts (items_of cs))) ls None t h
+      at (Err (FromStr (Presentation p))) h t = never_both (IsRelativeText (parts (items_of cs))) (NoRelative (parts (items_of cs))) (one_relative (parts (items_of cs))) ls (Some (presentation_fault (presentation_error_kind p))) t h
+      at (Err (FromStr ShortBuf)) h t = subst (λ (z : List (List ℕ)). MayLackRoom room (length (wire z))) (two_of (IsRelativeText (parts (items_of cs))) (NoRelative (parts (items_of cs))) (one_relative (parts (items_of cs))) h.0 ls h.1 t) h.2
+
+  pub relative_exact : (why : Option Fault) → SpellsNoRelative cs why → MatchResult r (λ _. ⊥) (λ e. MatchRelativeFromStr e (λ told. told ≡ why) ⊥)
+  relative_exact why s = at r h (subst (λ (z : List Item). NoRelative (parts z) why) (same_items cs s.0 s.1) s.2)
+    where
+      at : (r : Result N RelativeFromStrError) → MatchResult r (λ n. IsRelativeText (parts (items_of cs)) (labels n)) (λ e. NoRelativeName room (parts (items_of cs)) e) → NoRelative (parts (items_of cs)) why → MatchResult r (λ _. ⊥) (λ e. MatchRelativeFromStr e (λ told. told ≡ why) ⊥)
+      at (Ok n) h t = never_both (IsRelativeText (parts (items_of cs))) (NoRelative (parts (items_of cs))) (one_relative (parts (items_of cs))) (labels n) why h t
+      at (Err AbsoluteName) h t = two_faults (IsRelativeText (parts (items_of cs))) (NoRelative (parts (items_of cs))) (one_relative (parts (items_of cs))) None why h t
+      at (Err (FromStr (Presentation p))) h t = two_faults (IsRelativeText (parts (items_of cs))) (NoRelative (parts (items_of cs))) (one_relative (parts (items_of cs))) (Some (presentation_fault (presentation_error_kind p))) why h t
+      at (Err (FromStr ShortBuf)) h t = never_both (IsRelativeText (parts (items_of cs))) (NoRelative (parts (items_of cs))) (one_relative (parts (items_of cs))) h.0 why h.1 t

@@ -1,0 +1,35 @@
+-- What the fields of a name builder mean.
+use Rattle.std.specs.Prelude.{◌≡◌, ℕ, ◌+◌, ◌≤◌, List, [], ◌∷◌, length, take, drop, Option, None, Some}
+use Rattle.domain_label.specs.Wire.{wire, labels_in, IsRelative}
+use Rattle.domain_builder.specs.Built.{Built, shown}
+
+-- What a builder has built, and how many octets fit in all without new memory.
+pub record Held : Type 0 where
+  pub built : Built
+  pub capacity : ℕ
+
+-- How many octets fit without new memory: as many as are fixed for the type, else as there is room for now.
+abbrev pub room : Option ℕ → Held → ℕ
+room None held = held.capacity
+room (Some n) held = n
+
+-- What octets and the place of an open label's length octet say.
+abbrev pub view_of : List ℕ → Option ℕ → Built
+view_of s None = record { labels = labels_in s; open_label = [] }
+view_of s (Some h) = record { labels = labels_in (take h s); open_label = drop (h + 1) s }
+
+-- The place of the open label's length octet.
+abbrev pub head_of : Built → Option ℕ
+head_of b = place (length (wire b.labels)) b.open_label
+  where
+    place : ℕ → List ℕ → Option ℕ
+    place h [] = None
+    place h (c ∷ cs) = Some h
+
+-- The octets are those of the labels.
+pub record IsInside (s : List ℕ) (h : Option ℕ) : Type 0 where
+  pub octets : s ≡ shown (view_of s h)
+  pub head : h ≡ head_of (view_of s h)
+  pub labels : IsRelative (view_of s h).labels
+  pub label_short : length (view_of s h).open_label ≤ 63
+  pub name_short : length s ≤ 254

@@ -1,0 +1,36 @@
+-- Laws of the texts of names.
+use Rattle.std.specs.Prelude.{◌≡◌, ◌<◌, ◌≤◌, ◌⊎◌, ◌↔◌, ℕ, List, Option}
+use Rattle.std.specs.List.{AllByRecursion}
+use Rattle.domain_label.specs.Text.{dotted, text}
+use Rattle.domain_label.specs.Wire.{IsAbsoluteName, IsRelativeName}
+use Rattle.domain_label.specs.Spelling.{JustOne}
+use Rattle.domain_builder.specs.Built.{Built, nothing, size, Makes, StopsAt}
+use Rattle.domain_builder.specs.TextGrammar.{Begins, FirstFault, IsNameText, NameFault, IsRelativeText, NoRelative, SpellsName, SpellsRelative}
+use Rattle.domain_builder.specs.declared.part.Fault.{Fault}
+use Rattle.domain_builder.specs.declared.part.Part.{Part}
+
+-- A text is that of one name and has no fault, or has one fault and is that of no name.
+abbrev pub OneName : List Part → Type 0
+OneName ps =
+    (JustOne (IsNameText ps) × ((f : Fault) → NameFault ps f → ⊥))
+    ⊎ (JustOne (NameFault ps) × ((ls : List (List ℕ)) → IsNameText ps ls → ⊥))
+
+abbrev pub OneRelative : List Part → Type 0
+OneRelative ps =
+    (JustOne (IsRelativeText ps) × ((why : Option Fault) → NoRelative ps why → ⊥))
+    ⊎ (JustOne (NoRelative ps) × ((ls : List (List ℕ)) → IsRelativeText ps ls → ⊥))
+
+-- Parts one after another make of nothing what a text that begins with them has, and stop where it has
+-- its first fault.
+abbrev pub AppendsByGrammar : List Part → Type 0
+AppendsByGrammar ps =
+    ((b : Built) → Makes nothing ps b ↔ (Begins ps b.labels b.open_label × (size b ≤ 254)))
+    × ((f : Fault) → ((b : Built) × StopsAt nothing ps b f) ↔ FirstFault ps f)
+
+-- Each number is an octet.
+abbrev pub AreBytes : List (List ℕ) → Type 0
+AreBytes = AllByRecursion (AllByRecursion (λ c. c < 256))
+
+-- The text that a name shows, a dot behind each label or between two, is read as that name.
+abbrev pub ReadsShown : List (List ℕ) → Type 0
+ReadsShown ls = AreBytes ls → (IsAbsoluteName ls → SpellsName (dotted ls) ls) × (IsRelativeName ls → SpellsRelative (text ls) ls)

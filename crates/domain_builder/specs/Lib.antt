@@ -1,0 +1,9 @@
+pub mod Built
+pub mod Parts
+pub mod TextGrammar
+pub mod Laws
+pub mod Buffer
+pub mod Told
+pub mod Inside
+pub mod Pushing
+pub mod Reverse

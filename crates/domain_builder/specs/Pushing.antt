@@ -1,0 +1,69 @@
+-- When a builder refuses octets.
+use Rattle.std.specs.Prelude.{◌≡◌, ℕ, ◌<◌, ◌≤◌, Some, None, Result, Ok, Err, MatchResult, List}
+use Rattle.domain_builder.specs.Built.{Built, size, refusal, after, Makes, StopsAt, LacksRoom}
+use Rattle.domain_builder.specs.Told.{MatchFromStr}
+use Rattle.domain_builder.specs.declared.error.FromStrError.{FromStrError}
+use Rattle.domain_builder.specs.declared.error.FromStrError.TheVariants as short
+use Rattle.domain_builder.specs.declared.part.Fault.TheVariants as fault
+use Rattle.domain_builder.specs.declared.part.Part.{Part}
+use Rattle.domain_builder.specs.declared.push_error.PushNameError.{PushNameError}
+use Rattle.domain_builder.specs.declared.push_error.PushNameError.TheVariants as name
+use Rattle.domain_builder.specs.declared.push_error.PushError.{PushError}
+use Rattle.domain_builder.specs.declared.push_error.PushError.TheVariants.{LongLabel, LongName, ShortBuf}
+
+-- What holds at each error.
+abbrev pub MatchPushError : PushError → Type 0 → Type 0 → Type 0 → Type 0
+MatchPushError LongLabel P Q R = P
+MatchPushError LongName P Q R = Q
+MatchPushError ShortBuf P Q R = R
+
+-- A call whose label would have so many octets and the whole so many, where so many fit without new memory.
+-- A long label is told first. Where neither is long, it is refused only where the whole doesn't fit.
+abbrev pub LabelThenName : (label whole room : ℕ) → Result (Unit {0}) PushError → Type 0
+LabelThenName label whole room r =
+    MatchResult r (λ _. (label ≤ 63) × (whole ≤ 254))
+    (λ e. MatchPushError e (63 < label) ((label ≤ 63) × (254 < whole)) ((label ≤ 63) × (whole ≤ 254) × (room < whole)))
+
+-- The same, where a long name is told first.
+abbrev pub NameThenLabel : (label whole room : ℕ) → Result (Unit {0}) PushError → Type 0
+NameThenLabel label whole room r =
+    MatchResult r (λ _. (label ≤ 63) × (whole ≤ 254))
+    (λ e. MatchPushError e ((whole ≤ 254) × (63 < label)) (254 < whole) ((label ≤ 63) × (whole ≤ 254) × (room < whole)))
+
+-- The same, where the label can't be long.
+abbrev pub NameAlone : (whole room : ℕ) → Result (Unit {0}) PushError → Type 0
+NameAlone whole room r =
+    MatchResult r (λ _. whole ≤ 254) (λ e. MatchPushError e ⊥ (254 < whole) ((whole ≤ 254) × (room < whole)))
+
+-- A part of a text is taken, or nothing changes: it is refused, or else what it makes doesn't fit.
+abbrev pub TakesPart : (room : ℕ) → Built → Part → Result (Unit {0}) FromStrError → Built → Type 0
+TakesPart room b p r new =
+    MatchResult r (λ _. (refusal b p ≡ None) × (new ≡ after b p))
+    (λ e. (new ≡ b) × MatchFromStr e (λ f. refusal b p ≡ Some f) ((refusal b p ≡ None) × (room < size (after b p))))
+
+-- Parts are taken in turn, up to the first that is refused or doesn't fit. What those before it made stays.
+abbrev pub TakesParts : (room : ℕ) → Built → List Part → Result (Unit {0}) FromStrError → Built → Type 0
+TakesParts room b ps r new =
+    MatchResult r (λ _. Makes b ps new) (λ e. MatchFromStr e (StopsAt b ps new) (LacksRoom room b ps new))
+
+-- What a refusal of octets is told as, where the octets are those of a text.
+abbrev pub PushTold : PushError → FromStrError → Type 0
+PushTold LongLabel e = MatchFromStr e (λ f. f ≡ fault.LongLabel) ⊥
+PushTold LongName e = MatchFromStr e (λ f. f ≡ fault.LongName) ⊥
+PushTold ShortBuf e = e ≡ short.ShortBuf
+
+abbrev pub PushNameTold : PushNameError → FromStrError → Type 0
+PushNameTold name.LongName e = MatchFromStr e (λ f. f ≡ fault.LongName) ⊥
+PushNameTold name.ShortBuf e = e ≡ short.ShortBuf
+
+-- A call that makes so many octets, where so many fit without new memory.
+abbrev pub NameFits : (whole room : ℕ) → Result (Unit {0}) PushNameError → Type 0
+NameFits whole room (Ok u) = whole ≤ 254
+NameFits whole room (Err name.LongName) = 254 < whole
+NameFits whole room (Err name.ShortBuf) = (whole ≤ 254) × (room < whole)
+
+-- The same with an absolute name at the end.
+abbrev pub OriginFits : {A : Type 0} → (whole room : ℕ) → Result A PushNameError → Type 0
+OriginFits whole room (Ok octets) = whole ≤ 255
+OriginFits whole room (Err name.LongName) = 255 < whole
+OriginFits whole room (Err name.ShortBuf) = (whole ≤ 255) × (room < whole)

@@ -1,0 +1,119 @@
+//! Building by the symbols of a text.
+ghost use Rattle.std.specs.Prelude.{ℕ, ◌≤◌, List, Result};
+ghost use Rattle.std.specs.Iterator.{AlwaysYields, IsFinite};
+ghost use Rattle.std.specs.Str.{chars};
+ghost use Rattle.domain_label.specs.declared.symbol.Symbol.{Symbol};
+ghost use Rattle.domain_label.specs.declared.symbol.SymbolCharsError.{SymbolCharsError};
+ghost use Rattle.domain_label.specs.Spelling.{Reads};
+ghost use Rattle.domain_builder.specs.Parts.{parts, symbol_part, symbol_parts};
+ghost use Rattle.domain_builder.specs.Pushing.{TakesPart, TakesParts};
+ghost use Rattle.domain_builder.specs.Inside.{room};
+
+use crate::error::FromStrError;
+use crate::labels::LabelsBuilder;
+use crate::part::{Fault, Part, part_of};
+use domain_label::scan::{Symbol, SymbolCharsError, Symbols, WholeSymbols};
+use octseq::{OctetsBuilder, OctetsMut};
+
+impl<B: OctetsBuilder + OctetsMut> LabelsBuilder<B> {
+    /// Adds a part of a text: a dot ends the open label.
+    fn push_part(&mut self, part: Part) -> Result<(), FromStrError>
+        ensures takes { TakesPart (room B.limit self.old) self.old.built part result self.new.built }
+        ensures capacity { self.old.capacity ≤ self.new.capacity }
+    {
+        match part {
+            Part::Octet(octet) => match self.push(octet) {
+                Ok(()) => Ok(()),
+                Err(e) => Err(e.into()),
+            },
+            Part::Dot => {
+                if !self.in_label() {
+                    return Err(Fault::EmptyLabel.into());
+                }
+                self.end_label();
+                Ok(())
+            }
+            Part::Bracket => {
+                if !self.in_label() {
+                    return Err(Fault::BinaryLabel.into());
+                }
+                match self.push(b'[') {
+                    Ok(()) => Ok(()),
+                    Err(e) => Err(e.into()),
+                }
+            }
+            Part::Nothing(fault) => Err(fault.into()),
+        }
+    }
+
+    /// Ends the open label at a plain dot, and pushes the octet of any other symbol.
+    ///
+    /// `EmptyLabel` at a dot where no label is open, `BinaryLabel` at `\[` there, `BadSymbol` at a character
+    /// that stands for no octet; else the refusals of `push`. A refused call changes nothing.
+    pub fn push_symbol(&mut self, symbol: Symbol) -> Result<(), FromStrError>
+        ensures takes { TakesPart (room B.limit self.old) self.old.built (symbol_part symbol) result self.new.built }
+        ensures capacity { self.old.capacity ≤ self.new.capacity }
+    {
+        self.push_part(part_of(Ok(symbol)))
+    }
+
+    /// Pushes what is read of a text in turn, up to the first part that is refused.
+    fn append_items<I: Iterator<Item = Result<Symbol, SymbolCharsError>> + Drop>(
+        &mut self,
+        items: I,
+    ) -> Result<(), FromStrError>
+        requires can { I.can_next items }
+        requires ends { IsFinite (I.remaining items) }
+        ensures takes { (all : List (Result Symbol SymbolCharsError)) → AlwaysYields I.next_gives (λ x. x) items all →
+            TakesParts (room B.limit self.old) self.old.built (parts all) result self.new.built }
+        ensures capacity { self.old.capacity ≤ self.new.capacity }
+    {
+        for item in items {
+            match self.push_part(part_of(item)) {
+                Ok(()) => {}
+                Err(e) => return Err(e),
+            }
+        }
+        Ok(())
+    }
+
+    /// Pushes the symbols of a text in turn, up to the first that is refused. They continue an open label.
+    ///
+    /// The error is that of the first symbol that is refused, or of a broken escape. What the symbols
+    /// before it made stays.
+    pub fn append_chars<I: Iterator<Item = char> + Drop>(
+        &mut self,
+        chars: I,
+    ) -> Result<(), FromStrError>
+        requires can { I.can_next chars }
+        requires ends { IsFinite (I.remaining chars) }
+        ensures takes { (cs : List ℕ) (items : List (Result Symbol SymbolCharsError)) → AlwaysYields I.next_gives (λ c. c) chars cs → Reads cs items →
+            TakesParts (room B.limit self.old) self.old.built (parts items) result self.new.built }
+        ensures capacity { self.old.capacity ≤ self.new.capacity }
+    {
+        self.append_items(Symbols::new(chars))
+    }
+
+    /// Pushes symbols in turn, up to the first that is refused, as `append_chars` does those of a text.
+    pub fn append_symbols<I: Iterator<Item = Symbol> + Drop>(
+        &mut self,
+        symbols: I,
+    ) -> Result<(), FromStrError>
+        requires can { I.can_next symbols }
+        requires ends { IsFinite (I.remaining symbols) }
+        ensures takes { (ss : List Symbol) → AlwaysYields I.next_gives (λ x. x) symbols ss →
+            TakesParts (room B.limit self.old) self.old.built (symbol_parts ss) result self.new.built }
+        ensures capacity { self.old.capacity ≤ self.new.capacity }
+    {
+        self.append_items(WholeSymbols::new(symbols))
+    }
+
+    /// Pushes the symbols of a text in turn, as `append_chars` does those of its characters.
+    pub fn append_str(&mut self, text: &str) -> Result<(), FromStrError>
+        ensures takes { (items : List (Result Symbol SymbolCharsError)) → Reads (chars text.now) items →
+            TakesParts (room B.limit self.old) self.old.built (parts items) result self.new.built }
+        ensures capacity { self.old.capacity ≤ self.new.capacity }
+    {
+        self.append_chars(text.chars())
+    }
+}

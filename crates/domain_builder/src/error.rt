@@ -1,0 +1,242 @@
+//! Why a text is no name.
+ghost use Rattle.std.specs.Prelude.{◌≡◌};
+ghost use Rattle.domain_builder.specs.Told.{presentation_error_kind, presentation_fault, label_fault, broken_fault, MatchFromStr};
+ghost use Rattle.domain_builder.specs.declared.error.PresentationErrorKind.TheVariants.{BadLabel};
+ghost use Rattle.domain_builder.specs.declared.error.FromStrError.TheVariants as from_str;
+ghost use Rattle.domain_builder.specs.declared.part.Fault.TheVariants as fault;
+
+use crate::part::Fault;
+use crate::push_error::{PushError, PushNameError};
+use domain_label::scan::{BadSymbol, SymbolCharsError};
+use domain_label::{LabelFromStrError, LabelFromStrErrorKind};
+use octseq::ShortBuf;
+use std::error::Error;
+use std::fmt;
+
+/// Why a text is no name.
+#[derive(Clone, Copy, Debug, PartialEq, Eq)]
+pub enum PresentationErrorKind {
+    /// A label is none.
+    BadLabel(LabelFromStrError),
+    /// A dot stands where no label is open.
+    EmptyLabel,
+    /// The name is too long.
+    LongName,
+}
+
+/// A text that is no name.
+#[derive(Clone, Copy, Debug, PartialEq, Eq)]
+pub struct PresentationError {
+    kind: PresentationErrorKind,
+}
+
+impl PresentationError {
+    /// Why the text is no name.
+    pub fn kind(&self) -> PresentationErrorKind
+        ensures { result ≡ presentation_error_kind self.now }
+    {
+        self.kind
+    }
+}
+
+impl From<PresentationErrorKind> for PresentationError {
+    ghost from_gives = { λ kind e. presentation_error_kind e ≡ kind };
+
+    fn from(kind: PresentationErrorKind) -> Self {
+        PresentationError { kind }
+    }
+}
+
+impl fmt::Display for PresentationError {
+    fn fmt<W: fmt::Write>(&self, f: &mut fmt::Formatter<W>) -> fmt::Result {
+        match self.kind {
+            PresentationErrorKind::BadLabel(e) => write!(f, "{e}"),
+            PresentationErrorKind::EmptyLabel => write!(f, "empty label"),
+            PresentationErrorKind::LongName => write!(f, "long domain name"),
+        }
+    }
+}
+
+impl Error for PresentationError {}
+
+/// Why no name was made from a text.
+#[derive(Clone, Copy, Debug, PartialEq, Eq)]
+pub enum FromStrError {
+    /// The text is no name.
+    Presentation(PresentationError),
+    /// The octets don't fit, or there was no memory for them.
+    ShortBuf,
+}
+
+impl fmt::Display for FromStrError {
+    fn fmt<W: fmt::Write>(&self, f: &mut fmt::Formatter<W>) -> fmt::Result {
+        match self {
+            FromStrError::Presentation(e) => write!(f, "{e}"),
+            FromStrError::ShortBuf => {
+                let short = ShortBuf;
+                write!(f, "{short}")
+            }
+        }
+    }
+}
+
+impl Error for FromStrError {}
+
+impl From<Fault> for FromStrError {
+    ghost from_gives = { λ fault e. MatchFromStr e (λ f. f ≡ fault) ⊥ };
+
+    fn from(fault: Fault) -> Self {
+        FromStrError::Presentation(PresentationError {
+            kind: presentation(fault),
+        })
+    }
+}
+
+impl From<ShortBuf> for FromStrError {
+    ghost use Rattle.domain_builder.specs.declared.error.FromStrError.TheVariants.{ShortBuf};
+
+    ghost from_gives = { λ _ e. e ≡ ShortBuf };
+
+    fn from(_short: ShortBuf) -> Self {
+        FromStrError::ShortBuf
+    }
+}
+
+/// Why no relative name was made from a text.
+#[derive(Clone, Copy, Debug, PartialEq, Eq)]
+pub enum RelativeFromStrError {
+    /// The text is no relative name, or its octets lack room.
+    FromStr(FromStrError),
+    /// The text ends in a dot, as an absolute name does.
+    AbsoluteName,
+}
+
+impl fmt::Display for RelativeFromStrError {
+    fn fmt<W: fmt::Write>(&self, f: &mut fmt::Formatter<W>) -> fmt::Result {
+        match self {
+            RelativeFromStrError::FromStr(e) => write!(f, "{e}"),
+            RelativeFromStrError::AbsoluteName => write!(f, "absolute domain name"),
+        }
+    }
+}
+
+impl Error for RelativeFromStrError {}
+
+impl From<FromStrError> for RelativeFromStrError {
+    ghost use Rattle.domain_builder.specs.declared.error.RelativeFromStrError.TheVariants.{FromStr};
+
+    ghost from_gives = { λ e r. r ≡ FromStr e };
+
+    fn from(e: FromStrError) -> Self {
+        RelativeFromStrError::FromStr(e)
+    }
+}
+
+impl From<PushError> for FromStrError {
+    ghost use Rattle.domain_builder.specs.Pushing.{PushTold};
+
+    ghost from_gives = { λ push e. PushTold push e };
+
+    fn from(push: PushError) -> Self {
+        match push {
+            PushError::LongLabel => Fault::LongLabel.into(),
+            PushError::LongName => Fault::LongName.into(),
+            PushError::ShortBuf => FromStrError::ShortBuf,
+        }
+    }
+}
+
+/// A fault of a label.
+fn label(kind: LabelFromStrErrorKind) -> PresentationErrorKind
+    ensures { presentation_fault result ≡ label_fault kind }
+{
+    PresentationErrorKind::BadLabel(kind.into())
+}
+
+/// The fault as the errors tell it.
+fn presentation(fault: Fault) -> PresentationErrorKind
+    ensures { presentation_fault result ≡ fault }
+{
+    match fault {
+        Fault::ShortInput => label(LabelFromStrErrorKind::SymbolChars(
+            SymbolCharsError::ShortInput,
+        )),
+        Fault::BadEscape => label(LabelFromStrErrorKind::SymbolChars(SymbolCharsError::BadEscape)),
+        Fault::BadSymbol => label(LabelFromStrErrorKind::BadSymbol(BadSymbol)),
+        Fault::BinaryLabel => label(LabelFromStrErrorKind::BinaryLabel),
+        Fault::LongLabel => label(LabelFromStrErrorKind::LongLabel),
+        Fault::EmptyLabel => PresentationErrorKind::EmptyLabel,
+        Fault::LongName => PresentationErrorKind::LongName,
+    }
+}
+
+impl From<LabelFromStrError> for PresentationError {
+    ghost from_gives = { λ e r. presentation_error_kind r ≡ BadLabel e };
+
+    fn from(e: LabelFromStrError) -> Self {
+        PresentationErrorKind::BadLabel(e).into()
+    }
+}
+
+impl From<SymbolCharsError> for PresentationError {
+    ghost from_gives = { λ e r. presentation_fault (presentation_error_kind r) ≡ broken_fault e };
+
+    fn from(e: SymbolCharsError) -> Self {
+        LabelFromStrError::from(e).into()
+    }
+}
+
+impl From<BadSymbol> for PresentationError {
+    ghost from_gives = { λ _ r. presentation_fault (presentation_error_kind r) ≡ fault.BadSymbol };
+
+    fn from(e: BadSymbol) -> Self {
+        LabelFromStrError::from(e).into()
+    }
+}
+
+impl From<PresentationError> for FromStrError {
+    ghost from_gives = { λ e r. r ≡ from_str.Presentation e };
+
+    fn from(e: PresentationError) -> Self {
+        FromStrError::Presentation(e)
+    }
+}
+
+impl From<LabelFromStrError> for FromStrError {
+    ghost use Rattle.domain_builder.specs.Told.{IsBadLabel};
+
+    ghost from_gives = { λ e r. IsBadLabel e r };
+
+    fn from(e: LabelFromStrError) -> Self {
+        FromStrError::Presentation(e.into())
+    }
+}
+
+impl From<SymbolCharsError> for FromStrError {
+    ghost from_gives = { λ e r. MatchFromStr r (λ f. f ≡ broken_fault e) ⊥ };
+
+    fn from(e: SymbolCharsError) -> Self {
+        FromStrError::Presentation(e.into())
+    }
+}
+
+impl From<BadSymbol> for FromStrError {
+    ghost from_gives = { λ _ r. MatchFromStr r (λ f. f ≡ fault.BadSymbol) ⊥ };
+
+    fn from(e: BadSymbol) -> Self {
+        FromStrError::Presentation(e.into())
+    }
+}
+
+impl From<PushNameError> for FromStrError {
+    ghost use Rattle.domain_builder.specs.Pushing.{PushNameTold};
+
+    ghost from_gives = { λ push e. PushNameTold push e };
+
+    fn from(push: PushNameError) -> Self {
+        match push {
+            PushNameError::LongName => Fault::LongName.into(),
+            PushNameError::ShortBuf => FromStrError::ShortBuf,
+        }
+    }
+}

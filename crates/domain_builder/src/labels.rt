@@ -1,0 +1,488 @@
+//! Labels put together in the octets of a builder. A builder of names is made of one.
+ghost use Rattle.std.specs.Prelude.{◌≡◌, ◌++◌, ℕ, List, [], ◌∷◌, ◌≤◌, ◌<◌, ◌^◌, ◌+◌, ◌%◌, nat_lt, length, take, slice_set, true, Some, None, IfOk, OnOk, OnErr, IfErr, IfSome, IsSome, IsOk};
+ghost use Rattle.std.specs.Fmt.{decimal, digit_glyph};
+ghost use Rattle.domain_label.specs.Wire.{wire, IsAbsoluteWire, IsRelativeName, IsRelativeWire, labels_in};
+ghost use Rattle.domain_builder.specs.Built.{nothing, finished, closed, pushed, ended, labelled, named, shown, size};
+ghost use Rattle.domain_builder.specs.Inside.{room};
+ghost use Rattle.domain_builder.specs.Pushing.{NameThenLabel, LabelThenName, NameAlone, NameFits, OriginFits};
+
+use crate::push_error::{PushError, PushNameError};
+use arrayvec::ArrayVec;
+use domain_list::composing::compose_labels;
+use domain_list::{AbsoluteLabels, RelativeLabels};
+use octseq::{EmptyBuilder, FreezeBuilder, Octets, OctetsBuilder, OctetsFrom, OctetsMut, ShortBuf};
+use std::alloc::Global;
+use std::marker::Model;
+
+/// Labels that are finished, and maybe one that is still open and has octets already.
+#[derive(Drop)]
+pub struct LabelsBuilder<B: OctetsBuilder + OctetsMut> {
+    pub(crate) builder: B,
+    /// The place of the open label's length octet.
+    pub(crate) head: Option<usize>,
+}
+
+impl<B: OctetsBuilder + OctetsMut> Model for LabelsBuilder<B> {
+    ghost use Rattle.domain_builder.specs.Inside.{Held, view_of, IsInside};
+
+    ghost Value = { Held };
+
+    ghost view = { λ s. record { built = view_of (B.octets s.builder) s.head; capacity = B.capacity s.builder } };
+
+    ghost invariant = { λ s. IsInside (B.octets s.builder) s.head };
+}
+
+impl<B: EmptyBuilder + OctetsMut> LabelsBuilder<B> {
+    /// A builder of nothing.
+    pub fn new(alloc: Global) -> Self
+        ensures built { result.built ≡ nothing }
+        ensures room { IfSome B.ROOM (λ n. result.capacity ≡ n) }
+    {
+        LabelsBuilder {
+            builder: B::empty(alloc),
+            head: None,
+        }
+    }
+
+    /// A builder of nothing that has room for so many octets, where no room is fixed.
+    pub fn with_capacity(alloc: Global, capacity: usize) -> Result<Self, ShortBuf>
+        ensures built { IfOk result (λ made. made.built ≡ nothing) }
+        ensures room { IfSome B.ROOM (λ n. IfOk result (λ made. made.capacity ≡ n)) }
+        ensures ok { IsSome B.ROOM → IsOk result }
+        ensures none { capacity ≡ 0 → IsOk result }
+        ensures capacity { B.ROOM ≡ None → IfOk result (λ made. capacity ≤ made.capacity) }
+    {
+        match B::with_capacity(alloc, capacity) {
+            Ok(builder) => Ok(LabelsBuilder {
+                builder,
+                head: None,
+            }),
+            Err(e) => Err(e),
+        }
+    }
+}
+
+impl<B: OctetsBuilder + OctetsMut> LabelsBuilder<B> {
+    /// A builder of the labels whose wire form the octets are.
+    pub fn from_wire(builder: B) -> Self
+        requires { IsRelativeWire (B.octets builder) }
+        ensures built { result.built ≡ finished (labels_in (B.octets builder)) }
+        ensures capacity { result.capacity ≡ B.capacity builder }
+    {
+        LabelsBuilder {
+            builder,
+            head: None,
+        }
+    }
+
+    /// Whether a label is open.
+    pub fn in_label(&self) -> bool
+        ensures { result ≡ nat_lt 0 (length self.now.built.open_label) }
+    {
+        self.head.is_some()
+    }
+
+    /// The octets, in which an open label's length is 0.
+    pub fn as_slice(&self) -> &[u8]
+        ensures octets { result.now ≡ shown self.now.built }
+        ensures len { length result.now ≤ 254 }
+    {
+        self.builder.as_slice()
+    }
+
+    /// The number of octets.
+    #[tactic(auto, using(crate::proofs::Building::size_shown))]
+    pub fn len(&self) -> usize
+        ensures size { result ≡ size self.now.built }
+        ensures short { result ≤ 254 }
+    {
+        self.as_slice().len()
+    }
+
+    /// The number of octets of the open label.
+    fn open_len(&self) -> usize
+        ensures label { result ≡ length self.now.built.open_label }
+        ensures short { result ≤ 63 }
+    {
+        match self.head {
+            Some(head) => self.builder.as_slice().len() - head - 1,
+            None => 0,
+        }
+    }
+
+    /// The number of octets with n more in the open label.
+    #[tactic(auto, using(crate::proofs::Building::size_pushed_open, crate::proofs::Building::size_pushed_none))]
+    fn len_with(&self, n: usize) -> usize
+        requires some { 0 < n }
+        requires small { n < 2 ^ 63 }
+        ensures size { (s : List ℕ) → length s ≡ n → result ≡ size (pushed self.now.built s) }
+    {
+        if self.in_label() {
+            self.len() + n
+        } else {
+            self.len() + n + 1
+        }
+    }
+
+    /// What is built are the labels of a relative name.
+    fn is_name(&self)
+        ensures { IsRelativeName (closed self.now.built) }
+    {
+        let _ = &self.builder;
+    }
+
+    /// Adds octets that make neither a long label nor a long name.
+    fn add(&mut self, slice: &[u8]) -> Result<(), PushError>
+        requires some { 0 < length slice.now }
+        requires label { length (pushed self.old.built slice.now).open_label ≤ 63 }
+        requires name { size (pushed self.old.built slice.now) ≤ 254 }
+        ensures made { OnOk result (self.new.built ≡ pushed self.old.built slice.now) }
+        ensures kept { OnErr result (self.new.built ≡ self.old.built) }
+        ensures refused { IfErr result (λ e. (e ≡ PushError.ShortBuf) × (room B.limit self.old < size (pushed self.old.built slice.now))) }
+        ensures capacity { self.old.capacity ≤ self.new.capacity }
+    {
+        if self.head.is_some() {
+            match self.builder.append_slice(slice) {
+                Ok(()) => return Ok(()),
+                Err(_) => return Err(PushError::ShortBuf),
+            }
+        }
+        let head = self.builder.as_slice().len();
+        let octets = headed(0, slice);
+        match self.builder.append_slice(&octets[..slice.len() + 1]) {
+            Ok(()) => {}
+            Err(_) => return Err(PushError::ShortBuf),
+        }
+        self.head = Some(head);
+        Ok(())
+    }
+
+    /// Adds an octet to the open label, or opens one.
+    pub fn push(&mut self, ch: u8) -> Result<(), PushError>
+        ensures made { OnOk result (self.new.built ≡ pushed self.old.built (ch ∷ [])) }
+        ensures kept { OnErr result (self.new.built ≡ self.old.built) }
+        ensures answer { NameThenLabel (length (pushed self.old.built (ch ∷ [])).open_label) (size (pushed self.old.built (ch ∷ []))) (room B.limit self.old) result }
+        ensures capacity { self.old.capacity ≤ self.new.capacity }
+    {
+        if self.len_with(1) > 254 {
+            return Err(PushError::LongName);
+        }
+        if self.open_len() >= 63 {
+            return Err(PushError::LongLabel);
+        }
+        self.add(&[ch])
+    }
+
+    /// Adds octets to the open label, or opens one, but for no octets.
+    #[tactic(auto, using(crate::proofs::Building::nothing_pushed))]
+    pub fn append_slice(&mut self, slice: &[u8]) -> Result<(), PushError>
+        ensures made { OnOk result (self.new.built ≡ pushed self.old.built slice.now) }
+        ensures kept { OnErr result (self.new.built ≡ self.old.built) }
+        ensures answer { LabelThenName (length (pushed self.old.built slice.now).open_label) (size (pushed self.old.built slice.now)) (room B.limit self.old) result }
+        ensures nothing { slice.now ≡ [] → IsOk result }
+        ensures capacity { self.old.capacity ≤ self.new.capacity }
+    {
+        if slice.is_empty() {
+            let _size = (self.len(), self.open_len());
+            return Ok(());
+        }
+        if slice.len() > 63 - self.open_len() {
+            return Err(PushError::LongLabel);
+        }
+        if self.len_with(slice.len()) > 254 {
+            return Err(PushError::LongName);
+        }
+        self.add(slice)
+    }
+
+    /// Finishes the open label, if any.
+    pub fn end_label(&mut self)
+        ensures ended { self.new.built ≡ ended self.old.built }
+        ensures capacity { self.old.capacity ≤ self.new.capacity }
+    {
+        if let Some(head) = self.head {
+            let open = self.builder.as_slice().len() - head - 1;
+            set_octet(&mut self.builder, head, open as u8);
+            self.head = None;
+        }
+    }
+
+    /// Finishes the open label and adds a label, but for no octets.
+    #[tactic(auto, using(crate::proofs::Building::size_labelled, crate::proofs::Building::labelled_nothing))]
+    pub fn append_label(&mut self, slice: &[u8]) -> Result<(), PushError>
+        ensures made { OnOk result (self.new.built ≡ labelled self.old.built slice.now) }
+        ensures kept { OnErr result (self.new.built ≡ self.old.built) }
+        ensures answer { LabelThenName (length slice.now) (size (labelled self.old.built slice.now)) (room B.limit self.old) result }
+        ensures nothing { slice.now ≡ [] → IsOk result }
+        ensures capacity { self.old.capacity ≤ self.new.capacity }
+    {
+        if slice.is_empty() {
+            let _size = self.len();
+            self.end_label();
+            return Ok(());
+        }
+        if slice.len() > 63 {
+            return Err(PushError::LongLabel);
+        }
+        if self.len() + slice.len() + 1 > 254 {
+            return Err(PushError::LongName);
+        }
+        self.add_label(slice)
+    }
+
+    /// Finishes the open label and adds a label that isn't long and makes no long name.
+    fn add_label(&mut self, slice: &[u8]) -> Result<(), PushError>
+        requires some { 0 < length slice.now }
+        requires label { length slice.now ≤ 63 }
+        requires name { size (labelled self.old.built slice.now) ≤ 254 }
+        ensures made { OnOk result (self.new.built ≡ labelled self.old.built slice.now) }
+        ensures kept { OnErr result (self.new.built ≡ self.old.built) }
+        ensures refused { IfErr result (λ e. (e ≡ PushError.ShortBuf) × (room B.limit self.old < size (labelled self.old.built slice.now))) }
+        ensures capacity { self.old.capacity ≤ self.new.capacity }
+    {
+        let end = self.builder.as_slice().len();
+        let octets = headed(slice.len() as u8, slice);
+        match self.builder.append_slice(&octets[..slice.len() + 1]) {
+            Ok(()) => {}
+            Err(_) => return Err(PushError::ShortBuf),
+        }
+        if let Some(head) = self.head {
+            let open = end - head - 1;
+            set_octet(&mut self.builder, head, open as u8);
+            self.head = None;
+        }
+        Ok(())
+    }
+
+    /// Finishes the open label and adds a label of a number's decimal digits.
+    pub fn append_dec_u8_label(&mut self, value: u8) -> Result<(), PushError>
+        ensures made { OnOk result (self.new.built ≡ labelled self.old.built (decimal value)) }
+        ensures kept { OnErr result (self.new.built ≡ self.old.built) }
+        ensures answer { NameAlone (size (labelled self.old.built (decimal value))) (room B.limit self.old) result }
+        ensures capacity { self.old.capacity ≤ self.new.capacity }
+    {
+        let (high, middle, low) = (
+            b'0' + value / 100,
+            b'0' + value / 10 % 10,
+            b'0' + value % 10,
+        );
+        if value < 10 {
+            return self.append_label(&[low]);
+        }
+        if value < 100 {
+            return self.append_label(&[middle, low]);
+        }
+        self.append_label(&[high, middle, low])
+    }
+
+    /// Finishes the open label and adds a label of one upper case digit, that of the lowest four bits.
+    pub fn append_hex_digit_label(&mut self, nibble: u8) -> Result<(), PushError>
+        ensures made { OnOk result (self.new.built ≡ labelled self.old.built (digit_glyph true (nibble % 16) ∷ [])) }
+        ensures kept { OnErr result (self.new.built ≡ self.old.built) }
+        ensures answer { NameAlone (size (labelled self.old.built (digit_glyph true (nibble % 16) ∷ []))) (room B.limit self.old) result }
+        ensures capacity { self.old.capacity ≤ self.new.capacity }
+    {
+        self.append_label(&[hex_digit(nibble)])
+    }
+
+    /// Finishes the open label and adds the labels of a relative name of any kind, in one piece that is
+    /// appended once.
+    #[tactic(auto, using(crate::proofs::Building::size_named))]
+    pub fn append_name<'a, N: RelativeLabels<'a>>(
+        &mut self,
+        name: &'a N,
+    ) -> Result<(), PushNameError>
+        ensures made { OnOk result (self.new.built ≡ named self.old.built (N.labels name.now)) }
+        ensures kept { OnErr result (self.new.built ≡ self.old.built) }
+        ensures answer { NameFits (size (named self.old.built (N.labels name.now))) (room B.limit self.old) result }
+        ensures capacity { self.old.capacity ≤ self.new.capacity }
+    {
+        if self.len() + name.compose_len() as usize > 254 {
+            return Err(PushNameError::LongName);
+        }
+        let mut octets = ArrayVec::<u8, 255>::new();
+        let Ok(()) = compose_labels(name.iter_labels(), &mut octets) else {
+            unreachable!();
+        };
+        match self.add_labels(octets.as_slice()) {
+            Ok(()) => Ok(()),
+            Err(_) => Err(PushNameError::ShortBuf),
+        }
+    }
+
+    /// Finishes the open label and adds the labels whose wire form the octets are.
+    #[tactic(auto, using(crate::proofs::Building::size_named_wire))]
+    pub fn append_wire(&mut self, slice: &[u8]) -> Result<(), PushNameError>
+        requires labels { IsRelativeWire slice.now }
+        ensures made { OnOk result (self.new.built ≡ named self.old.built (labels_in slice.now)) }
+        ensures kept { OnErr result (self.new.built ≡ self.old.built) }
+        ensures answer { NameFits (size (named self.old.built (labels_in slice.now))) (room B.limit self.old) result }
+        ensures capacity { self.old.capacity ≤ self.new.capacity }
+    {
+        if self.len() + slice.len() > 254 {
+            return Err(PushNameError::LongName);
+        }
+        match self.add_labels(slice) {
+            Ok(()) => Ok(()),
+            Err(_) => Err(PushNameError::ShortBuf),
+        }
+    }
+
+    /// Finishes the open label and adds labels in their wire form that make no long name.
+    fn add_labels(&mut self, slice: &[u8]) -> Result<(), ShortBuf>
+        requires labels { IsRelativeWire slice.now }
+        requires short { size self.old.built + length slice.now ≤ 254 }
+        ensures made { OnOk result (self.new.built ≡ named self.old.built (labels_in slice.now)) }
+        ensures kept { OnErr result (self.new.built ≡ self.old.built) }
+        ensures full { OnErr result (room B.limit self.old < size self.old.built + length slice.now) }
+        ensures capacity { self.old.capacity ≤ self.new.capacity }
+    {
+        let len = self.builder.as_slice().len();
+        match self.builder.append_slice(slice) {
+            Ok(()) => {}
+            Err(_) => return Err(ShortBuf),
+        }
+        if let Some(head) = self.head {
+            let open = len - head - 1;
+            set_octet(&mut self.builder, head, open as u8);
+            self.head = None;
+        }
+        Ok(())
+    }
+}
+
+impl<B: OctetsBuilder + OctetsMut + FreezeBuilder + Drop> LabelsBuilder<B>
+where
+    B::Octets: Drop,
+{
+    /// Finishes the open label and gives the labels in their wire form.
+    pub fn finish(mut self) -> B::Octets
+        ensures wire { IsRelativeWire (⟦<B::Octets as Octets>⟧.octets result) }
+        ensures labels { labels_in (⟦<B::Octets as Octets>⟧.octets result) ≡ closed self.built }
+    {
+        self.is_name();
+        self.end_label();
+        let _size = self.len();
+        let LabelsBuilder { builder, head: _ } = self;
+        builder.freeze()
+    }
+
+    /// Finishes the open label and gives the labels, and behind them those of an absolute name whose wire
+    /// form is `origin`, in their wire form.
+    pub fn finish_with(mut self, origin: &[u8]) -> Result<B::Octets, ShortBuf>
+        requires origin { IsAbsoluteWire origin.now }
+        requires short { size self.built + length origin.now ≤ 255 }
+        ensures wire { IfOk result (λ octets. IsAbsoluteWire (⟦<B::Octets as Octets>⟧.octets octets)) }
+        ensures labels { IfOk result (λ octets. labels_in (⟦<B::Octets as Octets>⟧.octets octets) ≡ closed self.built ++ labels_in origin.now) }
+        ensures full { OnErr result (room B.limit self < size self.built + length origin.now) }
+    {
+        self.is_name();
+        self.end_label();
+        let _size = self.len();
+        let LabelsBuilder {
+            mut builder,
+            head: _,
+        } = self;
+        match builder.append_slice(origin) {
+            Ok(()) => Ok(builder.freeze()),
+            Err(_) => Err(ShortBuf),
+        }
+    }
+}
+
+impl<B: OctetsBuilder + OctetsMut + FreezeBuilder + Drop> LabelsBuilder<B>
+where
+    B::Octets: Drop,
+{
+    /// Finishes the open label and gives the labels, and behind them those of an absolute name of any kind,
+    /// in one piece that is appended once.
+    pub fn append_origin<'a, N: AbsoluteLabels<'a>>(
+        self,
+        origin: &'a N,
+    ) -> Result<B::Octets, PushNameError>
+        ensures wire { IfOk result (λ octets. IsAbsoluteWire (⟦<B::Octets as Octets>⟧.octets octets)) }
+        ensures labels { IfOk result (λ octets. labels_in (⟦<B::Octets as Octets>⟧.octets octets) ≡ closed self.built ++ N.labels origin.now) }
+        ensures answer { OriginFits (size self.built + length (wire (N.labels origin.now))) (room B.limit self) result }
+    {
+        if self.len() + origin.compose_len() as usize > 255 {
+            return Err(PushNameError::LongName);
+        }
+        let mut octets = ArrayVec::<u8, 255>::new();
+        let Ok(()) = compose_labels(origin.iter_labels(), &mut octets) else {
+            unreachable!();
+        };
+        match self.finish_with(octets.as_slice()) {
+            Ok(octets) => Ok(octets),
+            Err(_) => Err(PushNameError::ShortBuf),
+        }
+    }
+}
+
+impl LabelsBuilder<Vec<u8>> {
+    /// The same over new octets. `ShortBuf` only where memory was refused.
+    pub fn clone(&self, alloc: Global) -> Result<Self, ShortBuf>
+        ensures { IfOk result (λ copy. copy.built ≡ self.now.built) }
+    {
+        let builder = Vec::try_octets_from(alloc, self.builder.as_slice())?;
+        Ok(LabelsBuilder {
+            builder,
+            head: self.head,
+        })
+    }
+}
+
+impl<const N: usize> LabelsBuilder<ArrayVec<u8, N>> {
+    /// A builder of nothing.
+    pub fn new_array() -> Self
+        ensures { result.built ≡ nothing }
+    {
+        LabelsBuilder {
+            builder: ArrayVec::new(),
+            head: None,
+        }
+    }
+
+    /// The same over new octets. It can't be refused.
+    pub fn clone(&self, alloc: Global) -> Result<Self, ShortBuf>
+        ensures built { IfOk result (λ copy. copy.built ≡ self.now.built) }
+        ensures made { IsOk result }
+    {
+        let builder = ArrayVec::try_octets_from(alloc, self.builder.as_slice())?;
+        Ok(LabelsBuilder {
+            builder,
+            head: self.head,
+        })
+    }
+}
+
+/// The upper case digit of the lowest four bits.
+fn hex_digit(nibble: u8) -> u8
+    ensures { result ≡ digit_glyph true (nibble % 16) }
+{
+    let low = nibble % 16;
+    if low < 10 {
+        b'0' + low
+    } else {
+        b'A' + (low - 10)
+    }
+}
+
+/// A head and the octets behind it.
+fn headed(head: u8, slice: &[u8]) -> [u8; 64]
+    requires { length slice.now ≤ 63 }
+    ensures { take (length slice.now + 1) result ≡ head ∷ slice.now }
+{
+    let mut octets = [0; 64];
+    octets[0] = head;
+    octets[1..slice.len() + 1].copy_from_slice(slice);
+    octets
+}
+
+/// Writes one octet.
+fn set_octet<T: OctetsMut>(octets: &mut T, place: usize, octet: u8)
+    requires { place < length (T.octets octets.old) }
+    ensures octets { T.octets octets.new ≡ slice_set (T.octets octets.old) place octet }
+    ensures capacity { T.capacity octets.new ≡ T.capacity octets.old }
+{
+    octets.as_slice_mut()[place] = octet;
+}

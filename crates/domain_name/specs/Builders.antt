@@ -1,0 +1,11 @@
+-- What contracts see of builders of names.
+use Rattle.domain_builder.specs.Built.{Built}
+use Rattle.domain_builder.specs.Inside.{Held}
+use Rattle.domain_name.specs.declared.builder.NameBuilder.{NameBuilder}
+
+-- what a builder has built, and how many octets fit in all without new memory
+abbrev pub held : {B E : Type 0} → NameBuilder B E → Held
+held b = b.labels
+
+abbrev pub built : {B E : Type 0} → NameBuilder B E → Built
+built b = b.labels.built

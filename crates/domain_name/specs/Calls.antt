@@ -1,0 +1,63 @@
+-- Calls of a builder, one after another.
+use Rattle.std.specs.Prelude.{◌≡◌, ℕ, ◌+◌, ◌<◌, ◌≤◌, ◌⊎◌, Bool, true, false, Some, None, ◌%◌, List, [], ◌∷◌, length, Result}
+use Rattle.std.specs.Fmt.{decimal, digit_glyph}
+use Rattle.std.specs.Str.{chars}
+use Rattle.domain_label.specs.Spelling.{JustOne, Reads}
+use Rattle.domain_label.specs.declared.symbol.Symbol.{Symbol}
+use Rattle.domain_label.specs.declared.symbol.SymbolCharsError.{SymbolCharsError}
+use Rattle.domain_builder.specs.Built.{Built, size, pushed, ended, labelled, named, refusal, after, Makes, StopsAt, LacksRoom}
+use Rattle.domain_builder.specs.Parts.{parts, symbol_part}
+use Rattle.domain_name.specs.declared.calls.BuilderCall.{BuilderCall}
+use Rattle.domain_name.specs.declared.calls.BuilderCall.TheVariants.{Push, PushSymbol, AppendSlice, EndLabel, AppendLabel, AppendDecU8Label, AppendHexDigitLabel, AppendName, AppendChars}
+use Rattle.domain_builder.specs.declared.part.Fault.{Fault}
+use Rattle.domain_name.specs.Names.{relative_labels}
+
+-- A label of so many octets and all of them are short enough.
+abbrev pub Fits : ℕ → ℕ → Type 0
+Fits label whole = (label ≤ 63) × (whole ≤ 254)
+
+-- They aren't, or they exceed the room.
+abbrev pub Exceeds : ℕ → ℕ → ℕ → Type 0
+Exceeds room label whole = (63 < label) ⊎ ((254 < whole) ⊎ (room < whole))
+
+-- What an accepted call makes.
+abbrev pub Accepted : Built → BuilderCall → Built → Type 0
+Accepted b (Push c) new = (new ≡ pushed b (c ∷ [])) × Fits (length new.open_label) (size new)
+Accepted b (PushSymbol s) new = (refusal b (symbol_part s) ≡ None) × (new ≡ after b (symbol_part s))
+Accepted b (AppendSlice s) new = (new ≡ pushed b s.now) × Fits (length new.open_label) (size new)
+Accepted b EndLabel new = new ≡ ended b
+Accepted b (AppendLabel s) new = (new ≡ labelled b s.now) × Fits (length s.now) (size new)
+Accepted b (AppendDecU8Label n) new = (new ≡ labelled b (decimal n)) × (size new ≤ 254)
+Accepted b (AppendHexDigitLabel n) new = (new ≡ labelled b (digit_glyph true (n % 16) ∷ [])) × (size new ≤ 254)
+Accepted b (AppendName n) new = (new ≡ named b (relative_labels n)) × (size new ≤ 254)
+Accepted b (AppendChars s) new = (items : List (Result Symbol SymbolCharsError)) → Reads (chars s.now) items → Makes b (parts items) new
+
+-- All of them are too many octets, or exceed the room.
+abbrev pub IsTooMuch : ℕ → ℕ → Type 0
+IsTooMuch room whole = (254 < whole) ⊎ (room < whole)
+
+-- Why a call is passed over. It changes nothing, but that symbols of a text that were taken stay.
+abbrev pub PassedOver : ℕ → Built → BuilderCall → Built → Type 0
+PassedOver room b (Push c) new = (new ≡ b) × Exceeds room (length (pushed b (c ∷ [])).open_label) (size (pushed b (c ∷ [])))
+PassedOver room b (PushSymbol s) new = (new ≡ b) × (((f : Fault) × (refusal b (symbol_part s) ≡ Some f)) ⊎ ((refusal b (symbol_part s) ≡ None) × (room < size (after b (symbol_part s)))))
+PassedOver room b (AppendSlice s) new = (new ≡ b) × Exceeds room (length (pushed b s.now).open_label) (size (pushed b s.now))
+PassedOver room b EndLabel new = ⊥
+PassedOver room b (AppendLabel s) new = (new ≡ b) × Exceeds room (length s.now) (size (labelled b s.now))
+PassedOver room b (AppendDecU8Label n) new = (new ≡ b) × IsTooMuch room (size (labelled b (decimal n)))
+PassedOver room b (AppendHexDigitLabel n) new = (new ≡ b) × IsTooMuch room (size (labelled b (digit_glyph true (n % 16) ∷ [])))
+PassedOver room b (AppendName n) new = (new ≡ b) × IsTooMuch room (size (named b (relative_labels n)))
+PassedOver room b (AppendChars s) new = (items : List (Result Symbol SymbolCharsError)) → Reads (chars s.now) items → ((f : Fault) × StopsAt b (parts items) new f) ⊎ LacksRoom room b (parts items) new
+
+-- One call, accepted or not.
+abbrev pub Applies : ℕ → Built → BuilderCall → Built → Bool → Type 0
+Applies room b call new true = Accepted b call new
+Applies room b call new false = PassedOver room b call new
+
+-- Calls in turn, n of them accepted.
+abbrev pub AppliesAll : ℕ → Built → List BuilderCall → Built → ℕ → Type 0
+AppliesAll room b [] new n = (new ≡ b) × (n ≡ 0)
+AppliesAll room b (call ∷ calls) new n = (m : Built) × ((Accepted b call m × ((k : ℕ) × (n ≡ k + 1) × AppliesAll room m calls new k)) ⊎ (PassedOver room b call m × AppliesAll room m calls new n))
+
+-- Calls in turn have one outcome.
+abbrev pub OneOutcome : ℕ → Built → List BuilderCall → Type 0
+OneOutcome room b calls = JustOne (λ (o : Built × ℕ). AppliesAll room b calls o.0 o.1)

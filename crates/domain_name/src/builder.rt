@@ -1,0 +1,391 @@
+//! Building names label by label, or symbol by symbol.
+ghost use Rattle.std.specs.Prelude.{◌≡◌, ◌++◌, ◌↔◌, ℕ, List, [], ◌∷◌, ◌≤◌, ◌<◌, ◌+◌, ◌%◌, nat_lt, length, true, IsTrue, IsOk, IfOk, IfErr, OnOk, OnErr, IfSome, IsSome, None, Result};
+ghost use Rattle.std.specs.Fmt.{decimal, digit_glyph};
+ghost use Rattle.std.specs.Iterator.{AlwaysYields, IsFinite};
+ghost use Rattle.std.specs.Str.{chars};
+ghost use Rattle.domain_label.specs.Wire.{wire, Root, IsRelativeWire, labels_in};
+ghost use Rattle.domain_label.specs.Spelling.{Reads};
+ghost use Rattle.domain_label.specs.declared.symbol.Symbol.{Symbol};
+ghost use Rattle.domain_label.specs.declared.symbol.SymbolCharsError.{SymbolCharsError};
+ghost use Rattle.domain_flat.specs.Faults.{RelativeFault};
+ghost use Rattle.domain_flat.specs.Views.{relative_name_error_kind};
+ghost use Rattle.domain_builder.specs.Built.{nothing, finished, closed, pushed, ended, labelled, named, shown, size};
+ghost use Rattle.domain_builder.specs.Inside.{room};
+ghost use Rattle.domain_builder.specs.Parts.{parts, symbol_part, symbol_parts};
+ghost use Rattle.domain_builder.specs.Pushing.{NameThenLabel, LabelThenName, NameAlone, NameFits, OriginFits, TakesPart, TakesParts};
+ghost use Rattle.domain_builder.specs.declared.push_error.PushError.TheVariants as push;
+ghost use Rattle.domain_name.specs.Builders.{built, held};
+ghost use Rattle.domain_name.specs.Names.{name_labels, relative_labels};
+
+use crate::absolute::Name;
+use crate::relative::RelativeName;
+use arrayvec::ArrayVec;
+use domain_builder::{FromStrError, LabelsBuilder, PushError, PushNameError};
+use domain_flat::{RelativeNameError, check_relative};
+use domain_label::scan::Symbol;
+use domain_list::{AbsoluteLabels, RelativeLabels};
+use octseq::{EmptyBuilder, FreezeBuilder, Octets, OctetsBuilder, OctetsMut, ShortBuf};
+use std::alloc::Global;
+
+/// A name that is being put together: labels that are finished, and maybe one that is still open and has
+/// octets already.
+///
+/// With the length octets it never has more than 254, so that the root can follow. What is refused changes
+/// nothing, not even whether a label is open; only `append_symbols` and `append_chars` keep the symbols in
+/// front of the one that was refused. `ShortBuf` is answered where the octets don't fit the builder beneath,
+/// or where memory was refused.
+#[derive(Drop)]
+pub struct NameBuilder<B: OctetsBuilder + OctetsMut> {
+    labels: LabelsBuilder<B>,
+}
+
+impl<B: EmptyBuilder + OctetsMut> NameBuilder<B> {
+    /// A builder of nothing, which takes no memory yet.
+    pub fn new(alloc: Global) -> Self
+        ensures built { built result ≡ nothing }
+        ensures room { IfSome B.ROOM (λ n. (held result).capacity ≡ n) }
+    {
+        NameBuilder {
+            labels: LabelsBuilder::new(alloc),
+        }
+    }
+
+    /// A builder of nothing that has room for so many octets.
+    ///
+    /// Under a fixed room any number is taken, and the room stays what it is. Else it is `ShortBuf` where
+    /// memory was refused.
+    pub fn with_capacity(alloc: Global, capacity: usize) -> Result<Self, ShortBuf>
+        ensures built { IfOk result (λ builder. built builder ≡ nothing) }
+        ensures room { IfSome B.ROOM (λ n. IfOk result (λ builder. (held builder).capacity ≡ n)) }
+        ensures ok { IsSome B.ROOM → IsOk result }
+        ensures none { capacity ≡ 0 → IsOk result }
+        ensures capacity { B.ROOM ≡ None → IfOk result (λ builder. capacity ≤ (held builder).capacity) }
+    {
+        Ok(NameBuilder {
+            labels: LabelsBuilder::with_capacity(alloc, capacity)?,
+        })
+    }
+}
+
+impl NameBuilder<Vec<u8>> {
+    /// A builder of nothing over a `Vec`, which takes no memory yet.
+    pub fn new_vec(alloc: Global) -> Self
+        ensures { built result ≡ nothing }
+    {
+        NameBuilder::new(alloc)
+    }
+
+    /// A builder of nothing over a `Vec` that has room for so many octets. `ShortBuf` only where memory was
+    /// refused.
+    pub fn vec_with_capacity(alloc: Global, capacity: usize) -> Result<Self, ShortBuf>
+        ensures built { IfOk result (λ builder. built builder ≡ nothing) }
+        ensures none { capacity ≡ 0 → IsOk result }
+        ensures capacity { IfOk result (λ builder. capacity ≤ (held builder).capacity) }
+    {
+        NameBuilder::with_capacity(alloc, capacity)
+    }
+
+    /// The same builder over new octets, an open label too. `ShortBuf` only where memory was refused.
+    pub fn clone(&self, alloc: Global) -> Result<Self, ShortBuf>
+        ensures { IfOk result (λ copy. built copy ≡ built self.now) }
+    {
+        Ok(NameBuilder {
+            labels: self.labels.clone(alloc)?,
+        })
+    }
+}
+
+impl<const N: usize> NameBuilder<ArrayVec<u8, N>> {
+    /// The same builder over new octets, an open label too, which is never refused.
+    pub fn clone(&self, alloc: Global) -> Result<Self, ShortBuf>
+        ensures built { IfOk result (λ copy. built copy ≡ built self.now) }
+        ensures made { IsOk result }
+    {
+        Ok(NameBuilder {
+            labels: self.labels.clone(alloc)?,
+        })
+    }
+}
+
+impl<const N: usize> Default for NameBuilder<ArrayVec<u8, N>> {
+    ghost is_default = { λ builder. built builder ≡ nothing };
+
+    /// A builder of nothing.
+    fn default() -> Self {
+        NameBuilder {
+            labels: LabelsBuilder::new_array(),
+        }
+    }
+}
+
+impl<B: OctetsBuilder + OctetsMut> Octets for NameBuilder<B> {
+    ghost octets = { λ builder. shown (built builder) };
+
+    ghost capacity = { λ _. 0 };
+
+    fn as_slice(&self) -> &[u8] {
+        self.labels.as_slice()
+    }
+}
+
+impl<B: OctetsBuilder + OctetsMut + Drop> NameBuilder<B> {
+    /// A builder of the labels whose wire form the octets are, none of them open.
+    ///
+    /// `LongName` where they are more than 254; else the first fault from the left: `CompressedName` at a
+    /// pointer, `BadLabel` at another head that begins no label, `ShortInput` where they end inside a label,
+    /// `AbsoluteName` at a root.
+    pub fn from_builder(builder: B) -> Result<Self, RelativeNameError>
+        ensures ok { IfOk result (λ made. built made ≡ finished (labels_in (B.octets builder))) }
+        ensures capacity { IfOk result (λ made. (held made).capacity ≡ B.capacity builder) }
+        ensures accepts { IsOk result ↔ IsRelativeWire (B.octets builder) }
+        ensures err { IfErr result (λ e. RelativeFault (B.octets builder) (relative_name_error_kind e)) }
+    {
+        check_relative(builder.as_slice())?;
+        Ok(NameBuilder {
+            labels: LabelsBuilder::from_wire(builder),
+        })
+    }
+}
+
+impl<B: OctetsBuilder + OctetsMut> NameBuilder<B> {
+    /// A builder of the labels whose wire form the octets are known to be.
+    pub(crate) fn from_wire(builder: B) -> Self
+        requires { IsRelativeWire (B.octets builder) }
+        ensures built { built result ≡ finished (labels_in (B.octets builder)) }
+        ensures capacity { (held result).capacity ≡ B.capacity builder }
+    {
+        NameBuilder {
+            labels: LabelsBuilder::from_wire(builder),
+        }
+    }
+
+    /// The octets: the wire form of the finished labels, and behind it a 0 and the octets of the open label,
+    /// if any.
+    pub fn as_slice(&self) -> &[u8]
+        ensures octets { result.now ≡ shown (built self.now) }
+        ensures short { length result.now ≤ 254 }
+    {
+        self.labels.as_slice()
+    }
+
+    /// How many octets there are, with all length octets: at most 254.
+    pub fn len(&self) -> usize
+        ensures size { result ≡ size (built self.now) }
+        ensures short { result ≤ 254 }
+    {
+        self.labels.len()
+    }
+
+    /// Whether there is no label, not even an open one.
+    pub fn is_empty(&self) -> bool
+        ensures { IsTrue result ↔ (shown (built self.now) ≡ []) }
+    {
+        self.as_slice().is_empty()
+    }
+
+    /// Whether a label is open.
+    pub fn in_label(&self) -> bool
+        ensures { result ≡ nat_lt 0 (length (built self.now).open_label) }
+    {
+        self.labels.in_label()
+    }
+
+    /// Adds an octet to the open label, or opens one.
+    ///
+    /// `LongName` where all would be more than 254 octets; else `LongLabel` where the label would have more
+    /// than 63; else `ShortBuf`.
+    pub fn push(&mut self, ch: u8) -> Result<(), PushError>
+        ensures made { OnOk result (built self.new ≡ pushed (built self.old) (ch ∷ [])) }
+        ensures kept { OnErr result (built self.new ≡ built self.old) }
+        ensures answer { NameThenLabel (length (pushed (built self.old) (ch ∷ [])).open_label) (size (pushed (built self.old) (ch ∷ []))) (room B.limit (held self.old)) result }
+        ensures grows { (held self.old).capacity ≤ (held self.new).capacity }
+    {
+        self.labels.push(ch)
+    }
+
+    /// Adds octets to the open label, or opens one. No octets change nothing.
+    ///
+    /// `LongLabel` where the label would have more than 63 octets; else `LongName` where all would be more
+    /// than 254; else `ShortBuf`.
+    pub fn append_slice(&mut self, slice: &[u8]) -> Result<(), PushError>
+        ensures made { OnOk result (built self.new ≡ pushed (built self.old) slice.now) }
+        ensures kept { OnErr result (built self.new ≡ built self.old) }
+        ensures answer { LabelThenName (length (pushed (built self.old) slice.now).open_label) (size (pushed (built self.old) slice.now)) (room B.limit (held self.old)) result }
+        ensures grows { (held self.old).capacity ≤ (held self.new).capacity }
+        ensures nothing { slice.now ≡ [] → IsOk result }
+    {
+        self.labels.append_slice(slice)
+    }
+
+    /// Finishes the open label, if any. It can't be refused: the length octet has its place already.
+    pub fn end_label(&mut self)
+        ensures ended { built self.new ≡ ended (built self.old) }
+        ensures grows { (held self.old).capacity ≤ (held self.new).capacity }
+    {
+        self.labels.end_label();
+    }
+
+    /// Finishes the open label and adds a label. No octets add none.
+    ///
+    /// `LongLabel` where they are more than 63; else `LongName` where all would be more than 254; else
+    /// `ShortBuf`.
+    pub fn append_label(&mut self, label: &[u8]) -> Result<(), PushError>
+        ensures made { OnOk result (built self.new ≡ labelled (built self.old) label.now) }
+        ensures kept { OnErr result (built self.new ≡ built self.old) }
+        ensures answer { LabelThenName (length label.now) (size (labelled (built self.old) label.now)) (room B.limit (held self.old)) result }
+        ensures grows { (held self.old).capacity ≤ (held self.new).capacity }
+        ensures nothing { label.now ≡ [] → IsOk result }
+    {
+        self.labels.append_label(label)
+    }
+
+    /// Finishes the open label and adds a label of a number's decimal digits.
+    ///
+    /// `LongName` where all would be more than 254 octets; else `ShortBuf`.
+    pub fn append_dec_u8_label(&mut self, value: u8) -> Result<(), PushError>
+        ensures made { OnOk result (built self.new ≡ labelled (built self.old) (decimal value)) }
+        ensures kept { OnErr result (built self.new ≡ built self.old) }
+        ensures answer { NameAlone (size (labelled (built self.old) (decimal value))) (room B.limit (held self.old)) result }
+        ensures grows { (held self.old).capacity ≤ (held self.new).capacity }
+    {
+        self.labels.append_dec_u8_label(value)
+    }
+
+    /// Finishes the open label and adds a label of one hexadecimal digit, upper case, that of the lowest four
+    /// bits.
+    ///
+    /// `LongName` where all would be more than 254 octets; else `ShortBuf`.
+    pub fn append_hex_digit_label(&mut self, nibble: u8) -> Result<(), PushError>
+        ensures made { OnOk result (built self.new ≡ labelled (built self.old) (digit_glyph true (nibble % 16) ∷ [])) }
+        ensures kept { OnErr result (built self.new ≡ built self.old) }
+        ensures answer { NameAlone (size (labelled (built self.old) (digit_glyph true (nibble % 16) ∷ []))) (room B.limit (held self.old)) result }
+        ensures grows { (held self.old).capacity ≤ (held self.new).capacity }
+    {
+        self.labels.append_hex_digit_label(nibble)
+    }
+
+    /// Finishes the open label and adds the labels of a relative name of any kind, which are appended at once.
+    ///
+    /// `LongName` where all would be more than 254 octets; else `ShortBuf`.
+    pub fn append_name<'a, N: RelativeLabels<'a>>(
+        &mut self,
+        name: &'a N,
+    ) -> Result<(), PushNameError>
+        ensures made { OnOk result (built self.new ≡ named (built self.old) (N.labels name.now)) }
+        ensures kept { OnErr result (built self.new ≡ built self.old) }
+        ensures answer { NameFits (size (named (built self.old) (N.labels name.now))) (room B.limit (held self.old)) result }
+        ensures grows { (held self.old).capacity ≤ (held self.new).capacity }
+    {
+        self.labels.append_name(name)
+    }
+
+    /// The same of a flat name.
+    pub(crate) fn append_flat(&mut self, name: RelativeName<&[u8]>) -> Result<(), PushNameError>
+        ensures made { OnOk result (built self.new ≡ named (built self.old) (relative_labels name.entry)) }
+        ensures kept { OnErr result (built self.new ≡ built self.old) }
+        ensures answer { NameFits (size (named (built self.old) (relative_labels name.entry))) (room B.limit (held self.old)) result }
+        ensures grows { (held self.old).capacity ≤ (held self.new).capacity }
+    {
+        self.labels.append_wire(name.as_slice())
+    }
+
+    /// Adds what a symbol of a text stands for (RFC 1035, 5.1): a plain dot ends the open label, and any other
+    /// symbol is pushed as its octet.
+    ///
+    /// `EmptyLabel` at a dot where no label is open; `BinaryLabel` at `\[` there; `BadSymbol` at a character
+    /// that stands for no octet; else the refusals of `push`.
+    pub fn push_symbol(&mut self, symbol: Symbol) -> Result<(), FromStrError>
+        ensures takes { TakesPart (room B.limit (held self.old)) (built self.old) (symbol_part symbol) result (built self.new) }
+        ensures grows { (held self.old).capacity ≤ (held self.new).capacity }
+    {
+        self.labels.push_symbol(symbol)
+    }
+
+    /// Pushes symbols in turn. They continue an open label, and leave the last one open.
+    ///
+    /// The error is that of the first symbol that is refused. What those before it made stays.
+    pub fn append_symbols<I: Iterator<Item = Symbol> + Drop>(
+        &mut self,
+        symbols: I,
+    ) -> Result<(), FromStrError>
+        requires can { I.can_next symbols }
+        requires ends { IsFinite (I.remaining symbols) }
+        ensures takes { (ss : List Symbol) → AlwaysYields I.next_gives (λ x. x) symbols ss →
+            TakesParts (room B.limit (held self.old)) (built self.old) (symbol_parts ss) result (built self.new) }
+        ensures grows { (held self.old).capacity ≤ (held self.new).capacity }
+    {
+        self.labels.append_symbols(symbols)
+    }
+
+    /// Pushes the symbols of a text in turn. They continue an open label, and leave the last one open.
+    ///
+    /// The error is that of the first symbol that is refused, or of a broken escape. What the symbols before
+    /// it made stays.
+    pub fn append_chars<I: Iterator<Item = char> + Drop>(
+        &mut self,
+        chars: I,
+    ) -> Result<(), FromStrError>
+        requires can { I.can_next chars }
+        requires ends { IsFinite (I.remaining chars) }
+        ensures takes { (cs : List ℕ) (items : List (Result Symbol SymbolCharsError)) → AlwaysYields I.next_gives (λ c. c) chars cs → Reads cs items →
+            TakesParts (room B.limit (held self.old)) (built self.old) (parts items) result (built self.new) }
+        ensures grows { (held self.old).capacity ≤ (held self.new).capacity }
+    {
+        self.labels.append_chars(chars)
+    }
+
+    /// Pushes the symbols of a text in turn, as `append_chars` does those of its characters.
+    pub(crate) fn append_str(&mut self, text: &str) -> Result<(), FromStrError>
+        ensures takes { (items : List (Result Symbol SymbolCharsError)) → Reads (chars text.now) items →
+            TakesParts (room B.limit (held self.old)) (built self.old) (parts items) result (built self.new) }
+        ensures grows { (held self.old).capacity ≤ (held self.new).capacity }
+    {
+        self.labels.append_str(text)
+    }
+}
+
+impl<B: OctetsBuilder + OctetsMut + FreezeBuilder + Drop> NameBuilder<B>
+where
+    B::Octets: Drop,
+{
+    /// Finishes the open label and gives the labels as a relative name. It can't be refused.
+    pub fn finish(self) -> RelativeName<B::Octets>
+        ensures { relative_labels result ≡ closed (built self) }
+    {
+        let NameBuilder { labels } = self;
+        RelativeName::from_wire(labels.finish())
+    }
+
+    /// Finishes the open label and gives the labels and the root as an absolute name.
+    ///
+    /// `ShortBuf` only where the root doesn't fit, or where memory was refused.
+    pub fn into_name(self) -> Result<Name<B::Octets>, PushError>
+        ensures ok { IfOk result (λ name. name_labels name ≡ closed (built self) ++ Root) }
+        ensures err { IfErr result (λ e. (e ≡ push.ShortBuf) × (room B.limit (held self) < size (built self) + 1)) }
+    {
+        let NameBuilder { labels } = self;
+        let _short = labels.len();
+        match labels.finish_with(&[0]) {
+            Ok(octets) => Ok(Name::from_wire(octets)),
+            Err(_) => Err(PushError::ShortBuf),
+        }
+    }
+
+    /// Finishes the open label and gives the labels and behind them those of an absolute name of any kind,
+    /// which are appended at once.
+    ///
+    /// `LongName` where all would be more than 255 octets; else `ShortBuf`.
+    pub fn append_origin<'a, N: AbsoluteLabels<'a>>(
+        self,
+        origin: &'a N,
+    ) -> Result<Name<B::Octets>, PushNameError>
+        ensures ok { IfOk result (λ name. name_labels name ≡ closed (built self) ++ N.labels origin.now) }
+        ensures answer { OriginFits (size (built self) + length (wire (N.labels origin.now))) (room B.limit (held self)) result }
+    {
+        let NameBuilder { labels } = self;
+        match labels.append_origin(origin) {
+            Ok(octets) => Ok(Name::from_wire(octets)),
+            Err(e) => Err(e),
+        }
+    }
+}

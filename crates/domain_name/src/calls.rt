@@ -1,0 +1,97 @@
+//! Calls of a builder, one after another.
+ghost use Rattle.std.specs.Prelude.{◌≤◌};
+ghost use Rattle.domain_builder.specs.Inside.{room};
+ghost use Rattle.domain_name.specs.Builders.{built, held};
+ghost use Rattle.domain_name.specs.Calls.{Applies, AppliesAll};
+
+use crate::builder::NameBuilder;
+use crate::relative::RelativeName;
+use domain_label::scan::Symbol;
+use octseq::{OctetsBuilder, OctetsMut};
+
+/// A call of a [`NameBuilder`] that changes it and leaves it in hand, with the call's argument.
+#[derive(Clone, Copy)]
+pub enum BuilderCall<'a> {
+    /// Adds an octet, by `push`.
+    Push(u8),
+    /// Adds a symbol, by `push_symbol`.
+    PushSymbol(Symbol),
+    /// Adds octets to the open label, by `append_slice`.
+    AppendSlice(&'a [u8]),
+    /// Finishes it, by `end_label`.
+    EndLabel,
+    /// Adds a label, by `append_label`.
+    AppendLabel(&'a [u8]),
+    /// Adds decimal digits, by `append_dec_u8_label`.
+    AppendDecU8Label(u8),
+    /// Adds a digit, by `append_hex_digit_label`.
+    AppendHexDigitLabel(u8),
+    /// Adds a relative name, by `append_name`.
+    AppendName(RelativeName<&'a [u8]>),
+    /// Adds a text, by `append_chars`.
+    AppendChars(&'a str),
+}
+
+impl<B: OctetsBuilder + OctetsMut> NameBuilder<B> {
+    /// Makes a call, and tells whether it was accepted.
+    fn apply(&mut self, call: &BuilderCall) -> bool
+        ensures applied { Applies (room B.limit (held self.old)) (built self.old) call.now (built self.new) result }
+        ensures grows { (held self.old).capacity ≤ (held self.new).capacity }
+    {
+        match *call {
+            BuilderCall::Push(ch) => match self.push(ch) {
+                Ok(()) => true,
+                Err(_) => false,
+            },
+            BuilderCall::PushSymbol(symbol) => match self.push_symbol(symbol) {
+                Ok(()) => true,
+                Err(_) => false,
+            },
+            BuilderCall::AppendSlice(slice) => match self.append_slice(slice) {
+                Ok(()) => true,
+                Err(_) => false,
+            },
+            BuilderCall::EndLabel => {
+                self.end_label();
+                true
+            }
+            BuilderCall::AppendLabel(label) => match self.append_label(label) {
+                Ok(()) => true,
+                Err(_) => false,
+            },
+            BuilderCall::AppendDecU8Label(value) => match self.append_dec_u8_label(value) {
+                Ok(()) => true,
+                Err(_) => false,
+            },
+            BuilderCall::AppendHexDigitLabel(nibble) => match self.append_hex_digit_label(nibble) {
+                Ok(()) => true,
+                Err(_) => false,
+            },
+            BuilderCall::AppendName(name) => match self.append_flat(name) {
+                Ok(()) => true,
+                Err(_) => false,
+            },
+            BuilderCall::AppendChars(text) => match self.append_str(text) {
+                Ok(()) => true,
+                Err(_) => false,
+            },
+        }
+    }
+
+    /// Makes each call in turn, passes over refused ones, and counts those that were accepted.
+    ///
+    /// A call that is passed over changes nothing, but for the symbols of a text before the first that was
+    /// refused: these stay.
+    pub fn apply_all(&mut self, calls: &[BuilderCall]) -> usize
+        ensures applied { AppliesAll (room B.limit (held self.old)) (built self.old) calls.now (built self.new) result }
+        ensures grows { (held self.old).capacity ≤ (held self.new).capacity }
+    {
+        let mut accepted = 0;
+        for call in calls {
+            if self.apply(call) {
+                accepted += 1;
+            }
+        }
+        accepted
+    }
+}

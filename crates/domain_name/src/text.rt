@@ -1,0 +1,219 @@
+//! Names from text (RFC 1035, 5.1), from addresses, and back to builders.
+ghost use Rattle.std.specs.Prelude.{◌≡◌, ◌++◌, ◌<◌, ◌+◌, ℕ, List, Option, Some, None, Result, length, IfOk, IfErr, IfSome, OnErr, MatchResult};
+ghost use Rattle.std.specs.Iterator.{AlwaysYields, IsFinite};
+ghost use Rattle.std.specs.Str.{chars};
+ghost use Rattle.octseq.specs.Room.{MayLackRoom};
+ghost use Rattle.domain_label.specs.Wire.{wire, Root};
+ghost use Rattle.domain_label.specs.declared.symbol.Symbol.{Symbol};
+ghost use Rattle.domain_builder.specs.Built.{finished};
+ghost use Rattle.domain_builder.specs.Parts.{symbol_parts};
+ghost use Rattle.domain_builder.specs.TextGrammar.{IsNameText, SpellsName, SpellsNoName, SpellsRelative, SpellsNoRelative};
+ghost use Rattle.domain_builder.specs.Reverse.{reverse_name};
+ghost use Rattle.domain_builder.specs.Told.{NoName, NoNameRead, NoRelativeRead, Lacks, RelativeLacks, Tells, RelativeTells};
+ghost use Rattle.domain_builder.specs.declared.part.Fault.{Fault};
+ghost use Rattle.domain_builder.specs.declared.push_error.PushError.TheVariants.{ShortBuf};
+ghost use Rattle.domain_name.specs.Builders.{built};
+ghost use Rattle.domain_name.specs.Names.{name_labels, relative_labels};
+
+use crate::absolute::Name;
+use crate::builder::NameBuilder;
+use crate::relative::RelativeName;
+use arrayvec::ArrayVec;
+use domain_builder::text::{
+    absolute_array_from_str, absolute_from_chars, absolute_from_str, absolute_from_symbols,
+    relative_array_from_str, relative_from_chars, relative_from_str,
+};
+use domain_builder::{FromStrError, PushError, RelativeFromStrError, reverse_octets};
+use domain_label::scan::Symbol;
+use domain_wire::net::IpAddr;
+use octseq::{EmptyBuilder, FreezeBuilder, FromBuilder, IntoBuilder, OctetsBuilder, OctetsMut};
+use std::alloc::Global;
+use std::str::FromStr;
+
+impl<Octs: FromBuilder + Drop> Name<Octs>
+where
+    Octs::Builder: EmptyBuilder + Drop,
+{
+    /// Reads an absolute name from text, as `www.example.com` with or without a dot at the end
+    /// (RFC 1035, 5.1).
+    ///
+    /// A single dot is the root. `ShortInput` where the text is empty; else the fault of the first symbol
+    /// that is refused: `ShortInput` or `BadEscape` at a broken escape, `BadSymbol` at a character that
+    /// isn't from space to tilde, `BinaryLabel` at `\[` where a label begins, `EmptyLabel` at a dot where
+    /// none is open, `LongLabel` past 63 octets, `LongName` past 254 before the root. `ShortBuf` only where
+    /// there is no fault: the octets, which are appended once, don't fit, or memory was refused.
+    pub fn from_chars<I: Iterator<Item = char> + Drop>(
+        alloc: Global,
+        chars: I,
+    ) -> Result<Self, FromStrError>
+        requires can { I.can_next chars }
+        requires ends { IsFinite (I.remaining chars) }
+        ensures ok { (cs : List ℕ) → AlwaysYields I.next_gives (λ c. c) chars cs → IfOk result (λ name. SpellsName cs (name_labels name)) }
+        ensures err { (cs : List ℕ) → AlwaysYields I.next_gives (λ c. c) chars cs → IfErr result (NoNameRead Octs.Builder.ROOM cs) }
+        ensures accepts { (cs : List ℕ) (ls : List (List ℕ)) → AlwaysYields I.next_gives (λ c. c) chars cs → SpellsName cs ls →
+            MatchResult result (λ name. name_labels name ≡ ls) (Lacks Octs.Builder.ROOM ls) }
+        ensures exact { (cs : List ℕ) (f : Fault) → AlwaysYields I.next_gives (λ c. c) chars cs → SpellsNoName cs f →
+            MatchResult result (λ _. ⊥) (Tells f) }
+    {
+        match absolute_from_chars(alloc, chars) {
+            Ok(octets) => Ok(Name::from_wire(octets)),
+            Err(e) => Err(e),
+        }
+    }
+
+    /// Reads an absolute name from symbols, as `from_chars` does from the characters that spell them.
+    pub fn from_symbols<I: Iterator<Item = Symbol> + Drop>(
+        alloc: Global,
+        symbols: I,
+    ) -> Result<Self, FromStrError>
+        requires can { I.can_next symbols }
+        requires ends { IsFinite (I.remaining symbols) }
+        ensures { (ss : List Symbol) → AlwaysYields I.next_gives (λ x. x) symbols ss →
+            MatchResult result (λ name. IsNameText (symbol_parts ss) (name_labels name)) (NoName Octs.Builder.ROOM (symbol_parts ss)) }
+    {
+        match absolute_from_symbols(alloc, symbols) {
+            Ok(octets) => Ok(Name::from_wire(octets)),
+            Err(e) => Err(e),
+        }
+    }
+}
+
+impl<Octs: FromBuilder + Drop> Name<Octs>
+where
+    Octs::Builder: EmptyBuilder + Drop,
+{
+    /// The name under which an address is looked up: for IPv4 its octets in decimal, the last first, under
+    /// `in-addr.arpa` (RFC 1035, 3.5); for IPv6 each four bits as an upper case digit, the last first,
+    /// under `ip6.arpa` (RFC 3596, 2.5).
+    ///
+    /// `ShortBuf` only where the octets, which are appended once, don't fit, or memory was refused.
+    pub fn reverse_from_addr(alloc: Global, addr: IpAddr) -> Result<Self, PushError>
+        ensures ok { IfOk result (λ name. name_labels name ≡ reverse_name addr) }
+        ensures err { IfErr result (λ e. (e ≡ ShortBuf) × MayLackRoom Octs.Builder.ROOM (length (wire (reverse_name addr)))) }
+    {
+        match reverse_octets(alloc, addr) {
+            Ok(octets) => Ok(Name::from_wire(octets)),
+            Err(_) => Err(PushError::ShortBuf),
+        }
+    }
+}
+
+impl Name<Vec<u8>> {
+    /// Reads an absolute name from text, as `from_chars` does. `ShortBuf` only where memory was refused.
+    pub fn vec_from_str(alloc: Global, text: &str) -> Result<Self, FromStrError>
+        ensures ok { IfOk result (λ name. SpellsName (chars text.now) (name_labels name)) }
+        ensures err { IfErr result (NoNameRead None (chars text.now)) }
+        ensures accepts { (ls : List (List ℕ)) → SpellsName (chars text.now) ls → MatchResult result (λ name. name_labels name ≡ ls) (Lacks None ls) }
+        ensures exact { (f : Fault) → SpellsNoName (chars text.now) f → MatchResult result (λ _. ⊥) (Tells f) }
+    {
+        match absolute_from_str(alloc, text) {
+            Ok(octets) => Ok(Name::from_wire(octets)),
+            Err(e) => Err(e),
+        }
+    }
+}
+
+/// Reads an absolute name from text, as `from_chars` does. `ShortBuf` exactly where a name has more than
+/// `N` octets.
+impl<const N: usize> FromStr for Name<ArrayVec<u8, N>> {
+    ghost use Rattle.domain_builder.specs.Told.{ReadsName};
+
+    type Err = FromStrError;
+
+    ghost from_str_gives = { λ text r. ReadsName name_labels (Some N) (chars text) r };
+
+    fn from_str(text: &str) -> Result<Self, FromStrError> {
+        match absolute_array_from_str(text) {
+            Ok(octets) => Ok(Name::from_wire(octets)),
+            Err(e) => Err(e),
+        }
+    }
+}
+
+impl<Octs: FromBuilder + Drop> RelativeName<Octs>
+where
+    Octs::Builder: EmptyBuilder + Drop,
+{
+    /// Reads a relative name from text, as `www.example` (RFC 1035, 5.1).
+    ///
+    /// The empty text is the empty name. `AbsoluteName` where a dot stands behind the last label; else the
+    /// errors are those of `Name::from_chars`.
+    pub fn from_chars<I: Iterator<Item = char> + Drop>(
+        alloc: Global,
+        chars: I,
+    ) -> Result<Self, RelativeFromStrError>
+        requires can { I.can_next chars }
+        requires ends { IsFinite (I.remaining chars) }
+        ensures ok { (cs : List ℕ) → AlwaysYields I.next_gives (λ c. c) chars cs → IfOk result (λ name. SpellsRelative cs (relative_labels name)) }
+        ensures err { (cs : List ℕ) → AlwaysYields I.next_gives (λ c. c) chars cs → IfErr result (NoRelativeRead Octs.Builder.ROOM cs) }
+        ensures accepts { (cs : List ℕ) (ls : List (List ℕ)) → AlwaysYields I.next_gives (λ c. c) chars cs → SpellsRelative cs ls →
+            MatchResult result (λ name. relative_labels name ≡ ls) (RelativeLacks Octs.Builder.ROOM ls) }
+        ensures exact { (cs : List ℕ) (why : Option Fault) → AlwaysYields I.next_gives (λ c. c) chars cs → SpellsNoRelative cs why →
+            MatchResult result (λ _. ⊥) (RelativeTells why) }
+    {
+        match relative_from_chars(alloc, chars) {
+            Ok(octets) => Ok(RelativeName::from_wire(octets)),
+            Err(e) => Err(e),
+        }
+    }
+}
+
+impl RelativeName<Vec<u8>> {
+    /// Reads a relative name from text, as `from_chars` does. `ShortBuf` only where memory was refused.
+    pub fn vec_from_str(alloc: Global, text: &str) -> Result<Self, RelativeFromStrError>
+        ensures ok { IfOk result (λ name. SpellsRelative (chars text.now) (relative_labels name)) }
+        ensures err { IfErr result (NoRelativeRead None (chars text.now)) }
+        ensures accepts { (ls : List (List ℕ)) → SpellsRelative (chars text.now) ls → MatchResult result (λ name. relative_labels name ≡ ls) (RelativeLacks None ls) }
+        ensures exact { (why : Option Fault) → SpellsNoRelative (chars text.now) why → MatchResult result (λ _. ⊥) (RelativeTells why) }
+    {
+        match relative_from_str(alloc, text) {
+            Ok(octets) => Ok(RelativeName::from_wire(octets)),
+            Err(e) => Err(e),
+        }
+    }
+}
+
+/// Reads a relative name from text, as `from_chars` does. `ShortBuf` exactly where a name has more than `N`
+/// octets.
+impl<const N: usize> FromStr for RelativeName<ArrayVec<u8, N>> {
+    ghost use Rattle.domain_builder.specs.Told.{ReadsRelative};
+
+    type Err = RelativeFromStrError;
+
+    ghost from_str_gives = { λ text r. ReadsRelative relative_labels (Some N) (chars text) r };
+
+    fn from_str(text: &str) -> Result<Self, RelativeFromStrError> {
+        match relative_array_from_str(text) {
+            Ok(octets) => Ok(RelativeName::from_wire(octets)),
+            Err(e) => Err(e),
+        }
+    }
+}
+
+impl<Octs: IntoBuilder> RelativeName<Octs>
+where
+    Octs::Builder: OctetsMut,
+{
+    /// A builder that goes on from the name's labels, none of which is open.
+    pub fn into_builder(self) -> NameBuilder<Octs::Builder>
+        ensures built { built result ≡ finished (relative_labels self) }
+    {
+        NameBuilder::from_wire(self.into_octets().into_builder())
+    }
+}
+
+impl<Octs: IntoBuilder + Drop> RelativeName<Octs>
+where
+    Octs::Builder: OctetsMut + FreezeBuilder<Octets = Octs> + Drop,
+{
+    /// The absolute name of the name's labels and the root.
+    ///
+    /// `ShortBuf` only where the root doesn't fit, or where memory was refused.
+    pub fn into_absolute(self) -> Result<Name<Octs>, PushError>
+        ensures ok { IfOk result (λ name. name_labels name ≡ relative_labels self ++ Root) }
+        ensures err { IfErr result (λ e. e ≡ ShortBuf) }
+        ensures full { IfSome Octs.Builder.limit (λ n. OnErr result (n < length (wire (relative_labels self)) + 1)) }
+    {
+        self.into_builder().into_name()
+    }
+}
