@@ -48,12 +48,12 @@ pub mod name {
         Absolute, AbsoluteLabels, LabelIterator, NameLabels, Relative, RelativeLabels, ToLabelIter,
     };
     pub use domain_list::laws::order_laws;
-    pub use domain_name::{StripSuffixError, builder_laws};
     pub use domain_name::absolute::Name;
     pub use domain_name::builder::NameBuilder;
     pub use domain_name::calls::BuilderCall;
     pub use domain_name::relative::RelativeName;
     pub use domain_name::suffixes::SuffixIter;
+    pub use domain_name::{StripSuffixError, builder_laws};
     pub use domain_parsed::{ParsedName, ParsedNameIter, ParsedSuffixIter};
     pub use domain_traits::{FlattenInto, FlattenName, ToName, ToRelativeName};
 }

@@ -7,11 +7,10 @@ ghost use Rattle.domain_parsed.specs.Views.{parsed_labels};
 ghost use Rattle.domain.specs.Engines.{AsksAt, IfRefused, NoNameAt, OnAnswer, OnNoWork, TellsPlace, WritesNameAt};
 ghost use Rattle.domain_wire.specs.declared.error.ParseError.{ParseError};
 
-pub use crate::list::list;
-
 use crate::base::name::{DisplayWithDot, ParsedName};
 use crate::base::wire::ParseError;
 use crate::line::line_of;
+pub use crate::list::list;
 use octseq::Parser;
 use std::alloc::Global;
 use std::error::Error;

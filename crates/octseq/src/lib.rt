@@ -10,9 +10,7 @@ pub mod from;
 pub mod octets;
 pub mod parse;
 
-pub use builder::{
-    EmptyBuilder, FreezeBuilder, FromBuilder, IntoBuilder, OctetsBuilder, ShortBuf,
-};
+pub use builder::{EmptyBuilder, FreezeBuilder, FromBuilder, IntoBuilder, OctetsBuilder, ShortBuf};
 pub use from::{OctetsFrom, SameOctets};
 pub use octets::{Octets, OctetsMut, Truncate};
 pub use parse::{Parser, ShortInput};
