@@ -6,7 +6,7 @@ use domain::base::name::{
     LongChainError, LongLabelError, Name, NameError, NameErrorKind, NameIter, NameLabels,
     OwnedLabel, ParsedName, ParsedNameIter, ParsedSuffixIter, RelativeLabels, RelativeName,
     RelativeNameError, RelativeNameErrorKind, SliceLabelsIter, SplitLabelError, StripSuffixError,
-    ToLabelIter, ToName, ToRelativeName,
+    SuffixIter, ToLabelIter, ToName, ToRelativeName,
 };
 use domain::base::net::{IpAddr, Ipv4Addr, Ipv6Addr};
 use domain::base::wire::{Compose, FormError, Parse, ParseError, compose_vec, parse_slice};
@@ -72,6 +72,8 @@ fn flat_names(rt: HostRuntime) {
     let root = Name::root_ref();
     let mut labels: NameIter<'_> = root.iter();
     assert!(rt; labels.next_back().is_some());
+    let mut suffixes: SuffixIter<'_> = root.iter_suffixes();
+    assert!(rt; suffixes.next().is_some());
     assert!(rt; absolute_paths(&root) == (1, 0));
     assert!(rt; relative_paths(&RelativeName::wildcard_ref()) == (false, false));
 }
