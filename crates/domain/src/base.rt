@@ -54,7 +54,7 @@ pub mod name {
     pub use domain_name::relative::RelativeName;
     pub use domain_name::suffixes::SuffixIter;
     pub use domain_name::{StripSuffixError, builder_laws};
-    pub use domain_parsed::{ParsedName, ParsedNameIter, ParsedSuffixIter};
+    pub use domain_parsed::{Heads, ParsedName, ParsedNameIter, ParsedSuffixIter};
     pub use domain_traits::{FlattenInto, FlattenName, ToName, ToRelativeName};
 }
 

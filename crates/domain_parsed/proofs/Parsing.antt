@@ -1,5 +1,5 @@
 -- From a reading of the parser's message to the name and the parser behind it.
-use Rattle.std.proofs.Common.{◌≡◌, ℕ, ◌+◌, ◌≤◌, ◌↔◌, List, [], ◌∷◌, ◌++◌, length, refl, sym, subst, arith, ◌∙◌, Bool, true, false, unwrap_or, slice_range, drop, Result, Ok, Err, IsOk, IsErr}
+use Rattle.std.proofs.Common.{◌≡◌, ℕ, ◌+◌, ◌≤◌, ◌↔◌, List, [], ◌∷◌, ◌++◌, length, refl, sym, subst, arith, ◌∙◌, Bool, true, false, unwrap_or, slice_range, drop, Result, Ok, Err, IsOk, IsErr, IsErrAnd, MatchResult}
 use Rattle.std.proofs.lemmas.Grind.{common_steps}
 use Rattle.std.proofs.lemmas.List.{take-append-drop}
 use Rattle.domain_label.specs.Wire.{wire}
@@ -8,9 +8,11 @@ use Rattle.octseq.specs.Parsing.{message, place}
 use Rattle.domain_reading.specs.Grammar.{OctetAt, PointerAt, Names, Flat, Front, Base, LiesInOnePiece}
 use Rattle.domain_reading.specs.Grammar.Stop.{root as stop_root, pointer as stop_pointer}
 use Rattle.domain_reading.specs.Grammar.Base.{here}
-use Rattle.domain_reading.specs.Faults.{Fault, Skips, SkipFault}
+use Rattle.domain_wire.specs.Refusals.{refusal}
+use Rattle.domain_wire.specs.declared.error.ParseError.{ParseError}
+use Rattle.domain_reading.specs.Faults.{Fault, Skips, SkipFault, told}
 use Rattle.domain_reading.specs.Labels.{labels_at}
-use Rattle.domain_reading.specs.Outcomes.{NameRead, LiesPlainly}
+use Rattle.domain_reading.specs.Outcomes.{NameRead, LiesPlainly, CountsName, CountsFault}
 use Rattle.domain_reading.specs.declared.fault.NameFault.{NameFault}
 use Rattle.domain_reading.specs.declared.progress.Progress.{Progress}
 use Rattle.domain_reading.proofs.Reading.{names_more, names_within, reads_once}
@@ -103,3 +105,14 @@ plainly_read {n} {parser} {w = w} x r =
       piece_from w.compressed r.scattered r.base (place parser, f.0, place parser + length (wire _), front_base f.1, f.1),
       (front_once r.ends.2 f.1).2,
     )
+
+-- ---- how many heads were counted
+
+pub name_counted : {n : ℕ} {m : List ℕ} {p : ℕ} {w : Progress} {before now : ℕ} {ls : List (List ℕ)} (r : NameRead n m p w before now) → r.labels ≡ ls → CountsName n m p ls before now
+name_counted {n} {m} {p} {before = before} {now} r e = subst (λ ls. CountsName n m p ls before now) e (r.name, r.counted)
+
+pub fault_counted : {T : Type 0} {n : ℕ} {m : List ℕ} {p : ℕ} {d : NameFault} (Q : T → Type 0) (before now : ℕ) (parser : Parser) (r : Result T ParseError) → m ≡ message parser → p ≡ place parser → IsErr r → IsErrAnd r (λ e. refusal e ≡ told d)
+    → (f : Fault n m p d) × (now ≡ before + length f.passed + f.pointers + 1) → MatchResult r Q (λ e. CountsFault n (message parser) (place parser) (refusal e) before now)
+fault_counted Q before now parser (Ok x) a b err t f = cc
+fault_counted {n = n} {m} {p} {d} Q before now parser (Err e) a b err t f =
+    subst (λ p. CountsFault n (message parser) p (refusal e) before now) b (subst (λ m. CountsFault n m p (refusal e) before now) a (d, t, f.0, f.1))

@@ -8,6 +8,7 @@ mod order;
 mod parsed;
 mod suffixes;
 
+pub use domain_reading::heads::Heads;
 pub use domain_reading::reads_laws;
 pub use iter::ParsedNameIter;
 pub use parsed::ParsedName;

@@ -12,10 +12,13 @@ use arrayvec::ArrayVec;
 use domain_label::Label;
 use domain_name::{Name, RelativeName};
 use domain_reading::alone::{first_label, front_end, read_name};
+use domain_reading::heads::Heads;
+use domain_reading::read::read_name_counted;
 use domain_wire::ParseError;
 use octseq::{Octets, OctetsFrom, Parser, ShortBuf};
 use std::alloc::{AllocError, Global};
 use std::ops::Range;
+use std::sync::ledger::Ledger;
 
 /// The most pointers that are followed for one name.
 const MAX_POINTERS: u8 = 255;
@@ -55,7 +58,8 @@ impl<'a> ParsedName<&'a [u8]> {
     ghost use Rattle.domain_parsed.specs.Views.{parsed_octets, parsed_labels, is_scattered};
     ghost use Rattle.octseq.specs.Parsing.{whole, message, place};
     ghost use Rattle.domain_reading.specs.Faults.{Skips};
-    ghost use Rattle.domain_reading.specs.Outcomes.{MovesBehindFront, TellsFault, SkipsFront, TellsSkipFault, LiesPlainly};
+    ghost use Rattle.domain_wire.specs.Refusals.{refusal};
+    ghost use Rattle.domain_reading.specs.Outcomes.{MovesBehindFront, TellsFault, SkipsFront, TellsSkipFault, LiesPlainly, CountsName, CountsFault};
 
     /// Reads the name at the parser's place, and moves the parser behind the name's root or first pointer.
     ///
@@ -91,16 +95,7 @@ impl<'a> ParsedName<&'a [u8]> {
         ensures refused { IfErr result (λ e. TellsFault 255 parser.old e) }
         ensures unchanged { OnErr result (parser.new ≡ parser.old) }
     {
-        let progress = read_name(parser.as_slice(), parser.pos(), MAX_POINTERS)?;
-        let Ok(()) = parser.seek(progress.place_behind()) else {
-            unreachable!();
-        };
-        Ok(ParsedName {
-            octets: parser.octets_ref(),
-            pos: progress.base,
-            name_len: progress.len + 1,
-            compressed: progress.compressed,
-        })
+        ParsedName::parse_with_limit(parser, MAX_POINTERS)
     }
 
     /// The same as `parse`.
@@ -115,6 +110,62 @@ impl<'a> ParsedName<&'a [u8]> {
         ensures unchanged { OnErr result (parser.new ≡ parser.old) }
     {
         ParsedName::parse(parser)
+    }
+
+    /// The same as `parse`, with at most `limit` pointers followed: one more is "too many compression pointers".
+    pub fn parse_with_limit(
+        parser: &mut Parser<'a>,
+        limit: u8,
+    ) -> Result<ParsedName<&'a [u8]>, ParseError>
+        ensures exact { IsOk result ↔ ((ls : List (List ℕ)) × Names limit (message parser.old) (place parser.old) ls) }
+        ensures labels { IfOk result (λ name. Names limit (message parser.old) (place parser.old) (parsed_labels name)) }
+        ensures octets { IfOk result (λ name. parsed_octets name ≡ whole parser.old) }
+        ensures scattered { IfOk result (λ name. (is_scattered name ≡ false) ↔ LiesInOnePiece (message parser.old) (place parser.old)) }
+        ensures moves { OnOk result (MovesBehindFront parser.old parser.new) }
+        ensures plain { (ls : List (List ℕ)) → LiesPlainly parser.old ls → MatchResult result (λ name. (parsed_labels name ≡ ls) × (is_scattered name ≡ false) × (place parser.new ≡ place parser.old + length (wire ls))) (λ _. ⊥) }
+        ensures refused { IfErr result (λ e. TellsFault limit parser.old e) }
+        ensures unchanged { OnErr result (parser.new ≡ parser.old) }
+    {
+        let progress = read_name(parser.as_slice(), parser.pos(), limit)?;
+        let Ok(()) = parser.seek(progress.place_behind()) else {
+            unreachable!();
+        };
+        Ok(ParsedName {
+            octets: parser.octets_ref(),
+            pos: progress.base,
+            name_len: progress.len + 1,
+            compressed: progress.compressed,
+        })
+    }
+
+    /// The same as `parse_with_limit`, with the heads that are read counted: those of labels, of pointers and
+    /// of the root, and the last one where it is missing or the fault. They are at most `limit` and 128.
+    pub fn parse_counted<L: Ledger>(
+        parser: &mut Parser<'a>,
+        limit: u8,
+        heads: &mut Heads<L>,
+    ) -> Result<ParsedName<&'a [u8]>, ParseError>
+        ensures exact { IsOk result ↔ ((ls : List (List ℕ)) × Names limit (message parser.old) (place parser.old) ls) }
+        ensures labels { IfOk result (λ name. Names limit (message parser.old) (place parser.old) (parsed_labels name)) }
+        ensures octets { IfOk result (λ name. parsed_octets name ≡ whole parser.old) }
+        ensures scattered { IfOk result (λ name. (is_scattered name ≡ false) ↔ LiesInOnePiece (message parser.old) (place parser.old)) }
+        ensures moves { OnOk result (MovesBehindFront parser.old parser.new) }
+        ensures plain { (ls : List (List ℕ)) → LiesPlainly parser.old ls → MatchResult result (λ name. (parsed_labels name ≡ ls) × (is_scattered name ≡ false) × (place parser.new ≡ place parser.old + length (wire ls))) (λ _. ⊥) }
+        ensures refused { IfErr result (λ e. TellsFault limit parser.old e) }
+        ensures unchanged { OnErr result (parser.new ≡ parser.old) }
+        ensures counted { MatchResult result (λ name. CountsName limit (message parser.old) (place parser.old) (parsed_labels name) heads.old heads.new) (λ e. CountsFault limit (message parser.old) (place parser.old) (refusal e) heads.old heads.new) }
+        ensures few_heads { heads.new ≤ heads.old + 128 + limit }
+    {
+        let found = read_name_counted(parser.as_slice(), parser.pos(), limit, heads)?;
+        let Ok(()) = parser.seek(found.place_behind()) else {
+            unreachable!();
+        };
+        Ok(ParsedName {
+            octets: parser.octets_ref(),
+            pos: found.base,
+            name_len: found.len + 1,
+            compressed: found.compressed,
+        })
     }
 
     /// Moves the parser behind the root or the first pointer of the name at its place.

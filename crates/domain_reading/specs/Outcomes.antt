@@ -38,6 +38,15 @@ pub record LiesPlainly (parser : Parser) (ls : List (List ℕ)) : Type 0 where
   pub octets : message parser ≡ before ++ wire ls ++ behind
   pub here : place parser ≡ length before
 
+-- The count of heads grew by one for each label of ls, the name at p of at most n pointers, and for each of its pointers.
+abbrev pub CountsName : ℕ → List ℕ → ℕ → List (List ℕ) → ℕ → ℕ → Type 0
+CountsName n m p ls before now = (name : Names n m p ls) × (now ≡ before + length ls + name.pointers)
+
+-- The count of heads grew by one for each label and each pointer that the walk from p passed, and for the head, which may
+-- be missing, where it met the fault that r tells.
+abbrev pub CountsFault : ℕ → List ℕ → ℕ → Refusal → ℕ → ℕ → Type 0
+CountsFault n m p r before now = (f : NameFault) × (r ≡ told f) × (fault : Fault n m p f) × (now ≡ before + length fault.passed + fault.pointers + 1)
+
 -- The name at p was read, of at most n pointers, with a head counted for each label and each pointer.
 pub record NameRead (n : ℕ) (m : List ℕ) (p : ℕ) (w : Progress) (before now : ℕ) : Type 0 where
   pub labels : List (List ℕ)

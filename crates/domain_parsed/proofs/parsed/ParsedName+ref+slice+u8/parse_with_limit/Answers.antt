@@ -3,7 +3,7 @@ use Rattle.octseq.specs.Parsing.{message, place}
 use Rattle.domain_reading.specs.Grammar.{Names}
 use Rattle.domain_reading.proofs.Reading.{names_absolute}
 use Rattle.domain_parsed.proofs.Parsing.{ok_not_err, no_name, read_here, held, piece_tells, plainly_named, plainly_read}
-use Rattle.domain_parsed.proofs.parsed.ParsedName+ref+slice+u8.parse.Goals as goal
+use Rattle.domain_parsed.proofs.parsed.ParsedName+ref+slice+u8.parse_with_limit.Goals as goal
 
 pub returns-in_err-progress-clause-exact : goal.returns-in_err-progress-clause-exact
 returns-in_err-progress-clause-exact c =
@@ -12,7 +12,7 @@ returns-in_err-progress-clause-exact c =
 
 pub returns-in_err-progress-clause-plain : goal.returns-in_err-progress-clause-plain
 returns-in_err-progress-clause-plain c = λ ls x.
-    absurd (no_name c.args.parser.now (search rules) c.pos.ensures.place c.in_err-progress.ensures.fault.0 ls (plainly_named 255 x))
+    absurd (no_name c.args.parser.now (search rules) c.pos.ensures.place c.in_err-progress.ensures.fault.0 ls (plainly_named c.args.limit x))
 
 pub invariant_of-result : goal.invariant_of-result
 invariant_of-result c =
@@ -25,7 +25,7 @@ returns-clause-labels c =
     let parser = c.args.parser.now in
     let r = read_here parser (search rules) c.pos.ensures.place c.in_ok-progress.ensures.name.1 in
     let h = held parser c.octets_ref.result.now (c.octets_ref.ensures ∙ ap (λ o. o.now) c.in-Ok.ensures.ok.octets) (omega arith) r in
-    subst (λ ls. Names 255 (message parser) (place parser) ls) (sym h.same) r.name
+    subst (λ ls. Names c.args.limit (message parser) (place parser) ls) (sym h.same) r.name
 
 pub returns-clause-scattered : goal.returns-clause-scattered
 returns-clause-scattered c =
