@@ -1,6 +1,7 @@
 //! Names in a message, with compression pointers (RFC 1035, 4.1.4).
 #![tactic(auto)]
 
+mod flat;
 mod flatten;
 mod iter;
 mod labels;

@@ -1,5 +1,5 @@
 -- What reading a name and passing over one may come to.
-use Rattle.std.specs.Prelude.{◌≡◌, ℕ, ◌+◌, ◌≤◌, List, ◌++◌, length, true, false, unwrap_or, slice_range}
+use Rattle.std.specs.Prelude.{◌≡◌, ℕ, ◌+◌, ◌≤◌, ◌<◌, List, ◌++◌, length, true, false, unwrap_or, slice_range}
 use Rattle.domain_wire.specs.Refusals.{Refusal, refusal}
 use Rattle.domain_wire.specs.declared.error.ParseError.{ParseError}
 use Rattle.domain_label.specs.Wire.{wire, IsAbsoluteName}
@@ -7,6 +7,7 @@ use Rattle.octseq.specs.declared.parse.Parser.{Parser}
 use Rattle.octseq.specs.Parsing.{message, place, MovesTo}
 use Rattle.domain_reading.specs.Grammar.{Names, Base, Front, root, pointer, EndsBefore}
 use Rattle.domain_reading.specs.Faults.{told, Fault, Skips, SkipFault}
+use Rattle.domain_reading.specs.Places.{AreLabelPlaces, placed_labels}
 use Rattle.domain_reading.specs.declared.fault.NameFault.{NameFault}
 use Rattle.domain_reading.specs.declared.progress.Progress.{Progress}
 
@@ -54,9 +55,21 @@ pub record NameRead (n : ℕ) (m : List ℕ) (p : ℕ) (w : Progress) (before no
   pub counted : now ≡ before + length labels + name.pointers
   pub ends : EndsBefore m p (unwrap_or w.end (w.at + 1))
   pub base : Base m p w.base
-  pub there : Names n m w.base labels
+  pub table : placed_labels m w.base (slice_range w.places 0 w.count) ≡ labels
+  pub stand : AreLabelPlaces m w.base (slice_range w.places 0 w.count)
+  pub some : 0 < w.count
+  pub few : w.count ≤ 128
   pub sized : w.len + 1 ≡ length (wire labels)
   pub in_one_piece : w.compressed ≡ false → (fs : List (List ℕ)) × (e : ℕ) × Front m w.base fs root e
   pub scattered : w.compressed ≡ true → (fs : List (List ℕ)) × (q : ℕ) × (e : ℕ) × Front m w.base fs (pointer q) e
   pub inside : w.compressed ≡ false → w.base + (w.len + 1) ≤ length m
   pub octets : w.compressed ≡ false → slice_range m w.base (w.base + (w.len + 1)) ≡ wire labels
+
+-- The labels whose places w's table has stand in the octets o, which may go on behind the message, and are a name.
+pub record Holds (o : List ℕ) (w : Progress) : Type 0 where
+  pub some : 0 < w.count
+  pub few : w.count ≤ 128
+  pub stand : AreLabelPlaces o w.base (slice_range w.places 0 w.count)
+  pub absolute : IsAbsoluteName (placed_labels o w.base (slice_range w.places 0 w.count))
+  pub sized : w.len + 1 ≡ length (wire (placed_labels o w.base (slice_range w.places 0 w.count)))
+  pub flat : w.compressed ≡ false → slice_range o w.base (w.base + (w.len + 1)) ≡ wire (placed_labels o w.base (slice_range w.places 0 w.count))
