@@ -58,6 +58,12 @@ pub mod name {
     pub use domain_traits::{FlattenInto, FlattenName, ToName, ToRelativeName};
 }
 
+/// Laws of names, as the contracts of calls that do nothing.
+pub mod laws {
+    pub use domain_list::laws::order_laws;
+    pub use domain_reading::reads_laws;
+}
+
 /// Serial numbers.
 pub mod serial {
     pub use domain_serial::{IllegalSignatureTime, Serial};
