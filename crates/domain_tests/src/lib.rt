@@ -26,6 +26,8 @@ mod names;
 #[cfg(test)]
 mod paths;
 #[cfg(test)]
+mod places;
+#[cfg(test)]
 mod room;
 #[cfg(test)]
 mod slow_reader;
