@@ -1,5 +1,4 @@
 pub mod Passing
 pub mod Seams
 pub mod Cuts
-pub mod Lowered
 pub mod OneFault

@@ -1,5 +1,6 @@
 mod LabelReading
 mod LowLemmas
+pub mod Lowered
 mod OwnedLemmas
 mod OwnedMemory
 pub mod ReadOnce

@@ -40,7 +40,14 @@ impl<'a> Label<'a> {
         ensures within { IfSome Target.limit (λ n. length (Target.octets target.new) ≤ n) }
         ensures fixed { IfSome Target.limit (λ n. Target.capacity target.old ≡ n) }
     {
-        append_wire(&OwnedLabel::from_label(*self), target)
+        let start = target.as_slice().len();
+        target.append_slice(&[self.len() as u8])?;
+        if let Err(e) = target.append_slice(self.as_slice()) {
+            target.truncate(start);
+            target.keep_limit();
+            return Err(e);
+        }
+        Ok(())
     }
 
     /// Appends the wire form with A to Z as a to z (RFC 4034, 6.2), else as `compose`.

@@ -92,8 +92,8 @@ impl<'a> Label<'a> {
     }
 }
 
-/// Octets in order, without case.
-fn low_order(a: &[u8], b: &[u8]) -> Ordering
+/// Octets in order, without ASCII case.
+pub fn low_order(a: &[u8], b: &[u8]) -> Ordering
     ensures { result ≡ low_cmp a.now b.now }
 {
     let mut a = a;

@@ -5,3 +5,7 @@ pub mod Steps
 pub mod Ending
 pub mod Written
 pub mod Chaining
+pub mod Meeting
+pub mod Alike
+pub mod Finishing
+pub mod Octetwise

@@ -8,3 +8,4 @@ pub mod Chains
 pub mod Facts
 pub mod ChainParts
 pub mod Joined
+pub mod Alike

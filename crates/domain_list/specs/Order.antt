@@ -1,9 +1,12 @@
 -- The orders of names.
-use Rattle.std.specs.Prelude.{ℕ, Bool, List, reverse}
+use Rattle.std.specs.Prelude.{ℕ, Bool, List, Option, None, Some, reverse}
 use Rattle.std.specs.Cmp.Lexicographic.{slice_cmp}
 use Rattle.std.specs.Ordering.{on, nat_cmp, eq_by_cmp}
 use Rattle.std.specs.declared.cmp.Ordering.{Ordering}
-use Rattle.domain_label.specs.Low.{low_all}
+use Rattle.std.specs.declared.cmp.Ordering.TheVariants.{Less, Equal, Greater}
+use Rattle.domain_label.specs.Low.{low_all, low_cmp}
+use Rattle.domain_label.specs.Views.{label_octets}
+use Rattle.domain_label.specs.declared.label.Label.{Label}
 use Rattle.domain_label.specs.Wire.{wire}
 
 -- the labels from the right, without case
@@ -14,6 +17,13 @@ from_right ls = reverse (low_all ls)
 -- is less (RFC 4034, 6.1).
 abbrev pub order : List (List ℕ) → List (List ℕ) → Ordering
 order = on from_right (slice_cmp (slice_cmp nat_cmp))
+
+-- The order of two names of which these labels are the last in which they differ.
+abbrev pub last_order : Option Label → Option Label → Ordering
+last_order None None = Equal
+last_order None (Some y) = Less
+last_order (Some x) None = Greater
+last_order (Some x) (Some y) = low_cmp (label_octets x) (label_octets y)
 
 -- The order of the octets on the wire.
 abbrev pub composed_order : List (List ℕ) → List (List ℕ) → Ordering

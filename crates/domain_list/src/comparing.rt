@@ -1,14 +1,20 @@
-//! Comparing names label by label. The calls of names stand on these functions; each is the one
-//! body for absolute and relative names of every kind.
-ghost use Rattle.std.specs.Prelude.{◌≡◌, IsTrue, ◌↔◌};
-ghost use Rattle.domain_label.specs.Low.{low_all};
-ghost use Rattle.domain_list.specs.Order.{order, same_name, composed_order, lowercase_composed_order};
+//! Comparing names. The calls of names stand on these functions; each is the one body for absolute and
+//! relative names of every kind. Where both names lie in one piece, their octets are compared as they lie.
+ghost use Rattle.std.specs.Prelude.{◌≡◌, ◌≢◌, ◌<◌, ◌∷◌, IsTrue, ◌↔◌, length, MatchBool};
+ghost use Rattle.domain_label.specs.Low.{low, low_all};
+ghost use Rattle.domain_label.specs.Views.{label_octets};
+ghost use Rattle.domain_label.specs.Wire.{wire};
+ghost use Rattle.domain_list.specs.Alike.{EndAlike};
+ghost use Rattle.domain_list.specs.Order.{order, last_order, same_name, composed_order, lowercase_composed_order};
 
-use crate::labels::LabelIterator;
+use crate::flat::{known_alike, same_octets};
+use crate::labels::{LabelIterator, ToLabelIter};
+use domain_label::Label;
+use domain_label::order::low_order;
 use std::cmp::Ordering;
 
 /// Whether the labels that are left are the same without ASCII case (RFC 4343).
-pub fn eq_labels<'a, A: LabelIterator<'a>, B: LabelIterator<'a>>(a: A, b: B) -> bool
+pub(crate) fn eq_labels<'a, A: LabelIterator<'a>, B: LabelIterator<'a>>(a: A, b: B) -> bool
     ensures { IsTrue result ↔ (low_all (A.left a) ≡ low_all (B.left b)) }
 {
     let mut a = a;
@@ -26,38 +32,118 @@ pub fn eq_labels<'a, A: LabelIterator<'a>, B: LabelIterator<'a>>(a: A, b: B) -> 
     }
 }
 
-/// The same test, as an impl of `PartialEq` for names answers it.
-pub fn same_labels<'a, A: LabelIterator<'a>, B: LabelIterator<'a>>(a: A, b: B) -> bool
-    ensures { result ≡ same_name (A.left a) (B.left b) }
+/// Whether the labels of two names are the same without ASCII case (RFC 4343).
+pub fn eq_names<'a, A: ToLabelIter<'a>, B: ToLabelIter<'a>>(a: &'a A, b: &'a B) -> bool
+    ensures { IsTrue result ↔ (low_all (A.labels a.now) ≡ low_all (B.labels b.now)) }
 {
-    eq_labels(a, b)
+    match (a.as_flat_slice(), b.as_flat_slice()) {
+        (Some(a), Some(b)) => return same_octets(a, b),
+        _ => return eq_labels(a.iter_labels(), b.iter_labels()),
+    }
+}
+
+/// The same test, as an impl of `PartialEq` for names answers it.
+pub fn same_names<'a, A: ToLabelIter<'a>, B: ToLabelIter<'a>>(a: &'a A, b: &'a B) -> bool
+    ensures { result ≡ same_name (A.labels a.now) (B.labels b.now) }
+{
+    eq_names(a, b)
+}
+
+/// The order of two names of which these are the last labels in which they differ (RFC 4034, 6.1).
+fn order_of_last(x: Option<Label<'_>>, y: Option<Label<'_>>) -> Ordering
+    ensures { result ≡ last_order x.entry y.entry }
+{
+    match (x, y) {
+        (None, None) => Ordering::Equal,
+        (None, Some(_)) => Ordering::Less,
+        (Some(_), None) => Ordering::Greater,
+        (Some(x), Some(y)) => x.cmp(&y),
+    }
+}
+
+/// The first of the labels that are left.
+pub(crate) fn next_label<'a, I: LabelIterator<'a>>(labels: &mut I) -> Label<'a>
+    requires { 0 < length (wire (I.left labels.old)) }
+    ensures { I.left labels.old ≡ label_octets result ∷ I.left labels.new }
+{
+    let Some(label) = labels.next() else {
+        unreachable!();
+    };
+    label
+}
+
+/// Whether two labels differ, apart from ASCII case.
+fn differ(x: &Label<'_>, y: &Label<'_>) -> bool
+    ensures { MatchBool result (low (label_octets x.now) ≢ low (label_octets y.now)) (low (label_octets x.now) ≡ low (label_octets y.now)) }
+{
+    x != y
 }
 
 /// The order of the labels that are left, from the last ones on (RFC 4034, 6.1).
-#[tactic(auto, using(crate::proofs::Steps::order_steps))]
-pub fn order_labels<'a, A: LabelIterator<'a>, B: LabelIterator<'a>>(a: A, b: B) -> Ordering
+///
+/// `a_len` and `b_len` are how many octets they have on the wire. Both are gone over once at most, from
+/// the front: what both end with has as many octets, so labels are compared only where as many are left
+/// of both, and the last labels before the common end decide. `alike` octets at the end are known to be
+/// alike; they aren't looked at.
+fn order_labels<'a, A: LabelIterator<'a>, B: LabelIterator<'a>>(
+    a: A,
+    a_len: u16,
+    b: B,
+    b_len: u16,
+    alike: usize,
+) -> Ordering
+    requires a_sized { a_len ≡ length (wire (A.left a)) }
+    requires b_sized { b_len ≡ length (wire (B.left b)) }
+    requires alike { EndAlike (A.left a) (B.left b) alike }
     ensures { result ≡ order (A.left a) (B.left b) }
 {
     let mut a = a;
     let mut b = b;
-    loop {
-        match (a.next_back(), b.next_back()) {
-            (None, None) => return Ordering::Equal,
-            (None, Some(_)) => return Ordering::Less,
-            (Some(_), None) => return Ordering::Greater,
-            (Some(x), Some(y)) => {
-                let order = x.cmp(&y);
-                if order.is_ne() {
-                    return order;
-                }
+    let mut a_len = a_len;
+    let mut b_len = b_len;
+    let mut x = None;
+    let mut y = None;
+    'labels: while a_len != b_len || usize::from(a_len) > alike {
+        if a_len > b_len {
+            let label = next_label(&mut a);
+            a_len -= label.len() as u16 + 1;
+            x = Some(label);
+        } else if a_len < b_len {
+            let label = next_label(&mut b);
+            b_len -= label.len() as u16 + 1;
+            y = Some(label);
+        } else {
+            let p = next_label(&mut a);
+            let q = next_label(&mut b);
+            a_len -= p.len() as u16 + 1;
+            b_len -= q.len() as u16 + 1;
+            if differ(&p, &q) {
+                x = Some(p);
+                y = Some(q);
             }
         }
     }
+    order_of_last(x, y)
+}
+
+/// The order of two names of any kinds, from the last labels on (RFC 4034, 6.1). Where both lie in one
+/// piece, the octets that they end with alike are passed over first.
+pub fn order_names<'a, A: ToLabelIter<'a>, B: ToLabelIter<'a>>(a: &'a A, b: &'a B) -> Ordering
+    ensures { result ≡ order (A.labels a.now) (B.labels b.now) }
+{
+    let alike = known_alike(a.as_flat_slice(), b.as_flat_slice());
+    order_labels(
+        a.iter_labels(),
+        a.compose_len(),
+        b.iter_labels(),
+        b.compose_len(),
+        alike,
+    )
 }
 
 /// The order of the wire octets of the labels that are left.
 #[tactic(auto, using(crate::proofs::Steps::composed_steps))]
-pub fn composed_order_labels<'a, A: LabelIterator<'a>, B: LabelIterator<'a>>(a: A, b: B) -> Ordering
+fn composed_order_labels<'a, A: LabelIterator<'a>, B: LabelIterator<'a>>(a: A, b: B) -> Ordering
     ensures { result ≡ composed_order (A.left a) (B.left b) }
 {
     let mut a = a;
@@ -77,9 +163,22 @@ pub fn composed_order_labels<'a, A: LabelIterator<'a>, B: LabelIterator<'a>>(a: 
     }
 }
 
+/// The order of the wire octets of two names.
+pub fn composed_order_names<'a, A: ToLabelIter<'a>, B: ToLabelIter<'a>>(
+    a: &'a A,
+    b: &'a B,
+) -> Ordering
+    ensures { result ≡ composed_order (A.labels a.now) (B.labels b.now) }
+{
+    match (a.as_flat_slice(), b.as_flat_slice()) {
+        (Some(a), Some(b)) => return a.cmp(b),
+        _ => return composed_order_labels(a.iter_labels(), b.iter_labels()),
+    }
+}
+
 /// The order of the wire octets of the labels that are left, without ASCII case.
 #[tactic(auto, using(crate::proofs::Steps::composed_steps))]
-pub fn lowercase_composed_order_labels<'a, A: LabelIterator<'a>, B: LabelIterator<'a>>(
+fn lowercase_composed_order_labels<'a, A: LabelIterator<'a>, B: LabelIterator<'a>>(
     a: A,
     b: B,
 ) -> Ordering
@@ -99,5 +198,18 @@ pub fn lowercase_composed_order_labels<'a, A: LabelIterator<'a>, B: LabelIterato
                 }
             }
         }
+    }
+}
+
+/// The order of the wire octets of two names, without ASCII case.
+pub fn lowercase_composed_order_names<'a, A: ToLabelIter<'a>, B: ToLabelIter<'a>>(
+    a: &'a A,
+    b: &'a B,
+) -> Ordering
+    ensures { result ≡ lowercase_composed_order (A.labels a.now) (B.labels b.now) }
+{
+    match (a.as_flat_slice(), b.as_flat_slice()) {
+        (Some(a), Some(b)) => return low_order(a, b),
+        _ => return lowercase_composed_order_labels(a.iter_labels(), b.iter_labels()),
     }
 }

@@ -1,8 +1,12 @@
-//! How names begin and end, label by label from either end.
-ghost use Rattle.std.specs.Prelude.{IsTrue, ◌↔◌};
+//! How names begin and end.
+ghost use Rattle.std.specs.Prelude.{◌≡◌, IsTrue, ◌↔◌, ◌++◌, ℕ, List, length};
+ghost use Rattle.domain_label.specs.Low.{low_all};
+ghost use Rattle.domain_label.specs.Wire.{wire};
 ghost use Rattle.domain_list.specs.Ends.{StartsWith, EndsWith};
 
-use crate::labels::LabelIterator;
+use crate::comparing::{eq_labels, next_label};
+use crate::flat::same_octets;
+use crate::labels::{LabelIterator, ToLabelIter};
 
 /// Whether the labels that `a` has left begin with those of `b`, without ASCII case.
 pub fn begins_with<'a, A: LabelIterator<'a>, B: LabelIterator<'a>>(a: A, b: B) -> bool
@@ -23,22 +27,38 @@ pub fn begins_with<'a, A: LabelIterator<'a>, B: LabelIterator<'a>>(a: A, b: B) -
     }
 }
 
-/// Whether the labels that `a` has left end with those of `b`, without ASCII case.
-#[tactic(auto, using(crate::proofs::Ending::end_steps))]
-pub fn finishes_with<'a, A: LabelIterator<'a>, B: LabelIterator<'a>>(a: A, b: B) -> bool
-    ensures { IsTrue result ↔ EndsWith (A.left a) (B.left b) }
+/// Whether the last labels of `a`, which are those that `rest` has left and have as many octets as `b`
+/// has, are those of `b` without ASCII case.
+fn is_end<'a, A: ToLabelIter<'a>, B: ToLabelIter<'a>>(
+    a: &'a A,
+    rest: A::LabelIter,
+    b: &'a B,
+) -> bool
+    requires part { (front : List (List ℕ)) × (A.labels a.now ≡ front ++ A.LabelIter.left rest) }
+    requires sized { length (wire (A.LabelIter.left rest)) ≡ length (wire (B.labels b.now)) }
+    ensures { IsTrue result ↔ (low_all (A.LabelIter.left rest) ≡ low_all (B.labels b.now)) }
 {
-    let mut a = a;
-    let mut b = b;
-    loop {
-        let Some(y) = b.next_back() else {
-            return true;
-        };
-        let Some(x) = a.next_back() else {
-            return false;
-        };
-        if y != x {
-            return false;
-        }
+    match (a.as_flat_slice(), b.as_flat_slice()) {
+        (Some(a), Some(b)) => return same_octets(&a[a.len() - b.len()..], b),
+        _ => return eq_labels(rest, b.iter_labels()),
     }
+}
+
+/// Whether the name `a` ends with the labels of `b`, without ASCII case.
+///
+/// Labels of `a` are passed over until no more octets are left than `b` has.
+pub fn ends_with_labels<'a, A: ToLabelIter<'a>, B: ToLabelIter<'a>>(a: &'a A, b: &'a B) -> bool
+    ensures { IsTrue result ↔ EndsWith (A.labels a.now) (B.labels b.now) }
+{
+    let size = b.compose_len();
+    let mut left = a.compose_len();
+    let mut rest = a.iter_labels();
+    'labels: while left > size {
+        let label = next_label(&mut rest);
+        left -= label.len() as u16 + 1;
+    }
+    if left < size {
+        return false;
+    }
+    is_end(a, rest, b)
 }

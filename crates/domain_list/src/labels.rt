@@ -7,7 +7,7 @@ ghost use Rattle.domain_label.specs.Views.{label_octets};
 ghost use Rattle.domain_label.specs.Wire.{wire, IsAbsolute, IsAbsoluteName, IsRelativeName, IsName};
 ghost use Rattle.domain_list.specs.Ends.{StartsWith, EndsWith};
 
-use crate::ends::{begins_with, finishes_with};
+use crate::ends::{begins_with, ends_with_labels};
 use domain_label::Label;
 
 /// An iterator over the labels of a name.
@@ -101,7 +101,7 @@ pub trait ToLabelIter<'a>: NameLabels {
     final fn ends_with<N: ToLabelIter<'a>>(&'a self, other: &'a N) -> bool
         ensures { IsTrue result ↔ EndsWith (Self.labels self.now) (N.labels other.now) }
     {
-        finishes_with(self.iter_labels(), other.iter_labels())
+        ends_with_labels(self, other)
     }
 }
 

@@ -1,12 +1,14 @@
 -- What is left of a list of labels without its last ones.
-use Rattle.std.proofs.Common.{◌≡◌, ◌↔◌, IsTrue, Bool, ℕ, ◌+◌, ◌≤◌, List, [], ◌∷◌, ◌++◌, length, refl, sym, ◌∙◌, ap, subst, arith, ⊎_elim}
-use Rattle.domain_label.specs.Low.{low_all}
-use Rattle.domain_label.specs.Wire.{wire, labels_in, IsName, IsWire, IsAbsolute}
+use Rattle.std.proofs.Common.{◌≡◌, ℕ, ◌+◌, ◌≤◌, List, [], ◌∷◌, ◌++◌, length, drop, refl, sym, ◌∙◌, ap, subst, arith, ⊎_elim}
+use Rattle.std.proofs.lemmas.List.{map-append}
+use Rattle.domain_label.specs.Low.{low, low_all}
+use Rattle.domain_label.specs.Wire.{wire, labels_in, AreLabels, IsName, IsWire, IsAbsolute}
 use Rattle.domain_label.proofs.WireLaws.{length-wire_append, nil_from_wire, labels_in_wire, absolute_labels, relative_labels}
 use Rattle.domain_list.specs.Ends.{EndsWith}
 use Rattle.domain_flat.specs.Flat.{IsCutAt, IsLabelStart, IsLabelEnd}
-use Rattle.domain_flat.proofs.Cuts.{cut_within, end_start, root_long}
-use Rattle.domain_flat.proofs.Lowered.{low_size}
+use Rattle.domain_flat.proofs.Cuts.{cut_drop, cut_within, end_start, root_long}
+use Rattle.domain_label.proofs.Lowered.{low_size, low_wires}
+use Rattle.domain_list.proofs.Alike.{labels_behind}
 use Rattle.domain_name.specs.Names.{IsStripped}
 
 same_size : (xs ys : List (List ℕ)) → low_all xs ≡ low_all ys → length (wire xs) ≡ length (wire ys)
@@ -25,7 +27,7 @@ two_sizes : (ls xs ys : List (List ℕ)) → ls ≡ xs ++ ys → length (wire ls
 two_sizes ls xs ys e = ap (λ r. length (wire r)) e ∙ length-wire_append xs ys
 
 -- the octets of a wire form are those of its labels
-octets_size : (o : List ℕ) → IsWire o → length (wire (labels_in o)) ≡ length o
+pub octets_size : (o : List ℕ) → IsWire o → length (wire (labels_in o)) ≡ length o
 octets_size o w = ap length w.0
 
 -- the last labels are no more than the whole
@@ -62,6 +64,18 @@ name_wire ls n =
     let e = labels_in_wire ls in
     rw e (refl, ⊎_elim (λ a. absolute_labels ls a.0) (λ r. relative_labels ls r.0) n)
 
--- a test of the labels that two iterators have left
-pub told : (r : Bool) (xs ys ls bs : List (List ℕ)) → (IsTrue r ↔ EndsWith xs ys) → xs ≡ ls → ys ≡ bs → IsTrue r ↔ EndsWith ls bs
-told r xs ys ls bs h e f = subst (λ k. IsTrue r ↔ EndsWith k bs) e (subst (λ k. IsTrue r ↔ EndsWith xs k) f h)
+-- the octets from there on are those of the last labels
+pub suffix_same : (o s : List ℕ) (n : ℕ) → IsWire o → IsWire s → EndsWith (labels_in o) (labels_in s) → n + length s ≡ length o → low (drop n o) ≡ low s
+suffix_same o s n w v e m =
+    let r = parted (labels_in o) e.0 (low_all (labels_in s)) e.1 in
+    let size : length (wire r.1) ≡ length s = same_size r.1 (labels_in s) r.3 ∙ octets_size s v in
+    let here : IsCutAt (labels_in o) n r.0 r.1 = record { parts = r.2; place = omega (arith, m, octets_size o w, two_sizes (labels_in o) r.0 r.1 r.2, size) } in
+    let same = (low_wires r.1 (labels_in s) (labels_behind r.0 r.1 (subst AreLabels r.2 w.1)) v.1).1 r.3 in
+    ap low (cut_drop o n r.0 r.1 w.0 here) ∙ (same ∙ ap low v.0)
+
+-- and where a label begins before such octets, they are last labels
+pub same_suffix : (o s : List ℕ) (n : ℕ) → IsWire o → IsWire s → low (drop n o) ≡ low s → IsLabelEnd (labels_in o) n → EndsWith (labels_in o) (labels_in s)
+same_suffix o s n w v e (xs, ys, c) =
+    let octets : low (wire ys) ≡ low (wire (labels_in s)) = ap low (sym (cut_drop o n xs ys w.0 c)) ∙ (e ∙ ap low (sym v.0)) in
+    let same : low_all ys ≡ low_all (labels_in s) = (low_wires ys (labels_in s) (labels_behind xs ys (subst AreLabels c.parts w.1)) v.1).0 octets in
+    (low_all xs, ap low_all c.parts ∙ (map-append low xs ys ∙ ap (λ r. low_all xs ++ r) same))

@@ -157,8 +157,8 @@ impl<Octs: Octets> Name<Octs> {
     ghost use Rattle.domain_name.specs.Names.{name_octets, name_labels, name_holder, relative_labels};
     ghost use Rattle.domain_name.specs.Suffixes.{suffix_lists_left};
 
-    /// The name whose wire form the octets are known to be.
-    pub(crate) fn from_wire(octets: Octs) -> Name<Octs>
+    /// The name whose wire form the octets are known to be. They aren't tested again.
+    pub fn from_wire(octets: Octs) -> Name<Octs>
         requires { IsAbsoluteWire (Octs.octets octets) }
         ensures { name_holder result ≡ octets }
     {

@@ -9,8 +9,8 @@ ghost use Rattle.domain_list.specs.Feed.{feed};
 ghost use Rattle.domain_list.specs.Order.{order, same_name};
 
 use crate::absolute::Name;
-use domain_list::comparing::{order_labels, same_labels};
-use domain_list::hashing::hash_labels;
+use domain_list::comparing::{order_names, same_names};
+use domain_list::hashing::hash_name;
 use domain_wire::CanonicalOrd;
 use octseq::Octets;
 use std::cmp::Ordering;
@@ -25,7 +25,7 @@ impl<Octs: Octets> PartialEq for Name<Octs> {
     ghost laws = { partial_equiv_from_equiv (on_equiv name_labels same_name_is_equivalence) };
 
     fn eq(&self, other: &Name<Octs>) -> bool {
-        same_labels(self.iter(), other.iter())
+        same_names(self, other)
     }
 }
 
@@ -48,7 +48,7 @@ impl<Octs: Octets> Ord for Name<Octs> {
     ghost matches_eq = { Prim.search (comparing, rules) };
 
     fn cmp(&self, other: &Name<Octs>) -> Ordering {
-        order_labels(self.iter(), other.iter())
+        order_names(self, other)
     }
 }
 
@@ -86,6 +86,6 @@ impl<Octs: Octets> Hash for Name<Octs> {
     ghost respects_eq = { λ a b. same_feed (name_labels a) (name_labels b) };
 
     fn hash<H: Hasher>(&self, state: &mut H) {
-        hash_labels(self.iter(), state);
+        hash_name(self, state);
     }
 }

@@ -155,8 +155,8 @@ impl RelativeName<&'static [u8]> {
 impl<Octs: Octets> RelativeName<Octs> {
     ghost use Rattle.domain_name.specs.Names.{relative_octets, relative_labels, relative_holder};
 
-    /// The name whose wire form the octets are known to be.
-    pub(crate) fn from_wire(octets: Octs) -> RelativeName<Octs>
+    /// The name whose wire form the octets are known to be. They aren't tested again.
+    pub fn from_wire(octets: Octs) -> RelativeName<Octs>
         requires { IsRelativeWire (Octs.octets octets) }
         ensures { relative_holder result ≡ octets }
     {

@@ -9,8 +9,8 @@ ghost use Rattle.domain_list.specs.Feed.{feed};
 ghost use Rattle.domain_list.specs.Order.{order, same_name};
 
 use crate::relative::RelativeName;
-use domain_list::comparing::{order_labels, same_labels};
-use domain_list::hashing::hash_labels;
+use domain_list::comparing::{order_names, same_names};
+use domain_list::hashing::hash_name;
 use octseq::Octets;
 use std::cmp::Ordering;
 use std::hash::{Hash, Hasher};
@@ -24,7 +24,7 @@ impl<Octs: Octets> PartialEq for RelativeName<Octs> {
     ghost laws = { partial_equiv_from_equiv (on_equiv relative_labels same_name_is_equivalence) };
 
     fn eq(&self, other: &RelativeName<Octs>) -> bool {
-        same_labels(self.iter(), other.iter())
+        same_names(self, other)
     }
 }
 
@@ -47,7 +47,7 @@ impl<Octs: Octets> Ord for RelativeName<Octs> {
     ghost matches_eq = { Prim.search (comparing, rules) };
 
     fn cmp(&self, other: &RelativeName<Octs>) -> Ordering {
-        order_labels(self.iter(), other.iter())
+        order_names(self, other)
     }
 }
 
@@ -72,6 +72,6 @@ impl<Octs: Octets> Hash for RelativeName<Octs> {
     ghost respects_eq = { λ a b. same_feed (relative_labels a) (relative_labels b) };
 
     fn hash<H: Hasher>(&self, state: &mut H) {
-        hash_labels(self.iter(), state);
+        hash_name(self, state);
     }
 }

@@ -3,11 +3,10 @@ ghost use Rattle.std.specs.Prelude.{◌≡◌, ◌+◌, Some, length, IfSome, Is
 ghost use Rattle.domain_label.specs.Wire.{IsWire, labels_in, wire};
 ghost use Rattle.domain_list.specs.Ends.{EndsWith};
 
-use arrayvec::ArrayVec;
-use domain_flat::NameIter;
+use domain_flat::is_label_end;
 use domain_list::ToLabelIter;
-use domain_list::composing::compose_labels;
-use domain_list::ends::finishes_with;
+use domain_list::composing::gathered;
+use domain_list::flat::same_octets;
 use std::error::Error;
 use std::fmt;
 
@@ -25,21 +24,37 @@ impl fmt::Display for StripSuffixError {
 
 impl Error for StripSuffixError {}
 
+/// The place in a wire form where its last labels begin, which are those of another one without ASCII
+/// case. `None` where it doesn't end with them.
+fn place_of(octets: &[u8], suffix: &[u8]) -> Option<usize>
+    requires whole { IsWire octets.now }
+    requires part { IsWire suffix.now }
+    ensures exact { IsSome result ↔ EndsWith (labels_in octets.now) (labels_in suffix.now) }
+    ensures place { IfSome result (λ place. place + length suffix.now ≡ length octets.now) }
+{
+    if octets.len() < suffix.len() {
+        return None;
+    }
+    let place = octets.len() - suffix.len();
+    if !same_octets(&octets[place..], suffix) {
+        return None;
+    }
+    if !is_label_end(octets, place) {
+        return None;
+    }
+    Some(place)
+}
+
 /// The place in a wire form where its last labels begin, which are those of `base` without ASCII
 /// case. `None` where the name doesn't end with them.
-///
-/// Labels of two lifetimes can't be gone over together, so those of `base` are written out first.
 pub(crate) fn suffix_place<'a, N: ToLabelIter<'a>>(octets: &[u8], base: &'a N) -> Option<usize>
     requires { IsWire octets.now }
     ensures exact { IsSome result ↔ EndsWith (labels_in octets.now) (N.labels base.now) }
     ensures place { IfSome result (λ place. place + length (wire (N.labels base.now)) ≡ length octets.now) }
 {
-    let mut suffix = ArrayVec::<u8, 255>::new();
-    let Ok(()) = compose_labels(base.iter_labels(), &mut suffix) else {
-        unreachable!();
-    };
-    if !finishes_with(NameIter::new(octets), NameIter::new(suffix.as_slice())) {
-        return None;
+    if let Some(suffix) = base.as_flat_slice() {
+        return place_of(octets, suffix);
     }
-    Some(octets.len() - suffix.len())
+    let suffix = gathered(base);
+    place_of(octets, suffix.as_slice())
 }

@@ -4,7 +4,7 @@ use Rattle.std.specs.Result.{IsOk, IsErr}
 use Rattle.std.specs.Prelude.{Result, Ok, Err}
 use Rattle.domain_label.specs.Low.{low_all}
 use Rattle.domain_label.specs.Wire.{IsAbsoluteName, IsRelativeName}
-use Rattle.domain_flat.proofs.Lowered.{low_absolute, low_relative, low_size}
+use Rattle.domain_label.proofs.Lowered.{low_absolute, low_relative, low_size}
 
 -- lowered labels are a name of the same shape
 pub absolute_lowered : (ls : List (List ℕ)) → IsAbsoluteName ls → IsAbsoluteName (low_all ls)

@@ -1,4 +1,4 @@
-//! Wire forms and flat names made of labels. The calls of names stand on these functions, which are
+//! Wire forms and flat names made of names. The calls of names stand on these functions, which are
 //! one body each for absolute and relative names of every kind.
 ghost use Rattle.std.specs.Prelude.{◌≡◌, ◌<◌, ℕ, List, length, IfOk, IsOkAnd, OnErr};
 ghost use Rattle.std.specs.Cow.{cow_slice_items, IsBorrowedSlice};
@@ -7,46 +7,44 @@ ghost use Rattle.domain_label.specs.Wire.{wire, IsAbsoluteName, IsRelativeName};
 ghost use Rattle.domain_name.specs.Names.{name_labels, name_holder, relative_labels, relative_holder};
 ghost use Rattle.domain_traits.specs.Room.{MayLackRoom};
 
-use domain_list::composing::{compose_canonical_labels, compose_labels};
-use domain_list::{LabelIterator, ToLabelIter};
+use domain_list::ToLabelIter;
+use domain_list::composing::{compose_canonical_name, compose_name};
 use domain_name::{Name, RelativeName};
 use octseq::{EmptyBuilder, Octets, ShortBuf};
 use std::alloc::Global;
 use std::borrow::CowSlice;
 
-/// A new builder that has the wire form of the labels that are left. Room for its `size` octets is asked
-/// for once, before anything is appended.
+/// A new builder that has the wire form of a name. Room for its octets is asked for once, before they
+/// are appended.
 ///
 /// `ShortBuf` where the octets exceed a fixed room, or where memory was refused. A name without octets
 /// is never refused.
-pub(crate) fn build<'a, I: LabelIterator<'a>, B: EmptyBuilder + Drop>(
-    labels: I,
-    size: u16,
+#[inline(always)]
+pub(crate) fn build<'a, N: ToLabelIter<'a>, B: EmptyBuilder + Drop>(
+    name: &'a N,
     alloc: Global,
 ) -> Result<B, ShortBuf>
-    requires { size ≡ length (wire (I.left labels)) }
-    ensures ok { IfOk result (λ target. B.octets target ≡ wire (I.left labels)) }
-    ensures err { OnErr result (MayLackRoom B.ROOM (length (wire (I.left labels)))) }
+    ensures ok { IfOk result (λ target. B.octets target ≡ wire (N.labels name.now)) }
+    ensures err { OnErr result (MayLackRoom B.ROOM (length (wire (N.labels name.now)))) }
 {
-    let mut target = B::with_capacity(alloc, size as usize)?;
-    match compose_labels(labels, &mut target) {
+    let mut target = B::with_capacity(alloc, name.compose_len() as usize)?;
+    match compose_name(name, &mut target) {
         Ok(()) => Ok(target),
         Err(e) => Err(e.into()),
     }
 }
 
 /// The same with the labels lowered (RFC 4034, 6.2).
-pub(crate) fn build_canonical<'a, I: LabelIterator<'a>, B: EmptyBuilder + Drop>(
-    labels: I,
-    size: u16,
+#[inline(always)]
+pub(crate) fn build_canonical<'a, N: ToLabelIter<'a>, B: EmptyBuilder + Drop>(
+    name: &'a N,
     alloc: Global,
 ) -> Result<B, ShortBuf>
-    requires { size ≡ length (wire (I.left labels)) }
-    ensures ok { IfOk result (λ target. B.octets target ≡ wire (low_all (I.left labels))) }
-    ensures err { OnErr result (MayLackRoom B.ROOM (length (wire (low_all (I.left labels))))) }
+    ensures ok { IfOk result (λ target. B.octets target ≡ wire (low_all (N.labels name.now))) }
+    ensures err { OnErr result (MayLackRoom B.ROOM (length (wire (N.labels name.now)))) }
 {
-    let mut target = B::with_capacity(alloc, size as usize)?;
-    match compose_canonical_labels(labels, &mut target) {
+    let mut target = B::with_capacity(alloc, name.compose_len() as usize)?;
+    match compose_canonical_name(name, &mut target) {
         Ok(()) => Ok(target),
         Err(e) => Err(e.into()),
     }
@@ -66,26 +64,28 @@ pub(crate) fn lend_or_build<'a, N: ToLabelIter<'a>>(
     match name.as_flat_slice() {
         Some(flat) => Ok(CowSlice::Borrowed(flat)),
         None => {
-            let octets: Vec<u8> = build(name.iter_labels(), name.compose_len(), alloc)?;
+            let octets: Vec<u8> = build(name, alloc)?;
             Ok(CowSlice::Owned(octets))
         }
     }
 }
 
-/// The absolute name whose wire form the octets are.
+/// The absolute name whose wire form the octets are. They aren't tested again.
+#[inline(always)]
 pub(crate) fn name_of<Octs: Octets + Drop>(octets: Octs) -> Name<Octs>
     requires { (ls : List (List ℕ)) × IsAbsoluteName ls × (Octs.octets octets ≡ wire ls) }
     ensures list { (ls : List (List ℕ)) → IsAbsoluteName ls → Octs.octets octets ≡ wire ls → name_labels result ≡ ls }
     ensures kept { name_holder result ≡ octets }
 {
-    Name::from_octets(octets).unwrap()
+    Name::from_wire(octets)
 }
 
-/// The relative name whose wire form the octets are.
+/// The relative name whose wire form the octets are. They aren't tested again.
+#[inline(always)]
 pub(crate) fn relative_name_of<Octs: Octets + Drop>(octets: Octs) -> RelativeName<Octs>
     requires { (ls : List (List ℕ)) × IsRelativeName ls × (Octs.octets octets ≡ wire ls) }
     ensures list { (ls : List (List ℕ)) → IsRelativeName ls → Octs.octets octets ≡ wire ls → relative_labels result ≡ ls }
     ensures kept { relative_holder result ≡ octets }
 {
-    RelativeName::from_octets(octets).unwrap()
+    RelativeName::from_wire(octets)
 }

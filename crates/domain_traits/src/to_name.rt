@@ -11,9 +11,9 @@ ghost use Rattle.domain_traits.specs.Room.{MayLackRoom};
 
 use crate::building::{build, build_canonical, lend_or_build, name_of};
 use domain_list::comparing::{
-    composed_order_labels, eq_labels, lowercase_composed_order_labels, order_labels,
+    composed_order_names, eq_names, lowercase_composed_order_names, order_names,
 };
-use domain_list::composing::{compose_canonical_labels, compose_labels};
+use domain_list::composing::{compose_canonical_name, compose_name};
 use domain_list::counting::rrsig_count;
 use domain_list::{AbsoluteLabels, DisplayWithDot, NameLabels, ToLabelIter};
 use domain_name::Name;
@@ -25,8 +25,8 @@ use std::cmp::Ordering;
 /// The calls that absolute names of every kind have.
 ///
 /// Each type with [`AbsoluteLabels`] has them, with nothing to write. Each call is one body for all types,
-/// and what it gives depends on the name's list of labels alone; only `to_cow` also looks at how the
-/// name lies in memory.
+/// and what it gives depends on the name's list of labels alone. How the name lies in memory decides how
+/// soon it is given, and for `to_cow` whether its octets are lent.
 pub trait ToName<'a>: AbsoluteLabels<'a> {
     /// The same name in one piece, over octets of the caller's choice.
     ///
@@ -40,7 +40,7 @@ pub trait ToName<'a>: AbsoluteLabels<'a> {
         ensures ok { IfOk result (λ name. name_labels name ≡ Self.labels self.now) }
         ensures err { OnErr result (MayLackRoom Octs.Builder.ROOM (length (wire (Self.labels self.now)))) }
     {
-        let target = build(self.iter_labels(), self.compose_len(), alloc)?;
+        let target = build(self, alloc)?;
         Ok(name_of(Octs::from_builder(target)))
     }
 
@@ -83,7 +83,7 @@ pub trait ToName<'a>: AbsoluteLabels<'a> {
         ensures ok { IfOk result (λ name. name_labels name ≡ low_all (Self.labels self.now)) }
         ensures err { OnErr result (MayLackRoom Octs.Builder.ROOM (length (wire (Self.labels self.now)))) }
     {
-        let target = build_canonical(self.iter_labels(), self.compose_len(), alloc)?;
+        let target = build_canonical(self, alloc)?;
         Ok(name_of(Octs::from_builder(target)))
     }
 
@@ -149,7 +149,7 @@ pub trait ToName<'a>: AbsoluteLabels<'a> {
         ensures within { IfSome Target.limit (λ n. length (Target.octets target.new) ≤ n) }
         ensures fixed { IfSome Target.limit (λ n. Target.capacity target.old ≡ n) }
     {
-        compose_labels(self.iter_labels(), target)
+        compose_name(self, target)
     }
 
     /// Appends the wire form with A to Z as a to z, the canonical form (RFC 4034, 6.2), or nothing.
@@ -166,7 +166,7 @@ pub trait ToName<'a>: AbsoluteLabels<'a> {
         ensures within { IfSome Target.limit (λ n. length (Target.octets target.new) ≤ n) }
         ensures fixed { IfSome Target.limit (λ n. Target.capacity target.old ≡ n) }
     {
-        compose_canonical_labels(self.iter_labels(), target)
+        compose_canonical_name(self, target)
     }
 
     /// Whether the labels are the same without ASCII case (RFC 4343).
@@ -183,7 +183,7 @@ pub trait ToName<'a>: AbsoluteLabels<'a> {
     final fn name_eq<N: AbsoluteLabels<'a>>(&'a self, other: &'a N) -> bool
         ensures { IsTrue result ↔ (low_all (Self.labels self.now) ≡ low_all (N.labels other.now)) }
     {
-        eq_labels(self.iter_labels(), other.iter_labels())
+        eq_names(self, other)
     }
 
     /// The order of names: labels are compared from the right, as lists of octets without ASCII case
@@ -201,21 +201,21 @@ pub trait ToName<'a>: AbsoluteLabels<'a> {
     final fn name_cmp<N: AbsoluteLabels<'a>>(&'a self, other: &'a N) -> Ordering
         ensures { result ≡ order (Self.labels self.now) (N.labels other.now) }
     {
-        order_labels(self.iter_labels(), other.iter_labels())
+        order_names(self, other)
     }
 
     /// The order of the octets of the uncompressed wire forms.
     final fn composed_cmp<N: AbsoluteLabels<'a>>(&'a self, other: &'a N) -> Ordering
         ensures { result ≡ composed_order (Self.labels self.now) (N.labels other.now) }
     {
-        composed_order_labels(self.iter_labels(), other.iter_labels())
+        composed_order_names(self, other)
     }
 
     /// The order of the octets of the uncompressed wire forms, without ASCII case.
     final fn lowercase_composed_cmp<N: AbsoluteLabels<'a>>(&'a self, other: &'a N) -> Ordering
         ensures { result ≡ lowercase_composed_order (Self.labels self.now) (N.labels other.now) }
     {
-        lowercase_composed_order_labels(self.iter_labels(), other.iter_labels())
+        lowercase_composed_order_names(self, other)
     }
 
     /// The number for the labels field of a signature: neither the root nor a first `*` counts

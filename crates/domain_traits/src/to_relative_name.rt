@@ -10,8 +10,8 @@ ghost use Rattle.domain_name.specs.Names.{name_labels, relative_labels, relative
 ghost use Rattle.domain_traits.specs.Room.{MayLackRoom};
 
 use crate::building::{build, build_canonical, lend_or_build, relative_name_of};
-use domain_list::comparing::{eq_labels, order_labels};
-use domain_list::composing::{compose_canonical_labels, compose_labels};
+use domain_list::comparing::{eq_names, order_names};
+use domain_list::composing::{compose_canonical_name, compose_name};
 use domain_list::{Chain, LongChainError, NameLabels, RelativeLabels, ToLabelIter};
 use domain_name::{Name, RelativeName};
 use octseq::{EmptyBuilder, FromBuilder, OctetsBuilder, ShortBuf};
@@ -22,8 +22,8 @@ use std::cmp::Ordering;
 /// The calls that relative names of every kind have.
 ///
 /// Each type with [`RelativeLabels`] has them, with nothing to write. Each call is one body for all types,
-/// and what it gives depends on the name's list of labels alone; only `to_cow` also looks at how the
-/// name lies in memory.
+/// and what it gives depends on the name's list of labels alone. How the name lies in memory decides how
+/// soon it is given, and for `to_cow` whether its octets are lent.
 pub trait ToRelativeName<'a>: RelativeLabels<'a> {
     /// The same name in one piece, over octets of the caller's choice.
     ///
@@ -37,7 +37,7 @@ pub trait ToRelativeName<'a>: RelativeLabels<'a> {
         ensures ok { IfOk result (λ name. relative_labels name ≡ Self.labels self.now) }
         ensures err { OnErr result (MayLackRoom Octs.Builder.ROOM (length (wire (Self.labels self.now)))) }
     {
-        let target = build(self.iter_labels(), self.compose_len(), alloc)?;
+        let target = build(self, alloc)?;
         Ok(relative_name_of(Octs::from_builder(target)))
     }
 
@@ -66,7 +66,7 @@ pub trait ToRelativeName<'a>: RelativeLabels<'a> {
         ensures ok { IfOk result (λ name. relative_labels name ≡ low_all (Self.labels self.now)) }
         ensures err { OnErr result (MayLackRoom Octs.Builder.ROOM (length (wire (Self.labels self.now)))) }
     {
-        let target = build_canonical(self.iter_labels(), self.compose_len(), alloc)?;
+        let target = build_canonical(self, alloc)?;
         Ok(relative_name_of(Octs::from_builder(target)))
     }
 
@@ -119,7 +119,7 @@ pub trait ToRelativeName<'a>: RelativeLabels<'a> {
         ensures within { IfSome Target.limit (λ n. length (Target.octets target.new) ≤ n) }
         ensures fixed { IfSome Target.limit (λ n. Target.capacity target.old ≡ n) }
     {
-        compose_labels(self.iter_labels(), target)
+        compose_name(self, target)
     }
 
     /// Appends the wire form of the labels with A to Z as a to z (RFC 4034, 6.2), or nothing.
@@ -136,7 +136,7 @@ pub trait ToRelativeName<'a>: RelativeLabels<'a> {
         ensures within { IfSome Target.limit (λ n. length (Target.octets target.new) ≤ n) }
         ensures fixed { IfSome Target.limit (λ n. Target.capacity target.old ≡ n) }
     {
-        compose_canonical_labels(self.iter_labels(), target)
+        compose_canonical_name(self, target)
     }
 
     /// Whether there is no label.
@@ -177,7 +177,7 @@ pub trait ToRelativeName<'a>: RelativeLabels<'a> {
     final fn name_eq<N: RelativeLabels<'a>>(&'a self, other: &'a N) -> bool
         ensures { IsTrue result ↔ (low_all (Self.labels self.now) ≡ low_all (N.labels other.now)) }
     {
-        eq_labels(self.iter_labels(), other.iter_labels())
+        eq_names(self, other)
     }
 
     /// The order of names, as if both had one origin (RFC 4034, 6.1). It is `Equal` exactly where
@@ -185,7 +185,7 @@ pub trait ToRelativeName<'a>: RelativeLabels<'a> {
     final fn name_cmp<N: RelativeLabels<'a>>(&'a self, other: &'a N) -> Ordering
         ensures { result ≡ order (Self.labels self.now) (N.labels other.now) }
     {
-        order_labels(self.iter_labels(), other.iter_labels())
+        order_names(self, other)
     }
 }
 

@@ -1,39 +1,39 @@
-use Rattle.std.proofs.Common.{arith, rules, sym, subst, ap, ◌∙◌, ◌≡◌, refl, true≢false, length}
+use Rattle.std.proofs.Common.{◌≡◌, ◌+◌, ◌↔◌, sym, subst, ap, ◌∙◌, length}
+use Rattle.std.specs.Prelude.{IsSome, IfSome}
 use Rattle.domain_label.specs.Wire.{wire, labels_in, IsWire}
 use Rattle.domain_label.proofs.WireLaws.{labels_in_wire}
-use Rattle.domain_name.proofs.Stripping.{name_wire, suffix_fits, told}
+use Rattle.domain_list.specs.Ends.{EndsWith}
+use Rattle.domain_name.proofs.Stripping.{name_wire}
 use Rattle.domain_name.proofs.strip.suffix_place.Goals as goal
 
-pub new-requires-2 : goal.new-requires-2
-new-requires-2 g c =
+pub place_of-requires : goal.place_of-requires
+place_of-requires g c =
     let bs = g.N.NameLabels.labels c.args.base.now in
-    let e : c.as_slice.result.now ≡ wire bs = search rules in
-    subst IsWire (sym e) (name_wire bs (g.met.N.NameLabels.lawful c.args.base.now))
+    let e : c.in-Some.suffix.now ≡ wire bs = c.in-Some.ensures.wire in
+    record { whole = c.requires; part = subst IsWire (sym e) (name_wire bs (g.met.N.NameLabels.lawful c.args.base.now)) }
 
-pub returns-then-not-finishes_with-clause-exact : goal.returns-then-not-finishes_with-clause-exact
-returns-then-not-finishes_with-clause-exact g c =
+pub returns-in-Some-clause-exact : goal.returns-in-Some-clause-exact
+returns-in-Some-clause-exact g c =
     let bs = g.N.NameLabels.labels c.args.base.now in
-    let e : c.as_slice.result.now ≡ wire bs = search rules in
-    let t = told c.finishes_with.result _ _ (labels_in c.args.octets.now) bs c.finishes_with.ensures c.new.ensures (c.new-2.ensures ∙ (ap labels_in e ∙ labels_in_wire bs)) in
-    (λ h. absurd (true≢false (sym h)), λ h. sym c.if-not-finishes_with.true ∙ t.1 h)
+    let e : labels_in c.in-Some.suffix.now ≡ bs = ap labels_in c.in-Some.ensures.wire ∙ labels_in_wire bs in
+    subst (λ ls. IsSome c.place_of.result ↔ EndsWith (labels_in c.args.octets.now) ls) e c.place_of.ensures.exact
 
-pub overflow_sub-result : goal.overflow_sub-result
-overflow_sub-result g c =
+pub returns-in-Some-clause-place : goal.returns-in-Some-clause-place
+returns-in-Some-clause-place g c =
+    subst (λ s. IfSome c.place_of.result (λ place. place + length s ≡ length c.args.octets.now)) c.in-Some.ensures.wire c.place_of.ensures.place
+
+pub place_of-requires-2 : goal.place_of-requires-2
+place_of-requires-2 g c =
     let bs = g.N.NameLabels.labels c.args.base.now in
-    let e : c.as_slice.result.now ≡ wire bs = search rules in
-    let t = told c.finishes_with.result _ _ (labels_in c.args.octets.now) bs c.finishes_with.ensures c.new.ensures (c.new-2.ensures ∙ (ap labels_in e ∙ labels_in_wire bs)) in
-    omega (arith, suffix_fits c.args.octets.now bs c.requires (t.0 c.if-not-finishes_with.false), ap length e, ap length c.as_slice.ensures.value, c.len.ensures.value)
+    let e : c.as_slice.result.now ≡ wire bs = c.as_slice.ensures.value ∙ c.gathered-suffix.ensures in
+    record { whole = c.requires; part = subst IsWire (sym e) (name_wire bs (g.met.N.NameLabels.lawful c.args.base.now)) }
 
 pub returns-clause-exact : goal.returns-clause-exact
 returns-clause-exact g c =
     let bs = g.N.NameLabels.labels c.args.base.now in
-    let e : c.as_slice.result.now ≡ wire bs = search rules in
-    let t = told c.finishes_with.result _ _ (labels_in c.args.octets.now) bs c.finishes_with.ensures c.new.ensures (c.new-2.ensures ∙ (ap labels_in e ∙ labels_in_wire bs)) in
-    (λ h. t.0 c.if-not-finishes_with.false, λ h. refl)
+    let e : labels_in c.as_slice.result.now ≡ bs = ap labels_in (c.as_slice.ensures.value ∙ c.gathered-suffix.ensures) ∙ labels_in_wire bs in
+    subst (λ ls. IsSome c.place_of-2.result ↔ EndsWith (labels_in c.args.octets.now) ls) e c.place_of-2.ensures.exact
 
 pub returns-clause-place : goal.returns-clause-place
 returns-clause-place g c =
-    let bs = g.N.NameLabels.labels c.args.base.now in
-    let e : c.as_slice.result.now ≡ wire bs = search rules in
-    let t = told c.finishes_with.result _ _ (labels_in c.args.octets.now) bs c.finishes_with.ensures c.new.ensures (c.new-2.ensures ∙ (ap labels_in e ∙ labels_in_wire bs)) in
-    omega (arith, suffix_fits c.args.octets.now bs c.requires (t.0 c.if-not-finishes_with.false), ap length e, ap length c.as_slice.ensures.value, c.len.ensures.value)
+    subst (λ s. IfSome c.place_of-2.result (λ place. place + length s ≡ length c.args.octets.now)) (c.as_slice.ensures.value ∙ c.gathered-suffix.ensures) c.place_of-2.ensures.place

@@ -2,23 +2,16 @@ use Rattle.std.proofs.Common.{rules, length, ◌∙◌, ap, subst}
 use Rattle.domain_label.specs.Low.{low_all}
 use Rattle.domain_label.specs.Wire.{wire}
 use Rattle.domain_traits.specs.Room.{MayLackRoom}
-use Rattle.domain_flat.proofs.Lowered.{low_size}
+use Rattle.domain_label.proofs.Lowered.{low_size}
 use Rattle.domain_traits.proofs.Made.{relative_lowered}
 use Rattle.domain_traits.proofs.to_relative_name.ToRelativeName.try_to_canonical_relative_name.Goals as goal
-
-pub returns-in_err-target-clause-err : goal.returns-in_err-target-clause-err
-returns-in_err-target-clause-err g c =
-    let ls = g.Self.NameLabels.labels c.args.self.now in
-    let size = ap (λ r. length (wire (low_all r))) c.iter_labels.ensures ∙ low_size ls in
-    let lacks = subst (MayLackRoom g.Octs.Builder.EmptyBuilder.ROOM) size c.in_err-target.ensures.err in
-    search rules
 
 pub relative_name_of-requires : goal.relative_name_of-requires
 relative_name_of-requires g c =
     let name = relative_lowered _ (g.met.Self.Relative.relative c.args.self.now) in
-    (low_all (g.Self.NameLabels.labels c.args.self.now), name, c.from_builder.ensures ∙ (c.in_ok-target.ensures.ok ∙ ap (λ r. wire (low_all r)) c.iter_labels.ensures))
+    (low_all (g.Self.NameLabels.labels c.args.self.now), name, c.from_builder.ensures ∙ c.in_ok-target.ensures.ok)
 
 pub returns-clause-ok : goal.returns-clause-ok
 returns-clause-ok g c =
     let name = relative_lowered _ (g.met.Self.Relative.relative c.args.self.now) in
-    c.relative_name_of.ensures.list _ name (c.from_builder.ensures ∙ (c.in_ok-target.ensures.ok ∙ ap (λ r. wire (low_all r)) c.iter_labels.ensures))
+    c.relative_name_of.ensures.list _ name (c.from_builder.ensures ∙ c.in_ok-target.ensures.ok)

@@ -1,12 +1,12 @@
 -- The canonical form of a wire form is that of its labels.
-use Rattle.std.proofs.Common.{◌≡◌, ℕ, List, [], ◌∷◌, ◌++◌, length, refl, sym, ◌∙◌, ap, subst, arith, length-append}
+use Rattle.std.proofs.Common.{◌≡◌, ◌↔◌, ℕ, List, [], ◌∷◌, ◌++◌, length, refl, sym, ◌∙◌, ap, subst, arith, length-append}
 use Rattle.std.specs.Char.{to_ascii_lowercase}
 use Rattle.std.proofs.lemmas.List.{map-append, length-map}
 use Rattle.domain_label.specs.Low.{low, low_all}
 use Rattle.domain_label.specs.Wire.{wire, labels_in, AreLabels, IsAbsolute, IsRelative, IsAbsoluteWire, IsRelativeWire}
-use Rattle.domain_label.proofs.WireLaws.{labels_in_wire, wire_absolute, wire_relative, absolute_labels, relative_labels}
+use Rattle.domain_label.proofs.WireLaws.{labels_in_wire, wire_once, wire_absolute, wire_relative, absolute_labels, relative_labels}
 
-low_length : (l : List ℕ) → length (low l) ≡ length l
+pub low_length : (l : List ℕ) → length (low l) ≡ length l
 low_length l = length-map l to_ascii_lowercase
 
 pub low_wire : (ls : List (List ℕ)) → AreLabels ls → low (wire ls) ≡ wire (low_all ls)
@@ -50,3 +50,10 @@ lowered_relative o new w e =
       subst IsRelativeWire (sym there) (wire_relative (low_all ls) (low_relative ls w.1.0, omega (arith, low_size ls, w.1.1))),
       ap labels_in there ∙ labels_in_wire (low_all ls),
     )
+
+-- lists are the same without case where their wire forms are
+pub low_wires : (xs ys : List (List ℕ)) → AreLabels xs → AreLabels ys → (low (wire xs) ≡ low (wire ys)) ↔ (low_all xs ≡ low_all ys)
+low_wires xs ys a b = (
+  λ e. wire_once (low_all xs) (low_all ys) (sym (low_wire xs a) ∙ (e ∙ low_wire ys b)),
+  λ e. low_wire xs a ∙ (ap wire e ∙ sym (low_wire ys b)),
+)

@@ -1,0 +1,33 @@
+-- A list that ends with another, told by how many octets each has.
+use Rattle.std.proofs.Common.{◌≡◌, ℕ, ◌+◌, ◌≤◌, ◌<◌, ◌↔◌, List, [], ◌∷◌, ◌++◌, length, refl, ap, arith, length-append}
+use Rattle.std.proofs.lemmas.List.{length-map}
+use Rattle.std.specs.Char.{to_ascii_lowercase}
+use Rattle.domain_label.specs.Low.{low, low_all}
+use Rattle.domain_label.specs.Wire.{wire}
+use Rattle.domain_label.proofs.Lowered.{low_size}
+use Rattle.domain_label.proofs.WireLaws.{wire_append}
+use Rattle.domain_list.specs.Ends.{EndsWith}
+
+-- how much longer the one is
+pub front_size : (xs ys front : List (List ℕ)) → low_all xs ≡ front ++ low_all ys → length (wire xs) ≡ length (wire front) + length (wire ys)
+front_size xs ys front e =
+    omega (arith, low_size xs, low_size ys, ap (λ ls. length (wire ls)) e, ap (λ o. length o) (wire_append front (low_all ys)), length-append (wire front) (wire (low_all ys)))
+
+behind_first : (x : List ℕ) (xs ys front : List (List ℕ)) → low_all (x ∷ xs) ≡ front ++ low_all ys → length (wire ys) < length (wire (x ∷ xs)) → EndsWith xs ys
+behind_first x xs ys [] e more = absurd (omega (arith, more, front_size (x ∷ xs) ys [] e))
+behind_first x xs ys (f ∷ front) e more = (front, cc)
+
+-- a label is passed over
+pub passed_first : (xs ys rest : List (List ℕ)) (x : List ℕ) → xs ≡ x ∷ rest → length (wire ys) < length (wire xs) → EndsWith rest ys ↔ EndsWith xs ys
+passed_first xs ys rest x e more = rw e (
+  λ p. (low x ∷ p.0, ap (λ r. low x ∷ r) p.1),
+  λ p. behind_first x rest ys p.0 p.1 (omega (arith, more, ap (λ ls. length (wire ls)) e)),
+)
+
+no_front : (xs ys front : List (List ℕ)) → low_all xs ≡ front ++ low_all ys → length (wire xs) ≤ length (wire ys) → low_all xs ≡ low_all ys
+no_front xs ys [] e few = e
+no_front xs ys (f ∷ front) e few = absurd (omega (arith, few, front_size xs ys (f ∷ front) e))
+
+-- where no more octets are left
+pub ends_level : (xs ys : List (List ℕ)) → length (wire xs) ≤ length (wire ys) → (low_all xs ≡ low_all ys) ↔ EndsWith xs ys
+ends_level xs ys few = (λ e. ([], e), λ p. no_front xs ys p.0 p.1 few)
