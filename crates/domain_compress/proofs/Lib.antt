@@ -1,0 +1,5 @@
+pub mod Along
+pub mod Pointing
+pub mod Searching
+pub mod Remembering
+pub mod Composing

@@ -1,0 +1,38 @@
+-- A pointer behind labels is read as what it leads to, and whether that is a name.
+use Rattle.std.proofs.Common.{◌≡◌, ℕ, suc, ◌+◌, ◌≤◌, ◌<◌, List, [], ◌∷◌, ◌++◌, length, sym, ap, subst, ◌∙◌, arith, length-append}
+use Rattle.std.proofs.lemmas.List.{map-append}
+use Rattle.domain_label.specs.Wire.{wire, IsRelative, IsAbsoluteName}
+use Rattle.domain_label.specs.Low.{low, low_all}
+use Rattle.domain_flat.proofs.Lowered.{low_size}
+use Rattle.domain_reading.specs.Grammar.{Flat, Reads}
+use Rattle.domain_reading.specs.Grammar.Reads.{root, label, pointer}
+use Rattle.domain_reading.proofs.Reading.{reads_once, reads_more}
+use Rattle.domain_compress.specs.Compressing.{pointer_to, IsRead}
+use Rattle.domain_compress.specs.Pointed.{flat_plain, pointer_behind}
+use Rattle.domain_compress.specs.Written.{StandsThrough}
+
+reads_inside : {m : List ℕ} {p k : ℕ} {ls : List (List ℕ)} → Reads m p k ls → p < length m
+reads_inside (root x) = x.inside
+reads_inside (label x r) = omega (arith, x.inside)
+reads_inside (pointer x lt r) = omega (arith, x.inside)
+
+-- Labels and what is read behind them.
+flat_reads : {m : List ℕ} {r k : ℕ} {ls : List (List ℕ)} (a : List (List ℕ)) (p : ℕ) → Flat m p a r → Reads m r k ls → Reads m p k (a ++ ls)
+flat_reads {m} {k = k} {ls} [] p f r = subst (λ q. Reads m q k ls) (sym f) r
+flat_reads (l ∷ a) p f r = label f.0 (flat_reads a (p + 1 + length l) f.1 r)
+
+-- One pointer more leads along what is read behind t.
+through_pointer : (t : List ℕ) (a b : List (List ℕ)) (p k : ℕ) → IsRelative a → (s : StandsThrough t p b k) → Reads (t ++ (wire a ++ pointer_to p)) (length t) (suc k) (a ++ s.labels)
+through_pointer t a b p k rel s =
+    flat_reads a (length t) (flat_plain a t (pointer_to p) rel) (pointer (pointer_behind t a p) (omega (arith, reads_inside s.reads)) (reads_more (wire a ++ pointer_to p) s.reads))
+
+pub pointed_read : (t : List ℕ) (ls a b : List (List ℕ)) (p k : ℕ) → IsAbsoluteName ls → ls ≡ a ++ b → IsRelative a → StandsThrough t p b k → k < 255 → IsRead t ls a p
+pointed_read t ls a b p k name parts rel s few =
+    let same : low_all (a ++ s.labels) ≡ low_all ls = map-append low a s.labels ∙ (ap (λ x. low_all a ++ x) s.same ∙ (sym (map-append low a b) ∙ ap low_all (sym parts))) in
+    let size : length (wire (a ++ s.labels)) ≡ length (wire ls) = sym (low_size (a ++ s.labels)) ∙ (ap (λ x. length (wire x)) same ∙ low_size ls) in
+    (a ++ s.labels, record { pointers = suc k; reads = through_pointer t a b p k rel s; few_pointers = omega (arith, few); short = omega (arith, size, name.1) }, same)
+
+-- One pointer too many.
+pub pointed_unread : (t : List ℕ) (ls a b : List (List ℕ)) (p k : ℕ) → IsRelative a → StandsThrough t p b k → k ≡ 255 → IsRead t ls a p → ⊥
+pointed_unread t ls a b p k rel s many read =
+    omega (arith, (reads_once (through_pointer t a b p k rel s) read.1.reads).0, read.1.few_pointers, many)

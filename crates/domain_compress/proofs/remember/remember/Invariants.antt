@@ -1,0 +1,13 @@
+use Rattle.std.proofs.Common.{◌-◌, ◌≤◌, length}
+use Rattle.domain_compress.specs.Written.{places}
+use Rattle.domain_compress.proofs.Remembering.{Remembered}
+use Rattle.domain_compress.proofs.remember.remember.Given as goal
+
+abbrev pub invariant-labels : goal.invariant-labels
+invariant-labels l = record {
+  done : Remembered (places l.initial.written.items) (places l.written.items) l.labels l.start l.end l.at;
+  few : length (places l.written.items) ≤ 128;
+}
+
+abbrev pub decreases-labels : goal.decreases-labels
+decreases-labels l = length l.labels - l.at

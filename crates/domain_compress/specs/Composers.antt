@@ -1,0 +1,13 @@
+-- What contracts see of a composer that compresses.
+use Rattle.std.specs.Prelude.{List}
+use Rattle.domain_compress.specs.declared.compress.CompressComposer.{CompressComposer}
+use Rattle.domain_compress.specs.Compressing.{Place}
+use Rattle.domain_compress.specs.Written.{places}
+
+-- the target
+abbrev pub target_of : {T E : Type 0} → CompressComposer T E → T
+target_of c = c.target
+
+-- the places that it remembers
+abbrev pub written_places : {T E : Type 0} → CompressComposer T E → List Place
+written_places c = places c.written.items

@@ -1,0 +1,6 @@
+pub mod Compressing
+pub mod Pointed
+pub mod Written
+pub mod Composers
+pub mod Beginnings
+pub mod MayWrite

@@ -1,0 +1,10 @@
+//! A composer that writes names shorter (RFC 1035, 4.1.4).
+#![tactic(auto)]
+
+mod append;
+pub mod compress;
+mod remember;
+mod search;
+mod written;
+
+pub use compress::CompressComposer;

@@ -1,0 +1,27 @@
+//! What a composer remembers of a label, and what it finds.
+ghost use Rattle.std.specs.Prelude.{◌<◌};
+
+/// Where a label was written, and where the name ends that it was written for.
+#[derive(Clone, Copy)]
+pub(crate) struct Written {
+    pub(crate) place: u16,
+    pub(crate) end: u16,
+    ghost low: { place < 16384 },
+}
+
+impl Default for Written {
+    fn default() -> Written {
+        Written { place: 0, end: 0 }
+    }
+}
+
+/// An end of a name that stands at a place of the octets.
+#[derive(Clone, Copy)]
+pub(crate) struct StandingEnd {
+    /// Where it begins in the octets of the name.
+    pub(crate) begin: usize,
+    /// The place.
+    pub(crate) place: u16,
+    /// How many pointers lead along it there.
+    pub(crate) pointers: u8,
+}
