@@ -2,38 +2,114 @@
 
 use crate::address::put_address;
 use crate::answer::Answer;
-use crate::chains::{
-    put_chain, put_chaincmp, put_chainends, put_chainforms, put_chainrel, put_chainstrip,
-    put_chainwalk, put_pchain, put_rooted,
-};
-use crate::compare::{put_cmp, put_ends, put_pcmp, put_pname, put_prel, put_relcmp};
+use crate::building::put_absolute;
+use crate::building::put_build;
+use crate::building::put_buildcap;
+use crate::chains::put_chain;
+use crate::chains::put_chaincmp;
+use crate::chains::put_chainends;
+use crate::chains::put_chainforms;
+use crate::chains::put_chainrel;
+use crate::chains::put_chainstrip;
+use crate::chains::put_chainwalk;
+use crate::chains::put_pchain;
+use crate::chains::put_rooted;
+use crate::compare::put_cmp;
+use crate::compare::put_ends;
+use crate::compare::put_pcmp;
+use crate::compare::put_pname;
+use crate::compare::put_prel;
+use crate::compare::put_relcmp;
+use crate::errors::put_errors;
 use crate::fail::Fail;
 use crate::fields::Fields;
-use crate::flat::{put_flatwalk, put_name, put_part, put_show, put_split, put_strip};
-use crate::kept::{put_empty, put_fromflat, put_keep, put_relkeep, put_root, put_wildcard};
-use crate::labels::{
-    put_label, put_labelerrors, put_labelfill, put_labelmut, put_nameerrors, put_slice,
-    put_splitlabel, put_splitmut,
-};
-use crate::made::{
-    put_flat_forms, put_lent_forms, put_lent_parsed_forms, put_lent_relative_forms,
-    put_parsed_forms, put_relative_flat_forms,
-};
-use crate::message::{put_nparse, put_parse, put_rest, put_skip, put_walk};
-use crate::numbers::{put_arrays, put_composevec, put_ints, put_signed, put_unsigned, put_whole};
-use crate::octets::{put_append, put_from, put_truncate, put_write};
+use crate::flat::put_flatwalk;
+use crate::flat::put_name;
+use crate::flat::put_part;
+use crate::flat::put_show;
+use crate::flat::put_split;
+use crate::flat::put_strip;
+use crate::kept::put_empty;
+use crate::kept::put_fromflat;
+use crate::kept::put_keep;
+use crate::kept::put_relkeep;
+use crate::kept::put_root;
+use crate::kept::put_wildcard;
+use crate::labels::put_label;
+use crate::labels::put_labelerrors;
+use crate::labels::put_labelfill;
+use crate::labels::put_labelmut;
+use crate::labels::put_nameerrors;
+use crate::labels::put_slice;
+use crate::labels::put_splitlabel;
+use crate::labels::put_splitmut;
+use crate::made::put_flat_forms;
+use crate::made::put_lent_forms;
+use crate::made::put_lent_parsed_forms;
+use crate::made::put_lent_relative_forms;
+use crate::made::put_parsed_forms;
+use crate::made::put_relative_flat_forms;
+use crate::message::put_nparse;
+use crate::message::put_parse;
+use crate::message::put_rest;
+use crate::message::put_skip;
+use crate::message::put_walk;
+use crate::numbers::put_arrays;
+use crate::numbers::put_composevec;
+use crate::numbers::put_ints;
+use crate::numbers::put_signed;
+use crate::numbers::put_unsigned;
+use crate::numbers::put_whole;
+use crate::octets::put_append;
+use crate::octets::put_from;
+use crate::octets::put_truncate;
+use crate::octets::put_write;
 use crate::parser::put_calls;
-use crate::relative::{put_rel, put_relpart, put_relshow, put_relsplit, put_relstrip, put_relwalk};
-use crate::words::{
-    Alone, Beside, Joined, Message, Owned, Paired, Placed, Ranged, find_alone, find_beside,
-    find_joined, find_message, find_owned, find_paired, find_placed, find_ranged,
-};
+use crate::records::put_lengths;
+use crate::records::put_longdata;
+use crate::records::put_rdata;
+use crate::records::put_rdatacmp;
+use crate::records::put_rev;
+use crate::relative::put_rel;
+use crate::relative::put_relpart;
+use crate::relative::put_relshow;
+use crate::relative::put_relsplit;
+use crate::relative::put_relstrip;
+use crate::relative::put_relwalk;
+use crate::serials::put_add;
+use crate::serials::put_serial;
+use crate::text::put_labeltext;
+use crate::text::put_reltext;
+use crate::text::put_reltextroom;
+use crate::text::put_text;
+use crate::text::put_textroom;
+use crate::words::Alone;
+use crate::words::Beside;
+use crate::words::Joined;
+use crate::words::Message;
+use crate::words::Owned;
+use crate::words::Paired;
+use crate::words::Placed;
+use crate::words::Ranged;
+use crate::words::Spelled;
+use crate::words::find_alone;
+use crate::words::find_beside;
+use crate::words::find_joined;
+use crate::words::find_message;
+use crate::words::find_owned;
+use crate::words::find_paired;
+use crate::words::find_placed;
+use crate::words::find_ranged;
+use crate::words::find_spelled;
 
 /// Answers a line, and sees that no field is left.
 pub fn respond(line: &[u8], out: &mut Answer) -> Result<(), Fail> {
     let mut fields = Fields::new(line);
     let word = fields.next().ok_or(Fail::Bad)?;
-    if !respond_bare(word, out) && !respond_numbered(word, &mut fields, out)? {
+    if !respond_bare(word, out)
+        && !respond_numbered(word, &mut fields, out)?
+        && !respond_spelled(word, &mut fields, out)?
+    {
         let octets = fields.octets(out.alloc())?;
         respond_to(word, octets.as_slice(), &mut fields, out)?;
     }
@@ -51,6 +127,8 @@ fn respond_bare(word: &[u8], out: &mut Answer) -> bool {
         put_empty(out);
     } else if word == b"wildcard".as_slice() {
         put_wildcard(out);
+    } else if word == b"errors".as_slice() {
+        put_errors(out);
     } else {
         return false;
     }
@@ -71,6 +149,29 @@ fn respond_numbered(word: &[u8], fields: &mut Fields<'_>, out: &mut Answer) -> R
     Ok(true)
 }
 
+/// A word, and fields that are no octets.
+fn respond_spelled(word: &[u8], fields: &mut Fields<'_>, out: &mut Answer) -> Result<bool, Fail> {
+    if word == b"build".as_slice() {
+        put_build(out, fields.next().ok_or(Fail::Bad)?);
+    } else if word == b"buildcap".as_slice() {
+        let room = fields.number()?;
+        put_buildcap(out, room, fields.next().ok_or(Fail::Bad)?);
+    } else if word == b"serial".as_slice() {
+        let first = fields.next().ok_or(Fail::Bad)?;
+        put_serial(out, first, fields.next().ok_or(Fail::Bad)?);
+    } else if word == b"add".as_slice() {
+        let first = fields.next().ok_or(Fail::Bad)?;
+        put_add(out, first, fields.next().ok_or(Fail::Bad)?);
+    } else if word == b"longdata".as_slice() {
+        put_longdata(out, fields.number()?);
+    } else if word == b"lengths".as_slice() {
+        put_lengths(out, fields.next().ok_or(Fail::Bad)?);
+    } else {
+        return Ok(false);
+    }
+    Ok(true)
+}
+
 /// A word with octets behind it.
 fn respond_to(
     word: &[u8],
@@ -82,6 +183,8 @@ fn respond_to(
         respond_alone(call, octets, out);
     } else if let Some(call) = find_owned(word) {
         respond_owned(call, octets, out);
+    } else if let Some(call) = find_spelled(word) {
+        respond_to_text(call, octets, out);
     } else if let Some(call) = find_placed(word) {
         respond_placed(call, octets, fields.number()?, out);
     } else if let Some(call) = find_message(word) {
@@ -174,6 +277,17 @@ fn respond_owned(call: Owned, octets: &[u8], out: &mut Answer) {
     }
 }
 
+fn respond_to_text(call: Spelled, octets: &[u8], out: &mut Answer) {
+    match call {
+        Spelled::Text => put_text(out, octets),
+        Spelled::Reltext => put_reltext(out, octets),
+        Spelled::Labeltext => put_labeltext(out, octets),
+        Spelled::Rev => put_rev(out, octets),
+        Spelled::Rdata => put_rdata(out, octets),
+        Spelled::Absolute => put_absolute(out, octets),
+    }
+}
+
 fn respond_placed(call: Placed, octets: &[u8], place: usize, out: &mut Answer) {
     match call {
         Placed::Split => put_split(out, octets, place),
@@ -186,6 +300,8 @@ fn respond_placed(call: Placed, octets: &[u8], place: usize, out: &mut Answer) {
         Placed::Pforms => put_parsed_forms(out, octets, place),
         Placed::Lentpforms => put_lent_parsed_forms(out, octets, place),
         Placed::Fromflat => put_fromflat(out, octets, place),
+        Placed::Textroom => put_textroom(out, octets, place),
+        Placed::Reltextroom => put_reltextroom(out, octets, place),
     }
 }
 
@@ -219,6 +335,7 @@ fn respond_paired(call: Paired, a: &[u8], b: &[u8], out: &mut Answer) {
         Paired::Ends => put_ends(out, a, b),
         Paired::Append => put_append(out, a, b),
         Paired::Composevec => put_composevec(out, a, b),
+        Paired::Rdatacmp => put_rdatacmp(out, a, b),
     }
 }
 

@@ -6,9 +6,11 @@
 
 mod address;
 mod answer;
+mod building;
 mod chains;
 mod command;
 mod compare;
+mod errors;
 mod fail;
 mod fields;
 mod flat;
@@ -19,7 +21,10 @@ mod message;
 mod numbers;
 mod octets;
 mod parser;
+mod records;
 mod relative;
+mod serials;
+mod text;
 mod words;
 
 use crate::answer::Answer;

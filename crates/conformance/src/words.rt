@@ -32,6 +32,17 @@ pub enum Owned {
     Address,
 }
 
+/// `OCTETS`: texts, addresses, record data, and names made of relative ones
+#[derive(Clone, Copy)]
+pub enum Spelled {
+    Text,
+    Reltext,
+    Labeltext,
+    Rev,
+    Rdata,
+    Absolute,
+}
+
 /// `OCTETS NUMBER`
 #[derive(Clone, Copy)]
 pub enum Placed {
@@ -45,6 +56,8 @@ pub enum Placed {
     Pforms,
     Lentpforms,
     Fromflat,
+    Textroom,
+    Reltextroom,
 }
 
 /// `OCTETS PLACE`, and an end
@@ -78,6 +91,7 @@ pub enum Paired {
     Ends,
     Append,
     Composevec,
+    Rdatacmp,
 }
 
 /// `OCTETS OCTETS OCTETS`
@@ -175,6 +189,28 @@ pub fn find_owned(word: &[u8]) -> Option<Owned> {
     None
 }
 
+pub fn find_spelled(word: &[u8]) -> Option<Spelled> {
+    if is(word, b"text") {
+        return Some(Spelled::Text);
+    }
+    if is(word, b"reltext") {
+        return Some(Spelled::Reltext);
+    }
+    if is(word, b"labeltext") {
+        return Some(Spelled::Labeltext);
+    }
+    if is(word, b"rev") {
+        return Some(Spelled::Rev);
+    }
+    if is(word, b"rdata") {
+        return Some(Spelled::Rdata);
+    }
+    if is(word, b"absolute") {
+        return Some(Spelled::Absolute);
+    }
+    None
+}
+
 pub fn find_placed(word: &[u8]) -> Option<Placed> {
     if is(word, b"split") {
         return Some(Placed::Split);
@@ -205,6 +241,12 @@ pub fn find_placed(word: &[u8]) -> Option<Placed> {
     }
     if is(word, b"fromflat") {
         return Some(Placed::Fromflat);
+    }
+    if is(word, b"textroom") {
+        return Some(Placed::Textroom);
+    }
+    if is(word, b"reltextroom") {
+        return Some(Placed::Reltextroom);
     }
     None
 }
@@ -271,6 +313,9 @@ pub fn find_paired(word: &[u8]) -> Option<Paired> {
     }
     if is(word, b"composevec") {
         return Some(Paired::Composevec);
+    }
+    if is(word, b"rdatacmp") {
+        return Some(Paired::Rdatacmp);
     }
     None
 }
