@@ -16,6 +16,8 @@ mod kinds;
 #[cfg(test)]
 mod labels;
 #[cfg(test)]
+mod lines;
+#[cfg(test)]
 mod lists;
 #[cfg(test)]
 mod memory;
