@@ -3,6 +3,7 @@
 
 mod append;
 pub mod compress;
+mod marks;
 mod remember;
 mod search;
 mod written;

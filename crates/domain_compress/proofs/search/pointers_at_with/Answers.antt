@@ -16,7 +16,7 @@ pub returns-then-name-passed-ne0-clause-none : goal.returns-then-name-passed-ne0
 returns-then-name-passed-ne0-clause-none g c = λ _. not_root _ c.heads.invariant (rw c.in-Root.is at c.in-Ok.ensures.found) c.if-name-passed-ne0.true
 
 pub returns-in-Root-clause-some : goal.returns-in-Root-clause-some
-returns-in-Root-clause-some g c = stands_so _ c.requires.wire (along_all _ c.heads.invariant (rw c.in-Root.is at c.in-Ok.ensures.found) c.if-name-passed-ne0.false)
+returns-in-Root-clause-some g c = stands_so _ c.requires.wire.1.1 (along_all _ c.heads.invariant (rw c.in-Root.is at c.in-Ok.ensures.found) c.if-name-passed-ne0.false)
 
 pub returns-in-Root-clause-through : goal.returns-in-Root-clause-through
 returns-in-Root-clause-through g c = along_all _ c.heads.invariant (rw c.in-Root.is at c.in-Ok.ensures.found) c.if-name-passed-ne0.false
