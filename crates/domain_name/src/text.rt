@@ -40,8 +40,9 @@ where
     /// A single dot is the root. `ShortInput` where the text is empty; else the fault of the first symbol
     /// that is refused: `ShortInput` or `BadEscape` at a broken escape, `BadSymbol` at a character that
     /// isn't from space to tilde, `BinaryLabel` at `\[` where a label begins, `EmptyLabel` at a dot where
-    /// none is open, `LongLabel` past 63 octets, `LongName` past 254 before the root. `ShortBuf` only where
-    /// there is no fault: the octets, which are appended once, don't fit, or memory was refused.
+    /// none is open, `LongName` past 254 octets before the root, else `LongLabel` past 63 in a label.
+    /// `ShortBuf` only where there is no fault: the octets, which are appended once, don't fit, or memory
+    /// was refused.
     pub fn from_chars<I: Iterator<Item = char> + Drop>(
         alloc: Global,
         chars: I,
@@ -136,8 +137,10 @@ where
 {
     /// Reads a relative name from text, as `www.example` (RFC 1035, 5.1).
     ///
-    /// The empty text is the empty name. `AbsoluteName` where a dot stands behind the last label; else the
-    /// errors are those of `Name::from_chars`.
+    /// The empty text is the empty name. A symbol that is refused is told first, as by `Name::from_chars`,
+    /// but that a single dot is `EmptyLabel`; `AbsoluteName` where there is none and a dot stands behind the
+    /// last label. `ShortBuf` only where there is no fault: the octets, which are appended once, don't fit,
+    /// or memory was refused.
     pub fn from_chars<I: Iterator<Item = char> + Drop>(
         alloc: Global,
         chars: I,

@@ -1,5 +1,4 @@
-use Rattle.std.proofs.Common.{ℕ, List, ◌++◌, subst, ◌∙◌, ap, OnOk, OnErr}
-use Rattle.domain_label.specs.Wire.{wire}
+use Rattle.std.proofs.Common.{ℕ, List, subst, ◌∙◌, OnOk, OnErr}
 use Rattle.domain_rdata.specs.ReadBack.{Appended, Exceeds}
 use Rattle.domain_rdata.proofs.WireForms.{is_wire, spelled}
 use Rattle.domain_rdata.proofs.composer.Composer.append_compressed_name.Goals as goal
