@@ -7,6 +7,7 @@ use crate::chains::{
     put_chainwalk, put_pchain, put_rooted,
 };
 use crate::compare::{put_cmp, put_ends, put_pcmp, put_pname, put_prel, put_relcmp};
+use crate::compress::put_compressed;
 use crate::fail::Fail;
 use crate::fields::Fields;
 use crate::flat::{put_flatwalk, put_name, put_part, put_show, put_split, put_strip};
@@ -57,7 +58,7 @@ fn respond_bare(word: &[u8], out: &mut Answer) -> bool {
     true
 }
 
-/// A word, a number of bits, and a number.
+/// A word, a number of bits, and a number; or a word and calls.
 fn respond_numbered(word: &[u8], fields: &mut Fields<'_>, out: &mut Answer) -> Result<bool, Fail> {
     if word == b"signed".as_slice() {
         let bits = fields.number()?;
@@ -65,6 +66,8 @@ fn respond_numbered(word: &[u8], fields: &mut Fields<'_>, out: &mut Answer) -> R
     } else if word == b"unsigned".as_slice() {
         let bits = fields.number()?;
         put_unsigned(out, bits, fields.next().ok_or(Fail::Bad)?);
+    } else if word == b"compress".as_slice() {
+        put_compressed(out, fields.next().ok_or(Fail::Bad)?);
     } else {
         return Ok(false);
     }

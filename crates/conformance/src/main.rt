@@ -9,6 +9,7 @@ mod answer;
 mod chains;
 mod command;
 mod compare;
+mod compress;
 mod fail;
 mod fields;
 mod flat;
