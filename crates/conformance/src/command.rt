@@ -20,6 +20,7 @@ use crate::compare::put_pcmp;
 use crate::compare::put_pname;
 use crate::compare::put_prel;
 use crate::compare::put_relcmp;
+use crate::compress::put_compressed;
 use crate::errors::put_errors;
 use crate::fail::Fail;
 use crate::fields::Fields;
@@ -135,7 +136,7 @@ fn respond_bare(word: &[u8], out: &mut Answer) -> bool {
     true
 }
 
-/// A word, a number of bits, and a number.
+/// A word, a number of bits, and a number; or a word and calls.
 fn respond_numbered(word: &[u8], fields: &mut Fields<'_>, out: &mut Answer) -> Result<bool, Fail> {
     if word == b"signed".as_slice() {
         let bits = fields.number()?;
@@ -143,6 +144,8 @@ fn respond_numbered(word: &[u8], fields: &mut Fields<'_>, out: &mut Answer) -> R
     } else if word == b"unsigned".as_slice() {
         let bits = fields.number()?;
         put_unsigned(out, bits, fields.next().ok_or(Fail::Bad)?);
+    } else if word == b"compress".as_slice() {
+        put_compressed(out, fields.next().ok_or(Fail::Bad)?);
     } else {
         return Ok(false);
     }

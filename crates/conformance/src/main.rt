@@ -10,6 +10,7 @@ mod building;
 mod chains;
 mod command;
 mod compare;
+mod compress;
 mod errors;
 mod fail;
 mod fields;

@@ -74,6 +74,11 @@ pub mod cmp {
     pub use domain_wire::cmp::CanonicalOrd;
 }
 
+/// Writing names shorter.
+pub mod compress {
+    pub use domain_compress::CompressComposer;
+}
+
 /// Record data.
 pub mod rdata {
     pub use domain_rdata::{

@@ -6,6 +6,8 @@
 #[cfg(test)]
 mod calls;
 #[cfg(test)]
+mod compressing;
+#[cfg(test)]
 mod engines;
 #[cfg(test)]
 mod flattening;

@@ -6,6 +6,7 @@ pub mod builders;
 pub mod chains;
 pub mod character_strings;
 pub mod comparing;
+pub mod compressing;
 pub mod exchange;
 pub mod flat_names;
 pub mod flattening;
