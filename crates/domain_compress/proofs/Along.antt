@@ -5,7 +5,7 @@ use Rattle.std.proofs.Math.Seq.{take-append_seam}
 use Rattle.domain_label.specs.Wire.{wire, Root, labels_in, IsAbsolute, IsAbsoluteWire}
 use Rattle.domain_label.specs.Low.{low, low_all}
 use Rattle.domain_label.proofs.WireLaws.{absolute_wire, length-wire_append}
-use Rattle.domain_flat.proofs.Lowered.{low_size}
+use Rattle.domain_label.proofs.Lowered.{low_size}
 use Rattle.domain_flat.proofs.Seams.{Meets, meets_start, meets_drop, meets_labels, meets_next, read_at}
 use Rattle.domain_reading.specs.Grammar.{OctetAt, LabelAt, PointerAt, Reads}
 use Rattle.domain_reading.specs.Grammar.Reads.{root}
