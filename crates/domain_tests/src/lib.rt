@@ -4,6 +4,8 @@
 #![tactic(auto)]
 
 #[cfg(test)]
+mod building;
+#[cfg(test)]
 mod calls;
 #[cfg(test)]
 mod engines;
@@ -11,6 +13,8 @@ mod engines;
 mod flattening;
 #[cfg(test)]
 mod generic;
+#[cfg(test)]
+mod instants;
 #[cfg(test)]
 mod kinds;
 #[cfg(test)]
@@ -26,10 +30,10 @@ mod names;
 #[cfg(test)]
 mod paths;
 #[cfg(test)]
+mod records;
+#[cfg(test)]
 mod room;
 #[cfg(test)]
 mod slow_reader;
-#[cfg(test)]
-mod texts;
 #[cfg(test)]
 mod words;
