@@ -191,11 +191,7 @@ fn put_built_in_room(out: &mut Answer, plan: Plan<'_>, room: usize) -> bool {
         3 => put_built::<ArrayVec<u8, 3>>(out, plan),
         4 => put_built::<ArrayVec<u8, 4>>(out, plan),
         5 => put_built::<ArrayVec<u8, 5>>(out, plan),
-        6 => put_built::<ArrayVec<u8, 6>>(out, plan),
-        7 => put_built::<ArrayVec<u8, 7>>(out, plan),
         8 => put_built::<ArrayVec<u8, 8>>(out, plan),
-        64 => put_built::<ArrayVec<u8, 64>>(out, plan),
-        254 => put_built::<ArrayVec<u8, 254>>(out, plan),
         255 => put_built::<ArrayVec<u8, 255>>(out, plan),
         _ => {
             out.fail(Fail::Bad);

@@ -44,8 +44,8 @@ fn answer_all(alloc: Global, input: &[u8], out: &mut Vec<u8>) -> Result<(), Allo
         answer.clear();
         if is_heading(line) {
             answer.put(line);
-        } else if let Err(fail) = respond(line, &mut answer) {
-            answer.fail(fail);
+        } else {
+            respond(line, &mut answer);
         }
         answer.end_line(out)?;
     }

@@ -209,13 +209,8 @@ pub fn put_textroom(out: &mut Answer, octets: &[u8], room: usize) {
     };
     match room {
         0 => put_in_room::<ArrayVec<u8, 0>>(out, text, text.parse()),
-        1 => put_in_room::<ArrayVec<u8, 1>>(out, text, text.parse()),
         2 => put_in_room::<ArrayVec<u8, 2>>(out, text, text.parse()),
-        3 => put_in_room::<ArrayVec<u8, 3>>(out, text, text.parse()),
         4 => put_in_room::<ArrayVec<u8, 4>>(out, text, text.parse()),
-        5 => put_in_room::<ArrayVec<u8, 5>>(out, text, text.parse()),
-        17 => put_in_room::<ArrayVec<u8, 17>>(out, text, text.parse()),
-        254 => put_in_room::<ArrayVec<u8, 254>>(out, text, text.parse()),
         255 => put_in_room::<ArrayVec<u8, 255>>(out, text, text.parse()),
         _ => out.fail(Fail::Bad),
     }
@@ -253,13 +248,7 @@ pub fn put_reltextroom(out: &mut Answer, octets: &[u8], room: usize) {
     };
     match room {
         0 => put_relative_in_room::<ArrayVec<u8, 0>>(out, text, text.parse()),
-        1 => put_relative_in_room::<ArrayVec<u8, 1>>(out, text, text.parse()),
         2 => put_relative_in_room::<ArrayVec<u8, 2>>(out, text, text.parse()),
-        3 => put_relative_in_room::<ArrayVec<u8, 3>>(out, text, text.parse()),
-        4 => put_relative_in_room::<ArrayVec<u8, 4>>(out, text, text.parse()),
-        5 => put_relative_in_room::<ArrayVec<u8, 5>>(out, text, text.parse()),
-        16 => put_relative_in_room::<ArrayVec<u8, 16>>(out, text, text.parse()),
-        253 => put_relative_in_room::<ArrayVec<u8, 253>>(out, text, text.parse()),
         254 => put_relative_in_room::<ArrayVec<u8, 254>>(out, text, text.parse()),
         _ => out.fail(Fail::Bad),
     }

@@ -1,5 +1,28 @@
 //! The words of the calls, by what stands behind them.
 
+/// Nothing
+#[derive(Clone, Copy)]
+pub enum Bare {
+    Root,
+    Empty,
+    Wildcard,
+    Errors,
+}
+
+/// Fields that are no octets
+#[derive(Clone, Copy)]
+pub enum Told {
+    Signed,
+    Unsigned,
+    Build,
+    Buildcap,
+    Serial,
+    Add,
+    Longdata,
+    Lengths,
+    Compress,
+}
+
 /// `OCTETS`
 #[derive(Clone, Copy)]
 pub enum Alone {
@@ -23,7 +46,6 @@ pub enum Owned {
     Forms,
     Lentforms,
     Relforms,
-    Lentrelforms,
     Keep,
     Relkeep,
     Rooted,
@@ -54,7 +76,6 @@ pub enum Placed {
     Arrays,
     Truncate,
     Pforms,
-    Lentpforms,
     Fromflat,
     Textroom,
     Reltextroom,
@@ -115,6 +136,53 @@ fn is(word: &[u8], known: &[u8]) -> bool {
     word == known
 }
 
+pub fn find_bare(word: &[u8]) -> Option<Bare> {
+    if is(word, b"root") {
+        return Some(Bare::Root);
+    }
+    if is(word, b"empty") {
+        return Some(Bare::Empty);
+    }
+    if is(word, b"wildcard") {
+        return Some(Bare::Wildcard);
+    }
+    if is(word, b"errors") {
+        return Some(Bare::Errors);
+    }
+    None
+}
+
+pub fn find_told(word: &[u8]) -> Option<Told> {
+    if is(word, b"signed") {
+        return Some(Told::Signed);
+    }
+    if is(word, b"unsigned") {
+        return Some(Told::Unsigned);
+    }
+    if is(word, b"build") {
+        return Some(Told::Build);
+    }
+    if is(word, b"buildcap") {
+        return Some(Told::Buildcap);
+    }
+    if is(word, b"serial") {
+        return Some(Told::Serial);
+    }
+    if is(word, b"add") {
+        return Some(Told::Add);
+    }
+    if is(word, b"longdata") {
+        return Some(Told::Longdata);
+    }
+    if is(word, b"lengths") {
+        return Some(Told::Lengths);
+    }
+    if is(word, b"compress") {
+        return Some(Told::Compress);
+    }
+    None
+}
+
 pub fn find_alone(word: &[u8]) -> Option<Alone> {
     if is(word, b"name") {
         return Some(Alone::Name);
@@ -164,9 +232,6 @@ pub fn find_owned(word: &[u8]) -> Option<Owned> {
     }
     if is(word, b"relforms") {
         return Some(Owned::Relforms);
-    }
-    if is(word, b"lentrelforms") {
-        return Some(Owned::Lentrelforms);
     }
     if is(word, b"keep") {
         return Some(Owned::Keep);
@@ -235,9 +300,6 @@ pub fn find_placed(word: &[u8]) -> Option<Placed> {
     }
     if is(word, b"pforms") {
         return Some(Placed::Pforms);
-    }
-    if is(word, b"lentpforms") {
-        return Some(Placed::Lentpforms);
     }
     if is(word, b"fromflat") {
         return Some(Placed::Fromflat);

@@ -4,6 +4,8 @@
 #![tactic(auto)]
 
 #[cfg(test)]
+mod building;
+#[cfg(test)]
 mod calls;
 #[cfg(test)]
 mod compressing;
@@ -13,6 +15,8 @@ mod engines;
 mod flattening;
 #[cfg(test)]
 mod generic;
+#[cfg(test)]
+mod instants;
 #[cfg(test)]
 mod kinds;
 #[cfg(test)]
@@ -32,10 +36,10 @@ mod paths;
 #[cfg(test)]
 mod places;
 #[cfg(test)]
+mod records;
+#[cfg(test)]
 mod room;
 #[cfg(test)]
 mod slow_reader;
-#[cfg(test)]
-mod texts;
 #[cfg(test)]
 mod words;

@@ -1,8 +1,11 @@
 //! Record data of a type that doesn't know its length, and targets that are full.
 ghost use Rattle.std.specs.Prelude.{◌≡◌, false};
 
-use crate::{ComposeRdataError, ComposeRecordData, Composer, RecordData, Rtype, UnknownRecordData};
 use arrayvec::ArrayVec;
+use domain::base::rdata::{
+    ComposeRdataError, ComposeRecordData, RecordData, Rtype, UnknownRecordData,
+};
+use domain::base::wire::Composer;
 use octseq::OctetsBuilder;
 use std::alloc::Global;
 use std::process::Abort;
@@ -95,23 +98,4 @@ fn data_that_does_not_fit_leaves_the_target(rt: HostRuntime) {
     let composed = data.compose_canonical_len_rdata(&mut target);
     assert!(rt; matches!(composed, Err(ComposeRdataError::Append(_))));
     assert_eq!(rt; target.as_slice(), [9].as_slice());
-}
-
-#[test]
-fn data_of_any_type_into_small_targets(rt: HostRuntime) {
-    let made = UnknownRecordData::from_octets(Rtype::from_int(PRIVATE), [1, 2, 0xff].as_slice());
-    let Ok(data) = made else {
-        panic!(rt; "too long");
-    };
-    let mut four = ArrayVec::<u8, 4>::new();
-    assert!(rt; data.compose_len_rdata(&mut four).is_err());
-    assert!(rt; four.is_empty());
-    assert!(rt; data.compose_canonical_len_rdata(&mut four).is_err());
-    assert!(rt; four.is_empty());
-    let mut five = ArrayVec::<u8, 5>::new();
-    assert!(rt; data.compose_len_rdata(&mut five).is_ok());
-    assert_eq!(rt; five.as_slice(), [0, 3, 1, 2, 0xff].as_slice());
-    let mut canonical = ArrayVec::<u8, 5>::new();
-    assert!(rt; data.compose_canonical_len_rdata(&mut canonical).is_ok());
-    assert_eq!(rt; canonical.as_slice(), five.as_slice());
 }

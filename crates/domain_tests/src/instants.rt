@@ -1,6 +1,6 @@
 //! Serial numbers of instants, which no contract gives for a part of a second.
 
-use crate::Serial;
+use domain::base::serial::Serial;
 use jiff::Timestamp;
 use std::process::Abort;
 
@@ -20,9 +20,4 @@ fn instants_have_the_number_of_their_second(rt: HostRuntime) {
     assert_number(&rt, -1_000_000_000, 4_294_967_295);
     assert_number(&rt, -1_999_999_999, 4_294_967_295);
     assert_number(&rt, 4_294_967_296_000_000_000, 0);
-}
-
-#[test]
-fn a_serial_has_four_octets(rt: HostRuntime) {
-    assert_eq!(rt; Serial::COMPOSE_LEN, 4);
 }
