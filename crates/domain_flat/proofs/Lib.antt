@@ -1,5 +1,6 @@
 pub mod Passing
 pub mod Seams
+pub mod Starts
 pub mod Cuts
 pub mod Lowered
 pub mod OneFault
