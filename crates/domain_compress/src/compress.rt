@@ -1,9 +1,9 @@
 //! A composer that writes names shorter (RFC 1035, 4.1.4).
-ghost use Rattle.std.specs.Prelude.{◌≡◌, ◌≤◌, ◌<◌, ◌+◌, ◌++◌, [], length, take, OnOk, OnErr, IfSome, true};
+ghost use Rattle.std.specs.Prelude.{◌≡◌, ◌≤◌, ◌<◌, ◌+◌, ◌++◌, [], List, length, take, OnOk, OnErr, IfSome, true};
 ghost use Rattle.std.proofs.lemmas.Bool.{true≢false};
 ghost use Rattle.domain_label.specs.Wire.{labels_in, IsAbsoluteWire};
 ghost use Rattle.domain_rdata.specs.ReadBack.{Appended, Exceeds};
-ghost use Rattle.domain_compress.specs.Compressing.{Adds, places_within};
+ghost use Rattle.domain_compress.specs.Compressing.{Adds, Place, places_within};
 ghost use Rattle.domain_compress.specs.MayWrite.{MayWrite};
 ghost use Rattle.domain_compress.specs.Written.{places};
 
@@ -123,6 +123,12 @@ impl<T: Composer> Composer for CompressComposer<T> {
 
     ghost compresses = { true };
 
+    ghost Memory = { List Place };
+
+    ghost memory = { written_places };
+
+    ghost appends = { λ c ls d. Adds (T.octets c.target) (written_places c) ls (T.octets d.target) (written_places d) };
+
     /// Appends the labels before the longest end of the name that stands at a place that is remembered, and a pointer to the first
     /// such place; or the wire form. The places of the labels that were written are remembered.
     ///
@@ -130,7 +136,7 @@ impl<T: Composer> Composer for CompressComposer<T> {
     /// before.
     fn append_flat_name(&mut self, name: &[u8]) -> Result<(), T::AppendError>
         requires { IsAbsoluteWire name.now }
-        ensures adds { OnOk result (Adds (T.octets self.old.target) (written_places self.old) (labels_in name.now) (T.octets self.new.target) (written_places self.new)) }
+        ensures appends { OnOk result (Adds (T.octets self.old.target) (written_places self.old) (labels_in name.now) (T.octets self.new.target) (written_places self.new)) }
         ensures ok { OnOk result (Appended (MayWrite (T.octets self.old.target) (written_places self.old) (labels_in name.now)) (T.octets self.old.target) (T.octets self.new.target)) }
         ensures err { OnErr result (T.octets self.new.target ≡ T.octets self.old.target) }
         ensures kept { OnErr result (written_places self.new ≡ written_places self.old) }
