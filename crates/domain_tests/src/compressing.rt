@@ -85,7 +85,7 @@ fn read_back(rt: &impl Abort, message: &[u8], place: usize, octets: &[u8]) -> us
 }
 
 /// Where a name was written that was drawn.
-#[derive(Clone, Copy)]
+#[derive(Clone, Copy, Default)]
 struct Placed {
     place: usize,
     seed: u32,
