@@ -686,6 +686,12 @@ for _time in range(160):
     row("rest", message, place, rnd.randrange(5))
     row("pforms", message, place)
 
+topic("names one after another on one target that writes them shorter; the answers are by the definition, from a slow model of it")
+with open(os.path.join(os.path.dirname(os.path.abspath(__file__)), "compress.rows")) as file:
+    for line in file:
+        line, answer = line.rstrip("\n").split("\t")
+        rows.append((line, answer, True))
+
 
 def spelled(text):
     return text.encode() if isinstance(text, str) else text

@@ -76,7 +76,7 @@ pub mod cmp {
 
 /// Writing names shorter.
 pub mod compress {
-    pub use domain_compress::CompressComposer;
+    pub use domain_compress::{CompressComposer, compress_laws};
 }
 
 /// Record data.

@@ -21,7 +21,8 @@ use Rattle.domain_compress.specs.Ends.{first_label}
 use Rattle.domain_compress.specs.Written.{StandsThrough}
 use Rattle.domain_compress.proofs.Searching.{Ahead, ahead_of, size_some, one_cut}
 
--- A walk from p has passed labels that equal the first ones of the name, and stands at at; in the name that is at passed.
+-- A walk from p has passed labels that equal the first ones of the name, and stands at at; in the name that is
+-- at passed.
 pub record Along (t : List ℕ) (p : ℕ) (name : List ℕ) (at passed pointers : ℕ) : Type 0 where
   pub walked : List (List ℕ)
   pub before : List (List ℕ)

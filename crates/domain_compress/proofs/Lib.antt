@@ -5,3 +5,4 @@ pub mod Remembering
 pub mod Composing
 pub mod Marking
 pub mod Bettering
+pub mod Once

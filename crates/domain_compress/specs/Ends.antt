@@ -7,7 +7,8 @@ abbrev pub first_label : List (List ℕ) → List ℕ
 first_label [] = []
 first_label (l ∷ ls) = l
 
--- A number below 256 that labels share which are equal without case: of how many octets they have, and of the first.
+-- A number below 256 that labels share which are equal without case: of how many octets they have, and of the
+-- first.
 abbrev pub kind_of : ℕ → ℕ → ℕ
 kind_of n c = n % 8 * 32 + c % 32
 

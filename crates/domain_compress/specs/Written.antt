@@ -36,8 +36,8 @@ pub record EndAt (t : List ℕ) (p : ℕ) (name : List ℕ) (upto at k : ℕ) : 
 abbrev pub NoEndAt : List ℕ → ℕ → List ℕ → ℕ → Type 0
 NoEndAt t p name upto = (xs ys : List (List ℕ)) → labels_in name ≡ xs ++ ys → 1 < length ys → length (wire xs) < upto → StandsAt t p ys → ⊥
 
--- The labels of the wire form up to where the end begins are before, and those behind are the longest end that stands
--- anywhere, at its place first.
+-- The labels of the wire form up to where the end begins are before, and those behind are the longest end that
+-- stands anywhere, at its place first.
 pub record EndFound (t : List ℕ) (ws : List Place) (name : List ℕ) (end : StandingEnd) : Type 0 where
   pub before : List (List ℕ)
   pub behind : List (List ℕ)

@@ -84,8 +84,8 @@ fn pointers_at_with<L: Ledger>(octets: &[u8], place: usize, name: &[u8], blank: 
     }
 }
 
-/// The first end of the name that is read at the place, without case, of those that begin before `upto`; and through how many
-/// pointers. The root alone is no end.
+/// The first end of the name that is read at the place, without case, of those that begin before `upto`; and
+/// through how many pointers. The root alone is no end.
 fn end_at(octets: &[u8], place: usize, name: &[u8], upto: usize) -> Option<(usize, u8)>
     requires { IsAbsoluteWire name.now }
     ensures none { IsNone result → NoEndAt octets.now place name.now upto }
@@ -140,8 +140,8 @@ fn better_end(
     }
 }
 
-/// The longest end of the name that is read at one of the places, without case, and the first of these. The root
-/// alone is no end.
+/// The longest end of the name that is read at one of the places, without case, and the first of these. The
+/// root alone is no end.
 ///
 /// It goes over the places once. What stands at most of them begins with a label of another kind than any
 /// end of the name, and is passed at a glance.

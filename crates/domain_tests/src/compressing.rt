@@ -28,7 +28,10 @@ struct Draws {
 impl Draws {
     /// A number below `count`, which is at most 65,535.
     fn below(&mut self, count: u32) -> u32 {
-        self.state = self.state.wrapping_mul(1_664_525).wrapping_add(1_013_904_223);
+        self.state = self
+            .state
+            .wrapping_mul(1_664_525)
+            .wrapping_add(1_013_904_223);
         (self.state / 65536) % count.max(1)
     }
 }
@@ -72,14 +75,17 @@ fn read_back(rt: &impl Abort, message: &[u8], place: usize, octets: &[u8]) -> us
     let mut parser = Parser::from_ref(message);
     assert!(rt; parser.seek(place).is_ok());
     match ParsedName::parse(&mut parser) {
-        Ok(name) => assert!(rt; name.name_eq(&absolute(rt, octets)), "another name at {place}"),
+        Ok(name) => assert!(rt;
+            name.name_eq(&absolute(rt, octets)),
+            "another name at {place}"
+        ),
         Err(_) => panic!(rt; "no name at {place}"),
     }
     parser.pos()
 }
 
 /// Where a name was written that was drawn.
-#[derive(Clone, Copy)]
+#[derive(Clone, Copy, Default)]
 struct Placed {
     place: usize,
     seed: u32,
@@ -140,9 +146,17 @@ fn each_room_takes_what_fits(rt: HostRuntime) {
     for room in 0..41usize {
         let mut target = with_room(&rt, room);
         let start = target.as_slice().len();
-        assert_eq!(rt; appended(&rt, &mut target, WWW), room >= 17, "room for {room}");
+        assert_eq!(rt;
+            appended(&rt, &mut target, WWW),
+            room >= 17,
+            "room for {room}"
+        );
         let place = target.as_slice().len();
-        assert_eq!(rt; appended(&rt, &mut target, FTP), room >= 23, "room for {room}");
+        assert_eq!(rt;
+            appended(&rt, &mut target, FTP),
+            room >= 23,
+            "room for {room}"
+        );
         let octets = target.into_target();
         let behind = octets.as_slice().get(start..).unwrap_or(&[]);
         if room >= 23 {
@@ -163,7 +177,10 @@ fn a_refused_name_leaves_the_target(rt: HostRuntime) {
     assert!(rt; !appended(&rt, &mut target, FTP));
     assert_eq!(rt; target.as_slice(), WWW);
     assert!(rt; appended(&rt, &mut target, b"\x02ns\x03COM\0"));
-    assert_eq!(rt; target.as_slice(), b"\x03www\x07example\x03com\0\x02ns\xc0\x0c".as_slice());
+    assert_eq!(rt;
+        target.as_slice(),
+        b"\x03www\x07example\x03com\0\x02ns\xc0\x0c".as_slice()
+    );
 }
 
 /// At most one request for memory is refused; a call that is refused is made again.
@@ -179,7 +196,10 @@ fn names_are_written_or_refused(rt: HostRuntime) {
             assert_eq!(rt; target.as_slice().len(), place);
             assert!(rt; appended(&rt, &mut target, name.as_slice()));
         }
-        assert_eq!(rt; read_back(&rt, target.as_slice(), place, name.as_slice()), target.as_slice().len());
+        assert_eq!(rt;
+            read_back(&rt, target.as_slice(), place, name.as_slice()),
+            target.as_slice().len()
+        );
     }
     assert!(rt; refusals <= 1);
     let mut again = CompressComposer::new(ArrayVec::<u8, 4000>::new());
@@ -194,8 +214,16 @@ fn pointers(rt: &impl Abort, count: u16) -> ArrayVec<u8, 600> {
     let mut octets = ArrayVec::new();
     assert!(rt; octets.try_extend_from_slice(b"\x01b\0").is_ok());
     for at in 0..count {
-        let place = if at == 0 { 0 } else { at.saturating_mul(2).saturating_add(1) };
-        assert!(rt; octets.try_extend_from_slice(&place.saturating_add(0xc000).to_be_bytes()).is_ok());
+        let place = if at == 0 {
+            0
+        } else {
+            at.saturating_mul(2).saturating_add(1)
+        };
+        assert!(rt;
+            octets
+                .try_extend_from_slice(&place.saturating_add(0xc000).to_be_bytes())
+                .is_ok()
+        );
     }
     octets
 }
@@ -207,7 +235,10 @@ fn behind_pointers(rt: &impl Abort, count: u16) -> ArrayVec<u8, 600> {
     assert!(rt; appended(rt, &mut target, b"\x01b\0"));
     let last = count.saturating_mul(2).saturating_sub(1);
     let place = if count == 1 { 0 } else { last };
-    match target.as_slice_mut().get_mut(start..start.saturating_add(2)) {
+    match target
+        .as_slice_mut()
+        .get_mut(start..start.saturating_add(2))
+    {
         Some(octets) if octets.len() == 2 => {
             octets.copy_from_slice(&place.saturating_add(0xc000).to_be_bytes());
         }
@@ -215,18 +246,34 @@ fn behind_pointers(rt: &impl Abort, count: u16) -> ArrayVec<u8, 600> {
     }
     let begin = target.as_slice().len();
     assert!(rt; appended(rt, &mut target, b"\x01a\x01B\0"));
-    assert_eq!(rt; read_back(rt, target.as_slice(), begin, b"\x01A\x01b\0"), target.as_slice().len());
+    assert_eq!(rt;
+        read_back(rt, target.as_slice(), begin, b"\x01A\x01b\0"),
+        target.as_slice().len()
+    );
     let mut written = ArrayVec::new();
     let octets = target.into_target();
-    assert!(rt; written.try_extend_from_slice(octets.as_slice().get(begin..).unwrap_or(&[])).is_ok());
+    assert!(rt;
+        written
+            .try_extend_from_slice(octets.as_slice().get(begin..).unwrap_or(&[]))
+            .is_ok()
+    );
     written
 }
 
 #[test]
 fn one_pointer_too_many_is_not_written(rt: HostRuntime) {
-    assert_eq!(rt; behind_pointers(&rt, 1).as_slice(), b"\x01a\xc0\x03".as_slice());
-    assert_eq!(rt; behind_pointers(&rt, 254).as_slice(), b"\x01a\xc1\xfd".as_slice());
-    assert_eq!(rt; behind_pointers(&rt, 255).as_slice(), b"\x01a\x01B\0".as_slice());
+    assert_eq!(rt;
+        behind_pointers(&rt, 1).as_slice(),
+        b"\x01a\xc0\x03".as_slice()
+    );
+    assert_eq!(rt;
+        behind_pointers(&rt, 254).as_slice(),
+        b"\x01a\xc1\xfd".as_slice()
+    );
+    assert_eq!(rt;
+        behind_pointers(&rt, 255).as_slice(),
+        b"\x01a\x01B\0".as_slice()
+    );
 }
 
 #[test]
@@ -239,7 +286,10 @@ fn octets_that_were_written_over_are_read_anew(rt: HostRuntime) {
     }
     assert!(rt; appended(&rt, &mut target, b"\x01b\0"));
     assert!(rt; appended(&rt, &mut target, b"\x01d\x01C\0"));
-    assert_eq!(rt; target.as_slice(), b"\x01a\x01c\0\x01b\0\x01d\xc0\x02".as_slice());
+    assert_eq!(rt;
+        target.as_slice(),
+        b"\x01a\x01c\0\x01b\0\x01d\xc0\x02".as_slice()
+    );
 }
 
 /// Record data that is one name.
@@ -300,7 +350,11 @@ fn composed_behind(rt: &impl Abort, canonical: bool) -> ArrayVec<u8, 60> {
     }
     let octets = target.into_target();
     let mut behind = ArrayVec::new();
-    assert!(rt; behind.try_extend_from_slice(octets.as_slice().get(17..).unwrap_or(&[])).is_ok());
+    assert!(rt;
+        behind
+            .try_extend_from_slice(octets.as_slice().get(17..).unwrap_or(&[]))
+            .is_ok()
+    );
     behind
 }
 
@@ -309,5 +363,8 @@ fn data_is_compressed_where_it_is_not_canonical(rt: HostRuntime) {
     let compressed = composed_behind(&rt, false);
     assert_eq!(rt; compressed.as_slice(), b"\x00\x05\x02ns\xc0\x04".as_slice());
     let canonical = composed_behind(&rt, true);
-    assert_eq!(rt; canonical.as_slice(), b"\x00\x10\x02ns\x07example\x03com\0".as_slice());
+    assert_eq!(rt;
+        canonical.as_slice(),
+        b"\x00\x10\x02ns\x07example\x03com\0".as_slice()
+    );
 }
