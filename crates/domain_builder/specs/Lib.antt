@@ -1,6 +1,7 @@
 pub mod Built
 pub mod Parts
 pub mod TextGrammar
+pub mod Texts
 pub mod Laws
 pub mod Buffer
 pub mod Told

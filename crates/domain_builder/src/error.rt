@@ -1,5 +1,5 @@
 //! Why a text is no name.
-ghost use Rattle.std.specs.Prelude.{◌≡◌};
+ghost use Rattle.std.specs.Prelude.{◌≡◌, Some};
 ghost use Rattle.domain_builder.specs.Told.{presentation_error_kind, presentation_fault, label_fault, broken_fault, MatchFromStr};
 ghost use Rattle.domain_builder.specs.declared.error.PresentationErrorKind.TheVariants.{BadLabel};
 ghost use Rattle.domain_builder.specs.declared.error.FromStrError.TheVariants as from_str;
@@ -48,6 +48,10 @@ impl From<PresentationErrorKind> for PresentationError {
 }
 
 impl fmt::Display for PresentationError {
+    ghost use Rattle.domain_builder.specs.Texts.{presentation_text};
+
+    ghost output = { λ e. Some (presentation_text (presentation_error_kind e)) };
+
     fn fmt<W: fmt::Write>(&self, f: &mut fmt::Formatter<W>) -> fmt::Result {
         match self.kind {
             PresentationErrorKind::BadLabel(e) => write!(f, "{e}"),
@@ -69,6 +73,10 @@ pub enum FromStrError {
 }
 
 impl fmt::Display for FromStrError {
+    ghost use Rattle.domain_builder.specs.Texts.{from_str_text};
+
+    ghost output = { λ e. Some (from_str_text e) };
+
     fn fmt<W: fmt::Write>(&self, f: &mut fmt::Formatter<W>) -> fmt::Result {
         match self {
             FromStrError::Presentation(e) => write!(f, "{e}"),
@@ -112,6 +120,10 @@ pub enum RelativeFromStrError {
 }
 
 impl fmt::Display for RelativeFromStrError {
+    ghost use Rattle.domain_builder.specs.Texts.{relative_from_str_text};
+
+    ghost output = { λ e. Some (relative_from_str_text e) };
+
     fn fmt<W: fmt::Write>(&self, f: &mut fmt::Formatter<W>) -> fmt::Result {
         match self {
             RelativeFromStrError::FromStr(e) => write!(f, "{e}"),

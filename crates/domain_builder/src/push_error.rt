@@ -1,5 +1,5 @@
 //! Why octets weren't added.
-ghost use Rattle.std.specs.Prelude.{◌≡◌};
+ghost use Rattle.std.specs.Prelude.{◌≡◌, Some};
 
 use octseq::ShortBuf;
 use std::error::Error;
@@ -17,6 +17,10 @@ pub enum PushError {
 }
 
 impl fmt::Display for PushError {
+    ghost use Rattle.domain_builder.specs.Texts.{push_text};
+
+    ghost output = { λ e. Some (push_text e) };
+
     fn fmt<W: fmt::Write>(&self, f: &mut fmt::Formatter<W>) -> fmt::Result {
         match self {
             PushError::LongLabel => write!(f, "long label"),
@@ -51,6 +55,10 @@ pub enum PushNameError {
 }
 
 impl fmt::Display for PushNameError {
+    ghost use Rattle.domain_builder.specs.Texts.{push_name_text};
+
+    ghost output = { λ e. Some (push_name_text e) };
+
     fn fmt<W: fmt::Write>(&self, f: &mut fmt::Formatter<W>) -> fmt::Result {
         match self {
             PushNameError::LongName => write!(f, "long domain name"),
