@@ -1,5 +1,5 @@
 //! Names from text (RFC 1035, 5.1), from addresses, and back to builders.
-ghost use Rattle.std.specs.Prelude.{◌≡◌, ◌++◌, ◌<◌, ◌+◌, ℕ, List, Option, Some, None, Result, length, IfOk, IfErr, IfSome, OnErr, MatchResult};
+ghost use Rattle.std.specs.Prelude.{◌≡◌, ◌++◌, ◌<◌, ◌≤◌, ◌+◌, ℕ, List, Option, Some, None, Result, length, IfOk, IfErr, IfSome, OnErr, MatchResult};
 ghost use Rattle.std.specs.Iterator.{AlwaysYields, IsFinite};
 ghost use Rattle.std.specs.Str.{chars};
 ghost use Rattle.octseq.specs.Room.{MayLackRoom};
@@ -12,8 +12,9 @@ ghost use Rattle.domain_builder.specs.Reverse.{reverse_name};
 ghost use Rattle.domain_builder.specs.Told.{NoName, NoNameRead, NoRelativeRead, Lacks, RelativeLacks, Tells, RelativeTells};
 ghost use Rattle.domain_builder.specs.declared.part.Fault.{Fault};
 ghost use Rattle.domain_builder.specs.declared.push_error.PushError.TheVariants.{ShortBuf};
-ghost use Rattle.domain_name.specs.Builders.{built};
-ghost use Rattle.domain_name.specs.Names.{name_labels, relative_labels};
+ghost use Rattle.domain_builder.specs.Inside.{room};
+ghost use Rattle.domain_name.specs.Builders.{built, held};
+ghost use Rattle.domain_name.specs.Names.{name_labels, relative_holder, relative_labels};
 
 use crate::absolute::Name;
 use crate::builder::NameBuilder;
@@ -197,9 +198,11 @@ impl<Octs: IntoBuilder> RelativeName<Octs>
 where
     Octs::Builder: OctetsMut,
 {
-    /// A builder that goes on from the name's labels, none of which is open.
+    /// A builder that goes on from the name's labels, none of which is open, and has no less room than the
+    /// name's octets.
     pub fn into_builder(self) -> NameBuilder<Octs::Builder>
         ensures built { built result ≡ finished (relative_labels self) }
+        ensures room { Octs.capacity (relative_holder self) ≤ room Octs.Builder.limit (held result) }
     {
         NameBuilder::from_wire(self.into_octets().into_builder())
     }
@@ -211,10 +214,13 @@ where
 {
     /// The absolute name of the name's labels and the root.
     ///
-    /// `ShortBuf` only where the root doesn't fit, or where memory was refused.
+    /// `ShortBuf` only where the root exceeds the spare capacity of the name's octets, so never where it
+    /// fits. Under a fixed room it is answered exactly where the root doesn't fit, else only where memory
+    /// was refused, too.
     pub fn into_absolute(self) -> Result<Name<Octs>, PushError>
         ensures ok { IfOk result (λ name. name_labels name ≡ relative_labels self ++ Root) }
         ensures err { IfErr result (λ e. e ≡ ShortBuf) }
+        ensures spare { OnErr result (Octs.capacity (relative_holder self) < length (wire (relative_labels self)) + 1) }
         ensures full { IfSome Octs.Builder.limit (λ n. OnErr result (n < length (wire (relative_labels self)) + 1)) }
     {
         self.into_builder().into_name()
