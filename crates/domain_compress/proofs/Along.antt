@@ -1,15 +1,15 @@
 -- Comparing a name with the one that is read at a place, label by label.
-use Rattle.std.proofs.Common.{◌≡◌, ℕ, suc, ◌+◌, ◌-◌, ◌≤◌, ◌<◌, ◌⊎◌, List, [], ◌∷◌, ◌++◌, length, drop, take, drop-drop, refl, sym, ap, subst, ◌∙◌, arith, slice_index, slice_range, add-one, length-append}
+use Rattle.std.proofs.Common.{◌≡◌, ℕ, ◌+◌, ◌-◌, ◌≤◌, ◌<◌, ◌⊎◌, List, [], ◌∷◌, ◌++◌, length, drop, take, drop-drop, refl, sym, ap, subst, ◌∙◌, arith, slice_index, slice_range, add-one, length-append}
 use Rattle.std.proofs.lemmas.List.{length-map, map-append}
 use Rattle.std.proofs.Math.Seq.{take-append_seam}
 use Rattle.domain_label.specs.Wire.{wire, Root, labels_in, IsAbsolute, IsAbsoluteWire}
 use Rattle.domain_label.specs.Low.{low, low_all}
-use Rattle.domain_label.proofs.WireLaws.{absolute_wire, length-wire_append}
+use Rattle.domain_label.proofs.WireLaws.{absolute_wire}
 use Rattle.domain_label.proofs.Lowered.{low_size}
 use Rattle.domain_flat.proofs.Seams.{Meets, meets_start, meets_drop, meets_labels, meets_next, read_at}
 use Rattle.domain_reading.specs.Grammar.{OctetAt, LabelAt, PointerAt, Reads}
 use Rattle.domain_reading.specs.Grammar.Reads.{root}
-use Rattle.domain_reading.specs.Faults.{Walk, start, past_label, past_pointer, FaultAt}
+use Rattle.domain_reading.specs.Faults.{Walk, start, past_label, past_pointer}
 use Rattle.domain_reading.specs.Heads.{BrokenAt}
 use Rattle.domain_reading.specs.declared.fault.NameFault.{NameFault}
 use Rattle.domain_reading.specs.declared.fault.NameFault.TheVariants.{TooManyPointers}

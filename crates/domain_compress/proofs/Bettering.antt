@@ -1,5 +1,5 @@
 -- The longest end that stands at one of the places, with one place more.
-use Rattle.std.proofs.Common.{◌≡◌, ℕ, ◌+◌, ◌≤◌, ◌<◌, ◌⊎◌, inl, inr, List, [], ◌∷◌, ◌++◌, length, take, refl, sym, ap, subst, ◌∙◌, arith, length-append, append_assoc, append-nil, Option, None, Some}
+use Rattle.std.proofs.Common.{◌≡◌, ℕ, ◌+◌, ◌≤◌, ◌<◌, inl, inr, List, [], ◌∷◌, ◌++◌, length, take, refl, sym, ap, subst, ◌∙◌, arith, length-append, append_assoc, append-nil, Option, None, Some}
 use Rattle.std.proofs.lemmas.Grind.{common_steps}
 use Rattle.std.proofs.lemmas.List.{length-map}
 use Rattle.domain_label.specs.Wire.{wire, labels_in, IsAbsoluteWire}
@@ -7,10 +7,10 @@ use Rattle.domain_label.specs.Low.{low, low_all}
 use Rattle.domain_label.proofs.WireLaws.{length-wire_append, nil_from_wire}
 use Rattle.domain_reading.proofs.Reading.{reads_once}
 use Rattle.domain_rdata.specs.ReadBack.{StandsAt}
-use Rattle.domain_compress.specs.Compressing.{Place, NoPlace, FirstPlace, NoEnd, LongestEnd}
+use Rattle.domain_compress.specs.Compressing.{Place, NoPlace, FirstPlace}
 use Rattle.domain_compress.specs.declared.written.StandingEnd.{StandingEnd}
 use Rattle.domain_compress.specs.declared.written.Written.{Written}
-use Rattle.domain_compress.specs.Written.{place_of, places, StandsThrough, EndAt, NoEndAt, EndFound, Longest, begin_or_length}
+use Rattle.domain_compress.specs.Written.{place_of, places, EndAt, EndFound, Longest, begin_or_length}
 use Rattle.domain_compress.proofs.Along.{stands_so}
 use Rattle.domain_compress.proofs.Searching.{fewer, shorter}
 

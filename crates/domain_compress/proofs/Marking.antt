@@ -1,16 +1,16 @@
 -- What the first two octets at a place tell of the name there.
-use Rattle.std.proofs.Common.{◌≡◌, ℕ, ◌+◌, ◌*◌, ◌%◌, ◌≤◌, ◌<◌, inl, inr, List, [], ◌∷◌, ◌++◌, length, length-append, refl, sym, ap, subst, ◌∙◌, arith, slice_index, get_or-drop}
-use Rattle.std.proofs.Common.{slice_set, get_or-set_same, get_or-set_other, length-set}
+use Rattle.std.proofs.Common.{◌≡◌, ℕ, ◌+◌, ◌*◌, ◌%◌, ◌<◌, inl, inr, List, [], ◌∷◌, ◌++◌, length, refl, sym, ap, subst, ◌∙◌, arith, slice_index, get_or-drop, slice_set, get_or-set_same, get_or-set_other}
 use Rattle.std.proofs.lemmas.Grind.{common_steps}
 use Rattle.std.proofs.lemmas.Bool.{cases_lt}
 use Rattle.std.specs.Char.{to_ascii_lowercase}
 use Rattle.domain_label.specs.Wire.{labels_in, IsAbsolute, IsAbsoluteWire}
-use Rattle.domain_label.specs.Low.{low, low_all}
+use Rattle.domain_label.specs.Low.{low}
 use Rattle.domain_flat.proofs.Seams.{Meets, meets_drop, read_at}
 use Rattle.domain_reading.specs.Grammar.{LabelAt, Reads}
 use Rattle.domain_reading.specs.Grammar.Reads.{root, label, pointer}
 use Rattle.domain_rdata.specs.ReadBack.{StandsAt}
 use Rattle.domain_compress.specs.Ends.{first_label, kind_of, first_kind, IsMarked}
+use Rattle.domain_compress.specs.Pointed.{nothing_behind}
 use Rattle.domain_compress.proofs.Along.{same_first, same_length}
 
 low_kind : (c : ℕ) → to_ascii_lowercase c % 32 ≡ c % 32
@@ -75,9 +75,6 @@ marked_still marks k j inside e = elim (cases_lt j k) [
         subst (λ i. slice_index (slice_set marks k 1) i ≡ 1) same (marked_here marks k inside))
   ]
 ]
-
-nothing_behind : (xs ys : List (List ℕ)) → xs ++ ys ≡ [] → 0 < length ys → ⊥
-nothing_behind xs ys e some = omega (arith, length-append xs ys, ap length e, some)
 
 end_absolute : (xs ys : List (List ℕ)) → IsAbsolute (xs ++ ys) → 0 < length ys → IsAbsolute ys
 end_absolute [] ys a some = a

@@ -1,5 +1,5 @@
 -- A pointer behind labels is read as what it leads to, and whether that is a name.
-use Rattle.std.proofs.Common.{◌≡◌, ℕ, suc, ◌+◌, ◌≤◌, ◌<◌, List, [], ◌∷◌, ◌++◌, length, sym, ap, subst, ◌∙◌, arith, length-append}
+use Rattle.std.proofs.Common.{◌≡◌, ℕ, suc, ◌+◌, ◌<◌, List, [], ◌∷◌, ◌++◌, length, sym, ap, subst, ◌∙◌, arith}
 use Rattle.std.proofs.lemmas.List.{map-append}
 use Rattle.domain_label.specs.Wire.{wire, IsRelative, IsAbsoluteName}
 use Rattle.domain_label.specs.Low.{low, low_all}

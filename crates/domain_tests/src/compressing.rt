@@ -98,35 +98,46 @@ fn read_all(rt: &impl Abort, message: &[u8], placed: &[Placed]) {
     }
 }
 
+/// Appends a name that is drawn, and reads it back. Its place is answered.
+fn append_drawn(
+    rt: &impl Abort,
+    target: &mut CompressComposer<ArrayVec<u8, 4000>>,
+    seed: u32,
+) -> Placed {
+    let name = drawn_name(rt, seed);
+    let place = target.as_slice().len();
+    assert!(rt; appended(rt, target, name.as_slice()));
+    let end = read_back(rt, target.as_slice(), place, name.as_slice());
+    assert_eq!(rt; end, target.as_slice().len());
+    assert!(rt; end.saturating_sub(place) <= name.len());
+    Placed { place, seed }
+}
+
 #[test]
 fn names_stay_readable_behind_further_names(rt: HostRuntime) {
-    let mut target = CompressComposer::new(ArrayVec::<u8, 4000>::new());
+    let mut target = CompressComposer::new(ArrayVec::new());
     let mut placed = ArrayVec::<Placed, 200>::new();
     for seed in 0..200u32 {
-        let name = drawn_name(&rt, seed);
-        let place = target.as_slice().len();
-        assert!(rt; appended(&rt, &mut target, name.as_slice()));
-        let end = read_back(&rt, target.as_slice(), place, name.as_slice());
-        assert_eq!(rt; end, target.as_slice().len());
-        assert!(rt; end.saturating_sub(place) <= name.len());
-        assert!(rt; placed.try_push(Placed { place, seed }).is_ok());
+        assert!(rt;
+            placed
+                .try_push(append_drawn(&rt, &mut target, seed))
+                .is_ok()
+        );
         read_all(&rt, target.as_slice(), placed.as_slice());
     }
 }
 
 #[test]
 fn names_that_a_cut_leaves_stay_readable(rt: HostRuntime) {
-    let mut target = CompressComposer::new(ArrayVec::<u8, 4000>::new());
+    let mut target = CompressComposer::new(ArrayVec::new());
     let mut placed = ArrayVec::<Placed, 200>::new();
     for seed in 0..200u32 {
-        let name = drawn_name(&rt, seed);
-        let place = target.as_slice().len();
-        assert!(rt; appended(&rt, &mut target, name.as_slice()));
+        let it = append_drawn(&rt, &mut target, seed);
         if seed % 3 == 0 {
-            target.truncate(place.saturating_add(1));
-            target.truncate(place);
+            target.truncate(it.place.saturating_add(1));
+            target.truncate(it.place);
         } else {
-            assert!(rt; placed.try_push(Placed { place, seed }).is_ok());
+            assert!(rt; placed.try_push(it).is_ok());
         }
         read_all(&rt, target.as_slice(), placed.as_slice());
     }

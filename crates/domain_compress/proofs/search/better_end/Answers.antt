@@ -2,7 +2,7 @@ use Rattle.std.proofs.Common.{ℕ, ◌<◌, refl, sym, subst, length}
 use Rattle.std.proofs.lemmas.Bool.{false≢true}
 use Rattle.domain_label.specs.Wire.{wire}
 use Rattle.domain_rdata.specs.ReadBack.{StandsAt}
-use Rattle.domain_compress.specs.Written.{place_of, EndAt, begin_or_length}
+use Rattle.domain_compress.specs.Written.{place_of, EndAt}
 use Rattle.domain_compress.proofs.Marking.{end_some}
 use Rattle.domain_compress.proofs.Bettering.{kept_end, longer_found}
 use Rattle.domain_compress.proofs.search.better_end.Goals as goal
