@@ -26,13 +26,16 @@ struct Draws {
 }
 
 impl Draws {
-    /// A number below `count`, which is at most 65,535.
+    /// A number below `count`, which isn't 0 and is at most 65,536.
     fn below(&mut self, count: u32) -> u32 {
         self.state = self
             .state
             .wrapping_mul(1_664_525)
             .wrapping_add(1_013_904_223);
-        (self.state / 65536) % count.max(1)
+        if count == 0 {
+            return 0;
+        }
+        self.state / 65536 % count
     }
 }
 
