@@ -374,10 +374,9 @@ for octets in FLAT:
     told("relkeep", octets[:-1], hx(octets[:-1]))
     for word in ("forms", "lentforms", "show", "flatwalk"):
         row(word, octets)
-    for word in ("relforms", "lentrelforms", "relshow", "relwalk", "rooted"):
+    for word in ("relforms", "relshow", "relwalk", "rooted"):
         row(word, octets[:-1])
     row("pforms", octets, 0)
-    row("lentpforms", octets, 0)
     row("pforms", b"\x03123" + octets + b"\xc0\4", 4 + len(octets))
     row("chainforms", b"", octets)
     row("chainforms", octets[:-1], b"\0")
@@ -389,13 +388,11 @@ for octets in FLAT:
     for labels in (0, 1, 2, 3, 1000):
         row("fromflat", octets, labels)
 for octets in PARTS + [b"\1*"]:
-    for word in ("relforms", "lentrelforms", "relshow", "relwalk", "rooted", "relkeep"):
+    for word in ("relforms", "relshow", "relwalk", "rooted", "relkeep"):
         row(word, octets)
 for message, place in PLACED:
     row("pforms", message, place)
-    row("lentpforms", message, place)
     row("pforms", message.replace(b"example", b"Example"), place)
-    row("lentpforms", message.replace(b"example", b"Example"), place)
 told("forms", WWW, "made={0} canonical={0} cow=lent held={0} lowered={0} composed=err aa err aa dotted={1} rrsig=3".format(hx(WWW), hx(b"www.example.com.")))
 told("forms", absolute(b"com"), "made={0} canonical={0} cow=lent held={0} lowered={0} composed=ok aa{0} ok aa{0} dotted={1} rrsig=1".format(hx(absolute(b"com")), hx(b"com.")))
 told("pforms", SCATTERED, 15, "made={0} canonical={0} cow=own held={0} lowered={0} composed=err aa err aa dotted={1} rrsig=3".format(hx(WWW), hx(b"www.example.com.")))
@@ -689,6 +686,297 @@ for _time in range(160):
     row("rest", message, place, rnd.randrange(5))
     row("pforms", message, place)
 
+topic("names one after another on one target that writes them shorter; the answers are by the definition, from a slow model of it")
+with open(os.path.join(os.path.dirname(os.path.abspath(__file__)), "compress.rows")) as file:
+    for line in file:
+        line, answer = line.rstrip("\n").split("\t")
+        rows.append((line, answer, True))
+
+
+def spelled(text):
+    return text.encode() if isinstance(text, str) else text
+
+
+def text_rows(text):
+    for word in ("text", "reltext", "labeltext"):
+        row(word, spelled(text))
+
+
+topic("names and labels from text")
+LABEL = "123456789."
+for text, answer in (
+    ("", "err BadLabel(SymbolChars(ShortInput))"), (".", "ok 00"), (".a", "err EmptyLabel"), ("a..b", "err EmptyLabel"), ("a.b", "ok 0161016200"),
+    ("a.b.", "ok 0161016200"), ("\\[a", "err BadLabel(BinaryLabel)"), ("[a", "ok 025b6100"), ("\\065", "ok 014100"),
+    ("\\256", "err BadLabel(SymbolChars(BadEscape))"), ("a\\", "err BadLabel(SymbolChars(ShortInput))"), ("a\\.b", "ok 03612e6200"), ("\u00e9", "err BadLabel(BadSymbol)"),
+    (".\\256", "err EmptyLabel"), ("..", "err EmptyLabel"), ("www.example.com", "ok " + hx(WWW)), ("www.example.com.", "ok " + hx(WWW)), ("a\\065.b", "ok 026141016200"),
+    ("\\091a", "ok 025b6100"), ("a.\\[", "err BadLabel(BinaryLabel)"), ("a\\[", "ok 02615b00"), ("\\", "err BadLabel(SymbolChars(ShortInput))"), ("a\u00e9", "err BadLabel(BadSymbol)"),
+    (LABEL * 25 + "123", "ok " + hx(LONG + b"\x03123\0")), (LABEL * 25 + "123.", "ok " + hx(LONG + b"\x03123\0")), (LABEL * 25 + "1234", "err LongName"),
+):
+    told("text", spelled(text), answer)
+for text, answer in (
+    ("", "ok -"), ("www.example", "ok " + hx(rel(b"www", b"example"))), ("www.example.com.", "err AbsoluteName"), (".", "err EmptyLabel"), ("a..b", "err EmptyLabel"),
+    ("wWw.exAmpLE.coM", "ok " + hx(rel(b"wWw", b"exAmpLE", b"coM"))), (LABEL * 25 + "123", "ok " + hx(LONG + b"\x03123")), (LABEL * 25 + "1234", "err LongName"),
+    (LABEL * 25 + "123.", "err AbsoluteName"),
+):
+    told("reltext", spelled(text), answer)
+for text, answer in (
+    ("", "ok 00 -"), ("a.b", "err BadSymbol"), ("a" * 63 + "\u00e9", "err LongLabel"), ("a" * 63, "ok 3f" + "61" * 63 + " " + "61" * 63), ("\\[", "err BinaryLabel"),
+    ("a\\[", "ok 02615b " + hx(b"a[")), ("\\\u00e9", "err SymbolChars(BadEscape)"), ("\\25", "err SymbolChars(ShortInput)"), ("a\\\x07", "ok 026107 " + hx(b"a\\007")),
+    ("\\\x7f", "ok 017f " + hx(b"\\127")), ("a" * 63 + "\\256", "err LongLabel"),
+):
+    told("labeltext", spelled(text), answer)
+for text in (b"\xff", b"a\xc3", b"\xed\xa0\x80"):
+    for word in ("text", "reltext", "labeltext"):
+        told(word, text, "bad")
+for code in list(range(128)) + [0x80, 0xE9, 0xFF, 0x100, 0x130, 0x661, 0x2E2E, 0x3002, 0xFF0E, 0xFFFD, 0x1F600, 0x10FFFF]:
+    text_rows(chr(code))
+    text_rows("\\" + chr(code))
+    text_rows("a" + chr(code) + "b")
+    if code >= 0x20 and (code < 0x30 or code > 0x39):
+        text_rows("\\1" + chr(code) + "1")
+        text_rows("a\\12" + chr(code))
+for number in list(range(0, 1000, 37)) + [1, 31, 32, 33, 45, 46, 47, 91, 92, 126, 127, 128, 199, 200, 249, 250, 254, 255, 256, 257, 259, 260, 299, 300, 999]:
+    text_rows("\\%03d" % number)
+    text_rows("a\\%03d." % number)
+for text in ("www.example.com", "a\\.b\\046\\\\c.\\000\\255", "\\[x.\\[y", "..a", "a\\2.5", "\u00e9.\\"):
+    for cut in range(len(text) + 1):
+        text_rows(text[:cut])
+        row("text", spelled(text[:cut] + "."))
+        row("reltext", spelled(text[:cut] + "."))
+for size in (61, 62, 63, 64, 65):
+    for tail in ("", ".", "..", ".b", "\\", "\\256", "\u00e9", "\\[", "\\065"):
+        text_rows("a" * size + tail)
+        text_rows("\\200" * size + tail)
+for total in (252, 253, 254, 255, 256):
+    for last in (1, 2, 63):
+        labels = of_len(total, last)
+        text, at = "", 0
+        while at < len(labels):
+            text += labels[at + 1:at + 1 + labels[at]].decode() + "."
+            at += 1 + labels[at]
+        for it in (text, text[:-1], text + ".", text + "x", text[:-1] + "\\", text[:-1] + "\u00e9"):
+            row("text", spelled(it))
+            row("reltext", spelled(it))
+SIGNS = ["a", "B", "0", "9", ".", ".", "\\", "\\", "[", " ", "\u00e9", "\\065", "\\.", "\\[", "\\\\", "\\256", "\\09", "-", "*", "\x7f", "_"]
+for _time in range(260):
+    text_rows("".join(rnd.choice(SIGNS) for _sign in range(rnd.randrange(1, 9))))
+
+topic("names from text in small rooms")
+for text, room, answer in (("ab", 4, "ok 02616200"), ("abc", 4, "err ShortBuf"), ("abcd..", 4, "err EmptyLabel"), ("abcd\\256", 4, "err BadLabel(SymbolChars(BadEscape))"),
+                           (".", 0, "err ShortBuf"), ("", 0, "err BadLabel(SymbolChars(ShortInput))"), (".", 2, "ok 00")):
+    told("textroom", spelled(text), room, answer)
+for text, room, answer in (("ab", 2, "err ShortBuf"), ("ab.", 2, "err AbsoluteName"), ("a", 2, "ok 0161"), ("", 0, "ok -"), (".", 0, "err EmptyLabel")):
+    told("reltextroom", spelled(text), room, answer)
+own("textroom", b"a", 9, "bad")
+own("reltextroom", b"a", 9, "bad")
+for text in ("", ".", "a", "a.", "ab", "a.b", "a.b.", "abc", "abcd", "a.b.c", "..", "a..", "a.\\[", "\\", "abcdef\\", "abcdef\u00e9", "\\097\\.", "www.example.com", "www.example.com."):
+    for room in (0, 2, 4, 255):
+        row("textroom", spelled(text), room)
+    for room in (0, 2, 254):
+        row("reltextroom", spelled(text), room)
+for tail in ("1", "12", "123", "1234", "123.", "12.", "12..", "123\\"):
+    row("textroom", spelled(LABEL * 25 + tail), 255)
+    row("reltextroom", spelled(LABEL * 25 + tail), 254)
+
+
+def called(*calls):
+    return ";".join(it if isinstance(it, str) else "%s:%s" % (it[0], hx(spelled(it[1]))) for it in calls)
+
+
+topic("builders")
+NINE = ("label", b"123456789")
+told("build", called(("push", b"w"), ("slice", b"ww"), "end", ("label", b"\0" * 64), ("char", "."), ("name", b"\7example"), ("chars", "com"), "finish"),
+     "ok;ok;ok;LongLabel;EmptyLabel;ok;ok;ok " + hx(RELATIVE))
+told("build", called(("chars", "a.b..c"), ("chars", "c"), "finish"), "EmptyLabel;ok;ok 016101620163")
+told("build", called(*[NINE] * 25, ("origin", b"\x03123\0")), "ok;" * 25 + "ok " + hx(LONG + b"\x03123\0"))
+told("build", called(*[NINE] * 25, ("origin", b"\x041234\0")), "ok;" * 25 + "LongName")
+told("build", called(("slice", b"ab")), "ok 006162 1")
+told("build", called(("slice", b"ab"), ("label", b"")), "ok;ok 026162 0")
+for octet, label in ((0, "0130"), (40, "023430"), (207, "03323037")):
+    told("build", called(("dec", bytes([octet]))), "ok %s 0" % label)
+told("build", called(("hex", b"\xfb")), "ok 0142 0")
+told("build", called(("chars", "a..b"), ("push", b"c"), "finish"), "EmptyLabel;ok;ok 01610163")
+FILLED = [("label", b"\0" * 63), ("label", b"\0" * 64), ("label", b"\0" * 164), ("slice", b"\0" * 60)]
+told("build", called(*FILLED, ("slice", b"1234"), ("slice", b"12"), ("push", b"3"), ("push", b"4"), "finish"),
+     "ok;LongLabel;LongLabel;ok;LongLabel;ok;ok;LongLabel;ok " + hx(rel(b"\0" * 63, b"\0" * 60 + b"123")))
+told("build", called(*FILLED, ("label", b"123"), "finish"), "ok;LongLabel;LongLabel;ok;ok;ok " + hx(rel(b"\0" * 63, b"\0" * 60, b"123")))
+told("build", called(*[NINE] * 25, ("label", b"12345"), ("slice", b"12345"), ("slice", b"12"), ("slice", b"34"), ("push", b"3"), ("push", b"4"), "finish"),
+     "ok;" * 25 + "LongName;LongName;ok;LongName;ok;LongName;ok " + hx(LONG + b"\x03123"))
+told("build", called(*[NINE] * 25, ("label", b"1234")), "ok;" * 25 + "LongName %s 0" % hx(LONG))
+told("build", called(*[NINE] * 25, ("label", b"123")), "ok;" * 25 + "ok %s 0" % hx(LONG + b"\x03123"))
+told("build", called(("slice", b"\0" * 60), ("slice", b"123"), ("slice", b"1"), "finish"), "ok;ok;LongLabel;ok " + hx(rel(b"\0" * 60 + b"123")))
+told("build", called(("push", b"a"), ("name", b"\1b"), "finish"), "ok;ok;ok 01610162")
+told("build", called(("push", b"w"), ("slice", b"ww"), "end", ("slice", b"exa"), ("push", b"m"), ("push", b"p"), ("slice", b"le"), "end", ("slice", b"com"), "finish"),
+     "ok;" * 9 + "ok " + hx(RELATIVE))
+told("build", called(("label", b"www"), ("label", b"example"), ("label", b"com"), "finish"), "ok;ok;ok;ok " + hx(RELATIVE))
+told("build", called(("push", b"w"), ("slice", b"ww"), ("label", b"example"), ("slice", b"com"), "finish"), "ok;ok;ok;ok;ok " + hx(RELATIVE))
+told("build", called(("label", b"www"), ("label", b"example"), ("slice", b"com"), "into_name"), "ok;ok;ok;ok " + hx(WWW))
+told("build", called(("from", b"\3www"), ("push", b"a")), "ok 03777777" + "0061 1")
+told("build", called(("from", b"\3www\0")), "err AbsoluteName")
+told("build", called(("from", LONG + b"\x041234"), "end"), "err LongName")
+for front in (b"\xc0", b"\xc0\0", b"\x40a", b"\x80", b"\2a", b"\0", b"\1a\0", LONG + b"\x03123", LONG + b"\0123", b""):
+    row("build", called(("from", front), ("push", b"x"), "into_name"))
+for calls in ("nothing", "push", "push:6162", "push:", "push:6", "label:0", "name:00", "name:02", "char:6161", "char:-", "origin:01", "origin:-", "chars:ff", "dec:-", "end;", ";end", "simple:", "end;x"):
+    told("build", calls, "bad")
+told("build 0161 0162", "bad")
+told("build", "bad")
+own("buildcap", 9, "end", "bad")
+told("buildcap", "x", "end", "bad")
+told("buildcap", 2, called(("from", b"\3www")), "bad")
+for octet in (0, 1, 9, 10, 99, 100, 199, 200, 249, 250, 255):
+    row("build", called(("dec", bytes([octet])), ("hex", bytes([octet])), ("push", bytes([octet])), ("decimal", bytes([octet])), ("simple", bytes([octet]))))
+for code in (0, 0x1F, 0x20, 0x2D, 0x2E, 0x5B, 0x5C, 0x7E, 0x7F, 0x80, 0xE9, 0x3002, 0x1F600):
+    row("build", called(("char", chr(code)), ("char", chr(code)), "finish"))
+    row("build", called(("push", b"a"), ("char", chr(code)), "into_name"))
+for before in ([], [("push", b"a")], [("slice", b"ab"), "end"], [("slice", b"\0" * 62)], [("slice", b"\0" * 63)], [("label", b"\0" * 63)] * 3, [("label", b"\0" * 63)] * 3 + [("slice", b"\0" * 59)],
+               [("label", b"\0" * 63)] * 3 + [("slice", b"\0" * 60)], [("label", b"\0" * 63)] * 3 + [("label", b"\0" * 61)], [NINE] * 25 + [("push", b"1")]):
+    for call in (("push", b"x"), ("slice", b""), ("slice", b"x"), ("slice", b"xy"), ("slice", b"x" * 63), ("slice", b"x" * 64), "end", ("label", b""), ("label", b"x"), ("label", b"xy"),
+                 ("label", b"x" * 64), ("dec", b"\xff"), ("dec", b"\1"), ("hex", b"\xa1"), ("name", b""), ("name", b"\1x"), ("name", b"\2xy"), ("name", LONG), ("char", "."), ("char", "x"),
+                 ("simple", b"["), ("decimal", b"["), ("chars", ""), ("chars", "x.y"), ("chars", "x."), ("chars", "xyz\\."), ("chars", "..")):
+        row("build", called(*before, call))
+        row("build", called(*before, call, ("push", b"z"), "finish"))
+    for last in ("finish", "into_name", ("origin", b"\0"), ("origin", b"\1x\0"), ("origin", b"\2xy\0"), ("origin", WWW)):
+        row("build", called(*before, last))
+NAMES = (b"", b"\1b", b"\3www\7example", LONG, LONG + b"\x03123", b"\x3f" + b"n" * 63)
+TEXTS = ("", "a", ".", "a.b", "a.", "a..b", "\\", "\\256", "a\\.b", "\\[", "[", "\u00e9", "x" * 70, "a.b.c.d", "\\000\\255")
+
+
+def any_call():
+    kind = rnd.randrange(13)
+    if kind < 3:
+        return ("push", bytes([rnd.randrange(256)]))
+    if kind < 5:
+        return ("slice", bytes(rnd.randrange(97, 123) for _octet in range(rnd.choice((0, 1, 2, 3, 5, 20, 59, 62, 63, 64)))))
+    if kind == 5:
+        return "end"
+    if kind < 8:
+        return ("label", bytes(rnd.randrange(97, 123) for _octet in range(rnd.choice((0, 1, 2, 3, 5, 9, 40, 62, 63, 64, 70)))))
+    if kind == 8:
+        return (rnd.choice(("dec", "hex", "simple", "decimal")), bytes([rnd.choice((0, 9, 10, 91, 92, 100, 255))]))
+    if kind == 9:
+        return ("name", rnd.choice(NAMES))
+    if kind < 12:
+        return ("chars", rnd.choice(TEXTS))
+    return ("char", rnd.choice(".a[\\\u00e9"))
+
+
+def any_last():
+    return rnd.choice(([], [], ["finish"], ["into_name"], [("origin", b"\0")], [("origin", absolute(b"com"))]))
+
+
+for _time in range(420):
+    before = [NINE] * rnd.choice((0, 0, 0, 1, 12, 23, 24, 25))
+    row("build", called(*before, *[any_call() for _call in range(rnd.randrange(1, 9))], *any_last()))
+
+topic("builders in small rooms")
+told("buildcap", 5, called(("slice", b"ab"), ("label", b"cd"), ("push", b"c"), ("push", b"d"), ("push", b"e"), "finish"), "ok;ShortBuf;ok;ok;ShortBuf;ok 0461626364")
+told("buildcap", 5, called(("slice", b"ab"), ("label", b"cd")), "ok;ShortBuf 006162 1")
+told("buildcap", 5, called(("label", b"abc"), ("label", b"d"), ("push", b"d"), "into_name"), "ok;ShortBuf;ShortBuf;ok 0361626300")
+told("buildcap", 3, called(("dec", b"\xc0")), "ShortBuf - 0")
+told("buildcap", 3, called(("dec", b"\xc0"), ("dec", b"\x5c")), "ShortBuf;ok 023932 0")
+told("buildcap", 5, called(("chars", "a.b.c")), "ShortBuf 01610162 0")
+told("buildcap", 5, called(("label", b"abc"), ("label", b"d"), "end", "finish"), "ok;ShortBuf;ok;ok 03616263")
+ROOMS = (0, 1, 2, 3, 4, 5, 8, 255)
+for calls in (
+    ["finish"], ["into_name"], [("push", b"a")], [("push", b"a"), ("push", b"b"), "into_name"], [("slice", b"abc"), "end", ("push", b"d"), "finish"],
+    [("label", b"ab"), ("label", b"cd"), "into_name"], [("dec", b"\xc8"), ("hex", b"\5"), ("dec", b"\7"), "into_name"], [("name", b"\1a\1b"), ("name", b"\1c"), ("name", b"")],
+    [("push", b"a"), ("name", b"\1b"), ("push", b"c"), "finish"], [("chars", "ab.c.d")], [("chars", "a.b"), ("chars", ".c"), ("chars", "\\.d"), "into_name"],
+    [("push", b"a"), ("origin", b"\0")], [("push", b"a"), ("origin", b"\1b\0")], [("slice", b"ab"), ("label", b"cdefg"), ("slice", b"c"), "finish"],
+    [("char", "a"), ("char", "."), ("simple", b"["), ("decimal", b"b"), "finish"], [("label", b"\0" * 63), ("push", b"a"), "into_name"],
+    [NINE] * 25 + [("slice", b"123"), ("push", b"4"), "into_name"], [NINE] * 25 + [("label", b"123"), ("origin", b"\0")], [NINE] * 25 + [("label", b"123"), ("origin", b"\1b\0")],
+    [("from", b"\1a"), ("push", b"b"), "into_name"], [("slice", b"a" * 300), ("slice", b"")],
+):
+    for room in ROOMS:
+        row("buildcap", room, called(*calls))
+for _time in range(330):
+    room = rnd.choice(ROOMS)
+    before = [NINE] * (rnd.choice((0, 24, 25)) if room > 64 else 0)
+    row("buildcap", room, called(*before, *[any_call() for _call in range(rnd.randrange(1, 8))], *any_last()))
+
+topic("relative names with the root behind them")
+for octets in PARTS + [LONG, LONG + b"\x03123", b"\1a" * 127, rel(b"a" * 14), rel(b"a" * 15), rel(b"a" * 16), rel(b"a" * 17), rel(b"a" * 7, b"b" * 7), rel(b"a" * 7, b"b" * 8), b"\1*"]:
+    row("absolute", octets)
+told("absolute", RELATIVE, "%s %s" % (hx(WWW), hx(WWW)))
+told("absolute", b"\0", "bad")
+told("absolute", b"\2a", "bad")
+
+topic("names of addresses")
+told("rev", bytes([192, 0, 2, 1]), "ok %s %s" % (hx(absolute(b"1", b"2", b"0", b"192", b"in-addr", b"arpa")), hx(b"1.2.0.192.in-addr.arpa")))
+SEGMENTS = bytes.fromhex("20010db8123400005678" + "0001" + "9abc" + "0def")
+UNDER = b"F.E.D.0.C.B.A.9.1.0.0.0.8.7.6.5.0.0.0.0.4.3.2.1.8.B.D.0.1.0.0.2.ip6.arpa"
+told("rev", SEGMENTS, "ok %s %s" % (hx(absolute(*UNDER.split(b"."))), hx(UNDER)))
+told("rev", bytes([192, 0, 2, 12]), "ok %s %s" % (hx(absolute(b"12", b"2", b"0", b"192", b"in-addr", b"arpa")), hx(b"12.2.0.192.in-addr.arpa")))
+for octets in (b"", b"\1", b"\1\2\3", b"\1" * 5, b"\1" * 15, b"\1" * 17):
+    told("rev", octets, "bad")
+for octets in (b"\0" * 4, b"\xff" * 4, b"\0" * 16, b"\xff" * 16, bytes(range(16)), bytes(range(0xF0, 0x100)), bytes([9, 10, 99, 100]), bytes([100, 99, 10, 9])):
+    row("rev", octets)
+for _time in range(40):
+    row("rev", bytes(rnd.randrange(256) for _octet in range(rnd.choice((4, 4, 16)))))
+
+topic("serial numbers")
+for a, b, answer in ((12, 13, "<"), (3000000012, 12, "<"), (1, 0x80000001, "none"), (0, 0xFFFFFFFF, ">"), (13, 12, ">"), (12, 3000000012, ">"), (0x80000001, 1, "none"), (12, 12, "=")):
+    told("serial", a, b, answer)
+for a, n, answer in ((0, 4, 4), (0xFF000000, 0x0F000000, 0x0E000000), (0xFFFFFFFF, 1, 0)):
+    told("add", a, n, str(answer))
+for a, n in ((0, 0x80000000), (0, 0xFFFFFFFF), (0, 4294967296), (4294967296, 0), ("x", 1), (1, "x"), (1, ""), ("-1", 0)):
+    told("add", a, n, "bad")
+for a, b in ((4294967296, 0), (0, 4294967296), ("", 0), (0, "-1"), ("1x", 0), ("12345678901", 0)):
+    told("serial", a, b, "bad")
+told("serial", "+5", "005", "=")
+EDGES = (0, 1, 2, 0x7FFFFFFE, 0x7FFFFFFF, 0x80000000, 0x80000001, 0xFFFFFFFE, 0xFFFFFFFF)
+for a in EDGES:
+    for b in EDGES:
+        row("serial", a, b)
+        row("add", a, b)
+for _time in range(60):
+    a, far = rnd.randrange(1 << 32), rnd.choice((rnd.randrange(1 << 31), 0x7FFFFFFF, 0x80000000, 0x80000001, 1))
+    row("serial", a, (a + far) % (1 << 32))
+    row("serial", (a + far) % (1 << 32), a)
+    row("add", a, min(far, 0x7FFFFFFF))
+
+topic("record data")
+told("rdata", b"\1\2\xff", "ok %s 00030102ff" % hx(b"\\# 3 01 02 ff"))
+told("rdata", b"", "ok %s 0000" % hx(b"\\# 0"))
+told("rdata", bytes([192, 0, 2, 1]), "ok %s 0004c0000201" % hx(b"\\# 4 c0 00 02 01"))
+for size in (1, 2, 3, 4, 9, 10, 15, 16, 99, 100, 255, 256, 257):
+    row("rdata", bytes((7 * i + size) % 256 for i in range(size)))
+row("rdata", bytes(range(256)))
+DATA = (b"", b"\0", b"\0\0", b"\1", b"\1\2", b"\1\3", b"\2", b"\xff", b"\x7f", b"\x80", b"A", b"a", b"\1\2\xff", b"\xff\0")
+for one in DATA:
+    for other in DATA:
+        row("rdatacmp", one, other)
+told("rdatacmp", b"\1", b"\1", "eq=1 cmp== canonical==")
+told("longdata", 0, "ok 0")
+told("longdata", 65535, "ok 65535")
+told("longdata", 65536, "err record data too long")
+told("longdata", 65537, "err record data too long")
+told("longdata", 100000, "err record data too long")
+told("lengths", "65535,0", "ok")
+told("lengths", "65535,1", "err record data too long")
+told("lengths", "18446744073709551615,1", "err record data too long")
+for lens in ("0", "65535", "65536", "18446744073709551615", "0,0", "0,65535", "1,65535", "32768,32767", "32768,32768", "18446744073709551615,0", "18446744073709551615,18446744073709551615",
+             "0,0,0", "65535,0,0", "0,65535,1", "30000,30000,5535", "30000,30000,5536", "18446744073709551615,1,0", "1,0,18446744073709551615", "9223372036854775808,9223372036854775808,1"):
+    row("lengths", lens)
+told("lengths", "1,2,3,4", "bad")
+told("lengths", "x", "bad")
+told("lengths", "18446744073709551616", "bad")
+
+topic("a parser of a part")
+for octets, begin, end, calls, answer in (
+    (b"abcdef", 1, 5, "parser:2;parser:3;parser:2;parser:0;parser:1", "1:6263@3 unexpected end of input@3 3:6465@5 5:-@5 unexpected end of input@5"),
+    (b"abcdef", 0, 6, "u8;parser:4;rest", "97@1 1:62636465@5 66@5"), (b"", 0, 0, "parser:0;parser:1", "0:-@0 unexpected end of input@0"),
+    (b"ab", 0, 1, "parser:2;parser:1", "unexpected end of input@0 0:61@1"),
+):
+    own("parser", octets, begin, end, calls, "%s %s %s" % (hx(octets), hx(octets[:end]), answer))
+
+topic("texts of errors")
+LABEL_LONG, LONG_TEXT, SHORT, INPUT, ESCAPE = "label length limit exceeded", "long domain name", "buffer size exceeded", "unexpected end of input", "illegal escape sequence"
+own("errors", "".join(it + ";" for it in (
+    ["long label", LABEL_LONG, LONG_TEXT, LONG_TEXT, SHORT, SHORT] + [LONG_TEXT, LONG_TEXT, SHORT, SHORT] + [INPUT] * 4 + [ESCAPE] * 4 + ["illegal character"] * 4
+    + ["a binary label was encountered"] * 3 + [LABEL_LONG] * 3 + ["empty label"] * 3 + [LONG_TEXT] * 3 + [SHORT, "absolute domain name"]
+    + ["record data too long", "record data too long", SHORT, "record data too long", "illegal signature time"])))
+
+
 
 def main():
     answerer = sys.argv[1:]
@@ -705,7 +993,7 @@ def main():
     ran = subprocess.run(answerer, input=text.encode(), stdout=subprocess.PIPE, check=True)
     answers = ran.stdout.decode().splitlines()
     assert len(answers) == len(table), (len(answers), len(table))
-    out, wrong, by_hand, documented = [], 0, 0, 0
+    out, wrong, by_hand, alone, documented = [], 0, 0, 0, 0
     for (line, wanted, is_own), answer in zip(table, answers):
         columns = answer.split("\t")
         if line.startswith("#"):
@@ -714,6 +1002,7 @@ def main():
         documented += len(columns) == 3
         answer = wanted if is_own else columns[-1]
         by_hand += wanted is not None
+        alone += is_own
         if wanted is not None and wanted != answer or answer == "panic":
             wrong += 1
             print("different:", line[:200], "\n  wanted:", (wanted or "")[:300], "\n  is:    ", answer[:300], file=sys.stderr)
@@ -729,7 +1018,7 @@ def main():
     with open(os.path.join(folder, "stdout"), "w") as file:
         file.write("".join(it + "\n" for it in out))
     lines = sum(not it[0].startswith("#") for it in table)
-    print(f"{lines} rows: {by_hand} with an answer of their own, {documented} from the documented behaviour, the others from the crate alone; "
+    print(f"{lines} rows: {by_hand} with an answer of their own ({alone} of them without another), {documented} from the documented behaviour, the others from the crate alone; "
           f"{len(text)} octets in, {sum(len(it) + 1 for it in out)} out; {wrong} different")
     sys.exit(wrong > 0)
 

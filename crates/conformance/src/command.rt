@@ -2,11 +2,14 @@
 
 use crate::address::put_address;
 use crate::answer::Answer;
+use crate::building::{put_absolute, put_build, put_buildcap};
 use crate::chains::{
     put_chain, put_chaincmp, put_chainends, put_chainforms, put_chainrel, put_chainstrip,
     put_chainwalk, put_pchain, put_rooted,
 };
 use crate::compare::{put_cmp, put_ends, put_pcmp, put_pname, put_prel, put_relcmp};
+use crate::compress::put_compressed;
+use crate::errors::put_errors;
 use crate::fail::Fail;
 use crate::fields::Fields;
 use crate::flat::{put_flatwalk, put_name, put_part, put_show, put_split, put_strip};
@@ -15,131 +18,164 @@ use crate::labels::{
     put_label, put_labelerrors, put_labelfill, put_labelmut, put_nameerrors, put_slice,
     put_splitlabel, put_splitmut,
 };
-use crate::made::{
-    put_flat_forms, put_lent_forms, put_lent_parsed_forms, put_lent_relative_forms,
-    put_parsed_forms, put_relative_flat_forms,
-};
+use crate::made::{put_flat_forms, put_lent_forms, put_parsed_forms, put_relative_flat_forms};
 use crate::message::{put_nparse, put_parse, put_rest, put_skip, put_walk};
 use crate::numbers::{put_arrays, put_composevec, put_ints, put_signed, put_unsigned, put_whole};
 use crate::octets::{put_append, put_from, put_truncate, put_write};
 use crate::parser::put_calls;
+use crate::records::{put_lengths, put_longdata, put_rdata, put_rdatacmp, put_rev};
 use crate::relative::{put_rel, put_relpart, put_relshow, put_relsplit, put_relstrip, put_relwalk};
-use crate::words::{
-    Alone, Beside, Joined, Message, Owned, Paired, Placed, Ranged, find_alone, find_beside,
-    find_joined, find_message, find_owned, find_paired, find_placed, find_ranged,
-};
+use crate::serials::{put_add, put_serial};
+use crate::text::{put_labeltext, put_reltext, put_reltextroom, put_text, put_textroom};
+use crate::words::*;
 
-/// Answers a line, and sees that no field is left.
-pub fn respond(line: &[u8], out: &mut Answer) -> Result<(), Fail> {
-    let mut fields = Fields::new(line);
-    let word = fields.next().ok_or(Fail::Bad)?;
-    if !respond_bare(word, out) && !respond_numbered(word, &mut fields, out)? {
-        let octets = fields.octets(out.alloc())?;
-        respond_to(word, octets.as_slice(), &mut fields, out)?;
-    }
-    match fields.next() {
-        None => Ok(()),
-        Some(_) => Err(Fail::Bad),
-    }
-}
-
-/// A word with nothing behind it.
-fn respond_bare(word: &[u8], out: &mut Answer) -> bool {
-    if word == b"root".as_slice() {
-        put_root(out);
-    } else if word == b"empty".as_slice() {
-        put_empty(out);
-    } else if word == b"wildcard".as_slice() {
-        put_wildcard(out);
+/// Answers a line.
+pub fn respond(line: &[u8], out: &mut Answer) {
+    let fields = Fields::new(line);
+    if let Some(call) = find_bare(fields.at(0)) {
+        fields.expect(1, out);
+        respond_bare(call, out);
+    } else if let Some(call) = find_told(fields.at(0)) {
+        respond_told(call, fields, out);
     } else {
-        return false;
+        respond_to(fields, out);
     }
-    true
-}
-
-/// A word, a number of bits, and a number.
-fn respond_numbered(word: &[u8], fields: &mut Fields<'_>, out: &mut Answer) -> Result<bool, Fail> {
-    if word == b"signed".as_slice() {
-        let bits = fields.number()?;
-        put_signed(out, bits, fields.next().ok_or(Fail::Bad)?);
-    } else if word == b"unsigned".as_slice() {
-        let bits = fields.number()?;
-        put_unsigned(out, bits, fields.next().ok_or(Fail::Bad)?);
-    } else {
-        return Ok(false);
-    }
-    Ok(true)
 }
 
 /// A word with octets behind it.
-fn respond_to(
-    word: &[u8],
-    octets: &[u8],
-    fields: &mut Fields<'_>,
-    out: &mut Answer,
-) -> Result<(), Fail> {
+fn respond_to(fields: Fields<'_>, out: &mut Answer) {
+    let word = fields.at(0);
+    let octets = fields.octets(1, out);
     if let Some(call) = find_alone(word) {
-        respond_alone(call, octets, out);
+        fields.expect(2, out);
+        respond_alone(call, octets.as_slice(), out);
     } else if let Some(call) = find_owned(word) {
-        respond_owned(call, octets, out);
-    } else if let Some(call) = find_placed(word) {
-        respond_placed(call, octets, fields.number()?, out);
-    } else if let Some(call) = find_message(word) {
-        let place = fields.number()?;
-        respond_message(call, octets, place, fields.number_or(octets.len())?, out);
-    } else if let Some(call) = find_ranged(word) {
-        let begin = fields.number()?;
-        respond_ranged(call, octets, begin, fields.number()?, out);
+        fields.expect(2, out);
+        respond_owned(call, octets.as_slice(), out);
+    } else if let Some(call) = find_spelled(word) {
+        fields.expect(2, out);
+        respond_spelled(call, octets.as_slice(), out);
     } else {
-        return respond_to_more(word, octets, fields, out);
+        respond_to_more(fields, octets.as_slice(), out);
     }
-    Ok(())
+}
+
+/// A word with octets behind it, and then numbers.
+fn respond_to_more(fields: Fields<'_>, octets: &[u8], out: &mut Answer) {
+    let word = fields.at(0);
+    if let Some(call) = find_placed(word) {
+        fields.expect(3, out);
+        let place = fields.number(2, out);
+        respond_placed(call, octets, place, out);
+    } else if let Some(call) = find_message(word) {
+        respond_at(call, fields, octets, out);
+    } else if let Some(call) = find_ranged(word) {
+        fields.expect(4, out);
+        let begin = fields.number(2, out);
+        let end = fields.number(3, out);
+        respond_ranged(call, octets, begin, end, out);
+    } else {
+        respond_to_others(fields, octets, out);
+    }
+}
+
+/// A message, a place, and maybe an end.
+fn respond_at(call: Message, fields: Fields<'_>, octets: &[u8], out: &mut Answer) {
+    let place = fields.number(2, out);
+    if fields.count() == 3 {
+        respond_message(call, octets, place, octets.len(), out);
+    } else {
+        fields.expect(4, out);
+        let end = fields.number(3, out);
+        respond_message(call, octets, place, end, out);
+    }
 }
 
 /// A word with octets behind it, and more octets.
-fn respond_to_more(
-    word: &[u8],
-    octets: &[u8],
-    fields: &mut Fields<'_>,
-    out: &mut Answer,
-) -> Result<(), Fail> {
+fn respond_to_others(fields: Fields<'_>, octets: &[u8], out: &mut Answer) {
+    let word = fields.at(0);
     if let Some(call) = find_paired(word) {
-        let others = fields.octets(out.alloc())?;
+        fields.expect(3, out);
+        let others = fields.octets(2, out);
         respond_paired(call, octets, others.as_slice(), out);
-    } else if let Some(call) = find_joined(word) {
-        let second = fields.octets(out.alloc())?;
-        let third = fields.octets(out.alloc())?;
-        respond_joined(call, octets, second.as_slice(), third.as_slice(), out);
     } else if let Some(call) = find_beside(word) {
-        let place = fields.number()?;
-        let others = fields.octets(out.alloc())?;
+        fields.expect(4, out);
+        let place = fields.number(2, out);
+        let others = fields.octets(3, out);
         respond_beside(call, octets, place, others.as_slice(), out);
     } else {
-        return respond_to_many(word, octets, fields, out);
+        respond_to_three(fields, octets, out);
     }
-    Ok(())
+}
+
+/// A word with three runs of octets behind it.
+fn respond_to_three(fields: Fields<'_>, octets: &[u8], out: &mut Answer) {
+    let word = fields.at(0);
+    if let Some(call) = find_joined(word) {
+        fields.expect(4, out);
+        let second = fields.octets(2, out);
+        let third = fields.octets(3, out);
+        respond_joined(call, octets, second.as_slice(), third.as_slice(), out);
+    } else {
+        respond_to_many(fields, octets, out);
+    }
 }
 
 /// The words with more fields than others.
-fn respond_to_many(
-    word: &[u8],
-    octets: &[u8],
-    fields: &mut Fields<'_>,
-    out: &mut Answer,
-) -> Result<(), Fail> {
-    if word == b"parser".as_slice() {
-        let begin = fields.number()?;
-        let end = fields.number()?;
-        put_calls(out, octets, begin, end, fields.next().ok_or(Fail::Bad)?);
-    } else if word == b"pchain".as_slice() {
-        let place = fields.number()?;
-        let left = fields.octets(out.alloc())?;
-        let right = fields.octets(out.alloc())?;
+fn respond_to_many(fields: Fields<'_>, octets: &[u8], out: &mut Answer) {
+    let place = fields.number(2, out);
+    fields.expect(5, out);
+    if fields.at(0) == b"parser".as_slice() {
+        let end = fields.number(3, out);
+        put_calls(out, octets, place, end, fields.at(4));
+    } else if fields.at(0) == b"pchain".as_slice() {
+        let left = fields.octets(3, out);
+        let right = fields.octets(4, out);
         put_pchain(out, octets, place, left.as_slice(), right.as_slice());
     } else {
-        return Err(Fail::Bad);
+        out.fail(Fail::Bad);
     }
-    Ok(())
+}
+
+fn respond_bare(call: Bare, out: &mut Answer) {
+    match call {
+        Bare::Root => put_root(out),
+        Bare::Empty => put_empty(out),
+        Bare::Wildcard => put_wildcard(out),
+        Bare::Errors => put_errors(out),
+    }
+}
+
+fn respond_told(call: Told, fields: Fields<'_>, out: &mut Answer) {
+    let first = fields.at(1);
+    let second = fields.at(2);
+    match call {
+        Told::Signed => {
+            let bits = fields.number(1, out);
+            put_signed(out, bits, second);
+        }
+        Told::Unsigned => {
+            let bits = fields.number(1, out);
+            put_unsigned(out, bits, second);
+        }
+        Told::Buildcap => {
+            let room = fields.number(1, out);
+            put_buildcap(out, room, second);
+        }
+        Told::Serial => put_serial(out, first, second),
+        Told::Add => put_add(out, first, second),
+        Told::Build => put_build(out, first),
+        Told::Compress => put_compressed(out, first),
+        Told::Longdata => {
+            let len = fields.number(1, out);
+            put_longdata(out, len);
+        }
+        Told::Lengths => put_lengths(out, first),
+    }
+    match call {
+        Told::Build | Told::Compress | Told::Longdata | Told::Lengths => fields.expect(2, out),
+        _ => fields.expect(3, out),
+    }
 }
 
 fn respond_alone(call: Alone, octets: &[u8], out: &mut Answer) {
@@ -164,13 +200,23 @@ fn respond_owned(call: Owned, octets: &[u8], out: &mut Answer) {
         Owned::Forms => put_flat_forms(out, octets),
         Owned::Lentforms => put_lent_forms(out, octets),
         Owned::Relforms => put_relative_flat_forms(out, octets),
-        Owned::Lentrelforms => put_lent_relative_forms(out, octets),
         Owned::Keep => put_keep(out, octets),
         Owned::Relkeep => put_relkeep(out, octets),
         Owned::Rooted => put_rooted(out, octets),
         Owned::From => put_from(out, octets),
         Owned::Whole => put_whole(out, octets),
         Owned::Address => put_address(out, octets),
+    }
+}
+
+fn respond_spelled(call: Spelled, octets: &[u8], out: &mut Answer) {
+    match call {
+        Spelled::Text => put_text(out, octets),
+        Spelled::Reltext => put_reltext(out, octets),
+        Spelled::Labeltext => put_labeltext(out, octets),
+        Spelled::Rev => put_rev(out, octets),
+        Spelled::Rdata => put_rdata(out, octets),
+        Spelled::Absolute => put_absolute(out, octets),
     }
 }
 
@@ -184,8 +230,9 @@ fn respond_placed(call: Placed, octets: &[u8], place: usize, out: &mut Answer) {
         Placed::Arrays => put_arrays(out, octets, place),
         Placed::Truncate => put_truncate(out, octets, place),
         Placed::Pforms => put_parsed_forms(out, octets, place),
-        Placed::Lentpforms => put_lent_parsed_forms(out, octets, place),
         Placed::Fromflat => put_fromflat(out, octets, place),
+        Placed::Textroom => put_textroom(out, octets, place),
+        Placed::Reltextroom => put_reltextroom(out, octets, place),
     }
 }
 
@@ -219,6 +266,7 @@ fn respond_paired(call: Paired, a: &[u8], b: &[u8], out: &mut Answer) {
         Paired::Ends => put_ends(out, a, b),
         Paired::Append => put_append(out, a, b),
         Paired::Composevec => put_composevec(out, a, b),
+        Paired::Rdatacmp => put_rdatacmp(out, a, b),
     }
 }
 

@@ -1,40 +1,67 @@
 //! The fields of a line.
 
+use crate::answer::Answer;
 use crate::fail::Fail;
 use std::alloc::Global;
 
-/// What is left of a line, whose fields stand with one space between.
+/// The first six fields of a line, which stand with one space between, and how many there are.
 #[derive(Clone, Copy)]
 pub struct Fields<'a> {
-    rest: Option<&'a [u8]>,
+    fields: [&'a [u8]; 6],
+    count: usize,
 }
 
 impl<'a> Fields<'a> {
     pub fn new(line: &'a [u8]) -> Fields<'a> {
-        Fields { rest: Some(line) }
+        let mut fields: [&'a [u8]; 6] = [b""; 6];
+        let mut count: usize = 0;
+        for field in line.split(|octet| *octet == b' ') {
+            if let Some(place) = fields.get_mut(count) {
+                *place = field;
+            }
+            count = count.saturating_add(1);
+        }
+        Fields { fields, count }
     }
 
-    pub fn next(&mut self) -> Option<&'a [u8]> {
-        let (field, rest) = split_once(self.rest?, b' ');
-        self.rest = rest;
-        Some(field)
+    pub fn count(&self) -> usize {
+        self.count
     }
 
-    /// Octets in hexadecimal digits, a minus sign for none.
-    pub fn octets(&mut self, alloc: Global) -> Result<Vec<u8>, Fail> {
-        octets_of(self.next().ok_or(Fail::Bad)?, alloc)
+    /// Notes that the line is malformed where it hasn't so many fields.
+    pub fn expect(&self, count: usize, out: &mut Answer) {
+        if self.count != count {
+            out.fail(Fail::Bad);
+        }
     }
 
-    /// A decimal number.
-    pub fn number(&mut self) -> Result<usize, Fail> {
-        decimal(self.next().ok_or(Fail::Bad)?)
+    /// The field at a place, nothing where there is none. The word is at 0.
+    pub fn at(&self, place: usize) -> &'a [u8] {
+        match self.fields.get(place) {
+            Some(field) => *field,
+            None => b"",
+        }
     }
 
-    /// A decimal number, or the one that is given where no field is left.
-    pub fn number_or(&mut self, other: usize) -> Result<usize, Fail> {
-        match self.next() {
-            None => Ok(other),
-            Some(field) => decimal(field),
+    /// Octets in hexadecimal digits, a minus sign for none. Where the field has no such, that is noted.
+    pub fn octets(&self, place: usize, out: &mut Answer) -> Vec<u8> {
+        match octets_of(self.at(place), out.alloc()) {
+            Ok(octets) => octets,
+            Err(fail) => {
+                out.fail(fail);
+                Vec::new(out.alloc())
+            }
+        }
+    }
+
+    /// A decimal number. Where the field is none, that is noted.
+    pub fn number(&self, place: usize, out: &mut Answer) -> usize {
+        match decimal(self.at(place)) {
+            Ok(number) => number,
+            Err(fail) => {
+                out.fail(fail);
+                0
+            }
         }
     }
 }

@@ -313,14 +313,18 @@ pub fn put_name_error(out: &mut Answer, error: NameError) {
     out.put_text_behind(b" ", error);
 }
 
-pub fn put_relative_name_error(out: &mut Answer, error: RelativeNameError) {
-    match error.kind() {
+pub fn put_relative_kind(out: &mut Answer, kind: RelativeNameErrorKind) {
+    match kind {
         RelativeNameErrorKind::BadLabel(kind) => put_label_type(out, kind),
         RelativeNameErrorKind::CompressedName => out.put(b"CompressedName"),
         RelativeNameErrorKind::ShortInput => out.put(b"ShortInput"),
         RelativeNameErrorKind::LongName => out.put(b"LongName"),
         RelativeNameErrorKind::AbsoluteName => out.put(b"AbsoluteName"),
     }
+}
+
+pub fn put_relative_name_error(out: &mut Answer, error: RelativeNameError) {
+    put_relative_kind(out, error.kind());
     out.put_text_behind(b" ", error);
     out.agree(RelativeNameError::from(error.kind()) == error, b"from");
 }

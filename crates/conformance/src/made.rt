@@ -136,14 +136,6 @@ pub fn put_parsed_forms(out: &mut Answer, message: &[u8], place: usize) {
     }
 }
 
-/// `lentpforms MSG PLACE`: those of a reference to the name.
-pub fn put_lent_parsed_forms(out: &mut Answer, message: &[u8], place: usize) {
-    match name_at(message, place) {
-        Some(name) => put_forms(out, &&name),
-        None => out.fail(Fail::Bad),
-    }
-}
-
 /// The forms of a chain that ends in an absolute name.
 pub fn put_chain_forms(out: &mut Answer, left: RelativeName<&[u8]>, right: Name<&[u8]>) {
     match left.chain(right) {
@@ -242,14 +234,6 @@ fn put_relative_appended<'a, N: RelativeLabels<'a>>(out: &mut Answer, name: &'a 
 pub fn put_relative_flat_forms(out: &mut Answer, octets: &[u8]) {
     match RelativeName::from_slice(octets) {
         Ok(name) => put_relative_forms(out, &name),
-        Err(_) => out.fail(Fail::Bad),
-    }
-}
-
-/// `lentrelforms NAME`: those of a reference to the name.
-pub fn put_lent_relative_forms(out: &mut Answer, octets: &[u8]) {
-    match RelativeName::from_slice(octets) {
-        Ok(name) => put_relative_forms(out, &&name),
         Err(_) => out.fail(Fail::Bad),
     }
 }

@@ -6,9 +6,12 @@
 
 mod address;
 mod answer;
+mod building;
 mod chains;
 mod command;
 mod compare;
+mod compress;
+mod errors;
 mod fail;
 mod fields;
 mod flat;
@@ -19,7 +22,10 @@ mod message;
 mod numbers;
 mod octets;
 mod parser;
+mod records;
 mod relative;
+mod serials;
+mod text;
 mod words;
 
 use crate::answer::Answer;
@@ -38,8 +44,8 @@ fn answer_all(alloc: Global, input: &[u8], out: &mut Vec<u8>) -> Result<(), Allo
         answer.clear();
         if is_heading(line) {
             answer.put(line);
-        } else if let Err(fail) = respond(line, &mut answer) {
-            answer.fail(fail);
+        } else {
+            respond(line, &mut answer);
         }
         answer.end_line(out)?;
     }

@@ -23,6 +23,7 @@ enum Step {
     Buffer(usize),
     Seek(usize),
     Advance(usize),
+    Parser(usize),
 }
 
 fn is(word: &[u8], known: &[u8]) -> bool {
@@ -78,6 +79,9 @@ fn numbered_call(word: &[u8], number: usize) -> Option<Step> {
     if is(word, b"advance") {
         return Some(Step::Advance(number));
     }
+    if is(word, b"parser") {
+        return Some(Step::Parser(number));
+    }
     None
 }
 
@@ -123,6 +127,7 @@ fn put_call(out: &mut Answer, parser: &mut Parser<'_>, call: Step) {
         Step::Buffer(n) => put_buffer(out, parser, n),
         Step::Seek(n) => put_done(out, parser.seek(n)),
         Step::Advance(n) => put_done(out, parser.advance(n)),
+        Step::Parser(n) => put_parser(out, parser.parse_parser(n)),
     }
 }
 
@@ -143,6 +148,17 @@ fn put_octets(out: &mut Answer, octets: Result<&[u8], ShortInput>) {
 fn put_done(out: &mut Answer, done: Result<(), ShortInput>) {
     match done {
         Ok(()) => out.put(b"ok"),
+        Err(error) => out.put_text(error),
+    }
+}
+
+/// A parser's place, and the octets that are left in it.
+fn put_parser(out: &mut Answer, parser: Result<Parser<'_>, ShortInput>) {
+    match parser {
+        Ok(parser) => {
+            out.put_number(parser.pos());
+            out.put_hex_behind(b":", parser.peek_all());
+        }
         Err(error) => out.put_text(error),
     }
 }

@@ -1,5 +1,28 @@
 //! The words of the calls, by what stands behind them.
 
+/// Nothing
+#[derive(Clone, Copy)]
+pub enum Bare {
+    Root,
+    Empty,
+    Wildcard,
+    Errors,
+}
+
+/// Fields that are no octets
+#[derive(Clone, Copy)]
+pub enum Told {
+    Signed,
+    Unsigned,
+    Build,
+    Buildcap,
+    Serial,
+    Add,
+    Longdata,
+    Lengths,
+    Compress,
+}
+
 /// `OCTETS`
 #[derive(Clone, Copy)]
 pub enum Alone {
@@ -23,13 +46,23 @@ pub enum Owned {
     Forms,
     Lentforms,
     Relforms,
-    Lentrelforms,
     Keep,
     Relkeep,
     Rooted,
     From,
     Whole,
     Address,
+}
+
+/// `OCTETS`: texts, addresses, record data, and names made of relative ones
+#[derive(Clone, Copy)]
+pub enum Spelled {
+    Text,
+    Reltext,
+    Labeltext,
+    Rev,
+    Rdata,
+    Absolute,
 }
 
 /// `OCTETS NUMBER`
@@ -43,8 +76,9 @@ pub enum Placed {
     Arrays,
     Truncate,
     Pforms,
-    Lentpforms,
     Fromflat,
+    Textroom,
+    Reltextroom,
 }
 
 /// `OCTETS PLACE`, and an end
@@ -78,6 +112,7 @@ pub enum Paired {
     Ends,
     Append,
     Composevec,
+    Rdatacmp,
 }
 
 /// `OCTETS OCTETS OCTETS`
@@ -99,6 +134,53 @@ pub enum Beside {
 
 fn is(word: &[u8], known: &[u8]) -> bool {
     word == known
+}
+
+pub fn find_bare(word: &[u8]) -> Option<Bare> {
+    if is(word, b"root") {
+        return Some(Bare::Root);
+    }
+    if is(word, b"empty") {
+        return Some(Bare::Empty);
+    }
+    if is(word, b"wildcard") {
+        return Some(Bare::Wildcard);
+    }
+    if is(word, b"errors") {
+        return Some(Bare::Errors);
+    }
+    None
+}
+
+pub fn find_told(word: &[u8]) -> Option<Told> {
+    if is(word, b"signed") {
+        return Some(Told::Signed);
+    }
+    if is(word, b"unsigned") {
+        return Some(Told::Unsigned);
+    }
+    if is(word, b"build") {
+        return Some(Told::Build);
+    }
+    if is(word, b"buildcap") {
+        return Some(Told::Buildcap);
+    }
+    if is(word, b"serial") {
+        return Some(Told::Serial);
+    }
+    if is(word, b"add") {
+        return Some(Told::Add);
+    }
+    if is(word, b"longdata") {
+        return Some(Told::Longdata);
+    }
+    if is(word, b"lengths") {
+        return Some(Told::Lengths);
+    }
+    if is(word, b"compress") {
+        return Some(Told::Compress);
+    }
+    None
 }
 
 pub fn find_alone(word: &[u8]) -> Option<Alone> {
@@ -151,9 +233,6 @@ pub fn find_owned(word: &[u8]) -> Option<Owned> {
     if is(word, b"relforms") {
         return Some(Owned::Relforms);
     }
-    if is(word, b"lentrelforms") {
-        return Some(Owned::Lentrelforms);
-    }
     if is(word, b"keep") {
         return Some(Owned::Keep);
     }
@@ -171,6 +250,28 @@ pub fn find_owned(word: &[u8]) -> Option<Owned> {
     }
     if is(word, b"address") {
         return Some(Owned::Address);
+    }
+    None
+}
+
+pub fn find_spelled(word: &[u8]) -> Option<Spelled> {
+    if is(word, b"text") {
+        return Some(Spelled::Text);
+    }
+    if is(word, b"reltext") {
+        return Some(Spelled::Reltext);
+    }
+    if is(word, b"labeltext") {
+        return Some(Spelled::Labeltext);
+    }
+    if is(word, b"rev") {
+        return Some(Spelled::Rev);
+    }
+    if is(word, b"rdata") {
+        return Some(Spelled::Rdata);
+    }
+    if is(word, b"absolute") {
+        return Some(Spelled::Absolute);
     }
     None
 }
@@ -200,11 +301,14 @@ pub fn find_placed(word: &[u8]) -> Option<Placed> {
     if is(word, b"pforms") {
         return Some(Placed::Pforms);
     }
-    if is(word, b"lentpforms") {
-        return Some(Placed::Lentpforms);
-    }
     if is(word, b"fromflat") {
         return Some(Placed::Fromflat);
+    }
+    if is(word, b"textroom") {
+        return Some(Placed::Textroom);
+    }
+    if is(word, b"reltextroom") {
+        return Some(Placed::Reltextroom);
     }
     None
 }
@@ -271,6 +375,9 @@ pub fn find_paired(word: &[u8]) -> Option<Paired> {
     }
     if is(word, b"composevec") {
         return Some(Paired::Composevec);
+    }
+    if is(word, b"rdatacmp") {
+        return Some(Paired::Rdatacmp);
     }
     None
 }

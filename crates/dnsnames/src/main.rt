@@ -1,5 +1,6 @@
-//! Shows domain names of messages: `dnsnames at PLACE` reads a message from standard input and prints the
-//! name that stands at PLACE.
+//! Shows domain names: `dnsnames at PLACE` reads a message from standard input and prints the name that
+//! stands at PLACE, `dnsnames list` prints a line for each of its questions and records, and `dnsnames text
+//! NAME` prints the wire form of a name.
 #![tactic(auto)]
 
 mod words;

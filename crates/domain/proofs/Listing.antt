@@ -6,10 +6,10 @@ use Rattle.std.specs.Io.KnownBytes.{Appends, Keeps}
 use Rattle.std.specs.Prelude.{Err}
 use Rattle.domain.specs.Engines.{IfRefused}
 use Rattle.domain.specs.declared.tool.ToolError.{ToolError}
-use Rattle.domain.specs.declared.tool.ToolError.TheVariants.{Parse, Read, Write, Memory}
+use Rattle.domain.specs.declared.tool.ToolError.TheVariants.{Parse, Text, Read, Write, Memory}
 use Rattle.domain_wire.specs.declared.error.ParseError.{ParseError}
 use Rattle.domain.specs.declared.section.Section.{Section}
-use Rattle.domain.specs.Lines.{IsLineOf, Lists, NoEntry, StopsAtEntry, StopsListing, counted_entries}
+use Rattle.domain.specs.Lines.{Lists, NoEntry, StopsListing, counted_entries}
 use Rattle.domain.specs.Lines.StopsListing.{no_entry}
 use Rattle.domain.specs.Written.{WritesEntry, WritesEntries, WritesUpTo}
 
@@ -96,6 +96,7 @@ writes_up_to m seen s b n p q old mid new (Parse why) written few same missing k
   written = writes_kept m (replicate b s) p q old mid new written kept;
   missing = subst (λ o. NoEntry o s q why) same missing;
 }
+writes_up_to m seen s b n p q old mid new (Text e) written few same missing kept = absurd missing
 writes_up_to m seen s b n p q old mid new Read written few same missing kept = tt
 writes_up_to m seen s b n p q old mid new Write written few same missing kept = tt
 writes_up_to m seen s b n p q old mid new Memory written few same missing kept = tt

@@ -1,14 +1,12 @@
 -- The four sections of a message, one behind the other.
-use Rattle.std.proofs.Common.{◌≡◌, ℕ, ◌≤◌, List, length, [], ◌++◌, Option, refl, sym, ap, subst, ◌∙◌, replicate}
-use Rattle.std.proofs.lemmas.List.{append_assoc, append-nil}
+use Rattle.std.proofs.Common.{◌≡◌, ℕ, ◌≤◌, List, length, ◌++◌, Option, refl, sym, subst, replicate}
 use Rattle.std.specs.Prelude.{Result, Ok, Err, OnOk}
 use Rattle.std.specs.Io.KnownBytes.{Appends}
-use Rattle.domain_wire.specs.declared.error.ParseError.{ParseError}
 use Rattle.domain.specs.declared.list.Counts.{Counts}
 use Rattle.domain.specs.declared.section.Section.{Section}
 use Rattle.domain.specs.declared.section.Section.TheVariants.{Question, Answer, Authority, Additional}
 use Rattle.domain.specs.declared.tool.ToolError.{ToolError}
-use Rattle.domain.specs.declared.tool.ToolError.TheVariants.{Parse, Read, Write, Memory}
+use Rattle.domain.specs.declared.tool.ToolError.TheVariants.{Parse, Text, Read, Write, Memory}
 use Rattle.domain.specs.Counted.{IsCounted}
 use Rattle.domain.specs.Engines.{IfRefused}
 use Rattle.domain.specs.Lines.{IsListing, Lists, StopsListing, counted_entries}
@@ -30,6 +28,7 @@ pub section_stopped : (m seen : List ℕ) (done after : List Section) (s : Secti
 section_stopped m seen done after s n p old mid new (Ok _) same all header before up = tt
 section_stopped m seen done after s n p old mid new (Err (Parse why)) same all header before up =
     stops m done after s n p old mid new why all before (subst (λ o. WritesUpTo o s n p mid new why) same up) header
+section_stopped m seen done after s n p old mid new (Err (Text e)) same all header before up = absurd up
 section_stopped m seen done after s n p old mid new (Err Read) same all header before up = tt
 section_stopped m seen done after s n p old mid new (Err Write) same all header before up = tt
 section_stopped m seen done after s n p old mid new (Err Memory) same all header before up = tt

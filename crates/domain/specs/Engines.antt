@@ -1,6 +1,5 @@
 -- What the engines of the program read and write.
-use Rattle.std.specs.Prelude.{◌≡◌, ℕ, ◌^◌, ◌<◌, ◌≤◌, List, [], ◌∷◌, ◌++◌, length, Option, IfSome, Result, Ok, Err, ⊤, codes}
-use Rattle.std.specs.Str.Parse.{IsNumeral, digits_value}
+use Rattle.std.specs.Prelude.{ℕ, List, [], ◌∷◌, ◌++◌, Option, Some, None, Result, Ok, Err, ⊤, codes}
 use Rattle.std.specs.Io.KnownBytes.{Appends}
 use Rattle.domain_wire.specs.declared.error.ParseError.{ParseError}
 use Rattle.domain_wire.specs.Refusals.{refusal, refusal_text}
@@ -8,7 +7,7 @@ use Rattle.domain_label.specs.Text.{dotted}
 use Rattle.domain_reading.specs.Grammar.{Names}
 pub use Rattle.domain.specs.NameFaults.{NoNameAt}
 use Rattle.domain.specs.declared.tool.ToolError.{ToolError}
-use Rattle.domain.specs.declared.tool.ToolError.TheVariants.{Parse, Read, Write, Memory}
+use Rattle.domain.specs.declared.tool.ToolError.TheVariants.{Parse, Text, Read, Write, Memory}
 
 -- The name at p in m was written, with a final dot and a newline, and nothing else.
 abbrev pub WritesNameAt : List ℕ → ℕ → Option (List ℕ) → Option (List ℕ) → Type 0
@@ -18,14 +17,16 @@ WritesNameAt m p old new = (ls : List (List ℕ)) × Names 255 m p ls × Appends
 abbrev pub OnAnswer : Result (Unit {0}) ToolError → Type 0 → Type 0
 OnAnswer (Ok done) P = P
 OnAnswer (Err (Parse e)) P = P
+OnAnswer (Err (Text e)) P = P
 OnAnswer (Err Read) P = ⊤
 OnAnswer (Err Write) P = ⊤
 OnAnswer (Err Memory) P = ⊤
 
--- The input isn't what is asked for, and P holds of the reason.
+-- The input isn't what is asked for, and P holds of the reason. No text is read here.
 abbrev pub IfRefused : Result (Unit {0}) ToolError → (ParseError → Type 0) → Type 0
 IfRefused (Ok done) P = ⊤
 IfRefused (Err (Parse e)) P = P e
+IfRefused (Err (Text e)) P = ⊥
 IfRefused (Err Read) P = ⊤
 IfRefused (Err Write) P = ⊤
 IfRefused (Err Memory) P = ⊤
@@ -34,24 +35,15 @@ IfRefused (Err Memory) P = ⊤
 abbrev pub OnNoWork : Result (Unit {0}) ToolError → Type 0 → Type 0
 OnNoWork (Ok done) P = ⊤
 OnNoWork (Err (Parse e)) P = P
+OnNoWork (Err (Text e)) P = P
 OnNoWork (Err Read) P = P
 OnNoWork (Err Write) P = ⊤
 OnNoWork (Err Memory) P = ⊤
 
--- The word is the place: one to ten decimal digits, whose number is at most 4,294,967,295.
-pub record TellsPlace (word : List ℕ) (place : ℕ) : Type 0 where
-  pub short : length word ≤ 10
-  pub digits : IsNumeral 10 word
-  pub number : place ≡ digits_value 10 word
-  pub small : place < 2 ^ 32
-
--- The words ask for the name at the place.
-abbrev pub AsksAt : List (List ℕ) → ℕ → Type 0
-AsksAt words place = (word : List ℕ) × (words ≡ codes "at" ∷ word ∷ []) × TellsPlace word place
-
--- what an error shows
-abbrev pub tool_error_text : ToolError → List ℕ
-tool_error_text (Parse e) = refusal_text (refusal e)
-tool_error_text Read = codes "reading failed"
-tool_error_text Write = codes "writing failed"
-tool_error_text Memory = codes "out of memory"
+-- what an error shows; of a text's fault nothing is said
+abbrev pub tool_error_text : ToolError → Option (List ℕ)
+tool_error_text (Parse e) = Some (refusal_text (refusal e))
+tool_error_text (Text e) = None
+tool_error_text Read = Some (codes "reading failed")
+tool_error_text Write = Some (codes "writing failed")
+tool_error_text Memory = Some (codes "out of memory")

@@ -5,7 +5,7 @@ use Rattle.domain_label.specs.Text.{dotted}
 use Rattle.domain_parsed.specs.Views.{parsed_labels}
 use Rattle.domain_rdata.specs.AnyData.{unknown_text}
 use Rattle.domain_rdata.specs.Rtypes.{rtype_number}
-use Rattle.domain_rdata.specs.Unknown.{data_octets, data_type}
+use Rattle.domain_rdata.specs.Unknown.{data_octets}
 use Rattle.domain.specs.Lines.{NameTo, number16, number32, section_word}
 use Rattle.domain.specs.declared.entry.Question.{Question}
 use Rattle.domain.specs.declared.entry.RecordHead.{RecordHead}

@@ -4,3 +4,6 @@ pub mod NameFaults
 pub mod Entries
 pub mod Written
 pub mod Counted
+pub mod WireText
+pub mod Numerals
+pub mod Words

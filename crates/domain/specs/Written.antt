@@ -1,5 +1,5 @@
 -- What was written of a message's lines.
-use Rattle.std.specs.Prelude.{◌≡◌, ℕ, ◌<◌, List, [], ◌∷◌, ◌++◌, replicate, Option}
+use Rattle.std.specs.Prelude.{ℕ, ◌<◌, List, [], ◌∷◌, ◌++◌, replicate, Option}
 use Rattle.std.specs.Io.KnownBytes.{Appends}
 use Rattle.domain_wire.specs.declared.error.ParseError.{ParseError}
 use Rattle.domain.specs.declared.section.Section.{Section}

@@ -15,6 +15,7 @@ pub mod net {
 
 /// Symbols of presentation text.
 pub mod scan {
+    pub use domain_label::laws::scan_laws;
     pub use domain_label::scan::{BadSymbol, Symbol, SymbolCharsError, Symbols};
 }
 
@@ -66,12 +67,18 @@ pub mod laws {
 
 /// Serial numbers.
 pub mod serial {
+    pub use domain_serial::laws::serial_laws;
     pub use domain_serial::{IllegalSignatureTime, Serial};
 }
 
 /// The canonical order of values.
 pub mod cmp {
     pub use domain_wire::cmp::CanonicalOrd;
+}
+
+/// Writing names shorter.
+pub mod compress {
+    pub use domain_compress::{CompressComposer, compress_laws};
 }
 
 /// Record data.

@@ -4,7 +4,7 @@ ghost use Rattle.std.specs.Fmt.{decimal};
 ghost use Rattle.octseq.specs.Parsing.{message, place, MovesTo};
 
 use crate::base::name::{DisplayWithDot, ParsedName};
-use crate::base::rdata::{ParseAnyRecordData, Rtype, UnknownRecordData};
+use crate::base::rdata::{Rtype, UnknownRecordData};
 use crate::base::wire::ParseError;
 use crate::section::Section;
 use octseq::Parser;

@@ -1,36 +1,39 @@
 //! The engine that lists what a message holds.
 ghost use Rattle.std.specs.Prelude.{◌≡◌, ◌<◌, ◌≤◌, ℕ, List, length, replicate, OnOk, OnErr, IfOk, IfErr, IfSome};
-ghost use Rattle.std.specs.Io.KnownBytes.{Appends, Keeps, IsAtEnd};
+ghost use Rattle.std.specs.Io.KnownBytes.{Appends, Keeps, IsAtEnd, append_known};
 ghost use Rattle.octseq.specs.Parsing.{message, place, MovesTo};
 ghost use Rattle.domain.specs.Engines.{IfRefused, OnAnswer, OnNoWork};
 ghost use Rattle.domain.specs.Lines.{IsListing, NoEntry, StopsListing};
 ghost use Rattle.domain.specs.Written.{WritesEntry, WritesEntries, WritesUpTo};
 
 use crate::base::wire::ParseError;
+use crate::buffer::{put_line, write_lines};
 use crate::entry::Entry;
 use crate::section::Section;
-use crate::tool::{ToolError, read_all, write_line};
+use crate::tool::{ToolError, read_all};
 use octseq::{Parser, ShortInput};
 use std::alloc::Global;
 use std::io::{Read, Write};
 
-/// Writes the line of the entry at the parser's place, and moves the parser behind it.
+/// Writes the line of the entry at the parser's place behind the lines that aren't written yet, and moves
+/// the parser behind it.
 fn write_entry<W: Write>(
     section: Section,
     parser: &mut Parser<'_>,
+    lines: &mut Vec<u8>,
     output: &mut W,
 ) -> Result<(), ToolError>
-    ensures written { OnOk result (WritesEntry (message parser.old) section (place parser.old) (place parser.new) (W.contents output.old) (W.contents output.new)) }
+    ensures written { OnOk result (WritesEntry (message parser.old) section (place parser.old) (place parser.new) (append_known (W.contents output.old) lines.old.items) (append_known (W.contents output.new) lines.new.items)) }
     ensures moves { OnOk result (MovesTo parser.old parser.new (place parser.new)) }
     ensures refused { IfRefused result (λ e. NoEntry (message parser.old) section (place parser.old) e) }
-    ensures nothing_written { IfRefused result (λ _. Keeps (W.contents output.old) (W.contents output.new)) }
+    ensures nothing_written { IfRefused result (λ _. Keeps (append_known (W.contents output.old) lines.old.items) (append_known (W.contents output.new) lines.new.items)) }
     ensures err { IfErr result (λ e. (e ≡ ToolError.Read) → ⊥) }
 {
     let entry = match Entry::parse(section, parser) {
         Ok(entry) => entry,
         Err(e) => return Err(ToolError::Parse(e)),
     };
-    write_line(output, entry)?;
+    put_line(lines, output, entry)?;
     Ok(())
 }
 
@@ -39,15 +42,16 @@ fn write_section<W: Write>(
     section: Section,
     count: u16,
     parser: &mut Parser<'_>,
+    lines: &mut Vec<u8>,
     output: &mut W,
 ) -> Result<(), ToolError>
-    ensures written { OnOk result (WritesEntries (message parser.old) (replicate count section) (place parser.old) (place parser.new) (W.contents output.old) (W.contents output.new)) }
+    ensures written { OnOk result (WritesEntries (message parser.old) (replicate count section) (place parser.old) (place parser.new) (append_known (W.contents output.old) lines.old.items) (append_known (W.contents output.new) lines.new.items)) }
     ensures moves { OnOk result (MovesTo parser.old parser.new (place parser.new)) }
-    ensures refused { IfRefused result (λ e. WritesUpTo (message parser.old) section count (place parser.old) (W.contents output.old) (W.contents output.new) e) }
+    ensures refused { IfRefused result (λ e. WritesUpTo (message parser.old) section count (place parser.old) (append_known (W.contents output.old) lines.old.items) (append_known (W.contents output.new) lines.new.items) e) }
     ensures err { IfErr result (λ e. (e ≡ ToolError.Read) → ⊥) }
 {
     for _entry in 0..count {
-        if let Err(e) = write_entry(section, parser, output) {
+        if let Err(e) = write_entry(section, parser, lines, output) {
             return Err(e);
         }
     }
@@ -83,10 +87,14 @@ impl Counts {
     }
 }
 
-/// Writes the lines of the message.
-fn list_message<W: Write>(message: &[u8], output: &mut W) -> Result<(), ToolError>
-    ensures written { OnOk result ((text : List ℕ) × IsListing message.now text × Appends (W.contents output.old) (W.contents output.new) text) }
-    ensures refused { IfRefused result (λ e. (text : List ℕ) × StopsListing message.now text e × Appends (W.contents output.old) (W.contents output.new) text) }
+/// Writes the lines of the message behind the lines that aren't written yet.
+fn list_message<W: Write>(
+    message: &[u8],
+    lines: &mut Vec<u8>,
+    output: &mut W,
+) -> Result<(), ToolError>
+    ensures written { OnOk result ((text : List ℕ) × IsListing message.now text × Appends (append_known (W.contents output.old) lines.old.items) (append_known (W.contents output.new) lines.new.items) text) }
+    ensures refused { IfRefused result (λ e. (text : List ℕ) × StopsListing message.now text e × Appends (append_known (W.contents output.old) lines.old.items) (append_known (W.contents output.new) lines.new.items) text) }
     ensures err { IfErr result (λ e. (e ≡ ToolError.Read) → ⊥) }
 {
     let mut parser = Parser::from_ref(message);
@@ -94,16 +102,34 @@ fn list_message<W: Write>(message: &[u8], output: &mut W) -> Result<(), ToolErro
         Ok(counts) => counts,
         Err(e) => return Err(ToolError::Parse(ParseError::from(e))),
     };
-    if let Err(e) = write_section(Section::Question, counts.questions, &mut parser, output) {
+    if let Err(e) = write_section(
+        Section::Question,
+        counts.questions,
+        &mut parser,
+        lines,
+        output,
+    ) {
         return Err(e);
     }
-    if let Err(e) = write_section(Section::Answer, counts.answers, &mut parser, output) {
+    if let Err(e) = write_section(Section::Answer, counts.answers, &mut parser, lines, output) {
         return Err(e);
     }
-    if let Err(e) = write_section(Section::Authority, counts.authority, &mut parser, output) {
+    if let Err(e) = write_section(
+        Section::Authority,
+        counts.authority,
+        &mut parser,
+        lines,
+        output,
+    ) {
         return Err(e);
     }
-    write_section(Section::Additional, counts.additional, &mut parser, output)
+    write_section(
+        Section::Additional,
+        counts.additional,
+        &mut parser,
+        lines,
+        output,
+    )
 }
 
 /// Reads the input to its end, and writes a line for each question and record of the message.
@@ -125,5 +151,16 @@ pub fn list<R: Read, W: Write>(
     ensures nothing_written { IfErr result (λ e. (e ≡ ToolError.Read) → Keeps (W.contents output.old) (W.contents output.new)) }
 {
     let octets = read_all(alloc, input)?;
-    list_message(octets.as_slice(), output)
+    let mut lines = Vec::new(alloc);
+    match list_message(octets.as_slice(), &mut lines, output) {
+        Ok(()) => {
+            write_lines(&mut lines, output)?;
+            Ok(())
+        }
+        Err(ToolError::Parse(e)) => {
+            write_lines(&mut lines, output)?;
+            Err(ToolError::Parse(e))
+        }
+        Err(e) => Err(e),
+    }
 }

@@ -1,16 +1,18 @@
 //! The engines of the program `dnsnames`, over any reader and writer.
-ghost use Rattle.std.specs.Prelude.{◌≡◌, ◌≤◌, ◌∷◌, ◌++◌, ◌↔◌, [], ℕ, List, map, slice_index, ◌⊎◌, OnOk, IfOk, IfErr, IfSome, IsNone, IsTrue};
+ghost use Rattle.std.specs.Prelude.{◌≡◌, ◌≤◌, ◌∷◌, ◌++◌, ◌↔◌, [], map, ◌⊎◌, OnOk, IfOk, IfErr, IfSome};
 ghost use Rattle.std.specs.Io.KnownBytes.{Appends, Keeps, IsAtEnd};
-ghost use Rattle.domain_label.specs.Text.{dotted};
 ghost use Rattle.domain_reading.specs.Grammar.{Names};
 ghost use Rattle.domain_parsed.specs.Views.{parsed_labels};
-ghost use Rattle.domain.specs.Engines.{AsksAt, IfRefused, NoNameAt, OnAnswer, OnNoWork, TellsPlace, WritesNameAt};
-ghost use Rattle.domain_wire.specs.declared.error.ParseError.{ParseError};
+ghost use Rattle.domain.specs.Engines.{IfRefused, NoNameAt, OnAnswer, OnNoWork, WritesNameAt};
+ghost use Rattle.domain.specs.Words.{Asks, AsksSomething, OnRefusal, Refuses, Writes};
+ghost use Rattle.domain.specs.declared.asked.Asked.{Asked};
 
-use crate::base::name::{DisplayWithDot, ParsedName};
+use crate::asked::Asked;
+use crate::base::name::{DisplayWithDot, FromStrError, ParsedName};
 use crate::base::wire::ParseError;
 use crate::line::line_of;
 pub use crate::list::list;
+pub use crate::text::name_text;
 use octseq::Parser;
 use std::alloc::Global;
 use std::error::Error;
@@ -22,6 +24,8 @@ use std::{fmt, io};
 pub enum ToolError {
     /// The input isn't what is asked for.
     Parse(ParseError),
+    /// The text is that of no name.
+    Text(FromStrError),
     /// The input couldn't be read.
     Read,
     /// The output couldn't be written. How much of it was written isn't known.
@@ -31,14 +35,14 @@ pub enum ToolError {
 }
 
 impl fmt::Display for ToolError {
-    ghost use Rattle.std.specs.Prelude.{Some};
     ghost use Rattle.domain.specs.Engines.{tool_error_text};
 
-    ghost output = { λ e. Some (tool_error_text e) };
+    ghost output = { tool_error_text };
 
     fn fmt<W: fmt::Write>(&self, f: &mut fmt::Formatter<W>) -> fmt::Result {
         match self {
             ToolError::Parse(e) => write!(f, "{e}"),
+            ToolError::Text(e) => write!(f, "{e}"),
             ToolError::Read => write!(f, "reading failed"),
             ToolError::Write => write!(f, "writing failed"),
             ToolError::Memory => write!(f, "out of memory"),
@@ -81,6 +85,15 @@ pub(crate) enum WriteFault {
     Memory,
 }
 
+impl From<io::Error> for WriteFault {
+    fn from(e: io::Error) -> WriteFault {
+        match e.kind() {
+            ErrorKind::OutOfMemory => WriteFault::Memory,
+            _ => WriteFault::Refused,
+        }
+    }
+}
+
 impl From<WriteFault> for ToolError {
     ghost use Rattle.domain.specs.declared.tool.ToolError.TheVariants.{Write as WriteFailed, Memory};
 
@@ -102,15 +115,11 @@ pub(crate) fn write_line<D: fmt::Display + Drop, W: Write>(
 ) -> Result<(), WriteFault>
     ensures { OnOk result (IfSome (D.output text) (λ shown. Appends (W.contents output.old) (W.contents output.new) (shown ++ 10 ∷ []))) }
 {
-    let written = match line_of(&text) {
-        Some(line) => output.write_all(line.as_slice()),
-        None => writeln!(output, "{text}"),
-    };
-    match written {
-        Ok(()) => Ok(()),
-        Err(e) if e.kind() == ErrorKind::OutOfMemory => Err(WriteFault::Memory),
-        Err(_) => Err(WriteFault::Refused),
+    match line_of(&text) {
+        Some(line) => output.write_all(line.as_slice())?,
+        None => writeln!(output, "{text}")?,
     }
+    Ok(())
 }
 
 /// Reads the input to its end, and writes the name at the place, with a final dot and a
@@ -138,67 +147,34 @@ pub fn name_at<R: Read, W: Write>(
     Ok(())
 }
 
-/// The place that a word tells: one to ten decimal digits, at most 4,294,967,295.
-fn place_of(word: &str) -> Option<u32>
-    ensures some { IfSome result (λ place. TellsPlace word.now place) }
-    ensures none { IsNone result → (place : ℕ) → TellsPlace word.now place → ⊥ }
-{
-    let word_octets = word.as_bytes();
-    if word_octets.len() > 10 || begins_with_plus(word_octets) {
-        return None;
-    }
-    word.parse().ok()
-}
-
-/// Whether the first octet is a plus sign, which a number may have before it elsewhere.
-fn begins_with_plus(octets: &[u8]) -> bool
-    ensures { IsTrue result ↔ (slice_index octets.now 0 ≡ 43) }
-{
-    match octets {
-        [first, ..] => *first == b'+',
-        [] => false,
-    }
-}
-
-/// The place whose name the words ask for.
-fn place_asked(words: &[&str]) -> Option<u32>
-    ensures some { IfSome result (λ place. AsksAt (map (λ word. word.now) words.now) place) }
-    ensures none { IsNone result → (place : ℕ) → AsksAt (map (λ word. word.now) words.now) place → ⊥ }
-{
-    match words {
-        ["at", word] => place_of(word),
-        _ => None,
-    }
-}
-
 const USAGE: &str = "usage: dnsnames at PLACE | dnsnames text NAME | dnsnames list";
 
-/// Does the work of `name_at`, and answers the status to end with. The reason is written to `errors`.
-fn at_place<R: Read, W: Write, E: Write>(
+/// Does what is asked for, and flushes the output.
+fn carry_out<R: Read, W: Write>(
     alloc: Global,
-    place: u32,
+    asked: Asked<'_>,
     input: &mut R,
     output: &mut W,
-    errors: &mut E,
-) -> u8
-    ensures status { (result ≤ 1) ⊎ (result ≡ 3) }
-    ensures done { result ≡ 0 → IfSome (R.remaining input.old) (λ m. WritesNameAt m place (W.contents output.old) (W.contents output.new)) }
-    ensures refused { result ≡ 1 → IfSome (R.remaining input.old) (λ m. (e : ParseError) × NoNameAt m place e) }
-    ensures nothing_written { result ≡ 1 → Keeps (W.contents output.old) (W.contents output.new) }
+) -> Result<(), ToolError>
+    ensures done { OnOk result (Writes asked.entry (R.remaining input.old) (W.contents output.old) (W.contents output.new)) }
+    ensures refused { IfErr result (λ e. OnRefusal e (Refuses asked.entry (R.remaining input.old) (W.contents output.old) (W.contents output.new))) }
 {
-    let Err(e) = name_at(alloc, input, output, place) else {
-        return 0;
+    let answer = match asked {
+        Asked::At(place) => name_at(alloc, input, output, place),
+        Asked::Text(text) => name_text(alloc, text, output),
+        Asked::List => list(alloc, input, output),
     };
-    let _ = write_line(errors, e);
-    match e {
-        ToolError::Parse(_) => 1,
-        ToolError::Read | ToolError::Write | ToolError::Memory => 3,
+    match output.flush() {
+        Ok(()) => answer,
+        Err(_) => Err(ToolError::Write),
     }
 }
 
-/// Carries out the words that follow the program's name. The answer is the status to end with: 0 where it
-/// is done, 1 where the input is refused, 2 for other words, 3 where reading, writing or memory failed. The
-/// reason is written to `errors`; that this fails changes no status.
+/// Carries out the words that follow the program's name, and flushes the output. The answer is the status
+/// to end with: 0 where it is done, 1 where the input or the text is refused, 2 for other words, 3 where
+/// reading, writing or memory failed. The reason is written to `errors`; that this fails changes no status.
+///
+/// `at PLACE` is `name_at`, `text NAME` is `name_text`, and `list` is `list`.
 pub fn run<R: Read, W: Write, E: Write>(
     alloc: Global,
     words: &[&str],
@@ -207,17 +183,21 @@ pub fn run<R: Read, W: Write, E: Write>(
     errors: &mut E,
 ) -> u8
     ensures status { result ≤ 3 }
-    ensures done { result ≡ 0 → (place : ℕ) × AsksAt (map (λ word. word.now) words.now) place × IfSome (R.remaining input.old) (λ m. WritesNameAt m place (W.contents output.old) (W.contents output.new)) }
-    ensures refused { result ≡ 1 → (place : ℕ) × AsksAt (map (λ word. word.now) words.now) place × IfSome (R.remaining input.old) (λ m. (e : ParseError) × NoNameAt m place e) }
-    ensures nothing_written { result ≡ 1 → Keeps (W.contents output.old) (W.contents output.new) }
-    ensures usage { result ≡ 2 ↔ ((place : ℕ) → AsksAt (map (λ word. word.now) words.now) place → ⊥) }
+    ensures done { result ≡ 0 → (asked : Asked) × Asks (map (λ word. word.now) words.now) asked × Writes asked (R.remaining input.old) (W.contents output.old) (W.contents output.new) }
+    ensures refused { result ≡ 1 → (asked : Asked) × Asks (map (λ word. word.now) words.now) asked × Refuses asked (R.remaining input.old) (W.contents output.old) (W.contents output.new) }
+    ensures usage { result ≡ 2 ↔ (AsksSomething (map (λ word. word.now) words.now) → ⊥) }
     ensures untouched { result ≡ 2 → (input.new ≡ input.old) × (output.new ≡ output.old) }
 {
-    match place_asked(words) {
-        Some(place) => at_place(alloc, place, input, output, errors),
-        None => {
-            let _ = write_line(errors, USAGE);
-            2
-        }
+    let Some(asked) = Asked::by(words) else {
+        let _ = write_line(errors, USAGE);
+        return 2;
+    };
+    let Err(e) = carry_out(alloc, asked, input, output) else {
+        return 0;
+    };
+    let _ = write_line(errors, e);
+    match e {
+        ToolError::Parse(_) | ToolError::Text(_) => 1,
+        ToolError::Read | ToolError::Write | ToolError::Memory => 3,
     }
 }

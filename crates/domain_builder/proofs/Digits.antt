@@ -1,8 +1,8 @@
 -- Labels of digits.
-use Rattle.std.proofs.Common.{leb, inl, inr, ◌⊎◌, ◌≡◌, ℕ, ◌+◌, ◌/◌, ◌%◌, ◌<◌, ◌≤◌, Bool, true, false, List, [], ◌∷◌, length, Result, Ok, Err, nat_lt, ◌==◌, if◌then◌else◌, refl, sym, ap, ◌∙◌, subst, arith}
+use Rattle.std.proofs.Common.{leb, inl, inr, ◌⊎◌, ◌≡◌, ℕ, ◌+◌, ◌/◌, ◌%◌, ◌<◌, ◌≤◌, true, false, [], ◌∷◌, length, Result, Ok, Err, ◌==◌, refl, ap, arith}
 use Rattle.std.proofs.lemmas.Bool.{lt-ltb, ne_eqb}
 use Rattle.std.proofs.lemmas.Bool.Decides.{leb_tells}
-use Rattle.std.specs.Fmt.{decimal, digits, digits_onto, digit_glyph}
+use Rattle.std.specs.Fmt.{decimal, digits}
 use Rattle.domain_builder.specs.Pushing.{LabelThenName, NameAlone}
 use Rattle.domain_builder.specs.declared.push_error.PushError.{PushError}
 use Rattle.domain_builder.specs.declared.push_error.PushError.TheVariants.{LongLabel, LongName, ShortBuf}

@@ -4,11 +4,13 @@ use Rattle.octseq.specs.Room.{MayLackRoom}
 use Rattle.domain_label.specs.Wire.{wire}
 use Rattle.domain_label.specs.Spelling.{Reads}
 use Rattle.domain_label.proofs.ReadOnce.{read_once}
+use Rattle.domain_builder.specs.Laws.{SpellsOneName, SpellsOneRelative}
 use Rattle.domain_builder.specs.Parts.{parts}
 use Rattle.domain_label.specs.Spelling.{JustOne}
 use Rattle.domain_builder.specs.TextGrammar.{IsNameText, NameFault, IsRelativeText, NoRelative, SpellsName, SpellsNoName, SpellsRelative, SpellsNoRelative}
 use Rattle.domain_builder.specs.Told.{MatchFromStr, MatchRelativeFromStr, NoName, NoRelativeName, presentation_fault, presentation_error_kind}
 use Rattle.domain_builder.specs.declared.part.Fault.{Fault}
+use Rattle.domain_builder.specs.declared.part.Part.{Part}
 use Rattle.domain_builder.specs.declared.error.FromStrError.{FromStrError}
 use Rattle.domain_builder.specs.declared.error.FromStrError.TheVariants.{Presentation, ShortBuf}
 use Rattle.domain_builder.specs.declared.error.RelativeFromStrError.{RelativeFromStrError}
@@ -42,6 +44,31 @@ items_read cs = (read_once cs).1
 pub same_items : (cs : List ℕ) (items : List Item) → Reads cs items → items ≡ items_of cs
 unfolding items_of
 same_items cs items r = (read_once cs).2 items r
+
+-- ---- characters have one outcome where their parts have
+
+Spelled : {A : Type 0} → (List Part → A → Type 0) → List ℕ → A → Type 0
+Spelled P cs a = (items : List Item) × Reads cs items × P (parts items) a
+
+spelled_parts : {A : Type 0} (P : List Part → A → Type 0) (cs : List ℕ) (a : A) → Spelled P cs a → P (parts (items_of cs)) a
+unfolding Spelled
+spelled_parts P cs a s = subst (λ (z : List Item). P (parts z) a) (same_items cs s.0 s.1) s.2
+
+spelled_one : {A : Type 0} (P : List Part → A → Type 0) (cs : List ℕ) → JustOne (P (parts (items_of cs))) → JustOne (Spelled P cs)
+unfolding Spelled
+spelled_one P cs h = (h.0, (items_of cs, items_read cs, h.1), λ b s. h.2 b (spelled_parts P cs b s))
+
+one_spelled : {A B : Type 0} (P : List Part → A → Type 0) (Q : List Part → B → Type 0) (cs : List ℕ) → ((JustOne (P (parts (items_of cs))) × ((b : B) → Q (parts (items_of cs)) b → ⊥)) ⊎ (JustOne (Q (parts (items_of cs))) × ((a : A) → P (parts (items_of cs)) a → ⊥))) → ((JustOne (Spelled P cs) × ((b : B) → Spelled Q cs b → ⊥)) ⊎ (JustOne (Spelled Q cs) × ((a : A) → Spelled P cs a → ⊥)))
+one_spelled P Q cs (inl h) = inl (spelled_one P cs h.0, λ b s. h.1 b (spelled_parts Q cs b s))
+one_spelled P Q cs (inr h) = inr (spelled_one Q cs h.0, λ a s. h.1 a (spelled_parts P cs a s))
+
+pub spells_one_name : (cs : List ℕ) → SpellsOneName cs
+unfolding Spelled
+spells_one_name cs = one_spelled IsNameText NameFault cs (one_name (parts (items_of cs)))
+
+pub spells_one_relative : (cs : List ℕ) → SpellsOneRelative cs
+unfolding Spelled
+spells_one_relative cs = one_spelled IsRelativeText NoRelative cs (one_relative (parts (items_of cs)))
 
 -- ---- absolute names
 

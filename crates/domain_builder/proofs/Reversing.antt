@@ -1,5 +1,5 @@
 -- Labels of the octets of an address, from the last.
-use Rattle.std.proofs.Common.{true, ◌%◌, ◌/◌, append_assoc, ◌≡◌, ℕ, suc, ◌+◌, ◌-◌, ◌*◌, ◌<◌, ◌≤◌, List, [], ◌∷◌, ◌++◌, length, drop, map, reverse, get_or, drop-cons, add-one, refl, ap, sym, ◌∙◌, subst, arith}
+use Rattle.std.proofs.Common.{true, ◌%◌, ◌/◌, append_assoc, ◌≡◌, ℕ, ◌+◌, ◌-◌, ◌*◌, ◌<◌, ◌≤◌, List, [], ◌∷◌, ◌++◌, length, drop, map, reverse, get_or, drop-cons, add-one, ap, sym, ◌∙◌, arith}
 use Rattle.std.specs.List.{flat_map}
 use Rattle.std.specs.Fmt.{decimal, digit_glyph}
 use Rattle.std.proofs.lemmas.List.{reverse-append}

@@ -1,9 +1,9 @@
--- The text that a name shows is read as that name.
+-- The texts that a name shows are read as that name.
 use Rattle.std.proofs.Common.{◌≡◌, ◌≢◌, ℕ, ◌+◌, ◌/◌, ◌%◌, ◌<◌, ◌==◌, inl, inr, List, [], ◌∷◌, ◌++◌, Ok, Err, Bool, true, false, cond, nat_lt, ◌||◌, refl, ap, sym, ◌∙◌, subst, arith, append_assoc, append-nil}
 use Rattle.std.specs.List.{AllByRecursion, flat_map}
 use Rattle.std.proofs.lemmas.Bool.{eqb-true, eqb-false, ltb-false, ne_eqb, le-leb}
 use Rattle.domain_label.specs.Wire.{IsLabel, IsAbsolute, IsRelative, IsAbsoluteName, IsRelativeName, Root}
-use Rattle.domain_label.specs.Text.{spell_octet, spell, with_dot, or_dot, dotted, dot_before, text}
+use Rattle.domain_label.specs.Text.{spell_octet, spell, with_dot, or_dot, dotted, dot_before, shown, text}
 use Rattle.domain_label.specs.declared.symbol.Symbol.{Symbol}
 use Rattle.domain_label.specs.declared.symbol.Symbol.TheVariants.{Char, SimpleEscape, DecimalEscape}
 use Rattle.domain_label.specs.Spelling.{spelling, HasSpelling, IsPrintable, IsNoDigit, Reads}
@@ -192,3 +192,52 @@ joins ((c ∷ l) ∷ m ∷ ls) a b =
 
 pub text_spells : (ls : List (List ℕ)) → IsRelativeName ls → AreBytes ls → SpellsRelative (text ls) ls
 text_spells ls n b = let j = joins ls n.0 b in (j.items, j.reads, (j.joined, n.1))
+
+-- ---- labels joined by dots, without the root
+record Front (ls : List (List ℕ)) : Type 0 where
+  labels : List (List ℕ)
+  all : ls ≡ labels ++ Root
+  relative : IsRelative labels
+  bytes : AreBytes labels
+  dots : flat_map dot_before ls ≡ flat_map dot_before labels
+  joined : text ls ≡ text labels
+
+front : (ls : List (List ℕ)) → IsAbsolute ls → AreBytes ls → Front ls
+front [] a b = absurd a
+front ([] ∷ ls) a b = record {
+  labels = [];
+  all = ap (λ (x : List (List ℕ)). [] ∷ x) a;
+  relative = tt;
+  bytes = tt;
+  dots = ap (flat_map dot_before) a;
+  joined = ap (flat_map dot_before) a;
+}
+front ((c ∷ l) ∷ ls) a b =
+    let f = front ls a.1 b.1 in
+    record {
+      labels = (c ∷ l) ∷ f.labels;
+      all = ap (λ (x : List (List ℕ)). (c ∷ l) ∷ x) f.all;
+      relative = (a.0, f.relative);
+      bytes = (b.0, f.bytes);
+      dots = ap (λ (x : List ℕ). dot_before (c ∷ l) ++ x) f.dots;
+      joined = ap (λ (x : List ℕ). spell (c ∷ l) ++ x) f.dots;
+    }
+
+some_parts : (k : List ℕ) (ks : List (List ℕ)) → Joined [] (k ∷ ks) → ⊥
+some_parts k [] h = h.start
+some_parts k (m ∷ ks) h = no_dot h.0 h.1 h.3
+
+pub shown_spells : (ls : List (List ℕ)) → IsAbsoluteName ls → AreBytes ls → SpellsName (shown ls) ls
+shown_spells ls n b = at f.labels f.all f.joined (joins f.labels f.relative f.bytes)
+  where
+    f : Front ls
+    f = front ls n.0 b
+
+    some : (k : List ℕ) (ks : List (List ℕ)) (items : List Item) (cs : List ℕ) → ls ≡ (k ∷ ks) ++ Root → Reads cs items → Joined (parts items) (k ∷ ks) → SpellsName (or_dot cs) ls
+    some k ks [] cs e r g = absurd (some_parts k ks g)
+    some k ks (i ∷ items) [] e r g = absurd (no_items i items r)
+    some k ks (i ∷ items) (c ∷ cs) e r g = (i ∷ items, r, inr (k ∷ ks, record { some = omega arith; text = parts (i ∷ items); joined = g; dot = inl refl }, e, n.1))
+
+    at : (ks : List (List ℕ)) → ls ≡ ks ++ Root → text ls ≡ text ks → Joins ks → SpellsName (shown ls) ls
+    at [] e t j = subst (λ (x : List ℕ). SpellsName (or_dot x) ls) (sym t) (Ok (Char 46) ∷ [], dot_reads [] [] refl, inl (refl, e))
+    at (k ∷ ks) e t j = subst (λ (x : List ℕ). SpellsName (or_dot x) ls) (sym t) (some k ks j.items (text (k ∷ ks)) e j.reads j.joined)

@@ -1,5 +1,5 @@
 -- What a name builder has built, and what parts of a text make of it.
-use Rattle.std.specs.Prelude.{◌≡◌, ℕ, ◌<◌, nat_lt, List, [], ◌∷◌, ◌++◌, length, Option, None, Some, if◌then◌else◌}
+use Rattle.std.specs.Prelude.{◌≡◌, ◌≢◌, ℕ, ◌<◌, nat_lt, List, [], ◌∷◌, ◌++◌, length, Option, None, Some, if◌then◌else◌}
 use Rattle.domain_label.specs.Wire.{wire}
 use Rattle.domain_builder.specs.declared.part.Fault.{Fault}
 use Rattle.domain_builder.specs.declared.part.Fault.TheVariants.{BinaryLabel, LongLabel, EmptyLabel, LongName}
@@ -91,7 +91,8 @@ pub record StopsAt (b : Built) (ps : List Part) (new : Built) (f : Fault) : Type
   pub made : Makes b before new
   pub refused : refusal new part ≡ Some f
 
--- Parts in turn, and one that isn't refused and for which the room, so many octets, is too small.
+-- Parts in turn, and one that isn't refused and for which the room, so many octets, is too small. It is an
+-- octet: a dot takes no room.
 pub record LacksRoom (room : ℕ) (b : Built) (ps : List Part) (new : Built) : Type 0 where
   pub before : List Part
   pub part : Part
@@ -99,4 +100,5 @@ pub record LacksRoom (room : ℕ) (b : Built) (ps : List Part) (new : Built) : T
   pub parts : ps ≡ before ++ part ∷ rest
   pub made : Makes b before new
   pub taken : refusal new part ≡ None
+  pub octet : part ≢ Dot
   pub full : room < size (after new part)

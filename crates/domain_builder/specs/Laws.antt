@@ -1,11 +1,11 @@
 -- Laws of the texts of names.
-use Rattle.std.specs.Prelude.{◌≡◌, ◌<◌, ◌≤◌, ◌⊎◌, ◌↔◌, ℕ, List, Option}
+use Rattle.std.specs.Prelude.{◌<◌, ◌≤◌, ◌⊎◌, ◌↔◌, ℕ, List, Option}
 use Rattle.std.specs.List.{AllByRecursion}
-use Rattle.domain_label.specs.Text.{dotted, text}
+use Rattle.domain_label.specs.Text.{dotted, shown, text}
 use Rattle.domain_label.specs.Wire.{IsAbsoluteName, IsRelativeName}
 use Rattle.domain_label.specs.Spelling.{JustOne}
 use Rattle.domain_builder.specs.Built.{Built, nothing, size, Makes, StopsAt}
-use Rattle.domain_builder.specs.TextGrammar.{Begins, FirstFault, IsNameText, NameFault, IsRelativeText, NoRelative, SpellsName, SpellsRelative}
+use Rattle.domain_builder.specs.TextGrammar.{Begins, FirstFault, IsNameText, NameFault, IsRelativeText, NoRelative, SpellsName, SpellsNoName, SpellsRelative, SpellsNoRelative}
 use Rattle.domain_builder.specs.declared.part.Fault.{Fault}
 use Rattle.domain_builder.specs.declared.part.Part.{Part}
 
@@ -20,6 +20,18 @@ OneRelative ps =
     (JustOne (IsRelativeText ps) × ((why : Option Fault) → NoRelative ps why → ⊥))
     ⊎ (JustOne (NoRelative ps) × ((ls : List (List ℕ)) → IsRelativeText ps ls → ⊥))
 
+-- The same of characters: they are the text of one name and have no fault, or have one fault and are the
+-- text of no name.
+abbrev pub SpellsOneName : List ℕ → Type 0
+SpellsOneName cs =
+    (JustOne (SpellsName cs) × ((f : Fault) → SpellsNoName cs f → ⊥))
+    ⊎ (JustOne (SpellsNoName cs) × ((ls : List (List ℕ)) → SpellsName cs ls → ⊥))
+
+abbrev pub SpellsOneRelative : List ℕ → Type 0
+SpellsOneRelative cs =
+    (JustOne (SpellsRelative cs) × ((why : Option Fault) → SpellsNoRelative cs why → ⊥))
+    ⊎ (JustOne (SpellsNoRelative cs) × ((ls : List (List ℕ)) → SpellsRelative cs ls → ⊥))
+
 -- Parts one after another make of nothing what a text that begins with them has, and stop where it has
 -- its first fault.
 abbrev pub AppendsByGrammar : List Part → Type 0
@@ -31,6 +43,9 @@ AppendsByGrammar ps =
 abbrev pub AreBytes : List (List ℕ) → Type 0
 AreBytes = AllByRecursion (AllByRecursion (λ c. c < 256))
 
--- The text that a name shows, a dot behind each label or between two, is read as that name.
+-- The texts that a name shows, a dot behind each label or between two, are read as that name.
 abbrev pub ReadsShown : List (List ℕ) → Type 0
-ReadsShown ls = AreBytes ls → (IsAbsoluteName ls → SpellsName (dotted ls) ls) × (IsRelativeName ls → SpellsRelative (text ls) ls)
+ReadsShown ls =
+    AreBytes ls →
+    (IsAbsoluteName ls → SpellsName (dotted ls) ls × SpellsName (shown ls) ls)
+    × (IsRelativeName ls → SpellsRelative (text ls) ls)

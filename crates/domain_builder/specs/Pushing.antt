@@ -1,11 +1,12 @@
 -- When a builder refuses octets.
-use Rattle.std.specs.Prelude.{◌≡◌, ℕ, ◌<◌, ◌≤◌, Some, None, Result, Ok, Err, MatchResult, List}
+use Rattle.std.specs.Prelude.{◌≡◌, ◌≢◌, ℕ, ◌<◌, ◌≤◌, Some, None, Result, Ok, Err, MatchResult, List}
 use Rattle.domain_builder.specs.Built.{Built, size, refusal, after, Makes, StopsAt, LacksRoom}
 use Rattle.domain_builder.specs.Told.{MatchFromStr}
 use Rattle.domain_builder.specs.declared.error.FromStrError.{FromStrError}
 use Rattle.domain_builder.specs.declared.error.FromStrError.TheVariants as short
 use Rattle.domain_builder.specs.declared.part.Fault.TheVariants as fault
 use Rattle.domain_builder.specs.declared.part.Part.{Part}
+use Rattle.domain_builder.specs.declared.part.Part.TheVariants.{Dot}
 use Rattle.domain_builder.specs.declared.push_error.PushNameError.{PushNameError}
 use Rattle.domain_builder.specs.declared.push_error.PushNameError.TheVariants as name
 use Rattle.domain_builder.specs.declared.push_error.PushError.{PushError}
@@ -35,11 +36,12 @@ abbrev pub NameAlone : (whole room : ℕ) → Result (Unit {0}) PushError → Ty
 NameAlone whole room r =
     MatchResult r (λ _. whole ≤ 254) (λ e. MatchPushError e ⊥ (254 < whole) ((whole ≤ 254) × (room < whole)))
 
--- A part of a text is taken, or nothing changes: it is refused, or else what it makes doesn't fit.
+-- A part of a text is taken, or nothing changes: it is refused, or else what it makes doesn't fit. A dot
+-- takes no room.
 abbrev pub TakesPart : (room : ℕ) → Built → Part → Result (Unit {0}) FromStrError → Built → Type 0
 TakesPart room b p r new =
     MatchResult r (λ _. (refusal b p ≡ None) × (new ≡ after b p))
-    (λ e. (new ≡ b) × MatchFromStr e (λ f. refusal b p ≡ Some f) ((refusal b p ≡ None) × (room < size (after b p))))
+    (λ e. (new ≡ b) × MatchFromStr e (λ f. refusal b p ≡ Some f) ((refusal b p ≡ None) × (p ≢ Dot) × (room < size (after b p))))
 
 -- Parts are taken in turn, up to the first that is refused or doesn't fit. What those before it made stays.
 abbrev pub TakesParts : (room : ℕ) → Built → List Part → Result (Unit {0}) FromStrError → Built → Type 0

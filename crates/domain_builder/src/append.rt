@@ -48,8 +48,9 @@ impl<B: OctetsBuilder + OctetsMut> LabelsBuilder<B> {
 
     /// Ends the open label at a plain dot, and pushes the octet of any other symbol.
     ///
-    /// `EmptyLabel` at a dot where no label is open, `BinaryLabel` at `\[` there, `BadSymbol` at a character
-    /// that stands for no octet; else the refusals of `push`. A refused call changes nothing.
+    /// `EmptyLabel` at a dot where no label is open, and a dot elsewhere is never refused; `BinaryLabel` at
+    /// `\[` where none is open; `BadSymbol` at a character that stands for no octet; else the refusals of
+    /// `push`. A refused call changes nothing.
     pub fn push_symbol(&mut self, symbol: Symbol) -> Result<(), FromStrError>
         ensures takes { TakesPart (room B.limit self.old) self.old.built (symbol_part symbol) result self.new.built }
         ensures capacity { self.old.capacity ≤ self.new.capacity }

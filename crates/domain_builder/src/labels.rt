@@ -86,7 +86,9 @@ impl<B: OctetsBuilder + OctetsMut> LabelsBuilder<B> {
     pub fn as_slice(&self) -> &[u8]
         ensures octets { result.now ≡ shown self.now.built }
         ensures len { length result.now ≤ 254 }
+        ensures within { IfSome B.limit (λ n. length result.now ≤ n) }
     {
+        self.builder.keep_limit();
         self.builder.as_slice()
     }
 
@@ -95,6 +97,7 @@ impl<B: OctetsBuilder + OctetsMut> LabelsBuilder<B> {
     pub fn len(&self) -> usize
         ensures size { result ≡ size self.now.built }
         ensures short { result ≤ 254 }
+        ensures within { IfSome B.limit (λ n. result ≤ n) }
     {
         self.as_slice().len()
     }

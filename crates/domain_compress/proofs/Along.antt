@@ -1,15 +1,15 @@
 -- Comparing a name with the one that is read at a place, label by label.
-use Rattle.std.proofs.Common.{◌≡◌, ℕ, suc, ◌+◌, ◌-◌, ◌≤◌, ◌<◌, ◌⊎◌, List, [], ◌∷◌, ◌++◌, length, drop, take, drop-drop, refl, sym, ap, subst, ◌∙◌, arith, slice_index, slice_range, add-one, length-append}
+use Rattle.std.proofs.Common.{◌≡◌, ℕ, ◌+◌, ◌-◌, ◌≤◌, ◌<◌, ◌⊎◌, List, [], ◌∷◌, ◌++◌, length, drop, take, drop-drop, refl, sym, ap, subst, ◌∙◌, arith, slice_index, slice_range, add-one, length-append}
 use Rattle.std.proofs.lemmas.List.{length-map, map-append}
 use Rattle.std.proofs.Math.Seq.{take-append_seam}
 use Rattle.domain_label.specs.Wire.{wire, Root, labels_in, IsAbsolute, IsAbsoluteWire}
 use Rattle.domain_label.specs.Low.{low, low_all}
-use Rattle.domain_label.proofs.WireLaws.{absolute_wire, length-wire_append}
-use Rattle.domain_flat.proofs.Lowered.{low_size}
+use Rattle.domain_label.proofs.WireLaws.{absolute_wire}
+use Rattle.domain_label.proofs.Lowered.{low_size}
 use Rattle.domain_flat.proofs.Seams.{Meets, meets_start, meets_drop, meets_labels, meets_next, read_at}
 use Rattle.domain_reading.specs.Grammar.{OctetAt, LabelAt, PointerAt, Reads}
 use Rattle.domain_reading.specs.Grammar.Reads.{root}
-use Rattle.domain_reading.specs.Faults.{Walk, start, past_label, past_pointer, FaultAt}
+use Rattle.domain_reading.specs.Faults.{Walk, start, past_label, past_pointer}
 use Rattle.domain_reading.specs.Heads.{BrokenAt}
 use Rattle.domain_reading.specs.declared.fault.NameFault.{NameFault}
 use Rattle.domain_reading.specs.declared.fault.NameFault.TheVariants.{TooManyPointers}
@@ -17,10 +17,12 @@ use Rattle.domain_reading.proofs.Going.{broken_fault}
 use Rattle.domain_reading.proofs.Reading.{reads_once, behind_label}
 use Rattle.domain_reading.proofs.Walking.{walk_reads, walk_rest, names_or_fault}
 use Rattle.domain_rdata.specs.ReadBack.{StandsAt}
+use Rattle.domain_compress.specs.Ends.{first_label}
 use Rattle.domain_compress.specs.Written.{StandsThrough}
 use Rattle.domain_compress.proofs.Searching.{Ahead, ahead_of, size_some, one_cut}
 
--- A walk from p has passed labels that equal the first ones of the name, and stands at at; in the name that is at passed.
+-- A walk from p has passed labels that equal the first ones of the name, and stands at at; in the name that is
+-- at passed.
 pub record Along (t : List ℕ) (p : ℕ) (name : List ℕ) (at passed pointers : ℕ) : Type 0 where
   pub walked : List (List ℕ)
   pub before : List (List ℕ)
@@ -48,13 +50,7 @@ ahead_along {passed = passed} name w a =
     let b = size_some a.behind a.absolute in
     ahead_of name passed a.before a.behind w a.meets a.absolute b.0 b.1 b.2
 
--- The first label; none where there is no label.
-pub first_label : List (List ℕ) → List ℕ
-first_label [] = []
-first_label (l ∷ ls) = l
-
 low_first : (ls : List (List ℕ)) → first_label (low_all ls) ≡ low (first_label ls)
-unfolding first_label
 low_first [] = refl
 low_first (l ∷ ls) = refl
 
@@ -66,7 +62,6 @@ same_length a b e = sym (length-map a _) ∙ (ap length e ∙ length-map b _)
 
 -- The head and the octets of the first label that is left in the name.
 pub name_head : (name : List ℕ) (passed : ℕ) (before behind : List (List ℕ)) → Meets name passed before behind → IsAbsolute behind → slice_index name passed ≡ length (first_label behind)
-unfolding first_label
 name_head name passed before [] m a = absurd a
 name_head name passed before (y ∷ ys) m a = read_at name passed before y ys m
 
@@ -77,7 +72,6 @@ label_octets name passed y before ys m =
     ap (λ n. take n (drop (passed + 1) name)) k ∙ (ap (take (length y)) (sym (drop-drop 1 passed name)) ∙ (ap (λ o. take (length y) (drop 1 o)) d ∙ take-append_seam y (wire ys)))
 
 name_label : (name : List ℕ) (passed : ℕ) (before behind : List (List ℕ)) → Meets name passed before behind → IsAbsolute behind → slice_range name (passed + 1) (passed + 1 + length (first_label behind)) ≡ first_label behind
-unfolding first_label
 name_label name passed before [] m a = absurd a
 name_label name passed before (y ∷ ys) m a = label_octets name passed y before ys m
 
@@ -111,14 +105,12 @@ not_back {at = at} {pointers = pointers} {q} name a x why s =
 
 -- A root stands there, and the name has a label.
 pub not_root : {t : List ℕ} {p at passed pointers : ℕ} (name : List ℕ) → Along t p name at passed pointers → OctetAt t at 0 → (slice_index name passed ≡ 0 → ⊥) → StandsAt t p (labels_in name) → ⊥
-unfolding first_label
 not_root {passed = passed} name a x some s =
     let r = rest_there name a s in
     let none : first_label r.rest ≡ [] = ap first_label (reads_once r.reads (root x)).1 in
     some (name_head name passed a.before a.behind a.meets a.absolute ∙ (sym (same_length _ _ (same_first r.rest a.behind r.same)) ∙ ap length none))
 
 there_first : {t : List ℕ} {p at passed pointers : ℕ} {l : List ℕ} (name : List ℕ) → (a : Along t p name at passed pointers) → LabelAt t at l → StandsAt t p (labels_in name) → low l ≡ low (first_label a.behind)
-unfolding first_label
 there_first {l = l} name a x s =
     let r = rest_there name a s in
     let first : first_label r.rest ≡ l = ap first_label (behind_label x r.reads).list in
@@ -150,7 +142,6 @@ not_same name n a x head size differs s =
     differs (ap low two.there ∙ (there_first name a x.2 s ∙ ap low (sym two.here)))
 
 step_label : {t : List ℕ} {p at passed pointers : ℕ} {l : List ℕ} (name : List ℕ) (walked before behind : List (List ℕ)) → Walk 255 t p pointers walked at → Meets name passed before behind → IsAbsolute behind → low_all walked ≡ low_all before → pointers ≤ 255 → IsAbsoluteWire name → LabelAt t at l → low l ≡ low (first_label behind) → Along t p name (at + 1 + length l) (passed + 1 + length l) pointers
-unfolding first_label
 step_label name walked before [] walk m a same few w x e = absurd a
 step_label {l = l} name walked before ([] ∷ ys) walk m a same few w x e = absurd (omega (arith, x.nonempty, same_length l [] e))
 step_label {t} {p} {at} {passed} {pointers} {l} name walked before ((c ∷ y) ∷ ys) walk m a same few w x e =
@@ -193,7 +184,6 @@ along_pointer name a x lt few = record {
 }
 
 root_left : (behind : List (List ℕ)) → IsAbsolute behind → length (first_label behind) ≡ 0 → behind ≡ Root
-unfolding first_label
 root_left [] a h = absurd a
 root_left ([] ∷ ls) a h = ap (λ xs. [] ∷ xs) a
 root_left ((c ∷ l) ∷ ls) a h = absurd (omega (arith, h))
@@ -210,7 +200,7 @@ along_all {t} {p} {passed = passed} {pointers} name a x zero =
       few = a.few;
     }
 
-pub stands_so : {t : List ℕ} {p k : ℕ} (name : List ℕ) → IsAbsoluteWire name → StandsThrough t p (labels_in name) k → StandsAt t p (labels_in name)
-stands_so {k = k} name w s =
-    let size : length (wire s.labels) ≡ length (wire (labels_in name)) = sym (low_size s.labels) ∙ (ap (λ z. length (wire z)) s.same ∙ low_size (labels_in name)) in
-    (s.labels, record { pointers = k; reads = s.reads; few_pointers = s.few; short = omega (arith, size, w.1.1) }, s.same)
+pub stands_so : {t : List ℕ} {p k : ℕ} (ls : List (List ℕ)) → length (wire ls) ≤ 255 → StandsThrough t p ls k → StandsAt t p ls
+stands_so {k = k} ls short s =
+    let size : length (wire s.labels) ≡ length (wire ls) = sym (low_size s.labels) ∙ (ap (λ z. length (wire z)) s.same ∙ low_size ls) in
+    (s.labels, record { pointers = k; reads = s.reads; few_pointers = s.few; short = omega (arith, size, short) }, s.same)

@@ -3,3 +3,6 @@ pub mod Pointing
 pub mod Searching
 pub mod Remembering
 pub mod Composing
+pub mod Marking
+pub mod Bettering
+pub mod Once

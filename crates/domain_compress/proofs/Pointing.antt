@@ -1,9 +1,9 @@
 -- A pointer behind labels is read as what it leads to, and whether that is a name.
-use Rattle.std.proofs.Common.{◌≡◌, ℕ, suc, ◌+◌, ◌≤◌, ◌<◌, List, [], ◌∷◌, ◌++◌, length, sym, ap, subst, ◌∙◌, arith, length-append}
+use Rattle.std.proofs.Common.{◌≡◌, ℕ, suc, ◌+◌, ◌<◌, List, [], ◌∷◌, ◌++◌, length, sym, ap, subst, ◌∙◌, arith}
 use Rattle.std.proofs.lemmas.List.{map-append}
 use Rattle.domain_label.specs.Wire.{wire, IsRelative, IsAbsoluteName}
 use Rattle.domain_label.specs.Low.{low, low_all}
-use Rattle.domain_flat.proofs.Lowered.{low_size}
+use Rattle.domain_label.proofs.Lowered.{low_size}
 use Rattle.domain_reading.specs.Grammar.{Flat, Reads}
 use Rattle.domain_reading.specs.Grammar.Reads.{root, label, pointer}
 use Rattle.domain_reading.proofs.Reading.{reads_once, reads_more}

@@ -6,20 +6,19 @@ use Rattle.std.proofs.Math.Seq.{drop-append_seam}
 use Rattle.domain_label.specs.Wire.{wire, labels_in, IsAbsolute, IsAbsoluteWire}
 use Rattle.domain_label.proofs.WireLaws.{labels_in_wire, wire_absolute, absolute_wire}
 use Rattle.domain_flat.proofs.Seams.{Meets, meets_start, meets_take, meets_drop, meets_labels, meets_next, read_at}
-use Rattle.domain_compress.specs.Compressing.{Place, NoPlace, FirstPlace, NoEnd}
-use Rattle.domain_compress.specs.declared.written.StandingEnd.{StandingEnd}
-use Rattle.domain_compress.specs.Written.{EndFound, StandsThrough}
+use Rattle.domain_compress.specs.Ends.{first_label}
+use Rattle.domain_compress.specs.Written.{StandsThrough, EndAt}
 
--- Up to the place at, no end of the name stands anywhere.
-pub record Searched (t : List ℕ) (ws : List Place) (name : List ℕ) (at : ℕ) : Type 0 where
+-- Up to the place at, each end of the name has the property.
+pub record Passed (P : List (List ℕ) → Type 0) (name : List ℕ) (at : ℕ) : Type 0 where
   pub before : List (List ℕ)
   pub behind : List (List ℕ)
   pub meets : Meets name at before behind
   pub absolute : IsAbsolute behind
-  pub earlier : (xs ys : List (List ℕ)) → labels_in name ≡ xs ++ ys → length xs < length before → NoPlace t ws ys
+  pub earlier : (xs ys : List (List ℕ)) → labels_in name ≡ xs ++ ys → length xs < length before → P ys
 
-pub searched_start : (t : List ℕ) (ws : List Place) (name : List ℕ) → IsAbsoluteWire name → Searched t ws name 0
-searched_start t ws name w = record {
+pub passed_start : (P : List (List ℕ) → Type 0) (name : List ℕ) → IsAbsoluteWire name → Passed P name 0
+passed_start P name w = record {
   before = [];
   behind = labels_in name;
   meets = meets_start name (absolute_wire w);
@@ -61,8 +60,8 @@ ahead_of name at xs ys w m a l rest e =
       head_fits = omega (arith, n, h);
     }
 
-pub ahead : (t : List ℕ) (ws : List Place) (name : List ℕ) (at : ℕ) → IsAbsoluteWire name → (s : Searched t ws name at) → Ahead name at s.behind
-ahead t ws name at w s =
+pub ahead : {P : List (List ℕ) → Type 0} (name : List ℕ) (at : ℕ) → IsAbsoluteWire name → (s : Passed P name at) → Ahead name at s.behind
+ahead name at w s =
     let b = size_some s.behind s.absolute in
     ahead_of name at s.before s.behind w s.meets s.absolute b.0 b.1 b.2
 
@@ -70,69 +69,91 @@ ahead t ws name at w s =
 pub one_cut : (xs ys zs bs : List (List ℕ)) → xs ++ ys ≡ zs ++ bs → length xs ≡ length zs → ys ≡ bs
 one_cut xs ys zs bs e n = sym (drop-append_seam xs ys) ∙ (ap (drop (length xs)) e ∙ (ap (λ k. drop k (zs ++ bs)) n ∙ drop-append_seam zs bs))
 
-more_earlier : (t : List ℕ) (ws : List Place) (name : List ℕ) (before : List (List ℕ)) (l : List ℕ) (rest : List (List ℕ)) → labels_in name ≡ before ++ l ∷ rest → ((xs ys : List (List ℕ)) → labels_in name ≡ xs ++ ys → length xs < length before → NoPlace t ws ys) → NoPlace t ws (l ∷ rest) → (xs ys : List (List ℕ)) → labels_in name ≡ xs ++ ys → length xs < length (before ++ l ∷ []) → NoPlace t ws ys
-more_earlier t ws name before l rest whole earlier none xs ys e h =
+-- What begins earlier has fewer labels before it, and the other way round.
+tail_of : {x y : List ℕ} {xs ys : List (List ℕ)} → x ∷ xs ≡ y ∷ ys → xs ≡ ys
+tail_of e = ap (drop 1) e
+
+head_size : {x y : List ℕ} {xs ys : List (List ℕ)} → x ∷ xs ≡ y ∷ ys → length x ≡ length y
+head_size e = ap (λ zs. length (first_label zs)) e
+
+pub fewer : (xs zs ys bs : List (List ℕ)) → xs ++ ys ≡ zs ++ bs → length (wire xs) < length (wire zs) → length xs < length zs
+fewer xs [] ys bs e lt = absurd (omega (arith, lt))
+fewer [] (z ∷ zs) ys bs e lt = omega arith
+fewer (x ∷ xs) (z ∷ zs) ys bs e lt =
+    omega (arith, fewer xs zs ys bs (tail_of e) (omega (arith, lt, head_size e, length-append x (wire xs), length-append z (wire zs))))
+
+pub shorter : (xs zs ys bs : List (List ℕ)) → xs ++ ys ≡ zs ++ bs → length xs < length zs → length (wire xs) < length (wire zs)
+shorter xs [] ys bs e lt = absurd (omega (arith, lt))
+shorter [] (z ∷ zs) ys bs e lt = omega arith
+shorter (x ∷ xs) (z ∷ zs) ys bs e lt =
+    omega (arith, shorter xs zs ys bs (tail_of e) (omega (arith, lt)), head_size e, length-append x (wire xs), length-append z (wire zs))
+
+more_earlier : (P : List (List ℕ) → Type 0) (name : List ℕ) (before : List (List ℕ)) (l : List ℕ) (rest : List (List ℕ)) → labels_in name ≡ before ++ l ∷ rest → ((xs ys : List (List ℕ)) → labels_in name ≡ xs ++ ys → length xs < length before → P ys) → P (l ∷ rest) → (xs ys : List (List ℕ)) → labels_in name ≡ xs ++ ys → length xs < length (before ++ l ∷ []) → P ys
+more_earlier P name before l rest whole earlier here xs ys e h =
     elim (cases_lt (length xs) (length before)) [
       | inl lt ↦ earlier xs ys e lt
       | inr le ↦ (
           let same : length before ≡ length xs = omega (arith, h, le, length-append before (l ∷ [])) in
-          let P : List (List ℕ) → Type 0 = λ b. NoPlace t ws b in
-          subst P (one_cut before (l ∷ rest) xs ys (sym whole ∙ e) same) none)
+          subst P (one_cut before (l ∷ rest) xs ys (sym whole ∙ e) same) here)
     ]
 
-next_of : (t : List ℕ) (ws : List Place) (name : List ℕ) (at : ℕ) (before behind : List (List ℕ)) → Meets name at before behind → IsAbsolute behind → ((xs ys : List (List ℕ)) → labels_in name ≡ xs ++ ys → length xs < length before → NoPlace t ws ys) → NoPlace t ws behind → (slice_index name at ≡ 0 → ⊥) → Searched t ws name (at + 1 + slice_index name at)
-next_of t ws name at before [] m a earlier none some = absurd a
-next_of t ws name at before ([] ∷ rest) m a earlier none some = absurd (some (read_at name at before [] rest m))
-next_of t ws name at before ((c ∷ l) ∷ rest) m a earlier none some =
+next_of : (P : List (List ℕ) → Type 0) (name : List ℕ) (at : ℕ) (before behind : List (List ℕ)) → Meets name at before behind → IsAbsolute behind → ((xs ys : List (List ℕ)) → labels_in name ≡ xs ++ ys → length xs < length before → P ys) → P behind → (slice_index name at ≡ 0 → ⊥) → Passed P name (at + 1 + slice_index name at)
+next_of P name at before [] m a earlier here some = absurd a
+next_of P name at before ([] ∷ rest) m a earlier here some = absurd (some (read_at name at before [] rest m))
+next_of P name at before ((c ∷ l) ∷ rest) m a earlier here some =
     let h = read_at name at before (c ∷ l) rest m in
-    let P : ℕ → Type 0 = λ k. Searched t ws name (at + 1 + k) in
-    subst P (sym h) (record {
+    let Q : ℕ → Type 0 = λ k. Passed P name (at + 1 + k) in
+    subst Q (sym h) (record {
       before = before ++ (c ∷ l) ∷ [];
       behind = rest;
       meets = meets_next name at before (c ∷ l) rest m;
       absolute = a.1;
-      earlier = more_earlier t ws name before (c ∷ l) rest (meets_labels name at before ((c ∷ l) ∷ rest) m) earlier none;
+      earlier = more_earlier P name before (c ∷ l) rest (meets_labels name at before ((c ∷ l) ∷ rest) m) earlier here;
     })
 
-pub searched_next : (t : List ℕ) (ws : List Place) (name : List ℕ) (at : ℕ) → IsAbsoluteWire name → Searched t ws name at → NoPlace t ws (labels_in (drop at name)) → (slice_index name at ≡ 0 → ⊥) → Searched t ws name (at + 1 + slice_index name at)
-searched_next t ws name at w s none some =
-    let P : List (List ℕ) → Type 0 = λ b. NoPlace t ws b in
-    next_of t ws name at s.before s.behind s.meets s.absolute s.earlier (subst P (ahead t ws name at w s).spelled none) some
+-- Each label more, the property may become a weaker one.
+pub passed_more : {P Q : List (List ℕ) → Type 0} (name : List ℕ) (at : ℕ) → ((ys : List (List ℕ)) → P ys → Q ys) → (s : Passed P name at) → Q s.behind → (slice_index name at ≡ 0 → ⊥) → Passed Q name (at + 1 + slice_index name at)
+passed_more {P} {Q} name at weaker s here some =
+    next_of Q name at s.before s.behind s.meets s.absolute (λ xs ys e h. weaker ys (s.earlier xs ys e h)) here some
+
+pub passed_next : {P : List (List ℕ) → Type 0} (name : List ℕ) (at : ℕ) → (s : Passed P name at) → P s.behind → (slice_index name at ≡ 0 → ⊥) → Passed P name (at + 1 + slice_index name at)
+passed_next {P} name at s here some = passed_more {P = P} {Q = P} name at (λ ys p. p) s here some
 
 root_left : (name : List ℕ) (at : ℕ) (before behind : List (List ℕ)) → Meets name at before behind → IsAbsolute behind → slice_index name at ≡ 0 → length behind ≡ 1
 root_left name at before [] m a zero = absurd a
 root_left name at before ([] ∷ rest) m a zero = ap (λ r. length ([] ∷ r)) a
 root_left name at before ((c ∷ l) ∷ rest) m a zero = absurd (omega (arith, zero, read_at name at before (c ∷ l) rest m))
 
-pub searched_all : (t : List ℕ) (ws : List Place) (name : List ℕ) (at : ℕ) → Searched t ws name at → slice_index name at ≡ 0 → NoEnd t ws (labels_in name)
-searched_all t ws name at s zero xs ys e more =
+-- Each end but the root has the property.
+pub passed_all : {P : List (List ℕ) → Type 0} (name : List ℕ) (at : ℕ) → Passed P name at → slice_index name at ≡ 0 → (xs ys : List (List ℕ)) → labels_in name ≡ xs ++ ys → 1 < length ys → P ys
+passed_all name at s zero xs ys e more =
     let one = root_left name at s.before s.behind s.meets s.absolute zero in
     let whole = meets_labels name at s.before s.behind s.meets in
     s.earlier xs ys e (omega (arith, more, one, ap length (sym whole ∙ e), length-append s.before s.behind, length-append xs ys))
 
-more_left : (name : List ℕ) (at : ℕ) (before behind : List (List ℕ)) → Meets name at before behind → IsAbsolute behind → (slice_index name at ≡ 0 → ⊥) → (1 < length behind) × (at + 2 ≤ length name)
+-- Each end that begins before the place has it.
+pub passed_upto : {P : List (List ℕ) → Type 0} (name : List ℕ) (at upto : ℕ) → Passed P name at → upto ≤ at → (xs ys : List (List ℕ)) → labels_in name ≡ xs ++ ys → length (wire xs) < upto → P ys
+passed_upto name at upto s le xs ys e lt =
+    s.earlier xs ys e (fewer xs s.before ys s.behind (sym e ∙ meets_labels name at s.before s.behind s.meets) (omega (arith, le, lt, s.meets.at)))
+
+pub more_left : (name : List ℕ) (at : ℕ) (before behind : List (List ℕ)) → Meets name at before behind → IsAbsolute behind → (slice_index name at ≡ 0 → ⊥) → (1 < length behind) × (at + 2 ≤ length name)
 more_left name at before [] m a some = absurd a
 more_left name at before ([] ∷ rest) m a some = absurd (some (read_at name at before [] rest m))
 more_left name at before ((c ∷ l) ∷ []) m a some = absurd a.1
 more_left name at before ((c ∷ l) ∷ r ∷ rest) m a some = (omega arith, omega (arith, meets_length name at before ((c ∷ l) ∷ r ∷ rest) m, length-append l (wire (r ∷ rest))))
 
-pub searched_found : (t : List ℕ) (ws : List Place) (name : List ℕ) (end : StandingEnd) → IsAbsoluteWire name → Searched t ws name end.begin → (slice_index name end.begin ≡ 0 → ⊥) → FirstPlace t ws (labels_in (drop end.begin name)) end.place → StandsThrough t end.place (labels_in (drop end.begin name)) end.pointers → end.place < 16384 → EndFound t ws name end
-searched_found t ws name end w s some first through low =
-    let more = more_left name end.begin s.before s.behind s.meets s.absolute some in
-    let P : List (List ℕ) → Type 0 = λ b. FirstPlace t ws b end.place in
-    let Q : List (List ℕ) → Type 0 = λ b. StandsThrough t end.place b end.pointers in
-    let e = (ahead t ws name end.begin w s).spelled in
+-- An end of the name that stands at a place.
+pub end_stands : {P : List (List ℕ) → Type 0} (t name : List ℕ) (p at k upto : ℕ) → IsAbsoluteWire name → (s : Passed P name at) → at < upto → (slice_index name at ≡ 0 → ⊥) → StandsThrough t p (labels_in (drop at name)) k → EndAt t p name upto at k
+end_stands t name p at k upto w s lt some through =
+    let more = more_left name at s.before s.behind s.meets s.absolute some in
+    let Q : List (List ℕ) → Type 0 = λ b. StandsThrough t p b k in
     record {
       before = s.before;
       behind = s.behind;
-      longest = record {
-        parts = meets_labels name end.begin s.before s.behind s.meets;
-        more = more.0;
-        place = subst P e first;
-        longest = s.earlier;
-      };
-      through = subst Q e through;
-      octets = meets_take name end.begin s.before s.behind s.meets;
-      low = low;
+      parts = meets_labels name at s.before s.behind s.meets;
+      more = more.0;
+      through = subst Q (ahead name at w s).spelled through;
+      octets = meets_take name at s.before s.behind s.meets;
       inside = more.1;
+      earlier = lt;
     }

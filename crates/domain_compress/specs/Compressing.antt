@@ -44,7 +44,8 @@ pub data Compresses (t : List ℕ) (ws : List Place) (ls : List (List ℕ)) : Li
   flat : NoEnd t ws ls → Compresses t ws ls ls (wire ls)
   unread : {a b : List (List ℕ)} {p : ℕ} → LongestEnd t ws ls a b p → (IsRead t ls a p → ⊥) → Compresses t ws ls ls (wire ls)
 
--- The places of these labels, the root left out, from the place p on; a pointer leads to places below 16,384 only.
+-- The places of these labels, the root left out, from the place p on; a pointer leads to places below 16,384
+-- only.
 abbrev pub places_from : ℕ → ℕ → List (List ℕ) → List Place
 places_from p end [] = []
 places_from p end (l ∷ ls) =

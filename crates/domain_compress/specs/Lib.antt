@@ -1,5 +1,6 @@
 pub mod Compressing
 pub mod Pointed
+pub mod Ends
 pub mod Written
 pub mod Composers
 pub mod Beginnings

@@ -42,7 +42,7 @@ flat_plain [] t u r = omega arith
 flat_plain ([] ∷ a) t u r = absurd r
 flat_plain ((c ∷ l) ∷ a) t u r = flat_behind t (c ∷ l) u a (omega arith) r.0 (flat_plain a (t ++ length (c ∷ l) ∷ c ∷ l) u r.1)
 
-nothing_behind : (a b : List (List ℕ)) → a ++ b ≡ [] → 0 < length b → ⊥
+pub nothing_behind : (a b : List (List ℕ)) → a ++ b ≡ [] → 0 < length b → ⊥
 nothing_behind a b h some =
     let e : length (a ++ b) ≡ 0 = ap length h in
     omega (arith, length-append a b, e)

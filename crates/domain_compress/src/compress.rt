@@ -1,9 +1,9 @@
 //! A composer that writes names shorter (RFC 1035, 4.1.4).
-ghost use Rattle.std.specs.Prelude.{◌≡◌, ◌≤◌, [], length, take, OnOk, OnErr, true};
+ghost use Rattle.std.specs.Prelude.{◌≡◌, ◌≤◌, ◌<◌, ◌+◌, ◌++◌, [], List, length, take, OnOk, OnErr, IfSome, true};
 ghost use Rattle.std.proofs.lemmas.Bool.{true≢false};
 ghost use Rattle.domain_label.specs.Wire.{labels_in, IsAbsoluteWire};
 ghost use Rattle.domain_rdata.specs.ReadBack.{Appended, Exceeds};
-ghost use Rattle.domain_compress.specs.Compressing.{Adds, places_within};
+ghost use Rattle.domain_compress.specs.Compressing.{Adds, Place, places_within};
 ghost use Rattle.domain_compress.specs.MayWrite.{MayWrite};
 ghost use Rattle.domain_compress.specs.Written.{places};
 
@@ -14,7 +14,18 @@ use arrayvec::ArrayVec;
 use domain_rdata::Composer;
 use octseq::{Octets, OctetsBuilder, OctetsMut, Truncate};
 
-/// A target that writes a name shorter where an end of it was written before.
+/// A composer that writes a name shorter where an end of it was written before (RFC 1035, 4.1.4).
+///
+/// It appends to a target, which is any other composer, and remembers where labels of names were written: at
+/// most 128 places, those before the octet 16,384, to which a pointer can lead. Pointers count from the first
+/// octet of the target, so the message begins there. For a name it takes the longest end of it, other than the
+/// root, that is read without case at a place that it remembers, and writes the labels before it and a pointer
+/// to the first such place. Where there is none, or a reader would have to follow more than 255 pointers, the
+/// name is written flat. Either way it is read back as an equal name.
+///
+/// What the target held before is never pointed to. Octets that are written over through `as_slice_mut` are
+/// read anew for each name, so a pointer is right whatever they are; names that were written before may be no
+/// longer.
 #[derive(Drop)]
 pub struct CompressComposer<T: Composer> {
     target: T,
@@ -24,7 +35,7 @@ pub struct CompressComposer<T: Composer> {
 impl<T: Composer> CompressComposer<T> {
     ghost use Rattle.domain_compress.specs.Composers.{written_places, target_of};
 
-    /// A composer of messages that begin with what the target holds. No name of it is remembered.
+    /// A composer of messages that begin with what the target holds. No place in that is remembered.
     pub fn new(target: T) -> Self
         ensures target { target_of result ≡ target }
         ensures places { written_places result ≡ [] }
@@ -69,6 +80,8 @@ impl<T: Composer> OctetsMut for CompressComposer<T> {
 impl<T: Composer> Truncate for CompressComposer<T> {
     ghost use Rattle.domain_compress.specs.Composers.{written_places};
 
+    /// Keeps the first `len` octets, all where `len` is larger, and forgets the places of names that ended past
+    /// them.
     fn truncate(&mut self, len: usize)
         ensures octets { T.octets self.new.target ≡ take len (T.octets self.old.target) }
         ensures capacity { T.capacity self.old.target ≤ T.capacity self.new.target }
@@ -86,7 +99,15 @@ impl<T: Composer> OctetsBuilder for CompressComposer<T> {
 
     ghost limit = { T.limit };
 
-    fn append_slice(&mut self, slice: &[u8]) -> Result<(), T::AppendError> {
+    /// Appends all of the octets, or none, as the target does. The places stay.
+    fn append_slice(&mut self, slice: &[u8]) -> Result<(), T::AppendError>
+        ensures ok { OnOk result (T.octets self.new.target ≡ T.octets self.old.target ++ slice.now) }
+        ensures err { OnErr result (T.octets self.new.target ≡ T.octets self.old.target) }
+        ensures full { OnErr result (T.capacity self.old.target < length (T.octets self.old.target) + length slice.now) }
+        ensures capacity { T.capacity self.old.target ≤ T.capacity self.new.target }
+        ensures within { IfSome T.limit (λ n. length (T.octets self.new.target) ≤ n) }
+        ensures places { written_places self.new ≡ written_places self.old }
+    {
         self.target.append_slice(slice)
     }
 
@@ -105,9 +126,21 @@ impl<T: Composer> Composer for CompressComposer<T> {
 
     ghost compresses = { true };
 
+    ghost Memory = { List Place };
+
+    ghost memory = { written_places };
+
+    ghost appends = { λ c ls d. Adds (T.octets c.target) (written_places c) ls (T.octets d.target) (written_places d) };
+
+    /// Appends the labels before the longest end of the name that stands at a place that is remembered, and a
+    /// pointer to the first such place; or the wire form. The places of the labels that were written are
+    /// remembered.
+    ///
+    /// It is refused only where these octets exceed the spare capacity of the target. Octets and places are
+    /// then as before.
     fn append_flat_name(&mut self, name: &[u8]) -> Result<(), T::AppendError>
         requires { IsAbsoluteWire name.now }
-        ensures adds { OnOk result (Adds (T.octets self.old.target) (written_places self.old) (labels_in name.now) (T.octets self.new.target) (written_places self.new)) }
+        ensures appends { OnOk result (Adds (T.octets self.old.target) (written_places self.old) (labels_in name.now) (T.octets self.new.target) (written_places self.new)) }
         ensures ok { OnOk result (Appended (MayWrite (T.octets self.old.target) (written_places self.old) (labels_in name.now)) (T.octets self.old.target) (T.octets self.new.target)) }
         ensures err { OnErr result (T.octets self.new.target ≡ T.octets self.old.target) }
         ensures kept { OnErr result (written_places self.new ≡ written_places self.old) }

@@ -3,8 +3,11 @@
 
 mod append;
 pub mod compress;
+pub mod laws;
+mod marks;
 mod remember;
 mod search;
 mod written;
 
 pub use compress::CompressComposer;
+pub use laws::compress_laws;

@@ -10,7 +10,8 @@ use arrayvec::ArrayVec;
 /// A pointer leads to places below this one.
 const PLACES_END: usize = 16384;
 
-/// Remembers where these labels stand, but for the root, that were written from `start` on for a name that ends at `end`.
+/// Remembers where these labels stand, but for the root, that were written from `start` on for a name that ends
+/// at `end`.
 pub(crate) fn remember(
     written: &mut ArrayVec<Written, 128>,
     labels: &[u8],

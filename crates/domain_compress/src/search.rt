@@ -4,8 +4,10 @@ ghost use Rattle.domain_label.specs.Low.{low};
 ghost use Rattle.domain_label.specs.Wire.{labels_in, IsAbsoluteWire};
 ghost use Rattle.domain_rdata.specs.ReadBack.{StandsAt};
 ghost use Rattle.domain_compress.specs.Compressing.{NoEnd};
-ghost use Rattle.domain_compress.specs.Written.{places, StandsThrough, EndFound, NoPlaceFor, FirstPlaceFor};
+ghost use Rattle.domain_compress.specs.Ends.{AreMarked};
+ghost use Rattle.domain_compress.specs.Written.{places, StandsThrough, EndAt, NoEndAt, EndFound, Improves, begin_or_length};
 
+use crate::marks::{first_marks, may_stand};
 use crate::written::{StandingEnd, Written};
 use domain_reading::head::{Head, read_head};
 use domain_reading::heads::Heads;
@@ -82,40 +84,83 @@ fn pointers_at_with<L: Ledger>(octets: &[u8], place: usize, name: &[u8], blank: 
     }
 }
 
-/// The first of the places at which the name is read, without case, and through how many pointers.
-fn first_place(octets: &[u8], written: &[Written], name: &[u8]) -> Option<(u16, u8)>
+/// The first end of the name that is read at the place, without case, of those that begin before `upto`; and
+/// through how many pointers. The root alone is no end.
+fn end_at(octets: &[u8], place: usize, name: &[u8], upto: usize) -> Option<(usize, u8)>
     requires { IsAbsoluteWire name.now }
-    ensures none { IsNone result → NoPlaceFor octets.now written.now name.now }
-    ensures some { IfSome result (λ r. FirstPlaceFor octets.now written.now name.now r.0) }
-    ensures through { IfSome result (λ r. StandsThrough octets.now r.0 (labels_in name.now) r.1) }
+    ensures none { IsNone result → NoEndAt octets.now place name.now upto }
+    ensures some { IfSome result (λ r. EndAt octets.now place name.now upto r.0 r.1) }
 {
-    let mut rest = written;
-    'places: while let [first, more @ ..] = rest {
-        if let Some(pointers) = pointers_at(octets, usize::from(first.place), name) {
-            return Some((first.place, pointers));
+    let mut begin = 0;
+    'ends: while begin < upto {
+        if name[begin] == 0 {
+            return None;
         }
-        rest = more;
+        if let Some(pointers) = pointers_at(octets, place, &name[begin..]) {
+            return Some((begin, pointers));
+        }
+        begin = begin + 1 + usize::from(name[begin]);
     }
     None
 }
 
-/// The longest end of the name that is read at one of the places, without case, and the first of these. The root
-/// alone is no end.
+/// Where the end begins; where there is none, how long the name is.
+fn begin_or_len(end: Option<StandingEnd>, name: &[u8]) -> usize
+    ensures { result ≡ begin_or_length end name.now }
+{
+    match end {
+        Some(end) => end.begin,
+        None => name.len(),
+    }
+}
+
+/// The longer one of the longest end that was found so far and the one that is read at a further place.
+fn better_end(
+    octets: &[u8],
+    written: Written,
+    name: &[u8],
+    marks: &[u8; 256],
+    best: Option<StandingEnd>,
+) -> Option<StandingEnd>
+    requires wire { IsAbsoluteWire name.now }
+    requires marked { AreMarked marks.now name.now }
+    ensures { Improves octets.now written name.now best result }
+{
+    let place = usize::from(written.place);
+    if !may_stand(octets, place, marks) {
+        return best;
+    }
+    match end_at(octets, place, name, begin_or_len(best, name)) {
+        Some((begin, pointers)) => Some(StandingEnd {
+            begin,
+            place: written.place,
+            pointers,
+        }),
+        None => best,
+    }
+}
+
+/// The longest end of the name that is read at one of the places, without case, and the first of these. The
+/// root alone is no end.
+///
+/// It goes over the places once. What stands at most of them begins with a label of another kind than any
+/// end of the name, and is passed at a glance.
 pub(crate) fn longest_end(octets: &[u8], written: &[Written], name: &[u8]) -> Option<StandingEnd>
     requires { IsAbsoluteWire name.now }
     ensures none { IsNone result → NoEnd octets.now (places written.now) (labels_in name.now) }
     ensures some { IfSome result (λ end. EndFound octets.now (places written.now) name.now end) }
 {
-    let mut begin = 0;
-    'ends: while name[begin] != 0 {
-        if let Some((place, pointers)) = first_place(octets, written, &name[begin..]) {
-            return Some(StandingEnd {
-                begin,
-                place,
-                pointers,
-            });
+    let marks = first_marks(name);
+    let mut best = None;
+    let mut rest = written;
+    'places: while let Some((first, more)) = rest.split_first() {
+        best = better_end(octets, *first, name, &marks, best);
+        if let Some(end) = best {
+            if end.begin == 0 {
+                return Some(end);
+            }
         }
-        begin = begin + 1 + usize::from(name[begin]);
+        rest = more;
     }
-    None
+    best
 }

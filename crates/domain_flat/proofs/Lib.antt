@@ -1,4 +1,5 @@
 pub mod Passing
 pub mod Seams
+pub mod Starts
 pub mod Cuts
 pub mod OneFault

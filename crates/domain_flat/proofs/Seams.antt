@@ -42,7 +42,7 @@ meets_next o i xs y ys m = record {
 abbrev pub IsSeam : List ℕ → ℕ → Type 0
 IsSeam o i = Meets o i (labels_in (take i o)) (labels_in (drop i o))
 
-seam_of : (o : List ℕ) (i : ℕ) (xs ys : List (List ℕ)) → Meets o i xs ys → IsSeam o i
+pub seam_of : (o : List ℕ) (i : ℕ) (xs ys : List (List ℕ)) → Meets o i xs ys → IsSeam o i
 seam_of o i xs ys m =
     let a : labels_in (take i o) ≡ xs = ap labels_in (meets_take o i xs ys m) ∙ labels_in_wire xs in
     let b : labels_in (drop i o) ≡ ys = ap labels_in (meets_drop o i xs ys m) ∙ labels_in_wire ys in
@@ -54,7 +54,7 @@ seam_start o w = seam_of o 0 [] (labels_in o) (meets_start o w)
 pub read_at : (o : List ℕ) (i : ℕ) (xs : List (List ℕ)) (y : List ℕ) (ys : List (List ℕ)) → Meets o i xs (y ∷ ys) → slice_index_or o i 0 ≡ length y
 read_at o i xs y ys m = ap (λ k. slice_index_or o k 0) (sym (add-zero i)) ∙ (sym (get_or-drop i o 0 0) ∙ ap (λ r. slice_index_or r 0 0) (meets_drop o i xs (y ∷ ys) m))
 
-meets_length : (o : List ℕ) (i : ℕ) (xs ys : List (List ℕ)) → Meets o i xs ys → length o ≡ i + length (wire ys)
+pub meets_length : (o : List ℕ) (i : ℕ) (xs ys : List (List ℕ)) → Meets o i xs ys → length o ≡ i + length (wire ys)
 meets_length o i xs ys m = omega (arith, m.at, ap length m.whole, length-append (wire xs) (wire ys))
 
 next_of : (o : List ℕ) (i : ℕ) (xs ys : List (List ℕ)) → Meets o i xs ys → i < length o → (i + 1 + slice_index_or o i 0 ≤ length o) × IsSeam o (i + 1 + slice_index_or o i 0)
@@ -71,7 +71,7 @@ no_more : (ys : List (List ℕ)) → length (wire ys) ≡ 0 → ys ≡ []
 no_more [] h = refl
 no_more (y ∷ ys) h = absurd (omega (arith, h))
 
-last_of : (o : List ℕ) (i : ℕ) (xs ys : List (List ℕ)) → Meets o i xs ys → i < length o → length o ≤ i + 1 + slice_index_or o i 0 → HasLast o (take i o) (drop (i + 1) o)
+pub last_of : (o : List ℕ) (i : ℕ) (xs ys : List (List ℕ)) → Meets o i xs ys → i < length o → length o ≤ i + 1 + slice_index_or o i 0 → HasLast o (take i o) (drop (i + 1) o)
 last_of o i xs [] m h k = absurd (omega (arith, h, meets_length o i xs [] m))
 last_of o i xs (y ∷ ys) m h k =
     let none : ys ≡ [] = no_more ys (omega (arith, read_at o i xs y ys m, meets_length o _ _ _ (meets_next o i xs y ys m), k)) in

@@ -1,12 +1,19 @@
 //! The labels of a flat name, from either end.
-ghost use Rattle.std.specs.Prelude.{◌≡◌, [], MatchOption};
+ghost use Rattle.std.specs.Prelude.{◌≡◌, ◌<◌, ◌≤◌, ◌+◌, [], length, take, drop, IfSome, IsTrue, MatchOption};
 ghost use Rattle.domain_label.specs.Wire.{IsWire, wire, labels_in};
 ghost use Rattle.domain_label.proofs.WireLaws.{IsWire_prop};
 ghost use Rattle.domain_flat.specs.Flat.{HasFirst, HasLast};
+ghost use Rattle.domain_flat.specs.Starts.{label_starts};
 
 use domain_label::Label;
 use domain_list::LabelIterator;
 use std::marker::PhantomData;
+
+/// The most octets of a name, which are all that a table of starts can tell.
+const MAX_LEN: usize = 255;
+
+/// The most labels of a name, the root among them.
+const MAX_LABELS: usize = 128;
 
 /// The labels of a flat name, from either end.
 ///
@@ -15,7 +22,13 @@ use std::marker::PhantomData;
 #[derive(Clone, Copy, Debug)]
 pub struct NameIter<'a> {
     octets: &'a [u8],
+    /// Where each label begins. It is filled at a step from the back, so that further ones need no walk.
+    starts: [u8; MAX_LABELS],
+    /// How many labels the table tells, which are all; 0 where it isn't filled.
+    count: u8,
     of: PhantomData<Label<'a>>,
+    ghost few: { count ≤ 128 },
+    ghost table: { 0 < count → take count starts ≡ label_starts 0 (labels_in octets.now) },
     ghost wire: { IsWire octets.now } by { IsWire_prop octets.now },
 }
 
@@ -23,14 +36,35 @@ impl<'a> NameIter<'a> {
     ghost use Rattle.domain_flat.specs.Views.{flat_labels_left};
 
     /// The labels of these octets.
+    #[inline(always)]
     pub fn new(octets: &'a [u8]) -> NameIter<'a>
         requires { IsWire octets.now }
         ensures { flat_labels_left result ≡ labels_in octets.now }
     {
         NameIter {
             octets,
+            starts: [0; MAX_LABELS],
+            count: 0,
             of: PhantomData,
         }
+    }
+
+    /// Fills the table, where it isn't filled. False where no label is left, or more than it has room for.
+    fn fill(&mut self) -> bool
+        ensures same { self.new.octets ≡ self.old.octets }
+        ensures filled { IsTrue result → 0 < self.new.count }
+        ensures room { length self.new.starts ≡ 128 }
+    {
+        if self.count > 0 {
+            return true;
+        }
+        let mut starts = [0; MAX_LABELS];
+        let Some(count) = find_starts(self.octets, &mut starts) else {
+            return false;
+        };
+        self.starts = starts;
+        self.count = count;
+        count > 0
     }
 
     /// The wire form of the labels that are left.
@@ -51,6 +85,38 @@ pub fn first_label(octets: &[u8]) -> Option<(&[u8], &[u8])>
         return None;
     };
     Some(rest.split_at(*len as usize))
+}
+
+/// Writes where the labels of a wire form begin, and tells how many there are. `None` where the octets are more
+/// than 255 or the labels more than the table has room for.
+fn find_starts(octets: &[u8], starts: &mut [u8; MAX_LABELS]) -> Option<u8>
+    requires { IsWire octets.now }
+    ensures few { IfSome result (λ count. count ≤ 128) }
+    ensures table { IfSome result (λ count. take count starts.new ≡ label_starts 0 (labels_in octets.now)) }
+{
+    if octets.len() > MAX_LEN {
+        return None;
+    }
+    let mut count = 0u8;
+    let mut start = 0;
+    while start < octets.len() {
+        if usize::from(count) == MAX_LABELS {
+            return None;
+        }
+        starts[usize::from(count)] = start as u8;
+        count += 1;
+        start = start + 1 + octets[start] as usize;
+    }
+    Some(count)
+}
+
+/// The octets before a place and those behind it.
+fn split_around(octets: &[u8], place: usize) -> (&[u8], &[u8])
+    requires { place < length octets.now }
+    ensures before { result.0.now ≡ take place octets.now }
+    ensures behind { result.1.now ≡ drop (place + 1) octets.now }
+{
+    (&octets[..place], &octets[place + 1..])
 }
 
 /// The wire form before the last label of a wire form, and the octets of that label.
@@ -84,6 +150,7 @@ impl<'a> Iterator for NameIter<'a> {
 
     fn next(&mut self) -> Option<Label<'a>> {
         let (label, rest) = first_label(self.octets)?;
+        self.count = 0;
         self.octets = rest;
         Some(Label::from_slice(label).unwrap())
     }
@@ -97,7 +164,15 @@ impl<'a> DoubleEndedIterator for NameIter<'a> {
     ghost next_back_gives = { YieldsLastBy label_octets flat_labels_left };
 
     fn next_back(&mut self) -> Option<Label<'a>> {
-        let (rest, label) = last_label(self.octets)?;
+        if !self.fill() {
+            let (rest, label) = last_label(self.octets)?;
+            self.count = 0;
+            self.octets = rest;
+            return Some(Label::from_slice(label).unwrap());
+        }
+        let start = usize::from(self.starts[usize::from(self.count) - 1]);
+        let (rest, label) = split_around(self.octets, start);
+        self.count -= 1;
         self.octets = rest;
         Some(Label::from_slice(label).unwrap())
     }

@@ -3,9 +3,11 @@ ghost use Rattle.std.specs.Prelude.{◌≡◌, ◌≤◌, ◌<◌, ◌+◌, ◌�
 ghost use Rattle.std.specs.Iterator.Adapters.{copied_source};
 ghost use Rattle.std.specs.Slice.Iter.{iter_rest};
 ghost use Rattle.domain_label.specs.Wire.{IsLabel};
-ghost use Rattle.domain_label.specs.Text.{spell, spell_octet};
+ghost use Rattle.domain_label.specs.Text.{spell};
 
+use crate::presentation::{ascii_text, push_label};
 use crate::split::{LabelTypeError, SplitLabelError};
+use arrayvec::ArrayVec;
 use std::error::Error;
 use std::fmt;
 use std::iter::Copied;
@@ -177,37 +179,14 @@ impl<'a> fmt::Display for Label<'a> {
     ghost output = { λ label. Some (spell (label_octets label)) };
 
     fn fmt<W: fmt::Write>(&self, f: &mut fmt::Formatter<W>) -> fmt::Result {
-        for octet in self.as_slice() {
-            write!(f, "{}", Spelled(*octet))?;
-        }
-        Ok(())
+        let mut text = ArrayVec::<u8, 252>::new();
+        push_label(self.as_slice(), &mut text);
+        f.write_str(ascii_text(text.as_slice()))
     }
 }
 
 impl<'a> fmt::Debug for Label<'a> {
     fn fmt<W: fmt::Write>(&self, f: &mut fmt::Formatter<W>) -> fmt::Result {
         write!(f, "Label({self})")
-    }
-}
-
-/// One octet of a label, as it is spelled.
-#[derive(Clone, Copy)]
-struct Spelled(u8);
-
-impl fmt::Display for Spelled {
-    ghost output = { λ spelled. Some (spell_octet spelled.0) };
-
-    fn fmt<W: fmt::Write>(&self, f: &mut fmt::Formatter<W>) -> fmt::Result {
-        let octet = self.0;
-        if octet == b' ' || octet == b'.' || octet == b'\\' {
-            write!(f, "\\{}", octet as char)
-        } else if octet < 0x20 || octet > 0x7e {
-            let hundreds = (b'0' + octet / 100) as char;
-            let tens = (b'0' + octet / 10 % 10) as char;
-            let ones = (b'0' + octet % 10) as char;
-            write!(f, "\\{hundreds}{tens}{ones}")
-        } else {
-            write!(f, "{}", octet as char)
-        }
     }
 }

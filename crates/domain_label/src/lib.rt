@@ -10,6 +10,7 @@ pub mod label_text;
 pub mod laws;
 pub mod order;
 pub mod owned;
+pub mod presentation;
 pub mod scan;
 pub mod slice_labels;
 pub mod split;

@@ -1,40 +1,39 @@
 -- What a walk over labels has shown.
-use Rattle.std.proofs.Common.{◌≡◌, ℕ, List, [], ◌∷◌, ◌++◌, map, length, refl, sym, ap, ◌∙◌, append_assoc, append-nil, arith}
+use Rattle.std.proofs.Common.{◌≡◌, ℕ, ◌+◌, ◌*◌, ◌≤◌, ◌<◌, List, [], ◌∷◌, ◌++◌, map, length, refl, sym, ap, ◌∙◌, subst, append_assoc, append-nil, arith, length-append}
 use Rattle.std.proofs.lemmas.List.{map-append}
-use Rattle.std.proofs.lemmas.Grind.{flat_map-append}
 use Rattle.std.specs.List.{flat_map}
 use Rattle.domain_label.specs.declared.label.Label.{Label}
 use Rattle.domain_label.specs.Views.{label_octets}
-use Rattle.domain_label.specs.Text.{spell, with_dot, or_dot, dotted}
-use Rattle.domain_label.specs.Wire.{wire, IsAbsolute}
+use Rattle.domain_label.specs.Text.{with_dot, or_dot, dotted}
+use Rattle.domain_label.specs.Wire.{wire}
 
 -- one label goes over to those that were yielded
 pub more_split : (ys : List Label) (y : Label) (s t all : List (List ℕ)) → map label_octets ys ++ s ≡ all → s ≡ label_octets y ∷ t → map label_octets (ys ++ y ∷ []) ++ t ≡ all
 more_split ys y s t all h e =
     ap (λ r. r ++ t) (map-append label_octets ys (y ∷ [])) ∙ (append_assoc (map label_octets ys) (label_octets y ∷ []) t ∙ (ap (λ r. map label_octets ys ++ r) (sym e) ∙ h))
 
--- and its text to what was shown
-pub more_text : (ys : List Label) (y : Label) → flat_map with_dot (map label_octets ys) ++ with_dot (label_octets y) ≡ flat_map with_dot (map label_octets (ys ++ y ∷ []))
-more_text ys y =
-    sym (ap (flat_map with_dot) (map-append label_octets ys (y ∷ [])) ∙ (flat_map-append with_dot (map label_octets ys) (label_octets y ∷ []) ∙ ap (λ r. flat_map with_dot (map label_octets ys) ++ r) (append-nil (with_dot (label_octets y)))))
+-- one label more with its dot
+pub more_dotted : (text new l all : List ℕ) (s t : List (List ℕ)) → text ++ flat_map with_dot s ≡ all → s ≡ l ∷ t → new ≡ text ++ with_dot l → new ++ flat_map with_dot t ≡ all
+more_dotted text new l all s t h e f =
+    ap (λ r. r ++ flat_map with_dot t) f ∙ (append_assoc text (with_dot l) (flat_map with_dot t) ∙ (ap (λ r. text ++ flat_map with_dot r) (sym e) ∙ h))
 
-or_more : (a : List ℕ) (c : ℕ) (b t : List ℕ) → or_dot ((a ++ c ∷ b) ++ t) ≡ (a ++ c ∷ b) ++ t
-or_more [] c b t = refl
-or_more (x ∷ a) c b t = refl
+pub less_room : (m n : ℕ) (l : List ℕ) (s t : List (List ℕ)) → m + 4 * length (wire s) ≤ 1020 → s ≡ l ∷ t → n ≤ m + 4 * length l + 1 → n + 4 * length (wire t) ≤ 1020
+less_room m n l s t h e f = omega (arith, h, f, ap (λ r. length (wire r)) e, length-append l (wire t))
 
--- the text of a list that is more than the root
-dotted_more : (ls : List (List ℕ)) → IsAbsolute ls → (length (wire ls) ≡ 1 → ⊥) → dotted ls ≡ flat_map with_dot ls
-dotted_more [] a h = absurd a
-dotted_more ([] ∷ ls) a h = absurd (h (ap (λ r. length (wire ([] ∷ r))) a))
-dotted_more ((x ∷ xs) ∷ ls) a h = or_more (spell (x ∷ xs)) 46 [] (flat_map with_dot ls)
+pub label_room : (m : ℕ) (l : List ℕ) (s t : List (List ℕ)) → m + 4 * length (wire s) ≤ 1020 → s ≡ l ∷ t → m + 4 * length l + 1 ≤ 1020
+label_room m l s t h e = omega (arith, h, ap (λ r. length (wire r)) e, length-append l (wire t))
 
--- the text of the root alone
-pub dotted_root : (ls : List (List ℕ)) → IsAbsolute ls → length (wire ls) ≡ 1 → dotted ls ≡ 46 ∷ []
-dotted_root [] a h = absurd a
-dotted_root ([] ∷ ls) a h = ap (λ r. or_dot (flat_map with_dot r)) a
-dotted_root ((x ∷ xs) ∷ ls) a h = absurd (omega (arith, h))
+-- where no label is left, all is shown, and nothing is a dot
+dotted_done : (text : List ℕ) (s all : List (List ℕ)) → text ++ flat_map with_dot s ≡ flat_map with_dot all → s ≡ [] → or_dot text ≡ dotted all
+dotted_done text s all h e = ap or_dot (sym (append-nil text) ∙ (ap (λ r. text ++ flat_map with_dot r) (sym e) ∙ h))
 
--- where no label is left, all is shown
-pub all_shown : (xs rest all : List (List ℕ)) → xs ++ rest ≡ all → rest ≡ [] → IsAbsolute all → (length (wire all) ≡ 1 → ⊥) → flat_map with_dot xs ≡ dotted all
-all_shown xs rest all h e a n =
-    ap (flat_map with_dot) (sym (append-nil xs) ∙ (ap (λ r. xs ++ r) (sym e) ∙ h)) ∙ sym (dotted_more all a n)
+or_dot_some : (text : List ℕ) → 0 < length text → or_dot text ≡ text
+or_dot_some [] h = absurd (omega (arith, h))
+or_dot_some (c ∷ t) h = refl
+
+pub dotted_some : (text : List ℕ) (s all : List (List ℕ)) → text ++ flat_map with_dot s ≡ flat_map with_dot all → s ≡ [] → 0 < length text → text ≡ dotted all
+dotted_some text s all h e some = sym (or_dot_some text some) ∙ dotted_done text s all h e
+
+pub dotted_none : (text : List ℕ) (s all : List (List ℕ)) → text ++ flat_map with_dot s ≡ flat_map with_dot all → s ≡ [] → length text ≡ 0 → text ++ 46 ∷ [] ≡ dotted all
+dotted_none [] s all h e none = dotted_done [] s all h e
+dotted_none (c ∷ t) s all h e none = absurd (omega (arith, none))

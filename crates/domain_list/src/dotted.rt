@@ -1,26 +1,49 @@
 //! Names as text with a final dot.
-ghost use Rattle.std.specs.Prelude.{◌≡◌, Some};
+ghost use Rattle.std.specs.Prelude.{◌≡◌, ◌≤◌, ◌+◌, ◌*◌, ◌++◌, length, Some};
+ghost use Rattle.std.specs.Str.{IsAscii};
 ghost use Rattle.domain_label.specs.Text.{with_dot, dotted};
 ghost use Rattle.domain_label.specs.Views.{label_octets};
+ghost use Rattle.domain_label.specs.Wire.{wire};
 
-use crate::labels::{Absolute, AbsoluteLabels, LabelIterator, NameLabels, ToLabelIter};
+use crate::labels::{AbsoluteLabels, LabelIterator};
+use arrayvec::ArrayVec;
 use domain_label::Label;
+use domain_label::presentation::{ascii_text, push_label};
 use std::fmt;
 
-/// A label with a dot behind it, and the root label as nothing.
-#[derive(Clone, Copy)]
-struct WithDot<'a>(Label<'a>);
-
-impl<'a> fmt::Display for WithDot<'a> {
-    ghost output = { λ shown. Some (with_dot (label_octets shown.0)) };
-
-    fn fmt<W: fmt::Write>(&self, f: &mut fmt::Formatter<W>) -> fmt::Result {
-        let label = self.0;
-        if label.is_root() {
-            return Ok(());
-        }
-        write!(f, "{label}.")
+/// Appends a label with a dot behind it, and the root label as nothing.
+fn push_with_dot(label: Label, text: &mut ArrayVec<u8, 1020>)
+    requires room { length text.old.items + 4 * length (label_octets label) + 1 ≤ 1020 }
+    requires ascii { IsAscii text.old.items }
+    ensures text { text.new.items ≡ text.old.items ++ with_dot (label_octets label.entry) }
+    ensures ascii { IsAscii text.new.items }
+    ensures size { length text.new.items ≤ length text.old.items + 4 * length (label_octets label.entry) + 1 }
+{
+    if label.is_root() {
+        return;
     }
+    push_label(label.as_slice(), text);
+    text.push(b'.');
+}
+
+/// The labels that are left with a dot behind each, and the root alone as a dot, in a buffer that has
+/// room for each name.
+#[inline(always)]
+fn dotted_text<'a, I: LabelIterator<'a>>(labels: I) -> ArrayVec<u8, 1020>
+    requires { length (wire (I.left labels)) ≤ 255 }
+    ensures text { result.items ≡ dotted (I.left labels) }
+    ensures ascii { IsAscii result.items }
+{
+    let mut labels = labels;
+    let mut text = ArrayVec::new();
+    while let Some(label) = labels.next() {
+        push_with_dot(label, &mut text);
+    }
+    if text.is_empty() {
+        text.push(b'.');
+        return text;
+    }
+    text
 }
 
 /// Shows a name with a dot behind each label, and the root as a dot (RFC 1035, 5.1).
@@ -46,14 +69,7 @@ impl<'a, N: AbsoluteLabels<'a>> fmt::Display for DisplayWithDot<'a, N> {
     ghost output = { λ shown. Some (dotted (N.labels (dotted_name shown))) };
 
     fn fmt<W: fmt::Write>(&self, f: &mut fmt::Formatter<W>) -> fmt::Result {
-        if self.name.compose_len() == 1 {
-            return write!(f, ".");
-        }
-        let mut labels = self.name.iter_labels();
-        while let Some(label) = labels.next() {
-            let shown = WithDot(label);
-            write!(f, "{shown}")?;
-        }
-        Ok(())
+        let text = dotted_text(self.name.iter_labels());
+        f.write_str(ascii_text(text.as_slice()))
     }
 }

@@ -4,7 +4,9 @@ ghost use Rattle.domain_label.specs.Text.{dot_before, text};
 ghost use Rattle.domain_label.specs.Views.{label_octets};
 
 use crate::labels::LabelIterator;
+use arrayvec::ArrayVec;
 use domain_label::Label;
+use domain_label::presentation::{ascii_text, push_label};
 use std::fmt;
 use std::marker::PhantomData;
 
@@ -20,7 +22,10 @@ impl<'a> fmt::Display for DotBefore<'a> {
         if label.is_root() {
             return Ok(());
         }
-        write!(f, ".{label}")
+        let mut text = ArrayVec::<u8, 253>::new();
+        text.push(b'.');
+        push_label(label.as_slice(), &mut text);
+        f.write_str(ascii_text(text.as_slice()))
     }
 }
 

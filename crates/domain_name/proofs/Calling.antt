@@ -1,5 +1,5 @@
 -- Calls of a builder in turn.
-use Rattle.std.proofs.Common.{Option, Some, None, true, ◌%◌, ◌≡◌, ℕ, ◌+◌, ◌<◌, ◌≤◌, ◌⊎◌, inl, inr, List, [], ◌∷◌, length, drop, get_or, drop-cons, add-one, length-drop, refl, sym, ap, ◌∙◌, subst, arith}
+use Rattle.std.proofs.Common.{Some, None, true, ◌%◌, ◌≡◌, ◌≢◌, ℕ, ◌+◌, ◌<◌, ◌≤◌, ◌⊎◌, inl, inr, List, [], ◌∷◌, length, drop, get_or, drop-cons, add-one, length-drop, refl, sym, ap, ◌∙◌, subst, arith}
 use Rattle.std.specs.Fmt.{decimal, digit_glyph}
 use Rattle.domain_name.specs.Names.{relative_labels}
 use Rattle.domain_builder.specs.Built.{Built, LacksRoom, StopsAt, size, refusal, after, pushed, labelled, named}
@@ -9,6 +9,7 @@ use Rattle.domain_name.specs.Calls.{Exceeds, IsTooMuch, Accepted, PassedOver, Ap
 use Rattle.domain_name.specs.declared.calls.BuilderCall.{BuilderCall}
 use Rattle.domain_name.specs.declared.calls.BuilderCall.TheVariants.{Push, PushSymbol, AppendSlice, EndLabel, AppendLabel, AppendDecU8Label, AppendHexDigitLabel, AppendName, AppendChars}
 use Rattle.domain_builder.specs.declared.part.Part.{Part}
+use Rattle.domain_builder.specs.declared.part.Part.TheVariants.{Dot}
 use Rattle.domain_builder.specs.Told.{MatchFromStr, presentation_fault, presentation_error_kind}
 use Rattle.domain_builder.specs.declared.error.FromStrError.{FromStrError}
 use Rattle.domain_builder.specs.declared.error.FromStrError.TheVariants.{Presentation, ShortBuf}
@@ -22,12 +23,12 @@ too_much_less : (room here whole : ℕ) → room ≤ here → IsTooMuch here who
 too_much_less room here whole h (inl e) = inl e
 too_much_less room here whole h (inr e) = inr (omega (arith, h, e))
 
-symbol_less : (room here whole : ℕ) (P Q : Type 0) → room ≤ here → P ⊎ (Q × (here < whole)) → P ⊎ (Q × (room < whole))
-symbol_less room here whole P Q h (inl f) = inl f
-symbol_less room here whole P Q h (inr e) = inr (e.0, omega (arith, h, e.1))
+symbol_less : (room here whole : ℕ) (P Q R : Type 0) → room ≤ here → P ⊎ (Q × R × (here < whole)) → P ⊎ (Q × R × (room < whole))
+symbol_less room here whole P Q R h (inl f) = inl f
+symbol_less room here whole P Q R h (inr e) = inr (e.0, e.1, omega (arith, h, e.2))
 
 lacks_less : (room here : ℕ) (b : Built) (ps : List Part) (new : Built) → room ≤ here → LacksRoom here b ps new → LacksRoom room b ps new
-lacks_less room here b ps new h l = record { before = l.before; part = l.part; rest = l.rest; parts = l.parts; made = l.made; taken = l.taken; full = omega (arith, h, l.full) }
+lacks_less room here b ps new h l = record { before = l.before; part = l.part; rest = l.rest; parts = l.parts; made = l.made; taken = l.taken; octet = l.octet; full = omega (arith, h, l.full) }
 
 text_less : (room here : ℕ) (b : Built) (ps : List Part) (new : Built) → room ≤ here → ((f : Fault) × StopsAt b ps new f) ⊎ LacksRoom here b ps new → ((f : Fault) × StopsAt b ps new f) ⊎ LacksRoom room b ps new
 text_less room here b ps new h (inl f) = inl f
@@ -36,7 +37,7 @@ text_less room here b ps new h (inr l) = inr (lacks_less room here b ps new h l)
 -- with less room more may be passed over
 pub passed_less : (room here : ℕ) (b : Built) (call : BuilderCall) (new : Built) → room ≤ here → PassedOver here b call new → PassedOver room b call new
 passed_less room here b (Push c) new h p = (p.0, exceeds_less room here (length (pushed b (c ∷ [])).open_label) (size (pushed b (c ∷ []))) h p.1)
-passed_less room here b (PushSymbol s) new h p = (p.0, symbol_less room here (size (after b (symbol_part s))) ((f : Fault) × (refusal b (symbol_part s) ≡ Some f)) (refusal b (symbol_part s) ≡ None) h p.1)
+passed_less room here b (PushSymbol s) new h p = (p.0, symbol_less room here (size (after b (symbol_part s))) ((f : Fault) × (refusal b (symbol_part s) ≡ Some f)) (refusal b (symbol_part s) ≡ None) (symbol_part s ≢ Dot) h p.1)
 passed_less room here b (AppendDecU8Label n) new h p = (p.0, too_much_less room here (size (labelled b (decimal n))) h p.1)
 passed_less room here b (AppendHexDigitLabel n) new h p = (p.0, too_much_less room here (size (labelled b (digit_glyph true (n % 16) ∷ []))) h p.1)
 passed_less room here b (AppendName n) new h p = (p.0, too_much_less room here (size (named b (relative_labels n))) h p.1)

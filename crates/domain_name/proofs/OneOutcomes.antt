@@ -1,5 +1,5 @@
 -- Where 254 octets fit, calls of a builder have one outcome.
-use Rattle.std.proofs.Common.{◌≡◌, ℕ, ◌+◌, ◌<◌, ◌≤◌, ◌%◌, ◌⊎◌, inl, inr, Bool, true, false, leb, Option, Some, None, List, [], ◌∷◌, length, Result, refl, ap, sym, ◌∙◌, subst, arith}
+use Rattle.std.proofs.Common.{◌≡◌, ◌≢◌, ℕ, ◌+◌, ◌<◌, ◌≤◌, ◌%◌, ◌⊎◌, inl, inr, Bool, true, false, leb, Option, Some, None, List, [], ◌∷◌, length, Result, refl, ap, sym, ◌∙◌, subst, arith}
 use Rattle.std.proofs.lemmas.Bool.Decides.{leb_tells}
 use Rattle.std.specs.Fmt.{decimal, digit_glyph}
 use Rattle.std.specs.Str.{chars}
@@ -17,7 +17,7 @@ use Rattle.domain_builder.proofs.Grammar.{makes_one}
 use Rattle.domain_builder.proofs.OneOutcome.{run, made_or_stopped, stops_at_one}
 use Rattle.domain_builder.proofs.Outcomes.{items_of, items_read, same_items}
 use Rattle.domain_name.specs.Names.{relative_labels}
-use Rattle.domain_name.specs.Calls.{Fits, Exceeds, IsTooMuch, Accepted, PassedOver, Applies, AppliesAll, OneOutcome}
+use Rattle.domain_name.specs.Calls.{Fits, Exceeds, IsTooMuch, Accepted, PassedOver, AppliesAll, OneOutcome}
 use Rattle.domain_name.specs.declared.calls.BuilderCall.{BuilderCall}
 use Rattle.domain_name.specs.declared.calls.BuilderCall.TheVariants.{Push, PushSymbol, AppendSlice, EndLabel, AppendLabel, AppendDecU8Label, AppendHexDigitLabel, AppendName, AppendChars}
 
@@ -107,17 +107,17 @@ naming room b made r s = at (within (size made) 254)
     at (inl w) = takes _ _ made (refl, w) w (λ m h. h.0) (λ m h. never w h.1)
     at (inr w) = passes _ _ b (refl, inl w) s (λ m h. h.0) (λ m h. never (subst (λ (x : Built). size x ≤ 254) h.0 h.1) (inl w))
 
-symbol : (room : ℕ) (b : Built) (p : Part) → 254 ≤ room → size b ≤ 254 → OneStep (λ m. (refusal b p ≡ None) × (m ≡ after b p)) (λ m. (m ≡ b) × (((f : Fault) × (refusal b p ≡ Some f)) ⊎ ((refusal b p ≡ None) × (room < size (after b p)))))
+symbol : (room : ℕ) (b : Built) (p : Part) → 254 ≤ room → size b ≤ 254 → OneStep (λ m. (refusal b p ≡ None) × (m ≡ after b p)) (λ m. (m ≡ b) × (((f : Fault) × (refusal b p ≡ Some f)) ⊎ ((refusal b p ≡ None) × (p ≢ Dot) × (room < size (after b p)))))
 symbol room b p r s = at (refusal b p) refl
   where
     refused : (f : Fault) → refusal b p ≡ Some f → refusal b p ≡ None → ⊥
     refused f e n = let k : Some f ≡ None = sym e ∙ n in cc k
 
-    never : refusal b p ≡ None → ((f : Fault) × (refusal b p ≡ Some f)) ⊎ ((refusal b p ≡ None) × (room < size (after b p))) → ⊥
+    never : refusal b p ≡ None → ((f : Fault) × (refusal b p ≡ Some f)) ⊎ ((refusal b p ≡ None) × (p ≢ Dot) × (room < size (after b p))) → ⊥
     never n (inl e) = refused e.0 e.1 n
-    never n (inr e) = omega (arith, r, after_short b p s n, e.1)
+    never n (inr e) = omega (arith, r, after_short b p s n, e.2)
 
-    at : (o : Option Fault) → refusal b p ≡ o → OneStep (λ m. (refusal b p ≡ None) × (m ≡ after b p)) (λ m. (m ≡ b) × (((f : Fault) × (refusal b p ≡ Some f)) ⊎ ((refusal b p ≡ None) × (room < size (after b p)))))
+    at : (o : Option Fault) → refusal b p ≡ o → OneStep (λ m. (refusal b p ≡ None) × (m ≡ after b p)) (λ m. (m ≡ b) × (((f : Fault) × (refusal b p ≡ Some f)) ⊎ ((refusal b p ≡ None) × (p ≢ Dot) × (room < size (after b p)))))
     at None e = takes _ _ (after b p) (e, refl) (after_short b p s e) (λ m h. h.1) (λ m h. never e h.1)
     at (Some f) e = passes _ _ b (refl, inl (f, e)) s (λ m h. h.0) (λ m h. refused f e h.0)
 

@@ -1,5 +1,5 @@
 -- Calls of a builder, one after another.
-use Rattle.std.specs.Prelude.{◌≡◌, ℕ, ◌+◌, ◌<◌, ◌≤◌, ◌⊎◌, Bool, true, false, Some, None, ◌%◌, List, [], ◌∷◌, length, Result}
+use Rattle.std.specs.Prelude.{◌≡◌, ◌≢◌, ℕ, ◌+◌, ◌<◌, ◌≤◌, ◌⊎◌, Bool, true, false, Some, None, ◌%◌, List, [], ◌∷◌, length, Result}
 use Rattle.std.specs.Fmt.{decimal, digit_glyph}
 use Rattle.std.specs.Str.{chars}
 use Rattle.domain_label.specs.Spelling.{JustOne, Reads}
@@ -7,6 +7,7 @@ use Rattle.domain_label.specs.declared.symbol.Symbol.{Symbol}
 use Rattle.domain_label.specs.declared.symbol.SymbolCharsError.{SymbolCharsError}
 use Rattle.domain_builder.specs.Built.{Built, size, pushed, ended, labelled, named, refusal, after, Makes, StopsAt, LacksRoom}
 use Rattle.domain_builder.specs.Parts.{parts, symbol_part}
+use Rattle.domain_builder.specs.declared.part.Part.TheVariants.{Dot}
 use Rattle.domain_name.specs.declared.calls.BuilderCall.{BuilderCall}
 use Rattle.domain_name.specs.declared.calls.BuilderCall.TheVariants.{Push, PushSymbol, AppendSlice, EndLabel, AppendLabel, AppendDecU8Label, AppendHexDigitLabel, AppendName, AppendChars}
 use Rattle.domain_builder.specs.declared.part.Fault.{Fault}
@@ -39,7 +40,7 @@ IsTooMuch room whole = (254 < whole) ⊎ (room < whole)
 -- Why a call is passed over. It changes nothing, but that symbols of a text that were taken stay.
 abbrev pub PassedOver : ℕ → Built → BuilderCall → Built → Type 0
 PassedOver room b (Push c) new = (new ≡ b) × Exceeds room (length (pushed b (c ∷ [])).open_label) (size (pushed b (c ∷ [])))
-PassedOver room b (PushSymbol s) new = (new ≡ b) × (((f : Fault) × (refusal b (symbol_part s) ≡ Some f)) ⊎ ((refusal b (symbol_part s) ≡ None) × (room < size (after b (symbol_part s)))))
+PassedOver room b (PushSymbol s) new = (new ≡ b) × (((f : Fault) × (refusal b (symbol_part s) ≡ Some f)) ⊎ ((refusal b (symbol_part s) ≡ None) × (symbol_part s ≢ Dot) × (room < size (after b (symbol_part s)))))
 PassedOver room b (AppendSlice s) new = (new ≡ b) × Exceeds room (length (pushed b s.now).open_label) (size (pushed b s.now))
 PassedOver room b EndLabel new = ⊥
 PassedOver room b (AppendLabel s) new = (new ≡ b) × Exceeds room (length s.now) (size (labelled b s.now))

@@ -160,18 +160,21 @@ impl<B: OctetsBuilder + OctetsMut> NameBuilder<B> {
     }
 
     /// The octets: the wire form of the finished labels, and behind it a 0 and the octets of the open label,
-    /// if any.
+    /// if any. They are never more than a fixed room of the builder beneath.
     pub fn as_slice(&self) -> &[u8]
         ensures octets { result.now ≡ shown (built self.now) }
         ensures short { length result.now ≤ 254 }
+        ensures within { IfSome B.limit (λ n. length result.now ≤ n) }
     {
         self.labels.as_slice()
     }
 
-    /// How many octets there are, with all length octets: at most 254.
+    /// How many octets there are, with all length octets: at most 254, and never more than a fixed room of the
+    /// builder beneath.
     pub fn len(&self) -> usize
         ensures size { result ≡ size (built self.now) }
         ensures short { result ≤ 254 }
+        ensures within { IfSome B.limit (λ n. result ≤ n) }
     {
         self.labels.len()
     }
@@ -292,8 +295,9 @@ impl<B: OctetsBuilder + OctetsMut> NameBuilder<B> {
     /// Adds what a symbol of a text stands for (RFC 1035, 5.1): a plain dot ends the open label, and any other
     /// symbol is pushed as its octet.
     ///
-    /// `EmptyLabel` at a dot where no label is open; `BinaryLabel` at `\[` there; `BadSymbol` at a character
-    /// that stands for no octet; else the refusals of `push`.
+    /// `EmptyLabel` at a dot where no label is open, and a dot elsewhere is never refused; `BinaryLabel` at
+    /// `\[` where none is open; `BadSymbol` at a character that stands for no octet; else the refusals of
+    /// `push`.
     pub fn push_symbol(&mut self, symbol: Symbol) -> Result<(), FromStrError>
         ensures takes { TakesPart (room B.limit (held self.old)) (built self.old) (symbol_part symbol) result (built self.new) }
         ensures grows { (held self.old).capacity ≤ (held self.new).capacity }

@@ -1,5 +1,5 @@
 //! Names from text (RFC 1035, 5.1), from addresses, and back to builders.
-ghost use Rattle.std.specs.Prelude.{◌≡◌, ◌++◌, ◌<◌, ◌+◌, ℕ, List, Option, Some, None, Result, length, IfOk, IfErr, IfSome, OnErr, MatchResult};
+ghost use Rattle.std.specs.Prelude.{◌≡◌, ◌++◌, ◌<◌, ◌≤◌, ◌+◌, ℕ, List, Option, Some, None, Result, length, IfOk, IfErr, IfSome, OnErr, MatchResult};
 ghost use Rattle.std.specs.Iterator.{AlwaysYields, IsFinite};
 ghost use Rattle.std.specs.Str.{chars};
 ghost use Rattle.octseq.specs.Room.{MayLackRoom};
@@ -12,8 +12,9 @@ ghost use Rattle.domain_builder.specs.Reverse.{reverse_name};
 ghost use Rattle.domain_builder.specs.Told.{NoName, NoNameRead, NoRelativeRead, Lacks, RelativeLacks, Tells, RelativeTells};
 ghost use Rattle.domain_builder.specs.declared.part.Fault.{Fault};
 ghost use Rattle.domain_builder.specs.declared.push_error.PushError.TheVariants.{ShortBuf};
-ghost use Rattle.domain_name.specs.Builders.{built};
-ghost use Rattle.domain_name.specs.Names.{name_labels, relative_labels};
+ghost use Rattle.domain_builder.specs.Inside.{room};
+ghost use Rattle.domain_name.specs.Builders.{built, held};
+ghost use Rattle.domain_name.specs.Names.{name_labels, relative_holder, relative_labels};
 
 use crate::absolute::Name;
 use crate::builder::NameBuilder;
@@ -40,8 +41,9 @@ where
     /// A single dot is the root. `ShortInput` where the text is empty; else the fault of the first symbol
     /// that is refused: `ShortInput` or `BadEscape` at a broken escape, `BadSymbol` at a character that
     /// isn't from space to tilde, `BinaryLabel` at `\[` where a label begins, `EmptyLabel` at a dot where
-    /// none is open, `LongLabel` past 63 octets, `LongName` past 254 before the root. `ShortBuf` only where
-    /// there is no fault: the octets, which are appended once, don't fit, or memory was refused.
+    /// none is open, `LongName` past 254 octets before the root, else `LongLabel` past 63 in a label.
+    /// `ShortBuf` only where there is no fault: the octets, which are appended once, don't fit, or memory
+    /// was refused.
     pub fn from_chars<I: Iterator<Item = char> + Drop>(
         alloc: Global,
         chars: I,
@@ -136,8 +138,10 @@ where
 {
     /// Reads a relative name from text, as `www.example` (RFC 1035, 5.1).
     ///
-    /// The empty text is the empty name. `AbsoluteName` where a dot stands behind the last label; else the
-    /// errors are those of `Name::from_chars`.
+    /// The empty text is the empty name. A symbol that is refused is told first, as by `Name::from_chars`,
+    /// but that a single dot is `EmptyLabel`; `AbsoluteName` where there is none and a dot stands behind the
+    /// last label. `ShortBuf` only where there is no fault: the octets, which are appended once, don't fit,
+    /// or memory was refused.
     pub fn from_chars<I: Iterator<Item = char> + Drop>(
         alloc: Global,
         chars: I,
@@ -194,9 +198,11 @@ impl<Octs: IntoBuilder> RelativeName<Octs>
 where
     Octs::Builder: OctetsMut,
 {
-    /// A builder that goes on from the name's labels, none of which is open.
+    /// A builder that goes on from the name's labels, none of which is open, and has no less room than the
+    /// name's octets.
     pub fn into_builder(self) -> NameBuilder<Octs::Builder>
         ensures built { built result ≡ finished (relative_labels self) }
+        ensures room { Octs.capacity (relative_holder self) ≤ room Octs.Builder.limit (held result) }
     {
         NameBuilder::from_wire(self.into_octets().into_builder())
     }
@@ -208,10 +214,13 @@ where
 {
     /// The absolute name of the name's labels and the root.
     ///
-    /// `ShortBuf` only where the root doesn't fit, or where memory was refused.
+    /// `ShortBuf` only where the root exceeds the spare capacity of the name's octets, so never where it
+    /// fits. Under a fixed room it is answered exactly where the root doesn't fit, else only where memory
+    /// was refused, too.
     pub fn into_absolute(self) -> Result<Name<Octs>, PushError>
         ensures ok { IfOk result (λ name. name_labels name ≡ relative_labels self ++ Root) }
         ensures err { IfErr result (λ e. e ≡ ShortBuf) }
+        ensures spare { OnErr result (Octs.capacity (relative_holder self) < length (wire (relative_labels self)) + 1) }
         ensures full { IfSome Octs.Builder.limit (λ n. OnErr result (n < length (wire (relative_labels self)) + 1)) }
     {
         self.into_builder().into_name()

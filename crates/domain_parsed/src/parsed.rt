@@ -113,7 +113,22 @@ impl<'a> ParsedName<&'a [u8]> {
         ensures refused { IfErr result (λ e. TellsFault 255 parser.old e) }
         ensures unchanged { OnErr result (parser.new ≡ parser.old) }
     {
-        ParsedName::parse_with_limit(parser, MAX_POINTERS)
+        // This is `parse_with_limit` at 255, written out: a call between would copy the table once more.
+        let mut progress = Progress::new(parser.pos());
+        read_name(parser.as_slice(), &mut progress, MAX_POINTERS)?;
+        let Ok(()) = parser.seek(progress.place_behind()) else {
+            unreachable!();
+        };
+        Ok(ParsedName {
+            octets: parser.octets_ref(),
+            base: progress.base,
+            places: progress.places,
+            count: progress.count,
+            dropped: 0,
+            passed: 0,
+            name_len: progress.len + 1,
+            compressed: progress.compressed,
+        })
     }
 
     /// The same as `parse`.
@@ -146,21 +161,12 @@ impl<'a> ParsedName<&'a [u8]> {
         ensures refused { IfErr result (λ e. TellsFault limit parser.old e) }
         ensures unchanged { OnErr result (parser.new ≡ parser.old) }
     {
-        let mut progress = Progress::new(parser.pos());
-        read_name(parser.as_slice(), &mut progress, limit)?;
-        let Ok(()) = parser.seek(progress.place_behind()) else {
+        let mut found = Progress::new(parser.pos());
+        read_name(parser.as_slice(), &mut found, limit)?;
+        let Ok(()) = parser.seek(found.place_behind()) else {
             unreachable!();
         };
-        Ok(ParsedName {
-            octets: parser.octets_ref(),
-            base: progress.base,
-            places: progress.places,
-            count: progress.count,
-            dropped: 0,
-            passed: 0,
-            name_len: progress.len + 1,
-            compressed: progress.compressed,
-        })
+        Ok(ParsedName::of(parser.octets_ref(), &found))
     }
 
     /// The same as `parse_with_limit`, with the heads that are read counted: those of labels, of pointers and
@@ -287,6 +293,7 @@ impl<Octs: Octets> ParsedName<Octs> {
     }
 
     /// The same name over the octets as a slice.
+    #[inline(always)]
     pub(crate) fn for_slice(&self) -> ParsedName<&[u8]>
         ensures octets { parsed_octets result ≡ parsed_octets self.now }
         ensures labels { parsed_labels result ≡ parsed_labels self.now }
@@ -328,6 +335,7 @@ impl<Octs: Octets> ParsedName<Octs> {
     }
 
     /// The name, then the name without its first label, and so on down to the root.
+    #[inline(always)]
     pub fn iter_suffixes(&self) -> ParsedSuffixIter<'_>
         ensures { suffixes_left result ≡ suffixes (parsed_octets self.now) (is_scattered self.now) (parsed_labels self.now) }
     {
@@ -335,6 +343,7 @@ impl<Octs: Octets> ParsedName<Octs> {
     }
 
     /// How many labels there are, the root label among them: 1 to 128.
+    #[inline(always)]
     pub fn label_count(&self) -> usize
         ensures { result ≡ length (parsed_labels self.now) }
     {
@@ -342,6 +351,7 @@ impl<Octs: Octets> ParsedName<Octs> {
     }
 
     /// The first label, which is the root label where the name is the root.
+    #[inline(always)]
     pub fn first(&self) -> Label<'_>
         ensures { (rest : List (List ℕ)) × (parsed_labels self.now ≡ label_octets result ∷ rest) }
     {
@@ -361,6 +371,7 @@ impl<Octs: Octets> ParsedName<Octs> {
     /// Leaves out the first label.
     ///
     /// False for the root, which stays as it is. `is_compressed` stays as it was.
+    #[inline(always)]
     pub fn parent(&mut self) -> bool
         ensures labels { MatchBool result ((l : List ℕ) × (parsed_labels self.old ≡ l ∷ parsed_labels self.new)) ((self.new ≡ self.old) × (parsed_labels self.old ≡ Root)) }
         ensures more { IsTrue result → 1 < length (parsed_labels self.old) }
@@ -388,6 +399,7 @@ impl<Octs: Octets> ParsedName<Octs> {
 
     /// Leaves out the first label, and tells where it stands with its length octet. `None` for the
     /// root, which stays as it is.
+    #[inline(always)]
     fn pass_first(&mut self) -> Option<Range<usize>>
         ensures some { IfSome result (λ range. PassesFirst self.old range self.new) }
         ensures none { IsNone result ↔ (parsed_labels self.old ≡ Root) }
@@ -409,6 +421,7 @@ impl<Octs: Octets> ParsedName<Octs> {
     }
 
     /// How many octets the labels have on the wire, with their length octets: 1 to 255.
+    #[inline(always)]
     pub(crate) fn wire_len(&self) -> u16
         ensures { result ≡ length (wire (parsed_labels self.now)) }
     {

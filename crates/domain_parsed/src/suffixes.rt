@@ -15,6 +15,7 @@ impl<'a> ParsedSuffixIter<'a> {
     ghost use Rattle.domain_parsed.specs.Views.{parsed_octets, parsed_labels, is_scattered, suffixes, suffixes_left};
 
     /// The suffixes of a name.
+    #[inline(always)]
     pub(crate) fn new(name: ParsedName<&'a [u8]>) -> Self
         ensures { suffixes_left result ≡ suffixes (parsed_octets name.entry) (is_scattered name.entry) (parsed_labels name.entry) }
     {
@@ -32,6 +33,7 @@ impl<'a> Iterator for ParsedSuffixIter<'a> {
 
     ghost remaining = { item_count suffixes_left };
 
+    #[inline(always)]
     fn next(&mut self) -> Option<ParsedName<&'a [u8]>> {
         if self.ended {
             return None;

@@ -1,5 +1,5 @@
 -- Taking all that is left is a reading.
-use Rattle.std.specs.Prelude.{◌≡◌, ℕ, List, refl, length}
+use Rattle.std.specs.Prelude.{length}
 use Rattle.std.proofs.Common.{arith, ap, sym, ◌∙◌}
 use Rattle.domain_wire.specs.Values.{IsReading}
 use Rattle.domain_rdata.specs.AnyData.{IsAllThatIsLeft, TooMuchIsLeft}

@@ -29,13 +29,24 @@ pub trait Composer: OctetsBuilder + OctetsMut {
     /// Whether names may be written shorter than their wire form.
     ghost compresses: { Bool };
 
+    /// What the composer remembers of the names that it wrote, where octets alone don't tell.
+    ghost Memory: { Type 0 };
+
+    ghost memory: { Self → Memory };
+
+    /// What the composer becomes where the labels of an absolute name were appended.
+    ghost appends: { Self → List (List ℕ) → Self → Type 0 };
+
     /// Appends octets that may be appended for the name whose wire form is given, or nothing.
     ///
-    /// It is refused only where such octets exceed the spare capacity, and the octets are then as before.
+    /// It is refused only where such octets exceed the spare capacity, and the octets, and what is
+    /// remembered, are then as before.
     fn append_flat_name(&mut self, name: &[u8]) -> Result<(), Self::AppendError>
         requires { IsAbsoluteWire name.now }
         ensures ok { OnOk result (Appended (may_append self.old (labels_in name.now)) (Self.octets self.old) (Self.octets self.new)) }
+        ensures appends { OnOk result (appends self.old (labels_in name.now) self.new) }
         ensures err { OnErr result (Self.octets self.new ≡ Self.octets self.old) }
+        ensures kept { OnErr result (memory self.new ≡ memory self.old) }
         ensures full { OnErr result (Exceeds (may_append self.old (labels_in name.now)) (Self.octets self.old) (Self.capacity self.old)) }
         ensures capacity { Self.capacity self.old ≤ Self.capacity self.new };
 
@@ -45,13 +56,16 @@ pub trait Composer: OctetsBuilder + OctetsMut {
 
     /// Appends octets that may be appended for the name, or nothing.
     ///
-    /// It is refused only where such octets exceed the spare capacity, and the octets are then as before.
+    /// It is refused only where such octets exceed the spare capacity, and the octets, and what is
+    /// remembered, are then as before.
     final fn append_compressed_name<'a, N: AbsoluteLabels<'a>>(
         &mut self,
         name: &'a N,
     ) -> Result<(), Self::AppendError>
         ensures ok { OnOk result (Appended (may_append self.old (N.labels name.now)) (Self.octets self.old) (Self.octets self.new)) }
+        ensures appends { OnOk result (appends self.old (N.labels name.now) self.new) }
         ensures err { OnErr result (Self.octets self.new ≡ Self.octets self.old) }
+        ensures kept { OnErr result (memory self.new ≡ memory self.old) }
         ensures full { OnErr result (Exceeds (may_append self.old (N.labels name.now)) (Self.octets self.old) (Self.capacity self.old)) }
         ensures capacity { Self.capacity self.old ≤ Self.capacity self.new }
     {
@@ -73,6 +87,12 @@ impl Composer for Vec<u8> {
 
     ghost compresses = { false };
 
+    ghost Memory = { Unit {0} };
+
+    ghost memory = { λ _. tt };
+
+    ghost appends = { λ _ _ _. Unit {0} };
+
     fn append_flat_name(&mut self, name: &[u8]) -> Result<(), Self::AppendError> {
         self.append_slice(name)
     }
@@ -91,6 +111,12 @@ impl<const N: usize> Composer for ArrayVec<u8, N> {
 
     ghost compresses = { false };
 
+    ghost Memory = { Unit {0} };
+
+    ghost memory = { λ _. tt };
+
+    ghost appends = { λ _ _ _. Unit {0} };
+
     fn append_flat_name(&mut self, name: &[u8]) -> Result<(), Self::AppendError> {
         self.append_slice(name)
     }
@@ -108,6 +134,12 @@ impl<T: Composer> Composer for &mut T {
     ghost may_append = { λ c. T.may_append c.now };
 
     ghost compresses = { T.compresses };
+
+    ghost Memory = { T.Memory };
+
+    ghost memory = { λ c. T.memory c.now };
+
+    ghost appends = { λ c ls d. T.appends c.now ls d.now };
 
     fn append_flat_name(&mut self, name: &[u8]) -> Result<(), Self::AppendError> {
         (**self).append_flat_name(name)

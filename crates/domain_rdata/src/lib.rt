@@ -5,8 +5,6 @@ pub mod composer;
 pub mod long;
 pub mod record_data;
 pub mod rtype;
-#[cfg(test)]
-mod tests;
 pub mod unknown;
 
 pub use composer::Composer;

@@ -1,18 +1,20 @@
 //! Record data of any type.
-ghost use Rattle.std.specs.Prelude.{◌≡◌, ◌==◌, ◌<◌, ◌≤◌, ◌↔◌, ℕ, List, length, IfOk, IsErr, IsOk, OnErr, Some, true};
+ghost use Rattle.std.specs.Prelude.{◌≡◌, ◌==◌, ◌<◌, ◌≤◌, ◌↔◌, ℕ, List, length, codes, IfOk, IfErr, IsErr, IsOk, OnOk, OnErr, Some, true};
 ghost use Rattle.std.proofs.Common.{rules};
 ghost use Rattle.std.specs.Cmp.Lexicographic.{pointwise, slice_cmp};
 ghost use Rattle.std.specs.Cmp.Rules.{comparing};
 ghost use Rattle.std.specs.Cmp.{partial_order_from_own_ties};
 ghost use Rattle.std.specs.List.{flat_map};
 ghost use Rattle.std.specs.Ordering.{nat_cmp, on, as_partial_cmp};
+ghost use Rattle.octseq.specs.Parsing.{left, message, MovesTo};
+ghost use Rattle.domain_wire.specs.Refusals.{refusal, form};
 ghost use Rattle.domain_rdata.specs.Rtypes.{rtype_number};
 ghost use Rattle.domain_rdata.specs.AnyData.{spaced_octet, unknown_text, IsAllThatIsLeft, TooMuchIsLeft};
 ghost use Rattle.domain_rdata.specs.UnknownReading.{all_that_is_left};
 
 use crate::composer::Composer;
 use crate::long::LongRecordData;
-use crate::record_data::{ComposeRecordData, ParseAnyRecordData, ParseRecordData, RecordData};
+use crate::record_data::{ComposeRecordData, ParseRecordData, RecordData};
 use crate::rtype::Rtype;
 use arrayvec::ArrayVec;
 use domain_label::hex::hex_digit;
@@ -171,31 +173,30 @@ impl<Octs: Octets> ComposeRecordData for UnknownRecordData<Octs> {
     }
 }
 
-/// Takes all that is left, whatever the type. A form error "record data too long" where that is more
-/// than 65,535 octets.
-impl<'a> ParseAnyRecordData<'a> for UnknownRecordData<&'a [u8]> {
-    ghost use Rattle.domain_rdata.specs.Unknown.{data_octets};
+impl<'a> UnknownRecordData<&'a [u8]> {
+    ghost use Rattle.domain_rdata.specs.Unknown.{data_octets, data_type};
 
-    ghost View = { List ℕ };
-
-    ghost seen = { data_octets };
-
-    ghost stands = { λ _. IsAllThatIsLeft };
-
-    ghost fails = { λ _. TooMuchIsLeft };
-
-    fn parse_any_rdata(
+    /// Reads data of this type: all that is left, and moves the parser to its end.
+    ///
+    /// It is a form error "record data too long" exactly where that is more than 65,535 octets. The parser
+    /// then stays where it stood.
+    pub fn parse_any_rdata(
         rtype: Rtype,
         parser: &mut Parser<'a>,
-    ) -> Result<UnknownRecordData<&'a [u8]>, ParseError> {
+    ) -> Result<UnknownRecordData<&'a [u8]>, ParseError>
+        ensures held { IfOk result (λ it. data_octets it ≡ left parser.old) }
+        ensures of_type { IfOk result (λ it. data_type it ≡ rtype_number rtype) }
+        ensures moves { OnOk result (MovesTo parser.old parser.new (length (message parser.old))) }
+        ensures long { IsErr result ↔ (65535 < length (left parser.old)) }
+        ensures told { IfErr result (λ e. refusal e ≡ form (codes "record data too long")) }
+        ensures err { OnErr result (parser.new ≡ parser.old) }
+    {
         let read = UnknownRecordData::from_octets(rtype, parser.peek_all())?;
         let Ok(()) = parser.advance(parser.remaining()) else {
             unreachable!();
         };
         Ok(read)
     }
-
-    ghost lawful = { λ _. all_that_is_left };
 }
 
 /// Takes all that is left, whatever the type, so it never answers `None`.

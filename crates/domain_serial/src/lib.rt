@@ -3,7 +3,5 @@
 
 pub mod laws;
 pub mod serial;
-#[cfg(test)]
-mod tests;
 
 pub use serial::{IllegalSignatureTime, Serial};

@@ -13,11 +13,11 @@ const LINE: &[u8] = b"www.Example.com.\n";
 
 /// A reader that gives one octet at a time, and fails behind a number of them.
 #[derive(Drop)]
-struct FailingReader<'a> {
-    octets: &'a [u8],
-    given: usize,
-    fails_after: usize,
-    kind: ErrorKind,
+pub struct FailingReader<'a> {
+    pub octets: &'a [u8],
+    pub given: usize,
+    pub fails_after: usize,
+    pub kind: ErrorKind,
 }
 
 impl Read for FailingReader<'_> {
@@ -46,9 +46,9 @@ fn failing_reader(fails_after: usize, kind: ErrorKind) -> FailingReader<'static>
 
 /// A writer that takes a number of octets, and fails then.
 #[derive(Drop)]
-struct FailingWriter {
-    left: usize,
-    kind: ErrorKind,
+pub struct FailingWriter {
+    pub left: usize,
+    pub kind: ErrorKind,
 }
 
 impl Write for FailingWriter {
@@ -68,9 +68,9 @@ impl Write for FailingWriter {
 
 /// A writer that takes all octets, and counts the calls.
 #[derive(Drop)]
-struct CountingWriter {
-    calls: u32,
-    octets: usize,
+pub struct CountingWriter {
+    pub calls: u32,
+    pub octets: usize,
 }
 
 impl Write for CountingWriter {
@@ -85,7 +85,8 @@ impl Write for CountingWriter {
     }
 }
 
-const KINDS: [(ErrorKind, ToolError, ToolError); 2] = [
+/// What makes reading and writing fail, and what the engine answers to each.
+pub const KINDS: [(ErrorKind, ToolError, ToolError); 2] = [
     (ErrorKind::BrokenPipe, ToolError::Read, ToolError::Write),
     (ErrorKind::OutOfMemory, ToolError::Memory, ToolError::Memory),
 ];

@@ -16,7 +16,6 @@ use octseq::{
     ShortBuf, Truncate,
 };
 use std::alloc::Global;
-use std::borrow::CowSlice;
 
 /// Under a fixed limit an append is refused exactly where the limit would be passed.
 fn append_under_limit<B: OctetsBuilder>(
@@ -169,18 +168,6 @@ fn octets_are_written_in_place(rt: HostRuntime) {
     write_octet(&mut &mut array, 2, 8);
     Truncate::truncate(&mut &mut array, 3);
     assert_eq!(rt; Octets::as_slice(&&mut array), [1, 9, 8].as_slice());
-}
-
-#[test]
-fn octets_that_may_be_lent_are_shortened(rt: HostRuntime) {
-    let mut borrowed = CowSlice::Borrowed(b"abc".as_slice());
-    Truncate::truncate(&mut borrowed, 1);
-    assert_eq!(rt; Octets::as_slice(&borrowed), b"a".as_slice());
-    if let Ok(vec) = Vec::from_slice(rt.alloc(), b"abc") {
-        let mut owned = CowSlice::Owned(vec);
-        Truncate::truncate(&mut owned, 2);
-        assert_eq!(rt; Octets::as_slice(&&owned), b"ab".as_slice());
-    }
 }
 
 #[test]

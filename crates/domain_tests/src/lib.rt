@@ -4,7 +4,11 @@
 #![tactic(auto)]
 
 #[cfg(test)]
+mod building;
+#[cfg(test)]
 mod calls;
+#[cfg(test)]
+mod compressing;
 #[cfg(test)]
 mod engines;
 #[cfg(test)]
@@ -12,9 +16,13 @@ mod flattening;
 #[cfg(test)]
 mod generic;
 #[cfg(test)]
+mod instants;
+#[cfg(test)]
 mod kinds;
 #[cfg(test)]
 mod labels;
+#[cfg(test)]
+mod lines;
 #[cfg(test)]
 mod lists;
 #[cfg(test)]
@@ -28,10 +36,10 @@ mod paths;
 #[cfg(test)]
 mod places;
 #[cfg(test)]
+mod records;
+#[cfg(test)]
 mod room;
 #[cfg(test)]
 mod slow_reader;
-#[cfg(test)]
-mod texts;
 #[cfg(test)]
 mod words;

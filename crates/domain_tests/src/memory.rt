@@ -160,19 +160,6 @@ fn names_in_messages_are_copied_or_refused(rt: HostRuntime) {
 }
 
 #[test]
-fn names_in_arrays_are_never_refused_a_copy(rt: HostRuntime) -> Result<(), ShortBuf> {
-    let alloc = rt.alloc();
-    let held: Name<ArrayVec<u8, 20>> = Name::try_octets_from(alloc, absolute(&rt, WWW))?;
-    let mut name = ParsedName::from(held.clone(alloc)?);
-    assert!(rt; name.parent() && name.parent());
-    let copy = name.clone(alloc)?;
-    assert!(rt; copy == name && copy.label_count() == 2);
-    let held: RelativeName<ArrayVec<u8, 2>> = RelativeName::wildcard(alloc)?;
-    assert_eq!(rt; held.clone(alloc)?.as_slice(), b"\x01*".as_slice());
-    Ok(())
-}
-
-#[test]
 fn octets_are_appended_or_refused(rt: HostRuntime) {
     let alloc = rt.alloc();
     let mut refusals = Refusals { count: 0 };

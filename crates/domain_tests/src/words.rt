@@ -1,6 +1,7 @@
 //! What the program's words do: the status, what is written, and the reason that is told.
 
 use crate::names::SCATTERED;
+use domain::base::name::FromStrError;
 use domain::base::wire::ParseError;
 use domain::tool::{ToolError, run};
 use std::alloc::Global;
@@ -8,6 +9,21 @@ use std::process::Abort;
 use std::test::Fail;
 
 const USAGE: &[u8] = b"usage: dnsnames at PLACE | dnsnames text NAME | dnsnames list\n";
+
+/// A question and an answer, whose name is a pointer to that of the question.
+pub const ANSWER: &[u8] = b"\x12\x34\x81\x80\0\x01\0\x01\0\0\0\0\x01a\0\0\x01\0\x01\xc0\x0c\0\x01\0\x01\0\0\x0e\x10\0\x04\xc0\0\x02\x01";
+
+/// The header counts two questions, of which one is there.
+const QUERY: &[u8] = b"\x12\x34\0\0\0\x02\0\0\0\0\0\0\x01a\0\0\x01\0\x01";
+
+/// A header that counts 65,535 of each.
+const COUNTS: &[u8] = b"\x12\x34\0\0\xff\xff\xff\xff\xff\xff\xff\xff";
+
+/// The name of the question is a pointer to itself.
+const FORWARD: &[u8] = b"\x12\x34\0\0\0\x01\0\0\0\0\0\0\xc0\x0c\0\x01\0\x01";
+
+/// A label of 64 octets.
+const LONG_LABEL: &str = "1234567890123456789012345678901234567890123456789012345678901234";
 
 /// Runs the words over an input, and looks at the status and at what was written to both.
 fn check_run(
@@ -58,6 +74,50 @@ fn the_fault_is_told(rt: HostRuntime) {
 }
 
 #[test]
+fn a_text_asks_for_its_wire_form(rt: HostRuntime) {
+    for (text, shown) in [
+        (
+            "www.example.com",
+            b"03777777076578616d706c6503636f6d00\n".as_slice(),
+        ),
+        ("a\\065.b", b"026141016200\n"),
+        (".", b"00\n"),
+    ] {
+        check_run(&rt, rt.alloc(), &["text", text], b"", (0, shown, b""));
+    }
+    for (text, reason) in [
+        ("", b"unexpected end of input\n".as_slice()),
+        ("a..b", b"empty label\n"),
+        (".a", b"empty label\n"),
+        ("\\", b"unexpected end of input\n"),
+        ("\\256", b"illegal escape sequence\n"),
+        ("\u{e9}", b"illegal character\n"),
+        ("\\[a", b"a binary label was encountered\n"),
+        (LONG_LABEL, b"label length limit exceeded\n"),
+    ] {
+        check_run(&rt, rt.alloc(), &["text", text], b"", (1, b"", reason));
+    }
+}
+
+#[test]
+fn a_message_is_listed(rt: HostRuntime) {
+    let question = b"question a. 1 1\n".as_slice();
+    let short = b"unexpected end of input\n".as_slice();
+    let whole = b"question a. 1 1\nanswer a. 1 1 3600 \\# 4 c0 00 02 01\n".as_slice();
+    for (message, status, shown, reason) in [
+        (ANSWER, 0u8, whole, b"".as_slice()),
+        (&ANSWER[..ANSWER.len() - 1], 1, question, short),
+        (QUERY, 1, question, short),
+        (&[0; 11], 1, b"", short),
+        (&[0; 12], 0, b"", b""),
+        (COUNTS, 1, b"", short),
+        (FORWARD, 1, b"", b"too many compression pointers\n"),
+    ] {
+        check_run(&rt, rt.alloc(), &["list"], message, (status, shown, reason));
+    }
+}
+
+#[test]
 fn other_words_get_the_usage(rt: HostRuntime) {
     for word in [
         "4294967296",
@@ -85,6 +145,9 @@ fn other_counts_of_words_get_the_usage(rt: HostRuntime) {
         (2, b"", USAGE),
     );
     check_run(&rt, rt.alloc(), &["AT", "0"], SCATTERED, (2, b"", USAGE));
+    check_run(&rt, rt.alloc(), &["text"], b"", (2, b"", USAGE));
+    check_run(&rt, rt.alloc(), &["text", "a", "b"], b"", (2, b"", USAGE));
+    check_run(&rt, rt.alloc(), &["list", "0"], QUERY, (2, b"", USAGE));
 }
 
 #[test]
@@ -94,6 +157,7 @@ fn errors_of_the_tools_have_texts(rt: HostRuntime) -> Result<(), Fail> {
             ToolError::Parse(ParseError::ShortInput),
             "unexpected end of input",
         ),
+        (ToolError::Text(FromStrError::ShortBuf), "buffer size exceeded"),
         (ToolError::Read, "reading failed"),
         (ToolError::Write, "writing failed"),
         (ToolError::Memory, "out of memory"),

@@ -1,4 +1,4 @@
-use Rattle.std.proofs.Common.{◌≡◌, ◌+◌, ◌-◌, ◌*◌, ◌≤◌, drop, reverse, length}
+use Rattle.std.proofs.Common.{◌≡◌, ◌+◌, ◌*◌, ◌≤◌, drop, reverse, length}
 use Rattle.std.specs.List.{flat_map}
 use Rattle.domain_builder.specs.Built.{finished, size}
 use Rattle.domain_builder.specs.Reverse.{nibbles}

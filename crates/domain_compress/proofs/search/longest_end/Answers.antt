@@ -1,31 +1,17 @@
-use Rattle.std.proofs.Common.{refl, ◌+◌, ℕ, List, sym, subst}
-use Rattle.domain_label.specs.Wire.{labels_in, IsAbsoluteWire}
-use Rattle.domain_compress.specs.Compressing.{NoPlace, FirstPlace}
-use Rattle.domain_compress.specs.Written.{places, StandsThrough}
-use Rattle.domain_compress.proofs.Searching.{Searched, searched_start, searched_next, searched_all, searched_found, ahead, behind_all}
+use Rattle.domain_compress.proofs.Bettering.{seen_start, seen_next, seen_whole}
 use Rattle.domain_compress.proofs.search.longest_end.Goals as goal
 
-pub ends-init : goal.ends-init
-ends-init c = searched_start _ _ _ c.requires
+pub places-init : goal.places-init
+places-init c = record { seen = seen_start _ _ _; marked = c.first_marks-marks.ensures }
 
-pub bounds-name-begin : goal.bounds-name-begin
-bounds-name-begin c = (ahead _ _ _ _ c.requires c.ends.invariant).inside
+pub returns-then-end-eq0-clause-some : goal.returns-then-end-eq0-clause-some
+returns-then-end-eq0-clause-some c =
+    seen_whole _ _ _ _ _ (seen_next _ _ _ _ _ _ _ _ c.places.invariant.seen c.in-Some.ensures.cases.0 c.in-Some-best.ensures) c.if-end-eq0.true
 
-pub first_place-requires : goal.first_place-requires
-first_place-requires c =
-    subst IsAbsoluteWire (sym (behind_all c.args.name.now c.ends.begin)) (ahead _ _ _ _ c.requires c.ends.invariant).wire_form
+pub places-preserved-else-end-eq0 : goal.places-preserved-else-end-eq0
+places-preserved-else-end-eq0 c =
+    record { seen = seen_next _ _ _ _ _ _ _ _ c.places.invariant.seen c.in-Some.ensures.cases.0 c.in-Some-best.ensures; marked = c.places.invariant.marked }
 
-pub returns-in-Some-clause-some : goal.returns-in-Some-clause-some
-returns-in-Some-clause-some c =
-    let P : List ℕ → Type 0 = λ o. FirstPlace c.args.octets.now (places c.args.written.now) (labels_in o) c.in-Some.place in
-    let Q : List ℕ → Type 0 = λ o. StandsThrough c.args.octets.now c.in-Some.place (labels_in o) c.in-Some.pointers in
-    searched_found _ _ _ _ c.requires c.ends.invariant c.ends-test.true (subst P (behind_all c.args.name.now c.ends.begin) c.in-Some.ensures.some.first) (subst Q (behind_all c.args.name.now c.ends.begin) c.in-Some.ensures.through) c.in-Some.ensures.some.low
-
-pub ends-preserved : goal.ends-preserved
-ends-preserved c =
-    let P : ℕ → Type 0 = λ k. Searched c.args.octets.now (places c.args.written.now) c.args.name.now (c.ends.begin + 1 + k) in
-    let Q : List ℕ → Type 0 = λ o. NoPlace c.args.octets.now (places c.args.written.now) (labels_in o) in
-    subst P (sym c.from.ensures) (searched_next _ _ _ _ c.requires c.ends.invariant (subst Q (behind_all c.args.name.now c.ends.begin) (c.in_default.ensures.none refl)) c.ends-test.true)
-
-pub returns-clause-none : goal.returns-clause-none
-returns-clause-none c = λ _. searched_all _ _ _ _ c.ends.invariant c.ends-test.false
+pub places-preserved : goal.places-preserved
+places-preserved c =
+    record { seen = seen_next _ _ _ _ _ _ _ _ c.places.invariant.seen c.in-Some.ensures.cases.0 c.better_end-best.ensures; marked = c.places.invariant.marked }

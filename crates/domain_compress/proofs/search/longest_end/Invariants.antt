@@ -1,10 +1,13 @@
-use Rattle.std.proofs.Common.{◌-◌, length}
-use Rattle.domain_compress.specs.Written.{places}
-use Rattle.domain_compress.proofs.Searching.{Searched}
+use Rattle.std.proofs.Common.{length}
+use Rattle.domain_compress.specs.Ends.{AreMarked}
+use Rattle.domain_compress.proofs.Bettering.{Seen}
 use Rattle.domain_compress.proofs.search.longest_end.Given as goal
 
-abbrev pub invariant-ends : goal.invariant-ends
-invariant-ends l = Searched l.octets (places l.written) l.name l.begin
+abbrev pub invariant-places : goal.invariant-places
+invariant-places l = record {
+  seen : Seen l.octets l.name l.written l.rest l.best;
+  marked : AreMarked l.marks l.name;
+}
 
-abbrev pub decreases-ends : goal.decreases-ends
-decreases-ends l = length l.name - l.begin
+abbrev pub decreases-places : goal.decreases-places
+decreases-places l = length l.rest

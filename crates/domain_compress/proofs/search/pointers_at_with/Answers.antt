@@ -1,4 +1,4 @@
-use Rattle.std.proofs.Common.{inl, inr, ◌+◌, arith, refl}
+use Rattle.std.proofs.Common.{inl, inr, arith, refl}
 use Rattle.std.proofs.lemmas.Bool.{false≢true}
 use Rattle.domain_compress.proofs.Along.{along_start, ahead_along, along_label, along_pointer, along_all, not_broken, not_back, not_root, not_long, not_same, stands_so}
 use Rattle.domain_compress.proofs.search.pointers_at_with.Goals as goal
@@ -16,7 +16,7 @@ pub returns-then-name-passed-ne0-clause-none : goal.returns-then-name-passed-ne0
 returns-then-name-passed-ne0-clause-none g c = λ _. not_root _ c.heads.invariant (rw c.in-Root.is at c.in-Ok.ensures.found) c.if-name-passed-ne0.true
 
 pub returns-in-Root-clause-some : goal.returns-in-Root-clause-some
-returns-in-Root-clause-some g c = stands_so _ c.requires.wire (along_all _ c.heads.invariant (rw c.in-Root.is at c.in-Ok.ensures.found) c.if-name-passed-ne0.false)
+returns-in-Root-clause-some g c = stands_so _ c.requires.wire.1.1 (along_all _ c.heads.invariant (rw c.in-Root.is at c.in-Ok.ensures.found) c.if-name-passed-ne0.false)
 
 pub returns-in-Root-clause-through : goal.returns-in-Root-clause-through
 returns-in-Root-clause-through g c = along_all _ c.heads.invariant (rw c.in-Root.is at c.in-Ok.ensures.found) c.if-name-passed-ne0.false
@@ -28,13 +28,13 @@ pub returns-then-name-passed-clause-none : goal.returns-then-name-passed-clause-
 returns-then-name-passed-clause-none g c = λ _. not_long _ c.heads.invariant (rw c.in-Label.is at c.in-Ok.ensures.found) c.if-name-passed.true
 
 pub returns-then-target-at-clause-none : goal.returns-then-target-at-clause-none
-returns-then-target-at-clause-none g c = λ _. not_back _ c.heads.invariant (rw c.in-Pointer.is at c.in-Ok.ensures.found) (inl c.if-target-at.true)
+returns-then-target-at-clause-none g c = λ _. not_back _ c.heads.invariant (rw c.in-Pointer.is at c.in-Ok.ensures.found).0 (inl c.if-target-at.true)
 
 pub returns-then-pointers-clause-none : goal.returns-then-pointers-clause-none
-returns-then-pointers-clause-none g c = λ _. not_back _ c.heads.invariant (rw c.in-Pointer.is at c.in-Ok.ensures.found) (inr c.if-pointers.true)
+returns-then-pointers-clause-none g c = λ _. not_back _ c.heads.invariant (rw c.in-Pointer.is at c.in-Ok.ensures.found).0 (inr c.if-pointers.true)
 
 pub heads-preserved : goal.heads-preserved
-heads-preserved g c = along_pointer _ c.heads.invariant (rw c.in-Pointer.is at c.in-Ok.ensures.found) (omega (arith, c.if-target-at.false)) (omega (arith, c.heads.invariant.few, c.if-pointers.false))
+heads-preserved g c = along_pointer _ c.heads.invariant (rw c.in-Pointer.is at c.in-Ok.ensures.found).0 (omega (arith, c.if-target-at.false)) (omega (arith, c.heads.invariant.few, c.if-pointers.false))
 
 pub same_octets-requires-clause-right : goal.same_octets-requires-clause-right
 same_octets-requires-clause-right g c =

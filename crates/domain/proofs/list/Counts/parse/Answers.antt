@@ -1,5 +1,4 @@
-use Rattle.std.proofs.Common.{rules, arith, ap, length, ◌+◌, ◌∙◌}
-use Rattle.octseq.specs.Parsing.{place}
+use Rattle.std.proofs.Common.{arith, ap, length, ◌∙◌}
 use Rattle.domain.proofs.Entries.{read16, same_message, place_inside}
 use Rattle.domain.proofs.list.Counts.parse.Goals as goal
 

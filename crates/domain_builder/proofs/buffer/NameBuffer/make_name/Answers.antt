@@ -1,4 +1,4 @@
-use Rattle.std.proofs.Common.{◌++◌, ◌∙◌, List, ℕ}
+use Rattle.std.proofs.Common.{◌++◌, ◌∙◌}
 use Rattle.domain_label.specs.Wire.{Root}
 use Rattle.domain_builder.specs.Built.{closed}
 use Rattle.domain_builder.proofs.Buffering.{name_octets, ended_absolute, absolute_made}

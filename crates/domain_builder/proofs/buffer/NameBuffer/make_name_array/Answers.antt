@@ -1,4 +1,4 @@
-use Rattle.std.proofs.Common.{◌++◌, ◌∙◌, List, ℕ}
+use Rattle.std.proofs.Common.{◌++◌, ◌∙◌, ℕ}
 use Rattle.domain_label.specs.Wire.{Root}
 use Rattle.arrayvec.specs.ArrayVec.{ArrayVec}
 use Rattle.domain_builder.specs.Built.{closed}

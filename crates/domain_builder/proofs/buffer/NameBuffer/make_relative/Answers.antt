@@ -1,4 +1,4 @@
-use Rattle.std.proofs.Common.{◌∙◌, List, ℕ}
+use Rattle.std.proofs.Common.{◌∙◌}
 use Rattle.domain_builder.specs.Built.{closed}
 use Rattle.domain_builder.proofs.Buffering.{relative_octets, ended_relative, relative_made}
 use Rattle.domain_builder.proofs.buffer.NameBuffer.make_relative.Goals as goal

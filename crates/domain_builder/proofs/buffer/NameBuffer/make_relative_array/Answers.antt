@@ -1,4 +1,4 @@
-use Rattle.std.proofs.Common.{◌∙◌, List, ℕ}
+use Rattle.std.proofs.Common.{◌∙◌, ℕ}
 use Rattle.arrayvec.specs.ArrayVec.{ArrayVec}
 use Rattle.domain_builder.specs.Built.{closed}
 use Rattle.domain_builder.proofs.Buffering.{relative_octets, ended_relative, relative_made}

@@ -1,4 +1,4 @@
-use Rattle.std.proofs.Common.{◌≡◌, ◌+◌, sum, ℕ, take}
+use Rattle.std.proofs.Common.{◌≡◌, ◌+◌, sum, take}
 use Rattle.domain_rdata.proofs.long.LongRecordData.check_multi_len.Given as goal
 
 abbrev pub invariant-loop-len : goal.invariant-loop-len

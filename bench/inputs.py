@@ -1,0 +1,118 @@
+#!/usr/bin/env python3
+"""Writes the input files of the benchmarks into a folder.
+
+    inputs.py FOLDER
+
+A file is: the number of cases (32 bits, little endian); then for each case a
+number (32 bits, little endian), the length (the same) and the octets. The
+number is the place of a name in the octets, or 0. The same files come out each
+time.
+"""
+
+import pathlib
+import random
+import struct
+import sys
+
+
+def write(folder, name, cases):
+    out = bytearray(struct.pack("<I", len(cases)))
+    for place, octets in cases:
+        out += struct.pack("<II", place, len(octets)) + octets
+    (folder / name).write_bytes(out)
+
+
+def wire(parts):
+    return b"".join(bytes([len(p)]) + p for p in parts) + b"\0"
+
+
+def pointer(target):
+    return bytes([0xC0 | target >> 8, target & 255])
+
+
+def word(rng, low, high):
+    return bytes(rng.choice(b"abcdefghijklmnopqrstuvwxyz0123456789") for _ in range(rng.randint(low, high)))
+
+
+def mixed(rng, octets):
+    return bytes(c ^ 0x20 if 97 <= c <= 122 and rng.random() < 0.5 else c for c in octets)
+
+
+def main():
+    folder = pathlib.Path(sys.argv[1])
+    folder.mkdir(parents=True, exist_ok=True)
+    rng = random.Random("benchmark")
+    tlds = [b"com", b"net", b"org", b"io", b"de", b"info"]
+
+    def domain():
+        return [word(rng, 4, 12), rng.choice(tlds)]
+
+    # a response: question `www.DOMAIN`, an answer by pointer, a second answer
+    # `LABEL` + pointer to DOMAIN; the place is that of the second answer's name
+    typical, whole = [], []
+    for _ in range(256):
+        dom = domain()
+        host = rng.choice([b"www", b"mail", b"api", b"cdn"])
+        msg = bytearray(bytes.fromhex("123481800001000200000000"))
+        msg += wire([host] + dom) + bytes.fromhex("00010001")
+        msg += pointer(12) + bytes.fromhex("0001000100000e100004c0000201")
+        whole.append((12 + len(wire([host] + dom)) + 4, None))
+        place = len(msg)
+        msg += bytes([3]) + word(rng, 3, 3) + pointer(12 + 1 + len(host)) + bytes.fromhex("0001000100000e100004c0000202")
+        typical.append((place, bytes(msg)))
+        whole[-1] = (whole[-1][0], bytes(msg))
+    write(folder, "typical.msg", typical)
+    write(folder, "pointer.msg", whole)
+
+    # 127 labels, 255 pointers
+    worst = []
+    for k in range(16):
+        msg = bytearray(12) + b"\0"
+        last = 12
+        for _ in range(128):
+            here = len(msg)
+            msg += pointer(last)
+            last = here
+        for i in range(127):
+            here = len(msg)
+            msg += bytes([1, 97 + (i + k) % 26]) + pointer(last)
+            last = here
+        worst.append((last, bytes(msg)))
+    write(folder, "worst.msg", worst)
+
+    # 127 labels, flat in a message; and the same names alone
+    deep = [wire([bytes([97 + (i + k) % 26]) for i in range(127)]) for k in range(16)]
+    write(folder, "deep.msg", [(12, bytes(12) + name + b"\0\1\0\1") for name in deep])
+
+    # `www.example.com` flat at the end of a message of 64 and of 65,535 octets
+    name = wire([b"www", b"example", b"com"])
+    for file, size in [("short.msg", 64), ("long.msg", 65535)]:
+        write(folder, file, [(size - len(name) - k, bytes(12) + bytes(size - 12 - len(name) - k) + name + bytes(k)) for k in range(4)])
+
+    # names two by two: equal but for case, or with another first or last label
+    pairs = []
+    for i in range(256):
+        name = wire([word(rng, 2, 10)] + domain())
+        other = mixed(rng, name)
+        if i % 4 == 2:
+            other = wire([word(rng, 2, 10)] + domain())
+        if i % 4 == 3:
+            other = bytes([3]) + b"zzz" + name[1 + name[0]:]
+        pairs += [(0, name), (0, other)]
+    write(folder, "typical.names", pairs)
+    write(folder, "deep.names", [(0, n) for name in deep for n in (name, mixed(rng, name))])
+
+    # texts: typical, and with escapes
+    texts = [(0, b".".join([word(rng, 2, 10)] + domain()) + rng.choice([b"", b"."])) for _ in range(256)]
+    write(folder, "typical.texts", texts)
+    escapes = []
+    for _ in range(64):
+        labels = []
+        for _ in range(6):
+            labels.append(b"".join(rng.choice([b"\\.", b"\\032", b"\\200", b"a", b"\\\\", b"Z"]) for _ in range(12)))
+        escapes.append((0, b".".join(labels)))
+    write(folder, "escaped.texts", escapes)
+
+
+if __name__ == "__main__":
+    main()

@@ -1,0 +1,814 @@
+//! Measures `domain` 0.12.3 on the files of inputs.py.
+//!
+//!     bench FOLDER [WORD]
+//!
+//! prints `rust-domain TAB operation TAB file TAB nanoseconds TAB checksum` for each
+//! operation (whose name contains WORD). The time is that of one call, the
+//! best of several rounds over all cases of the file; several implementations
+//! take turns. The checksum is over
+//! the results of all cases of the file; another implementation of the same
+//! operation gives the same one.
+//!
+//! Each operation is a function of slices and numbers that gives a number, so
+//! that an implementation behind `extern "C"` can stand beside it (see build.rs).
+
+use domain::base::name::{Name, NameBuilder, ParsedName, RelativeName, ToLabelIter, ToName};
+use octseq::array::Array;
+use octseq::parse::Parser;
+use std::fmt::Write;
+use std::hash::{Hash, Hasher};
+use std::hint::black_box;
+use std::path::Path;
+use std::time::{Duration, Instant};
+
+const REFUSED: u64 = u64::MAX;
+
+//------------ Operations ----------------------------------------------------
+
+/// FNV-1a over 64 bits.
+struct Fnv(u64);
+
+impl Fnv {
+    fn new() -> Self {
+        Fnv(0xcbf2_9ce4_8422_2325)
+    }
+}
+
+impl Hasher for Fnv {
+    fn finish(&self) -> u64 {
+        self.0
+    }
+
+    fn write(&mut self, bytes: &[u8]) {
+        for byte in bytes {
+            self.0 = (self.0 ^ *byte as u64).wrapping_mul(0x100_0000_01b3);
+        }
+    }
+}
+
+fn sum(slice: &[u8]) -> u64 {
+    let mut hash = Fnv::new();
+    hash.write(slice);
+    hash.finish()
+}
+
+/// One of the octets, and how many there are. Which of them is known when it
+/// runs only, so that no implementation can leave them unwritten.
+fn told(octets: &[u8], at: usize) -> u64 {
+    match octets {
+        [] => 0,
+        [.., last] => (octets.len() as u64) << 8 | *octets.get(at).unwrap_or(last) as u64,
+    }
+}
+
+fn and_label(sum: u64, len: usize) -> u64 {
+    sum.wrapping_mul(31).wrapping_add(len as u64)
+}
+
+fn parsed(message: &[u8], place: usize) -> Option<(ParsedName<&[u8]>, usize)> {
+    let mut parser = Parser::from_ref(message);
+    parser.advance(place).ok()?;
+    let name = ParsedName::parse(&mut parser).ok()?;
+    Some((name, parser.pos()))
+}
+
+/// Reads the name: the place behind it, its length, whether it is compressed.
+#[inline(never)]
+fn parse(message: &[u8], place: usize) -> u64 {
+    match parsed(message, place) {
+        Some((name, behind)) => {
+            (behind as u64) << 16 | (name.compose_len() as u64) << 1 | name.is_compressed() as u64
+        }
+        None => REFUSED,
+    }
+}
+
+/// The place behind the name.
+#[inline(never)]
+fn skip(message: &[u8], place: usize) -> u64 {
+    let mut parser = Parser::from_ref(message);
+    if parser.advance(place).is_err() {
+        return REFUSED;
+    }
+    match ParsedName::skip(&mut parser) {
+        Ok(()) => parser.pos() as u64,
+        Err(_) => REFUSED,
+    }
+}
+
+/// Reads the name and composes it into a buffer of 255 octets.
+#[inline(never)]
+fn flatten(message: &[u8], place: usize) -> u64 {
+    match parsed(message, place) {
+        Some((name, _)) => {
+            let mut target = Array::<255>::new();
+            match name.compose(&mut target) {
+                Ok(()) => told(target.as_slice(), place),
+                Err(_) => REFUSED,
+            }
+        }
+        None => REFUSED,
+    }
+}
+
+/// The same in canonical form.
+#[inline(never)]
+fn flatten_canonical(message: &[u8], place: usize) -> u64 {
+    match parsed(message, place) {
+        Some((name, _)) => {
+            let mut target = Array::<255>::new();
+            match name.compose_canonical(&mut target) {
+                Ok(()) => told(target.as_slice(), place),
+                Err(_) => REFUSED,
+            }
+        }
+        None => REFUSED,
+    }
+}
+
+/// Reads the name and makes a flat name over a `Vec<u8>` of it.
+#[inline(never)]
+fn to_name(message: &[u8], place: usize) -> u64 {
+    match parsed(message, place) {
+        Some((name, _)) => {
+            let flat: Name<Vec<u8>> = name.to_name();
+            told(flat.as_slice(), place)
+        }
+        None => REFUSED,
+    }
+}
+
+/// Reads the name and makes a flat name over an array of 255 octets of it.
+#[inline(never)]
+fn to_name_array(message: &[u8], place: usize) -> u64 {
+    match parsed(message, place) {
+        Some((name, _)) => match name.try_to_name::<Array<255>>() {
+            Ok(flat) => told(flat.as_slice(), place),
+            Err(_) => REFUSED,
+        },
+        None => REFUSED,
+    }
+}
+
+/// Reads the name and counts its labels.
+#[inline(never)]
+fn label_count(message: &[u8], place: usize) -> u64 {
+    match parsed(message, place) {
+        Some((name, _)) => name.label_count() as u64,
+        None => REFUSED,
+    }
+}
+
+/// Reads the name and takes its suffixes.
+#[inline(never)]
+fn parents(message: &[u8], place: usize) -> u64 {
+    match parsed(message, place) {
+        Some((name, _)) => name
+            .iter_suffixes()
+            .fold(0, |sum, suffix| and_label(sum, suffix.compose_len() as usize)),
+        None => REFUSED,
+    }
+}
+
+/// Reads the name and hashes it.
+#[inline(never)]
+fn parse_hash(message: &[u8], place: usize) -> u64 {
+    match parsed(message, place) {
+        Some((name, _)) => {
+            let mut hash = Fnv::new();
+            name.hash(&mut hash);
+            hash.finish()
+        }
+        None => REFUSED,
+    }
+}
+
+/// Reads the name and takes its labels from the front, and from the back.
+#[inline(never)]
+fn labels(message: &[u8], place: usize) -> u64 {
+    match parsed(message, place) {
+        Some((name, _)) => name
+            .iter()
+            .fold(0, |sum: u64, label| sum.wrapping_mul(31) + label.len() as u64),
+        None => REFUSED,
+    }
+}
+
+#[inline(never)]
+fn labels_back(message: &[u8], place: usize) -> u64 {
+    match parsed(message, place) {
+        Some((name, _)) => name
+            .iter()
+            .rev()
+            .fold(0, |sum: u64, label| sum.wrapping_mul(31) + label.len() as u64),
+        None => REFUSED,
+    }
+}
+
+/// Reads the name and shows it with a final dot.
+#[inline(never)]
+fn parse_show(message: &[u8], place: usize) -> u64 {
+    match parsed(message, place) {
+        Some((name, _)) => {
+            let mut text = String::with_capacity(1024);
+            write!(text, "{}", name.fmt_with_dot()).unwrap();
+            told(text.as_bytes(), place)
+        }
+        None => REFUSED,
+    }
+}
+
+/// Reads the name and compares it with a flat one.
+#[inline(never)]
+fn parse_eq(message: &[u8], place: usize, flat: &[u8]) -> u64 {
+    match (parsed(message, place), Name::from_slice(flat)) {
+        (Some((name, _)), Ok(flat)) => name.name_eq(flat) as u64,
+        _ => REFUSED,
+    }
+}
+
+/// Reads the name, and its order by a flat one.
+#[inline(never)]
+fn parse_cmp(message: &[u8], place: usize, flat: &[u8]) -> u64 {
+    match (parsed(message, place), Name::from_slice(flat)) {
+        (Some((name, _)), Ok(flat)) => name.name_cmp(flat) as i8 as u8 as u64,
+        _ => REFUSED,
+    }
+}
+
+/// Reads the name, and whether it ends with a flat one.
+#[inline(never)]
+fn parse_ends(message: &[u8], place: usize, flat: &[u8]) -> u64 {
+    match (parsed(message, place), Name::from_slice(flat)) {
+        (Some((name, _)), Ok(flat)) => name.ends_with(&flat) as u64,
+        _ => REFUSED,
+    }
+}
+
+#[inline(never)]
+fn check(name: &[u8]) -> u64 {
+    match Name::from_slice(name) {
+        Ok(name) => name.len() as u64,
+        Err(_) => REFUSED,
+    }
+}
+
+/// The name read by a parser, without pointers.
+#[inline(never)]
+fn name_parse(name: &[u8]) -> u64 {
+    let mut parser = Parser::from_ref(name);
+    match Name::parse(&mut parser) {
+        Ok(name) => name.len() as u64,
+        Err(_) => REFUSED,
+    }
+}
+
+#[inline(never)]
+fn check_labels(name: &[u8]) -> u64 {
+    match Name::from_slice(name) {
+        Ok(name) => name
+            .iter()
+            .fold(0, |sum, label| and_label(sum, label.len())),
+        Err(_) => REFUSED,
+    }
+}
+
+#[inline(never)]
+fn check_back(name: &[u8]) -> u64 {
+    match Name::from_slice(name) {
+        Ok(name) => name
+            .iter()
+            .rev()
+            .fold(0, |sum, label| and_label(sum, label.len())),
+        Err(_) => REFUSED,
+    }
+}
+
+/// Text in an array.
+struct Fixed {
+    octets: [u8; 1024],
+    len: usize,
+}
+
+impl Write for Fixed {
+    fn write_str(&mut self, text: &str) -> std::fmt::Result {
+        let end = self.len + text.len();
+        let Some(room) = self.octets.get_mut(self.len..end) else {
+            return Err(std::fmt::Error);
+        };
+        room.copy_from_slice(text.as_bytes());
+        self.len = end;
+        Ok(())
+    }
+}
+
+/// Shows the name into an array, without memory.
+#[inline(never)]
+fn check_show_fixed(name: &[u8]) -> u64 {
+    match Name::from_slice(name) {
+        Ok(name) => {
+            let mut text = Fixed {
+                octets: [0; 1024],
+                len: 0,
+            };
+            write!(text, "{}", name.fmt_with_dot()).unwrap();
+            told(&text.octets[..text.len], 7)
+        }
+        Err(_) => REFUSED,
+    }
+}
+
+/// Shows the name without a final dot.
+#[inline(never)]
+fn check_display(name: &[u8]) -> u64 {
+    match Name::from_slice(name) {
+        Ok(name) => {
+            let mut text = String::with_capacity(1024);
+            write!(text, "{name}").unwrap();
+            told(text.as_bytes(), 7)
+        }
+        Err(_) => REFUSED,
+    }
+}
+
+#[inline(never)]
+fn check_compose(name: &[u8]) -> u64 {
+    match Name::from_slice(name) {
+        Ok(name) => {
+            let mut target = Array::<255>::new();
+            match name.compose(&mut target) {
+                Ok(()) => told(target.as_slice(), 7),
+                Err(_) => REFUSED,
+            }
+        }
+        Err(_) => REFUSED,
+    }
+}
+
+#[inline(never)]
+fn check_canonical(name: &[u8]) -> u64 {
+    match Name::from_slice(name) {
+        Ok(name) => {
+            let mut target = Array::<255>::new();
+            match name.compose_canonical(&mut target) {
+                Ok(()) => told(target.as_slice(), 7),
+                Err(_) => REFUSED,
+            }
+        }
+        Err(_) => REFUSED,
+    }
+}
+
+#[inline(never)]
+fn check_to_vec(name: &[u8]) -> u64 {
+    match Name::from_slice(name) {
+        Ok(name) => told(name.to_vec().as_slice(), name.len()),
+        Err(_) => REFUSED,
+    }
+}
+
+#[inline(never)]
+fn check_suffixes(name: &[u8]) -> u64 {
+    match Name::from_slice(name) {
+        Ok(name) => name
+            .iter_suffixes()
+            .fold(0, |sum, suffix| and_label(sum, suffix.len())),
+        Err(_) => REFUSED,
+    }
+}
+
+/// Splits the name at the first label from the middle on.
+#[inline(never)]
+fn check_split(name: &[u8]) -> u64 {
+    match Name::from_slice(name) {
+        Ok(name) => {
+            for place in name.len() / 2..name.len() {
+                if name.is_label_start(place) {
+                    let (left, right) = name.split(place);
+                    return and_label(left.len() as u64, right.len());
+                }
+            }
+            0
+        }
+        Err(_) => REFUSED,
+    }
+}
+
+#[inline(never)]
+fn check_composed(left: &[u8], right: &[u8]) -> u64 {
+    match (Name::from_slice(left), Name::from_slice(right)) {
+        (Ok(left), Ok(right)) => left.composed_cmp(right) as i8 as u8 as u64,
+        _ => REFUSED,
+    }
+}
+
+#[inline(never)]
+fn check_lower_composed(left: &[u8], right: &[u8]) -> u64 {
+    match (Name::from_slice(left), Name::from_slice(right)) {
+        (Ok(left), Ok(right)) => left.lowercase_composed_cmp(right) as i8 as u8 as u64,
+        _ => REFUSED,
+    }
+}
+
+#[inline(never)]
+fn check_starts(left: &[u8], right: &[u8]) -> u64 {
+    match (Name::from_slice(left), Name::from_slice(right)) {
+        (Ok(left), Ok(right)) => left.starts_with(&right) as u64,
+        _ => REFUSED,
+    }
+}
+
+#[inline(never)]
+fn check_ends(left: &[u8], right: &[u8]) -> u64 {
+    match (Name::from_slice(left), Name::from_slice(right)) {
+        (Ok(left), Ok(right)) => left.ends_with(&right) as u64,
+        _ => REFUSED,
+    }
+}
+
+#[inline(never)]
+fn check_strip(left: &[u8], right: &[u8]) -> u64 {
+    match (Name::from_octets(left), Name::from_slice(right)) {
+        (Ok(left), Ok(right)) => match left.strip_suffix(&right) {
+            Ok(rest) => rest.len() as u64,
+            Err(name) => 1000 + name.len() as u64,
+        },
+        _ => REFUSED,
+    }
+}
+
+#[inline(never)]
+fn check_eq(left: &[u8], right: &[u8]) -> u64 {
+    match (Name::from_slice(left), Name::from_slice(right)) {
+        (Ok(left), Ok(right)) => left.name_eq(right) as u64,
+        _ => REFUSED,
+    }
+}
+
+#[inline(never)]
+fn check_cmp(left: &[u8], right: &[u8]) -> u64 {
+    match (Name::from_slice(left), Name::from_slice(right)) {
+        (Ok(left), Ok(right)) => left.name_cmp(right) as i8 as u8 as u64,
+        _ => REFUSED,
+    }
+}
+
+#[inline(never)]
+fn check_hash(name: &[u8]) -> u64 {
+    match Name::from_slice(name) {
+        Ok(name) => {
+            let mut hash = Fnv::new();
+            name.hash(&mut hash);
+            hash.finish()
+        }
+        Err(_) => REFUSED,
+    }
+}
+
+#[inline(never)]
+fn check_show(name: &[u8]) -> u64 {
+    match Name::from_slice(name) {
+        Ok(name) => {
+            let mut text = String::with_capacity(1024);
+            write!(text, "{}", name.fmt_with_dot()).unwrap();
+            told(text.as_bytes(), 7)
+        }
+        Err(_) => REFUSED,
+    }
+}
+
+/// The same without the check: for `Name` values that are at hand.
+fn unchecked(name: &[u8]) -> Name<&[u8]> {
+    unsafe { Name::from_octets_unchecked(name) }
+}
+
+#[inline(never)]
+fn eq(left: &[u8], right: &[u8]) -> u64 {
+    unchecked(left).name_eq(&unchecked(right)) as u64
+}
+
+#[inline(never)]
+fn cmp(left: &[u8], right: &[u8]) -> u64 {
+    unchecked(left).name_cmp(&unchecked(right)) as i8 as u8 as u64
+}
+
+#[inline(never)]
+fn hash(name: &[u8]) -> u64 {
+    let mut hash = Fnv::new();
+    unchecked(name).hash(&mut hash);
+    hash.finish()
+}
+
+#[inline(never)]
+fn back(name: &[u8]) -> u64 {
+    unchecked(name)
+        .iter()
+        .rev()
+        .fold(0, |sum: u64, label| sum.wrapping_mul(31) + label.len() as u64)
+}
+
+#[inline(never)]
+fn from_chars(text: &[u8]) -> u64 {
+    let Ok(text) = std::str::from_utf8(text) else {
+        return REFUSED;
+    };
+    match Name::<Vec<u8>>::from_chars(text.chars()) {
+        Ok(name) => sum(name.as_slice()),
+        Err(_) => REFUSED,
+    }
+}
+
+#[inline(never)]
+fn from_chars_array(text: &[u8]) -> u64 {
+    let Ok(text) = std::str::from_utf8(text) else {
+        return REFUSED;
+    };
+    match Name::<Array<255>>::from_chars(text.chars()) {
+        Ok(name) => sum(name.as_slice()),
+        Err(_) => REFUSED,
+    }
+}
+
+/// Checks the name, appends its labels to a builder over a `Vec<u8>`.
+#[inline(never)]
+fn append_labels(name: &[u8]) -> u64 {
+    let Ok(name) = Name::from_slice(name) else {
+        return REFUSED;
+    };
+    let mut builder = NameBuilder::new_vec();
+    for label in name.iter() {
+        if builder.append_label(label.as_slice()).is_err() {
+            return REFUSED;
+        }
+    }
+    match builder.into_name() {
+        Ok(name) => sum(name.as_slice()),
+        Err(_) => REFUSED,
+    }
+}
+
+/// Checks the name, pushes its octets one by one to a builder over an array.
+#[inline(never)]
+fn push_octets(name: &[u8]) -> u64 {
+    let Ok(name) = Name::from_slice(name) else {
+        return REFUSED;
+    };
+    let mut builder = NameBuilder::<Array<255>>::new();
+    for label in name.iter() {
+        for octet in label.iter() {
+            if builder.push(octet).is_err() {
+                return REFUSED;
+            }
+        }
+        builder.end_label();
+    }
+    match builder.into_name() {
+        Ok(name) => sum(name.as_slice()),
+        Err(_) => REFUSED,
+    }
+}
+
+#[inline(never)]
+fn chained(name: &[u8]) -> u64 {
+    let Ok(name) = Name::from_slice(name) else {
+        return REFUSED;
+    };
+    let relative = unsafe { RelativeName::from_octets_unchecked(&name.as_slice()[..name.len() - 1]) };
+    let chain = relative.chain_root();
+    let mut target = Array::<255>::new();
+    match chain.compose(&mut target) {
+        Ok(()) => sum(target.as_slice()),
+        Err(_) => REFUSED,
+    }
+}
+
+//------------ Files ---------------------------------------------------------
+
+struct Case {
+    place: usize,
+    octets: Vec<u8>,
+}
+
+fn read(path: &Path) -> Vec<Case> {
+    let data = std::fs::read(path).unwrap_or_else(|err| panic!("{}: {err}", path.display()));
+    let word = |at: usize| u32::from_le_bytes(data[at..at + 4].try_into().unwrap()) as usize;
+    let mut at = 4;
+    (0..word(0))
+        .map(|_| {
+            let (place, len) = (word(at), word(at + 4));
+            at += 8 + len;
+            Case {
+                place,
+                octets: data[at - len..at].to_vec(),
+            }
+        })
+        .collect()
+}
+
+//------------ Measuring -----------------------------------------------------
+
+/// One implementation of an operation: all cases of a file, once.
+type Round<'a> = Box<dyn FnMut() -> u64 + 'a>;
+
+/// Prints the best time of one call in nanoseconds, and the sum over the
+/// results, of each implementation. They take turns, so that all meet the same
+/// weather on the machine.
+fn measure(op: &str, file: &str, calls: usize, mut peers: Vec<(&str, Round<'_>)>) {
+    let mut all: Vec<(usize, f64, u64)> = peers
+        .iter_mut()
+        .map(|(_, round)| {
+            let result = round();
+            let start = Instant::now();
+            black_box(round());
+            let once = start.elapsed().max(Duration::from_nanos(100));
+            // (slices are short, so that on a busy machine many are not cut in two)
+            let repeat = (Duration::from_millis(1).as_nanos() / once.as_nanos()).max(1);
+            (repeat as usize, f64::MAX, result)
+        })
+        .collect();
+    for _ in 0..300 {
+        for ((_, round), (repeat, best, _)) in peers.iter_mut().zip(&mut all) {
+            let start = Instant::now();
+            for _ in 0..*repeat {
+                black_box(round());
+            }
+            let each = start.elapsed().as_nanos() as f64 / (*repeat * calls) as f64;
+            *best = best.min(each);
+        }
+    }
+    for ((peer, _), (_, best, result)) in peers.iter().zip(&all) {
+        println!("{peer}\t{op}\t{file}\t{best:.1}\t{result:016x}");
+    }
+}
+
+fn add(sum: u64, result: u64) -> u64 {
+    (sum ^ result)
+        .wrapping_mul(0x9e37_79b9_7f4a_7c15)
+        .rotate_left(29)
+}
+
+type OnMessage = fn(&[u8], usize) -> u64;
+type OnName = fn(&[u8]) -> u64;
+type OnPair = fn(&[u8], &[u8]) -> u64;
+type OnMessageAndName = fn(&[u8], usize, &[u8]) -> u64;
+
+struct Peer {
+    name: &'static str,
+    messages: &'static [(&'static str, OnMessage)],
+    names: &'static [(&'static str, OnName)],
+    pairs: &'static [(&'static str, OnPair)],
+    texts: &'static [(&'static str, OnName)],
+    mixed: &'static [(&'static str, OnMessageAndName)],
+}
+
+const DOMAIN: Peer = Peer {
+    name: "rust-domain",
+    messages: &[
+        ("parse", parse),
+        ("skip", skip),
+        ("flatten", flatten),
+        ("flatten_canonical", flatten_canonical),
+        ("to_name", to_name),
+        ("to_name_array", to_name_array),
+        ("parse_hash", parse_hash),
+        ("labels", labels),
+        ("labels_back", labels_back),
+        ("label_count", label_count),
+        ("parents", parents),
+        ("parse_show", parse_show),
+    ],
+    names: &[
+        ("check", check),
+        ("name_parse", name_parse),
+        ("check_hash", check_hash),
+        ("check_labels", check_labels),
+        ("check_back", check_back),
+        ("check_show", check_show),
+        ("check_show_fixed", check_show_fixed),
+        ("check_display", check_display),
+        ("check_compose", check_compose),
+        ("check_canonical", check_canonical),
+        ("check_to_vec", check_to_vec),
+        ("check_suffixes", check_suffixes),
+        ("check_split", check_split),
+        ("hash", hash),
+        ("back", back),
+        ("append_labels", append_labels),
+        ("push_octets", push_octets),
+        ("chained", chained),
+    ],
+    pairs: &[
+        ("check_eq", check_eq),
+        ("check_cmp", check_cmp),
+        ("check_composed", check_composed),
+        ("check_lower_composed", check_lower_composed),
+        ("check_starts", check_starts),
+        ("check_ends", check_ends),
+        ("check_strip", check_strip),
+        ("eq", eq),
+        ("cmp", cmp),
+    ],
+    texts: &[
+        ("from_chars", from_chars),
+        ("from_chars_array", from_chars_array),
+    ],
+    mixed: &[
+        ("parse_eq", parse_eq),
+        ("parse_cmp", parse_cmp),
+        ("parse_ends", parse_ends),
+    ],
+};
+
+// `OTHERS`: the implementation behind `extern "C"`, if build.rs was given one.
+include!(concat!(env!("OUT_DIR"), "/others.rs"));
+
+fn main() {
+    let mut args = std::env::args_os().skip(1);
+    let folder = args.next().expect("usage: bench FOLDER [WORD]");
+    let folder = Path::new(&folder);
+    let word = args
+        .next()
+        .map(|word| word.into_string().unwrap())
+        .unwrap_or_default();
+
+    // (`parse,check`: these operations; `parse`: those whose name has that in it)
+    let wanted = |op: &str| match word.contains(',') {
+        true => word.split(',').any(|word| word == op),
+        false => op.contains(&word),
+    };
+
+    let peers: Vec<&Peer> = [&DOMAIN].into_iter().chain(OTHERS).collect();
+    macro_rules! run {
+        ($kind:ident, $file:expr, $calls:expr, |$f:ident| $round:expr) => {
+            for (op, _) in DOMAIN.$kind.iter().filter(|(op, _)| wanted(op)) {
+                let rounds = peers
+                    .iter()
+                    .filter_map(|peer| {
+                        let ($f, _) = peer
+                            .$kind
+                            .iter()
+                            .find(|(other, _)| other == op)
+                            .map(|(_, f)| (*f, ()))?;
+                        Some((peer.name, Box::new(move || $round) as Round<'_>))
+                    })
+                    .collect();
+                measure(op, $file, $calls, rounds);
+            }
+        };
+    }
+
+    for file in [
+        "typical.msg",
+        "pointer.msg",
+        "deep.msg",
+        "worst.msg",
+        "short.msg",
+        "long.msg",
+    ] {
+        let cases = &read(&folder.join(file));
+        run!(messages, file, cases.len(), |f| cases
+            .iter()
+            .fold(0, |sum, case| add(
+                sum,
+                f(black_box(&case.octets), black_box(case.place))
+            )));
+        let flat: &Vec<Vec<u8>> = &cases
+            .iter()
+            .map(|case| {
+                let (name, _) = parsed(&case.octets, case.place).unwrap();
+                let mut flat: Vec<u8> = name.to_vec().into_octets();
+                flat[1] ^= 0x20;
+                flat
+            })
+            .collect();
+        run!(mixed, file, cases.len(), |f| cases
+            .iter()
+            .zip(flat)
+            .fold(0, |sum, (case, flat)| add(
+                sum,
+                f(
+                    black_box(&case.octets),
+                    black_box(case.place),
+                    black_box(flat)
+                )
+            )));
+    }
+    for file in ["typical.names", "deep.names"] {
+        let cases = &read(&folder.join(file));
+        run!(names, file, cases.len(), |f| cases
+            .iter()
+            .fold(0, |sum, case| add(sum, f(black_box(&case.octets)))));
+        run!(pairs, file, cases.len() / 2, |f| cases
+            .chunks_exact(2)
+            .fold(0, |sum, pair| add(
+                sum,
+                f(black_box(&pair[0].octets), black_box(&pair[1].octets))
+            )));
+    }
+    for file in ["typical.texts", "escaped.texts"] {
+        let cases = &read(&folder.join(file));
+        run!(texts, file, cases.len(), |f| cases
+            .iter()
+            .fold(0, |sum, case| add(sum, f(black_box(&case.octets)))));
+    }
+}

@@ -1,0 +1,255 @@
+//! Names and labels from text.
+
+use crate::answer::Answer;
+use crate::fail::Fail;
+use arrayvec::ArrayVec;
+use domain::base::name::*;
+use domain::base::scan::{Symbol, SymbolCharsError, Symbols};
+use octseq::{EmptyBuilder, FromBuilder, Octets};
+
+/// `text TEXT`
+pub fn put_text(out: &mut Answer, octets: &[u8]) {
+    let Ok(text) = str::from_utf8(octets) else {
+        return out.fail(Fail::Bad);
+    };
+    let read: Result<Name<Vec<u8>>, FromStrError> = Name::from_chars(out.alloc(), text.chars());
+    match read {
+        Ok(name) => {
+            out.put_hex_behind(b"ok ", name.as_slice());
+            is_read_alike(out, text, Ok(name.as_slice()));
+        }
+        Err(error) => {
+            out.put(b"err ");
+            put_text_error(out, error);
+            is_read_alike(out, text, Err(error));
+        }
+    }
+}
+
+/// The other calls that read an absolute name answer the same.
+fn is_read_alike(out: &mut Answer, text: &str, wanted: Result<&[u8], FromStrError>) {
+    let read = Name::vec_from_str(out.alloc(), text);
+    is_read_as(out, read, wanted, b"vec_from_str");
+    let read: Result<Name<ArrayVec<u8, 255>>, FromStrError> = text.parse();
+    is_read_as(out, read, wanted, b"from_str");
+    if let Some(symbols) = symbols_of(out, text) {
+        is_read_of_symbols(out, symbols.as_slice(), wanted);
+    }
+}
+
+fn is_read_of_symbols(out: &mut Answer, symbols: &[Symbol], wanted: Result<&[u8], FromStrError>) {
+    let read: Result<Name<Vec<u8>>, FromStrError> = Name::from_symbols(
+        out.alloc(),
+        symbols.iter().copied(),
+    );
+    is_read_as(out, read, wanted, b"from_symbols");
+}
+
+fn is_read_as<Octs: Octets + Drop>(
+    out: &mut Answer,
+    read: Result<Name<Octs>, FromStrError>,
+    wanted: Result<&[u8], FromStrError>,
+    call: &[u8],
+) {
+    match read {
+        Ok(name) => out.agree(wanted == Ok(name.as_slice()), call),
+        Err(error) => out.agree(wanted == Err(error), call),
+    }
+}
+
+/// The symbols of a text, where no escape is broken.
+pub fn symbols_of(out: &mut Answer, text: &str) -> Option<Vec<Symbol>> {
+    let mut symbols = Vec::new(out.alloc());
+    for item in Symbols::new(text.chars()) {
+        match item {
+            Ok(symbol) => {
+                if symbols.push(symbol).is_err() {
+                    out.fail(Fail::Memory);
+                }
+            }
+            Err(_) => return None,
+        }
+    }
+    Some(symbols)
+}
+
+/// `reltext TEXT`
+pub fn put_reltext(out: &mut Answer, octets: &[u8]) {
+    let Ok(text) = str::from_utf8(octets) else {
+        return out.fail(Fail::Bad);
+    };
+    let read: Result<RelativeName<Vec<u8>>, RelativeFromStrError> = RelativeName::from_chars(
+        out.alloc(),
+        text.chars(),
+    );
+    match read {
+        Ok(name) => {
+            out.put_hex_behind(b"ok ", name.as_slice());
+            is_relative_read_alike(out, text, Ok(name.as_slice()));
+        }
+        Err(error) => {
+            out.put(b"err ");
+            put_relative_text_error(out, error);
+            is_relative_read_alike(out, text, Err(error));
+        }
+    }
+}
+
+/// The other calls that read a relative name answer the same.
+fn is_relative_read_alike(
+    out: &mut Answer,
+    text: &str,
+    wanted: Result<&[u8], RelativeFromStrError>,
+) {
+    let read = RelativeName::vec_from_str(out.alloc(), text);
+    is_relative_read_as(out, read, wanted, b"vec_from_str");
+    let read: Result<RelativeName<ArrayVec<u8, 254>>, RelativeFromStrError> = text.parse();
+    is_relative_read_as(out, read, wanted, b"from_str");
+}
+
+fn is_relative_read_as<Octs: Octets + Drop>(
+    out: &mut Answer,
+    read: Result<RelativeName<Octs>, RelativeFromStrError>,
+    wanted: Result<&[u8], RelativeFromStrError>,
+    call: &[u8],
+) {
+    match read {
+        Ok(name) => out.agree(wanted == Ok(name.as_slice()), call),
+        Err(error) => out.agree(wanted == Err(error), call),
+    }
+}
+
+/// `labeltext TEXT`
+pub fn put_labeltext(out: &mut Answer, octets: &[u8]) {
+    let Ok(text) = str::from_utf8(octets) else {
+        return out.fail(Fail::Bad);
+    };
+    let twin: Result<OwnedLabel, LabelFromStrError> = text.parse();
+    match OwnedLabel::from_chars(text.chars()) {
+        Ok(label) => {
+            out.put_hex_behind(b"ok ", label.as_wire_slice());
+            out.put_shown_behind(b" ", label);
+            out.agree(twin == Ok(label), b"from_str");
+        }
+        Err(error) => {
+            out.put(b"err ");
+            put_label_text_error(out, error);
+            out.agree(twin == Err(error), b"from_str");
+        }
+    }
+}
+
+pub fn put_text_error(out: &mut Answer, error: FromStrError) {
+    match error {
+        FromStrError::Presentation(error) => put_presentation(out, error.kind()),
+        FromStrError::ShortBuf => out.put(b"ShortBuf"),
+    }
+}
+
+fn put_relative_text_error(out: &mut Answer, error: RelativeFromStrError) {
+    match error {
+        RelativeFromStrError::FromStr(error) => put_text_error(out, error),
+        RelativeFromStrError::AbsoluteName => out.put(b"AbsoluteName"),
+    }
+}
+
+fn put_presentation(out: &mut Answer, kind: PresentationErrorKind) {
+    match kind {
+        PresentationErrorKind::BadLabel(error) => {
+            out.put(b"BadLabel(");
+            put_label_text_error(out, error);
+            out.put(b")");
+        }
+        PresentationErrorKind::EmptyLabel => out.put(b"EmptyLabel"),
+        PresentationErrorKind::LongName => out.put(b"LongName"),
+    }
+}
+
+fn put_label_text_error(out: &mut Answer, error: LabelFromStrError) {
+    match error.kind() {
+        LabelFromStrErrorKind::SymbolChars(SymbolCharsError::ShortInput) => {
+            out.put(b"SymbolChars(ShortInput)");
+        }
+        LabelFromStrErrorKind::SymbolChars(SymbolCharsError::BadEscape) => {
+            out.put(b"SymbolChars(BadEscape)");
+        }
+        LabelFromStrErrorKind::BadSymbol(_) => out.put(b"BadSymbol"),
+        LabelFromStrErrorKind::BinaryLabel => out.put(b"BinaryLabel"),
+        LabelFromStrErrorKind::LongLabel => out.put(b"LongLabel"),
+    }
+}
+
+/// A text read over octets of a kind, and what another call read.
+fn put_in_room<Octs: FromBuilder + Drop>(
+    out: &mut Answer,
+    text: &str,
+    twin: Result<Name<Octs>, FromStrError>,
+)
+where
+    Octs::Builder: EmptyBuilder + Drop,
+{
+    let read: Result<Name<Octs>, FromStrError> = Name::from_chars(out.alloc(), text.chars());
+    match read {
+        Ok(name) => {
+            out.put_hex_behind(b"ok ", name.as_slice());
+            is_read_as(out, twin, Ok(name.as_slice()), b"from_str");
+        }
+        Err(error) => {
+            out.put(b"err ");
+            put_text_error(out, error);
+            is_read_as(out, twin, Err(error), b"from_str");
+        }
+    }
+}
+
+/// `textroom TEXT OCTETS`
+pub fn put_textroom(out: &mut Answer, octets: &[u8], room: usize) {
+    let Ok(text) = str::from_utf8(octets) else {
+        return out.fail(Fail::Bad);
+    };
+    match room {
+        0 => put_in_room::<ArrayVec<u8, 0>>(out, text, text.parse()),
+        2 => put_in_room::<ArrayVec<u8, 2>>(out, text, text.parse()),
+        4 => put_in_room::<ArrayVec<u8, 4>>(out, text, text.parse()),
+        255 => put_in_room::<ArrayVec<u8, 255>>(out, text, text.parse()),
+        _ => out.fail(Fail::Bad),
+    }
+}
+
+fn put_relative_in_room<Octs: FromBuilder + Drop>(
+    out: &mut Answer,
+    text: &str,
+    twin: Result<RelativeName<Octs>, RelativeFromStrError>,
+)
+where
+    Octs::Builder: EmptyBuilder + Drop,
+{
+    let read: Result<RelativeName<Octs>, RelativeFromStrError> = RelativeName::from_chars(
+        out.alloc(),
+        text.chars(),
+    );
+    match read {
+        Ok(name) => {
+            out.put_hex_behind(b"ok ", name.as_slice());
+            is_relative_read_as(out, twin, Ok(name.as_slice()), b"from_str");
+        }
+        Err(error) => {
+            out.put(b"err ");
+            put_relative_text_error(out, error);
+            is_relative_read_as(out, twin, Err(error), b"from_str");
+        }
+    }
+}
+
+/// `reltextroom TEXT OCTETS`
+pub fn put_reltextroom(out: &mut Answer, octets: &[u8], room: usize) {
+    let Ok(text) = str::from_utf8(octets) else {
+        return out.fail(Fail::Bad);
+    };
+    match room {
+        0 => put_relative_in_room::<ArrayVec<u8, 0>>(out, text, text.parse()),
+        2 => put_relative_in_room::<ArrayVec<u8, 2>>(out, text, text.parse()),
+        254 => put_relative_in_room::<ArrayVec<u8, 254>>(out, text, text.parse()),
+        _ => out.fail(Fail::Bad),
+    }
+}

@@ -1,0 +1,15 @@
+use Rattle.domain_compress.specs.Pointed.{compressed_reads_back}
+use Rattle.domain_compress.proofs.Once.{compresses_once, stands_more, stands_cut}
+use Rattle.domain_compress.proofs.laws.compress_laws.Goals as goal
+
+pub returns-clause-once : goal.returns-clause-once
+returns-clause-once c = compresses_once
+
+pub returns-clause-reads_back : goal.returns-clause-reads_back
+returns-clause-reads_back c = λ t ws ls a s name x. compressed_reads_back t ws ls a s name x
+
+pub returns-clause-more : goal.returns-clause-more
+returns-clause-more c = stands_more
+
+pub returns-clause-cut : goal.returns-clause-cut
+returns-clause-cut c = stands_cut

@@ -1,0 +1,181 @@
+//! Names that are read from text and built, where memory is refused.
+//!
+//! As in `memory`, at most one request of a test is refused, whichever it is: so of calls that are made
+//! twice at most one is refused, and a call that was refused is accepted when it is made again.
+
+use crate::names::{WWW, relative};
+use domain::base::name::*;
+use domain::base::net::IpAddr;
+use domain::base::scan::Symbol;
+use octseq::{OctetsFrom, ShortBuf};
+use std::alloc::Global;
+use std::process::Abort;
+
+/// 1 where a name was refused for want of memory. Else it has these octets.
+fn refused<E: PartialEq + Drop>(
+    rt: &impl Abort,
+    made: Result<Name<Vec<u8>>, E>,
+    short: E,
+    wanted: &[u8],
+) -> u8 {
+    match made {
+        Ok(name) => {
+            assert_eq!(rt; name.as_slice(), wanted);
+            0
+        }
+        Err(error) => {
+            assert!(rt; error == short);
+            1
+        }
+    }
+}
+
+/// The same of a relative name.
+fn relative_refused(
+    rt: &impl Abort,
+    made: Result<RelativeName<Vec<u8>>, RelativeFromStrError>,
+    wanted: &[u8],
+) -> u8 {
+    match made {
+        Ok(name) => {
+            assert_eq!(rt; name.as_slice(), wanted);
+            0
+        }
+        Err(error) => {
+            let short = RelativeFromStrError::FromStr(FromStrError::ShortBuf);
+            assert!(rt; error == short);
+            1
+        }
+    }
+}
+
+/// How many of the calls that read an absolute name were refused.
+fn read_absolute(rt: &impl Abort, alloc: Global) -> u8 {
+    let text = "www.Example.com";
+    let by_str = refused(
+        rt,
+        Name::vec_from_str(alloc, text),
+        FromStrError::ShortBuf,
+        WWW,
+    );
+    let read: Result<Name<Vec<u8>>, FromStrError> = Name::from_chars(alloc, text.chars());
+    let by_chars = refused(rt, read, FromStrError::ShortBuf, WWW);
+    let symbols = [Symbol::Char('a'), Symbol::DecimalEscape(0)];
+    let read: Result<Name<Vec<u8>>, FromStrError> = Name::from_symbols(
+        alloc,
+        symbols.iter().copied(),
+    );
+    let by_symbols = refused(rt, read, FromStrError::ShortBuf, b"\x02a\0\0");
+    by_str.saturating_add(by_chars).saturating_add(by_symbols)
+}
+
+/// How many of the calls that read a relative name were refused.
+fn read_relative(rt: &impl Abort, alloc: Global) -> u8 {
+    let text = "www.Example";
+    let wanted = b"\x03www\x07Example".as_slice();
+    let by_str = relative_refused(rt, RelativeName::vec_from_str(alloc, text), wanted);
+    let read: Result<RelativeName<Vec<u8>>, RelativeFromStrError> = RelativeName::from_chars(
+        alloc,
+        text.chars(),
+    );
+    by_str.saturating_add(relative_refused(rt, read, wanted))
+}
+
+#[test]
+fn texts_are_read_or_refused(rt: HostRuntime) {
+    let mut count: u8 = 0;
+    for _time in 0..2u8 {
+        count = count.saturating_add(read_absolute(&rt, rt.alloc()));
+        count = count.saturating_add(read_relative(&rt, rt.alloc()));
+    }
+    assert!(rt; count <= 1);
+}
+
+/// The name of an address, and a relative name with the root behind it.
+fn make_names(rt: &impl Abort, alloc: Global) -> u8 {
+    let address = IpAddr::from([192u8, 0, 2, 1]);
+    let wanted = b"\x011\x012\x010\x03192\x07in-addr\x04arpa\0".as_slice();
+    let reverse = Name::reverse_from_addr(alloc, address);
+    let count = refused(rt, reverse, PushError::ShortBuf, wanted);
+    let held: Result<RelativeName<Vec<u8>>, ShortBuf> = RelativeName::try_octets_from(
+        alloc,
+        relative(rt, b"\x03www\x07Example\x03com"),
+    );
+    match held {
+        Ok(name) => {
+            count.saturating_add(refused(rt, name.into_absolute(), PushError::ShortBuf, WWW))
+        }
+        Err(_) => count.saturating_add(1),
+    }
+}
+
+#[test]
+fn names_of_addresses_and_of_relative_names_are_made_or_refused(rt: HostRuntime) {
+    let first = make_names(&rt, rt.alloc());
+    let second = make_names(&rt, rt.alloc());
+    assert!(rt; first.saturating_add(second) <= 1);
+}
+
+/// Makes a call, and makes it again where it was refused, which leaves the builder.
+fn insist(rt: &impl Abort, builder: &mut NameBuilder<Vec<u8>>, call: BuilderCall<'_>) -> u8 {
+    let before = (builder.len(), builder.in_label());
+    if builder.apply_all(&[call]) == 1 {
+        return 0;
+    }
+    assert_eq!(rt; (builder.len(), builder.in_label()), before);
+    assert_eq!(rt; builder.apply_all(&[call]), 1);
+    1
+}
+
+#[test]
+fn builders_go_on_behind_a_refusal(rt: HostRuntime) {
+    let mut builder = NameBuilder::new_vec(rt.alloc());
+    let mut count: u8 = 0;
+    for call in [
+        BuilderCall::Push(b'w'),
+        BuilderCall::AppendSlice(b"ww"),
+        BuilderCall::EndLabel,
+        BuilderCall::AppendLabel(b"Example"),
+        BuilderCall::PushSymbol(Symbol::Char('c')),
+        BuilderCall::AppendName(relative(&rt, b"\x03one\x03two")),
+        BuilderCall::AppendDecU8Label(192),
+        BuilderCall::AppendHexDigitLabel(0xfb),
+    ] {
+        count = count.saturating_add(insist(&rt, &mut builder, call));
+    }
+    let wanted = b"\x03www\x07Example\x01c\x03one\x03two\x03192\x01B".as_slice();
+    assert_eq!(rt; builder.as_slice(), wanted);
+    match builder.clone(rt.alloc()) {
+        Ok(copy) => assert_eq!(rt; copy.finish().as_slice(), wanted),
+        Err(_) => count = count.saturating_add(1),
+    }
+    match builder.into_name() {
+        Ok(name) => assert_eq!(rt; name.len(), wanted.len() + 1),
+        Err(error) => {
+            assert!(rt; error == PushError::ShortBuf);
+            count = count.saturating_add(1);
+        }
+    }
+    assert!(rt; count <= 1);
+}
+
+/// Builds a name in room for it, and tells whether that room was given.
+fn build_in_room(rt: &impl Abort, alloc: Global) -> bool {
+    let Ok(mut builder) = NameBuilder::vec_with_capacity(alloc, 17) else {
+        return false;
+    };
+    assert!(rt; builder.append_label(b"www").is_ok());
+    assert!(rt; builder.append_chars("Example.com".chars()).is_ok());
+    match builder.into_name() {
+        Ok(name) => assert_eq!(rt; name.as_slice(), WWW),
+        Err(_) => panic!(rt; "no room"),
+    }
+    true
+}
+
+#[test]
+fn in_room_that_was_given_nothing_is_refused(rt: HostRuntime) {
+    let first = build_in_room(&rt, rt.alloc());
+    let second = build_in_room(&rt, rt.alloc());
+    assert!(rt; first || second);
+}

@@ -1,0 +1,381 @@
+//! Names on a target that writes them shorter: many of them, each read back; full targets; memory that is
+//! refused; record data; and octets that were written over.
+ghost use Rattle.std.specs.Prelude.{if◌then◌else◌, false, true};
+ghost use Rattle.domain_label.specs.Low.{low_all};
+ghost use Rattle.domain_label.specs.Wire.{wire};
+ghost use Rattle.domain_name.specs.Names.{name_labels};
+ghost use Rattle.domain_rdata.specs.RecordData.{NameOctets};
+
+use crate::names::absolute;
+use arrayvec::ArrayVec;
+use domain::base::compress::CompressComposer;
+use domain::base::name::*;
+use domain::base::rdata::{ComposeRecordData, RecordData, Rtype};
+use domain::base::wire::Composer;
+use octseq::{Octets, OctetsBuilder, OctetsMut, Parser, Truncate};
+use std::process::Abort;
+
+const WWW: &[u8] = b"\x03www\x07example\x03com\0";
+
+const FTP: &[u8] = b"\x03ftp\x07EXAMPLE\x03com\0";
+
+/// Draws numbers, always the same ones.
+#[derive(Clone, Copy)]
+struct Draws {
+    state: u32,
+}
+
+impl Draws {
+    /// A number below `count`, which is at most 65,535.
+    fn below(&mut self, count: u32) -> u32 {
+        self.state = self
+            .state
+            .wrapping_mul(1_664_525)
+            .wrapping_add(1_013_904_223);
+        (self.state / 65536) % count.max(1)
+    }
+}
+
+type Drawn = ArrayVec<u8, 32>;
+
+fn put(rt: &impl Abort, octets: &mut Drawn, octet: u8) {
+    assert!(rt; octets.try_push(octet).is_ok());
+}
+
+/// A name of one to five labels, which have one or two octets out of a few, so that many ends are alike.
+fn drawn_name(rt: &impl Abort, seed: u32) -> Drawn {
+    let mut draws = Draws { state: seed };
+    let mut octets = ArrayVec::new();
+    let labels = draws.below(5).wrapping_add(1);
+    for _label in 0..labels {
+        let len = if draws.below(2) == 0 { 1 } else { 2 };
+        put(rt, &mut octets, len);
+        for _octet in 0..len {
+            let octet = match draws.below(6) {
+                0 => b'a',
+                1 => b'A',
+                2 => b'b',
+                3 => b'B',
+                4 => b'[',
+                _ => b'0',
+            };
+            put(rt, &mut octets, octet);
+        }
+    }
+    put(rt, &mut octets, 0);
+    octets
+}
+
+fn appended<Target: Composer>(rt: &impl Abort, target: &mut Target, octets: &[u8]) -> bool {
+    target.append_compressed_name(&absolute(rt, octets)).is_ok()
+}
+
+/// The name is read at the place, without case. The place behind it is answered.
+fn read_back(rt: &impl Abort, message: &[u8], place: usize, octets: &[u8]) -> usize {
+    let mut parser = Parser::from_ref(message);
+    assert!(rt; parser.seek(place).is_ok());
+    match ParsedName::parse(&mut parser) {
+        Ok(name) => assert!(rt;
+            name.name_eq(&absolute(rt, octets)),
+            "another name at {place}"
+        ),
+        Err(_) => panic!(rt; "no name at {place}"),
+    }
+    parser.pos()
+}
+
+/// Where a name was written that was drawn.
+#[derive(Clone, Copy, Default)]
+struct Placed {
+    place: usize,
+    seed: u32,
+}
+
+fn read_all(rt: &impl Abort, message: &[u8], placed: &[Placed]) {
+    for it in placed {
+        let name = drawn_name(rt, it.seed);
+        read_back(rt, message, it.place, name.as_slice());
+    }
+}
+
+/// Appends a name that is drawn, and reads it back. Its place is answered.
+fn append_drawn(
+    rt: &impl Abort,
+    target: &mut CompressComposer<ArrayVec<u8, 4000>>,
+    seed: u32,
+) -> Placed {
+    let name = drawn_name(rt, seed);
+    let place = target.as_slice().len();
+    assert!(rt; appended(rt, target, name.as_slice()));
+    let end = read_back(rt, target.as_slice(), place, name.as_slice());
+    assert_eq!(rt; end, target.as_slice().len());
+    assert!(rt; end.saturating_sub(place) <= name.len());
+    Placed { place, seed }
+}
+
+#[test]
+fn names_stay_readable_behind_further_names(rt: HostRuntime) {
+    let mut target = CompressComposer::new(ArrayVec::new());
+    let mut placed = ArrayVec::<Placed, 200>::new();
+    for seed in 0..200u32 {
+        assert!(rt;
+            placed
+                .try_push(append_drawn(&rt, &mut target, seed))
+                .is_ok()
+        );
+        read_all(&rt, target.as_slice(), placed.as_slice());
+    }
+}
+
+#[test]
+fn names_that_a_cut_leaves_stay_readable(rt: HostRuntime) {
+    let mut target = CompressComposer::new(ArrayVec::new());
+    let mut placed = ArrayVec::<Placed, 200>::new();
+    for seed in 0..200u32 {
+        let it = append_drawn(&rt, &mut target, seed);
+        if seed % 3 == 0 {
+            target.truncate(it.place.saturating_add(1));
+            target.truncate(it.place);
+        } else {
+            assert!(rt; placed.try_push(it).is_ok());
+        }
+        read_all(&rt, target.as_slice(), placed.as_slice());
+    }
+}
+
+/// A target that has room for so many octets behind those that it holds.
+fn with_room(rt: &impl Abort, room: usize) -> CompressComposer<ArrayVec<u8, 40>> {
+    let mut octets = ArrayVec::new();
+    for _held in room..40 {
+        assert!(rt; octets.try_push(0xff).is_ok());
+    }
+    CompressComposer::new(octets)
+}
+
+#[test]
+fn each_room_takes_what_fits(rt: HostRuntime) {
+    for room in 0..41usize {
+        let mut target = with_room(&rt, room);
+        let start = target.as_slice().len();
+        assert_eq!(rt;
+            appended(&rt, &mut target, WWW),
+            room >= 17,
+            "room for {room}"
+        );
+        let place = target.as_slice().len();
+        assert_eq!(rt;
+            appended(&rt, &mut target, FTP),
+            room >= 23,
+            "room for {room}"
+        );
+        let octets = target.into_target();
+        let behind = octets.as_slice().get(start..).unwrap_or(&[]);
+        if room >= 23 {
+            assert_eq!(rt; read_back(&rt, octets.as_slice(), place, FTP), octets.len());
+            assert_eq!(rt; behind.len(), 23);
+        } else if room >= 17 {
+            assert_eq!(rt; behind, WWW);
+        } else {
+            assert_eq!(rt; behind.len(), 0);
+        }
+    }
+}
+
+#[test]
+fn a_refused_name_leaves_the_target(rt: HostRuntime) {
+    let mut target = CompressComposer::new(ArrayVec::<u8, 22>::new());
+    assert!(rt; appended(&rt, &mut target, WWW));
+    assert!(rt; !appended(&rt, &mut target, FTP));
+    assert_eq!(rt; target.as_slice(), WWW);
+    assert!(rt; appended(&rt, &mut target, b"\x02ns\x03COM\0"));
+    assert_eq!(rt;
+        target.as_slice(),
+        b"\x03www\x07example\x03com\0\x02ns\xc0\x0c".as_slice()
+    );
+}
+
+/// At most one request for memory is refused; a call that is refused is made again.
+#[test]
+fn names_are_written_or_refused(rt: HostRuntime) {
+    let mut target = CompressComposer::new(Vec::<u8>::new(rt.alloc()));
+    let mut refusals = 0usize;
+    for seed in 0..100u32 {
+        let name = drawn_name(&rt, seed);
+        let place = target.as_slice().len();
+        if !appended(&rt, &mut target, name.as_slice()) {
+            refusals = refusals.saturating_add(1);
+            assert_eq!(rt; target.as_slice().len(), place);
+            assert!(rt; appended(&rt, &mut target, name.as_slice()));
+        }
+        assert_eq!(rt;
+            read_back(&rt, target.as_slice(), place, name.as_slice()),
+            target.as_slice().len()
+        );
+    }
+    assert!(rt; refusals <= 1);
+    let mut again = CompressComposer::new(ArrayVec::<u8, 4000>::new());
+    for seed in 0..100u32 {
+        assert!(rt; appended(&rt, &mut again, drawn_name(&rt, seed).as_slice()));
+    }
+    assert_eq!(rt; target.as_slice(), again.as_slice());
+}
+
+/// Pointers one behind the other, the first to the name `b` at the beginning.
+fn pointers(rt: &impl Abort, count: u16) -> ArrayVec<u8, 600> {
+    let mut octets = ArrayVec::new();
+    assert!(rt; octets.try_extend_from_slice(b"\x01b\0").is_ok());
+    for at in 0..count {
+        let place = if at == 0 {
+            0
+        } else {
+            at.saturating_mul(2).saturating_add(1)
+        };
+        assert!(rt;
+            octets
+                .try_extend_from_slice(&place.saturating_add(0xc000).to_be_bytes())
+                .is_ok()
+        );
+    }
+    octets
+}
+
+/// The octets of `a.b.` behind a place that leads through so many pointers to `b`.
+fn behind_pointers(rt: &impl Abort, count: u16) -> ArrayVec<u8, 600> {
+    let mut target = CompressComposer::new(pointers(rt, count.saturating_sub(1)));
+    let start = target.as_slice().len();
+    assert!(rt; appended(rt, &mut target, b"\x01b\0"));
+    let last = count.saturating_mul(2).saturating_sub(1);
+    let place = if count == 1 { 0 } else { last };
+    match target
+        .as_slice_mut()
+        .get_mut(start..start.saturating_add(2))
+    {
+        Some(octets) if octets.len() == 2 => {
+            octets.copy_from_slice(&place.saturating_add(0xc000).to_be_bytes());
+        }
+        _ => panic!(rt; "no octets"),
+    }
+    let begin = target.as_slice().len();
+    assert!(rt; appended(rt, &mut target, b"\x01a\x01B\0"));
+    assert_eq!(rt;
+        read_back(rt, target.as_slice(), begin, b"\x01A\x01b\0"),
+        target.as_slice().len()
+    );
+    let mut written = ArrayVec::new();
+    let octets = target.into_target();
+    assert!(rt;
+        written
+            .try_extend_from_slice(octets.as_slice().get(begin..).unwrap_or(&[]))
+            .is_ok()
+    );
+    written
+}
+
+#[test]
+fn one_pointer_too_many_is_not_written(rt: HostRuntime) {
+    assert_eq!(rt;
+        behind_pointers(&rt, 1).as_slice(),
+        b"\x01a\xc0\x03".as_slice()
+    );
+    assert_eq!(rt;
+        behind_pointers(&rt, 254).as_slice(),
+        b"\x01a\xc1\xfd".as_slice()
+    );
+    assert_eq!(rt;
+        behind_pointers(&rt, 255).as_slice(),
+        b"\x01a\x01B\0".as_slice()
+    );
+}
+
+#[test]
+fn octets_that_were_written_over_are_read_anew(rt: HostRuntime) {
+    let mut target = CompressComposer::new(ArrayVec::<u8, 100>::new());
+    assert!(rt; appended(&rt, &mut target, b"\x01a\x01b\0"));
+    match target.as_slice_mut().get_mut(3) {
+        Some(octet) => *octet = b'c',
+        None => panic!(rt; "no octet"),
+    }
+    assert!(rt; appended(&rt, &mut target, b"\x01b\0"));
+    assert!(rt; appended(&rt, &mut target, b"\x01d\x01C\0"));
+    assert_eq!(rt;
+        target.as_slice(),
+        b"\x01a\x01c\0\x01b\0\x01d\xc0\x02".as_slice()
+    );
+}
+
+/// Record data that is one name.
+#[derive(Clone, Copy)]
+struct NameData<'a> {
+    name: Name<&'a [u8]>,
+}
+
+impl<'a> RecordData for NameData<'a> {
+    ghost type_number = { λ _. 2 };
+
+    fn rtype(&self) -> Rtype {
+        Rtype::from_int(2)
+    }
+}
+
+impl<'a> ComposeRecordData for NameData<'a> {
+    ghost composed = { λ it c t s. NameOctets (name_labels it.name) c t s };
+
+    ghost canonical = { λ it. wire (low_all (name_labels it.name)) };
+
+    ghost knows_len = { λ _ compress. if compress then false else true };
+
+    fn rdlen(&self, compress: bool) -> Option<u16> {
+        if compress {
+            return None;
+        }
+        Some(self.name.compose_len())
+    }
+
+    fn compose_rdata<Target: Composer>(
+        &self,
+        target: &mut Target,
+    ) -> Result<(), Target::AppendError> {
+        target.append_compressed_name(&self.name)
+    }
+
+    fn compose_canonical_rdata<Target: Composer>(
+        &self,
+        target: &mut Target,
+    ) -> Result<(), Target::AppendError> {
+        self.name.compose_canonical(target)
+    }
+}
+
+/// The octets of the data behind `www.example.com.`, and whether they were written.
+fn composed_behind(rt: &impl Abort, canonical: bool) -> ArrayVec<u8, 60> {
+    let data = NameData {
+        name: absolute(rt, b"\x02ns\x07Example\x03com\0"),
+    };
+    let mut target = CompressComposer::new(ArrayVec::<u8, 60>::new());
+    assert!(rt; target.can_compress());
+    assert!(rt; appended(rt, &mut target, WWW));
+    if canonical {
+        assert!(rt; data.compose_canonical_len_rdata(&mut target).is_ok());
+    } else {
+        assert!(rt; data.compose_len_rdata(&mut target).is_ok());
+    }
+    let octets = target.into_target();
+    let mut behind = ArrayVec::new();
+    assert!(rt;
+        behind
+            .try_extend_from_slice(octets.as_slice().get(17..).unwrap_or(&[]))
+            .is_ok()
+    );
+    behind
+}
+
+#[test]
+fn data_is_compressed_where_it_is_not_canonical(rt: HostRuntime) {
+    let compressed = composed_behind(&rt, false);
+    assert_eq!(rt; compressed.as_slice(), b"\x00\x05\x02ns\xc0\x04".as_slice());
+    let canonical = composed_behind(&rt, true);
+    assert_eq!(rt;
+        canonical.as_slice(),
+        b"\x00\x10\x02ns\x07example\x03com\0".as_slice()
+    );
+}

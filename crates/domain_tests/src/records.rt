@@ -1,0 +1,101 @@
+//! Record data of a type that doesn't know its length, and targets that are full.
+ghost use Rattle.std.specs.Prelude.{◌≡◌, false};
+
+use arrayvec::ArrayVec;
+use domain::base::rdata::{
+    ComposeRdataError, ComposeRecordData, RecordData, Rtype, UnknownRecordData,
+};
+use domain::base::wire::Composer;
+use octseq::OctetsBuilder;
+use std::alloc::Global;
+use std::process::Abort;
+
+const PRIVATE: u16 = 65280;
+
+/// Record data that doesn't know its length before it is composed.
+#[derive(Clone, Copy)]
+struct Unmeasured<'a> {
+    octets: &'a [u8],
+}
+
+impl<'a> RecordData for Unmeasured<'a> {
+    ghost type_number = { λ _. 65280 };
+
+    fn rtype(&self) -> Rtype {
+        Rtype::from_int(PRIVATE)
+    }
+}
+
+impl<'a> ComposeRecordData for Unmeasured<'a> {
+    ghost composed = { λ it _ _ s. s ≡ it.octets.now };
+
+    ghost canonical = { λ it. it.octets.now };
+
+    ghost knows_len = { λ _ _. false };
+
+    fn rdlen(&self, _compress: bool) -> Option<u16> {
+        None
+    }
+
+    fn compose_rdata<Target: Composer>(
+        &self,
+        target: &mut Target,
+    ) -> Result<(), Target::AppendError> {
+        self.compose_canonical_rdata(target)
+    }
+
+    fn compose_canonical_rdata<Target: Composer>(
+        &self,
+        target: &mut Target,
+    ) -> Result<(), Target::AppendError> {
+        target.append_slice(self.octets)
+    }
+}
+
+/// So many octets that are zero.
+fn zeros(rt: &impl Abort, alloc: Global, len: usize) -> Vec<u8> {
+    let mut octets = Vec::new(alloc);
+    assert!(rt; octets.resize(len, 0).is_ok());
+    octets
+}
+
+#[test]
+fn data_that_is_too_long_leaves_the_target(rt: HostRuntime) {
+    let octets = zeros(&rt, rt.alloc(), 65536);
+    let data = Unmeasured {
+        octets: octets.as_slice(),
+    };
+    let mut target = zeros(&rt, rt.alloc(), 1);
+    let composed = data.compose_len_rdata(&mut target);
+    assert!(rt; matches!(composed, Err(ComposeRdataError::Long(_))));
+    assert_eq!(rt; target.as_slice(), [0].as_slice());
+    let composed = data.compose_canonical_len_rdata(&mut target);
+    assert!(rt; matches!(composed, Err(ComposeRdataError::Long(_))));
+    assert_eq!(rt; target.as_slice(), [0].as_slice());
+    assert!(rt; UnknownRecordData::from_octets(Rtype::from_int(PRIVATE), octets).is_err());
+}
+
+#[test]
+fn the_longest_data_has_its_length(rt: HostRuntime) {
+    let octets = zeros(&rt, rt.alloc(), 65535);
+    let data = Unmeasured {
+        octets: octets.as_slice(),
+    };
+    let mut target = Vec::new(rt.alloc());
+    assert!(rt; data.compose_len_rdata(&mut target).is_ok());
+    assert_eq!(rt; target.len(), 65537);
+    assert!(rt; target.as_slice().starts_with(&[255, 255, 0]));
+}
+
+#[test]
+fn data_that_does_not_fit_leaves_the_target(rt: HostRuntime) {
+    let data = Unmeasured { octets: &[1, 2, 3] };
+    let mut target = ArrayVec::<u8, 5>::new();
+    assert!(rt; target.append_slice(&[9]).is_ok());
+    let composed = data.compose_len_rdata(&mut target);
+    assert!(rt; matches!(composed, Err(ComposeRdataError::Append(_))));
+    assert_eq!(rt; target.as_slice(), [9].as_slice());
+    let composed = data.compose_canonical_len_rdata(&mut target);
+    assert!(rt; matches!(composed, Err(ComposeRdataError::Append(_))));
+    assert_eq!(rt; target.as_slice(), [9].as_slice());
+}

@@ -1,0 +1,34 @@
+//! Writing names into messages, shorter where they can be.
+ghost use Rattle.std.specs.Prelude.{◌≡◌, IfOk, OnErr};
+ghost use Rattle.domain_rdata.specs.ReadBack.{StandsAt};
+
+use arrayvec::ArrayVec;
+use domain::base::compress::CompressComposer;
+use domain::base::name::*;
+use domain::base::wire::Composer;
+use octseq::{Octets, ShortBuf};
+
+/// Appends a name to a message, and tells where it is read.
+pub fn append_at<'a, Target: Composer, N: AbsoluteLabels<'a>>(
+    target: &mut Target,
+    name: &'a N,
+) -> Result<usize, Target::AppendError>
+    ensures stands { IfOk result (λ place. StandsAt (Target.octets target.new) place (N.labels name.now)) }
+    ensures err { OnErr result (Target.octets target.new ≡ Target.octets target.old) }
+{
+    let place = target.as_slice().len();
+    target.append_compressed_name(name)?;
+    Ok(place)
+}
+
+/// Both names in one message of at most 512 octets; the second one is written shorter where it ends as
+/// the first one does.
+pub fn two_owners(
+    first: &Name<&[u8]>,
+    second: &Name<&[u8]>,
+) -> Result<ArrayVec<u8, 512>, ShortBuf> {
+    let mut message = CompressComposer::new(ArrayVec::new());
+    append_at(&mut message, first)?;
+    append_at(&mut message, second)?;
+    Ok(message.into_target())
+}
