@@ -54,8 +54,14 @@ pub mod name {
     pub use domain_name::relative::RelativeName;
     pub use domain_name::suffixes::SuffixIter;
     pub use domain_name::{StripSuffixError, builder_laws};
-    pub use domain_parsed::{ParsedName, ParsedNameIter, ParsedSuffixIter};
+    pub use domain_parsed::{Heads, ParsedName, ParsedNameIter, ParsedSuffixIter};
     pub use domain_traits::{FlattenInto, FlattenName, ToName, ToRelativeName};
+}
+
+/// Laws of names, as the contracts of calls that do nothing.
+pub mod laws {
+    pub use domain_list::laws::order_laws;
+    pub use domain_reading::reads_laws;
 }
 
 /// Serial numbers.

@@ -1,34 +1,46 @@
 -- A flat name is a name in a message that has no other octets.
-use Rattle.std.proofs.Common.{◌≡◌, ℕ, ◌+◌, List, [], length, slice_range, sym, ap, subst, ◌∙◌, arith}
-use Rattle.std.proofs.lemmas.Grind.{common_steps}
+use Rattle.std.proofs.Common.{◌≡◌, ℕ, ◌+◌, List, [], ◌++◌, length, false, slice_range, subst, ◌∙◌}
 use Rattle.std.proofs.lemmas.List.{append-nil}
-use Rattle.domain_label.specs.Wire.{wire, labels_in, IsAbsoluteName, IsAbsoluteWire}
-use Rattle.domain_reading.specs.Grammar.{Names}
-use Rattle.domain_reading.specs.Labels.{labels_at}
-use Rattle.domain_reading.proofs.Reading.{names_within}
-use Rattle.domain_reading.proofs.Naming.{labels_named}
-use Rattle.domain_reading.proofs.Plain.{plain_names}
+use Rattle.domain_label.specs.Wire.{wire, labels_in, IsAbsoluteWire}
+use Rattle.domain_reading.specs.Grammar.{Names, Front, LiesInOnePiece}
+use Rattle.domain_reading.specs.Grammar.Stop.{root as stop_root}
+use Rattle.domain_reading.specs.Faults.{Fault}
+use Rattle.domain_reading.specs.Outcomes.{NameRead, Holds}
+use Rattle.domain_reading.specs.Places.{placed_labels}
+use Rattle.domain_reading.specs.declared.fault.NameFault.{NameFault}
+use Rattle.domain_reading.specs.declared.progress.Progress.{Progress}
+use Rattle.domain_reading.proofs.Reading.{reads_once}
+use Rattle.domain_reading.proofs.Walking.{names_or_fault}
+use Rattle.domain_reading.proofs.Plain.{plain_names, plain_front}
+use Rattle.domain_parsed.proofs.Parsing.{HeldAs, held_more, piece_tells, front_base}
 
-pub record WholeName (o : List ℕ) (n : ℕ) : Type 0 where
-  pub same : labels_at o 0 ≡ labels_in o
-  pub named : Names 255 o 0 (labels_at o 0)
-  pub absolute : IsAbsoluteName (labels_at o 0)
-  pub sized : n ≡ length (wire (labels_at o 0))
-  pub flat : slice_range o 0 (0 + n) ≡ wire (labels_at o 0)
+-- the octets of a flat name, as a message
+same_octets : (o : List ℕ) → IsAbsoluteWire o → [] ++ wire (labels_in o) ++ [] ≡ o
+same_octets o w = append-nil (wire (labels_in o)) ∙ w.0
 
-all_octets : (o : List ℕ) (n : ℕ) → n ≡ length o → slice_range o 0 (0 + n) ≡ o
-all_octets o n e = grind (arith, common_steps)
+flat_named : (o : List ℕ) → IsAbsoluteWire o → Names 0 o 0 (labels_in o)
+flat_named o w = subst (λ m. Names 0 m 0 (labels_in o)) (same_octets o w) (plain_names [] [] (labels_in o) w.1)
 
-pub whole_name : (o : List ℕ) (n : ℕ) → IsAbsoluteWire o → n ≡ length (wire (labels_in o)) → WholeName o n
-whole_name o n w len =
-    let ls = labels_in o in
-    let a = names_within 255 (plain_names [] [] ls w.1) (omega arith) in
-    let there : Names 255 o 0 ls = subst (λ m. Names 255 m 0 ls) (append-nil (wire ls) ∙ w.0) a in
-    let e : labels_at o 0 ≡ ls = labels_named there in
+flat_piece : (o : List ℕ) → IsAbsoluteWire o → LiesInOnePiece o 0
+flat_piece o w =
+    let f = plain_front [] [] (labels_in o) w.1 in
+    let there : Front o 0 f.0 stop_root (length {A = ℕ} [] + length (wire (labels_in o))) = subst (λ m. Front m 0 f.0 stop_root (length {A = ℕ} [] + length (wire (labels_in o)))) (same_octets o w) f.1 in
+    (0, f.0, _, front_base there, there)
+
+pub flat_no_fault : {o : List ℕ} {p : ℕ} {e : NameFault} → IsAbsoluteWire o → p ≡ 0 → Fault 0 o p e → ⊥
+flat_no_fault {o} {e = e} w z f = names_or_fault (flat_named o w) (subst (λ p. Fault 0 o p e) z f)
+
+pub record FlatRead (o : List ℕ) (w : Progress) : Type 0 where
+  pub holds : Holds o w
+  pub same : placed_labels o w.base (slice_range w.places 0 w.count) ≡ labels_in o
+  pub piece : w.compressed ≡ false
+
+pub flat_read : (o : List ℕ) {p : ℕ} {w : Progress} {before now : ℕ} → IsAbsoluteWire o → p ≡ 0 → NameRead 0 o p w before now → FlatRead o w
+flat_read o {w = w} {before} {now} a z read =
+    let r = subst (λ p. NameRead 0 o p w before now) z read in
+    let h : HeldAs o w r.labels = subst (λ m. HeldAs m w r.labels) (append-nil o) (held_more [] r) in
     record {
-      same = e;
-      named = rw e there;
-      absolute = rw e w.1;
-      sized = rw e len;
-      flat = rw e (all_octets o n (len ∙ ap length w.0) ∙ sym w.0);
+      holds = h.holds;
+      same = h.same ∙ (reads_once r.name.reads (flat_named o a).reads).1;
+      piece = (piece_tells r).1 (flat_piece o a);
     }

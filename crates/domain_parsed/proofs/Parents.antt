@@ -1,35 +1,12 @@
 -- A name without its first label.
-use Rattle.std.proofs.Common.{◌≡◌, ℕ, ◌+◌, ◌-◌, ◌≤◌, ◌<◌, inl, inr, List, [], ◌∷◌, ◌++◌, length, drop, Bool, false, nat_eq, ◌↔◌, slice_range, slice_index, refl, sym, ap, arith, ◌∙◌, length-append}
+use Rattle.std.proofs.Common.{◌≡◌, ℕ, ◌+◌, ◌-◌, ◌≤◌, ◌<◌, inl, inr, List, [], ◌∷◌, ◌++◌, length, drop, Bool, false, nat_eq, ◌↔◌, slice_range, slice_index, refl, sym, ap, subst, arith, ◌∙◌, length-append, length-take, length-drop}
 use Rattle.std.proofs.lemmas.Grind.{common_steps}
 use Rattle.std.proofs.Math.Seq.{drop-append_seam}
-use Rattle.std.proofs.lemmas.List.{nil_from_length}
-use Rattle.std.proofs.lemmas.Bool.{cases_lt, false≢true}
+use Rattle.std.proofs.lemmas.Bool.{false≢true}
 use Rattle.std.proofs.lemmas.Bool.Decides.{eqb_tells}
 use Rattle.std.specs.Bool.{IsTrue}
-use Rattle.domain_label.specs.Wire.{wire, Root, IsAbsolute}
-use Rattle.domain_reading.specs.Grammar.{Reads, root, label, pointer, Names}
-use Rattle.domain_reading.specs.Labels.{labels_at, FirstLabel}
-use Rattle.domain_reading.proofs.Reading.{names_absolute}
-use Rattle.domain_reading.proofs.Naming.{name_from_some, labels_few, flat_inside, slice_join, slice_one}
-use Rattle.domain_reading.proofs.Steps.{named_at}
-
-pub reads_one : {m : List ℕ} {p k : ℕ} {ls : List (List ℕ)} → Reads m p k ls → length (wire ls) ≡ 1 → ls ≡ Root
-reads_one (root x) e = refl
-reads_one (label {l = l} {rest = rest} x r) e = absurd (omega (arith, length-append l (wire rest), x.nonempty))
-reads_one (pointer x lt r) e = reads_one r e
-
-reads_short : {m : List ℕ} {p k : ℕ} {ls : List (List ℕ)} → Reads m p k ls → (l : List ℕ) (rest : List (List ℕ)) → ls ≡ l ∷ rest → length l < 64
-reads_short (root x) l rest e = let n : 0 ≡ length l = cc in omega arith
-reads_short (label {l = l'} x r) l rest e = let same : l' ≡ l = cc in omega (arith, x.short, ap (λ l. length l) same)
-reads_short (pointer x lt r) l rest e = reads_short r l rest e
-
-pub record Parent (m : List ℕ) (l : List ℕ) (behind n : ℕ) (compressed : Bool) : Type 0 where
-  pub nonempty : 0 < length l
-  pub short : length l < 64
-  pub fits : length l < n
-  pub named : Names 255 m behind (labels_at m behind)
-  pub sized : n - (length l + 1) ≡ length (wire (labels_at m behind))
-  pub flat : compressed ≡ false → slice_range m behind (behind + (n - (length l + 1))) ≡ wire (labels_at m behind)
+use Rattle.domain_label.specs.Wire.{wire, Root, IsAbsolute, IsAbsoluteName}
+use Rattle.domain_reading.proofs.Naming.{slice_join, slice_one}
 
 pub flat_tail : (m l w : List ℕ) (p n : ℕ) → p + n ≤ length m → slice_range m p (p + n) ≡ length l ∷ (l ++ w) → (slice_index m p ≡ length l) × (slice_range m (p + 1 + length l) (p + n) ≡ w)
 flat_tail m l w p n inside e =
@@ -47,47 +24,34 @@ flat_tail m l w p n inside e =
     let rest : b ≡ w = sym (drop-append_seam a b) ∙ ap (λ j. drop j (a ++ b)) k ∙ ap (λ xs. drop (length l) xs) (sym two ∙ same) ∙ drop-append_seam l w in
     (cc, rest)
 
-pub parent : {m : List ℕ} {p behind : ℕ} {l : List ℕ} (n : ℕ) (compressed : Bool) → ∥ Names 255 m p (labels_at m p) ∥₁ → n ≡ length (wire (labels_at m p)) → (compressed ≡ false → slice_range m p (p + n) ≡ wire (labels_at m p)) → (labels_at m p ≡ Root → ⊥)
-    → FirstLabel m p l behind → (slice_index m p < 64 → behind ≡ p + 1 + length l) → Parent m l behind n compressed
-parent {m} {p} {behind} {l} n compressed maybe sized flat more f here =
-    let named = name_from_some maybe in
-    let len : n ≡ length (wire (l ∷ f.rest)) = sized ∙ ap (λ ls. length (wire ls)) f.first in
-    let short = reads_short named.reads l f.rest f.first in
-    let some : 0 < length l = elim (cases_lt 0 (length l)) [
-      | inl a ↦ a
-      | inr b ↦ absurd (more (f.first ∙ ap (λ ls. l ∷ ls) (f.root (omega arith)) ∙ ap (λ l. l ∷ []) (nil_from_length l (omega arith))))
-    ] in
-    let rest = f.more some in
-    let wires : length (wire f.rest) ≡ length (wire (labels_at m behind)) = ap (λ ls. length (wire ls)) rest.0 in
-    record {
-      nonempty = some;
-      short = short;
-      fits = omega (arith, len, length-append l (wire f.rest));
-      named = named_at rest.1;
-      sized = omega (arith, len, length-append l (wire f.rest), wires);
-      flat = λ h.
-          let inside = flat_inside m p n maybe sized (flat h) in
-          let t = flat_tail m l (wire f.rest) p n inside (flat h ∙ ap (λ ls. wire ls) f.first) in
-          let there = here (omega (arith, t.0)) in
-          let end : p + 1 + length l + (n - (length l + 1)) ≡ p + n = omega (arith, len, length-append l (wire f.rest)) in
-          rw there (rw end (t.1 ∙ ap (λ ls. wire ls) (rest.0 ∙ ap (λ q. labels_at m q) there)));
-    }
+some_octets : (ls : List (List ℕ)) → IsAbsolute ls → 1 ≤ length (wire ls)
+some_octets [] a = absurd a
+some_octets (l ∷ ls) a = omega arith
+
+-- the octets of a name that lies in one piece are all there
+pub flat_inside : (m : List ℕ) (p n : ℕ) (ls : List (List ℕ)) → IsAbsolute ls → n ≡ length (wire ls) → slice_range m p (p + n) ≡ wire ls → p + n ≤ length m
+flat_inside m p n ls a sized flat =
+    let len : length (slice_range m p (p + n)) ≡ n = ap (λ xs. length xs) flat ∙ sym sized in
+    let cut : length (slice_range m p (p + n)) ≤ length m - p = simp (length-take, length-drop) (omega arith) in
+    omega (arith, len, cut, some_octets ls a)
 
 -- the root alone has one octet
-pub root_tells : {m : List ℕ} {p : ℕ} (n : ℕ) → ∥ Names 255 m p (labels_at m p) ∥₁ → n ≡ length (wire (labels_at m p)) → IsTrue (nat_eq n 1) ↔ (labels_at m p ≡ Root)
-root_tells n named sized = elim (eqb_tells n 1) [
-  | inl one ↦ rw one.0 (λ _. reads_one (name_from_some named).reads (sym sized ∙ one.1), λ _. refl)
+one_octet : (ls : List (List ℕ)) → IsAbsolute ls → length (wire ls) ≡ 1 → ls ≡ Root
+one_octet [] a e = absurd a
+one_octet ([] ∷ ls) a e = ap (λ ls. [] ∷ ls) a
+one_octet ((c ∷ l) ∷ ls) a e = absurd (omega (arith, e))
+
+pub root_tells : (n : ℕ) (ls : List (List ℕ)) → IsAbsolute ls → n ≡ length (wire ls) → IsTrue (nat_eq n 1) ↔ (ls ≡ Root)
+root_tells n ls a sized = elim (eqb_tells n 1) [
+  | inl one ↦ rw one.0 (λ _. one_octet ls a (sym sized ∙ one.1), λ _. refl)
   | inr more ↦ rw more.0 (λ h. absurd (false≢true h), λ e. absurd (more.1 (sized ∙ ap (λ ls. length (wire ls)) e)))
 ]
 
 -- the root is last
-last_from : {m : List ℕ} {p k : ℕ} {ls : List (List ℕ)} → Reads m p k ls → (front : List (List ℕ)) × (ls ≡ front ++ Root)
-last_from (root x) = ([], refl)
-last_from (label {l = l} x r) = let a = last_from r in (l ∷ a.0, ap (λ ls. l ∷ ls) a.1)
-last_from (pointer x lt r) = last_from r
-
-pub reads_last : {m : List ℕ} {p k : ℕ} {ls : List (List ℕ)} → Reads m p k ls → (l : List ℕ) → l ≡ [] → (front : List (List ℕ)) × (ls ≡ front ++ l ∷ [])
-reads_last {ls = ls} r l e = let a = last_from r in (a.0, a.1 ∙ ap (λ l. a.0 ++ l ∷ []) (sym e))
+pub ends_in_root : (ls : List (List ℕ)) → IsAbsolute ls → (l : List ℕ) → l ≡ [] → (front : List (List ℕ)) × (ls ≡ front ++ l ∷ [])
+ends_in_root [] a l e = absurd a
+ends_in_root ([] ∷ ls) a l e = ([], ap (λ ls. [] ∷ ls) a ∙ ap (λ l. l ∷ []) (sym e))
+ends_in_root ((c ∷ k) ∷ ls) a l e = let r = ends_in_root ls a.1 l e in ((c ∷ k) ∷ r.0, ap (λ ls. (c ∷ k) ∷ ls) r.1)
 
 many_from : (ls : List (List ℕ)) → IsAbsolute ls → (ls ≡ Root → ⊥) → 1 < length ls
 many_from [] a more = absurd a
@@ -96,12 +60,34 @@ many_from ((c ∷ l) ∷ []) a more = absurd a.1
 many_from ((c ∷ l) ∷ k ∷ ls) a more = omega arith
 
 -- a name that isn't the root has more labels than one
-pub many_labels : {m : List ℕ} {p : ℕ} → ∥ Names 255 m p (labels_at m p) ∥₁ → (labels_at m p ≡ Root → ⊥) → 1 < length (labels_at m p)
-many_labels {m} {p} named more = many_from (labels_at m p) (names_absolute (name_from_some named)).0 more
-
--- a name has at most 128 labels, the root among them
-pub few_labels : {m : List ℕ} {p : ℕ} → ∥ Names 255 m p (labels_at m p) ∥₁ → length (labels_at m p) ≤ 128
-few_labels named = let x = name_from_some named in omega (arith, labels_few x.reads, x.short)
+pub many_labels : (ls : List (List ℕ)) → IsAbsolute ls → (ls ≡ Root → ⊥) → 1 < length ls
+many_labels = many_from
 
 pub not_so : {b : Bool} {P : Type 0} → (IsTrue b ↔ P) → b ≡ false → P → ⊥
 not_so tells f p = false≢true (sym f ∙ tells.1 p)
+
+-- what is left behind the first label
+pub record Rest (l : List ℕ) (ls : List (List ℕ)) (n : ℕ) : Type 0 where
+  pub nonempty : 0 < length l
+  pub short : length l < 64
+  pub fits : length l < n
+  pub absolute : IsAbsoluteName ls
+  pub sized : n - (length l + 1) ≡ length (wire ls)
+
+pub rest_of : (l : List ℕ) (ls : List (List ℕ)) (n : ℕ) → IsAbsoluteName (l ∷ ls) → n ≡ length (wire (l ∷ ls)) → (l ∷ ls ≡ Root → ⊥) → Rest l ls n
+rest_of [] ls n a e more = absurd (more (ap (λ ls. [] ∷ ls) a.0))
+rest_of (c ∷ l) ls n a e more =
+    let len = length-append (c ∷ l) (wire ls) in
+    record {
+      nonempty = omega arith;
+      short = omega (arith, a.0.0);
+      fits = omega (arith, e, len);
+      absolute = (a.0.1, omega (arith, a.1, len));
+      sized = omega (arith, e, len);
+    }
+
+pub flat_rest : (m l : List ℕ) (ls : List (List ℕ)) (p n q r : ℕ) → p + n ≤ length m → length l < n → slice_range m p (p + n) ≡ wire (l ∷ ls) → q ≡ p + (length l + 1) → r ≡ p + n → slice_range m q r ≡ wire ls
+flat_rest m l ls p n q r inside fits flat e f =
+    let t = flat_tail m l (wire ls) p n inside flat in
+    let a : p + 1 + length l ≡ q = omega (arith, e) in
+    rw f (subst (λ q. slice_range m q (p + n) ≡ wire ls) a t.1)

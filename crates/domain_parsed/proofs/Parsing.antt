@@ -1,5 +1,5 @@
 -- From a reading of the parser's message to the name and the parser behind it.
-use Rattle.std.proofs.Common.{◌≡◌, ℕ, ◌+◌, ◌≤◌, ◌↔◌, List, [], ◌∷◌, ◌++◌, length, refl, sym, subst, arith, ◌∙◌, Bool, true, false, unwrap_or, slice_range, drop, Result, Ok, Err, IsOk, IsErr}
+use Rattle.std.proofs.Common.{◌≡◌, ℕ, ◌+◌, ◌≤◌, ◌↔◌, List, [], ◌∷◌, ◌++◌, length, refl, sym, subst, arith, ◌∙◌, Bool, true, false, unwrap_or, slice_range, drop, Result, Ok, Err, IsOk, IsErr, IsErrAnd, MatchResult}
 use Rattle.std.proofs.lemmas.Grind.{common_steps}
 use Rattle.std.proofs.lemmas.List.{take-append-drop}
 use Rattle.domain_label.specs.Wire.{wire}
@@ -8,15 +8,17 @@ use Rattle.octseq.specs.Parsing.{message, place}
 use Rattle.domain_reading.specs.Grammar.{OctetAt, PointerAt, Names, Flat, Front, Base, LiesInOnePiece}
 use Rattle.domain_reading.specs.Grammar.Stop.{root as stop_root, pointer as stop_pointer}
 use Rattle.domain_reading.specs.Grammar.Base.{here}
-use Rattle.domain_reading.specs.Faults.{Fault, Skips, SkipFault}
-use Rattle.domain_reading.specs.Labels.{labels_at}
-use Rattle.domain_reading.specs.Outcomes.{NameRead, LiesPlainly}
+use Rattle.domain_wire.specs.Refusals.{refusal}
+use Rattle.domain_wire.specs.declared.error.ParseError.{ParseError}
+use Rattle.domain_reading.specs.Faults.{Fault, Skips, SkipFault, told}
+use Rattle.domain_reading.specs.Places.{placed_labels}
+use Rattle.domain_reading.specs.Outcomes.{NameRead, Holds, LiesPlainly, CountsName, CountsFault}
 use Rattle.domain_reading.specs.declared.fault.NameFault.{NameFault}
 use Rattle.domain_reading.specs.declared.progress.Progress.{Progress}
-use Rattle.domain_reading.proofs.Reading.{names_more, names_within, reads_once}
+use Rattle.domain_reading.proofs.Reading.{names_absolute, names_within, reads_once}
 use Rattle.domain_reading.proofs.Walking.{names_or_fault}
 use Rattle.domain_reading.proofs.Fronts.{front_once, not_in_one_piece, skips_not_both}
-use Rattle.domain_reading.proofs.Naming.{labels_named}
+use Rattle.domain_reading.proofs.Places.{more_stand}
 use Rattle.domain_reading.proofs.Plain.{plain_names, plain_front}
 
 pub ok_not_err : {T E : Type 0} (r : Result T E) → IsErr r → IsOk r → ⊥
@@ -38,30 +40,33 @@ read_here {n} {m} {p} {w} {before} {now} parser a b r =
 
 -- ---- the name, in all octets of the slice
 
--- the labels were read at w's base in octets that go on behind the message
-pub record Held (octets : List ℕ) (w : Progress) (labels : List (List ℕ)) : Type 0 where
-  pub same : labels_at octets w.base ≡ labels
-  pub named : Names 255 octets w.base (labels_at octets w.base)
-  pub sized : w.len + 1 ≡ length (wire (labels_at octets w.base))
-  pub flat : w.compressed ≡ false → slice_range octets w.base (w.base + (w.len + 1)) ≡ wire (labels_at octets w.base)
-
 slice_more : (m u : List ℕ) (a b : ℕ) → b ≤ length m → slice_range (m ++ u) a b ≡ slice_range m a b
 slice_more m u a b h = grind (arith, common_steps)
 
-held_more : {n : ℕ} {m : List ℕ} {p : ℕ} {w : Progress} {before now : ℕ} (u : List ℕ) → n ≤ 255 → (r : NameRead n m p w before now) → Held (m ++ u) w r.labels
-held_more {m = m} {w = w} u le r =
-    let there = names_more u (names_within 255 r.there le) in
-    let e = labels_named there in
+-- what was read in the message stands in octets that go on behind it
+pub record HeldAs (octets : List ℕ) (w : Progress) (labels : List (List ℕ)) : Type 0 where
+  pub holds : Holds octets w
+  pub same : placed_labels octets w.base (slice_range w.places 0 w.count) ≡ labels
+
+pub held_more : {n : ℕ} {m : List ℕ} {p : ℕ} {w : Progress} {before now : ℕ} (u : List ℕ) → (r : NameRead n m p w before now) → HeldAs (m ++ u) w r.labels
+held_more {m = m} {w = w} u r =
+    let t = more_stand m u w.base (slice_range w.places 0 w.count) r.stand in
+    let e : placed_labels (m ++ u) w.base (slice_range w.places 0 w.count) ≡ r.labels = t.same ∙ r.table in
     record {
+      holds = record {
+        some = r.some;
+        few = r.few;
+        stand = t.stand;
+        absolute = rw e (names_absolute r.name);
+        sized = rw e r.sized;
+        flat = λ h. rw e (slice_more m u w.base (w.base + (w.len + 1)) (r.inside h) ∙ r.octets h);
+      };
       same = e;
-      named = rw e there;
-      sized = rw e r.sized;
-      flat = λ h. rw e (slice_more m u w.base (w.base + (w.len + 1)) (r.inside h) ∙ r.octets h);
     }
 
-pub held : {n : ℕ} {p : ℕ} {w : Progress} {before now : ℕ} (parser : Parser) (octets : List ℕ) → octets ≡ parser.octets.now → n ≤ 255 → (r : NameRead n (message parser) p w before now) → Held octets w r.labels
-held {n} {p} {w} parser octets e le r =
-    subst (λ o. Held o w r.labels) (take-append-drop parser.end parser.octets.now ∙ sym e) (held_more (drop parser.end parser.octets.now) le r)
+pub held : {n : ℕ} {p : ℕ} {w : Progress} {before now : ℕ} (parser : Parser) (octets : List ℕ) → octets ≡ parser.octets.now → (r : NameRead n (message parser) p w before now) → HeldAs octets w r.labels
+held {w = w} parser octets e r =
+    subst (λ o. HeldAs o w r.labels) (take-append-drop parser.end parser.octets.now ∙ sym e) (held_more (drop parser.end parser.octets.now) r)
 
 -- ---- whether it lies in one piece
 
@@ -82,7 +87,7 @@ no_pointer_from {m} [] p a x q y = let z = subst (λ p. OctetAt m p 0) (sym a) x
 no_pointer_from (l ∷ fs) p a x q y = absurd (omega (arith, a.0.head, a.0.short, y.head))
 
 -- where a front ends in the root there is no pointer
-front_base : {m : List ℕ} {p e : ℕ} {fs : List (List ℕ)} → Front m p fs stop_root e → Base m p p
+pub front_base : {m : List ℕ} {p e : ℕ} {fs : List (List ℕ)} → Front m p fs stop_root e → Base m p p
 front_base {p = p} {fs = fs} x = here (no_pointer_from fs p x.flat x.ends.0)
 
 pub plainly_named : {parser : Parser} {ls : List (List ℕ)} (n : ℕ) → LiesPlainly parser ls → Names n (message parser) (place parser) ls
@@ -103,3 +108,14 @@ plainly_read {n} {parser} {w = w} x r =
       piece_from w.compressed r.scattered r.base (place parser, f.0, place parser + length (wire _), front_base f.1, f.1),
       (front_once r.ends.2 f.1).2,
     )
+
+-- ---- how many heads were counted
+
+pub name_counted : {n : ℕ} {m : List ℕ} {p : ℕ} {w : Progress} {before now : ℕ} {ls : List (List ℕ)} (r : NameRead n m p w before now) → r.labels ≡ ls → CountsName n m p ls before now
+name_counted {n} {m} {p} {before = before} {now} r e = subst (λ ls. CountsName n m p ls before now) e (r.name, r.counted)
+
+pub fault_counted : {T : Type 0} {n : ℕ} {m : List ℕ} {p : ℕ} {d : NameFault} (Q : T → Type 0) (before now : ℕ) (parser : Parser) (r : Result T ParseError) → m ≡ message parser → p ≡ place parser → IsErr r → IsErrAnd r (λ e. refusal e ≡ told d)
+    → (f : Fault n m p d) × (now ≡ before + length f.passed + f.pointers + 1) → MatchResult r Q (λ e. CountsFault n (message parser) (place parser) (refusal e) before now)
+fault_counted Q before now parser (Ok x) a b err t f = cc
+fault_counted {n = n} {m} {p} {d} Q before now parser (Err e) a b err t f =
+    subst (λ p. CountsFault n (message parser) p (refusal e) before now) b (subst (λ m. CountsFault n m p (refusal e) before now) a (d, t, f.0, f.1))

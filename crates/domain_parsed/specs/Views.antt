@@ -1,18 +1,18 @@
 -- What contracts see of a name in a message, and of the iterators over it.
-use Rattle.std.specs.Prelude.{ℕ, Bool, List, [], ◌∷◌, Option, None, Some}
+use Rattle.std.specs.Prelude.{ℕ, Bool, List, [], ◌∷◌, if◌then◌else◌, slice_range}
 use Rattle.octseq.specs.declared.octets.Octets.{Ghosts}
 use Rattle.domain_parsed.specs.declared.parsed.ParsedName.{ParsedName}
 use Rattle.domain_parsed.specs.declared.iter.ParsedNameIter.{ParsedNameIter}
 use Rattle.domain_parsed.specs.declared.suffixes.ParsedSuffixIter.{ParsedSuffixIter}
-use Rattle.domain_reading.specs.Labels.{labels_at, labels_within}
+use Rattle.domain_reading.specs.Places.{placed_labels}
 
 -- the octets that the name lies in
 abbrev pub parsed_octets : {O : Type 0} {g : Ghosts O} → ParsedName O g → List ℕ
 parsed_octets {g = g} n = g.octets n.octets
 
--- its labels, the root among them
+-- its labels, the root among them: those at the places that are left
 abbrev pub parsed_labels : {O : Type 0} {g : Ghosts O} → ParsedName O g → List (List ℕ)
-parsed_labels {g = g} n = labels_at (g.octets n.octets) n.pos
+parsed_labels {g = g} n = placed_labels (g.octets n.octets) n.base (slice_range n.places n.dropped n.count)
 
 -- what `is_compressed` tells of it
 abbrev pub is_scattered : {O : Type 0} {g : Ghosts O} → ParsedName O g → Bool
@@ -20,7 +20,7 @@ is_scattered n = n.compressed
 
 -- the labels that an iterator has left
 abbrev pub labels_left : ParsedNameIter → List (List ℕ)
-labels_left it = labels_within it.len (labels_at it.octets.now it.pos)
+labels_left it = placed_labels it.octets.now it.base it.places.now
 
 -- what is told of a name: the octets that it lies in, `is_compressed` and its labels
 abbrev pub seen : {O : Type 0} {g : Ghosts O} → ParsedName O g → List ℕ × Bool × List (List ℕ)
@@ -31,10 +31,6 @@ abbrev pub suffixes : List ℕ → Bool → List (List ℕ) → List (List ℕ �
 suffixes o c [] = []
 suffixes o c (l ∷ ls) = (o, c, l ∷ ls) ∷ suffixes o c ls
 
-abbrev pub suffixes_of : {O : Type 0} {g : Ghosts O} → Option (ParsedName O g) → List (List ℕ × Bool × List (List ℕ))
-suffixes_of None = []
-suffixes_of (Some n) = suffixes (parsed_octets n) (is_scattered n) (parsed_labels n)
-
 -- the names that an iterator has left
 abbrev pub suffixes_left : ParsedSuffixIter → List (List ℕ × Bool × List (List ℕ))
-suffixes_left it = suffixes_of it.name
+suffixes_left it = if it.ended then [] else suffixes (parsed_octets it.name) (is_scattered it.name) (parsed_labels it.name)

@@ -1,42 +1,89 @@
 //! The labels of a name in a message, from either end.
-ghost use Rattle.std.specs.Prelude.{◌≡◌, ◌<◌, length};
-ghost use Rattle.domain_label.specs.Wire.{wire};
-ghost use Rattle.domain_reading.specs.Grammar.{Names};
-ghost use Rattle.domain_reading.specs.Labels.{labels_at, labels_within};
+ghost use Rattle.std.specs.Prelude.{◌≡◌, ◌+◌, ◌<◌, MatchOption};
+ghost use Rattle.domain_reading.specs.Places.{AreLabelPlaces, placed_labels};
 
 use domain_label::Label;
-use domain_reading::alone::{first_label, last_label};
-use std::marker::PhantomData;
+use domain_reading::heads::Heads;
+use domain_reading::standing::{place_of, read_label};
+use std::marker::{Brand, PhantomData};
+use std::sync::ledger::{Blank, Ledger};
 
 /// The labels of a name in a message, the root label last.
 ///
-/// They are given from either end, and each of them once. The pointers, which were tested when the
-/// name was parsed, are followed as they are met.
+/// They are given from either end, and each of them once. Each is read where the name's table says that it
+/// stands, for one head; no pointer is followed again.
 #[derive(Clone, Copy)]
 pub struct ParsedNameIter<'a> {
     octets: &'a [u8],
-    pos: usize,
-    len: u16,
+    base: usize,
+    places: &'a [u16],
     of: PhantomData<Label<'a>>,
-    ghost sized: { len ≡ length (wire (labels_within len (labels_at octets.now pos))) },
-    ghost named: { ∥ (0 < len → Names 255 octets.now pos (labels_at octets.now pos)) ∥₁ },
+    ghost stand: { AreLabelPlaces octets.now base places.now },
 }
 
 impl<'a> ParsedNameIter<'a> {
+    ghost use Rattle.std.specs.Iterator.{YieldsFirstBy, YieldsLastBy};
+    ghost use Rattle.domain_label.specs.Views.{label_octets};
     ghost use Rattle.domain_parsed.specs.Views.{labels_left};
 
-    /// The labels of a name that has so many octets.
-    pub(crate) fn new(octets: &'a [u8], pos: usize, len: u16) -> Self
-        requires named { ∥ Names 255 octets.now pos (labels_at octets.now pos) ∥₁ }
-        requires sized { len ≡ length (wire (labels_at octets.now pos)) }
-        ensures { labels_left result ≡ labels_at octets.now pos }
+    /// The labels that stand at the places of a table.
+    #[inline(always)]
+    pub(crate) fn new(octets: &'a [u8], base: usize, places: &'a [u16]) -> Self
+        requires { AreLabelPlaces octets.now base places.now }
+        ensures { labels_left result ≡ placed_labels octets.now base places.now }
     {
         ParsedNameIter {
             octets,
-            pos,
-            len,
+            base,
+            places,
             of: PhantomData,
         }
+    }
+
+    /// The same as `next`, with the heads that it reads counted: one for a label, none for `None`.
+    #[inline(always)]
+    pub fn next_counted<L: Ledger>(&mut self, heads: &mut Heads<L>) -> Option<Label<'a>>
+        ensures first { YieldsFirstBy label_octets labels_left self.old result self.new }
+        ensures counted { MatchOption result (heads.new ≡ heads.old) (λ _. heads.new ≡ heads.old + 1) }
+    {
+        let (first, rest) = self.places.split_first()?;
+        let place = place_of(self.base, *first);
+        let label = read_label(self.octets, place, heads);
+        self.places = rest;
+        Some(label)
+    }
+
+    /// The same as `next_back`, with the heads that it reads counted: one for a label, none for `None`.
+    #[inline(always)]
+    pub fn next_back_counted<L: Ledger>(&mut self, heads: &mut Heads<L>) -> Option<Label<'a>>
+        ensures last { YieldsLastBy label_octets labels_left self.old result self.new }
+        ensures counted { MatchOption result (heads.new ≡ heads.old) (λ _. heads.new ≡ heads.old + 1) }
+    {
+        let (last, front) = self.places.split_last()?;
+        let place = place_of(self.base, *last);
+        let label = read_label(self.octets, place, heads);
+        self.places = front;
+        Some(label)
+    }
+
+    #[inline(always)]
+    fn next_with<L: Ledger>(&mut self, blank: Blank) -> Option<Label<'a>>
+        requires ledger { blank.name ≡ L.name }
+        requires parts { blank.parts ≡ L.parts }
+        requires some { 0 < blank.parts }
+        ensures { YieldsFirstBy label_octets labels_left self.old result self.new }
+    {
+        self.next_counted(&mut Heads::<L>::new(blank))
+    }
+
+    #[inline(always)]
+    fn next_back_with<L: Ledger>(&mut self, blank: Blank) -> Option<Label<'a>>
+        requires ledger { blank.name ≡ L.name }
+        requires parts { blank.parts ≡ L.parts }
+        requires some { 0 < blank.parts }
+        ensures { YieldsLastBy label_octets labels_left self.old result self.new }
+    {
+        self.next_back_counted(&mut Heads::<L>::new(blank))
     }
 }
 
@@ -51,14 +98,9 @@ impl<'a> Iterator for ParsedNameIter<'a> {
 
     ghost remaining = { item_count labels_left };
 
+    #[inline(always)]
     fn next(&mut self) -> Option<Label<'a>> {
-        if self.len == 0 {
-            return None;
-        }
-        let (label, behind) = first_label(self.octets, self.pos);
-        self.pos = behind;
-        self.len -= label.len() as u16 + 1;
-        Some(label)
+        self.next_with::<Brand>(Blank::new(1))
     }
 }
 
@@ -69,12 +111,8 @@ impl<'a> DoubleEndedIterator for ParsedNameIter<'a> {
 
     ghost next_back_gives = { YieldsLastBy label_octets labels_left };
 
+    #[inline(always)]
     fn next_back(&mut self) -> Option<Label<'a>> {
-        if self.len == 0 {
-            return None;
-        }
-        let label = last_label(self.octets, self.pos, self.len);
-        self.len -= label.len() as u16 + 1;
-        Some(label)
+        self.next_back_with::<Brand>(Blank::new(1))
     }
 }

@@ -4,18 +4,24 @@ ghost use Rattle.domain_label.specs.Wire.{wire, Root, IsAbsoluteName};
 ghost use Rattle.domain_label.proofs.WireLaws.{IsAbsoluteName_prop};
 ghost use Rattle.domain_reading.specs.Grammar.{Names, LiesInOnePiece};
 ghost use Rattle.domain_label.specs.Views.{label_octets};
-ghost use Rattle.domain_reading.specs.Labels.{labels_at};
+ghost use Rattle.domain_reading.specs.Places.{AreLabelPlaces, placed_labels};
 
+use crate::flat::read_flat;
 use crate::iter::ParsedNameIter;
 use crate::suffixes::ParsedSuffixIter;
 use arrayvec::ArrayVec;
 use domain_label::Label;
 use domain_name::{Name, RelativeName};
-use domain_reading::alone::{first_label, front_end, read_name};
+use domain_reading::alone::{front_end, read_name, standing_label};
+use domain_reading::heads::Heads;
+use domain_reading::progress::Progress;
+use domain_reading::read::read_name_counted;
+use domain_reading::standing::{MAX_LABELS, place_of};
 use domain_wire::ParseError;
 use octseq::{Octets, OctetsFrom, Parser, ShortBuf};
 use std::alloc::{AllocError, Global};
 use std::ops::Range;
+use std::sync::ledger::Ledger;
 
 /// The most pointers that are followed for one name.
 const MAX_POINTERS: u8 = 255;
@@ -23,20 +29,34 @@ const MAX_POINTERS: u8 = 255;
 /// An absolute name in a message, whose labels may stand in several places (RFC 1035, 4.1.4).
 ///
 /// It has at most 255 octets with the root label, and at most 255 compression pointers lead along it.
-/// It keeps the octets of the whole message and a place in them.
+/// It keeps the octets of the whole message and a table of the places where its labels stand, so that each
+/// label is found by one look at the message, from either end.
 ///
-/// It is for names that are read from a message and looked at while that is at hand: nothing is copied, and
-/// over `&[u8]` it is Copy. `parse` makes one, and `From` makes one of a flat name. To keep a name
+/// It is for names that are read from a message and looked at while that is at hand: no octet is copied, and
+/// over `&[u8]` it is Copy, of 288 octets. `parse` makes one, and `From` makes one of a flat name. To keep a name
 /// without its message, make a flat one of it by `flatten_into` or `to_name`.
 pub struct ParsedName<Octs: Octets> {
     octets: Octs,
-    pos: usize,
+    /// The place of the label that was the first when the name was read.
+    base: usize,
+    /// Where each label stands, in the name's order.
+    places: [u16; MAX_LABELS],
+    /// How many labels have their places in the table.
+    count: u8,
+    /// How many of them were left out at the front since.
+    dropped: u8,
+    /// How many octets those had.
+    passed: u16,
+    /// How many octets the labels have that are left.
     name_len: u16,
     compressed: bool,
-    ghost named: { ∥ Names 255 (Octs.octets octets) pos (labels_at (Octs.octets octets) pos) ∥₁ },
-    ghost absolute: { IsAbsoluteName (labels_at (Octs.octets octets) pos) } by { IsAbsoluteName_prop (labels_at (Octs.octets octets) pos) },
-    ghost sized: { name_len ≡ length (wire (labels_at (Octs.octets octets) pos)) },
-    ghost flat: { compressed ≡ false → slice_range (Octs.octets octets) pos (pos + name_len) ≡ wire (labels_at (Octs.octets octets) pos) },
+    ghost some: { dropped < count },
+    ghost few: { count ≤ 128 },
+    ghost stand: { AreLabelPlaces (Octs.octets octets) base (slice_range places dropped count) },
+    ghost absolute: { IsAbsoluteName (placed_labels (Octs.octets octets) base (slice_range places dropped count)) } by { IsAbsoluteName_prop (placed_labels (Octs.octets octets) base (slice_range places dropped count)) },
+    ghost sized: { name_len ≡ length (wire (placed_labels (Octs.octets octets) base (slice_range places dropped count))) },
+    ghost short: { passed + name_len ≤ 255 },
+    ghost flat: { compressed ≡ false → slice_range (Octs.octets octets) (base + passed) (base + passed + name_len) ≡ wire (placed_labels (Octs.octets octets) base (slice_range places dropped count)) },
 }
 
 impl<Octs: Octets + Copy> Copy for ParsedName<Octs> {}
@@ -55,7 +75,8 @@ impl<'a> ParsedName<&'a [u8]> {
     ghost use Rattle.domain_parsed.specs.Views.{parsed_octets, parsed_labels, is_scattered};
     ghost use Rattle.octseq.specs.Parsing.{whole, message, place};
     ghost use Rattle.domain_reading.specs.Faults.{Skips};
-    ghost use Rattle.domain_reading.specs.Outcomes.{MovesBehindFront, TellsFault, SkipsFront, TellsSkipFault, LiesPlainly};
+    ghost use Rattle.domain_wire.specs.Refusals.{refusal};
+    ghost use Rattle.domain_reading.specs.Outcomes.{MovesBehindFront, TellsFault, SkipsFront, TellsSkipFault, LiesPlainly, CountsName, CountsFault};
 
     /// Reads the name at the parser's place, and moves the parser behind the name's root or first pointer.
     ///
@@ -81,6 +102,7 @@ impl<'a> ParsedName<&'a [u8]> {
     ///     Ok((name, rtype, class))
     /// }
     /// ```
+    #[inline(always)]
     pub fn parse(parser: &mut Parser<'a>) -> Result<ParsedName<&'a [u8]>, ParseError>
         ensures exact { IsOk result ↔ ((ls : List (List ℕ)) × Names 255 (message parser.old) (place parser.old) ls) }
         ensures labels { IfOk result (λ name. Names 255 (message parser.old) (place parser.old) (parsed_labels name)) }
@@ -91,19 +113,11 @@ impl<'a> ParsedName<&'a [u8]> {
         ensures refused { IfErr result (λ e. TellsFault 255 parser.old e) }
         ensures unchanged { OnErr result (parser.new ≡ parser.old) }
     {
-        let progress = read_name(parser.as_slice(), parser.pos(), MAX_POINTERS)?;
-        let Ok(()) = parser.seek(progress.place_behind()) else {
-            unreachable!();
-        };
-        Ok(ParsedName {
-            octets: parser.octets_ref(),
-            pos: progress.base,
-            name_len: progress.len + 1,
-            compressed: progress.compressed,
-        })
+        ParsedName::parse_with_limit(parser, MAX_POINTERS)
     }
 
     /// The same as `parse`.
+    #[inline(always)]
     pub fn parse_ref(parser: &mut Parser<'a>) -> Result<ParsedName<&'a [u8]>, ParseError>
         ensures exact { IsOk result ↔ ((ls : List (List ℕ)) × Names 255 (message parser.old) (place parser.old) ls) }
         ensures labels { IfOk result (λ name. Names 255 (message parser.old) (place parser.old) (parsed_labels name)) }
@@ -115,6 +129,65 @@ impl<'a> ParsedName<&'a [u8]> {
         ensures unchanged { OnErr result (parser.new ≡ parser.old) }
     {
         ParsedName::parse(parser)
+    }
+
+    /// The same as `parse`, with at most `limit` pointers followed: one more is "too many compression pointers".
+    #[inline(always)]
+    pub fn parse_with_limit(
+        parser: &mut Parser<'a>,
+        limit: u8,
+    ) -> Result<ParsedName<&'a [u8]>, ParseError>
+        ensures exact { IsOk result ↔ ((ls : List (List ℕ)) × Names limit (message parser.old) (place parser.old) ls) }
+        ensures labels { IfOk result (λ name. Names limit (message parser.old) (place parser.old) (parsed_labels name)) }
+        ensures octets { IfOk result (λ name. parsed_octets name ≡ whole parser.old) }
+        ensures scattered { IfOk result (λ name. (is_scattered name ≡ false) ↔ LiesInOnePiece (message parser.old) (place parser.old)) }
+        ensures moves { OnOk result (MovesBehindFront parser.old parser.new) }
+        ensures plain { (ls : List (List ℕ)) → LiesPlainly parser.old ls → MatchResult result (λ name. (parsed_labels name ≡ ls) × (is_scattered name ≡ false) × (place parser.new ≡ place parser.old + length (wire ls))) (λ _. ⊥) }
+        ensures refused { IfErr result (λ e. TellsFault limit parser.old e) }
+        ensures unchanged { OnErr result (parser.new ≡ parser.old) }
+    {
+        let mut progress = Progress::new(parser.pos());
+        read_name(parser.as_slice(), &mut progress, limit)?;
+        let Ok(()) = parser.seek(progress.place_behind()) else {
+            unreachable!();
+        };
+        Ok(ParsedName {
+            octets: parser.octets_ref(),
+            base: progress.base,
+            places: progress.places,
+            count: progress.count,
+            dropped: 0,
+            passed: 0,
+            name_len: progress.len + 1,
+            compressed: progress.compressed,
+        })
+    }
+
+    /// The same as `parse_with_limit`, with the heads that are read counted: those of labels, of pointers and
+    /// of the root, and the last one where it is missing or the fault. They are at most `limit` and 128.
+    #[inline(always)]
+    pub fn parse_counted<L: Ledger>(
+        parser: &mut Parser<'a>,
+        limit: u8,
+        heads: &mut Heads<L>,
+    ) -> Result<ParsedName<&'a [u8]>, ParseError>
+        ensures exact { IsOk result ↔ ((ls : List (List ℕ)) × Names limit (message parser.old) (place parser.old) ls) }
+        ensures labels { IfOk result (λ name. Names limit (message parser.old) (place parser.old) (parsed_labels name)) }
+        ensures octets { IfOk result (λ name. parsed_octets name ≡ whole parser.old) }
+        ensures scattered { IfOk result (λ name. (is_scattered name ≡ false) ↔ LiesInOnePiece (message parser.old) (place parser.old)) }
+        ensures moves { OnOk result (MovesBehindFront parser.old parser.new) }
+        ensures plain { (ls : List (List ℕ)) → LiesPlainly parser.old ls → MatchResult result (λ name. (parsed_labels name ≡ ls) × (is_scattered name ≡ false) × (place parser.new ≡ place parser.old + length (wire ls))) (λ _. ⊥) }
+        ensures refused { IfErr result (λ e. TellsFault limit parser.old e) }
+        ensures unchanged { OnErr result (parser.new ≡ parser.old) }
+        ensures counted { MatchResult result (λ name. CountsName limit (message parser.old) (place parser.old) (parsed_labels name) heads.old heads.new) (λ e. CountsFault limit (message parser.old) (place parser.old) (refusal e) heads.old heads.new) }
+        ensures few_heads { heads.new ≤ heads.old + 128 + limit }
+    {
+        let mut found = Progress::new(parser.pos());
+        read_name_counted(parser.as_slice(), &mut found, limit, heads)?;
+        let Ok(()) = parser.seek(found.place_behind()) else {
+            unreachable!();
+        };
+        Ok(ParsedName::of(parser.octets_ref(), &found))
     }
 
     /// Moves the parser behind the root or the first pointer of the name at its place.
@@ -156,9 +229,30 @@ impl<Octs: Octets> ParsedName<Octs> {
     ghost use Rattle.domain_parsed.specs.Views.{parsed_octets, parsed_labels, is_scattered, labels_left, suffixes, suffixes_left};
     ghost use Rattle.domain_name.specs.Names.{relative_labels};
     ghost use Rattle.domain_parsed.specs.Splitting.{SplitsFirst, PassesFirst};
+    ghost use Rattle.domain_reading.specs.Outcomes.{Holds};
     ghost use Rattle.domain_parsed.specs.contracts.parsed.ParsedName.{the_row};
     ghost use Rattle.std.specs.Borrow.{follows_so, sem};
     ghost use mathlib.Core.Option.{none};
+
+    /// The name whose labels were found in these octets.
+    #[inline(always)]
+    fn of(octets: Octs, found: &Progress) -> Self
+        requires { Holds (Octs.octets octets) found.now }
+        ensures octets { parsed_octets result ≡ Octs.octets octets }
+        ensures labels { parsed_labels result ≡ placed_labels (Octs.octets octets) found.now.base (slice_range found.now.places 0 found.now.count) }
+        ensures scattered { is_scattered result ≡ found.now.compressed }
+    {
+        ParsedName {
+            octets,
+            base: found.base,
+            places: found.places,
+            count: found.count,
+            dropped: 0,
+            passed: 0,
+            name_len: found.len + 1,
+            compressed: found.compressed,
+        }
+    }
 
     /// Whether a pointer may follow the first label. False means that the name lies in one piece.
     pub fn is_compressed(&self) -> bool
@@ -182,7 +276,11 @@ impl<Octs: Octets> ParsedName<Octs> {
     {
         ParsedName {
             octets: &self.octets,
-            pos: self.pos,
+            base: self.base,
+            places: self.places,
+            count: self.count,
+            dropped: self.dropped,
+            passed: self.passed,
             name_len: self.name_len,
             compressed: self.compressed,
         }
@@ -196,7 +294,11 @@ impl<Octs: Octets> ParsedName<Octs> {
     {
         ParsedName {
             octets: self.octets.as_slice(),
-            pos: self.pos,
+            base: self.base,
+            places: self.places,
+            count: self.count,
+            dropped: self.dropped,
+            passed: self.passed,
             name_len: self.name_len,
             compressed: self.compressed,
         }
@@ -217,10 +319,12 @@ impl<Octs: Octets> ParsedName<Octs> {
     ///     labels.next_back()
     /// }
     /// ```
+    #[inline(always)]
     pub fn iter(&self) -> ParsedNameIter<'_>
         ensures { labels_left result ≡ parsed_labels self.now }
     {
-        ParsedNameIter::new(self.octets.as_slice(), self.pos, self.name_len)
+        let places = &self.places[usize::from(self.dropped)..usize::from(self.count)];
+        ParsedNameIter::new(self.octets.as_slice(), self.base, places)
     }
 
     /// The name, then the name without its first label, and so on down to the root.
@@ -234,18 +338,17 @@ impl<Octs: Octets> ParsedName<Octs> {
     pub fn label_count(&self) -> usize
         ensures { result ≡ length (parsed_labels self.now) }
     {
-        let mut count = 0;
-        for _label in self.iter() {
-            count += 1;
-        }
-        count
+        usize::from(self.count - self.dropped)
     }
 
     /// The first label, which is the root label where the name is the root.
     pub fn first(&self) -> Label<'_>
         ensures { (rest : List (List ℕ)) × (parsed_labels self.now ≡ label_octets result ∷ rest) }
     {
-        first_label(self.octets.as_slice(), self.pos).0
+        let Some(label) = self.iter().next() else {
+            unreachable!();
+        };
+        label
     }
 
     /// The last label, which is the root label.
@@ -296,11 +399,13 @@ impl<Octs: Octets> ParsedName<Octs> {
         if self.is_root() {
             return None;
         }
-        let (label, behind) = first_label(self.octets.as_slice(), self.pos);
-        let len = label.len() as u16 + 1;
-        self.pos = behind;
+        let octets = self.octets.as_slice();
+        let start = place_of(self.base, self.places[usize::from(self.dropped)]);
+        let len = standing_label(octets, start).len() as u16 + 1;
+        self.dropped += 1;
+        self.passed += len;
         self.name_len -= len;
-        Some(behind - usize::from(len)..behind)
+        Some(start..start + usize::from(len))
     }
 
     /// How many octets the labels have on the wire, with their length octets: 1 to 255.
@@ -318,7 +423,10 @@ impl<Octs: Octets> ParsedName<Octs> {
         if self.compressed {
             return None;
         }
-        Some(&self.octets.as_slice()[self.pos..self.pos + usize::from(self.name_len)])
+        let octets = self.octets.as_slice();
+        let start = self.base + usize::from(self.passed);
+        let end = start + usize::from(self.name_len);
+        Some(&octets[start..end])
     }
 }
 
@@ -334,7 +442,11 @@ impl<'a, Octs: Octets> ParsedName<&'a Octs> {
         let octets: &'a Octs = self.octets;
         ParsedName {
             octets: octets.as_slice(),
-            pos: self.pos,
+            base: self.base,
+            places: self.places,
+            count: self.count,
+            dropped: self.dropped,
+            passed: self.passed,
             name_len: self.name_len,
             compressed: self.compressed,
         }
@@ -349,13 +461,8 @@ impl<Octs: Octets> From<Name<Octs>> for ParsedName<Octs> {
     ghost from_gives = { λ flat name. (parsed_octets name ≡ name_octets flat) × (parsed_labels name ≡ name_labels flat) × (is_scattered name ≡ false) };
 
     fn from(flat: Name<Octs>) -> ParsedName<Octs> {
-        let name_len = flat.len() as u16;
-        ParsedName {
-            octets: flat.into_octets(),
-            pos: 0,
-            name_len,
-            compressed: false,
-        }
+        let progress = read_flat(flat.as_slice());
+        ParsedName::of(flat.into_octets(), &progress)
     }
 }
 
@@ -370,7 +477,11 @@ impl ParsedName<Vec<u8>> {
         let octets = Vec::try_octets_from(alloc, self.octets.as_slice())?;
         Ok(ParsedName {
             octets,
-            pos: self.pos,
+            base: self.base,
+            places: self.places,
+            count: self.count,
+            dropped: self.dropped,
+            passed: self.passed,
             name_len: self.name_len,
             compressed: self.compressed,
         })
@@ -388,7 +499,11 @@ impl<const N: usize> ParsedName<ArrayVec<u8, N>> {
         let octets = ArrayVec::try_octets_from(alloc, self.octets.as_slice())?;
         Ok(ParsedName {
             octets,
-            pos: self.pos,
+            base: self.base,
+            places: self.places,
+            count: self.count,
+            dropped: self.dropped,
+            passed: self.passed,
             name_len: self.name_len,
             compressed: self.compressed,
         })

@@ -6,7 +6,9 @@ use crate::parsed::ParsedName;
 /// The suffixes of a name: the name, the name without its first label, and so on down to the root.
 #[derive(Clone, Copy)]
 pub struct ParsedSuffixIter<'a> {
-    name: Option<ParsedName<&'a [u8]>>,
+    name: ParsedName<&'a [u8]>,
+    /// Whether the name was given, and is the root.
+    ended: bool,
 }
 
 impl<'a> ParsedSuffixIter<'a> {
@@ -16,7 +18,7 @@ impl<'a> ParsedSuffixIter<'a> {
     pub(crate) fn new(name: ParsedName<&'a [u8]>) -> Self
         ensures { suffixes_left result ≡ suffixes (parsed_octets name.entry) (is_scattered name.entry) (parsed_labels name.entry) }
     {
-        ParsedSuffixIter { name: Some(name) }
+        ParsedSuffixIter { name, ended: false }
     }
 }
 
@@ -31,9 +33,11 @@ impl<'a> Iterator for ParsedSuffixIter<'a> {
     ghost remaining = { item_count suffixes_left };
 
     fn next(&mut self) -> Option<ParsedName<&'a [u8]>> {
-        let suffix = self.name?;
-        let mut rest = suffix;
-        self.name = if rest.parent() { Some(rest) } else { None };
+        if self.ended {
+            return None;
+        }
+        let suffix = self.name;
+        self.ended = !self.name.parent();
         Some(suffix)
     }
 }

@@ -1,5 +1,6 @@
 -- What holds once the root of a name was read.
-use Rattle.std.proofs.Common.{◌≡◌, ℕ, ◌+◌, ◌≤◌, inl, inr, List, ◌++◌, length, refl, sym, subst, arith, Option, None, Some, MatchOption, unwrap_or, length-append}
+use Rattle.std.proofs.Common.{◌≡◌, ◌∙◌, ℕ, ◌+◌, ◌≤◌, inl, inr, List, ◌++◌, length, refl, sym, subst, arith, Option, None, Some, MatchOption, unwrap_or, length-append, take, set, slice_range, ap}
+use Rattle.std.proofs.lemmas.Grind.{common_steps}
 use Rattle.std.proofs.lemmas.Bool.{cases_lt}
 use Rattle.domain_label.specs.Wire.{wire, Root}
 use Rattle.domain_reading.specs.Grammar.{OctetAt, PointerAt, Reads, Flat, Front, EndsBefore}
@@ -10,7 +11,10 @@ use Rattle.domain_reading.specs.Outcomes.{NameRead}
 use Rattle.domain_reading.specs.declared.progress.Progress.{Progress}
 use Rattle.domain_label.proofs.WireLaws.{length-wire_append}
 use Rattle.domain_reading.proofs.Walking.{walk_reads}
-use Rattle.domain_reading.proofs.Going.{Going, Goes, leads_base, leads_reads}
+use Rattle.domain_reading.specs.Progress.{noted, entry_of}
+use Rattle.domain_reading.specs.Places.{placed_labels, AreLabelPlaces}
+use Rattle.domain_reading.proofs.Places.{note, root_place, place_next}
+use Rattle.domain_reading.proofs.Going.{Going, Goes, leads_base}
 use Rattle.domain_reading.proofs.Naming.{flat_wire}
 
 no_pointer : {m : List ℕ} {p q : ℕ} → OctetAt m p 0 → PointerAt m p q → ⊥
@@ -26,20 +30,25 @@ end_from : {m : List ℕ} {r : ℕ} (p : ℕ) (fs : List (List ℕ)) (end : Opti
 end_from {r = r} p fs None a x = (fs, stop_root, record { stop = r; flat = a; ends = (x, refl) })
 end_from p fs (Some e) a x = (a.0, stop_pointer a.1, a.2)
 
-pub name_read : {n : ℕ} {m : List ℕ} {p : ℕ} {w : Progress} (before heads now : ℕ) → Goes n m p w before heads → OctetAt m w.at 0 → now ≡ heads + 1 → NameRead n m p w before now
+pub name_read : {n : ℕ} {m : List ℕ} {p : ℕ} {w : Progress} (before heads now : ℕ) → Goes n m p w before heads → OctetAt m w.at 0 → now ≡ heads + 1 → NameRead n m p (noted w) before now
 name_read {n} {m} {p} {w} before heads now g x count =
     let fs = g.0 in
     let going = g.1 in
     let r : Reads m p (w.pointers + 0) (fs ++ Root) = walk_reads going.walk (root x) in
     let len : length (wire (fs ++ Root)) ≡ w.len + 1 = omega (arith, length-wire_append fs Root, going.len) in
-    let b = leads_reads going.leads r in
+    let place = root_place m w.at x in
+    let t = note (entry_of w) going.table (place_next w.base w.at w.len w.compressed going.short going.near_at) place.0 place.1 (omega (arith, going.table.count, going.few_labels, going.short)) in
+    let all : take (w.count + 1) (set w.places w.count (entry_of w)) ≡ slice_range (set w.places w.count (entry_of w)) 0 (w.count + 1) = grind (arith, common_steps) in
     record {
       labels = fs ++ Root;
       name = record { pointers = w.pointers + 0; reads = r; few_pointers = omega (arith, going.few_pointers); short = omega (arith, len, going.short) };
       counted = omega (arith, count, g.2, length-append fs Root);
       ends = end_from p fs w.end going.front x;
       base = leads_base going.leads (here (last_base going x));
-      there = record { pointers = b.0; reads = b.2; few_pointers = omega (arith, b.1, going.few_pointers); short = omega (arith, len, going.short) };
+      table = ap (λ es. placed_labels m w.base es) (sym all) ∙ t.table;
+      stand = subst (λ es. AreLabelPlaces m w.base es) all t.stand;
+      some = omega arith;
+      few = omega (arith, going.table.count, going.few_labels, going.short);
       sized = sym len;
       in_one_piece = λ h. (fs, w.at + 1, record { stop = w.at; flat = going.flat h; ends = (x, refl) });
       scattered = going.scattered;

@@ -2,9 +2,8 @@ pub mod Reading
 pub mod Walking
 pub mod Fronts
 pub mod Naming
-pub mod Within
+pub mod Places
 pub mod Going
 pub mod Done
-pub mod Steps
 pub mod Skipping
 pub mod Plain

@@ -1,15 +1,12 @@
 -- The labels of a name, as a function of the message and the place.
-use Rattle.std.proofs.Common.{◌≡◌, ℕ, zero, suc, ◌+◌, ◌*◌, ◌-◌, ◌≤◌, ◌<◌, inl, inr, List, [], ◌∷◌, ◌++◌, length, refl, sym, ap, subst, arith, ◌∙◌, true, false, nat_eq, nat_lt, take, drop, slice_range, slice_index, length-append, length-take, length-drop}
+use Rattle.std.proofs.Common.{◌≡◌, ℕ, zero, suc, ◌+◌, ◌*◌, ◌-◌, ◌≤◌, ◌<◌, List, [], ◌∷◌, ◌++◌, length, refl, ap, arith, ◌∙◌, true, false, nat_eq, nat_lt, take, drop, slice_range, slice_index, length-append}
 use Rattle.std.proofs.lemmas.Grind.{common_steps}
-use Rattle.std.proofs.Math.Logic.{∥∥₁_elim}
 use Rattle.std.proofs.lemmas.List.Folds.{drop_split}
 use Rattle.std.proofs.Math.Seq.{take-append-add, drop-cons}
 use Rattle.std.proofs.lemmas.Bool.Decides.{nat_tests}
 use Rattle.domain_label.specs.Wire.{wire, Root}
 use Rattle.domain_reading.specs.Grammar.{OctetAt, LabelAt, PointerAt, Reads, root, label, pointer, Names, Flat}
-use Rattle.domain_reading.specs.Labels.{read_from, labels_at, heads_from, heads_at}
-use Rattle.domain_reading.proofs.Reading.{reads_some}
-use Rattle.domain_reading.proofs.Walking.{names_or_fault, name_or_fault}
+use Rattle.domain_reading.specs.Labels.{read_from, labels_at}
 
 read_root : (n : ℕ) {m : List ℕ} {p : ℕ} → OctetAt m p 0 → read_from (suc n) m p ≡ Root
 unfolding read_from
@@ -38,33 +35,6 @@ read_reads (suc n) (root x) h = read_root n x
 read_reads (suc n) (label {l = l} x r) h = read_label n x ∙ ap (λ ls. l ∷ ls) (read_reads n r (omega arith))
 read_reads (suc n) (pointer x lt r) h = read_pointer n x ∙ read_reads n r (omega arith)
 
-heads_root : (n : ℕ) {m : List ℕ} {p : ℕ} → OctetAt m p 0 → heads_from (suc n) m p ≡ 1
-unfolding heads_from
-heads_root n x = rw x.octet refl
-
-heads_label : (n : ℕ) {m : List ℕ} {p : ℕ} {l : List ℕ} → LabelAt m p l → heads_from (suc n) m p ≡ heads_from n m (p + 1 + length l) + 1
-unfolding heads_from
-heads_label n {m} {p} {l} x =
-    let some : nat_eq (length l) 0 ≡ false = grind (arith, nat_tests) in
-    let low : nat_lt (length l) 64 ≡ true = grind (arith, nat_tests) in
-    rw (x.head, some, low) refl
-
-heads_pointer : (n : ℕ) {m : List ℕ} {p q : ℕ} → PointerAt m p q → heads_from (suc n) m p ≡ heads_from n m q + 1
-unfolding heads_from
-heads_pointer n {m} {p} {q} x =
-    let some : nat_eq (slice_index m p) 0 ≡ false = grind (arith, nat_tests) in
-    let high : nat_lt (slice_index m p) 64 ≡ false = grind (arith, nat_tests) in
-    let to : 256 * slice_index m p + slice_index m (p + 1) - 49152 ≡ q = omega arith in
-    rw (some, high) (ap (λ a. heads_from n m a + 1) to)
-
-pub heads_reads : (n : ℕ) {m : List ℕ} {p k : ℕ} {ls : List (List ℕ)} → Reads m p k ls → length ls + k ≤ n → heads_from n m p ≡ length ls + k
-heads_reads zero (root x) h = absurd (omega arith)
-heads_reads zero (label x r) h = absurd (omega arith)
-heads_reads zero (pointer x lt r) h = absurd (omega arith)
-heads_reads (suc n) (root x) h = heads_root n x
-heads_reads (suc n) (label {l = l} x r) h = omega (arith, heads_label n x, heads_reads n r (omega arith))
-heads_reads (suc n) (pointer x lt r) h = omega (arith, heads_pointer n x, heads_reads n r (omega arith))
-
 pub labels_few : {m : List ℕ} {p k : ℕ} {ls : List (List ℕ)} → Reads m p k ls → 2 * length ls ≤ length (wire ls) + 1
 labels_few (root x) = omega arith
 labels_few (label {l = l} {rest = rest} x r) = omega (arith, labels_few r, x.nonempty, length-append l (wire rest))
@@ -74,20 +44,6 @@ labels_few (pointer x lt r) = labels_few r
 pub labels_named : {m : List ℕ} {p : ℕ} {ls : List (List ℕ)} → Names 255 m p ls → labels_at m p ≡ ls
 unfolding labels_at
 labels_named n = read_reads 383 n.reads (omega (arith, labels_few n.reads))
-
-pub heads_named : {m : List ℕ} {p : ℕ} {ls : List (List ℕ)} (n : Names 255 m p ls) → heads_at m p ≡ length ls + n.pointers
-unfolding heads_at
-heads_named n = heads_reads 383 n.reads (omega (arith, labels_few n.reads))
-
-pub heads_few : {m : List ℕ} {p : ℕ} {ls : List (List ℕ)} → Names 255 m p ls → heads_at m p ≤ 383
-heads_few n = omega (arith, heads_named n, labels_few n.reads)
-
--- a name that is there for sure
-pub name_from_some : {m : List ℕ} {p : ℕ} → ∥ Names 255 m p (labels_at m p) ∥₁ → Names 255 m p (labels_at m p)
-name_from_some {m} {p} some = elim (name_or_fault 255 m p) [
-  | inl n ↦ subst (λ ls. Names 255 m p ls) (sym (labels_named n.1)) n.1
-  | inr f ↦ absurd (∥∥₁_elim some (λ a b. absurd a) (λ n. names_or_fault n f.1))
-]
 
 pub slice_join : (m : List ℕ) (a b c : ℕ) → a ≤ b → b ≤ c → c ≤ length m → slice_range m a c ≡ slice_range m a b ++ slice_range m b c
 slice_join m a b c ab bc cm =
@@ -111,17 +67,3 @@ flat_wire {m} {r} (f ∷ fs) p a x =
     let two = slice_join m (p + 1) (p + 1 + length f) (r + 1) (omega arith) (omega (arith, tail.1)) (omega (arith, x.inside)) in
     let head = slice_one m p (omega (arith, l.inside)) in
     (one ∙ ap (λ xs. xs ++ slice_range m (p + 1) (r + 1)) (head ∙ ap (λ o. o ∷ []) l.head) ∙ ap (λ xs. length f ∷ xs) (two ∙ ap (λ xs. xs ++ slice_range m (p + 1 + length f) (r + 1)) l.octets ∙ ap (λ xs. f ++ xs) tail.0), end)
-
-pub flat_inside : (m : List ℕ) (p n : ℕ) → ∥ Names 255 m p (labels_at m p) ∥₁ → n ≡ length (wire (labels_at m p)) → slice_range m p (p + n) ≡ wire (labels_at m p) → p + n ≤ length m
-flat_inside m p n named sized flat =
-    let some = reads_some (name_from_some named).reads in
-    let len : length (slice_range m p (p + n)) ≡ n = ap (λ xs. length xs) flat ∙ sym sized in
-    let cut : length (slice_range m p (p + n)) ≤ length m - p = simp (length-take, length-drop) (omega arith) in
-    omega (arith, len, cut, some)
-
--- the name that is left where some octets are
-pub name_left : {m : List ℕ} {p n : ℕ} → ∥ (0 < n → Names 255 m p (labels_at m p)) ∥₁ → 0 < n → Names 255 m p (labels_at m p)
-name_left {m} {p} some h = elim (name_or_fault 255 m p) [
-  | inl x ↦ subst (λ ls. Names 255 m p ls) (sym (labels_named x.1)) x.1
-  | inr f ↦ absurd (∥∥₁_elim some (λ a b. absurd a) (λ n. names_or_fault (n h) f.1))
-]

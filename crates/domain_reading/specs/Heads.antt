@@ -1,5 +1,5 @@
 -- What stands at one place of a message.
-use Rattle.std.specs.Prelude.{◌≡◌, ℕ, List, length}
+use Rattle.std.specs.Prelude.{◌≡◌, ℕ, ◌<◌, ◌^◌, List, length}
 use Rattle.domain_reading.specs.Grammar.{OctetAt, LabelAt, PointerAt}
 use Rattle.domain_reading.specs.Faults.{CutAt, BadTypeAt}
 use Rattle.domain_reading.specs.declared.fault.NameFault.{NameFault}
@@ -11,7 +11,7 @@ use Rattle.domain_reading.specs.declared.head.Head.TheVariants.{Root, Label, Poi
 abbrev pub StandsAt : List ℕ → ℕ → Head → Type 0
 StandsAt m r Root = OctetAt m r 0
 StandsAt m r (Label n) = (l : List ℕ) × (length l ≡ n) × LabelAt m r l
-StandsAt m r (Pointer q) = PointerAt m r q
+StandsAt m r (Pointer q) = PointerAt m r q × (q < 2 ^ 14)
 
 -- No head can be read at r, and why.
 abbrev pub BrokenAt : List ℕ → ℕ → NameFault → Type 0

@@ -1,5 +1,5 @@
 -- What reading a name and passing over one may come to.
-use Rattle.std.specs.Prelude.{◌≡◌, ℕ, ◌+◌, ◌≤◌, List, ◌++◌, length, true, false, unwrap_or, slice_range}
+use Rattle.std.specs.Prelude.{◌≡◌, ℕ, ◌+◌, ◌≤◌, ◌<◌, List, ◌++◌, length, true, false, unwrap_or, slice_range}
 use Rattle.domain_wire.specs.Refusals.{Refusal, refusal}
 use Rattle.domain_wire.specs.declared.error.ParseError.{ParseError}
 use Rattle.domain_label.specs.Wire.{wire, IsAbsoluteName}
@@ -7,6 +7,7 @@ use Rattle.octseq.specs.declared.parse.Parser.{Parser}
 use Rattle.octseq.specs.Parsing.{message, place, MovesTo}
 use Rattle.domain_reading.specs.Grammar.{Names, Base, Front, root, pointer, EndsBefore}
 use Rattle.domain_reading.specs.Faults.{told, Fault, Skips, SkipFault}
+use Rattle.domain_reading.specs.Places.{AreLabelPlaces, placed_labels}
 use Rattle.domain_reading.specs.declared.fault.NameFault.{NameFault}
 use Rattle.domain_reading.specs.declared.progress.Progress.{Progress}
 
@@ -38,6 +39,15 @@ pub record LiesPlainly (parser : Parser) (ls : List (List ℕ)) : Type 0 where
   pub octets : message parser ≡ before ++ wire ls ++ behind
   pub here : place parser ≡ length before
 
+-- The count of heads grew by one for each label of ls, the name at p of at most n pointers, and for each of its pointers.
+abbrev pub CountsName : ℕ → List ℕ → ℕ → List (List ℕ) → ℕ → ℕ → Type 0
+CountsName n m p ls before now = (name : Names n m p ls) × (now ≡ before + length ls + name.pointers)
+
+-- The count of heads grew by one for each label and each pointer that the walk from p passed, and for the head, which may
+-- be missing, where it met the fault that r tells.
+abbrev pub CountsFault : ℕ → List ℕ → ℕ → Refusal → ℕ → ℕ → Type 0
+CountsFault n m p r before now = (f : NameFault) × (r ≡ told f) × (fault : Fault n m p f) × (now ≡ before + length fault.passed + fault.pointers + 1)
+
 -- The name at p was read, of at most n pointers, with a head counted for each label and each pointer.
 pub record NameRead (n : ℕ) (m : List ℕ) (p : ℕ) (w : Progress) (before now : ℕ) : Type 0 where
   pub labels : List (List ℕ)
@@ -45,9 +55,21 @@ pub record NameRead (n : ℕ) (m : List ℕ) (p : ℕ) (w : Progress) (before no
   pub counted : now ≡ before + length labels + name.pointers
   pub ends : EndsBefore m p (unwrap_or w.end (w.at + 1))
   pub base : Base m p w.base
-  pub there : Names n m w.base labels
+  pub table : placed_labels m w.base (slice_range w.places 0 w.count) ≡ labels
+  pub stand : AreLabelPlaces m w.base (slice_range w.places 0 w.count)
+  pub some : 0 < w.count
+  pub few : w.count ≤ 128
   pub sized : w.len + 1 ≡ length (wire labels)
   pub in_one_piece : w.compressed ≡ false → (fs : List (List ℕ)) × (e : ℕ) × Front m w.base fs root e
   pub scattered : w.compressed ≡ true → (fs : List (List ℕ)) × (q : ℕ) × (e : ℕ) × Front m w.base fs (pointer q) e
   pub inside : w.compressed ≡ false → w.base + (w.len + 1) ≤ length m
   pub octets : w.compressed ≡ false → slice_range m w.base (w.base + (w.len + 1)) ≡ wire labels
+
+-- The labels whose places w's table has stand in the octets o, which may go on behind the message, and are a name.
+pub record Holds (o : List ℕ) (w : Progress) : Type 0 where
+  pub some : 0 < w.count
+  pub few : w.count ≤ 128
+  pub stand : AreLabelPlaces o w.base (slice_range w.places 0 w.count)
+  pub absolute : IsAbsoluteName (placed_labels o w.base (slice_range w.places 0 w.count))
+  pub sized : w.len + 1 ≡ length (wire (placed_labels o w.base (slice_range w.places 0 w.count)))
+  pub flat : w.compressed ≡ false → slice_range o w.base (w.base + (w.len + 1)) ≡ wire (placed_labels o w.base (slice_range w.places 0 w.count))

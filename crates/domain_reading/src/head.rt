@@ -18,6 +18,7 @@ pub enum Head {
 }
 
 /// Reads the head at a place, and sees that its octets are there. Each head is read here, and counted.
+#[inline(always)]
 pub fn read_head<L: Ledger>(
     message: &[u8],
     at: usize,

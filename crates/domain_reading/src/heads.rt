@@ -21,6 +21,7 @@ impl<L: Ledger> Model for Heads<L> {
 
 impl<L: Ledger> Heads<L> {
     /// A count at 0.
+    #[inline(always)]
     pub fn new(blank: Blank) -> Self
         requires name { blank.name ≡ L.name }
         requires parts { blank.parts ≡ L.parts }
@@ -32,6 +33,7 @@ impl<L: Ledger> Heads<L> {
     }
 
     /// Counts one more head.
+    #[inline(always)]
     pub fn count(&mut self)
         ensures { self.new ≡ self.old + 1 }
     {

@@ -9,5 +9,6 @@ pub mod heads;
 pub mod laws;
 pub mod progress;
 pub mod read;
+pub mod standing;
 
 pub use laws::reads_laws;

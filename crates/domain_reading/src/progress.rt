@@ -1,7 +1,8 @@
 //! How far reading a name has come.
-ghost use Rattle.std.specs.Prelude.{◌≡◌, ◌+◌, ◌≤◌, ◌<◌, ◌^◌, ◌⊎◌, MatchResult, false, None, unwrap_or};
+ghost use Rattle.std.specs.Prelude.{◌≡◌, ◌+◌, ◌≤◌, ◌<◌, ◌^◌, ◌⊎◌, length, MatchResult, true, false, unwrap_or};
 
 use crate::fault::NameFault;
+use crate::standing::{FAR, MAX_LABELS};
 
 /// How far reading a name has come.
 #[derive(Clone, Copy)]
@@ -18,17 +19,23 @@ pub struct Progress {
     pub compressed: bool,
     /// The place behind the first pointer.
     pub end: Option<usize>,
+    /// How many labels have their places in the table.
+    pub count: u8,
+    /// Where the labels stand.
+    pub places: [u16; MAX_LABELS],
 }
 
 impl Progress {
-    ghost use Rattle.domain_reading.specs.Progress.{label_passed, pointer_followed};
+    ghost use Rattle.domain_reading.specs.Progress.{beginning, noted, label_passed, pointer_followed};
 
     /// The most octets that the labels of a name have before its root.
     const MAX_LEN: u16 = 254;
 
     /// At a name's first head.
+    #[inline(always)]
     pub fn new(at: usize) -> Self
-        ensures { result ≡ record { at = at; base = at; len = 0; pointers = 0; compressed = false; end = None } }
+        ensures begins { result ≡ beginning at result.places }
+        ensures room { length result.places ≡ 128 }
     {
         Progress {
             at,
@@ -37,13 +44,36 @@ impl Progress {
             pointers: 0,
             compressed: false,
             end: None,
+            count: 0,
+            places: [0; MAX_LABELS],
         }
     }
 
+    /// Takes the place of the next head, which is a label's, into the table.
+    #[inline(always)]
+    pub fn note_place(&mut self)
+        requires few { self.old.count < 128 }
+        requires room { length self.old.places ≡ 128 }
+        requires low { self.old.compressed ≡ true → self.old.at < 2 ^ 15 }
+        ensures { self.new ≡ noted self.old }
+    {
+        let entry = if self.compressed {
+            self.at as u16 + FAR
+        } else {
+            self.len
+        };
+        self.places[usize::from(self.count)] = entry;
+        self.count += 1;
+    }
+
     /// Passes a label of so many octets.
+    #[inline(always)]
     pub fn pass_label(&mut self, octets: u8) -> Result<(), NameFault>
         requires room { self.old.at + 1 + octets < 2 ^ 64 }
         requires short { self.old.len ≤ 254 }
+        requires few { self.old.count < 128 }
+        requires table { length self.old.places ≡ 128 }
+        requires low { self.old.compressed ≡ true → self.old.at < 2 ^ 15 }
         ensures moved { MatchResult result (λ _. self.new ≡ label_passed self.old octets) (λ _. self.new ≡ self.old) }
         ensures long { MatchResult result (λ _. self.old.len + 1 + octets ≤ 254) (λ fault. (fault ≡ NameFault.LongName) × (254 < self.old.len + 1 + octets)) }
     {
@@ -51,12 +81,14 @@ impl Progress {
         if len > Progress::MAX_LEN {
             return Err(NameFault::LongName);
         }
+        self.note_place();
         self.len = len;
         self.at += 1 + usize::from(octets);
         Ok(())
     }
 
     /// Follows a pointer, which must lead back, as one of at most `limit`.
+    #[inline(always)]
     pub fn follow(&mut self, target: usize, limit: u8) -> Result<(), NameFault>
         requires room { self.old.at + 2 < 2 ^ 64 }
         requires few { self.old.pointers ≤ limit }
@@ -80,6 +112,7 @@ impl Progress {
     }
 
     /// The place behind the first pointer, or behind the root where there was none.
+    #[inline(always)]
     pub fn place_behind(&self) -> usize
         requires { self.now.at + 1 < 2 ^ 64 }
         ensures { result ≡ unwrap_or self.now.end (self.now.at + 1) }

@@ -1,42 +1,44 @@
-//! The walks along names in messages, head after head: reading a name, passing over one, and finding
-//! its first and its last label again.
+//! The walks along names in messages, head after head: reading a name, and passing over one.
 //!
-//! Each counts the heads that it reads in a ledger that its caller names. The module `alone` has the
-//! same walks for callers that want no count.
-ghost use Rattle.std.specs.Prelude.{◌≡◌, ℕ, ◌+◌, ◌≤◌, ◌<◌, List, [], ◌∷◌, ◌++◌, length, slice_index, IfOk, IfErr};
-ghost use Rattle.domain_label.specs.Views.{label_octets};
-ghost use Rattle.domain_label.specs.Wire.{wire};
+//! Reading counts the heads in a ledger that its caller names. The module `alone` has the same walks for
+//! callers that want no count.
+ghost use Rattle.std.specs.Prelude.{◌≡◌, ◌+◌, ◌≤◌, ◌<◌, length, IfOk, IfErr, OnOk};
 ghost use Rattle.domain_reading.specs.Faults.{Fault, Skips, SkipFault};
-ghost use Rattle.domain_reading.specs.Grammar.{Names};
-ghost use Rattle.domain_reading.specs.Labels.{FirstLabel, LabelEndsAt, labels_at, heads_at, labels_within};
 ghost use Rattle.domain_reading.specs.Outcomes.{NameRead};
+ghost use Rattle.domain_reading.specs.Progress.{beginning};
 
 use crate::fault::NameFault;
 use crate::head::{Head, read_head};
 use crate::heads::Heads;
 use crate::progress::Progress;
-use domain_label::Label;
 use std::sync::ledger::{Blank, Ledger};
 
 /// The most octets that a name has.
 const MAX_LEN: u16 = 255;
 
-/// Reads the name at a place, of at most `limit` pointers, and tells how that went.
+/// Reads the name at a place, of at most `limit` pointers, and notes how that went.
+///
+/// `progress` stands at the name's first head.
+#[inline(always)]
 pub fn read_name_counted<L: Ledger>(
     message: &[u8],
-    pos: usize,
+    progress: &mut Progress,
     limit: u8,
     heads: &mut Heads<L>,
-) -> Result<Progress, NameFault>
-    ensures name { IfOk result (λ progress. NameRead limit message.now pos progress heads.old heads.new) }
-    ensures inside { IfOk result (λ progress. progress.at < length message.now) }
-    ensures fault { IfErr result (λ fault. (f : Fault limit message.now pos fault) × (heads.new ≡ heads.old + length f.passed + f.pointers + 1)) }
+) -> Result<(), NameFault>
+    requires begins { progress.old ≡ beginning progress.old.at progress.old.places }
+    requires room { length progress.old.places ≡ 128 }
+    ensures name { OnOk result (NameRead limit message.now progress.old.at progress.new heads.old heads.new) }
+    ensures inside { OnOk result (progress.new.at < length message.now) }
+    ensures fault { IfErr result (λ fault. (f : Fault limit message.now progress.old.at fault) × (heads.new ≡ heads.old + length f.passed + f.pointers + 1)) }
     ensures few_heads { heads.new ≤ heads.old + 128 + limit }
 {
-    let mut progress = Progress::new(pos);
     'heads: loop {
         match read_head(message, progress.at, heads)? {
-            Head::Root => return Ok(progress),
+            Head::Root => {
+                progress.note_place();
+                return Ok(());
+            }
             Head::Label(octets) => progress.pass_label(octets)?,
             Head::Pointer(target) => progress.follow(target, limit)?,
         }
@@ -73,65 +75,5 @@ pub(crate) fn front_end_with<L: Ledger>(
             Head::Root => return Ok(at + 1),
             Head::Pointer(_) => return Ok(at + 2),
         }
-    }
-}
-
-/// The first label of the name at a place, and the place behind it. No pointer is tested again.
-pub fn first_label_counted<'a, L: Ledger>(
-    octets: &'a [u8],
-    pos: usize,
-    heads: &mut Heads<L>,
-) -> (Label<'a>, usize)
-    requires { ∥ Names 255 octets.now pos (labels_at octets.now pos) ∥₁ }
-    ensures first { FirstLabel octets.now pos (label_octets result.0) result.1 }
-    ensures counted { 0 < length (label_octets result.0) → heads.new + heads_at octets.now result.1 ≡ heads.old + heads_at octets.now pos }
-    ensures last { length (label_octets result.0) ≡ 0 → heads.new ≡ heads.old + heads_at octets.now pos }
-    ensures one { heads.old < heads.new }
-    ensures here { slice_index octets.now pos < 64 → (result.1 ≡ pos + 1 + length (label_octets result.0)) }
-    ensures stands { 0 < length (label_octets result.0) → LabelEndsAt octets.now (label_octets result.0) result.1 }
-{
-    let mut at = pos;
-    'heads: loop {
-        let Ok(head) = read_head(octets, at, heads) else {
-            unreachable!();
-        };
-        match head {
-            Head::Root => return (Label::root(), at + 1),
-            Head::Label(len) => {
-                let start = at + 1;
-                let behind = start + usize::from(len);
-                let Ok(label) = Label::from_slice(&octets[start..behind]) else {
-                    unreachable!();
-                };
-                return (label, behind);
-            }
-            Head::Pointer(target) => at = target,
-        }
-    }
-}
-
-/// The last of the labels at a place that have so many octets together.
-pub fn last_label_counted<'a, L: Ledger>(
-    octets: &'a [u8],
-    pos: usize,
-    len: u16,
-    heads: &mut Heads<L>,
-) -> Label<'a>
-    requires some { 0 < len }
-    requires whole { len ≡ length (wire (labels_within len (labels_at octets.now pos))) }
-    requires named { ∥ Names 255 octets.now pos (labels_at octets.now pos) ∥₁ }
-    ensures last { (front : List (List ℕ)) × (labels_within len (labels_at octets.now pos) ≡ front ++ label_octets result ∷ []) }
-    ensures some { heads.old < heads.new }
-    ensures few_heads { heads.new ≤ heads.old + 383 }
-{
-    let mut at = pos;
-    let mut left = len;
-    'labels: loop {
-        let (label, behind) = first_label_counted(octets, at, heads);
-        left -= label.len() as u16 + 1;
-        if left == 0 {
-            return label;
-        }
-        at = behind;
     }
 }

@@ -28,6 +28,8 @@ mod names;
 #[cfg(test)]
 mod paths;
 #[cfg(test)]
+mod places;
+#[cfg(test)]
 mod room;
 #[cfg(test)]
 mod slow_reader;

@@ -1,5 +1,5 @@
 //! Reading names from messages, and going over their labels.
-ghost use Rattle.std.specs.Prelude.{◌≡◌, ◌<◌, ◌+◌, ◌++◌, ◌∷◌, ◌⊎◌, ◌↔◌, [], ℕ, List, length, string_bytes, IfOk, IfSome, IsNone, OnOk, OnErr};
+ghost use Rattle.std.specs.Prelude.{◌≡◌, ◌<◌, ◌≤◌, ◌+◌, ◌++◌, ◌∷◌, ◌⊎◌, ◌↔◌, [], ℕ, List, length, string_bytes, IfOk, IfSome, IsNone, OnOk, OnErr};
 ghost use Rattle.domain_label.specs.Text.{dotted};
 ghost use Rattle.domain_label.specs.Views.{label_octets};
 ghost use Rattle.domain_label.specs.Wire.{Root};
@@ -13,6 +13,7 @@ use domain::base::name::*;
 use domain::base::wire::ParseError;
 use octseq::Parser;
 use std::alloc::{AllocError, Global};
+use std::sync::ledger::Ledger;
 
 /// The name at the parser's place, the type and the class behind it.
 pub fn question<'a>(parser: &mut Parser<'a>) -> Result<(ParsedName<&'a [u8]>, u16, u16), ParseError>
@@ -52,4 +53,25 @@ pub fn shown(name: &ParsedName<&[u8]>, alloc: Global) -> Result<String, AllocErr
 {
     let dotted = name.fmt_with_dot();
     format!(in alloc; "{dotted}")
+}
+
+/// The name at the parser's place where it has few pointers, with the heads that are read for it counted. They are
+/// 144 at most, whatever the message.
+pub fn plain_name<'a, L: Ledger>(
+    parser: &mut Parser<'a>,
+    heads: &mut Heads<L>,
+) -> Result<ParsedName<&'a [u8]>, ParseError>
+    ensures name { IfOk result (λ name. Names 16 (message parser.old) (place parser.old) (parsed_labels name)) }
+    ensures few { heads.new ≤ heads.old + 144 }
+{
+    ParsedName::parse_counted(parser, 16, heads)
+}
+
+/// Counts the heads that a walk from both ends reads: the first and the last label take one each.
+pub fn both_ends<L: Ledger>(name: &ParsedName<&[u8]>, heads: &mut Heads<L>)
+    ensures { heads.new ≤ heads.old + 2 }
+{
+    let mut labels = name.iter();
+    let _first = labels.next_counted(heads);
+    let _last = labels.next_back_counted(heads);
 }

@@ -7,4 +7,4 @@ heads-preserved g c =
     skip_label _ _ c.heads.invariant found c.from.ensures c.from-in-Label.ensures c.if-len-gt-MAX_LEN.false
 
 pub returns-in-Pointer-clause-skips : goal.returns-in-Pointer-clause-skips
-returns-in-Pointer-clause-skips g c = skip_pointer c.heads.invariant (rw c.in-Pointer.is at c.in_ok-octets.ensures.found)
+returns-in-Pointer-clause-skips g c = skip_pointer c.heads.invariant (rw c.in-Pointer.is at c.in_ok-octets.ensures.found).0

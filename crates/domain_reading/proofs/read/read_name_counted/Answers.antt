@@ -4,7 +4,7 @@ use Rattle.domain_reading.proofs.Done.{name_read}
 use Rattle.domain_reading.proofs.read.read_name_counted.Goals as goal
 
 pub heads-init : goal.heads-init
-heads-init g c = goes_start _ _ _ _ c.new-progress.ensures
+heads-init g c = goes_start _ _ _ _ c.requires.begins c.requires.room
 
 pub returns-in_err-read_head-clause-fault : goal.returns-in_err-read_head-clause-fault
 returns-in_err-read_head-clause-fault g c =
@@ -35,4 +35,4 @@ heads-preserved g c =
 
 pub returns-in-Root-clause-name : goal.returns-in-Root-clause-name
 returns-in-Root-clause-name g c =
-    name_read _ _ _ c.heads.invariant (rw c.in-Root.is at c.in_ok-read_head.ensures.found) c.read_head.ensures.counted
+    rw c.note_place.ensures (name_read _ _ _ c.heads.invariant (rw c.in-Root.is at c.in_ok-read_head.ensures.found) c.read_head.ensures.counted)

@@ -1,6 +1,8 @@
-use Rattle.std.proofs.Common.{arith}
-use Rattle.domain_parsed.proofs.Parents.{few_labels}
+use Rattle.std.proofs.Common.{sym, ◌∙◌, arith}
+use Rattle.domain_reading.proofs.Places.{length-labels, slice_size}
 use Rattle.domain_parsed.proofs.parsed.ParsedName.label_count.Goals as goal
 
-pub overflow_add-count : goal.overflow_add-count
-overflow_add-count g c = omega (arith, c.loop-label.invariant, few_labels c.args.self.now.named)
+pub returns : goal.returns
+returns g c =
+    let s = c.args.self.now in
+    c.from.ensures ∙ (sym (slice_size s.places s.dropped s.count (omega arith)) ∙ sym (length-labels _ s.base _))

@@ -1,39 +1,80 @@
-use Rattle.std.proofs.Common.{◌≡◌, ◌∷◌, ◌<◌, ◌+◌, length, slice_index, subst, ap, ◌∙◌}
+use Rattle.std.proofs.Common.{◌≡◌, ◌+◌, length, slice_index, sym, ap, ◌∙◌, arith}
 use Rattle.domain_label.specs.Views.{label_octets}
-use Rattle.domain_reading.specs.Labels.{FirstLabel, LabelEndsAt}
-use Rattle.domain_reading.proofs.Reading.{names_absolute}
-use Rattle.domain_parsed.proofs.Parents.{parent, many_labels, not_so}
+use Rattle.domain_reading.specs.Places.{place_of, label_at}
+use Rattle.domain_parsed.proofs.Parents.{many_labels, not_so}
+use Rattle.domain_parsed.proofs.Dropping.{drop_first}
 use Rattle.domain_parsed.proofs.Splitting.{standing, one_relative}
 use Rattle.domain_parsed.proofs.parsed.ParsedName.pass_first.Goals as goal
+
+pub place_of-start-requires : goal.place_of-start-requires
+place_of-start-requires g c =
+    let s = c.args.self.now in
+    let o = g.Octs.Octets.octets s.octets in
+    let d = drop_first o s.base s.places s.dropped s.count s.passed s.name_len s.compressed s.some (omega arith) s.stand s.absolute s.sized s.flat (not_so c.is_root.ensures c.if-is_root.false) in
+    let e = ap (λ xs. length xs) c.as_slice-octets.ensures in
+    rw c.from.ensures (omega (arith, d.here, d.is_place, e))
+
+pub standing_label-requires : goal.standing_label-requires
+standing_label-requires g c =
+    let s = c.args.self.now in
+    let o = g.Octs.Octets.octets s.octets in
+    let d = drop_first o s.base s.places s.dropped s.count s.passed s.name_len s.compressed s.some (omega arith) s.stand s.absolute s.sized s.flat (not_so c.is_root.ensures c.if-is_root.false) in
+    let here : c.place_of-start.result ≡ d.place = c.place_of-start.ensures ∙ (ap (λ i. place_of s.base (slice_index s.places i)) c.from.ensures ∙ sym d.is_place) in
+    rw (c.as_slice-octets.ensures, here) d.here
+
+pub overflow_sub-self : goal.overflow_sub-self
+overflow_sub-self g c =
+    let s = c.args.self.now in
+    let o = g.Octs.Octets.octets s.octets in
+    let d = drop_first o s.base s.places s.dropped s.count s.passed s.name_len s.compressed s.some (omega arith) s.stand s.absolute s.sized s.flat (not_so c.is_root.ensures c.if-is_root.false) in
+    let here : c.place_of-start.result ≡ d.place = c.place_of-start.ensures ∙ (ap (λ i. place_of s.base (slice_index s.places i)) c.from.ensures ∙ sym d.is_place) in
+    let label : label_octets c.standing_label.result ≡ d.label = c.standing_label.ensures ∙ (ap (λ m. label_at m c.place_of-start.result) c.as_slice-octets.ensures ∙ (ap (λ p. label_at o p) here ∙ sym d.is_label)) in
+    omega (arith, c.len.ensures, ap (λ l. length l) label, d.rest.fits)
+
+pub overflow_add-result : goal.overflow_add-result
+overflow_add-result g c =
+    let s = c.args.self.now in
+    let o = g.Octs.Octets.octets s.octets in
+    let d = drop_first o s.base s.places s.dropped s.count s.passed s.name_len s.compressed s.some (omega arith) s.stand s.absolute s.sized s.flat (not_so c.is_root.ensures c.if-is_root.false) in
+    let here : c.place_of-start.result ≡ d.place = c.place_of-start.ensures ∙ (ap (λ i. place_of s.base (slice_index s.places i)) c.from.ensures ∙ sym d.is_place) in
+    let label : label_octets c.standing_label.result ≡ d.label = c.standing_label.ensures ∙ (ap (λ m. label_at m c.place_of-start.result) c.as_slice-octets.ensures ∙ (ap (λ p. label_at o p) here ∙ sym d.is_label)) in
+    omega (arith, c.len.ensures, ap (λ l. length l) label, d.here, d.head, here, ap (λ xs. length xs) c.as_slice-octets.ensures, c.from-2.ensures)
 
 pub invariant_of-self : goal.invariant_of-self
 invariant_of-self g c =
     let s = c.args.self.now in
-    let l = label_octets c.first_label-behind.result.0 in
-    let behind = c.first_label-behind.result.1 in
-    let first = subst (λ m. FirstLabel m s.pos l behind) c.as_slice.ensures c.first_label-behind.ensures.first in
-    let here = subst (λ m. slice_index m s.pos < 64 → behind ≡ s.pos + 1 + length l) c.as_slice.ensures c.first_label-behind.ensures.here in
-    let p = parent s.name_len s.compressed s.named s.sized s.flat (not_so c.is_root.ensures c.if-is_root.false) first here in
-    rw c.len.ensures record { named = ∣ p.named ∣₁; absolute = names_absolute p.named; sized = p.sized; flat = p.flat }
+    let o = g.Octs.Octets.octets s.octets in
+    let d = drop_first o s.base s.places s.dropped s.count s.passed s.name_len s.compressed s.some (omega arith) s.stand s.absolute s.sized s.flat (not_so c.is_root.ensures c.if-is_root.false) in
+    let here : c.place_of-start.result ≡ d.place = c.place_of-start.ensures ∙ (ap (λ i. place_of s.base (slice_index s.places i)) c.from.ensures ∙ sym d.is_place) in
+    let label : label_octets c.standing_label.result ≡ d.label = c.standing_label.ensures ∙ (ap (λ m. label_at m c.place_of-start.result) c.as_slice-octets.ensures ∙ (ap (λ p. label_at o p) here ∙ sym d.is_label)) in
+    let len : c.len.result ≡ length d.label = c.len.ensures ∙ ap (λ l. length l) label in
+    rw len record {
+      some = d.some;
+      few = s.few;
+      stand = d.stand;
+      absolute = d.rest.absolute;
+      sized = d.rest.sized;
+      short = omega (arith, s.short, d.rest.fits);
+      flat = d.flat;
+    }
 
 pub returns-clause-some : goal.returns-clause-some
 returns-clause-some g c =
     let s = c.args.self.now in
-    let l = label_octets c.first_label-behind.result.0 in
-    let behind = c.first_label-behind.result.1 in
-    let first = subst (λ m. FirstLabel m s.pos l behind) c.as_slice.ensures c.first_label-behind.ensures.first in
-    let here = subst (λ m. slice_index m s.pos < 64 → behind ≡ s.pos + 1 + length l) c.as_slice.ensures c.first_label-behind.ensures.here in
-    let p = parent s.name_len s.compressed s.named s.sized s.flat (not_so c.is_root.ensures c.if-is_root.false) first here in
-    let ends = subst (λ m. LabelEndsAt m l behind) c.as_slice.ensures (c.first_label-behind.ensures.stands p.nonempty) in
-    let t = standing _ l c.from.result behind ends (c.from.ensures ∙ ap (λ n. n + 1) c.len.ensures) in
+    let o = g.Octs.Octets.octets s.octets in
+    let d = drop_first o s.base s.places s.dropped s.count s.passed s.name_len s.compressed s.some (omega arith) s.stand s.absolute s.sized s.flat (not_so c.is_root.ensures c.if-is_root.false) in
+    let here : c.place_of-start.result ≡ d.place = c.place_of-start.ensures ∙ (ap (λ i. place_of s.base (slice_index s.places i)) c.from.ensures ∙ sym d.is_place) in
+    let label : label_octets c.standing_label.result ≡ d.label = c.standing_label.ensures ∙ (ap (λ m. label_at m c.place_of-start.result) c.as_slice-octets.ensures ∙ (ap (λ p. label_at o p) here ∙ sym d.is_label)) in
+    let len : c.from-2.result ≡ length d.label + 1 = omega (arith, c.from-2.ensures, c.len.ensures, ap (λ l. length l) label) in
+    let t = standing o d.label d.place c.from-2.result d.here d.head (sym d.is_label) len in
     record {
-      label = l;
-      labels = first.first ∙ ap (λ ls. l ∷ ls) (first.more p.nonempty).0;
-      relative = one_relative l p.nonempty p.short;
-      ordered = t.ordered;
-      inside = t.inside;
-      stands = t.stands;
+      label = d.label;
+      labels = d.labels;
+      relative = one_relative d.label d.rest.nonempty d.rest.short;
+      ordered = omega arith;
+      inside = rw here t.inside;
+      stands = rw here t.stands;
     }
 
 pub returns-clause-more : goal.returns-clause-more
-returns-clause-more g c = λ _. many_labels c.args.self.now.named (not_so c.is_root.ensures c.if-is_root.false)
+returns-clause-more g c = λ _. many_labels _ c.args.self.now.absolute.0 (not_so c.is_root.ensures c.if-is_root.false)

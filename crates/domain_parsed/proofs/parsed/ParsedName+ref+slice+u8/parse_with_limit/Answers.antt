@@ -1,0 +1,58 @@
+use Rattle.std.proofs.Common.{◌≡◌, ℕ, ◌+◌, List, slice_range, sym, ap, subst, ◌∙◌, rules, arith}
+use Rattle.octseq.specs.Parsing.{message, place}
+use Rattle.domain_reading.specs.Grammar.{Names}
+use Rattle.domain_parsed.proofs.Parsing.{ok_not_err, no_name, read_here, held, piece_tells, plainly_named, plainly_read}
+use Rattle.domain_parsed.proofs.parsed.ParsedName+ref+slice+u8.parse_with_limit.Goals as goal
+
+pub returns-in_err-read_name-clause-exact : goal.returns-in_err-read_name-clause-exact
+returns-in_err-read_name-clause-exact c =
+    let here = ap (λ w. w.at) c.new-progress.ensures.begins ∙ c.pos.ensures.place in
+    let none = no_name c.args.parser.now (search rules) here c.in_err-read_name.ensures.fault.0 in
+    (λ ok. absurd (ok_not_err c.from_residual.result c.from_residual.ensures.0 ok), λ x. absurd (none x.0 x.1))
+
+pub returns-in_err-read_name-clause-plain : goal.returns-in_err-read_name-clause-plain
+returns-in_err-read_name-clause-plain c = λ ls x.
+    let here = ap (λ w. w.at) c.new-progress.ensures.begins ∙ c.pos.ensures.place in
+    absurd (no_name c.args.parser.now (search rules) here c.in_err-read_name.ensures.fault.0 ls (plainly_named c.args.limit x))
+
+pub returns-clause-labels : goal.returns-clause-labels
+returns-clause-labels c =
+    let parser = c.args.parser.now in
+    let here = ap (λ w. w.at) c.new-progress.ensures.begins ∙ c.pos.ensures.place in
+    let r = read_here parser (search rules) here c.in_ok-read_name.ensures.name.1 in
+    let h = held parser c.octets_ref.result.now (c.octets_ref.ensures ∙ ap (λ o. o.now) c.in-Ok.ensures.ok.octets) r in
+    subst (λ ls. Names c.args.limit (message parser) (place parser) ls) (sym h.same) r.name
+
+pub returns-clause-scattered : goal.returns-clause-scattered
+returns-clause-scattered c =
+    let here = ap (λ w. w.at) c.new-progress.ensures.begins ∙ c.pos.ensures.place in
+    (piece_tells (read_here c.args.parser.now (search rules) here c.in_ok-read_name.ensures.name.1))
+
+pub returns-clause-plain : goal.returns-clause-plain
+returns-clause-plain c = λ ls x.
+    let parser = c.args.parser.now in
+    let here = ap (λ w. w.at) c.new-progress.ensures.begins ∙ c.pos.ensures.place in
+    let r = read_here parser (search rules) here c.in_ok-read_name.ensures.name.1 in
+    let h = held parser c.octets_ref.result.now (c.octets_ref.ensures ∙ ap (λ o. o.now) c.in-Ok.ensures.ok.octets) r in
+    let p = plainly_read x r in
+    (h.same ∙ p.0, p.1, c.in-Ok.ensures.ok.place ∙ c.place_behind.ensures ∙ p.2)
+
+none_passed : {x : List ℕ} (o : List ℕ) (b n : ℕ) → slice_range o b (b + n) ≡ x → slice_range o (b + 0) (b + 0 + n) ≡ x
+none_passed {x} o b n h =
+    let same : b ≡ b + 0 = omega arith in
+    subst (λ c. slice_range o c (c + n) ≡ x) same h
+
+pub invariant_of-result : goal.invariant_of-result
+invariant_of-result c =
+    let here = ap (λ w. w.at) c.new-progress.ensures.begins ∙ c.pos.ensures.place in
+    let r = read_here c.args.parser.now (search rules) here c.in_ok-read_name.ensures.name.1 in
+    let h = (held c.args.parser.now c.octets_ref.result.now (c.octets_ref.ensures ∙ ap (λ o. o.now) c.in-Ok.ensures.ok.octets) r).holds in
+    record {
+      some = h.some;
+      few = h.few;
+      stand = h.stand;
+      absolute = h.absolute;
+      sized = h.sized;
+      short = omega (arith, r.sized, r.name.short);
+      flat = λ piece. none_passed c.octets_ref.result.now c.read_name.new.progress.base (c.read_name.new.progress.len + 1) (h.flat piece);
+    }

@@ -1,0 +1,22 @@
+//! The labels of a flat name, found as those of a name in a message.
+ghost use Rattle.std.specs.Prelude.{◌≡◌, slice_range, false};
+ghost use Rattle.domain_label.specs.Wire.{IsAbsoluteWire, labels_in};
+ghost use Rattle.domain_reading.specs.Outcomes.{Holds};
+ghost use Rattle.domain_reading.specs.Places.{placed_labels};
+
+use domain_reading::alone::read_name;
+use domain_reading::progress::Progress;
+
+/// Finds the labels of a flat name. A name in one piece has no pointer.
+pub(crate) fn read_flat(octets: &[u8]) -> Progress
+    requires { IsAbsoluteWire octets.now }
+    ensures held { Holds octets.now result }
+    ensures labels { placed_labels octets.now result.base (slice_range result.places 0 result.count) ≡ labels_in octets.now }
+    ensures in_one_piece { result.compressed ≡ false }
+{
+    let mut progress = Progress::new(0);
+    let Ok(()) = read_name(octets, &mut progress, 0) else {
+        unreachable!();
+    };
+    progress
+}

@@ -1,0 +1,52 @@
+//! Where the labels of a name stand.
+ghost use Rattle.std.specs.Prelude.{◌≡◌, ◌+◌, ◌<◌, ◌^◌};
+ghost use Rattle.domain_label.specs.Views.{label_octets};
+ghost use Rattle.domain_reading.specs.Places.{place_of, IsLabelPlace, label_at};
+
+use crate::head::{Head, read_head};
+use crate::heads::Heads;
+use domain_label::Label;
+use std::sync::ledger::Ledger;
+
+/// The most labels that a name has, the root among them.
+pub const MAX_LABELS: usize = 128;
+
+/// What is added to a place of the message to tell it from a place that counts from the base.
+pub const FAR: u16 = 32768;
+
+/// The place that an entry of a table tells.
+#[inline(always)]
+pub fn place_of(base: usize, entry: u16) -> usize
+    requires { place_of base entry < 2 ^ 64 }
+    ensures { result ≡ place_of base entry }
+{
+    if entry < FAR {
+        base + usize::from(entry)
+    } else {
+        usize::from(entry - FAR)
+    }
+}
+
+/// The label that stands at a place, for one head.
+#[inline(always)]
+pub fn read_label<'a, L: Ledger>(octets: &'a [u8], place: usize, heads: &mut Heads<L>) -> Label<'a>
+    requires { IsLabelPlace octets.now place }
+    ensures label { label_octets result ≡ label_at octets.now place }
+    ensures counted { heads.new ≡ heads.old + 1 }
+{
+    let Ok(head) = read_head(octets, place, heads) else {
+        unreachable!();
+    };
+    match head {
+        Head::Root => Label::root(),
+        Head::Label(len) => {
+            let start = place + 1;
+            let behind = start + usize::from(len);
+            let Ok(label) = Label::from_slice(&octets[start..behind]) else {
+                unreachable!();
+            };
+            label
+        }
+        Head::Pointer(_) => unreachable!(),
+    }
+}
