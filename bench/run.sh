@@ -50,7 +50,7 @@ EOF
 kit=$(dirname "$(rt doc)")
 (
     cd "$work/rust"
-    PORT_LIB=$lib PORT_C=$kit/c PORT_OPS=$(nm "$lib" 2>/dev/null | sed -n 's/.* T dnsbench_//p' | xargs) cargo build --offline --release
+    PORT_LIB=$lib PORT_C=$kit/c PORT_OPS=$(nm "$lib" 2>/dev/null | sed -n 's/.* T dnsbench_//p' | xargs) cargo build --release
 )
 
 python3 "$here/inputs.py" "$work/inputs"
