@@ -1,6 +1,6 @@
 //! Shows domain names: `dnsnames at PLACE` reads a message from standard input and prints the name that
-//! stands at PLACE, `dnsnames list` prints a line for each of its questions and records, and `dnsnames text
-//! NAME` prints the wire form of a name.
+//! stands at PLACE, with `--pointers N` behind it through at most N pointers. `dnsnames list` prints a line
+//! for each question and record of the message, and `dnsnames text NAME` the wire form of a name.
 #![tactic(auto)]
 
 mod words;

@@ -5,13 +5,18 @@ use Rattle.domain_wire.specs.declared.error.ParseError.{ParseError}
 use Rattle.domain_wire.specs.Refusals.{refusal, refusal_text}
 use Rattle.domain_label.specs.Text.{dotted}
 use Rattle.domain_reading.specs.Grammar.{Names}
-pub use Rattle.domain.specs.NameFaults.{NoNameAt}
+pub use Rattle.domain.specs.NameFaults.{NoNameAt, NoNameWithin}
 use Rattle.domain.specs.declared.tool.ToolError.{ToolError}
 use Rattle.domain.specs.declared.tool.ToolError.TheVariants.{Parse, Text, Read, Write, Memory}
 
--- The name at p in m was written, with a final dot and a newline, and nothing else.
+-- The name at p in m, through at most n pointers, was written, with a final dot and a newline, and nothing
+-- else.
+abbrev pub WritesNameWithin : ℕ → List ℕ → ℕ → Option (List ℕ) → Option (List ℕ) → Type 0
+WritesNameWithin n m p old new = (ls : List (List ℕ)) × Names n m p ls × Appends old new (dotted ls ++ 10 ∷ [])
+
+-- The same of 255 pointers.
 abbrev pub WritesNameAt : List ℕ → ℕ → Option (List ℕ) → Option (List ℕ) → Type 0
-WritesNameAt m p old new = (ls : List (List ℕ)) × Names 255 m p ls × Appends old new (dotted ls ++ 10 ∷ [])
+WritesNameAt m p old new = WritesNameWithin 255 m p old new
 
 -- The engine answered: it did its work, or the input isn't what is asked for.
 abbrev pub OnAnswer : Result (Unit {0}) ToolError → Type 0 → Type 0

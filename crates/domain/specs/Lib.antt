@@ -6,4 +6,5 @@ pub mod Written
 pub mod Counted
 pub mod WireText
 pub mod Numerals
+pub mod WordParts
 pub mod Words

@@ -4,6 +4,10 @@ use Rattle.domain_wire.specs.declared.error.ParseError.{ParseError}
 use Rattle.domain_wire.specs.Refusals.{refusal}
 use Rattle.domain_reading.specs.Outcomes.{HasNoName}
 
--- No name is at p in m, and the error tells the fault.
+-- No name of at most n pointers is at p in m, and the error tells the fault.
+abbrev pub NoNameWithin : ℕ → List ℕ → ℕ → ParseError → Type 0
+NoNameWithin n m p e = HasNoName n m p (refusal e)
+
+-- The same of 255 pointers.
 abbrev pub NoNameAt : List ℕ → ℕ → ParseError → Type 0
-NoNameAt m p e = HasNoName 255 m p (refusal e)
+NoNameAt m p e = NoNameWithin 255 m p e

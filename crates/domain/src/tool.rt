@@ -3,7 +3,7 @@ ghost use Rattle.std.specs.Prelude.{◌≡◌, ◌≤◌, ◌∷◌, ◌++◌, �
 ghost use Rattle.std.specs.Io.KnownBytes.{Appends, Keeps, IsAtEnd};
 ghost use Rattle.domain_reading.specs.Grammar.{Names};
 ghost use Rattle.domain_parsed.specs.Views.{parsed_labels};
-ghost use Rattle.domain.specs.Engines.{IfRefused, NoNameAt, OnAnswer, OnNoWork, WritesNameAt};
+ghost use Rattle.domain.specs.Engines.{IfRefused, NoNameAt, NoNameWithin, OnAnswer, OnNoWork, WritesNameAt, WritesNameWithin};
 ghost use Rattle.domain.specs.Words.{Asks, AsksSomething, OnRefusal, Refuses, Writes};
 ghost use Rattle.domain.specs.declared.asked.Asked.{Asked};
 
@@ -66,16 +66,17 @@ pub(crate) fn read_all<R: Read>(alloc: Global, input: &mut R) -> Result<Vec<u8>,
     }
 }
 
-/// The name at a place of a message. A place past the end is `ShortInput`.
-fn parse_at(message: &[u8], place: u32) -> Result<ParsedName<&[u8]>, ParseError>
-    ensures ok { IfOk result (λ name. Names 255 message.now place (parsed_labels name)) }
-    ensures err { IfErr result (λ e. NoNameAt message.now place e) }
+/// The name at a place of a message, through at most so many pointers. A place past the end is
+/// `ShortInput`.
+fn parse_at(message: &[u8], place: u32, limit: u8) -> Result<ParsedName<&[u8]>, ParseError>
+    ensures ok { IfOk result (λ name. Names limit message.now place (parsed_labels name)) }
+    ensures err { IfErr result (λ e. NoNameWithin limit message.now place e) }
 {
     let mut parser = Parser::from_ref(message);
     if parser.seek(place as usize).is_err() {
         return Err(ParseError::ShortInput);
     }
-    ParsedName::parse(&mut parser)
+    ParsedName::parse_with_limit(&mut parser, limit)
 }
 
 /// Why a text wasn't written.
@@ -138,8 +139,25 @@ pub fn name_at<R: Read, W: Write>(
     ensures refused { IfRefused result (λ e. IfSome (R.remaining input.old) (λ m. NoNameAt m place e)) }
     ensures nothing_written { OnNoWork result (Keeps (W.contents output.old) (W.contents output.new)) }
 {
+    name_at_with_limit(alloc, input, output, place, u8::MAX)
+}
+
+/// The same as `name_at`, with at most `limit` pointers followed: one more is "too many compression
+/// pointers".
+pub fn name_at_with_limit<R: Read, W: Write>(
+    alloc: Global,
+    input: &mut R,
+    output: &mut W,
+    place: u32,
+    limit: u8,
+) -> Result<(), ToolError>
+    ensures whole { OnAnswer result (IsAtEnd (R.remaining input.new)) }
+    ensures written { OnOk result (IfSome (R.remaining input.old) (λ m. WritesNameWithin limit m place (W.contents output.old) (W.contents output.new))) }
+    ensures refused { IfRefused result (λ e. IfSome (R.remaining input.old) (λ m. NoNameWithin limit m place e)) }
+    ensures nothing_written { OnNoWork result (Keeps (W.contents output.old) (W.contents output.new)) }
+{
     let octets = read_all(alloc, input)?;
-    let name = match parse_at(octets.as_slice(), place) {
+    let name = match parse_at(octets.as_slice(), place, limit) {
         Ok(name) => name,
         Err(e) => return Err(ToolError::Parse(e)),
     };
@@ -147,7 +165,7 @@ pub fn name_at<R: Read, W: Write>(
     Ok(())
 }
 
-const USAGE: &str = "usage: dnsnames at PLACE | dnsnames text NAME | dnsnames list";
+const USAGE: &str = "usage: dnsnames at PLACE [--pointers N] | dnsnames text NAME | dnsnames list";
 
 /// Does what is asked for, and flushes the output.
 fn carry_out<R: Read, W: Write>(
@@ -160,7 +178,7 @@ fn carry_out<R: Read, W: Write>(
     ensures refused { IfErr result (λ e. OnRefusal e (Refuses asked.entry (R.remaining input.old) (W.contents output.old) (W.contents output.new))) }
 {
     let answer = match asked {
-        Asked::At(place) => name_at(alloc, input, output, place),
+        Asked::At(place, limit) => name_at_with_limit(alloc, input, output, place, limit),
         Asked::Text(text) => name_text(alloc, text, output),
         Asked::List => list(alloc, input, output),
     };
@@ -174,7 +192,8 @@ fn carry_out<R: Read, W: Write>(
 /// to end with: 0 where it is done, 1 where the input or the text is refused, 2 for other words, 3 where
 /// reading, writing or memory failed. The reason is written to `errors`; that this fails changes no status.
 ///
-/// `at PLACE` is `name_at`, `text NAME` is `name_text`, and `list` is `list`.
+/// `at PLACE` is `name_at`, `at PLACE --pointers N` is `name_at_with_limit`, `text NAME` is `name_text`, and
+/// `list` is `list`.
 pub fn run<R: Read, W: Write, E: Write>(
     alloc: Global,
     words: &[&str],

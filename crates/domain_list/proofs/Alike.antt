@@ -1,12 +1,12 @@
 -- Wire forms whose last octets are alike end with labels that are.
 use Rattle.std.proofs.Common.{inl, inr, ◌≡◌, ℕ, ◌+◌, ◌-◌, ◌≤◌, ◌<◌, List, [], ◌∷◌, ◌++◌, length, take, drop, get_or, refl, sym, ap, subst, ◌∙◌, arith, length-append, append_assoc, Option, None, Some, IfSome, Bor}
-use Rattle.std.proofs.lemmas.List.{map-append, length-map, append-nil, drop-map, take_more}
+use Rattle.std.proofs.lemmas.List.{length-map, append-nil, drop-map, take_more}
 use Rattle.std.proofs.lemmas.Grind.{common_steps}
 use Rattle.std.proofs.Math.Seq.{drop-append_seam, drop-append-add}
 use Rattle.std.specs.Char.{to_ascii_lowercase}
 use Rattle.domain_label.specs.Low.{low, low_all}
 use Rattle.domain_label.specs.Wire.{wire, AreLabels, IsName}
-use Rattle.domain_label.proofs.WireLaws.{wire_append, wire_once, absolute_labels, relative_labels}
+use Rattle.domain_label.proofs.WireLaws.{nil_from_wire, wire_append, wire_once, absolute_labels, relative_labels}
 use Rattle.domain_label.proofs.Lowered.{low_wire}
 use Rattle.domain_list.specs.Alike.{EndAlike, AlikeBehind, OctetsEndAlike, KnownAlike}
 
@@ -57,13 +57,9 @@ ends_alike xs ys o p n e f a b (h, g, t) = λ us ps vs qs c d same le.
     let octets : low (wire ps) ≡ low (wire qs) = ap (λ r. low r) (sym left) ∙ (drop_low j t.o_end ∙ (ap (λ r. drop j r) t.alike ∙ (sym (drop_low j t.p_end) ∙ ap (λ r. low r) right))) in
     wire_once (low_all ps) (low_all qs) (sym (low_wire ps (labels_behind us ps (subst (λ ls. AreLabels ls) c a))) ∙ (octets ∙ low_wire qs (labels_behind vs qs (subst (λ ls. AreLabels ls) d b))))
 
-nothing_left : (ls : List (List ℕ)) → length (wire ls) ≤ 0 → ls ≡ []
-nothing_left [] e = refl
-nothing_left (l ∷ ls) e = absurd (omega (arith, e))
-
 -- of no octets nothing is asked
 pub none_alike : (xs ys : List (List ℕ)) → EndAlike xs ys 0
-none_alike xs ys = λ us ps vs qs c d same le. ap (λ ls. low_all ls) (nothing_left ps le ∙ sym (nothing_left qs (omega (arith, same, le))))
+none_alike xs ys = λ us ps vs qs c d same le. ap (λ ls. low_all ls) (nil_from_wire ps (omega (arith, le)) ∙ sym (nil_from_wire qs (omega (arith, same, le))))
 
 pub name_labels_short : (ls : List (List ℕ)) → IsName ls → AreLabels ls
 name_labels_short ls n = elim n [ inl a ↦ absolute_labels ls a.0 | inr r ↦ relative_labels ls r.0 ]

@@ -1,7 +1,5 @@
 -- A list that ends with another, told by how many octets each has.
-use Rattle.std.proofs.Common.{◌≡◌, ℕ, ◌+◌, ◌≤◌, ◌<◌, ◌↔◌, List, [], ◌∷◌, ◌++◌, length, refl, ap, arith, length-append}
-use Rattle.std.proofs.lemmas.List.{length-map}
-use Rattle.std.specs.Char.{to_ascii_lowercase}
+use Rattle.std.proofs.Common.{◌≡◌, ℕ, ◌+◌, ◌≤◌, ◌<◌, ◌↔◌, List, [], ◌∷◌, ◌++◌, length, ap, arith, length-append}
 use Rattle.domain_label.specs.Low.{low, low_all}
 use Rattle.domain_label.specs.Wire.{wire}
 use Rattle.domain_label.proofs.Lowered.{low_size}

@@ -9,3 +9,4 @@ pub mod Meeting
 pub mod Alike
 pub mod Finishing
 pub mod Octetwise
+pub mod Put

@@ -9,7 +9,7 @@ use Rattle.std.specs.Ordering.{nat_cmp}
 use Rattle.domain_label.specs.Low.{low, low_all, low_cmp, as_writes}
 use Rattle.domain_label.specs.Wire.{wire, AreLabels}
 use Rattle.domain_label.proofs.WireLaws.{wire_append}
-use Rattle.domain_label.proofs.Lowered.{low_wire, low_wires, low_length}
+use Rattle.domain_label.proofs.Lowered.{low_wire, low_wires}
 use Rattle.domain_list.specs.Facts.{feed_is_wire}
 use Rattle.domain_list.specs.Feed.{feed}
 use Rattle.domain_list.specs.Order.{lowercase_composed_order}
@@ -52,10 +52,6 @@ same_all s a b i m n h =
     let e : take i a ≡ a = grind (arith, common_steps) in
     let f : take i b ≡ b = grind (arith, common_steps) in
     subst (λ o. IsTrue s ↔ (low o ≡ low b)) e (subst (λ o. IsTrue s ↔ (low (take i a) ≡ low o)) f h)
-
--- octets of different numbers aren't the same
-pub other_size : (a b : List ℕ) → (length a ≡ length b → ⊥) → low a ≡ low b → ⊥
-other_size a b h e = h (sym (low_length a) ∙ (ap length e ∙ low_length b))
 
 -- wire forms that are the same octet by octet are those of labels that are
 pub same_labels_of : (r : Bool) (xs ys : List (List ℕ)) (a b : List ℕ) → (IsTrue r ↔ (low a ≡ low b)) → a ≡ wire xs → b ≡ wire ys → AreLabels xs → AreLabels ys → IsTrue r ↔ (low_all xs ≡ low_all ys)

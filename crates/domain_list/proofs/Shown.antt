@@ -1,16 +1,8 @@
 -- What a walk over labels has shown.
-use Rattle.std.proofs.Common.{◌≡◌, ℕ, ◌+◌, ◌*◌, ◌≤◌, ◌<◌, List, [], ◌∷◌, ◌++◌, map, length, refl, sym, ap, ◌∙◌, subst, append_assoc, append-nil, arith, length-append}
-use Rattle.std.proofs.lemmas.List.{map-append}
+use Rattle.std.proofs.Common.{◌≡◌, ℕ, ◌+◌, ◌*◌, ◌≤◌, ◌<◌, List, [], ◌∷◌, ◌++◌, length, refl, sym, ap, ◌∙◌, append_assoc, append-nil, arith, length-append}
 use Rattle.std.specs.List.{flat_map}
-use Rattle.domain_label.specs.declared.label.Label.{Label}
-use Rattle.domain_label.specs.Views.{label_octets}
 use Rattle.domain_label.specs.Text.{with_dot, or_dot, dotted}
 use Rattle.domain_label.specs.Wire.{wire}
-
--- one label goes over to those that were yielded
-pub more_split : (ys : List Label) (y : Label) (s t all : List (List ℕ)) → map label_octets ys ++ s ≡ all → s ≡ label_octets y ∷ t → map label_octets (ys ++ y ∷ []) ++ t ≡ all
-more_split ys y s t all h e =
-    ap (λ r. r ++ t) (map-append label_octets ys (y ∷ [])) ∙ (append_assoc (map label_octets ys) (label_octets y ∷ []) t ∙ (ap (λ r. map label_octets ys ++ r) (sym e) ∙ h))
 
 -- one label more with its dot
 pub more_dotted : (text new l all : List ℕ) (s t : List (List ℕ)) → text ++ flat_map with_dot s ≡ all → s ≡ l ∷ t → new ≡ text ++ with_dot l → new ++ flat_map with_dot t ≡ all

@@ -14,8 +14,6 @@ use Rattle.domain_list.specs.Order.{from_right, composed_order}
 pub from_right_last : (xs : List (List ℕ)) (x : List ℕ) → from_right (xs ++ x ∷ []) ≡ low x ∷ from_right xs
 from_right_last xs x = ap reverse (map-append low xs (x ∷ [])) ∙ reverse-append (low_all xs) (low x ∷ [])
 
-pub ruleset order_steps = (from_right_last)
-
 then_twice : (p q r : Ordering) → ordering_then p (ordering_then q r) ≡ ordering_then (ordering_then p q) r
 then_twice Less q r = refl
 then_twice Equal q r = refl

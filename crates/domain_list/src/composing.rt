@@ -1,10 +1,11 @@
 //! Writing names in wire form, without compression (RFC 1035, 3.1).
-ghost use Rattle.std.specs.Prelude.{◌≡◌, ◌≤◌, ◌<◌, ◌+◌, ◌++◌, length, IfSome, OnOk, OnErr};
-ghost use Rattle.domain_label.specs.Low.{low, low_all};
-ghost use Rattle.domain_label.specs.Wire.{wire};
+ghost use Rattle.std.specs.Prelude.{◌≡◌, ◌≤◌, ◌<◌, ◌+◌, ◌++◌, length, take, IfSome, OnOk, OnErr};
+ghost use Rattle.domain_label.specs.Low.{low_all};
+ghost use Rattle.domain_label.specs.Views.{label_octets};
+ghost use Rattle.domain_label.specs.Wire.{wire, wire_label};
 
 use crate::labels::{LabelIterator, ToLabelIter};
-use arrayvec::ArrayVec;
+use domain_label::Label;
 use octseq::OctetsBuilder;
 
 /// Appends the wire form of the labels that are left, or nothing.
@@ -35,20 +36,48 @@ pub fn compose_labels<'a, I: LabelIterator<'a>, Target: OctetsBuilder>(
     Ok(())
 }
 
-/// The wire form of a name of any kind, in a buffer that has room for each name.
+/// Puts the wire form of the labels that are left at the beginning of a buffer, and tells how many octets
+/// it has.
 #[inline(always)]
-pub fn gathered<'a, N: ToLabelIter<'a>>(name: &'a N) -> ArrayVec<u8, 255>
-    ensures { result.items ≡ wire (N.labels name.now) }
+fn put_labels<'a, I: LabelIterator<'a>>(labels: I, octets: &mut [u8; 255]) -> usize
+    requires { length (wire (I.left labels)) ≤ 255 }
+    ensures size { result ≡ length (wire (I.left labels)) }
+    ensures wire { take result octets.new ≡ wire (I.left labels) }
 {
-    let mut octets = ArrayVec::new();
-    let filled = match name.as_flat_slice() {
-        Some(flat) => octets.append_slice(flat),
-        None => compose_labels(name.iter_labels(), &mut octets),
-    };
-    let Ok(()) = filled else {
-        unreachable!();
-    };
-    octets
+    let mut labels = labels;
+    let mut len = 0;
+    while let Some(label) = labels.next() {
+        len = put_label(label, octets, len);
+    }
+    len
+}
+
+/// Puts the wire form of a label behind so many octets of a buffer, and tells how many there are then.
+#[inline(always)]
+fn put_label(label: Label, octets: &mut [u8; 255], len: usize) -> usize
+    requires { len + length (wire_label (label_octets label)) ≤ 255 }
+    ensures size { result ≡ len + length (wire_label (label_octets label.entry)) }
+    ensures wire { take result octets.new ≡ take len octets.old ++ wire_label (label_octets label.entry) }
+{
+    let end = len + 1 + label.len();
+    octets[len] = label.len() as u8;
+    octets[len + 1..end].copy_from_slice(label.as_slice());
+    end
+}
+
+/// Puts the wire form of a name of any kind at the beginning of a buffer, which has room for each name,
+/// and tells how many octets it has.
+#[inline(always)]
+pub fn put_name<'a, N: ToLabelIter<'a>>(name: &'a N, octets: &mut [u8; 255]) -> usize
+    ensures size { result ≡ length (wire (N.labels name.now)) }
+    ensures wire { take result octets.new ≡ wire (N.labels name.now) }
+    ensures fits { result ≤ 255 }
+{
+    if let Some(flat) = name.as_flat_slice() {
+        octets[..flat.len()].copy_from_slice(flat);
+        return flat.len();
+    }
+    put_labels(name.iter_labels(), octets)
 }
 
 /// Appends the wire form of a name of any kind at once, or nothing.
@@ -70,16 +99,9 @@ pub fn compose_name<'a, N: ToLabelIter<'a>, Target: OctetsBuilder>(
     if let Some(flat) = name.as_flat_slice() {
         return target.append_slice(flat);
     }
-    let octets = gathered(name);
-    target.append_slice(octets.as_slice())
-}
-
-/// Makes A to Z of the octets a to z.
-#[inline(always)]
-fn lower(octets: &mut ArrayVec<u8, 255>)
-    ensures { octets.new.items ≡ low octets.old.items }
-{
-    octets.as_mut_slice().make_ascii_lowercase();
+    let mut octets = [0; 255];
+    let len = put_name(name, &mut octets);
+    target.append_slice(&octets[..len])
 }
 
 /// Appends the wire form of a name of any kind without ASCII case (RFC 4034, 6.2) at once, or nothing.
@@ -98,7 +120,8 @@ pub fn compose_canonical_name<'a, N: ToLabelIter<'a>, Target: OctetsBuilder>(
     ensures within { IfSome Target.limit (λ n. length (Target.octets target.new) ≤ n) }
     ensures fixed { IfSome Target.limit (λ n. Target.capacity target.old ≡ n) }
 {
-    let mut octets = gathered(name);
-    lower(&mut octets);
-    target.append_slice(octets.as_slice())
+    let mut octets = [0; 255];
+    let len = put_name(name, &mut octets);
+    octets.make_ascii_lowercase();
+    target.append_slice(&octets[..len])
 }

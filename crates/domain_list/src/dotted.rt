@@ -1,5 +1,5 @@
 //! Names as text with a final dot.
-ghost use Rattle.std.specs.Prelude.{◌≡◌, ◌≤◌, ◌+◌, ◌*◌, ◌++◌, length, Some};
+ghost use Rattle.std.specs.Prelude.{◌≡◌, ◌≤◌, ◌+◌, ◌*◌, ◌++◌, [], length, Some};
 ghost use Rattle.std.specs.Str.{IsAscii};
 ghost use Rattle.domain_label.specs.Text.{with_dot, dotted};
 ghost use Rattle.domain_label.specs.Views.{label_octets};
@@ -26,24 +26,21 @@ fn push_with_dot(label: Label, text: &mut ArrayVec<u8, 1020>)
     text.push(b'.');
 }
 
-/// The labels that are left with a dot behind each, and the root alone as a dot, in a buffer that has
-/// room for each name.
-#[inline(always)]
-fn dotted_text<'a, I: LabelIterator<'a>>(labels: I) -> ArrayVec<u8, 1020>
-    requires { length (wire (I.left labels)) ≤ 255 }
-    ensures text { result.items ≡ dotted (I.left labels) }
-    ensures ascii { IsAscii result.items }
+/// Appends the labels that are left with a dot behind each, and the root alone as a dot, to a buffer that
+/// has room for each name.
+fn push_dotted<'a, I: LabelIterator<'a>>(labels: I, text: &mut ArrayVec<u8, 1020>)
+    requires fits { length (wire (I.left labels)) ≤ 255 }
+    requires empty { text.old.items ≡ [] }
+    ensures text { text.new.items ≡ dotted (I.left labels) }
+    ensures ascii { IsAscii text.new.items }
 {
     let mut labels = labels;
-    let mut text = ArrayVec::new();
     while let Some(label) = labels.next() {
-        push_with_dot(label, &mut text);
+        push_with_dot(label, text);
     }
     if text.is_empty() {
         text.push(b'.');
-        return text;
     }
-    text
 }
 
 /// Shows a name with a dot behind each label, and the root as a dot (RFC 1035, 5.1).
@@ -69,7 +66,8 @@ impl<'a, N: AbsoluteLabels<'a>> fmt::Display for DisplayWithDot<'a, N> {
     ghost output = { λ shown. Some (dotted (N.labels (dotted_name shown))) };
 
     fn fmt<W: fmt::Write>(&self, f: &mut fmt::Formatter<W>) -> fmt::Result {
-        let text = dotted_text(self.name.iter_labels());
+        let mut text = ArrayVec::<u8, 1020>::new();
+        push_dotted(self.name.iter_labels(), &mut text);
         f.write_str(ascii_text(text.as_slice()))
     }
 }

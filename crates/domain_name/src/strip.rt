@@ -5,7 +5,7 @@ ghost use Rattle.domain_list.specs.Ends.{EndsWith};
 
 use domain_flat::is_label_end;
 use domain_list::ToLabelIter;
-use domain_list::composing::gathered;
+use domain_list::composing::put_name;
 use domain_list::flat::same_octets;
 use std::error::Error;
 use std::fmt;
@@ -55,6 +55,7 @@ pub(crate) fn suffix_place<'a, N: ToLabelIter<'a>>(octets: &[u8], base: &'a N) -
     if let Some(suffix) = base.as_flat_slice() {
         return place_of(octets, suffix);
     }
-    let suffix = gathered(base);
-    place_of(octets, suffix.as_slice())
+    let mut suffix = [0; 255];
+    let len = put_name(base, &mut suffix);
+    place_of(octets, &suffix[..len])
 }

@@ -26,13 +26,16 @@ struct Draws {
 }
 
 impl Draws {
-    /// A number below `count`, which is at most 65,535.
+    /// A number below `count`, which isn't 0 and is at most 65,536.
     fn below(&mut self, count: u32) -> u32 {
         self.state = self
             .state
             .wrapping_mul(1_664_525)
             .wrapping_add(1_013_904_223);
-        (self.state / 65536) % count.max(1)
+        if count == 0 {
+            return 0;
+        }
+        self.state / 65536 % count
     }
 }
 
@@ -239,6 +242,19 @@ fn pointers(rt: &impl Abort, count: u16) -> ArrayVec<u8, 600> {
     octets
 }
 
+/// Writes a pointer to the place over two octets.
+fn put_pointer(octets: &mut [u8], at: usize, place: u16) {
+    let [high, low] = place.saturating_add(0xc000).to_be_bytes();
+    put_octet(octets, at, high);
+    put_octet(octets, at.saturating_add(1), low);
+}
+
+fn put_octet(octets: &mut [u8], at: usize, written: u8) {
+    if let Some(octet) = octets.get_mut(at) {
+        *octet = written;
+    }
+}
+
 /// The octets of `a.b.` behind a place that leads through so many pointers to `b`.
 fn behind_pointers(rt: &impl Abort, count: u16) -> ArrayVec<u8, 600> {
     let mut target = CompressComposer::new(pointers(rt, count.saturating_sub(1)));
@@ -246,15 +262,7 @@ fn behind_pointers(rt: &impl Abort, count: u16) -> ArrayVec<u8, 600> {
     assert!(rt; appended(rt, &mut target, b"\x01b\0"));
     let last = count.saturating_mul(2).saturating_sub(1);
     let place = if count == 1 { 0 } else { last };
-    match target
-        .as_slice_mut()
-        .get_mut(start..start.saturating_add(2))
-    {
-        Some(octets) if octets.len() == 2 => {
-            octets.copy_from_slice(&place.saturating_add(0xc000).to_be_bytes());
-        }
-        _ => panic!(rt; "no octets"),
-    }
+    put_pointer(target.as_slice_mut(), start, place);
     let begin = target.as_slice().len();
     assert!(rt; appended(rt, &mut target, b"\x01a\x01B\0"));
     assert_eq!(rt;
@@ -291,10 +299,7 @@ fn one_pointer_too_many_is_not_written(rt: HostRuntime) {
 fn octets_that_were_written_over_are_read_anew(rt: HostRuntime) {
     let mut target = CompressComposer::new(ArrayVec::<u8, 100>::new());
     assert!(rt; appended(&rt, &mut target, b"\x01a\x01b\0"));
-    match target.as_slice_mut().get_mut(3) {
-        Some(octet) => *octet = b'c',
-        None => panic!(rt; "no octet"),
-    }
+    put_octet(target.as_slice_mut(), 3, b'c');
     assert!(rt; appended(&rt, &mut target, b"\x01b\0"));
     assert!(rt; appended(&rt, &mut target, b"\x01d\x01C\0"));
     assert_eq!(rt;

@@ -8,10 +8,12 @@ use std::alloc::Global;
 use std::process::Abort;
 use std::test::Fail;
 
-const USAGE: &[u8] = b"usage: dnsnames at PLACE | dnsnames text NAME | dnsnames list\n";
+const USAGE: &[u8] =
+    b"usage: dnsnames at PLACE [--pointers N] | dnsnames text NAME | dnsnames list\n";
 
 /// A question and an answer, whose name is a pointer to that of the question.
-pub const ANSWER: &[u8] = b"\x12\x34\x81\x80\0\x01\0\x01\0\0\0\0\x01a\0\0\x01\0\x01\xc0\x0c\0\x01\0\x01\0\0\x0e\x10\0\x04\xc0\0\x02\x01";
+pub const ANSWER: &[u8] =
+    b"\x12\x34\x81\x80\0\x01\0\x01\0\0\0\0\x01a\0\0\x01\0\x01\xc0\x0c\0\x01\0\x01\0\0\x0e\x10\0\x04\xc0\0\x02\x01";
 
 /// The header counts two questions, of which one is there.
 const QUERY: &[u8] = b"\x12\x34\0\0\0\x02\0\0\0\0\0\0\x01a\0\0\x01\0\x01";
@@ -71,6 +73,28 @@ fn the_fault_is_told(rt: HostRuntime) {
     ] {
         check_run(&rt, rt.alloc(), &["at", place], octets, (1, b"", reason));
     }
+}
+
+#[test]
+fn words_limit_pointers(rt: HostRuntime) {
+    let many = b"too many compression pointers\n".as_slice();
+    for (limit, status, shown, reason) in [
+        ("2", 0u8, b"www.Example.com.\n".as_slice(), b"".as_slice()),
+        ("002", 0, b"www.Example.com.\n", b""),
+        ("255", 0, b"www.Example.com.\n", b""),
+        ("1", 1, b"", many),
+        ("256", 2, b"", USAGE),
+        ("0002", 2, b"", USAGE),
+        ("+2", 2, b"", USAGE),
+        ("", 2, b"", USAGE),
+    ] {
+        let words = ["at", "15", "--pointers", limit];
+        check_run(&rt, rt.alloc(), &words, SCATTERED, (status, shown, reason));
+    }
+    let words = ["at", "15", "--pointers"];
+    check_run(&rt, rt.alloc(), &words, SCATTERED, (2, b"", USAGE));
+    let words = ["at", "x", "--pointers", "2"];
+    check_run(&rt, rt.alloc(), &words, SCATTERED, (2, b"", USAGE));
 }
 
 #[test]
@@ -157,7 +181,10 @@ fn errors_of_the_tools_have_texts(rt: HostRuntime) -> Result<(), Fail> {
             ToolError::Parse(ParseError::ShortInput),
             "unexpected end of input",
         ),
-        (ToolError::Text(FromStrError::ShortBuf), "buffer size exceeded"),
+        (
+            ToolError::Text(FromStrError::ShortBuf),
+            "buffer size exceeded",
+        ),
         (ToolError::Read, "reading failed"),
         (ToolError::Write, "writing failed"),
         (ToolError::Memory, "out of memory"),

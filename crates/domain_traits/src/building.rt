@@ -2,53 +2,15 @@
 //! one body each for absolute and relative names of every kind.
 ghost use Rattle.std.specs.Prelude.{◌≡◌, ◌<◌, ℕ, List, length, IfOk, IsOkAnd, OnErr};
 ghost use Rattle.std.specs.Cow.{cow_slice_items, IsBorrowedSlice};
-ghost use Rattle.domain_label.specs.Low.{low_all};
 ghost use Rattle.domain_label.specs.Wire.{wire, IsAbsoluteName, IsRelativeName};
 ghost use Rattle.domain_name.specs.Names.{name_labels, name_holder, relative_labels, relative_holder};
-ghost use Rattle.domain_traits.specs.Room.{MayLackRoom};
 
 use domain_list::ToLabelIter;
-use domain_list::composing::{compose_canonical_name, compose_name};
+use domain_list::composing::compose_name;
 use domain_name::{Name, RelativeName};
-use octseq::{EmptyBuilder, Octets, ShortBuf};
+use octseq::{Octets, ShortBuf};
 use std::alloc::Global;
 use std::borrow::CowSlice;
-
-/// A new builder that has the wire form of a name. Room for its octets is asked for once, before they
-/// are appended.
-///
-/// `ShortBuf` where the octets exceed a fixed room, or where memory was refused. A name without octets
-/// is never refused.
-#[inline(always)]
-pub(crate) fn build<'a, N: ToLabelIter<'a>, B: EmptyBuilder + Drop>(
-    name: &'a N,
-    alloc: Global,
-) -> Result<B, ShortBuf>
-    ensures ok { IfOk result (λ target. B.octets target ≡ wire (N.labels name.now)) }
-    ensures err { OnErr result (MayLackRoom B.ROOM (length (wire (N.labels name.now)))) }
-{
-    let mut target = B::with_capacity(alloc, name.compose_len() as usize)?;
-    match compose_name(name, &mut target) {
-        Ok(()) => Ok(target),
-        Err(e) => Err(e.into()),
-    }
-}
-
-/// The same with the labels lowered (RFC 4034, 6.2).
-#[inline(always)]
-pub(crate) fn build_canonical<'a, N: ToLabelIter<'a>, B: EmptyBuilder + Drop>(
-    name: &'a N,
-    alloc: Global,
-) -> Result<B, ShortBuf>
-    ensures ok { IfOk result (λ target. B.octets target ≡ wire (low_all (N.labels name.now))) }
-    ensures err { OnErr result (MayLackRoom B.ROOM (length (wire (N.labels name.now)))) }
-{
-    let mut target = B::with_capacity(alloc, name.compose_len() as usize)?;
-    match compose_canonical_name(name, &mut target) {
-        Ok(()) => Ok(target),
-        Err(e) => Err(e.into()),
-    }
-}
 
 /// The wire form of a name: lent where it lies in one piece, else put together.
 ///
@@ -64,7 +26,8 @@ pub(crate) fn lend_or_build<'a, N: ToLabelIter<'a>>(
     match name.as_flat_slice() {
         Some(flat) => Ok(CowSlice::Borrowed(flat)),
         None => {
-            let octets: Vec<u8> = build(name, alloc)?;
+            let mut octets = Vec::with_capacity(alloc, name.compose_len() as usize)?;
+            compose_name(name, &mut octets)?;
             Ok(CowSlice::Owned(octets))
         }
     }

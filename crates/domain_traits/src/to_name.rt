@@ -9,7 +9,7 @@ ghost use Rattle.domain_list.specs.Order.{order, composed_order, lowercase_compo
 ghost use Rattle.domain_name.specs.Names.{name_labels, name_holder};
 ghost use Rattle.domain_traits.specs.Room.{MayLackRoom};
 
-use crate::building::{build, build_canonical, lend_or_build, name_of};
+use crate::building::{lend_or_build, name_of};
 use domain_list::comparing::{
     composed_order_names, eq_names, lowercase_composed_order_names, order_names,
 };
@@ -40,8 +40,11 @@ pub trait ToName<'a>: AbsoluteLabels<'a> {
         ensures ok { IfOk result (λ name. name_labels name ≡ Self.labels self.now) }
         ensures err { OnErr result (MayLackRoom Octs.Builder.ROOM (length (wire (Self.labels self.now)))) }
     {
-        let target = build(self, alloc)?;
-        Ok(name_of(Octs::from_builder(target)))
+        let mut target = Octs::Builder::with_capacity(alloc, self.compose_len() as usize)?;
+        match compose_name(self, &mut target) {
+            Ok(()) => Ok(name_of(Octs::from_builder(target))),
+            Err(e) => Err(e.into()),
+        }
     }
 
     /// The same as `try_to_name`.
@@ -83,8 +86,11 @@ pub trait ToName<'a>: AbsoluteLabels<'a> {
         ensures ok { IfOk result (λ name. name_labels name ≡ low_all (Self.labels self.now)) }
         ensures err { OnErr result (MayLackRoom Octs.Builder.ROOM (length (wire (Self.labels self.now)))) }
     {
-        let target = build_canonical(self, alloc)?;
-        Ok(name_of(Octs::from_builder(target)))
+        let mut target = Octs::Builder::with_capacity(alloc, self.compose_len() as usize)?;
+        match compose_canonical_name(self, &mut target) {
+            Ok(()) => Ok(name_of(Octs::from_builder(target))),
+            Err(e) => Err(e.into()),
+        }
     }
 
     /// The same as `try_to_canonical_name`.

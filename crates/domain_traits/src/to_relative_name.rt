@@ -9,7 +9,7 @@ ghost use Rattle.domain_list.specs.Order.{order};
 ghost use Rattle.domain_name.specs.Names.{name_labels, relative_labels, relative_holder};
 ghost use Rattle.domain_traits.specs.Room.{MayLackRoom};
 
-use crate::building::{build, build_canonical, lend_or_build, relative_name_of};
+use crate::building::{lend_or_build, relative_name_of};
 use domain_list::comparing::{eq_names, order_names};
 use domain_list::composing::{compose_canonical_name, compose_name};
 use domain_list::{Chain, LongChainError, NameLabels, RelativeLabels, ToLabelIter};
@@ -37,8 +37,11 @@ pub trait ToRelativeName<'a>: RelativeLabels<'a> {
         ensures ok { IfOk result (λ name. relative_labels name ≡ Self.labels self.now) }
         ensures err { OnErr result (MayLackRoom Octs.Builder.ROOM (length (wire (Self.labels self.now)))) }
     {
-        let target = build(self, alloc)?;
-        Ok(relative_name_of(Octs::from_builder(target)))
+        let mut target = Octs::Builder::with_capacity(alloc, self.compose_len() as usize)?;
+        match compose_name(self, &mut target) {
+            Ok(()) => Ok(relative_name_of(Octs::from_builder(target))),
+            Err(e) => Err(e.into()),
+        }
     }
 
     /// The same as `try_to_relative_name`.
@@ -66,8 +69,11 @@ pub trait ToRelativeName<'a>: RelativeLabels<'a> {
         ensures ok { IfOk result (λ name. relative_labels name ≡ low_all (Self.labels self.now)) }
         ensures err { OnErr result (MayLackRoom Octs.Builder.ROOM (length (wire (Self.labels self.now)))) }
     {
-        let target = build_canonical(self, alloc)?;
-        Ok(relative_name_of(Octs::from_builder(target)))
+        let mut target = Octs::Builder::with_capacity(alloc, self.compose_len() as usize)?;
+        match compose_canonical_name(self, &mut target) {
+            Ok(()) => Ok(relative_name_of(Octs::from_builder(target))),
+            Err(e) => Err(e.into()),
+        }
     }
 
     /// The same as `try_to_canonical_relative_name`.

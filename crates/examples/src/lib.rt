@@ -5,6 +5,7 @@
 pub mod builders;
 pub mod chains;
 pub mod character_strings;
+pub mod circle;
 pub mod comparing;
 pub mod compressing;
 pub mod exchange;

@@ -1,4 +1,4 @@
-use Rattle.std.proofs.Common.{◌≡◌, ◌↔◌, ◌<◌, ◌≤◌, ◌++◌, [], ◌∷◌, length, arith, refl, sym, ap, ◌∙◌, subst, append_assoc, length-append, true≢false}
+use Rattle.std.proofs.Common.{◌↔◌, ◌<◌, ◌≤◌, ◌++◌, [], ◌∷◌, length, arith, sym, ap, ◌∙◌, subst, append_assoc, length-append, true≢false}
 use Rattle.domain_label.specs.Wire.{wire}
 use Rattle.domain_label.specs.Views.{label_octets}
 use Rattle.domain_list.specs.Ends.{EndsWith}

@@ -1,5 +1,5 @@
-use Rattle.std.proofs.Common.{arith, refl, sym, true≢false}
-use Rattle.domain_list.proofs.Octetwise.{same_more, same_all, other_size}
+use Rattle.std.proofs.Common.{arith, refl}
+use Rattle.domain_list.proofs.Octetwise.{same_more, same_all}
 use Rattle.domain_list.proofs.flat.same_octets.Goals as goal
 
 pub loop-i-init : goal.loop-i-init

@@ -1,4 +1,4 @@
-use Rattle.std.proofs.Common.{◌≡◌, ◌+◌, ◌↔◌, sym, subst, ap, ◌∙◌, length}
+use Rattle.std.proofs.Common.{◌≡◌, ◌+◌, ◌↔◌, sym, subst, ap, ◌∙◌, length, take}
 use Rattle.std.specs.Prelude.{IsSome, IfSome}
 use Rattle.domain_label.specs.Wire.{wire, labels_in, IsWire}
 use Rattle.domain_label.proofs.WireLaws.{labels_in_wire}
@@ -25,15 +25,15 @@ returns-in-Some-clause-place g c =
 pub place_of-requires-2 : goal.place_of-requires-2
 place_of-requires-2 g c =
     let bs = g.N.NameLabels.labels c.args.base.now in
-    let e : c.as_slice.result.now ≡ wire bs = c.as_slice.ensures.value ∙ c.gathered-suffix.ensures in
+    let e : take c.put_name-len.result c.put_name-len.new.octets ≡ wire bs = c.put_name-len.ensures.wire in
     record { whole = c.requires; part = subst IsWire (sym e) (name_wire bs (g.met.N.NameLabels.lawful c.args.base.now)) }
 
 pub returns-clause-exact : goal.returns-clause-exact
 returns-clause-exact g c =
     let bs = g.N.NameLabels.labels c.args.base.now in
-    let e : labels_in c.as_slice.result.now ≡ bs = ap labels_in (c.as_slice.ensures.value ∙ c.gathered-suffix.ensures) ∙ labels_in_wire bs in
+    let e : labels_in (take c.put_name-len.result c.put_name-len.new.octets) ≡ bs = ap labels_in c.put_name-len.ensures.wire ∙ labels_in_wire bs in
     subst (λ ls. IsSome c.place_of-2.result ↔ EndsWith (labels_in c.args.octets.now) ls) e c.place_of-2.ensures.exact
 
 pub returns-clause-place : goal.returns-clause-place
 returns-clause-place g c =
-    subst (λ s. IfSome c.place_of-2.result (λ place. place + length s ≡ length c.args.octets.now)) (c.as_slice.ensures.value ∙ c.gathered-suffix.ensures) c.place_of-2.ensures.place
+    subst (λ s. IfSome c.place_of-2.result (λ place. place + length s ≡ length c.args.octets.now)) c.put_name-len.ensures.wire c.place_of-2.ensures.place

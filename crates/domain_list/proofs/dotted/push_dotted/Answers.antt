@@ -1,7 +1,7 @@
 use Rattle.std.proofs.Common.{rules, ◌∙◌}
 use Rattle.domain_label.specs.Views.{label_octets}
 use Rattle.domain_list.proofs.Shown.{more_dotted, less_room, label_room, dotted_some, dotted_none}
-use Rattle.domain_list.proofs.dotted.dotted_text.Goals as goal
+use Rattle.domain_list.proofs.dotted.push_dotted.Goals as goal
 
 pub push_with_dot-requires : goal.push_with_dot-requires
 push_with_dot-requires g c = record {
@@ -22,6 +22,6 @@ pub returns-then-is_empty-clause-text : goal.returns-then-is_empty-clause-text
 returns-then-is_empty-clause-text g c =
     c.push.ensures.items ∙ dotted_none _ (g.I.LabelIterator.left c.loop-label.labels) (g.I.LabelIterator.left c.args.labels) c.loop-label.invariant.text (search rules) (search rules)
 
-pub returns-clause-text : goal.returns-clause-text
-returns-clause-text g c =
+pub returns-else-is_empty-clause-text : goal.returns-else-is_empty-clause-text
+returns-else-is_empty-clause-text g c =
     dotted_some _ (g.I.LabelIterator.left c.loop-label.labels) (g.I.LabelIterator.left c.args.labels) c.loop-label.invariant.text (search rules) (search rules)

@@ -3,7 +3,7 @@ use Rattle.std.specs.List.{flat_map}
 use Rattle.std.specs.Str.{IsAscii}
 use Rattle.domain_label.specs.Text.{with_dot}
 use Rattle.domain_label.specs.Wire.{wire}
-use Rattle.domain_list.proofs.dotted.dotted_text.Given as goal
+use Rattle.domain_list.proofs.dotted.push_dotted.Given as goal
 
 abbrev pub invariant-loop-label : goal.invariant-loop-label
 invariant-loop-label g l = record {

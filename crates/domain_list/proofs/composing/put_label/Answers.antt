@@ -1,0 +1,8 @@
+use Rattle.std.proofs.Common.{rules}
+use Rattle.domain_label.specs.Views.{label_octets}
+use Rattle.domain_list.proofs.Put.{label_put}
+use Rattle.domain_list.proofs.composing.put_label.Goals as goal
+
+pub returns-clause-wire : goal.returns-clause-wire
+returns-clause-wire c =
+    label_put c.args.octets.now c.copy_from_slice.new.self (label_octets c.args.label) c.args.len _ c.len.result c.len-2.result (search rules) c.requires (search rules) c.len.ensures c.len-2.ensures
