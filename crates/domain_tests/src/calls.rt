@@ -3,7 +3,7 @@
 use crate::names::{LOWER_WWW, WWW, absolute, relative};
 use arrayvec::ArrayVec;
 use domain::base::name::*;
-use octseq::{Octets, OctetsBuilder, ShortBuf};
+use octseq::ShortBuf;
 use std::alloc::Global;
 use std::borrow::CowSlice;
 use std::cmp::Ordering;
@@ -70,30 +70,22 @@ pub fn relative_names_beside(rt: &impl Abort) -> RelativeOthers<'static> {
     }
 }
 
-fn append_label(octets: &mut Vec<u8>, label: Label<'_>) -> Result<(), ShortBuf> {
-    octets.append_slice(&[label.len() as u8])?;
-    octets.append_slice(label.as_slice())
-}
-
 /// Goes over the labels from both ends.
-fn gives_labels<'a, N: ToLabelIter<'a>>(
-    alloc: Global,
-    name: &'a N,
-    wanted: Wanted<'_>,
-) -> Result<bool, ShortBuf> {
-    let mut given = Vec::new(alloc);
+fn gives_labels<'a, N: ToLabelIter<'a>>(alloc: Global, name: &'a N, wanted: Wanted<'_>) -> bool {
+    let mut taken = true;
+    let mut given: Vec<u8> = Vec::new(alloc);
     let mut labels = name.iter_labels();
     while let Some(label) = labels.next() {
-        append_label(&mut given, label)?;
+        taken = taken && label.compose(&mut given).is_ok();
     }
-    let mut turned = Vec::new(alloc);
+    let mut turned: Vec<u8> = Vec::new(alloc);
     let mut labels = name.iter_labels();
     for _time in 0..128u8 {
         if let Some(label) = labels.next_back() {
-            append_label(&mut turned, label)?;
+            taken = taken && label.compose(&mut turned).is_ok();
         }
     }
-    Ok(given.as_slice() == wanted.wire && turned.as_slice() == wanted.turned)
+    taken && given.as_slice() == wanted.wire && turned.as_slice() == wanted.turned
 }
 
 /// Measures a name, and asks for its octets, which are lent where it lies in one piece.
@@ -102,36 +94,31 @@ fn is_measured<'a, N: ToLabelIter<'a>>(name: &'a N, wanted: Wanted<'_>, flat: bo
     name.compose_len() as usize == wanted.wire.len() && name.as_flat_slice() == lent
 }
 
-fn is_composed<'a, N: AbsoluteLabels<'a>>(
-    alloc: Global,
-    name: &'a N,
-    wanted: Wanted<'_>,
-) -> Result<bool, ShortBuf> {
-    let mut plain = Vec::new(alloc);
-    name.compose(&mut plain)?;
-    let mut canonical = Vec::new(alloc);
-    name.compose_canonical(&mut canonical)?;
-    Ok(plain.as_slice() == wanted.wire && canonical.as_slice() == wanted.canonical)
+fn is_composed<'a, N: AbsoluteLabels<'a>>(alloc: Global, name: &'a N, wanted: Wanted<'_>) -> bool {
+    let mut plain: Vec<u8> = Vec::new(alloc);
+    let mut canonical: Vec<u8> = Vec::new(alloc);
+    name.compose(&mut plain).is_ok()
+        && name.compose_canonical(&mut canonical).is_ok()
+        && plain.as_slice() == wanted.wire
+        && canonical.as_slice() == wanted.canonical
 }
 
-fn is_made_flat<'a, N: AbsoluteLabels<'a>>(
-    alloc: Global,
-    name: &'a N,
-    wanted: Wanted<'_>,
-) -> Result<bool, ShortBuf> {
-    let made: Name<Vec<u8>> = name.to_name(alloc)?;
-    let tried: Name<ArrayVec<u8, 17>> = name.try_to_name(alloc)?;
-    Ok(made.as_slice() == wanted.wire && tried.as_slice() == wanted.wire)
+fn is_made_flat<'a, N: AbsoluteLabels<'a>>(alloc: Global, name: &'a N, wanted: Wanted<'_>) -> bool {
+    let made: Result<Name<Vec<u8>>, ShortBuf> = name.to_name(alloc);
+    let tried: Result<Name<ArrayVec<u8, 17>>, ShortBuf> = name.try_to_name(alloc);
+    matches!(&made, Ok(name) if name.as_slice() == wanted.wire)
+        && matches!(&tried, Ok(name) if name.as_slice() == wanted.wire)
 }
 
 fn is_made_canonical<'a, N: AbsoluteLabels<'a>>(
     alloc: Global,
     name: &'a N,
     wanted: Wanted<'_>,
-) -> Result<bool, ShortBuf> {
-    let made: Name<Vec<u8>> = name.to_canonical_name(alloc)?;
-    let tried: Name<ArrayVec<u8, 17>> = name.try_to_canonical_name(alloc)?;
-    Ok(made.as_slice() == wanted.canonical && tried.as_slice() == wanted.canonical)
+) -> bool {
+    let made: Result<Name<Vec<u8>>, ShortBuf> = name.to_canonical_name(alloc);
+    let tried: Result<Name<ArrayVec<u8, 17>>, ShortBuf> = name.try_to_canonical_name(alloc);
+    matches!(&made, Ok(name) if name.as_slice() == wanted.canonical)
+        && matches!(&tried, Ok(name) if name.as_slice() == wanted.canonical)
 }
 
 fn is_copied<'a, N: AbsoluteLabels<'a>>(
@@ -139,11 +126,13 @@ fn is_copied<'a, N: AbsoluteLabels<'a>>(
     name: &'a N,
     wanted: Wanted<'_>,
     flat: bool,
-) -> Result<bool, ShortBuf> {
-    let owned = name.to_vec(alloc)?;
-    let cow = name.to_cow(alloc)?;
-    let same = owned.as_slice() == wanted.wire && cow.as_slice() == wanted.wire;
-    Ok(same && matches!(cow.as_octets(), CowSlice::Borrowed(_)) == flat)
+) -> bool {
+    let Ok(cow) = name.to_cow(alloc) else {
+        return false;
+    };
+    matches!(&name.to_vec(alloc), Ok(owned) if owned.as_slice() == wanted.wire)
+        && cow.as_slice() == wanted.wire
+        && matches!(cow.as_octets(), CowSlice::Borrowed(_)) == flat
 }
 
 fn is_compared<'a, N: AbsoluteLabels<'a>>(name: &'a N, others: &'a Others<'a>) -> bool {
@@ -175,6 +164,11 @@ fn is_matched<'a, N: AbsoluteLabels<'a>>(name: &'a N, others: &'a Others<'a>) ->
         && !name.ends_with(other)
 }
 
+fn is_shown<'a, N: AbsoluteLabels<'a>>(alloc: Global, name: &'a N) -> bool {
+    let shown = format!(in alloc; "{}", name.fmt_with_dot());
+    matches!(&shown, Ok(text) if text.as_str() == "www.Example.com.")
+}
+
 /// Asks `www.Example.com.` of any kind for all that absolute names have. It must give [`ABSOLUTE`].
 pub fn every_call_of_absolute<'a, N: AbsoluteLabels<'a>>(
     rt: &impl Abort,
@@ -183,48 +177,50 @@ pub fn every_call_of_absolute<'a, N: AbsoluteLabels<'a>>(
     others: &'a Others<'a>,
     wanted: Wanted<'_>,
     flat: bool,
-) -> Result<(), ShortBuf> {
-    assert!(rt; gives_labels(alloc, name, wanted)? && is_measured(name, wanted, flat));
-    assert!(rt; is_composed(alloc, name, wanted)?);
-    assert!(rt; is_made_flat(alloc, name, wanted)? && is_made_canonical(alloc, name, wanted)?);
-    assert!(rt; is_copied(alloc, name, wanted, flat)?);
+) {
+    assert!(rt; gives_labels(alloc, name, wanted) && is_measured(name, wanted, flat));
+    assert!(rt; is_composed(alloc, name, wanted));
+    assert!(rt; is_made_flat(alloc, name, wanted) && is_made_canonical(alloc, name, wanted));
+    assert!(rt; is_copied(alloc, name, wanted, flat));
     assert!(rt; is_compared(name, others) && is_compared_on_the_wire(name, others));
     assert!(rt; is_matched(name, others) && name.is_absolute() && name.rrsig_label_count() == 3);
-    let text = format!(in alloc; "{}", name.fmt_with_dot())?;
-    assert_eq!(rt; text.as_str(), "www.Example.com.");
-    Ok(())
+    assert!(rt; is_shown(alloc, name));
 }
 
 fn is_relative_composed<'a, N: RelativeLabels<'a>>(
     alloc: Global,
     name: &'a N,
     wanted: Wanted<'_>,
-) -> Result<bool, ShortBuf> {
-    let mut plain = Vec::new(alloc);
-    name.compose(&mut plain)?;
-    let mut canonical = Vec::new(alloc);
-    name.compose_canonical(&mut canonical)?;
-    Ok(plain.as_slice() == wanted.wire && canonical.as_slice() == wanted.canonical)
+) -> bool {
+    let mut plain: Vec<u8> = Vec::new(alloc);
+    let mut canonical: Vec<u8> = Vec::new(alloc);
+    name.compose(&mut plain).is_ok()
+        && name.compose_canonical(&mut canonical).is_ok()
+        && plain.as_slice() == wanted.wire
+        && canonical.as_slice() == wanted.canonical
 }
 
 fn is_made_flat_relative<'a, N: RelativeLabels<'a>>(
     alloc: Global,
     name: &'a N,
     wanted: Wanted<'_>,
-) -> Result<bool, ShortBuf> {
-    let made: RelativeName<Vec<u8>> = name.to_relative_name(alloc)?;
-    let tried: RelativeName<ArrayVec<u8, 12>> = name.try_to_relative_name(alloc)?;
-    Ok(made.as_slice() == wanted.wire && tried.as_slice() == wanted.wire)
+) -> bool {
+    let made: Result<RelativeName<Vec<u8>>, ShortBuf> = name.to_relative_name(alloc);
+    let tried: Result<RelativeName<ArrayVec<u8, 12>>, ShortBuf> = name.try_to_relative_name(alloc);
+    matches!(&made, Ok(name) if name.as_slice() == wanted.wire)
+        && matches!(&tried, Ok(name) if name.as_slice() == wanted.wire)
 }
 
 fn is_made_canonical_relative<'a, N: RelativeLabels<'a>>(
     alloc: Global,
     name: &'a N,
     wanted: Wanted<'_>,
-) -> Result<bool, ShortBuf> {
-    let made: RelativeName<Vec<u8>> = name.to_canonical_relative_name(alloc)?;
-    let tried: RelativeName<ArrayVec<u8, 12>> = name.try_to_canonical_relative_name(alloc)?;
-    Ok(made.as_slice() == wanted.canonical && tried.as_slice() == wanted.canonical)
+) -> bool {
+    let made: Result<RelativeName<Vec<u8>>, ShortBuf> = name.to_canonical_relative_name(alloc);
+    let tried: Result<RelativeName<ArrayVec<u8, 12>>, ShortBuf> =
+        name.try_to_canonical_relative_name(alloc);
+    matches!(&made, Ok(name) if name.as_slice() == wanted.canonical)
+        && matches!(&tried, Ok(name) if name.as_slice() == wanted.canonical)
 }
 
 fn is_relative_copied<'a, N: RelativeLabels<'a>>(
@@ -232,11 +228,13 @@ fn is_relative_copied<'a, N: RelativeLabels<'a>>(
     name: &'a N,
     wanted: Wanted<'_>,
     flat: bool,
-) -> Result<bool, ShortBuf> {
-    let owned = name.to_vec(alloc)?;
-    let cow = name.to_cow(alloc)?;
-    let same = owned.as_slice() == wanted.wire && cow.as_slice() == wanted.wire;
-    Ok(same && matches!(cow.as_octets(), CowSlice::Borrowed(_)) == flat)
+) -> bool {
+    let Ok(cow) = name.to_cow(alloc) else {
+        return false;
+    };
+    matches!(&name.to_vec(alloc), Ok(owned) if owned.as_slice() == wanted.wire)
+        && cow.as_slice() == wanted.wire
+        && matches!(cow.as_octets(), CowSlice::Borrowed(_)) == flat
 }
 
 fn is_relative_compared<'a, N: RelativeLabels<'a>>(
@@ -275,13 +273,12 @@ pub fn every_call_of_relative<'a, N: RelativeLabels<'a>>(
     others: &'a RelativeOthers<'a>,
     wanted: Wanted<'_>,
     flat: bool,
-) -> Result<(), ShortBuf> {
-    assert!(rt; gives_labels(alloc, name, wanted)? && is_measured(name, wanted, flat));
-    assert!(rt; is_relative_composed(alloc, name, wanted)?);
-    assert!(rt; is_made_flat_relative(alloc, name, wanted)?);
-    assert!(rt; is_made_canonical_relative(alloc, name, wanted)?);
-    assert!(rt; is_relative_copied(alloc, name, wanted, flat)?);
+) {
+    assert!(rt; gives_labels(alloc, name, wanted) && is_measured(name, wanted, flat));
+    assert!(rt; is_relative_composed(alloc, name, wanted));
+    assert!(rt; is_made_flat_relative(alloc, name, wanted));
+    assert!(rt; is_made_canonical_relative(alloc, name, wanted));
+    assert!(rt; is_relative_copied(alloc, name, wanted, flat));
     assert!(rt; is_relative_compared(name, others) && is_relative_matched(name, others));
     assert!(rt; !name.is_absolute() && !name.is_empty());
-    Ok(())
 }

@@ -5,9 +5,9 @@ use crate::calls::{
     relative_names_beside,
 };
 use crate::lists::{AbsoluteList, Numbered, RelativeList};
-use crate::names::{SCATTERED, WWW, absolute, joined, parsed, relative};
+use crate::names::{SCATTERED, WWW, absolute, joined, parsed, relative, relative_joined};
 use domain::base::name::*;
-use octseq::ShortBuf;
+use std::cmp::Ordering;
 use std::process::Abort;
 
 fn label(rt: &impl Abort, octets: &'static [u8]) -> Label<'static> {
@@ -42,51 +42,63 @@ fn relative_list<'x>(rt: &impl Abort, labels: &'x [Label<'static>]) -> RelativeL
 }
 
 #[test]
-fn references_to_names_and_chains_that_end_in_messages(rt: HostRuntime) -> Result<(), ShortBuf> {
+fn references_to_names_and_chains_that_end_in_messages(rt: HostRuntime) {
     let others = names_beside(&rt);
     let scattered = parsed(&rt, SCATTERED, 15);
-    every_call_of_absolute(&rt, rt.alloc(), &&scattered, &others, ABSOLUTE, false)?;
+    every_call_of_absolute(&rt, rt.alloc(), &&scattered, &others, ABSOLUTE, false);
     let chain = joined(&rt, b"\x03www", parsed(&rt, SCATTERED, 5));
-    every_call_of_absolute(&rt, rt.alloc(), &chain, &others, ABSOLUTE, false)
+    every_call_of_absolute(&rt, rt.alloc(), &chain, &others, ABSOLUTE, false);
 }
 
 #[test]
-fn references_to_relative_names(rt: HostRuntime) -> Result<(), ShortBuf> {
+fn references_to_relative_names_and_chains_of_two(rt: HostRuntime) {
     let others = relative_names_beside(&rt);
     let flat = relative(&rt, b"\x03www\x07Example");
-    every_call_of_relative(&rt, rt.alloc(), &&flat, &others, RELATIVE, false)
+    every_call_of_relative(&rt, rt.alloc(), &&flat, &others, RELATIVE, false);
+    let chain = relative_joined(&rt, b"\x03www", b"\x07Example");
+    every_call_of_relative(&rt, rt.alloc(), &chain, &others, RELATIVE, false);
 }
 
 #[test]
-fn absolute_names_of_other_types(rt: HostRuntime) -> Result<(), ShortBuf> {
+fn names_beside_chains(rt: HostRuntime) {
+    let flat = absolute(&rt, WWW);
+    let relative_chain = relative_joined(&rt, b"\x03WWW", b"\x07example");
+    assert!(rt; flat.starts_with(&relative_chain) && !flat.ends_with(&relative_chain));
+    assert!(rt; relative(&rt, b"\x03www\x07EXAMPLE").name_eq(&relative_chain));
+    let scattered = parsed(&rt, SCATTERED, 15);
+    let chain = joined(&rt, b"\x03www", parsed(&rt, SCATTERED, 5));
+    assert!(rt; scattered.name_eq(&chain) && scattered.name_cmp(&chain) == Ordering::Equal);
+}
+
+#[test]
+fn absolute_names_of_other_types(rt: HostRuntime) {
     let others = names_beside(&rt);
     let labels = labels_of_www(&rt);
     let list = absolute_list(&rt, &labels);
-    every_call_of_absolute(&rt, rt.alloc(), &list, &others, ABSOLUTE, false)?;
+    every_call_of_absolute(&rt, rt.alloc(), &list, &others, ABSOLUTE, false);
     let numbered = Numbered {
         name: absolute(&rt, WWW),
         number: 1,
     };
-    every_call_of_absolute(&rt, rt.alloc(), &numbered, &others, ABSOLUTE, true)?;
+    every_call_of_absolute(&rt, rt.alloc(), &numbered, &others, ABSOLUTE, true);
     assert_eq!(rt; numbered.number, 1);
-    Ok(())
 }
 
 #[test]
-fn relative_names_of_other_types(rt: HostRuntime) -> Result<(), ShortBuf> {
+fn relative_names_of_other_types(rt: HostRuntime) {
     let others = relative_names_beside(&rt);
     let labels = labels_of_www(&rt);
     let list = relative_list(&rt, &labels[..2]);
-    every_call_of_relative(&rt, rt.alloc(), &list, &others, RELATIVE, false)?;
+    every_call_of_relative(&rt, rt.alloc(), &list, &others, RELATIVE, false);
     let numbered = Numbered {
         name: relative(&rt, b"\x03www\x07Example"),
         number: 1,
     };
-    every_call_of_relative(&rt, rt.alloc(), &numbered, &others, RELATIVE, true)
+    every_call_of_relative(&rt, rt.alloc(), &numbered, &others, RELATIVE, true);
 }
 
 #[test]
-fn chains_of_other_types(rt: HostRuntime) -> Result<(), ShortBuf> {
+fn chains_of_other_types(rt: HostRuntime) {
     let others = names_beside(&rt);
     let labels = labels_of_www(&rt);
     let left = relative_list(&rt, &labels[..2]);
@@ -94,11 +106,10 @@ fn chains_of_other_types(rt: HostRuntime) -> Result<(), ShortBuf> {
     let Ok(chain) = left.chain(right) else {
         panic!(rt; "too long");
     };
-    every_call_of_absolute(&rt, rt.alloc(), &chain, &others, ABSOLUTE, false)?;
+    every_call_of_absolute(&rt, rt.alloc(), &chain, &others, ABSOLUTE, false);
     let (left, right) = chain.unwrap();
     assert_eq!(rt; (left.compose_len(), right.compose_len()), (12, 5));
     assert_eq!(rt; left.chain_root().compose_len(), 13);
-    Ok(())
 }
 
 #[test]
