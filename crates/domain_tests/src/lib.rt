@@ -26,6 +26,8 @@ mod names;
 #[cfg(test)]
 mod paths;
 #[cfg(test)]
+mod refused;
+#[cfg(test)]
 mod room;
 #[cfg(test)]
 mod slow_reader;
