@@ -38,6 +38,8 @@ mod places;
 #[cfg(test)]
 mod records;
 #[cfg(test)]
+mod refused;
+#[cfg(test)]
 mod room;
 #[cfg(test)]
 mod slow_reader;

@@ -1,0 +1,140 @@
+//! Record data, copies and absolute names whose memory is refused.
+//!
+//! As in `memory`, at most one request of a test is refused, whichever it is: so of calls that are made
+//! twice at most one is refused.
+
+use crate::names::relative;
+use arrayvec::ArrayVec;
+use domain::base::name::*;
+use domain::base::rdata::{ComposeRdataError, ComposeRecordData, Rtype, UnknownRecordData};
+use octseq::{EmptyBuilder, Octets, OctetsBuilder, OctetsFrom, ShortBuf};
+use std::alloc::Global;
+use std::process::Abort;
+
+const PRIVATE: u16 = 65280;
+
+const OCTETS: &[u8] = b"\x01\x02\xff";
+
+fn data<'a>(rt: &impl Abort, octets: &'a [u8]) -> UnknownRecordData<&'a [u8]> {
+    match UnknownRecordData::from_octets(Rtype::from_int(PRIVATE), octets) {
+        Ok(data) => data,
+        Err(_) => panic!(rt; "too long"),
+    }
+}
+
+/// Copies record data twice, and tells whether a copy was refused.
+fn copy_data(rt: &impl Abort, alloc: Global) -> bool {
+    let lent = data(rt, OCTETS);
+    let held: Result<UnknownRecordData<Vec<u8>>, ShortBuf> = UnknownRecordData::try_octets_from(
+        alloc, lent,
+    );
+    let Ok(held) = held else {
+        return true;
+    };
+    match held.clone(alloc) {
+        Ok(copy) => {
+            assert_eq!(rt; copy.data().as_slice(), OCTETS);
+            assert_eq!(rt; copy.rtype().to_int(), PRIVATE);
+            false
+        }
+        Err(ShortBuf) => true,
+    }
+}
+
+#[test]
+fn record_data_is_copied_or_refused(rt: HostRuntime) {
+    let first = copy_data(&rt, rt.alloc());
+    let second = copy_data(&rt, rt.alloc());
+    assert!(rt; !first || !second);
+}
+
+#[test]
+fn record_data_in_arrays_is_never_refused_a_copy(rt: HostRuntime) -> Result<(), ShortBuf> {
+    let lent = data(&rt, OCTETS);
+    let held: UnknownRecordData<ArrayVec<u8, 3>> = UnknownRecordData::try_octets_from(
+        rt.alloc(),
+        lent,
+    )?;
+    let copy = held.clone(rt.alloc())?;
+    assert_eq!(rt; copy.data().as_slice(), OCTETS);
+    Ok(())
+}
+
+/// Appends record data with its length to no octets, and tells whether that was refused.
+fn compose_data(rt: &impl Abort, alloc: Global) -> bool {
+    let mut target = Vec::new(alloc);
+    match data(rt, OCTETS).compose_len_rdata(&mut target) {
+        Ok(()) => {
+            assert_eq!(rt; target.as_slice(), b"\0\x03\x01\x02\xff".as_slice());
+            false
+        }
+        Err(ComposeRdataError::Append(ShortBuf)) => {
+            assert!(rt; target.is_empty());
+            true
+        }
+        Err(ComposeRdataError::Long(_)) => panic!(rt; "too long"),
+    }
+}
+
+#[test]
+fn record_data_is_composed_or_refused(rt: HostRuntime) {
+    let first = compose_data(&rt, rt.alloc());
+    let second = compose_data(&rt, rt.alloc());
+    assert!(rt; !first || !second);
+}
+
+/// Copies a relative name twice, makes the copy absolute, and tells whether memory was refused.
+fn make_absolute(rt: &impl Abort, alloc: Global) -> bool {
+    let held: Result<RelativeName<Vec<u8>>, ShortBuf> = RelativeName::try_octets_from(
+        alloc,
+        relative(rt, b"\x03www"),
+    );
+    let Ok(held) = held else {
+        return true;
+    };
+    let Ok(copy) = held.clone(alloc) else {
+        return true;
+    };
+    assert_eq!(rt; copy.as_slice(), b"\x03www".as_slice());
+    match copy.into_absolute() {
+        Ok(name) => {
+            assert_eq!(rt; name.as_slice(), b"\x03www\0".as_slice());
+            false
+        }
+        Err(e) => {
+            assert_eq!(rt; e, PushError::ShortBuf);
+            true
+        }
+    }
+}
+
+#[test]
+fn relative_names_are_copied_and_made_absolute_or_refused(rt: HostRuntime) {
+    let first = make_absolute(&rt, rt.alloc());
+    let second = make_absolute(&rt, rt.alloc());
+    assert!(rt; !first || !second);
+}
+
+/// Makes a relative name absolute in octets that have room for the root, which is never refused, and tells
+/// whether that room was.
+fn make_absolute_in_room(rt: &impl Abort, alloc: Global) -> bool {
+    let Ok(mut octets) = <Vec<u8> as EmptyBuilder>::with_capacity(alloc, 5) else {
+        return true;
+    };
+    assert!(rt; octets.append_slice(b"\x03www").is_ok());
+    let Ok(name) = RelativeName::from_octets(octets) else {
+        panic!(rt; "no relative name");
+    };
+    match name.into_absolute() {
+        Ok(name) => assert_eq!(rt; name.as_slice(), b"\x03www\0".as_slice()),
+        Err(_) => panic!(rt; "no room"),
+    }
+    false
+}
+
+#[test]
+fn the_root_is_never_refused_room_that_is_there(rt: HostRuntime) {
+    let first = make_absolute_in_room(&rt, rt.alloc());
+    let second = make_absolute_in_room(&rt, rt.alloc());
+    assert!(rt; !first || !second);
+}
