@@ -473,17 +473,27 @@ told("cmp", absolute(b"B"), absolute(b"a"), "eq=0 cmp=> composed=< lower=> start
 for one in PARTS:
     for other in PARTS:
         row("relcmp", one, other)
+        row("chainrel", one, b"", other)
+        row("chainrel", b"", one, other)
+        row("chainends", one, b"", other + b"\0")
 for start in PARTS:
     for name in (WWW, b"\0", MIXED, OTHER):
         row("ends", name, start)
         row("chaincmp", start, b"\0", name)
         row("chaincmp", start, absolute(b"com"), name)
+        row("chainends", start, rel(b"com"), name)
     for message, place in PLACED + [(b"123\0", 3)]:
         row("prel", message, place, start)
+        row("pchain", message, place, start, b"\0")
+        row("pchain", message, place, start, absolute(b"COM"))
 for left, right in ((rel(b"www"), rel(b"example", b"com")), (rel(b"wWw"), rel(b"eXAMple", b"coM")), (rel(b"www"), rel(b"3xample", b"com")),
                     (rel(b"www", b"example"), rel(b"com")), (RELATIVE, b""), (b"", RELATIVE), (rel(b"www"), rel(b"example"))):
     for name in (WWW, MIXED, OTHER, b"\0"):
         row("chaincmp", left, right + b"\0", name)
+        row("chainrel", left, right, name[:-1])
+        row("chainends", left, right, name)
+    for message, place in PLACED:
+        row("pchain", message, place, left, right + b"\0")
 for message, place in PLACED + [(b"123\0", 3), (SCATTERED, 5), (SCATTERED, 0), (INSIDE, 0), (INSIDE, 4)]:
     for name in (WWW, MIXED, OTHER, b"\0", WWW[4:], WWW[12:], absolute(b"zz", b"Example", b"com"), absolute(b"\1a\0", b"a")):
         row("pname", message, place, name)

@@ -1,10 +1,13 @@
 //! Chains of two names.
 
 use crate::answer::Answer;
-use crate::compare::put_beside_chain;
+use crate::compare::{
+    put_beside_chain, put_beside_relative_chain, put_ends_beside_chain, put_parsed_beside_chain,
+};
 use crate::fail::Fail;
 use crate::flat::put_stripped;
 use crate::made::{put_chain_forms, put_relative_chain_forms};
+use crate::message::name_at;
 use domain::base::name::*;
 
 type Absolutely<'a> = Chain<RelativeName<&'a [u8]>, Name<&'a [u8]>>;
@@ -139,6 +142,28 @@ pub fn put_chaincmp(out: &mut Answer, left: &[u8], right: &[u8], octets: &[u8]) 
     }
 }
 
+/// `chainrel L R RELATIVE`
+pub fn put_chainrel(out: &mut Answer, left: &[u8], right: &[u8], octets: &[u8]) {
+    let Some(chain) = relative_chain(left, right) else {
+        return out.fail(Fail::Bad);
+    };
+    match RelativeName::from_slice(octets) {
+        Ok(name) => put_beside_relative_chain(out, &chain, &name),
+        Err(_) => out.fail(Fail::Bad),
+    }
+}
+
+/// `chainends L R NAME`
+pub fn put_chainends(out: &mut Answer, left: &[u8], right: &[u8], octets: &[u8]) {
+    let Some(chain) = relative_chain(left, right) else {
+        return out.fail(Fail::Bad);
+    };
+    match Name::from_slice(octets) {
+        Ok(name) => put_ends_beside_chain(out, &name, &chain),
+        Err(_) => out.fail(Fail::Bad),
+    }
+}
+
 /// `chainstrip L R NAME`: the name without the chain at its end.
 pub fn put_chainstrip(out: &mut Answer, left: &[u8], right: &[u8], octets: &[u8]) {
     let Some(chain) = absolute_chain(left, right) else {
@@ -147,5 +172,16 @@ pub fn put_chainstrip(out: &mut Answer, left: &[u8], right: &[u8], octets: &[u8]
     match Name::from_slice(octets) {
         Ok(name) => put_stripped(out, name.strip_suffix(&chain)),
         Err(_) => out.fail(Fail::Bad),
+    }
+}
+
+/// `pchain MSG PLACE L R`
+pub fn put_pchain(out: &mut Answer, message: &[u8], place: usize, left: &[u8], right: &[u8]) {
+    let Some(parsed) = name_at(message, place) else {
+        return out.fail(Fail::Bad);
+    };
+    match absolute_chain(left, right) {
+        Some(chain) => put_parsed_beside_chain(out, &parsed, &chain),
+        None => out.fail(Fail::Bad),
     }
 }

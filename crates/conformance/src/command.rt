@@ -4,7 +4,8 @@ use crate::address::put_address;
 use crate::answer::Answer;
 use crate::building::{put_absolute, put_build, put_buildcap};
 use crate::chains::{
-    put_chain, put_chaincmp, put_chainforms, put_chainstrip, put_chainwalk, put_rooted,
+    put_chain, put_chaincmp, put_chainends, put_chainforms, put_chainrel, put_chainstrip,
+    put_chainwalk, put_pchain, put_rooted,
 };
 use crate::compare::{put_cmp, put_ends, put_pcmp, put_pname, put_prel, put_relcmp};
 use crate::compress::put_compressed;
@@ -120,13 +121,17 @@ fn respond_to_three(fields: Fields<'_>, octets: &[u8], out: &mut Answer) {
     }
 }
 
-/// The word with more fields than others.
+/// The words with more fields than others.
 fn respond_to_many(fields: Fields<'_>, octets: &[u8], out: &mut Answer) {
+    let place = fields.number(2, out);
     fields.expect(5, out);
     if fields.at(0) == b"parser".as_slice() {
-        let begin = fields.number(2, out);
         let end = fields.number(3, out);
-        put_calls(out, octets, begin, end, fields.at(4));
+        put_calls(out, octets, place, end, fields.at(4));
+    } else if fields.at(0) == b"pchain".as_slice() {
+        let left = fields.octets(3, out);
+        let right = fields.octets(4, out);
+        put_pchain(out, octets, place, left.as_slice(), right.as_slice());
     } else {
         out.fail(Fail::Bad);
     }
@@ -268,6 +273,8 @@ fn respond_paired(call: Paired, a: &[u8], b: &[u8], out: &mut Answer) {
 fn respond_joined(call: Joined, a: &[u8], b: &[u8], c: &[u8], out: &mut Answer) {
     match call {
         Joined::Chaincmp => put_chaincmp(out, a, b, c),
+        Joined::Chainrel => put_chainrel(out, a, b, c),
+        Joined::Chainends => put_chainends(out, a, b, c),
         Joined::Chainstrip => put_chainstrip(out, a, b, c),
     }
 }

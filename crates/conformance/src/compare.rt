@@ -201,3 +201,32 @@ pub fn put_beside_chain<'a>(
     out.put(b" / ");
     put_related(out, name, chain);
 }
+
+/// A name in a message and a chain.
+pub fn put_parsed_beside_chain<'a>(
+    out: &mut Answer,
+    parsed: &'a ParsedName<&'a [u8]>,
+    chain: &'a Chain<RelativeName<&'a [u8]>, Name<&'a [u8]>>,
+) {
+    put_related(out, parsed, chain);
+}
+
+/// A chain of relative names and a relative name, on either side.
+pub fn put_beside_relative_chain<'a>(
+    out: &mut Answer,
+    chain: &'a Chain<RelativeName<&'a [u8]>, RelativeName<&'a [u8]>>,
+    name: &'a RelativeName<&'a [u8]>,
+) {
+    put_relative_related(out, chain, name);
+    out.put(b" / ");
+    put_relative_related(out, name, chain);
+}
+
+/// An absolute name and a chain of relative names.
+pub fn put_ends_beside_chain<'a>(
+    out: &mut Answer,
+    name: &'a Name<&'a [u8]>,
+    chain: &'a Chain<RelativeName<&'a [u8]>, RelativeName<&'a [u8]>>,
+) {
+    put_ends_of(out, name, chain);
+}

@@ -7,8 +7,7 @@ use domain::base::cmp::CanonicalOrd;
 use domain::base::name::*;
 use domain::base::net::IpAddr;
 use domain::base::rdata::{
-    ComposeRecordData, LongRecordData, ParseAnyRecordData, ParseRecordData, RecordData, Rtype,
-    UnknownRecordData,
+    ComposeRecordData, LongRecordData, ParseRecordData, RecordData, Rtype, UnknownRecordData,
 };
 use domain::base::wire::{Composer, ParseError};
 use octseq::{EmptyBuilder, Octets, Parser};

@@ -119,6 +119,8 @@ pub enum Paired {
 #[derive(Clone, Copy)]
 pub enum Joined {
     Chaincmp,
+    Chainrel,
+    Chainends,
     Chainstrip,
 }
 
@@ -383,6 +385,12 @@ pub fn find_paired(word: &[u8]) -> Option<Paired> {
 pub fn find_joined(word: &[u8]) -> Option<Joined> {
     if is(word, b"chaincmp") {
         return Some(Joined::Chaincmp);
+    }
+    if is(word, b"chainrel") {
+        return Some(Joined::Chainrel);
+    }
+    if is(word, b"chainends") {
+        return Some(Joined::Chainends);
     }
     if is(word, b"chainstrip") {
         return Some(Joined::Chainstrip);
