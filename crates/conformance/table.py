@@ -686,6 +686,23 @@ for _time in range(160):
     row("rest", message, place, rnd.randrange(5))
     row("pforms", message, place)
 
+topic("a limit on pointers")
+for message, place, limit, answer in (
+    (SCATTERED, 15, 0, "err 15 too many compression pointers"), (SCATTERED, 15, 1, "err 15 too many compression pointers"),
+    (SCATTERED, 15, 2, "ok " + hx(WWW) + " c 21"), (SCATTERED, 15, 3, "ok " + hx(WWW) + " c 21"), (SCATTERED, 15, 255, "ok " + hx(WWW) + " c 21"),
+    (FLAT_POINTER, 0, 0, "ok " + hx(WWW) + " f 17"), (FLAT_POINTER, 17, 0, "err 17 too many compression pointers"),
+    (FLAT_POINTER, 17, 1, "ok " + hx(WWW) + " f 19"),
+    (b"\1a\xc0\0", 0, 3, "err 0 too many compression pointers"), (b"\1a\xc0\0", 0, 126, "err 0 too many compression pointers"),
+    (b"\1a\xc0\0", 0, 127, "err 0 long domain name"), (b"\1a\xc0\0", 0, 255, "err 0 long domain name"),
+    (b"\xc0", 0, 0, "err 0 unexpected end of input"), (b"\xc0\0", 0, 0, "err 0 too many compression pointers"), (b"\0", 0, 0, "ok 00 f 1"),
+    (pointers(256), 509, 255, "ok 00 f 511"), (pointers(256), 509, 254, "err 509 too many compression pointers"),
+    (pointers(256), 511, 255, "err 511 too many compression pointers"), (pointers(256), 1, 1, "ok 00 f 3"),
+    (pointers(256), 1, 0, "err 1 too many compression pointers"),
+    (MOST, 509, 255, "ok " + hx(b"\1a" * 127 + b"\0") + " c 765"), (MOST, 509, 254, "err 509 too many compression pointers"),
+    (b"\0", 0, 256, "bad"), (b"\0", 2, 1, "bad"),
+):
+    own("parselimit", message, place, limit, answer)
+
 topic("names one after another on one target that writes them shorter; the answers are by the definition, from a slow model of it")
 with open(os.path.join(os.path.dirname(os.path.abspath(__file__)), "compress.rows")) as file:
     for line in file:

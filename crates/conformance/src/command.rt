@@ -19,7 +19,7 @@ use crate::labels::{
     put_splitlabel, put_splitmut,
 };
 use crate::made::{put_flat_forms, put_lent_forms, put_parsed_forms, put_relative_flat_forms};
-use crate::message::{put_nparse, put_parse, put_rest, put_skip, put_walk};
+use crate::message::{put_limited, put_nparse, put_parse, put_rest, put_skip, put_walk};
 use crate::numbers::{put_arrays, put_composevec, put_ints, put_signed, put_unsigned, put_whole};
 use crate::octets::{put_append, put_from, put_truncate, put_write};
 use crate::parser::put_calls;
@@ -250,6 +250,7 @@ fn respond_ranged(call: Ranged, octets: &[u8], begin: usize, end: usize, out: &m
         Ranged::Relpart => put_relpart(out, octets, begin, end),
         Ranged::Pcmp => put_pcmp(out, octets, begin, end),
         Ranged::Rest => put_rest(out, octets, begin, end),
+        Ranged::Parselimit => put_limited(out, octets, begin, end),
     }
 }
 

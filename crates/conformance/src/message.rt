@@ -49,6 +49,20 @@ pub fn put_parse(out: &mut Answer, message: &[u8], place: usize, end: usize) {
     }
 }
 
+/// By `parse_with_limit`: as `put_parse`, with so many pointers at most.
+pub fn put_limited(out: &mut Answer, message: &[u8], place: usize, limit: usize) {
+    if limit > 255 {
+        return out.fail(Fail::Bad);
+    }
+    let Some(mut parser) = parser_at(message, place, message.len()) else {
+        return out.fail(Fail::Bad);
+    };
+    match ParsedName::parse_with_limit(&mut parser, limit as u8) {
+        Ok(name) => put_read(out, name, parser.pos()),
+        Err(error) => put_refusal(out, parser.pos(), error),
+    }
+}
+
 fn is_same_read(read: Result<ParsedName<&[u8]>, ParseError>, name: ParsedName<&[u8]>) -> bool {
     match read {
         Ok(same) => same == name && same.is_compressed() == name.is_compressed(),

@@ -96,6 +96,7 @@ pub enum Ranged {
     Relpart,
     Pcmp,
     Rest,
+    Parselimit,
 }
 
 /// `OCTETS OCTETS`
@@ -338,6 +339,9 @@ pub fn find_ranged(word: &[u8]) -> Option<Ranged> {
     }
     if is(word, b"rest") {
         return Some(Ranged::Rest);
+    }
+    if is(word, b"parselimit") {
+        return Some(Ranged::Parselimit);
     }
     None
 }
