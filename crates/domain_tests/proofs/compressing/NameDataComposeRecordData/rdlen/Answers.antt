@@ -1,5 +1,5 @@
 use Rattle.std.proofs.Common.{sym, ◌∙◌}
-use Rattle.domain_flat.proofs.Lowered.{low_size}
+use Rattle.domain_label.proofs.Lowered.{low_size}
 use Rattle.domain_tests.proofs.compressing.NameDataComposeRecordData.rdlen.Goals as goal
 
 pub returns-clause-canonical : goal.returns-clause-canonical
