@@ -26,7 +26,7 @@ mkdir -p "$work/port/crates/dnsspeed"
     cp "$here/port/$file" "$work/port/crates/dnsspeed/${file%.in}"
 done
 grep -q '^dnsspeed ' "$work/port/crates.txt" || echo 'dnsspeed staticlib: arrayvec octseq domain' >> "$work/port/crates.txt"
-(cd "$work/port/crates/dnsspeed" && rt lib)
+(cd "$work/port/crates/dnsspeed" && rt lib >&2)
 lib=$work/port/crates/dnsspeed/out/libdnsspeed.a
 
 # The benchmark, with the Rust crates and that library.
