@@ -1,8 +1,9 @@
 -- What the engines of the program read and write.
-use Rattle.std.specs.Prelude.{ℕ, List, [], ◌∷◌, ◌++◌, Option, Some, None, Result, Ok, Err, ⊤, codes}
+use Rattle.std.specs.Prelude.{ℕ, List, [], ◌∷◌, ◌++◌, Option, Result, Ok, Err, ⊤, codes}
 use Rattle.std.specs.Io.KnownBytes.{Appends}
 use Rattle.domain_wire.specs.declared.error.ParseError.{ParseError}
 use Rattle.domain_wire.specs.Refusals.{refusal, refusal_text}
+use Rattle.domain_builder.specs.Texts.{from_str_text}
 use Rattle.domain_label.specs.Text.{dotted}
 use Rattle.domain_reading.specs.Grammar.{Names}
 pub use Rattle.domain.specs.NameFaults.{NoNameAt, NoNameWithin}
@@ -45,10 +46,10 @@ OnNoWork (Err Read) P = P
 OnNoWork (Err Write) P = ⊤
 OnNoWork (Err Memory) P = ⊤
 
--- what an error shows; of a text's fault nothing is said
-abbrev pub tool_error_text : ToolError → Option (List ℕ)
-tool_error_text (Parse e) = Some (refusal_text (refusal e))
-tool_error_text (Text e) = None
-tool_error_text Read = Some (codes "reading failed")
-tool_error_text Write = Some (codes "writing failed")
-tool_error_text Memory = Some (codes "out of memory")
+-- what an error shows
+abbrev pub tool_error_text : ToolError → List ℕ
+tool_error_text (Parse e) = refusal_text (refusal e)
+tool_error_text (Text e) = from_str_text e
+tool_error_text Read = codes "reading failed"
+tool_error_text Write = codes "writing failed"
+tool_error_text Memory = codes "out of memory"

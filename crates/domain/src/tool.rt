@@ -35,9 +35,10 @@ pub enum ToolError {
 }
 
 impl fmt::Display for ToolError {
+    ghost use Rattle.std.specs.Prelude.{Some};
     ghost use Rattle.domain.specs.Engines.{tool_error_text};
 
-    ghost output = { tool_error_text };
+    ghost output = { λ e. Some (tool_error_text e) };
 
     fn fmt<W: fmt::Write>(&self, f: &mut fmt::Formatter<W>) -> fmt::Result {
         match self {
