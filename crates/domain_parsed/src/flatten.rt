@@ -3,7 +3,7 @@ ghost use Rattle.std.specs.Prelude.{◌≡◌, length};
 ghost use Rattle.domain_label.specs.Wire.{wire};
 ghost use Rattle.domain_name.specs.Names.{name_labels};
 ghost use Rattle.domain_parsed.specs.Views.{parsed_labels};
-ghost use Rattle.domain_traits.specs.Room.{MayLackRoom};
+ghost use Rattle.octseq.specs.Room.{MayLackRoom};
 
 use crate::parsed::ParsedName;
 use domain_name::Name;

@@ -7,7 +7,7 @@ ghost use Rattle.domain_list.specs.Count.{rrsig_labels};
 ghost use Rattle.domain_list.specs.Dotted.{dotted_name};
 ghost use Rattle.domain_list.specs.Order.{order, composed_order, lowercase_composed_order};
 ghost use Rattle.domain_name.specs.Names.{name_labels, name_holder};
-ghost use Rattle.domain_traits.specs.Room.{MayLackRoom};
+ghost use Rattle.octseq.specs.Room.{MayLackRoom};
 
 use crate::building::{lend_or_build, name_of};
 use domain_list::comparing::{

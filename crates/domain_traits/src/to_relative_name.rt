@@ -7,7 +7,7 @@ ghost use Rattle.domain_list.specs.ChainParts.{left_part, right_part};
 ghost use Rattle.domain_list.specs.Chains.{before_root};
 ghost use Rattle.domain_list.specs.Order.{order};
 ghost use Rattle.domain_name.specs.Names.{name_labels, relative_labels, relative_holder};
-ghost use Rattle.domain_traits.specs.Room.{MayLackRoom};
+ghost use Rattle.octseq.specs.Room.{MayLackRoom};
 
 use crate::building::{lend_or_build, relative_name_of};
 use domain_list::comparing::{eq_names, order_names};
