@@ -30,15 +30,15 @@ flat_piece o w =
 pub flat_no_fault : {o : List ℕ} {p : ℕ} {e : NameFault} → IsAbsoluteWire o → p ≡ 0 → Fault 0 o p e → ⊥
 flat_no_fault {o} {e = e} w z f = names_or_fault (flat_named o w) (subst (λ p. Fault 0 o p e) z f)
 
-pub record FlatRead (o : List ℕ) (w : Progress) : Type 0 where
-  pub holds : Holds o w
-  pub same : placed_labels o w.base (slice_range w.places 0 w.count) ≡ labels_in o
+pub record FlatRead (o : List ℕ) (w : Progress) (table : List ℕ) : Type 0 where
+  pub holds : Holds o w table
+  pub same : placed_labels o w.base (slice_range table 0 w.count) ≡ labels_in o
   pub piece : w.compressed ≡ false
 
-pub flat_read : (o : List ℕ) {p : ℕ} {w : Progress} {before now : ℕ} → IsAbsoluteWire o → p ≡ 0 → NameRead 0 o p w before now → FlatRead o w
-flat_read o {w = w} {before} {now} a z read =
-    let r = subst (λ p. NameRead 0 o p w before now) z read in
-    let h : HeldAs o w r.labels = subst (λ m. HeldAs m w r.labels) (append-nil o) (held_more [] r) in
+pub flat_read : (o : List ℕ) {p : ℕ} {w : Progress} {t : List ℕ} {before now : ℕ} → IsAbsoluteWire o → p ≡ 0 → NameRead 0 o p w t before now → FlatRead o w t
+flat_read o {w = w} {t} {before} {now} a z read =
+    let r = subst (λ p. NameRead 0 o p w t before now) z read in
+    let h : HeldAs o w t r.labels = subst (λ m. HeldAs m w t r.labels) (append-nil o) (held_more [] r) in
     record {
       holds = h.holds;
       same = h.same ∙ (reads_once r.name.reads (flat_named o a).reads).1;

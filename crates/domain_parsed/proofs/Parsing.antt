@@ -34,9 +34,9 @@ pub no_skip : {m : List ℕ} {p : ℕ} {d : NameFault} (parser : Parser) → m �
 no_skip {m} {p} {d} parser a b f e x =
     skips_not_both x (subst (λ p. SkipFault (message parser) p d) b (subst (λ m. SkipFault m p d) a f))
 
-pub read_here : {n : ℕ} {m : List ℕ} {p : ℕ} {w : Progress} {before now : ℕ} (parser : Parser) → m ≡ message parser → p ≡ place parser → NameRead n m p w before now → NameRead n (message parser) (place parser) w before now
-read_here {n} {m} {p} {w} {before} {now} parser a b r =
-    subst (λ p. NameRead n (message parser) p w before now) b (subst (λ m. NameRead n m p w before now) a r)
+pub read_here : {n : ℕ} {m : List ℕ} {p : ℕ} {w : Progress} {t : List ℕ} {before now : ℕ} (parser : Parser) → m ≡ message parser → p ≡ place parser → NameRead n m p w t before now → NameRead n (message parser) (place parser) w t before now
+read_here {n} {m} {p} {w} {t} {before} {now} parser a b r =
+    subst (λ p. NameRead n (message parser) p w t before now) b (subst (λ m. NameRead n m p w t before now) a r)
 
 -- ---- the name, in all octets of the slice
 
@@ -44,19 +44,19 @@ slice_more : (m u : List ℕ) (a b : ℕ) → b ≤ length m → slice_range (m 
 slice_more m u a b h = grind (arith, common_steps)
 
 -- what was read in the message stands in octets that go on behind it
-pub record HeldAs (octets : List ℕ) (w : Progress) (labels : List (List ℕ)) : Type 0 where
-  pub holds : Holds octets w
-  pub same : placed_labels octets w.base (slice_range w.places 0 w.count) ≡ labels
+pub record HeldAs (octets : List ℕ) (w : Progress) (table : List ℕ) (labels : List (List ℕ)) : Type 0 where
+  pub holds : Holds octets w table
+  pub same : placed_labels octets w.base (slice_range table 0 w.count) ≡ labels
 
-pub held_more : {n : ℕ} {m : List ℕ} {p : ℕ} {w : Progress} {before now : ℕ} (u : List ℕ) → (r : NameRead n m p w before now) → HeldAs (m ++ u) w r.labels
-held_more {m = m} {w = w} u r =
-    let t = more_stand m u w.base (slice_range w.places 0 w.count) r.stand in
-    let e : placed_labels (m ++ u) w.base (slice_range w.places 0 w.count) ≡ r.labels = t.same ∙ r.table in
+pub held_more : {n : ℕ} {m : List ℕ} {p : ℕ} {w : Progress} {t : List ℕ} {before now : ℕ} (u : List ℕ) → (r : NameRead n m p w t before now) → HeldAs (m ++ u) w t r.labels
+held_more {m = m} {w = w} {t} u r =
+    let more = more_stand m u w.base (slice_range t 0 w.count) r.stand in
+    let e : placed_labels (m ++ u) w.base (slice_range t 0 w.count) ≡ r.labels = more.same ∙ r.placed in
     record {
       holds = record {
         some = r.some;
         few = r.few;
-        stand = t.stand;
+        stand = more.stand;
         absolute = rw e (names_absolute r.name);
         sized = rw e r.sized;
         flat = λ h. rw e (slice_more m u w.base (w.base + (w.len + 1)) (r.inside h) ∙ r.octets h);
@@ -64,9 +64,9 @@ held_more {m = m} {w = w} u r =
       same = e;
     }
 
-pub held : {n : ℕ} {p : ℕ} {w : Progress} {before now : ℕ} (parser : Parser) (octets : List ℕ) → octets ≡ parser.octets.now → (r : NameRead n (message parser) p w before now) → HeldAs octets w r.labels
-held {w = w} parser octets e r =
-    subst (λ o. HeldAs o w r.labels) (take-append-drop parser.end parser.octets.now ∙ sym e) (held_more (drop parser.end parser.octets.now) r)
+pub held : {n : ℕ} {p : ℕ} {w : Progress} {t : List ℕ} {before now : ℕ} (parser : Parser) (octets : List ℕ) → octets ≡ parser.octets.now → (r : NameRead n (message parser) p w t before now) → HeldAs octets w t r.labels
+held {w = w} {t} parser octets e r =
+    subst (λ o. HeldAs o w t r.labels) (take-append-drop parser.end parser.octets.now ∙ sym e) (held_more (drop parser.end parser.octets.now) r)
 
 -- ---- whether it lies in one piece
 
@@ -74,7 +74,7 @@ piece_from : {m : List ℕ} {p b : ℕ} (compressed : Bool) → (compressed ≡ 
 piece_from false scattered base x = refl
 piece_from true scattered base x = absurd (not_in_one_piece base (scattered refl).3 x)
 
-pub piece_tells : {n : ℕ} {m : List ℕ} {p : ℕ} {w : Progress} {before now : ℕ} → NameRead n m p w before now → (w.compressed ≡ false) ↔ LiesInOnePiece m p
+pub piece_tells : {n : ℕ} {m : List ℕ} {p : ℕ} {w : Progress} {t : List ℕ} {before now : ℕ} → NameRead n m p w t before now → (w.compressed ≡ false) ↔ LiesInOnePiece m p
 piece_tells {w = w} r = (
   λ h. let f = r.in_one_piece h in (w.base, f.0, f.1, r.base, f.2),
   λ x. piece_from w.compressed r.scattered r.base x,
@@ -101,7 +101,7 @@ plainly_front {parser} {ls} x =
     (a.0, subst (λ p. Front (message parser) p a.0 stop_root (p + length (wire ls))) (sym x.here) (subst (λ m. Front m (length x.before) a.0 stop_root (length x.before + length (wire ls))) (sym x.octets) a.1))
 
 -- a name that lies plainly is read, lies in one piece, and the parser is moved behind it
-pub plainly_read : {n : ℕ} {parser : Parser} {ls : List (List ℕ)} {w : Progress} {before now : ℕ} → LiesPlainly parser ls → (r : NameRead n (message parser) (place parser) w before now) → (r.labels ≡ ls) × (w.compressed ≡ false) × (unwrap_or w.end (w.at + 1) ≡ place parser + length (wire ls))
+pub plainly_read : {n : ℕ} {parser : Parser} {ls : List (List ℕ)} {w : Progress} {t : List ℕ} {before now : ℕ} → LiesPlainly parser ls → (r : NameRead n (message parser) (place parser) w t before now) → (r.labels ≡ ls) × (w.compressed ≡ false) × (unwrap_or w.end (w.at + 1) ≡ place parser + length (wire ls))
 plainly_read {n} {parser} {w = w} x r =
     let f = plainly_front x in (
       (reads_once r.name.reads (plainly_named n x).reads).1,
@@ -111,7 +111,7 @@ plainly_read {n} {parser} {w = w} x r =
 
 -- ---- how many heads were counted
 
-pub name_counted : {n : ℕ} {m : List ℕ} {p : ℕ} {w : Progress} {before now : ℕ} {ls : List (List ℕ)} (r : NameRead n m p w before now) → r.labels ≡ ls → CountsName n m p ls before now
+pub name_counted : {n : ℕ} {m : List ℕ} {p : ℕ} {w : Progress} {t : List ℕ} {before now : ℕ} {ls : List (List ℕ)} (r : NameRead n m p w t before now) → r.labels ≡ ls → CountsName n m p ls before now
 name_counted {n} {m} {p} {before = before} {now} r e = subst (λ ls. CountsName n m p ls before now) e (r.name, r.counted)
 
 pub fault_counted : {T : Type 0} {n : ℕ} {m : List ℕ} {p : ℕ} {d : NameFault} (Q : T → Type 0) (before now : ℕ) (parser : Parser) (r : Result T ParseError) → m ≡ message parser → p ≡ place parser → IsErr r → IsErrAnd r (λ e. refusal e ≡ told d)

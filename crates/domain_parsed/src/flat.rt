@@ -6,16 +6,18 @@ ghost use Rattle.domain_reading.specs.Places.{placed_labels};
 
 use domain_reading::alone::read_name;
 use domain_reading::progress::Progress;
+use domain_reading::standing::MAX_LABELS;
 
-/// Finds the labels of a flat name. A name in one piece has no pointer.
-pub(crate) fn read_flat(octets: &[u8]) -> Progress
+/// Finds the labels of a flat name, and puts their places at the beginning of the table. A name in one piece has no
+/// pointer.
+pub(crate) fn read_flat(octets: &[u8], places: &mut [u16; MAX_LABELS]) -> Progress
     requires { IsAbsoluteWire octets.now }
-    ensures held { Holds octets.now result }
-    ensures labels { placed_labels octets.now result.base (slice_range result.places 0 result.count) ≡ labels_in octets.now }
+    ensures held { Holds octets.now result places.new }
+    ensures labels { placed_labels octets.now result.base (slice_range places.new 0 result.count) ≡ labels_in octets.now }
     ensures in_one_piece { result.compressed ≡ false }
 {
     let mut progress = Progress::new(0);
-    let Ok(()) = read_name(octets, &mut progress, 0) else {
+    let Ok(()) = read_name(octets, &mut progress, places, 0) else {
         unreachable!();
     };
     progress

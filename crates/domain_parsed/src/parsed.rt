@@ -114,15 +114,16 @@ impl<'a> ParsedName<&'a [u8]> {
         ensures unchanged { OnErr result (parser.new ≡ parser.old) }
     {
         // This is `parse_with_limit` at 255, written out: a call between would copy the table once more.
+        let mut places = [0; MAX_LABELS];
         let mut progress = Progress::new(parser.pos());
-        read_name(parser.as_slice(), &mut progress, MAX_POINTERS)?;
+        read_name(parser.as_slice(), &mut progress, &mut places, MAX_POINTERS)?;
         let Ok(()) = parser.seek(progress.place_behind()) else {
             unreachable!();
         };
         Ok(ParsedName {
             octets: parser.octets_ref(),
             base: progress.base,
-            places: progress.places,
+            places,
             count: progress.count,
             dropped: 0,
             passed: 0,
@@ -161,12 +162,13 @@ impl<'a> ParsedName<&'a [u8]> {
         ensures refused { IfErr result (λ e. TellsFault limit parser.old e) }
         ensures unchanged { OnErr result (parser.new ≡ parser.old) }
     {
+        let mut places = [0; MAX_LABELS];
         let mut found = Progress::new(parser.pos());
-        read_name(parser.as_slice(), &mut found, limit)?;
+        read_name(parser.as_slice(), &mut found, &mut places, limit)?;
         let Ok(()) = parser.seek(found.place_behind()) else {
             unreachable!();
         };
-        Ok(ParsedName::of(parser.octets_ref(), &found))
+        Ok(ParsedName::of(parser.octets_ref(), &found, places))
     }
 
     /// The same as `parse_with_limit`, with the heads that are read counted: those of labels, of pointers and
@@ -188,12 +190,13 @@ impl<'a> ParsedName<&'a [u8]> {
         ensures counted { MatchResult result (λ name. CountsName limit (message parser.old) (place parser.old) (parsed_labels name) heads.old heads.new) (λ e. CountsFault limit (message parser.old) (place parser.old) (refusal e) heads.old heads.new) }
         ensures few_heads { heads.new ≤ heads.old + 128 + limit }
     {
+        let mut places = [0; MAX_LABELS];
         let mut found = Progress::new(parser.pos());
-        read_name_counted(parser.as_slice(), &mut found, limit, heads)?;
+        read_name_counted(parser.as_slice(), &mut found, &mut places, limit, heads)?;
         let Ok(()) = parser.seek(found.place_behind()) else {
             unreachable!();
         };
-        Ok(ParsedName::of(parser.octets_ref(), &found))
+        Ok(ParsedName::of(parser.octets_ref(), &found, places))
     }
 
     /// Moves the parser behind the root or the first pointer of the name at its place.
@@ -217,6 +220,7 @@ impl<'a> ParsedName<&'a [u8]> {
     ///     Ok(())
     /// }
     /// ```
+    #[inline(always)]
     pub fn skip(parser: &mut Parser<'a>) -> Result<(), ParseError>
         ensures exact { IsOk result ↔ ((e : ℕ) × Skips (message parser.old) (place parser.old) e) }
         ensures moves { OnOk result (SkipsFront parser.old parser.new) }
@@ -242,16 +246,16 @@ impl<Octs: Octets> ParsedName<Octs> {
 
     /// The name whose labels were found in these octets.
     #[inline(always)]
-    fn of(octets: Octs, found: &Progress) -> Self
-        requires { Holds (Octs.octets octets) found.now }
+    fn of(octets: Octs, found: &Progress, places: [u16; MAX_LABELS]) -> Self
+        requires { Holds (Octs.octets octets) found.now places }
         ensures octets { parsed_octets result ≡ Octs.octets octets }
-        ensures labels { parsed_labels result ≡ placed_labels (Octs.octets octets) found.now.base (slice_range found.now.places 0 found.now.count) }
+        ensures labels { parsed_labels result ≡ placed_labels (Octs.octets octets) found.now.base (slice_range places 0 found.now.count) }
         ensures scattered { is_scattered result ≡ found.now.compressed }
     {
         ParsedName {
             octets,
             base: found.base,
-            places: found.places,
+            places,
             count: found.count,
             dropped: 0,
             passed: 0,
@@ -474,8 +478,9 @@ impl<Octs: Octets> From<Name<Octs>> for ParsedName<Octs> {
     ghost from_gives = { λ flat name. (parsed_octets name ≡ name_octets flat) × (parsed_labels name ≡ name_labels flat) × (is_scattered name ≡ false) };
 
     fn from(flat: Name<Octs>) -> ParsedName<Octs> {
-        let progress = read_flat(flat.as_slice());
-        ParsedName::of(flat.into_octets(), &progress)
+        let mut places = [0; MAX_LABELS];
+        let progress = read_flat(flat.as_slice(), &mut places);
+        ParsedName::of(flat.into_octets(), &progress, places)
     }
 }
 

@@ -11,7 +11,7 @@ use Rattle.domain_reading.specs.Outcomes.{NameRead}
 use Rattle.domain_reading.specs.declared.progress.Progress.{Progress}
 use Rattle.domain_label.proofs.WireLaws.{length-wire_append}
 use Rattle.domain_reading.proofs.Walking.{walk_reads}
-use Rattle.domain_reading.specs.Progress.{noted, entry_of}
+use Rattle.domain_reading.specs.Progress.{noted, table_noted, entry_of}
 use Rattle.domain_reading.specs.Places.{placed_labels, AreLabelPlaces}
 use Rattle.domain_reading.proofs.Places.{note, root_place, place_next}
 use Rattle.domain_reading.proofs.Going.{Going, Goes, leads_base}
@@ -20,7 +20,7 @@ use Rattle.domain_reading.proofs.Naming.{flat_wire}
 no_pointer : {m : List ℕ} {p q : ℕ} → OctetAt m p 0 → PointerAt m p q → ⊥
 no_pointer x y = omega arith
 
-last_base : {n : ℕ} {m : List ℕ} {p : ℕ} {w : Progress} {fs : List (List ℕ)} → Going n m p w fs → OctetAt m w.at 0 → (q : ℕ) → PointerAt m w.base q → w.base ≤ q
+last_base : {n : ℕ} {m : List ℕ} {p : ℕ} {w : Progress} {es : List ℕ} {fs : List (List ℕ)} → Going n m p w es fs → OctetAt m w.at 0 → (q : ℕ) → PointerAt m w.base q → w.base ≤ q
 last_base {m = m} {w = w} g x q y = elim (cases_lt 0 w.len) [
   | inl some ↦ g.last some q y
   | inr none ↦ absurd (no_pointer x (subst (λ b. PointerAt m b q) (g.near (omega arith)) y))
@@ -30,25 +30,25 @@ end_from : {m : List ℕ} {r : ℕ} (p : ℕ) (fs : List (List ℕ)) (end : Opti
 end_from {r = r} p fs None a x = (fs, stop_root, record { stop = r; flat = a; ends = (x, refl) })
 end_from p fs (Some e) a x = (a.0, stop_pointer a.1, a.2)
 
-pub name_read : {n : ℕ} {m : List ℕ} {p : ℕ} {w : Progress} (before heads now : ℕ) → Goes n m p w before heads → OctetAt m w.at 0 → now ≡ heads + 1 → NameRead n m p (noted w) before now
-name_read {n} {m} {p} {w} before heads now g x count =
+pub name_read : {n : ℕ} {m : List ℕ} {p : ℕ} {w : Progress} {es : List ℕ} (before heads now : ℕ) → Goes n m p w es before heads → OctetAt m w.at 0 → now ≡ heads + 1 → NameRead n m p (noted w) (table_noted w es) before now
+name_read {n} {m} {p} {w} {es} before heads now g x count =
     let fs = g.0 in
     let going = g.1 in
     let r : Reads m p (w.pointers + 0) (fs ++ Root) = walk_reads going.walk (root x) in
     let len : length (wire (fs ++ Root)) ≡ w.len + 1 = omega (arith, length-wire_append fs Root, going.len) in
     let place = root_place m w.at x in
-    let t = note (entry_of w) going.table (place_next w.base w.at w.len w.compressed going.short going.near_at) place.0 place.1 (omega (arith, going.table.count, going.few_labels, going.short)) in
-    let all : take (w.count + 1) (set w.places w.count (entry_of w)) ≡ slice_range (set w.places w.count (entry_of w)) 0 (w.count + 1) = grind (arith, common_steps) in
+    let t = note (entry_of w) going.noted (place_next w.base w.at w.len w.compressed going.short going.near_at) place.0 place.1 (omega (arith, going.noted.count, going.few_labels, going.short)) in
+    let all : take (w.count + 1) (set es w.count (entry_of w)) ≡ slice_range (set es w.count (entry_of w)) 0 (w.count + 1) = grind (arith, common_steps) in
     record {
       labels = fs ++ Root;
       name = record { pointers = w.pointers + 0; reads = r; few_pointers = omega (arith, going.few_pointers); short = omega (arith, len, going.short) };
       counted = omega (arith, count, g.2, length-append fs Root);
       ends = end_from p fs w.end going.front x;
       base = leads_base going.leads (here (last_base going x));
-      table = ap (λ es. placed_labels m w.base es) (sym all) ∙ t.table;
+      placed = ap (λ es. placed_labels m w.base es) (sym all) ∙ t.table;
       stand = subst (λ es. AreLabelPlaces m w.base es) all t.stand;
       some = omega arith;
-      few = omega (arith, going.table.count, going.few_labels, going.short);
+      few = omega (arith, going.noted.count, going.few_labels, going.short);
       sized = sym len;
       in_one_piece = λ h. (fs, w.at + 1, record { stop = w.at; flat = going.flat h; ends = (x, refl) });
       scattered = going.scattered;

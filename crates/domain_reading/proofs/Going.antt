@@ -10,7 +10,7 @@ use Rattle.domain_reading.specs.Heads.{BrokenAt}
 use Rattle.domain_reading.specs.declared.fault.NameFault.{NameFault}
 use Rattle.domain_reading.specs.declared.fault.NameFault.TheVariants.{ShortInput, BadLabelType, TooManyPointers, LongName}
 use Rattle.domain_reading.specs.Grammar.Stop.{pointer}
-use Rattle.domain_reading.specs.Progress.{beginning, entry_of, label_passed, pointer_followed}
+use Rattle.domain_reading.specs.Progress.{beginning, entry_of, table_noted, label_passed, pointer_followed}
 use Rattle.domain_reading.specs.declared.progress.Progress.{Progress}
 use Rattle.domain_label.proofs.WireLaws.{length-wire_append, nil_from_wire}
 use Rattle.domain_reading.proofs.Places.{Noted, note, no_label, label_place, place_next}
@@ -25,7 +25,7 @@ pub leads_base : {m : List ℕ} {p r b : ℕ} → Leads m p r → Base m r b →
 leads_base here b = b
 leads_base (past w x lt) b = leads_base w (base_past x lt b)
 
-pub record Going (n : ℕ) (m : List ℕ) (p : ℕ) (w : Progress) (fs : List (List ℕ)) : Type 0 where
+pub record Going (n : ℕ) (m : List ℕ) (p : ℕ) (w : Progress) (table : List ℕ) (fs : List (List ℕ)) : Type 0 where
   pub walk : Walk n m p w.pointers fs w.at
   pub len : w.len ≡ length (wire fs)
   pub short : w.len ≤ 254
@@ -37,7 +37,7 @@ pub record Going (n : ℕ) (m : List ℕ) (p : ℕ) (w : Progress) (fs : List (L
   pub last : 0 < w.len → (q : ℕ) → PointerAt m w.base q → w.base ≤ q
   pub front : MatchOption w.end (Flat m p fs w.at) (λ e. (gs : List (List ℕ)) × (q : ℕ) × Front m p gs (pointer q) e)
   pub flat : w.compressed ≡ false → Flat m w.base fs w.at
-  pub table : Noted m w.base w.places w.count fs
+  pub noted : Noted m w.base table w.count fs
   pub near_at : w.compressed ≡ false → w.at ≡ w.base + w.len
   pub far_at : w.compressed ≡ true → w.at ≤ 16383 + w.len
   pub scattered : w.compressed ≡ true → (gs : List (List ℕ)) × (q : ℕ) × (e : ℕ) × Front m w.base gs (pointer q) e
@@ -63,7 +63,7 @@ scattered_now : {m : List ℕ} {r q : ℕ} (b : ℕ) (fs : List (List ℕ)) (com
 scattered_now {r = r} {q} b fs false flat scattered x = (fs, q, r + 2, record { stop = r; flat = flat refl; ends = (x, refl) })
 scattered_now b fs true flat scattered x = scattered refl
 
-pub going_start : (n : ℕ) (m : List ℕ) (p : ℕ) (es : List ℕ) → length es ≡ 128 → Going n m p (beginning p es) []
+pub going_start : (n : ℕ) (m : List ℕ) (p : ℕ) (es : List ℕ) → length es ≡ 128 → Going n m p (beginning p) es []
 going_start n m p es room = record {
   walk = start;
   len = refl;
@@ -76,14 +76,14 @@ going_start n m p es room = record {
   last = λ h. absurd (omega arith);
   front = refl;
   flat = λ _. refl;
-  table = no_label m p es room;
+  noted = no_label m p es room;
   near_at = λ _. omega arith;
   far_at = λ h. cc;
   scattered = λ h. cc;
 }
 
-pub going_label : {n : ℕ} {m : List ℕ} {p : ℕ} {w : Progress} {fs : List (List ℕ)} {l : List ℕ} → Going n m p w fs → LabelAt m w.at l → w.len + 1 + length l ≤ 254 → Going n m p (label_passed w (length l)) (fs ++ l ∷ [])
-going_label {m = m} {p} {w} {fs} {l} g x short = record {
+pub going_label : {n : ℕ} {m : List ℕ} {p : ℕ} {w : Progress} {es : List ℕ} {fs : List (List ℕ)} {l : List ℕ} → Going n m p w es fs → LabelAt m w.at l → w.len + 1 + length l ≤ 254 → Going n m p (label_passed w (length l)) (table_noted w es) (fs ++ l ∷ [])
+going_label {m = m} {p} {w} {es} {fs} {l} g x short = record {
   walk = past_label g.walk x (omega (arith, g.len));
   len = omega (arith, g.len, length-wire_append fs (l ∷ []), length-append l []);
   short = omega arith;
@@ -98,15 +98,15 @@ going_label {m = m} {p} {w} {fs} {l} g x short = record {
   ];
   front = match_none _ w.end (λ a. flat_label fs p a x) g.front;
   flat = λ h. flat_label fs w.base (g.flat h) x;
-  table = let p = label_place m l w.at x in note (entry_of w) g.table (place_next w.base w.at w.len w.compressed g.short g.near_at) p.0 p.1 (omega (arith, g.table.count, g.few_labels, g.short));
+  noted = let p = label_place m l w.at x in note (entry_of w) g.noted (place_next w.base w.at w.len w.compressed g.short g.near_at) p.0 p.1 (omega (arith, g.noted.count, g.few_labels, g.short));
   near_at = λ h. omega (arith, g.near_at h);
   far_at = λ h. omega (arith, g.far_at h);
   scattered = g.scattered;
 }
 
-going_first : {n : ℕ} {m : List ℕ} {p : ℕ} {w : Progress} {fs : List (List ℕ)} {q : ℕ} → Going n m p w fs → PointerAt m w.at q → q < w.at → w.pointers < n → w.len ≡ 0
-    → Going n m p (record { at = q; base = q; len = w.len; pointers = w.pointers + 1; compressed = w.compressed; end = Some (unwrap_or w.end (w.at + 2)); count = w.count; places = w.places }) fs
-going_first {m = m} {p} {w} {fs} {q} g x back few none =
+going_first : {n : ℕ} {m : List ℕ} {p : ℕ} {w : Progress} {es : List ℕ} {fs : List (List ℕ)} {q : ℕ} → Going n m p w es fs → PointerAt m w.at q → q < w.at → w.pointers < n → w.len ≡ 0
+    → Going n m p (record { at = q; base = q; len = w.len; pointers = w.pointers + 1; compressed = w.compressed; end = Some (unwrap_or w.end (w.at + 2)); count = w.count }) es fs
+going_first {m = m} {p} {w} {es} {fs} {q} g x back few none =
     let e : fs ≡ [] = nil_from_wire fs (sym g.len ∙ none) in
     record {
       walk = rw add-one (past_pointer g.walk x back (omega arith));
@@ -120,15 +120,15 @@ going_first {m = m} {p} {w} {fs} {q} g x back few none =
       last = λ h. absurd (omega arith);
       front = front_pointer p fs w.end g.front x;
       flat = λ _. subst (λ xs. Flat m q xs q) (sym e) refl;
-      table = let z : w.count ≡ 0 = g.table.count ∙ ap (λ xs. length xs) e in rw (z, e) (no_label m q w.places g.table.room);
+      noted = let z : w.count ≡ 0 = g.noted.count ∙ ap (λ xs. length xs) e in rw (z, e) (no_label m q es g.noted.room);
       near_at = λ _. omega (arith, none);
       far_at = λ h. absurd (false≢true (sym (g.plain none) ∙ h));
       scattered = λ h. absurd (false≢true (sym (g.plain none) ∙ h));
     }
 
-going_later : {n : ℕ} {m : List ℕ} {p : ℕ} {w : Progress} {fs : List (List ℕ)} {q : ℕ} → Going n m p w fs → PointerAt m w.at q → q < 2 ^ 14 → q < w.at → w.pointers < n → w.len ≢ 0
-    → Going n m p (record { at = q; base = w.base; len = w.len; pointers = w.pointers + 1; compressed = true; end = Some (unwrap_or w.end (w.at + 2)); count = w.count; places = w.places }) fs
-going_later {m = m} {p} {w} {fs} {q} g x low back few some = record {
+going_later : {n : ℕ} {m : List ℕ} {p : ℕ} {w : Progress} {es : List ℕ} {fs : List (List ℕ)} {q : ℕ} → Going n m p w es fs → PointerAt m w.at q → q < 2 ^ 14 → q < w.at → w.pointers < n → w.len ≢ 0
+    → Going n m p (record { at = q; base = w.base; len = w.len; pointers = w.pointers + 1; compressed = true; end = Some (unwrap_or w.end (w.at + 2)); count = w.count }) es fs
+going_later {m = m} {p} {w} {es} {fs} {q} g x low back few some = record {
   walk = rw add-one (past_pointer g.walk x back (omega arith));
   len = g.len;
   short = g.short;
@@ -140,30 +140,30 @@ going_later {m = m} {p} {w} {fs} {q} g x low back few some = record {
   last = g.last;
   front = front_pointer p fs w.end g.front x;
   flat = λ h. absurd (true≢false h);
-  table = g.table;
+  noted = g.noted;
   near_at = λ h. absurd (true≢false h);
   far_at = λ _. omega (arith, low);
   scattered = λ _. scattered_now w.base fs w.compressed g.flat g.scattered x;
 }
 
-pub going_pointer : {n : ℕ} {m : List ℕ} {p : ℕ} {w : Progress} {fs : List (List ℕ)} {q : ℕ} → Going n m p w fs → PointerAt m w.at q → q < 2 ^ 14 → q < w.at → w.pointers < n → Going n m p (pointer_followed w q) fs
+pub going_pointer : {n : ℕ} {m : List ℕ} {p : ℕ} {w : Progress} {es : List ℕ} {fs : List (List ℕ)} {q : ℕ} → Going n m p w es fs → PointerAt m w.at q → q < 2 ^ 14 → q < w.at → w.pointers < n → Going n m p (pointer_followed w q) es fs
 going_pointer {w = w} g x low back few = elim (eqb_tells w.len 0) [
   | inl none ↦ rw none.0 (going_first g x back few none.1)
   | inr some ↦ rw some.0 (going_later g x low back few some.1)
 ]
 
 -- what was passed so far, with a head counted for each label and each pointer
-abbrev pub Goes : ℕ → List ℕ → ℕ → Progress → ℕ → ℕ → Type 0
-Goes n m p w before now = (passed : List (List ℕ)) × Going n m p w passed × (now ≡ before + length passed + w.pointers)
+abbrev pub Goes : ℕ → List ℕ → ℕ → Progress → List ℕ → ℕ → ℕ → Type 0
+Goes n m p w table before now = (passed : List (List ℕ)) × Going n m p w table passed × (now ≡ before + length passed + w.pointers)
 
-pub goes_start : (n : ℕ) (m : List ℕ) (p heads : ℕ) {w : Progress} → w ≡ beginning p w.places → length w.places ≡ 128 → Goes n m p w heads heads
-goes_start n m p heads {w} e room = subst (λ w. Goes n m p w heads heads) (sym e) ([], going_start n m p w.places room, omega arith)
+pub goes_start : (n : ℕ) (m : List ℕ) (p heads : ℕ) {w : Progress} {es : List ℕ} → w ≡ beginning p → length es ≡ 128 → Goes n m p w es heads heads
+goes_start n m p heads {es = es} e room = subst (λ w. Goes n m p w es heads heads) (sym e) ([], going_start n m p es room, omega arith)
 
-pub goes_label : {n : ℕ} {m : List ℕ} {p : ℕ} {w w' : Progress} (before heads now o : ℕ) → Goes n m p w before heads → (l : List ℕ) × (length l ≡ o) × LabelAt m w.at l → w.len + 1 + o ≤ 254 → w' ≡ label_passed w o → now ≡ heads + 1 → Goes n m p w' before now
+pub goes_label : {n : ℕ} {m : List ℕ} {p : ℕ} {w w' : Progress} {es es' : List ℕ} (before heads now o : ℕ) → Goes n m p w es before heads → (l : List ℕ) × (length l ≡ o) × LabelAt m w.at l → w.len + 1 + o ≤ 254 → (w' ≡ label_passed w o) × (es' ≡ table_noted w es) → now ≡ heads + 1 → Goes n m p w' es' before now
 goes_label {w = w} before heads now o g x short e count =
-    rw e (rw (← x.1) (g.0 ++ x.0 ∷ [], going_label g.1 x.2 (omega (arith, x.1)), omega (arith, g.2, length-append g.0 (x.0 ∷ []))))
+    rw (e.0, e.1) (rw (← x.1) (g.0 ++ x.0 ∷ [], going_label g.1 x.2 (omega (arith, x.1)), omega (arith, g.2, length-append g.0 (x.0 ∷ []))))
 
-pub goes_pointer : {n : ℕ} {m : List ℕ} {p : ℕ} {w w' : Progress} {q : ℕ} (before heads now : ℕ) → Goes n m p w before heads → PointerAt m w.at q × (q < 2 ^ 14) → (q < w.at) × (w.pointers < n) → w' ≡ pointer_followed w q → now ≡ heads + 1 → Goes n m p w' before now
+pub goes_pointer : {n : ℕ} {m : List ℕ} {p : ℕ} {w w' : Progress} {es : List ℕ} {q : ℕ} (before heads now : ℕ) → Goes n m p w es before heads → PointerAt m w.at q × (q < 2 ^ 14) → (q < w.at) × (w.pointers < n) → w' ≡ pointer_followed w q → now ≡ heads + 1 → Goes n m p w' es before now
 goes_pointer before heads now g x back e count = rw e (g.0, going_pointer g.1 x.0 x.1 back.0 back.1, omega (arith, g.2))
 
 pub broken_fault : (n : ℕ) (m : List ℕ) (r k : ℕ) (fs : List (List ℕ)) (e : NameFault) → BrokenAt m r e → FaultAt n m k fs r e
@@ -172,16 +172,16 @@ broken_fault n m r k fs BadLabelType b = b
 broken_fault n m r k fs TooManyPointers b = absurd b
 broken_fault n m r k fs LongName b = absurd b
 
-pub goes_fault : {n : ℕ} {m : List ℕ} {p : ℕ} {w : Progress} {e : NameFault} (before heads now : ℕ) → (g : Goes n m p w before heads) → FaultAt n m w.pointers g.0 w.at e → now ≡ heads + 1 → (f : Fault n m p e) × (now ≡ before + length f.passed + f.pointers + 1)
+pub goes_fault : {n : ℕ} {m : List ℕ} {p : ℕ} {w : Progress} {es : List ℕ} {e : NameFault} (before heads now : ℕ) → (g : Goes n m p w es before heads) → FaultAt n m w.pointers g.0 w.at e → now ≡ heads + 1 → (f : Fault n m p e) × (now ≡ before + length f.passed + f.pointers + 1)
 goes_fault {w = w} before heads now g f count =
     (record { pointers = w.pointers; passed = g.0; stopped = w.at; walk = g.1.walk; at = f }, omega (arith, g.2))
 
-pub long_fault : {n : ℕ} {m : List ℕ} {p : ℕ} {w : Progress} {fs : List (List ℕ)} {e : NameFault} (o : ℕ) → Going n m p w fs → (l : List ℕ) × (length l ≡ o) × LabelAt m w.at l → (e ≡ LongName) × (254 < w.len + 1 + o) → FaultAt n m w.pointers fs w.at e
+pub long_fault : {n : ℕ} {m : List ℕ} {p : ℕ} {w : Progress} {es : List ℕ} {fs : List (List ℕ)} {e : NameFault} (o : ℕ) → Going n m p w es fs → (l : List ℕ) × (length l ≡ o) × LabelAt m w.at l → (e ≡ LongName) × (254 < w.len + 1 + o) → FaultAt n m w.pointers fs w.at e
 long_fault {w = w} o g x long = rw long.0 (x.0, x.2, omega (arith, g.len, x.1, long.1))
 
 pub follow_fault : {n : ℕ} {m : List ℕ} {r k q : ℕ} {e : NameFault} (fs : List (List ℕ)) → PointerAt m r q × (q < 2 ^ 14) → (e ≡ TooManyPointers) × ((r ≤ q) ⊎ (k ≡ n)) → FaultAt n m k fs r e
 follow_fault {q = q} fs x bad = rw bad.0 (q, x.0, bad.1)
 
 -- no more heads than 127 labels, n pointers and one
-pub goes_few : {n : ℕ} {m : List ℕ} {p : ℕ} {w : Progress} (before heads : ℕ) → Goes n m p w before heads → heads + 1 ≤ before + 128 + n
+pub goes_few : {n : ℕ} {m : List ℕ} {p : ℕ} {w : Progress} {es : List ℕ} (before heads : ℕ) → Goes n m p w es before heads → heads + 1 ≤ before + 128 + n
 goes_few before heads g = omega (arith, g.2, g.1.short, g.1.few_labels, g.1.few_pointers)

@@ -48,15 +48,16 @@ CountsName n m p ls before now = (name : Names n m p ls) × (now ≡ before + le
 abbrev pub CountsFault : ℕ → List ℕ → ℕ → Refusal → ℕ → ℕ → Type 0
 CountsFault n m p r before now = (f : NameFault) × (r ≡ told f) × (fault : Fault n m p f) × (now ≡ before + length fault.passed + fault.pointers + 1)
 
--- The name at p was read, of at most n pointers, with a head counted for each label and each pointer.
-pub record NameRead (n : ℕ) (m : List ℕ) (p : ℕ) (w : Progress) (before now : ℕ) : Type 0 where
+-- The name at p was read, of at most n pointers, with a head counted for each label and each pointer. The table has the
+-- places of its labels.
+pub record NameRead (n : ℕ) (m : List ℕ) (p : ℕ) (w : Progress) (table : List ℕ) (before now : ℕ) : Type 0 where
   pub labels : List (List ℕ)
   pub name : Names n m p labels
   pub counted : now ≡ before + length labels + name.pointers
   pub ends : EndsBefore m p (unwrap_or w.end (w.at + 1))
   pub base : Base m p w.base
-  pub table : placed_labels m w.base (slice_range w.places 0 w.count) ≡ labels
-  pub stand : AreLabelPlaces m w.base (slice_range w.places 0 w.count)
+  pub placed : placed_labels m w.base (slice_range table 0 w.count) ≡ labels
+  pub stand : AreLabelPlaces m w.base (slice_range table 0 w.count)
   pub some : 0 < w.count
   pub few : w.count ≤ 128
   pub sized : w.len + 1 ≡ length (wire labels)
@@ -65,11 +66,11 @@ pub record NameRead (n : ℕ) (m : List ℕ) (p : ℕ) (w : Progress) (before no
   pub inside : w.compressed ≡ false → w.base + (w.len + 1) ≤ length m
   pub octets : w.compressed ≡ false → slice_range m w.base (w.base + (w.len + 1)) ≡ wire labels
 
--- The labels whose places w's table has stand in the octets o, which may go on behind the message, and are a name.
-pub record Holds (o : List ℕ) (w : Progress) : Type 0 where
+-- The labels whose places the table has stand in the octets o, which may go on behind the message, and are a name.
+pub record Holds (o : List ℕ) (w : Progress) (table : List ℕ) : Type 0 where
   pub some : 0 < w.count
   pub few : w.count ≤ 128
-  pub stand : AreLabelPlaces o w.base (slice_range w.places 0 w.count)
-  pub absolute : IsAbsoluteName (placed_labels o w.base (slice_range w.places 0 w.count))
-  pub sized : w.len + 1 ≡ length (wire (placed_labels o w.base (slice_range w.places 0 w.count)))
-  pub flat : w.compressed ≡ false → slice_range o w.base (w.base + (w.len + 1)) ≡ wire (placed_labels o w.base (slice_range w.places 0 w.count))
+  pub stand : AreLabelPlaces o w.base (slice_range table 0 w.count)
+  pub absolute : IsAbsoluteName (placed_labels o w.base (slice_range table 0 w.count))
+  pub sized : w.len + 1 ≡ length (wire (placed_labels o w.base (slice_range table 0 w.count)))
+  pub flat : w.compressed ≡ false → slice_range o w.base (w.base + (w.len + 1)) ≡ wire (placed_labels o w.base (slice_range table 0 w.count))

@@ -2,22 +2,26 @@
 use Rattle.std.specs.Prelude.{ℕ, ◌+◌, ◌==◌, if◌then◌else◌, List, Some, None, unwrap_or, true, false, set}
 use Rattle.domain_reading.specs.declared.progress.Progress.{Progress}
 
--- At the first head of a name at p, with a table of which no entry is used.
-abbrev pub beginning : ℕ → List ℕ → Progress
-beginning p places = record { at = p; base = p; len = 0; pointers = 0; compressed = false; end = None; count = 0; places = places }
+-- At the first head of a name at p, where the table has no entry yet.
+abbrev pub beginning : ℕ → Progress
+beginning p = record { at = p; base = p; len = 0; pointers = 0; compressed = false; end = None; count = 0 }
 
 -- What the table says of the next head: how far it is behind the base while the name lies in one piece, and its place
 -- in the message once it doesn't.
 abbrev pub entry_of : Progress → ℕ
 entry_of w = if w.compressed then w.at + 32768 else w.len
 
+-- The table once the place of the next head, which is a label's, came into it.
+abbrev pub table_noted : Progress → List ℕ → List ℕ
+table_noted w table = set table w.count (entry_of w)
+
 -- The place of the next head, which is a label's, came into the table.
 abbrev pub noted : Progress → Progress
-noted w = record w { count = w.count + 1; places = set w.places w.count (entry_of w) }
+noted w = record w { count = w.count + 1 }
 
 -- A label of n octets was passed.
 abbrev pub label_passed : Progress → ℕ → Progress
-label_passed w n = record w { at = w.at + 1 + n; len = w.len + 1 + n; count = w.count + 1; places = set w.places w.count (entry_of w) }
+label_passed w n = record w { at = w.at + 1 + n; len = w.len + 1 + n; count = w.count + 1 }
 
 -- A pointer to q was followed.
 abbrev pub pointer_followed : Progress → ℕ → Progress
@@ -29,5 +33,4 @@ pointer_followed w q = record {
   compressed = if w.len == 0 then w.compressed else true;
   end = Some (unwrap_or w.end (w.at + 2));
   count = w.count;
-  places = w.places;
 }

@@ -15,7 +15,7 @@ use crate::fault::NameFault;
 use crate::heads::Heads;
 use crate::progress::Progress;
 use crate::read::{front_end_with, read_name_counted};
-use crate::standing::read_label;
+use crate::standing::{MAX_LABELS, read_label};
 use domain_label::Label;
 use std::marker::Brand;
 use std::sync::ledger::{Blank, Ledger};
@@ -23,38 +23,43 @@ use std::sync::ledger::{Blank, Ledger};
 /// Reads the name at a place, of at most `limit` pointers, and notes how that went. It reads at most
 /// 128 heads more than the limit.
 ///
-/// `progress` stands at the name's first head.
+/// `progress` stands at the name's first head. The places of the labels are put at the beginning of the table.
 #[inline(always)]
-pub fn read_name(message: &[u8], progress: &mut Progress, limit: u8) -> Result<(), NameFault>
-    requires begins { progress.old ≡ beginning progress.old.at progress.old.places }
-    requires room { length progress.old.places ≡ 128 }
-    ensures name { OnOk result ((n : ℕ) × NameRead limit message.now progress.old.at progress.new 0 n × (n ≤ 128 + limit)) }
+pub fn read_name(
+    message: &[u8],
+    progress: &mut Progress,
+    places: &mut [u16; MAX_LABELS],
+    limit: u8,
+) -> Result<(), NameFault>
+    requires { progress.old ≡ beginning progress.old.at }
+    ensures name { OnOk result ((n : ℕ) × NameRead limit message.now progress.old.at progress.new places.new 0 n × (n ≤ 128 + limit)) }
     ensures inside { OnOk result (progress.new.at < length message.now) }
     ensures fault { IfErr result (λ fault. (f : Fault limit message.now progress.old.at fault) × (length f.passed + f.pointers + 1 ≤ 128 + limit)) }
 {
-    read_name_with::<Brand>(message, progress, limit, Blank::new(1))
+    read_name_with::<Brand>(message, progress, places, limit, Blank::new(1))
 }
 
 #[inline(always)]
 fn read_name_with<L: Ledger>(
     message: &[u8],
     progress: &mut Progress,
+    places: &mut [u16; MAX_LABELS],
     limit: u8,
     blank: Blank,
 ) -> Result<(), NameFault>
-    requires begins { progress.old ≡ beginning progress.old.at progress.old.places }
-    requires room { length progress.old.places ≡ 128 }
+    requires begins { progress.old ≡ beginning progress.old.at }
     requires ledger { blank.name ≡ L.name }
     requires parts { blank.parts ≡ L.parts }
     requires some { 0 < blank.parts }
-    ensures name { OnOk result ((n : ℕ) × NameRead limit message.now progress.old.at progress.new 0 n × (n ≤ 128 + limit)) }
+    ensures name { OnOk result ((n : ℕ) × NameRead limit message.now progress.old.at progress.new places.new 0 n × (n ≤ 128 + limit)) }
     ensures inside { OnOk result (progress.new.at < length message.now) }
     ensures fault { IfErr result (λ fault. (f : Fault limit message.now progress.old.at fault) × (length f.passed + f.pointers + 1 ≤ 128 + limit)) }
 {
-    read_name_counted(message, progress, limit, &mut Heads::<L>::new(blank))
+    read_name_counted(message, progress, places, limit, &mut Heads::<L>::new(blank))
 }
 
 /// The place behind the front of the name at a place, wherever its pointer leads to.
+#[inline(always)]
 pub fn front_end(message: &[u8], pos: usize) -> Result<usize, NameFault>
     ensures skips { IfOk result (λ end. Skips message.now pos end) }
     ensures inside { IfOk result (λ end. end ≤ length message.now) }

@@ -1,10 +1,11 @@
 //! How far reading a name has come.
-ghost use Rattle.std.specs.Prelude.{◌≡◌, ◌+◌, ◌≤◌, ◌<◌, ◌^◌, ◌⊎◌, length, MatchResult, true, false, unwrap_or};
+ghost use Rattle.std.specs.Prelude.{◌≡◌, ◌+◌, ◌≤◌, ◌<◌, ◌^◌, ◌⊎◌, MatchResult, true, false, unwrap_or};
 
 use crate::fault::NameFault;
 use crate::standing::{FAR, MAX_LABELS};
 
-/// How far reading a name has come.
+/// How far reading a name has come. Where the labels stand is noted in a table beside it, which is the caller's, so that
+/// these few numbers can stay in registers.
 #[derive(Clone, Copy)]
 pub struct Progress {
     /// The place of the next head.
@@ -21,12 +22,10 @@ pub struct Progress {
     pub end: Option<usize>,
     /// How many labels have their places in the table.
     pub count: u8,
-    /// Where the labels stand.
-    pub places: [u16; MAX_LABELS],
 }
 
 impl Progress {
-    ghost use Rattle.domain_reading.specs.Progress.{beginning, noted, label_passed, pointer_followed};
+    ghost use Rattle.domain_reading.specs.Progress.{beginning, noted, table_noted, label_passed, pointer_followed};
 
     /// The most octets that the labels of a name have before its root.
     const MAX_LEN: u16 = 254;
@@ -34,8 +33,7 @@ impl Progress {
     /// At a name's first head.
     #[inline(always)]
     pub fn new(at: usize) -> Self
-        ensures begins { result ≡ beginning at result.places }
-        ensures room { length result.places ≡ 128 }
+        ensures { result ≡ beginning at }
     {
         Progress {
             at,
@@ -45,43 +43,45 @@ impl Progress {
             compressed: false,
             end: None,
             count: 0,
-            places: [0; MAX_LABELS],
         }
     }
 
     /// Takes the place of the next head, which is a label's, into the table.
     #[inline(always)]
-    pub fn note_place(&mut self)
+    pub fn note_place(&mut self, places: &mut [u16; MAX_LABELS])
         requires few { self.old.count < 128 }
-        requires room { length self.old.places ≡ 128 }
         requires low { self.old.compressed ≡ true → self.old.at < 2 ^ 15 }
-        ensures { self.new ≡ noted self.old }
+        ensures moved { self.new ≡ noted self.old }
+        ensures table { places.new ≡ table_noted self.old places.old }
     {
         let entry = if self.compressed {
             self.at as u16 + FAR
         } else {
             self.len
         };
-        self.places[usize::from(self.count)] = entry;
+        places[usize::from(self.count)] = entry;
         self.count += 1;
     }
 
-    /// Passes a label of so many octets.
+    /// Passes a label of so many octets, whose place comes into the table.
     #[inline(always)]
-    pub fn pass_label(&mut self, octets: u8) -> Result<(), NameFault>
+    pub fn pass_label(
+        &mut self,
+        octets: u8,
+        places: &mut [u16; MAX_LABELS],
+    ) -> Result<(), NameFault>
         requires room { self.old.at + 1 + octets < 2 ^ 64 }
         requires short { self.old.len ≤ 254 }
         requires few { self.old.count < 128 }
-        requires table { length self.old.places ≡ 128 }
         requires low { self.old.compressed ≡ true → self.old.at < 2 ^ 15 }
-        ensures moved { MatchResult result (λ _. self.new ≡ label_passed self.old octets) (λ _. self.new ≡ self.old) }
+        ensures moved { MatchResult result (λ _. (self.new ≡ label_passed self.old octets) × (places.new ≡ table_noted self.old places.old)) (λ _. (self.new ≡ self.old) × (places.new ≡ places.old)) }
         ensures long { MatchResult result (λ _. self.old.len + 1 + octets ≤ 254) (λ fault. (fault ≡ NameFault.LongName) × (254 < self.old.len + 1 + octets)) }
     {
         let len = self.len + 1 + u16::from(octets);
         if len > Progress::MAX_LEN {
             return Err(NameFault::LongName);
         }
-        self.note_place();
+        self.note_place(places);
         self.len = len;
         self.at += 1 + usize::from(octets);
         Ok(())

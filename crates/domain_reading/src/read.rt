@@ -11,6 +11,7 @@ use crate::fault::NameFault;
 use crate::head::{Head, read_head};
 use crate::heads::Heads;
 use crate::progress::Progress;
+use crate::standing::MAX_LABELS;
 use std::sync::ledger::{Blank, Ledger};
 
 /// The most octets that a name has.
@@ -18,17 +19,17 @@ const MAX_LEN: u16 = 255;
 
 /// Reads the name at a place, of at most `limit` pointers, and notes how that went.
 ///
-/// `progress` stands at the name's first head.
+/// `progress` stands at the name's first head. The places of the labels are put at the beginning of the table.
 #[inline(always)]
 pub fn read_name_counted<L: Ledger>(
     message: &[u8],
     progress: &mut Progress,
+    places: &mut [u16; MAX_LABELS],
     limit: u8,
     heads: &mut Heads<L>,
 ) -> Result<(), NameFault>
-    requires begins { progress.old ≡ beginning progress.old.at progress.old.places }
-    requires room { length progress.old.places ≡ 128 }
-    ensures name { OnOk result (NameRead limit message.now progress.old.at progress.new heads.old heads.new) }
+    requires { progress.old ≡ beginning progress.old.at }
+    ensures name { OnOk result (NameRead limit message.now progress.old.at progress.new places.new heads.old heads.new) }
     ensures inside { OnOk result (progress.new.at < length message.now) }
     ensures fault { IfErr result (λ fault. (f : Fault limit message.now progress.old.at fault) × (heads.new ≡ heads.old + length f.passed + f.pointers + 1)) }
     ensures few_heads { heads.new ≤ heads.old + 128 + limit }
@@ -36,10 +37,10 @@ pub fn read_name_counted<L: Ledger>(
     'heads: loop {
         match read_head(message, progress.at, heads)? {
             Head::Root => {
-                progress.note_place();
+                progress.note_place(places);
                 return Ok(());
             }
-            Head::Label(octets) => progress.pass_label(octets)?,
+            Head::Label(octets) => progress.pass_label(octets, places)?,
             Head::Pointer(target) => progress.follow(target, limit)?,
         }
     }
@@ -47,6 +48,7 @@ pub fn read_name_counted<L: Ledger>(
 
 /// The place behind the front of the name at a place, wherever its pointer leads to. No clause tells how
 /// many heads it reads, so the count is its own.
+#[inline(always)]
 pub(crate) fn front_end_with<L: Ledger>(
     message: &[u8],
     pos: usize,

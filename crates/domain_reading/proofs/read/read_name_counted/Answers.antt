@@ -1,10 +1,11 @@
+use Rattle.std.proofs.Common.{rules}
 use Rattle.std.proofs.lemmas.Result.{err_from_is_err_and}
 use Rattle.domain_reading.proofs.Going.{goes_start, goes_label, goes_pointer, goes_fault, broken_fault, long_fault, follow_fault}
 use Rattle.domain_reading.proofs.Done.{name_read}
 use Rattle.domain_reading.proofs.read.read_name_counted.Goals as goal
 
 pub heads-init : goal.heads-init
-heads-init g c = goes_start _ _ _ _ c.requires.begins c.requires.room
+heads-init g c = goes_start _ _ _ _ c.requires (search rules)
 
 pub returns-in_err-read_head-clause-fault : goal.returns-in_err-read_head-clause-fault
 returns-in_err-read_head-clause-fault g c =
@@ -35,4 +36,4 @@ heads-preserved g c =
 
 pub returns-in-Root-clause-name : goal.returns-in-Root-clause-name
 returns-in-Root-clause-name g c =
-    rw c.note_place.ensures (name_read _ _ _ c.heads.invariant (rw c.in-Root.is at c.in_ok-read_head.ensures.found) c.read_head.ensures.counted)
+    rw (c.note_place.ensures.moved, c.note_place.ensures.table) (name_read _ _ _ c.heads.invariant (rw c.in-Root.is at c.in_ok-read_head.ensures.found) c.read_head.ensures.counted)

@@ -6,43 +6,43 @@ use Rattle.domain_parsed.proofs.parsed.ParsedName+ref+slice+u8.parse_counted.Goa
 
 pub returns-in_err-read_name_counted-clause-exact : goal.returns-in_err-read_name_counted-clause-exact
 returns-in_err-read_name_counted-clause-exact g c =
-    let here = ap (λ w. w.at) c.new-found.ensures.begins ∙ c.pos.ensures.place in
+    let here = ap (λ w. w.at) c.new-found.ensures ∙ c.pos.ensures.place in
     let none = no_name c.args.parser.now (search rules) here c.in_err-read_name_counted.ensures.fault.0 in
     (λ ok. absurd (ok_not_err c.from_residual.result c.from_residual.ensures.0 ok), λ x. absurd (none x.0 x.1))
 
 pub returns-in_err-read_name_counted-clause-plain : goal.returns-in_err-read_name_counted-clause-plain
 returns-in_err-read_name_counted-clause-plain g c = λ ls x.
-    let here = ap (λ w. w.at) c.new-found.ensures.begins ∙ c.pos.ensures.place in
+    let here = ap (λ w. w.at) c.new-found.ensures ∙ c.pos.ensures.place in
     absurd (no_name c.args.parser.now (search rules) here c.in_err-read_name_counted.ensures.fault.0 ls (plainly_named c.args.limit x))
 
 pub returns-in_err-read_name_counted-clause-counted : goal.returns-in_err-read_name_counted-clause-counted
 returns-in_err-read_name_counted-clause-counted g c =
-    let here = ap (λ w. w.at) c.new-found.ensures.begins ∙ c.pos.ensures.place in
+    let here = ap (λ w. w.at) c.new-found.ensures ∙ c.pos.ensures.place in
     fault_counted _ _ _ c.args.parser.now c.from_residual.result (search rules) here c.from_residual.ensures.0 c.from_residual.ensures.1 c.in_err-read_name_counted.ensures.fault
 
 pub of-requires : goal.of-requires
 of-requires g c =
-    let here = ap (λ w. w.at) c.new-found.ensures.begins ∙ c.pos.ensures.place in
+    let here = ap (λ w. w.at) c.new-found.ensures ∙ c.pos.ensures.place in
     let r = read_here c.args.parser.now (search rules) here c.in_ok-read_name_counted.ensures.name in
     (held c.args.parser.now c.octets_ref.result.now (c.octets_ref.ensures ∙ ap (λ o. o.now) c.in-Ok.ensures.ok.octets) r).holds
 
 pub returns-clause-labels : goal.returns-clause-labels
 returns-clause-labels g c =
     let parser = c.args.parser.now in
-    let here = ap (λ w. w.at) c.new-found.ensures.begins ∙ c.pos.ensures.place in
+    let here = ap (λ w. w.at) c.new-found.ensures ∙ c.pos.ensures.place in
     let r = read_here parser (search rules) here c.in_ok-read_name_counted.ensures.name in
     let h = held parser c.octets_ref.result.now (c.octets_ref.ensures ∙ ap (λ o. o.now) c.in-Ok.ensures.ok.octets) r in
     subst (λ ls. Names c.args.limit (message parser) (place parser) ls) (sym (c.of.ensures.labels ∙ h.same)) r.name
 
 pub returns-clause-scattered : goal.returns-clause-scattered
 returns-clause-scattered g c =
-    let here = ap (λ w. w.at) c.new-found.ensures.begins ∙ c.pos.ensures.place in
+    let here = ap (λ w. w.at) c.new-found.ensures ∙ c.pos.ensures.place in
     rw c.of.ensures.scattered (piece_tells (read_here c.args.parser.now (search rules) here c.in_ok-read_name_counted.ensures.name))
 
 pub returns-clause-plain : goal.returns-clause-plain
 returns-clause-plain g c = λ ls x.
     let parser = c.args.parser.now in
-    let here = ap (λ w. w.at) c.new-found.ensures.begins ∙ c.pos.ensures.place in
+    let here = ap (λ w. w.at) c.new-found.ensures ∙ c.pos.ensures.place in
     let r = read_here parser (search rules) here c.in_ok-read_name_counted.ensures.name in
     let h = held parser c.octets_ref.result.now (c.octets_ref.ensures ∙ ap (λ o. o.now) c.in-Ok.ensures.ok.octets) r in
     let p = plainly_read x r in
@@ -51,7 +51,7 @@ returns-clause-plain g c = λ ls x.
 pub returns-clause-counted : goal.returns-clause-counted
 returns-clause-counted g c =
     let parser = c.args.parser.now in
-    let here = ap (λ w. w.at) c.new-found.ensures.begins ∙ c.pos.ensures.place in
+    let here = ap (λ w. w.at) c.new-found.ensures ∙ c.pos.ensures.place in
     let r = read_here parser (search rules) here c.in_ok-read_name_counted.ensures.name in
     let h = held parser c.octets_ref.result.now (c.octets_ref.ensures ∙ ap (λ o. o.now) c.in-Ok.ensures.ok.octets) r in
     name_counted r (sym (c.of.ensures.labels ∙ h.same))

@@ -6,38 +6,38 @@ use Rattle.domain_parsed.proofs.parsed.ParsedName+ref+slice+u8.parse_with_limit.
 
 pub returns-in_err-read_name-clause-exact : goal.returns-in_err-read_name-clause-exact
 returns-in_err-read_name-clause-exact c =
-    let here = ap (λ w. w.at) c.new-found.ensures.begins ∙ c.pos.ensures.place in
+    let here = ap (λ w. w.at) c.new-found.ensures ∙ c.pos.ensures.place in
     let none = no_name c.args.parser.now (search rules) here c.in_err-read_name.ensures.fault.0 in
     (λ ok. absurd (ok_not_err c.from_residual.result c.from_residual.ensures.0 ok), λ x. absurd (none x.0 x.1))
 
 pub returns-in_err-read_name-clause-plain : goal.returns-in_err-read_name-clause-plain
 returns-in_err-read_name-clause-plain c = λ ls x.
-    let here = ap (λ w. w.at) c.new-found.ensures.begins ∙ c.pos.ensures.place in
+    let here = ap (λ w. w.at) c.new-found.ensures ∙ c.pos.ensures.place in
     absurd (no_name c.args.parser.now (search rules) here c.in_err-read_name.ensures.fault.0 ls (plainly_named c.args.limit x))
 
 pub of-requires : goal.of-requires
 of-requires c =
-    let here = ap (λ w. w.at) c.new-found.ensures.begins ∙ c.pos.ensures.place in
+    let here = ap (λ w. w.at) c.new-found.ensures ∙ c.pos.ensures.place in
     let r = read_here c.args.parser.now (search rules) here c.in_ok-read_name.ensures.name.1 in
     (held c.args.parser.now c.octets_ref.result.now (c.octets_ref.ensures ∙ ap (λ o. o.now) c.in-Ok.ensures.ok.octets) r).holds
 
 pub returns-clause-labels : goal.returns-clause-labels
 returns-clause-labels c =
     let parser = c.args.parser.now in
-    let here = ap (λ w. w.at) c.new-found.ensures.begins ∙ c.pos.ensures.place in
+    let here = ap (λ w. w.at) c.new-found.ensures ∙ c.pos.ensures.place in
     let r = read_here parser (search rules) here c.in_ok-read_name.ensures.name.1 in
     let h = held parser c.octets_ref.result.now (c.octets_ref.ensures ∙ ap (λ o. o.now) c.in-Ok.ensures.ok.octets) r in
     subst (λ ls. Names c.args.limit (message parser) (place parser) ls) (sym (c.of.ensures.labels ∙ h.same)) r.name
 
 pub returns-clause-scattered : goal.returns-clause-scattered
 returns-clause-scattered c =
-    let here = ap (λ w. w.at) c.new-found.ensures.begins ∙ c.pos.ensures.place in
+    let here = ap (λ w. w.at) c.new-found.ensures ∙ c.pos.ensures.place in
     rw c.of.ensures.scattered (piece_tells (read_here c.args.parser.now (search rules) here c.in_ok-read_name.ensures.name.1))
 
 pub returns-clause-plain : goal.returns-clause-plain
 returns-clause-plain c = λ ls x.
     let parser = c.args.parser.now in
-    let here = ap (λ w. w.at) c.new-found.ensures.begins ∙ c.pos.ensures.place in
+    let here = ap (λ w. w.at) c.new-found.ensures ∙ c.pos.ensures.place in
     let r = read_here parser (search rules) here c.in_ok-read_name.ensures.name.1 in
     let h = held parser c.octets_ref.result.now (c.octets_ref.ensures ∙ ap (λ o. o.now) c.in-Ok.ensures.ok.octets) r in
     let p = plainly_read x r in
