@@ -367,7 +367,8 @@ impl<Octs: Octets> ParsedName<Octs> {
 
     /// The last label, which is the root label.
     pub fn last(&self) -> Label<'static>
-        ensures { (front : List (List ℕ)) × (parsed_labels self.now ≡ front ++ label_octets result ∷ []) }
+        ensures last { (front : List (List ℕ)) × (parsed_labels self.now ≡ front ++ label_octets result ∷ []) }
+        ensures root { label_octets result ≡ [] }
     {
         Label::root()
     }
