@@ -34,7 +34,7 @@ pub fn read_head<L: Ledger>(
     match first {
         0 => Ok(Head::Root),
         1..=63 => {
-            if message.len() - at - 1 < usize::from(first) {
+            if message.len() < at + 1 + usize::from(first) {
                 return Err(NameFault::ShortInput);
             }
             Ok(Head::Label(first))

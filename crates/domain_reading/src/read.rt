@@ -15,7 +15,7 @@ use crate::standing::MAX_LABELS;
 use std::sync::ledger::{Blank, Ledger};
 
 /// The most octets that a name has.
-const MAX_LEN: u16 = 255;
+const MAX_LEN: usize = 255;
 
 /// Reads the name at a place, of at most `limit` pointers, and notes how that went.
 ///
@@ -63,11 +63,11 @@ pub(crate) fn front_end_with<L: Ledger>(
 {
     let mut heads = Heads::<L>::new(blank);
     let mut at = pos;
-    let mut len = 0u16;
+    let mut len = 0;
     'heads: loop {
         match read_head(message, at, &mut heads)? {
             Head::Label(octets) => {
-                len = len + 1 + u16::from(octets);
+                len = len + 1 + usize::from(octets);
                 if len > MAX_LEN {
                     return Err(NameFault::LongName);
                 }
