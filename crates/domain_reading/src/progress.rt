@@ -83,7 +83,7 @@ impl Progress {
         }
         self.note_place(places);
         self.len = len;
-        self.at += 1 + usize::from(octets);
+        self.at = self.at + 1 + usize::from(octets);
         Ok(())
     }
 
