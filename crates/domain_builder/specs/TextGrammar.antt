@@ -81,7 +81,7 @@ pub record FirstFault (ps : List Part) (f : Fault) : Type 0 where
 abbrev pub NameFault : List Part → Fault → Type 0
 NameFault ps f = ((ps ≡ []) × (f ≡ ShortInput)) ⊎ ((ps ≢ Dot ∷ []) × FirstFault ps f)
 
--- Why a text is no relative name: it has a first fault, or, for no fault of its own, a dot stands behind its last label.
+-- The text of a relative name of some labels, and a dot behind it.
 pub record EndsInDot (ps : List Part) : Type 0 where
   pub labels : List (List ℕ)
   pub some : 0 < length labels
@@ -100,10 +100,11 @@ SpellsNoName cs f = (items : List (Result Symbol SymbolCharsError)) × Reads cs 
 abbrev pub SpellsRelative : List ℕ → List (List ℕ) → Type 0
 SpellsRelative cs ls = (items : List (Result Symbol SymbolCharsError)) × Reads cs items × IsRelativeText (parts items) ls
 
--- Why the characters cs are no relative name: a fault, or None where they end in a dot behind a label.
+-- Why a text is no relative name: a first fault, or None where it ends in a dot behind a label.
 abbrev pub NoRelative : List Part → Option Fault → Type 0
 NoRelative ps (Some f) = FirstFault ps f
 NoRelative ps None = EndsInDot ps
 
+-- The same of the characters cs.
 abbrev pub SpellsNoRelative : List ℕ → Option Fault → Type 0
 SpellsNoRelative cs why = (items : List (Result Symbol SymbolCharsError)) × Reads cs items × NoRelative (parts items) why

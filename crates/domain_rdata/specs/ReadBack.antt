@@ -15,7 +15,7 @@ pub record ReadsBack (t : List ℕ) (ls : List (List ℕ)) (s : List ℕ) : Type
   pub stands : StandsAt (t ++ s) (length t) ls
   pub ends : EndsBefore (t ++ s) (length t) (length t + length s)
 
--- What a call that appends a name did: octets that may be appended, or nothing.
+-- New is old with octets behind it that may be appended.
 pub record Appended (MayAppend : List ℕ → Type 0) (old new : List ℕ) : Type 0 where
   pub octets : List ℕ
   pub allowed : MayAppend octets

@@ -28,6 +28,9 @@ use std::str::FromStr;
 #[derive(Clone, Copy, Debug, PartialEq, Eq, Hash)]
 pub struct Serial(pub u32);
 
+// A serial has as many octets on the wire as its number.
+const _: () = prove!(Serial::COMPOSE_LEN == u32::COMPOSE_LEN);
+
 impl Serial {
     /// How many octets a serial has on the wire.
     pub const COMPOSE_LEN: u16 = 4;

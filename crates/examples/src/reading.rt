@@ -1,13 +1,14 @@
 //! Reading names from messages, and going over their labels.
-ghost use Rattle.std.specs.Prelude.{◌≡◌, ◌<◌, ◌≤◌, ◌+◌, ◌++◌, ◌∷◌, ◌⊎◌, ◌↔◌, [], ℕ, List, length, string_bytes, IfOk, IfSome, IsNone, OnOk, OnErr};
+ghost use Rattle.std.specs.Prelude.{◌≡◌, ◌<◌, ◌≤◌, ◌+◌, ◌++◌, ◌∷◌, ◌⊎◌, ◌↔◌, [], ℕ, List, length, slice_range, string_bytes, IfOk, IfSome, IsNone, OnOk, OnErr};
+ghost use Rattle.std.specs.Int.{w16, from_be_bytes};
 ghost use Rattle.domain_label.specs.Text.{dotted};
 ghost use Rattle.domain_label.specs.Views.{label_octets};
 ghost use Rattle.domain_label.specs.Wire.{Root};
 ghost use Rattle.domain_parsed.specs.Views.{parsed_labels};
 ghost use Rattle.domain_reading.specs.Faults.{Skips, SkipFault};
-ghost use Rattle.domain_reading.specs.Grammar.{Names};
+ghost use Rattle.domain_reading.specs.Grammar.{Names, EndsBefore};
 ghost use Rattle.domain_reading.specs.declared.fault.NameFault.{NameFault};
-ghost use Rattle.octseq.specs.Parsing.{message, place};
+ghost use Rattle.octseq.specs.Parsing.{message, place, MovesTo};
 
 use domain::base::name::*;
 use domain::base::wire::ParseError;
@@ -15,13 +16,20 @@ use octseq::Parser;
 use std::alloc::{AllocError, Global};
 use std::sync::ledger::Ledger;
 
-/// The name at the parser's place, the type and the class behind it.
+/// The name at the parser's place, the type and the class behind it. A refused call leaves the parser.
 pub fn question<'a>(parser: &mut Parser<'a>) -> Result<(ParsedName<&'a [u8]>, u16, u16), ParseError>
-    ensures { IfOk result (λ read. Names 255 (message parser.old) (place parser.old) (parsed_labels read.0)) }
+    ensures name { IfOk result (λ read. Names 255 (message parser.old) (place parser.old) (parsed_labels read.0)) }
+    ensures behind { IfOk result (λ read. (e : ℕ) × EndsBefore (message parser.old) (place parser.old) e
+        × (read.1 ≡ from_be_bytes w16 (slice_range (message parser.old) e (e + 2)))
+        × (read.2 ≡ from_be_bytes w16 (slice_range (message parser.old) (e + 2) (e + 4)))
+        × MovesTo parser.old parser.new (e + 4)) }
+    ensures err { OnErr result (parser.new ≡ parser.old) }
 {
-    let name = ParsedName::parse(parser)?;
-    let rtype = parser.parse_u16_be()?;
-    let class = parser.parse_u16_be()?;
+    let mut ahead = *parser;
+    let name = ParsedName::parse(&mut ahead)?;
+    let rtype = ahead.parse_u16_be()?;
+    let class = ahead.parse_u16_be()?;
+    *parser = ahead;
     Ok((name, rtype, class))
 }
 

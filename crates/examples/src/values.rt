@@ -1,5 +1,5 @@
 //! Values that are written to and read from messages.
-ghost use Rattle.std.specs.Prelude.{◌≡◌, ◌++◌, ◌<◌, ◌⊎◌, ℕ, length, IsOk, IfOk, IfErr, OnOk, OnErr};
+ghost use Rattle.std.specs.Prelude.{◌≡◌, ◌+◌, ◌++◌, ◌<◌, ◌⊎◌, ℕ, length, slice_range, IsOk, IfOk, IfErr, OnOk, OnErr};
 ghost use Rattle.std.specs.Int.{w16, to_be_bytes, from_be_bytes};
 ghost use Rattle.domain_wire.specs.Refusals.{refusal, short_input};
 ghost use Rattle.domain_wire.specs.declared.error.ParseError.{ParseError};
@@ -54,6 +54,7 @@ pub fn parse_two<'a, A: Parse<'a> + Drop, B: Parse<'a> + Drop, E: From<ParseErro
 /// The type and the class of a question, which stand behind its name.
 pub fn type_and_class(parser: &mut Parser<'_>) -> Result<(u16, u16), ParseError>
     ensures rtype { IfOk result (λ read. read.0 ≡ from_be_bytes w16 (next parser.old 2)) }
+    ensures class { IfOk result (λ read. read.1 ≡ from_be_bytes w16 (slice_range (message parser.old) (place parser.old + 2) (place parser.old + 4))) }
     ensures moves { OnOk result (MovesOver parser.old parser.new 4) }
     ensures err { OnErr result (parser.new ≡ parser.old) }
 {
