@@ -19,26 +19,6 @@ use domain_label::scan::{Symbol, SymbolCharsError, Symbols, WholeSymbols};
 use octseq::{EmptyBuilder, FromBuilder};
 use std::alloc::Global;
 
-/// Adds what is read of a text, up to the first part that is refused.
-#[inline(always)]
-fn read_parts<I: Iterator<Item = Result<Symbol, SymbolCharsError>> + Drop>(
-    buffer: &mut NameBuffer,
-    items: I,
-) -> Result<(), Fault>
-    requires can { I.can_next items }
-    requires ends { IsFinite (I.remaining items) }
-    ensures { (all : List (Result Symbol SymbolCharsError)) → AlwaysYields I.next_gives (λ x. x) items all →
-        MatchResult result (λ _. Makes buffer.old (parts all) buffer.new) (λ f. StopsAt buffer.old (parts all) buffer.new f) }
-{
-    for item in items {
-        match buffer.push_part(part_of(item)) {
-            Ok(()) => {}
-            Err(fault) => return Err(fault),
-        }
-    }
-    Ok(())
-}
-
 /// Reads the text of an absolute name into a buffer. What it then holds are the labels before the root.
 #[inline(always)]
 fn read_name<I: Iterator<Item = Result<Symbol, SymbolCharsError>> + Drop>(
@@ -62,7 +42,7 @@ fn read_name<I: Iterator<Item = Result<Symbol, SymbolCharsError>> + Drop>(
         }
     }
     match buffer.push_part(first) {
-        Ok(()) => read_parts(buffer, items),
+        Ok(()) => buffer.push_parts(items),
         Err(fault) => Err(fault),
     }
 }
@@ -91,7 +71,7 @@ fn read_relative<I: Iterator<Item = Result<Symbol, SymbolCharsError>> + Drop>(
     ensures { (all : List (Result Symbol SymbolCharsError)) → AlwaysYields I.next_gives (λ x. x) items all →
         MatchResult result (λ _. IsRelativeText (parts all) (closed buffer.new)) (λ why. NoRelative (parts all) why) }
 {
-    match read_parts(buffer, items) {
+    match buffer.push_parts(items) {
         Ok(()) => {}
         Err(fault) => return Err(Some(fault)),
     }

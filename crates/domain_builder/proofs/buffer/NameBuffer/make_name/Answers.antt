@@ -6,12 +6,12 @@ use Rattle.domain_builder.proofs.buffer.NameBuffer.make_name.Goals as goal
 
 pub returns-clause-wire : goal.returns-clause-wire
 returns-clause-wire g c = (absolute_made g.Octs.Octets.octets _ (closed c.args.self.now ++ Root) c.octets_of.result
-    (ended_absolute c.self.inside.octets c.self.inside.head c.self.inside.open_len c.args.self.now c.self.invariant (c.self.view_is ∙ c.end_label.ensures))
-    (name_octets c.self.inside.octets c.self.inside.head c.self.inside.open_len c.args.self.now c.self.invariant (c.self.view_is ∙ c.end_label.ensures))
+    (ended_absolute c.self.inside.octets c.self.inside.ends.head c.self.inside.ends.open_len c.args.self.now c.self.invariant (c.self.view_is ∙ c.end_label.ensures))
+    (name_octets c.self.inside.octets c.self.inside.ends.head c.self.inside.ends.open_len c.args.self.now c.self.invariant (c.self.view_is ∙ c.end_label.ensures))
     c.octets_of.ensures.ok).0
 
 pub returns-clause-labels : goal.returns-clause-labels
 returns-clause-labels g c = (absolute_made g.Octs.Octets.octets _ (closed c.args.self.now ++ Root) c.octets_of.result
-    (ended_absolute c.self.inside.octets c.self.inside.head c.self.inside.open_len c.args.self.now c.self.invariant (c.self.view_is ∙ c.end_label.ensures))
-    (name_octets c.self.inside.octets c.self.inside.head c.self.inside.open_len c.args.self.now c.self.invariant (c.self.view_is ∙ c.end_label.ensures))
+    (ended_absolute c.self.inside.octets c.self.inside.ends.head c.self.inside.ends.open_len c.args.self.now c.self.invariant (c.self.view_is ∙ c.end_label.ensures))
+    (name_octets c.self.inside.octets c.self.inside.ends.head c.self.inside.ends.open_len c.args.self.now c.self.invariant (c.self.view_is ∙ c.end_label.ensures))
     c.octets_of.ensures.ok).1
