@@ -3,14 +3,13 @@ ghost use Rattle.std.specs.Prelude.{◌≡◌, ◌++◌, ℕ, ◌+◌, ◌<◌, 
 ghost use Rattle.std.specs.Iterator.{AlwaysYields, IsFinite};
 ghost use Rattle.domain_label.specs.declared.symbol.Symbol.{Symbol};
 ghost use Rattle.domain_label.specs.declared.symbol.SymbolCharsError.{SymbolCharsError};
-ghost use Rattle.domain_label.specs.Wire.{wire, Root, IsAbsoluteWire, IsRelativeWire, labels_in};
+ghost use Rattle.domain_label.specs.Wire.{wire, Root, IsAbsoluteName, IsRelativeName};
 ghost use Rattle.domain_builder.specs.Built.{nothing, closed, size, pushed, ended, too_long, refusal, after, Makes, StopsAt};
 ghost use Rattle.domain_builder.specs.Buffer.{buffer_view, IsBuffer};
 ghost use Rattle.domain_builder.specs.Parts.{parts};
 ghost use Rattle.octseq.specs.Room.{MayLackRoom};
 
 use crate::part::{Fault, Part, part_of};
-use arrayvec::ArrayVec;
 use domain_label::scan::{Symbol, SymbolCharsError};
 use octseq::{EmptyBuilder, FromBuilder, OctetsBuilder, ShortBuf};
 use std::alloc::Global;
@@ -198,62 +197,46 @@ impl NameBuffer {
         read
     }
 
-    /// The wire form of the labels and the root, in one piece that is appended once.
+    /// The number of octets of the labels, the open one among them.
     #[inline(always)]
-    pub(crate) fn make_name<Octs: FromBuilder + Drop>(
+    pub(crate) fn len(&self) -> usize
+        ensures size { result ≡ size self.now }
+        ensures short { result ≤ 254 }
+    {
+        if self.ends.open_len > 0 {
+            self.ends.head + 1 + self.ends.open_len
+        } else {
+            self.ends.head
+        }
+    }
+
+    /// Appends the wire form of the labels and the root, in one piece.
+    #[inline(always)]
+    pub(crate) fn append_name<B: OctetsBuilder>(
         &mut self,
-        alloc: Global,
-    ) -> Result<Octs, ShortBuf>
-    where
-        Octs::Builder: EmptyBuilder + Drop,
-        ensures wire { IfOk result (λ octets. IsAbsoluteWire (Octs.octets octets)) }
-        ensures labels { IfOk result (λ octets. labels_in (Octs.octets octets) ≡ closed self.old ++ Root) }
-        ensures err { OnErr result (MayLackRoom Octs.Builder.ROOM (size self.old + 1)) }
+        target: &mut B,
+    ) -> Result<(), B::AppendError>
+        ensures name { IsAbsoluteName (closed self.old ++ Root) }
+        ensures ok { OnOk result (B.octets target.new ≡ B.octets target.old ++ wire (closed self.old ++ Root)) }
+        ensures full { OnErr result (B.capacity target.old < length (B.octets target.old) + (size self.old + 1)) }
     {
         self.end_label();
         self.octets[self.ends.head] = 0;
-        octets_of(&self.octets[..self.ends.head + 1], alloc)
+        target.append_slice(&self.octets[..self.ends.head + 1])
     }
 
-    /// The wire form of the labels, in one piece that is appended once.
+    /// Appends the wire form of the labels, in one piece.
     #[inline(always)]
-    pub(crate) fn make_relative<Octs: FromBuilder + Drop>(
+    pub(crate) fn append_relative<B: OctetsBuilder>(
         &mut self,
-        alloc: Global,
-    ) -> Result<Octs, ShortBuf>
-    where
-        Octs::Builder: EmptyBuilder + Drop,
-        ensures wire { IfOk result (λ octets. IsRelativeWire (Octs.octets octets)) }
-        ensures labels { IfOk result (λ octets. labels_in (Octs.octets octets) ≡ closed self.old) }
-        ensures err { OnErr result (MayLackRoom Octs.Builder.ROOM (size self.old)) }
+        target: &mut B,
+    ) -> Result<(), B::AppendError>
+        ensures name { IsRelativeName (closed self.old) }
+        ensures ok { OnOk result (B.octets target.new ≡ B.octets target.old ++ wire (closed self.old)) }
+        ensures full { OnErr result (B.capacity target.old < length (B.octets target.old) + size self.old) }
     {
         self.end_label();
-        octets_of(&self.octets[..self.ends.head], alloc)
-    }
-
-    /// The wire form of the labels and the root, in a fixed room that asks for no memory.
-    #[inline(always)]
-    pub(crate) fn make_name_array<const N: usize>(&mut self) -> Result<ArrayVec<u8, N>, ShortBuf>
-        ensures wire { IfOk result (λ octets. IsAbsoluteWire octets.items) }
-        ensures labels { IfOk result (λ octets. labels_in octets.items ≡ closed self.old ++ Root) }
-        ensures err { OnErr result (N < length (wire (closed self.old ++ Root))) }
-    {
-        self.end_label();
-        self.octets[self.ends.head] = 0;
-        array_of(&self.octets[..self.ends.head + 1])
-    }
-
-    /// The wire form of the labels, in a fixed room that asks for no memory.
-    #[inline(always)]
-    pub(crate) fn make_relative_array<const N: usize>(
-        &mut self,
-    ) -> Result<ArrayVec<u8, N>, ShortBuf>
-        ensures wire { IfOk result (λ octets. IsRelativeWire octets.items) }
-        ensures labels { IfOk result (λ octets. labels_in octets.items ≡ closed self.old) }
-        ensures err { OnErr result (N < size self.old) }
-    {
-        self.end_label();
-        array_of(&self.octets[..self.ends.head])
+        target.append_slice(&self.octets[..self.ends.head])
     }
 }
 
@@ -271,17 +254,5 @@ where
     match target.append_slice(slice) {
         Ok(()) => Ok(Octs::from_builder(target)),
         Err(e) => Err(e.into()),
-    }
-}
-
-/// The octets of the slice in a fixed room.
-pub(crate) fn array_of<const N: usize>(slice: &[u8]) -> Result<ArrayVec<u8, N>, ShortBuf>
-    ensures ok { IfOk result (λ octets. octets.items ≡ slice.now) }
-    ensures err { OnErr result (N < length slice.now) }
-{
-    let mut target = ArrayVec::new();
-    match OctetsBuilder::append_slice(&mut target, slice) {
-        Ok(()) => Ok(target),
-        Err(e) => Err(e),
     }
 }
