@@ -264,9 +264,9 @@ fn absolute_array_from_items<
         Ok(()) => {}
         Err(fault) => return Err(fault.into()),
     }
-    let mut target = ArrayVec::new();
-    match buffer.append_name(&mut target) {
-        Ok(()) => Ok(target),
+    let mut name = ArrayVec::new();
+    match buffer.append_name(&mut name) {
+        Ok(()) => Ok(name),
         Err(short) => Err(short.into()),
     }
 }
@@ -289,9 +289,9 @@ fn relative_array_from_items<
         Err(None) => return Err(RelativeFromStrError::AbsoluteName),
         Err(Some(fault)) => return Err(RelativeFromStrError::FromStr(fault.into())),
     }
-    let mut target = ArrayVec::new();
-    match buffer.append_relative(&mut target) {
-        Ok(()) => Ok(target),
+    let mut labels = ArrayVec::new();
+    match buffer.append_relative(&mut labels) {
+        Ok(()) => Ok(labels),
         Err(short) => Err(RelativeFromStrError::FromStr(short.into())),
     }
 }

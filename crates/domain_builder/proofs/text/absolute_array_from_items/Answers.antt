@@ -9,9 +9,9 @@ use Rattle.domain_builder.proofs.text.absolute_array_from_items.Goals as goal
 pub returns-in-Ok-append_name-clause-wire : goal.returns-in-Ok-append_name-clause-wire
 returns-in-Ok-append_name-clause-wire g c =
     let ls : List (List ℕ) = closed c.read_name.new.buffer ++ Root in
-    absolute_made _ ls c.append_name.ensures.name (c.in-Ok-append_name.ensures.ok ∙ ap (λ (z : List ℕ). z ++ wire ls) c.new-target.ensures)
+    absolute_made _ ls c.append_name.ensures.name (c.in-Ok-append_name.ensures.ok ∙ ap (λ (z : List ℕ). z ++ wire ls) c.new-name.ensures)
 
 pub returns-in-Ok-append_name-clause-text : goal.returns-in-Ok-append_name-clause-text
 returns-in-Ok-append_name-clause-text g c = λ all h.
     let ls : List (List ℕ) = closed c.read_name.new.buffer ++ Root in
-    subst (λ (z : List (List ℕ)). IsNameText (parts all) z) (sym (labels_made _ ls (c.in-Ok-append_name.ensures.ok ∙ ap (λ (z : List ℕ). z ++ wire ls) c.new-target.ensures))) (c.in-Ok.ensures all h)
+    subst (λ (z : List (List ℕ)). IsNameText (parts all) z) (sym (labels_made _ ls (c.in-Ok-append_name.ensures.ok ∙ ap (λ (z : List ℕ). z ++ wire ls) c.new-name.ensures))) (c.in-Ok.ensures all h)
