@@ -507,24 +507,52 @@ fn back(name: &[u8]) -> u64 {
         .fold(0, |sum: u64, label| sum.wrapping_mul(31) + label.len() as u64)
 }
 
+/// Reads a name from text: over a `Vec<u8>`, and over an array of 255 octets.
 #[inline(never)]
 fn from_chars(text: &[u8]) -> u64 {
+    let at = text.len() / 2;
     let Ok(text) = std::str::from_utf8(text) else {
         return REFUSED;
     };
     match Name::<Vec<u8>>::from_chars(text.chars()) {
-        Ok(name) => sum(name.as_slice()),
+        Ok(name) => told(name.as_slice(), at),
         Err(_) => REFUSED,
     }
 }
 
 #[inline(never)]
 fn from_chars_array(text: &[u8]) -> u64 {
+    let at = text.len() / 2;
     let Ok(text) = std::str::from_utf8(text) else {
         return REFUSED;
     };
     match Name::<Array<255>>::from_chars(text.chars()) {
-        Ok(name) => sum(name.as_slice()),
+        Ok(name) => told(name.as_slice(), at),
+        Err(_) => REFUSED,
+    }
+}
+
+/// The same by the calls that take a `&str`.
+#[inline(never)]
+fn vec_from_str(text: &[u8]) -> u64 {
+    let at = text.len() / 2;
+    let Ok(text) = std::str::from_utf8(text) else {
+        return REFUSED;
+    };
+    match Name::<Vec<u8>>::vec_from_str(text) {
+        Ok(name) => told(name.as_slice(), at),
+        Err(_) => REFUSED,
+    }
+}
+
+#[inline(never)]
+fn from_str_array(text: &[u8]) -> u64 {
+    let at = text.len() / 2;
+    let Ok(text) = std::str::from_utf8(text) else {
+        return REFUSED;
+    };
+    match text.parse::<Name<Array<255>>>() {
+        Ok(name) => told(name.as_slice(), at),
         Err(_) => REFUSED,
     }
 }
@@ -711,6 +739,8 @@ const DOMAIN: Peer = Peer {
     texts: &[
         ("from_chars", from_chars),
         ("from_chars_array", from_chars_array),
+        ("vec_from_str", vec_from_str),
+        ("from_str_array", from_str_array),
     ],
     mixed: &[
         ("parse_eq", parse_eq),

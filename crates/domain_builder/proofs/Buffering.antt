@@ -1,5 +1,5 @@
 -- What a buffer's fields say of its labels.
-use Rattle.std.proofs.Common.{Result, Ok, Err, IfOk, ◌≡◌, ℕ, zero, suc, ◌+◌, ◌<◌, ◌≤◌, List, [], ◌∷◌, ◌++◌, length, take, drop, set, refl, ap, sym, ◌∙◌, subst, arith, append-nil, length-append, add-one, length-drop, length-set}
+use Rattle.std.proofs.Common.{◌≡◌, ℕ, zero, suc, ◌+◌, ◌<◌, ◌≤◌, List, [], ◌∷◌, ◌++◌, length, take, drop, set, refl, ap, sym, ◌∙◌, subst, arith, append-nil, length-append, add-one, length-drop, length-set}
 use Rattle.std.proofs.Math.Seq.{take-add}
 use Rattle.std.proofs.lemmas.List.{take-set-le, drop-set-add, take_more_set, drop-set, length-take-le}
 use Rattle.domain_label.specs.Wire.{wire, labels_in, IsRelative, IsRelativeName, IsAbsoluteName, IsAbsoluteWire, IsRelativeWire, Root}
@@ -151,11 +151,11 @@ pub ended_absolute : (s : List ℕ) (head n : ℕ) (b : Built) → IsBuffer s he
 ended_absolute s head n b i e = with_root (closed b) (ended_relative s head n b i e)
 
 -- octets that are the wire form of labels
-module _ {O E : Type 0} (octets : O → List ℕ) (w : List ℕ) (ls : List (List ℕ)) where
-  pub absolute_made : (r : Result O E) → IsAbsoluteName ls → w ≡ wire ls → IfOk r (λ o. octets o ≡ w) → IfOk r (λ o. IsAbsoluteWire (octets o)) × IfOk r (λ o. labels_in (octets o) ≡ ls)
-  absolute_made (Ok o) n e h = (subst IsAbsoluteWire (sym (h ∙ e)) (wire_absolute ls n), ap labels_in (h ∙ e) ∙ labels_in_wire ls)
-  absolute_made (Err x) n e h = (tt, tt)
+pub absolute_made : (s : List ℕ) (ls : List (List ℕ)) → IsAbsoluteName ls → s ≡ wire ls → IsAbsoluteWire s
+absolute_made s ls n e = subst IsAbsoluteWire (sym e) (wire_absolute ls n)
 
-  pub relative_made : (r : Result O E) → IsRelativeName ls → w ≡ wire ls → IfOk r (λ o. octets o ≡ w) → IfOk r (λ o. IsRelativeWire (octets o)) × IfOk r (λ o. labels_in (octets o) ≡ ls)
-  relative_made (Ok o) n e h = (subst IsRelativeWire (sym (h ∙ e)) (wire_relative ls n), ap labels_in (h ∙ e) ∙ labels_in_wire ls)
-  relative_made (Err x) n e h = (tt, tt)
+pub relative_made : (s : List ℕ) (ls : List (List ℕ)) → IsRelativeName ls → s ≡ wire ls → IsRelativeWire s
+relative_made s ls n e = subst IsRelativeWire (sym e) (wire_relative ls n)
+
+pub labels_made : (s : List ℕ) (ls : List (List ℕ)) → s ≡ wire ls → labels_in s ≡ ls
+labels_made s ls e = ap labels_in e ∙ labels_in_wire ls

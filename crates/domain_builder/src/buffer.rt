@@ -1,22 +1,36 @@
 //! A buffer in which a name is put together.
-ghost use Rattle.std.specs.Prelude.{◌≡◌, ◌++◌, ℕ, ◌+◌, ◌<◌, ◌≤◌, nat_lt, List, [], ◌∷◌, length, Some, None, IfOk, IfErr, OnOk, OnErr};
-ghost use Rattle.domain_label.specs.Wire.{wire, Root, IsAbsoluteWire, IsRelativeWire, labels_in};
-ghost use Rattle.domain_builder.specs.Built.{nothing, closed, size, pushed, ended, too_long, refusal, after};
+ghost use Rattle.std.specs.Prelude.{◌≡◌, ◌++◌, ℕ, ◌+◌, ◌<◌, ◌≤◌, nat_lt, List, [], ◌∷◌, length, Result, Some, None, IfOk, IfErr, OnOk, OnErr, MatchResult};
+ghost use Rattle.std.specs.Iterator.{AlwaysYields, IsFinite};
+ghost use Rattle.domain_label.specs.declared.symbol.Symbol.{Symbol};
+ghost use Rattle.domain_label.specs.declared.symbol.SymbolCharsError.{SymbolCharsError};
+ghost use Rattle.domain_label.specs.Wire.{wire, Root, IsAbsoluteName, IsRelativeName};
+ghost use Rattle.domain_builder.specs.Built.{nothing, closed, size, pushed, ended, too_long, refusal, after, Makes, StopsAt};
+ghost use Rattle.domain_builder.specs.Buffer.{buffer_view, IsBuffer};
+ghost use Rattle.domain_builder.specs.Parts.{parts};
 ghost use Rattle.octseq.specs.Room.{MayLackRoom};
 
-use crate::part::{Fault, Part};
-use arrayvec::ArrayVec;
+use crate::part::{Fault, Part, part_of};
+use domain_label::scan::{Symbol, SymbolCharsError};
 use octseq::{EmptyBuilder, FromBuilder, OctetsBuilder, ShortBuf};
 use std::alloc::Global;
 use std::marker::Model;
+
+/// Where the labels of a buffer end.
+///
+/// While a text is read this is kept apart from the octets: those lie in memory, and these two numbers can
+/// then stay in registers.
+#[derive(Clone, Copy)]
+struct Ends {
+    /// The place of the length octet of the next label, or of the root.
+    head: usize,
+    open_len: usize,
+}
 
 /// Finished labels, and octets of an open one. They never are more than a name may have.
 #[derive(Drop)]
 pub(crate) struct NameBuffer {
     octets: [u8; 255],
-    /// The place of the length octet of the next label, or of the root.
-    head: usize,
-    open_len: usize,
+    ends: Ends,
 }
 
 impl Model for NameBuffer {
@@ -25,9 +39,96 @@ impl Model for NameBuffer {
 
     ghost Value = { Built };
 
-    ghost view = { λ s. buffer_view s.octets s.head s.open_len };
+    ghost view = { λ s. buffer_view s.octets s.ends.head s.ends.open_len };
 
-    ghost invariant = { λ s. IsBuffer s.octets s.head s.open_len };
+    ghost invariant = { λ s. IsBuffer s.octets s.ends.head s.ends.open_len };
+}
+
+/// Adds an octet to the open label, or opens one.
+#[inline(always)]
+fn push(octets: &mut [u8; 255], ends: &mut Ends, c: u8) -> Result<(), Fault>
+    requires inside { IsBuffer octets.old ends.old.head ends.old.open_len }
+    ensures inside { IsBuffer octets.new ends.new.head ends.new.open_len }
+    ensures taken { OnOk result (too_long (pushed (buffer_view octets.old ends.old.head ends.old.open_len) (c ∷ [])) ≡ None) }
+    ensures made { OnOk result (buffer_view octets.new ends.new.head ends.new.open_len ≡ pushed (buffer_view octets.old ends.old.head ends.old.open_len) (c ∷ [])) }
+    ensures refused { IfErr result (λ f. too_long (pushed (buffer_view octets.old ends.old.head ends.old.open_len) (c ∷ [])) ≡ Some f) }
+    ensures kept { OnErr result (buffer_view octets.new ends.new.head ends.new.open_len ≡ buffer_view octets.old ends.old.head ends.old.open_len) }
+{
+    if ends.head + ends.open_len > 252 {
+        return Err(Fault::LongName);
+    }
+    if ends.open_len >= 63 {
+        return Err(Fault::LongLabel);
+    }
+    octets[ends.head + 1 + ends.open_len] = c;
+    ends.open_len += 1;
+    Ok(())
+}
+
+/// Finishes the open label, if any.
+#[inline(always)]
+fn end_open(octets: &mut [u8; 255], ends: &mut Ends)
+    requires inside { IsBuffer octets.old ends.old.head ends.old.open_len }
+    ensures inside { IsBuffer octets.new ends.new.head ends.new.open_len }
+    ensures made { buffer_view octets.new ends.new.head ends.new.open_len ≡ ended (buffer_view octets.old ends.old.head ends.old.open_len) }
+{
+    if ends.open_len > 0 {
+        octets[ends.head] = ends.open_len as u8;
+        ends.head = ends.head + 1 + ends.open_len;
+        ends.open_len = 0;
+    }
+}
+
+/// Adds a part of a text: a dot ends the open label.
+#[inline(always)]
+fn add_part(octets: &mut [u8; 255], ends: &mut Ends, part: Part) -> Result<(), Fault>
+    requires inside { IsBuffer octets.old ends.old.head ends.old.open_len }
+    ensures inside { IsBuffer octets.new ends.new.head ends.new.open_len }
+    ensures taken { OnOk result (refusal (buffer_view octets.old ends.old.head ends.old.open_len) part ≡ None) }
+    ensures made { OnOk result (buffer_view octets.new ends.new.head ends.new.open_len ≡ after (buffer_view octets.old ends.old.head ends.old.open_len) part) }
+    ensures refused { IfErr result (λ f. refusal (buffer_view octets.old ends.old.head ends.old.open_len) part ≡ Some f) }
+    ensures kept { OnErr result (buffer_view octets.new ends.new.head ends.new.open_len ≡ buffer_view octets.old ends.old.head ends.old.open_len) }
+{
+    match part {
+        Part::Octet(c) => push(octets, ends, c),
+        Part::Dot => {
+            if ends.open_len == 0 {
+                return Err(Fault::EmptyLabel);
+            }
+            end_open(octets, ends);
+            Ok(())
+        }
+        Part::Bracket => {
+            if ends.open_len == 0 {
+                return Err(Fault::BinaryLabel);
+            }
+            push(octets, ends, b'[')
+        }
+        Part::Nothing(fault) => Err(fault),
+    }
+}
+
+/// Adds what is read of a text, up to the first part that is refused.
+#[inline(always)]
+fn add_parts<I: Iterator<Item = Result<Symbol, SymbolCharsError>> + Drop>(
+    octets: &mut [u8; 255],
+    ends: &mut Ends,
+    items: I,
+) -> Result<(), Fault>
+    requires inside { IsBuffer octets.old ends.old.head ends.old.open_len }
+    requires can { I.can_next items }
+    requires ends { IsFinite (I.remaining items) }
+    ensures inside { IsBuffer octets.new ends.new.head ends.new.open_len }
+    ensures read { (all : List (Result Symbol SymbolCharsError)) → AlwaysYields I.next_gives (λ x. x) items all →
+        MatchResult result (λ _. Makes (buffer_view octets.old ends.old.head ends.old.open_len) (parts all) (buffer_view octets.new ends.new.head ends.new.open_len)) (λ f. StopsAt (buffer_view octets.old ends.old.head ends.old.open_len) (parts all) (buffer_view octets.new ends.new.head ends.new.open_len) f) }
+{
+    for item in items {
+        match add_part(octets, ends, part_of(item)) {
+            Ok(()) => {}
+            Err(fault) => return Err(fault),
+        }
+    }
+    Ok(())
 }
 
 impl NameBuffer {
@@ -38,8 +139,10 @@ impl NameBuffer {
     {
         NameBuffer {
             octets: [0; 255],
-            head: 0,
-            open_len: 0,
+            ends: Ends {
+                head: 0,
+                open_len: 0,
+            },
         }
     }
 
@@ -48,33 +151,14 @@ impl NameBuffer {
     pub(crate) fn in_label(&self) -> bool
         ensures { result ≡ nat_lt 0 (length self.now.open_label) }
     {
-        self.open_len > 0
+        self.ends.open_len > 0
     }
 
     /// Whether there is a finished label.
     pub(crate) fn has_label(&self) -> bool
         ensures { result ≡ nat_lt 0 (length self.now.labels) }
     {
-        self.head > 0
-    }
-
-    /// Adds an octet to the open label, or opens one.
-    #[inline(always)]
-    fn push(&mut self, c: u8) -> Result<(), Fault>
-        ensures taken { OnOk result (too_long (pushed self.old (c ∷ [])) ≡ None) }
-        ensures made { OnOk result (self.new ≡ pushed self.old (c ∷ [])) }
-        ensures refused { IfErr result (λ f. too_long (pushed self.old (c ∷ [])) ≡ Some f) }
-        ensures kept { OnErr result (self.new ≡ self.old) }
-    {
-        if self.head + self.open_len > 252 {
-            return Err(Fault::LongName);
-        }
-        if self.open_len >= 63 {
-            return Err(Fault::LongLabel);
-        }
-        self.octets[self.head + 1 + self.open_len] = c;
-        self.open_len += 1;
-        Ok(())
+        self.ends.head > 0
     }
 
     /// Finishes the open label, if any.
@@ -82,11 +166,7 @@ impl NameBuffer {
     pub(crate) fn end_label(&mut self)
         ensures { self.new ≡ ended self.old }
     {
-        if self.open_len > 0 {
-            self.octets[self.head] = self.open_len as u8;
-            self.head = self.head + 1 + self.open_len;
-            self.open_len = 0;
-        }
+        end_open(&mut self.octets, &mut self.ends);
     }
 
     /// Adds a part of a text: a dot ends the open label.
@@ -97,81 +177,66 @@ impl NameBuffer {
         ensures refused { IfErr result (λ f. refusal self.old part ≡ Some f) }
         ensures kept { OnErr result (self.new ≡ self.old) }
     {
-        match part {
-            Part::Octet(c) => self.push(c),
-            Part::Dot => {
-                if !self.in_label() {
-                    return Err(Fault::EmptyLabel);
-                }
-                self.end_label();
-                Ok(())
-            }
-            Part::Bracket => {
-                if !self.in_label() {
-                    return Err(Fault::BinaryLabel);
-                }
-                self.push(b'[')
-            }
-            Part::Nothing(fault) => Err(fault),
+        add_part(&mut self.octets, &mut self.ends, part)
+    }
+
+    /// Adds what is read of a text, up to the first part that is refused.
+    #[inline(always)]
+    pub(crate) fn push_parts<I: Iterator<Item = Result<Symbol, SymbolCharsError>> + Drop>(
+        &mut self,
+        items: I,
+    ) -> Result<(), Fault>
+        requires can { I.can_next items }
+        requires ends { IsFinite (I.remaining items) }
+        ensures { (all : List (Result Symbol SymbolCharsError)) → AlwaysYields I.next_gives (λ x. x) items all →
+            MatchResult result (λ _. Makes self.old (parts all) self.new) (λ f. StopsAt self.old (parts all) self.new f) }
+    {
+        let mut ends = self.ends;
+        let read = add_parts(&mut self.octets, &mut ends, items);
+        self.ends = ends;
+        read
+    }
+
+    /// The number of octets of the labels, the open one among them.
+    #[inline(always)]
+    pub(crate) fn len(&self) -> usize
+        ensures size { result ≡ size self.now }
+        ensures short { result ≤ 254 }
+    {
+        if self.ends.open_len > 0 {
+            self.ends.head + 1 + self.ends.open_len
+        } else {
+            self.ends.head
         }
     }
 
-    /// The wire form of the labels and the root, in one piece that is appended once.
+    /// Appends the wire form of the labels and the root, in one piece.
     #[inline(always)]
-    pub(crate) fn make_name<Octs: FromBuilder + Drop>(
+    pub(crate) fn append_name<B: OctetsBuilder>(
         &mut self,
-        alloc: Global,
-    ) -> Result<Octs, ShortBuf>
-    where
-        Octs::Builder: EmptyBuilder + Drop,
-        ensures wire { IfOk result (λ octets. IsAbsoluteWire (Octs.octets octets)) }
-        ensures labels { IfOk result (λ octets. labels_in (Octs.octets octets) ≡ closed self.old ++ Root) }
-        ensures err { OnErr result (MayLackRoom Octs.Builder.ROOM (size self.old + 1)) }
+        target: &mut B,
+    ) -> Result<(), B::AppendError>
+        ensures name { IsAbsoluteName (closed self.old ++ Root) }
+        ensures ok { OnOk result (B.octets target.new ≡ B.octets target.old ++ wire (closed self.old ++ Root)) }
+        ensures full { OnErr result (B.capacity target.old < length (B.octets target.old) + (size self.old + 1)) }
     {
         self.end_label();
-        self.octets[self.head] = 0;
-        octets_of(&self.octets[..self.head + 1], alloc)
+        self.octets[self.ends.head] = 0;
+        target.append_slice(&self.octets[..self.ends.head + 1])
     }
 
-    /// The wire form of the labels, in one piece that is appended once.
+    /// Appends the wire form of the labels, in one piece.
     #[inline(always)]
-    pub(crate) fn make_relative<Octs: FromBuilder + Drop>(
+    pub(crate) fn append_relative<B: OctetsBuilder>(
         &mut self,
-        alloc: Global,
-    ) -> Result<Octs, ShortBuf>
-    where
-        Octs::Builder: EmptyBuilder + Drop,
-        ensures wire { IfOk result (λ octets. IsRelativeWire (Octs.octets octets)) }
-        ensures labels { IfOk result (λ octets. labels_in (Octs.octets octets) ≡ closed self.old) }
-        ensures err { OnErr result (MayLackRoom Octs.Builder.ROOM (size self.old)) }
+        target: &mut B,
+    ) -> Result<(), B::AppendError>
+        ensures name { IsRelativeName (closed self.old) }
+        ensures ok { OnOk result (B.octets target.new ≡ B.octets target.old ++ wire (closed self.old)) }
+        ensures full { OnErr result (B.capacity target.old < length (B.octets target.old) + size self.old) }
     {
         self.end_label();
-        octets_of(&self.octets[..self.head], alloc)
-    }
-
-    /// The wire form of the labels and the root, in a fixed room that asks for no memory.
-    #[inline(always)]
-    pub(crate) fn make_name_array<const N: usize>(&mut self) -> Result<ArrayVec<u8, N>, ShortBuf>
-        ensures wire { IfOk result (λ octets. IsAbsoluteWire octets.items) }
-        ensures labels { IfOk result (λ octets. labels_in octets.items ≡ closed self.old ++ Root) }
-        ensures err { OnErr result (N < length (wire (closed self.old ++ Root))) }
-    {
-        self.end_label();
-        self.octets[self.head] = 0;
-        array_of(&self.octets[..self.head + 1])
-    }
-
-    /// The wire form of the labels, in a fixed room that asks for no memory.
-    #[inline(always)]
-    pub(crate) fn make_relative_array<const N: usize>(
-        &mut self,
-    ) -> Result<ArrayVec<u8, N>, ShortBuf>
-        ensures wire { IfOk result (λ octets. IsRelativeWire octets.items) }
-        ensures labels { IfOk result (λ octets. labels_in octets.items ≡ closed self.old) }
-        ensures err { OnErr result (N < size self.old) }
-    {
-        self.end_label();
-        array_of(&self.octets[..self.head])
+        target.append_slice(&self.octets[..self.ends.head])
     }
 }
 
@@ -189,17 +254,5 @@ where
     match target.append_slice(slice) {
         Ok(()) => Ok(Octs::from_builder(target)),
         Err(e) => Err(e.into()),
-    }
-}
-
-/// The octets of the slice in a fixed room.
-pub(crate) fn array_of<const N: usize>(slice: &[u8]) -> Result<ArrayVec<u8, N>, ShortBuf>
-    ensures ok { IfOk result (λ octets. octets.items ≡ slice.now) }
-    ensures err { OnErr result (N < length slice.now) }
-{
-    let mut target = ArrayVec::new();
-    match OctetsBuilder::append_slice(&mut target, slice) {
-        Ok(()) => Ok(target),
-        Err(e) => Err(e),
     }
 }

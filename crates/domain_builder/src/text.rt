@@ -16,28 +16,8 @@ use crate::error::{FromStrError, RelativeFromStrError};
 use crate::part::{Fault, Part, part_of};
 use arrayvec::ArrayVec;
 use domain_label::scan::{Symbol, SymbolCharsError, Symbols, WholeSymbols};
-use octseq::{EmptyBuilder, FromBuilder};
+use octseq::{EmptyBuilder, FromBuilder, ShortBuf};
 use std::alloc::Global;
-
-/// Adds what is read of a text, up to the first part that is refused.
-#[inline(always)]
-fn read_parts<I: Iterator<Item = Result<Symbol, SymbolCharsError>> + Drop>(
-    buffer: &mut NameBuffer,
-    items: I,
-) -> Result<(), Fault>
-    requires can { I.can_next items }
-    requires ends { IsFinite (I.remaining items) }
-    ensures { (all : List (Result Symbol SymbolCharsError)) → AlwaysYields I.next_gives (λ x. x) items all →
-        MatchResult result (λ _. Makes buffer.old (parts all) buffer.new) (λ f. StopsAt buffer.old (parts all) buffer.new f) }
-{
-    for item in items {
-        match buffer.push_part(part_of(item)) {
-            Ok(()) => {}
-            Err(fault) => return Err(fault),
-        }
-    }
-    Ok(())
-}
 
 /// Reads the text of an absolute name into a buffer. What it then holds are the labels before the root.
 #[inline(always)]
@@ -62,7 +42,7 @@ fn read_name<I: Iterator<Item = Result<Symbol, SymbolCharsError>> + Drop>(
         }
     }
     match buffer.push_part(first) {
-        Ok(()) => read_parts(buffer, items),
+        Ok(()) => buffer.push_parts(items),
         Err(fault) => Err(fault),
     }
 }
@@ -91,7 +71,7 @@ fn read_relative<I: Iterator<Item = Result<Symbol, SymbolCharsError>> + Drop>(
     ensures { (all : List (Result Symbol SymbolCharsError)) → AlwaysYields I.next_gives (λ x. x) items all →
         MatchResult result (λ _. IsRelativeText (parts all) (closed buffer.new)) (λ why. NoRelative (parts all) why) }
 {
-    match read_parts(buffer, items) {
+    match buffer.push_parts(items) {
         Ok(()) => {}
         Err(fault) => return Err(Some(fault)),
     }
@@ -106,6 +86,7 @@ fn read_relative<I: Iterator<Item = Result<Symbol, SymbolCharsError>> + Drop>(
 
 /// The octets of the absolute name that is read of a text. A fault of the text is told before a want of
 /// room.
+#[tactic(auto, using(crate::proofs::OneOutcome::size_root))]
 #[inline(always)]
 fn absolute_from_items<
     Octs: FromBuilder + Drop,
@@ -124,9 +105,16 @@ where
         Ok(()) => {}
         Err(fault) => return Err(fault.into()),
     }
-    match buffer.make_name(alloc) {
-        Ok(octets) => Ok(octets),
-        Err(short) => Err(short.into()),
+    let mut target = match Octs::Builder::with_capacity(alloc, buffer.len() + 1) {
+        Ok(target) => target,
+        Err(short) => return Err(short.into()),
+    };
+    match buffer.append_name(&mut target) {
+        Ok(()) => Ok(Octs::from_builder(target)),
+        Err(refused) => {
+            let short: ShortBuf = refused.into();
+            Err(short.into())
+        }
     }
 }
 
@@ -150,9 +138,16 @@ where
         Err(None) => return Err(RelativeFromStrError::AbsoluteName),
         Err(Some(fault)) => return Err(RelativeFromStrError::FromStr(fault.into())),
     }
-    match buffer.make_relative(alloc) {
-        Ok(octets) => Ok(octets),
-        Err(short) => Err(RelativeFromStrError::FromStr(short.into())),
+    let mut target = match Octs::Builder::with_capacity(alloc, buffer.len()) {
+        Ok(target) => target,
+        Err(short) => return Err(RelativeFromStrError::FromStr(short.into())),
+    };
+    match buffer.append_relative(&mut target) {
+        Ok(()) => Ok(Octs::from_builder(target)),
+        Err(refused) => {
+            let short: ShortBuf = refused.into();
+            Err(RelativeFromStrError::FromStr(short.into()))
+        }
     }
 }
 
@@ -252,6 +247,7 @@ where
 }
 
 /// The octets of the absolute name that is read of a text, in a fixed room that asks for no memory.
+#[tactic(auto, using(crate::proofs::OneOutcome::size_root))]
 #[inline(always)]
 fn absolute_array_from_items<
     const N: usize,
@@ -268,8 +264,9 @@ fn absolute_array_from_items<
         Ok(()) => {}
         Err(fault) => return Err(fault.into()),
     }
-    match buffer.make_name_array() {
-        Ok(octets) => Ok(octets),
+    let mut name = ArrayVec::new();
+    match buffer.append_name(&mut name) {
+        Ok(()) => Ok(name),
         Err(short) => Err(short.into()),
     }
 }
@@ -292,8 +289,9 @@ fn relative_array_from_items<
         Err(None) => return Err(RelativeFromStrError::AbsoluteName),
         Err(Some(fault)) => return Err(RelativeFromStrError::FromStr(fault.into())),
     }
-    match buffer.make_relative_array() {
-        Ok(octets) => Ok(octets),
+    let mut labels = ArrayVec::new();
+    match buffer.append_relative(&mut labels) {
+        Ok(()) => Ok(labels),
         Err(short) => Err(RelativeFromStrError::FromStr(short.into())),
     }
 }

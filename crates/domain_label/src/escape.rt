@@ -8,6 +8,7 @@ ghost use Rattle.domain_label.specs.Scanning.{GivesEscape, GivesDigit};
 use crate::symbol::{Symbol, SymbolCharsError};
 
 /// Reads what follows a backslash.
+#[inline(always)]
 pub(crate) fn escape<I: Iterator<Item = char>>(chars: &mut I) -> Result<Symbol, SymbolCharsError>
     requires can { I.can_next chars.old }
     requires ends { IsFinite (I.remaining chars.old) }
@@ -23,6 +24,7 @@ pub(crate) fn escape<I: Iterator<Item = char>>(chars: &mut I) -> Result<Symbol, 
 }
 
 /// Reads an escape whose first character behind the backslash was read.
+#[inline(always)]
 pub(crate) fn escape_at<I: Iterator<Item = char>>(
     first: char,
     chars: &mut I,

@@ -158,6 +158,7 @@ impl<Octs: Octets> Name<Octs> {
     ghost use Rattle.domain_name.specs.Suffixes.{suffix_lists_left};
 
     /// The name whose wire form the octets are known to be. They aren't tested again.
+    #[inline(always)]
     pub fn from_wire(octets: Octs) -> Name<Octs>
         requires { IsAbsoluteWire (Octs.octets octets) }
         ensures { name_holder result ≡ octets }

@@ -156,6 +156,7 @@ impl<Octs: Octets> RelativeName<Octs> {
     ghost use Rattle.domain_name.specs.Names.{relative_octets, relative_labels, relative_holder};
 
     /// The name whose wire form the octets are known to be. They aren't tested again.
+    #[inline(always)]
     pub fn from_wire(octets: Octs) -> RelativeName<Octs>
         requires { IsRelativeWire (Octs.octets octets) }
         ensures { relative_holder result ≡ octets }

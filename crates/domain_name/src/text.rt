@@ -44,6 +44,7 @@ where
     /// none is open, `LongName` past 254 octets before the root, else `LongLabel` past 63 in a label.
     /// `ShortBuf` only where there is no fault: the octets, which are appended once, don't fit, or memory
     /// was refused.
+    #[inline(always)]
     pub fn from_chars<I: Iterator<Item = char> + Drop>(
         alloc: Global,
         chars: I,
@@ -64,6 +65,7 @@ where
     }
 
     /// Reads an absolute name from symbols, as `from_chars` does from the characters that spell them.
+    #[inline(always)]
     pub fn from_symbols<I: Iterator<Item = Symbol> + Drop>(
         alloc: Global,
         symbols: I,
@@ -102,6 +104,7 @@ where
 
 impl Name<Vec<u8>> {
     /// Reads an absolute name from text, as `from_chars` does. `ShortBuf` only where memory was refused.
+    #[inline(always)]
     pub fn vec_from_str(alloc: Global, text: &str) -> Result<Self, FromStrError>
         ensures ok { IfOk result (λ name. SpellsName (chars text.now) (name_labels name)) }
         ensures err { IfErr result (NoNameRead None (chars text.now)) }
@@ -124,6 +127,7 @@ impl<const N: usize> FromStr for Name<ArrayVec<u8, N>> {
 
     ghost from_str_gives = { λ text r. ReadsName name_labels (Some N) (chars text) r };
 
+    #[inline(always)]
     fn from_str(text: &str) -> Result<Self, FromStrError> {
         match absolute_array_from_str(text) {
             Ok(octets) => Ok(Name::from_wire(octets)),
@@ -142,6 +146,7 @@ where
     /// but that a single dot is `EmptyLabel`; `AbsoluteName` where there is none and a dot stands behind the
     /// last label. `ShortBuf` only where there is no fault: the octets, which are appended once, don't fit,
     /// or memory was refused.
+    #[inline(always)]
     pub fn from_chars<I: Iterator<Item = char> + Drop>(
         alloc: Global,
         chars: I,
@@ -164,6 +169,7 @@ where
 
 impl RelativeName<Vec<u8>> {
     /// Reads a relative name from text, as `from_chars` does. `ShortBuf` only where memory was refused.
+    #[inline(always)]
     pub fn vec_from_str(alloc: Global, text: &str) -> Result<Self, RelativeFromStrError>
         ensures ok { IfOk result (λ name. SpellsRelative (chars text.now) (relative_labels name)) }
         ensures err { IfErr result (NoRelativeRead None (chars text.now)) }
@@ -186,6 +192,7 @@ impl<const N: usize> FromStr for RelativeName<ArrayVec<u8, N>> {
 
     ghost from_str_gives = { λ text r. ReadsRelative relative_labels (Some N) (chars text) r };
 
+    #[inline(always)]
     fn from_str(text: &str) -> Result<Self, RelativeFromStrError> {
         match relative_array_from_str(text) {
             Ok(octets) => Ok(RelativeName::from_wire(octets)),

@@ -24,7 +24,7 @@ pub returns-in-Ok : goal.returns-in-Ok
 returns-in-Ok g c = λ all h.
     let n = given_some g.I.Iterator.next_gives c.args.items c.next.new.self c.in-Some.item all h c.in-Some.ensures.steps in
     let other : part c.in-Some.item ≢ Dot = λ e. c.if-is_dot.ensures (c.part_of-first.ensures ∙ e) in
-    name_rest all n.0 c.in-Some.item c.args.buffer.now c.push_part.new.self c.read_parts.new.buffer c.read_parts.result c.requires.empty n.1 other (ap (refusal c.args.buffer.now) (sym c.part_of-first.ensures) ∙ c.in-Ok.ensures.taken) (c.in-Ok.ensures.made ∙ ap (after c.args.buffer.now) c.part_of-first.ensures) (c.read_parts.ensures n.0 n.2)
+    name_rest all n.0 c.in-Some.item c.args.buffer.now c.push_part.new.self c.push_parts.new.self c.push_parts.result c.requires.empty n.1 other (ap (refusal c.args.buffer.now) (sym c.part_of-first.ensures) ∙ c.in-Ok.ensures.taken) (c.in-Ok.ensures.made ∙ ap (after c.args.buffer.now) c.part_of-first.ensures) (c.push_parts.ensures n.0 n.2)
 
 pub returns-in-Err : goal.returns-in-Err
 returns-in-Err g c = λ all h.
