@@ -2,8 +2,8 @@
 use Rattle.std.proofs.Common.{IfSome, ◌≡◌, ℕ, ◌+◌, ◌<◌, ◌≤◌, List, [], ◌∷◌, ◌++◌, length, take, drop, Option, None, Some, refl, ap, sym, ◌∙◌, arith, append_assoc, length-append, append-nil, subst, true, false, is_some, set, ◌-◌}
 use Rattle.std.proofs.Math.Seq.{set-append_seam}
 use Rattle.std.proofs.lemmas.Grind.{common_steps}
-use Rattle.domain_label.specs.Wire.{wire, labels_in, IsRelative, IsRelativeName, IsAbsoluteWire, IsRelativeWire, Root}
-use Rattle.domain_label.proofs.WireLaws.{labels_in_wire, wire_absolute, wire_append, relative_then_absolute, relative_then_relative}
+use Rattle.domain_label.specs.Wire.{wire, labels_in, IsRelative, IsRelativeName, IsAbsoluteName, IsAbsoluteWire, IsRelativeWire, Root}
+use Rattle.domain_label.proofs.WireLaws.{labels_in_wire, wire_absolute, wire_relative, wire_append, relative_then_absolute, relative_then_relative}
 use Rattle.domain_builder.specs.Built.{Built, shown, shown_label, closed_with, closed, size, pushed, ended, labelled, named}
 use Rattle.domain_builder.specs.Inside.{Held, room, view_of, head_of, IsInside}
 
@@ -299,3 +299,10 @@ origin_exceeds limit held later capacity s x h e grows fixed v i full =
     let whole : s ≡ wire (closed held.built) = i.octets ∙ ap shown v ∙ append-nil (wire (closed held.built)) in
     let over : room limit later < size held.built + length x = exceeds limit later capacity (size held.built + length x) e fixed (omega (arith, ap length whole, full)) in
     omega (arith, room_grows limit held later grows, over)
+
+-- octets that are the wire form of a name's labels
+pub relative_of : (s : List ℕ) (ls : List (List ℕ)) → s ≡ wire ls → IsRelativeName ls → IsRelativeWire s × (labels_in s ≡ ls)
+relative_of s ls e r = (subst IsRelativeWire (sym e) (wire_relative ls r), ap labels_in e ∙ labels_in_wire ls)
+
+pub absolute_of : (s : List ℕ) (ls : List (List ℕ)) → s ≡ wire ls → IsAbsoluteName ls → IsAbsoluteWire s × (labels_in s ≡ ls)
+absolute_of s ls e a = (subst IsAbsoluteWire (sym e) (wire_absolute ls a), ap labels_in e ∙ labels_in_wire ls)

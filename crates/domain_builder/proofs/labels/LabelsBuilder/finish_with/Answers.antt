@@ -3,12 +3,12 @@ use Rattle.domain_builder.specs.Inside.{Held}
 use Rattle.domain_builder.proofs.Building.{with_origin, origin_exceeds}
 use Rattle.domain_builder.proofs.labels.LabelsBuilder.finish_with.Goals as goal
 
-pub returns-in-Ok-clause-wire : goal.returns-in-Ok-clause-wire
-returns-in-Ok-clause-wire g c =
+pub returns-clause-wire : goal.returns-clause-wire
+returns-clause-wire g c =
     (with_origin (g.B.Octets'.octets c.self.inside.builder) c.args.origin.now _ c.self.inside.head c.args.self.built c.is_name.ensures (ap (λ (v : Held). v.built) c.self.view_is ∙ c.end_label.ensures.ended) c.self.invariant c.requires.origin c.requires.short (c.freeze.ensures ∙ c.in-Ok.ensures.ok)).0
 
-pub returns-in-Ok-clause-labels : goal.returns-in-Ok-clause-labels
-returns-in-Ok-clause-labels g c =
+pub returns-clause-labels : goal.returns-clause-labels
+returns-clause-labels g c =
     (with_origin (g.B.Octets'.octets c.self.inside.builder) c.args.origin.now _ c.self.inside.head c.args.self.built c.is_name.ensures (ap (λ (v : Held). v.built) c.self.view_is ∙ c.end_label.ensures.ended) c.self.invariant c.requires.origin c.requires.short (c.freeze.ensures ∙ c.in-Ok.ensures.ok)).1
 
 pub returns-in-Err-clause-full : goal.returns-in-Err-clause-full
