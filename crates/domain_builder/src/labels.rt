@@ -357,6 +357,21 @@ impl<B: OctetsBuilder + OctetsMut> LabelsBuilder<B> {
         }
         Ok(())
     }
+
+    /// Finishes the open label and gives the builder beneath, which has the labels in their wire form.
+    #[inline(always)]
+    pub fn into_builder(mut self) -> B
+        ensures wire { IsRelativeWire (B.octets result) }
+        ensures labels { labels_in (B.octets result) ≡ closed self.built }
+        ensures size { length (B.octets result) ≡ size self.built }
+        ensures room { room B.limit self ≤ B.capacity result }
+    {
+        self.is_name();
+        self.end_label();
+        let _size = self.len();
+        let LabelsBuilder { builder, head: _ } = self;
+        builder
+    }
 }
 
 impl<B: OctetsBuilder + OctetsMut + FreezeBuilder + Drop> LabelsBuilder<B>
@@ -365,36 +380,28 @@ where
 {
     /// Finishes the open label and gives the labels in their wire form.
     #[inline(always)]
-    pub fn finish(mut self) -> B::Octets
+    pub fn finish(self) -> B::Octets
         ensures wire { IsRelativeWire (⟦<B::Octets as Octets>⟧.octets result) }
         ensures labels { labels_in (⟦<B::Octets as Octets>⟧.octets result) ≡ closed self.built }
     {
-        self.is_name();
-        self.end_label();
-        let _size = self.len();
-        let LabelsBuilder { builder, head: _ } = self;
-        builder.freeze()
+        self.into_builder().freeze()
     }
 
     /// Finishes the open label and gives the labels, and behind them those of an absolute name whose wire
     /// form is `origin`, in their wire form.
     #[inline(always)]
-    pub fn finish_with(mut self, origin: &[u8]) -> Result<B::Octets, ShortBuf>
+    pub fn finish_with(self, origin: &[u8]) -> Result<B::Octets, ShortBuf>
         requires origin { IsAbsoluteWire origin.now }
         requires short { size self.built + length origin.now ≤ 255 }
         ensures wire { IfOk result (λ octets. IsAbsoluteWire (⟦<B::Octets as Octets>⟧.octets octets)) }
         ensures labels { IfOk result (λ octets. labels_in (⟦<B::Octets as Octets>⟧.octets octets) ≡ closed self.built ++ labels_in origin.now) }
         ensures full { OnErr result (room B.limit self < size self.built + length origin.now) }
     {
-        self.is_name();
-        self.end_label();
-        let _size = self.len();
-        match self.builder.append_slice(origin) {
-            Ok(()) => {}
-            Err(_) => return Err(ShortBuf),
+        let mut builder = self.into_builder();
+        match append_absolute(&mut builder, origin) {
+            Ok(()) => Ok(builder.freeze()),
+            Err(e) => Err(e),
         }
-        let LabelsBuilder { builder, head: _ } = self;
-        Ok(builder.freeze())
     }
 }
 
@@ -538,6 +545,24 @@ fn put_headed(octets: &mut [u8], start: usize, head: u8, slice: &[u8])
 {
     octets[start] = head;
     octets[start + 1..].copy_from_slice(slice);
+}
+
+/// Appends an absolute name behind a relative one, both in their wire form, or nothing.
+#[inline(always)]
+pub fn append_absolute<B: OctetsBuilder>(builder: &mut B, origin: &[u8]) -> Result<(), ShortBuf>
+    requires relative { IsRelativeWire (B.octets builder.old) }
+    requires origin { IsAbsoluteWire origin.now }
+    requires short { length (B.octets builder.old) + length origin.now ≤ 255 }
+    ensures wire { OnOk result (IsAbsoluteWire (B.octets builder.new)) }
+    ensures labels { OnOk result (labels_in (B.octets builder.new) ≡ labels_in (B.octets builder.old) ++ labels_in origin.now) }
+    ensures kept { OnErr result (B.octets builder.new ≡ B.octets builder.old) }
+    ensures full { OnErr result (B.capacity builder.old < length (B.octets builder.old) + length origin.now) }
+{
+    match builder.append_slice(origin) {
+        Ok(()) => {}
+        Err(_) => return Err(ShortBuf),
+    }
+    Ok(())
 }
 
 /// Writes one octet.

@@ -20,7 +20,7 @@ ghost use Rattle.domain_name.specs.Names.{name_labels, relative_labels};
 use crate::absolute::Name;
 use crate::relative::RelativeName;
 use arrayvec::ArrayVec;
-use domain_builder::{FromStrError, LabelsBuilder, PushError, PushNameError};
+use domain_builder::{FromStrError, LabelsBuilder, PushError, PushNameError, append_absolute};
 use domain_flat::{RelativeNameError, check_relative};
 use domain_label::scan::Symbol;
 use domain_list::{AbsoluteLabels, RelativeLabels};
@@ -377,12 +377,13 @@ where
         ensures ok { IfOk result (λ name. name_labels name ≡ closed (built self) ++ Root) }
         ensures err { IfErr result (λ e. (e ≡ push.ShortBuf) × (room B.limit (held self) < size (built self) + 1)) }
     {
-        let NameBuilder { labels } = self;
-        let _short = labels.len();
-        match labels.finish_with(&[0]) {
-            Ok(octets) => Ok(Name::from_wire(octets)),
-            Err(_) => Err(PushError::ShortBuf),
+        let _short = self.labels.len();
+        let mut builder = self.labels.into_builder();
+        match append_absolute(&mut builder, &[0]) {
+            Ok(()) => {}
+            Err(_) => return Err(PushError::ShortBuf),
         }
+        Ok(Name::from_wire(builder.freeze()))
     }
 
     /// Finishes the open label and gives the labels and behind them those of an absolute name of any kind,
