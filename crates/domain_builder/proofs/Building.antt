@@ -2,8 +2,8 @@
 use Rattle.std.proofs.Common.{IfSome, ◌≡◌, ℕ, ◌+◌, ◌<◌, ◌≤◌, List, [], ◌∷◌, ◌++◌, length, take, drop, Option, None, Some, refl, ap, sym, ◌∙◌, arith, append_assoc, length-append, append-nil, subst, true, false, is_some, set, ◌-◌}
 use Rattle.std.proofs.Math.Seq.{set-append_seam}
 use Rattle.std.proofs.lemmas.Grind.{common_steps}
-use Rattle.domain_label.specs.Wire.{wire, labels_in, IsRelative, IsRelativeName, IsAbsoluteWire, IsRelativeWire, Root}
-use Rattle.domain_label.proofs.WireLaws.{labels_in_wire, wire_absolute, wire_append, relative_then_absolute, relative_then_relative}
+use Rattle.domain_label.specs.Wire.{wire, labels_in, IsRelative, IsRelativeName, IsAbsoluteName, IsAbsoluteWire, IsRelativeWire, Root}
+use Rattle.domain_label.proofs.WireLaws.{labels_in_wire, wire_absolute, wire_relative, wire_append, relative_then_absolute, relative_then_relative}
 use Rattle.domain_builder.specs.Built.{Built, shown, shown_label, closed_with, closed, size, pushed, ended, labelled, named}
 use Rattle.domain_builder.specs.Inside.{Held, room, view_of, head_of, IsInside}
 
@@ -284,18 +284,22 @@ pub room_grows : (limit : Option ℕ) (a b : Held) → a.capacity ≤ b.capacity
 room_grows None a b h = h
 room_grows (Some k) a b h = omega arith
 
--- finished labels, and behind them those of an absolute name
-pub with_origin : (s x t : List ℕ) (h : Option ℕ) (b : Built) → IsRelativeName (closed b) → view_of s h ≡ ended b → IsInside s h → IsAbsoluteWire x → size b + length x ≤ 255 → t ≡ s ++ x → IsAbsoluteWire t × (labels_in t ≡ closed b ++ labels_in x)
-with_origin s x t h b r v i w small e =
-    let ls : List (List ℕ) = closed b ++ labels_in x in
-    let whole : s ≡ wire (closed b) = i.octets ∙ ap shown v ∙ append-nil (wire (closed b)) in
-    let joined : t ≡ wire ls = e ∙ ap (λ (y : List ℕ). y ++ x) whole ∙ ap (λ (y : List ℕ). wire (closed b) ++ y) (sym w.0) ∙ sym (wire_append (closed b) (labels_in x)) in
-    let short : length (wire ls) ≤ 255 = omega (arith, ap length joined, ap length e, length-append s x, ap length whole, small) in
-    (subst IsAbsoluteWire (sym joined) (wire_absolute ls (relative_then_absolute (closed b) (labels_in x) r.0 w.1.0, short)), ap labels_in joined ∙ labels_in_wire ls)
+-- octets that are the wire form of a name's labels
+pub relative_of : (s : List ℕ) (ls : List (List ℕ)) → s ≡ wire ls → IsRelativeName ls → IsRelativeWire s × (labels_in s ≡ ls)
+relative_of s ls e r = (subst IsRelativeWire (sym e) (wire_relative ls r), ap labels_in e ∙ labels_in_wire ls)
 
--- an origin that doesn't fit behind them exceeds the room
-pub origin_exceeds : (limit : Option ℕ) (held later : Held) (capacity : ℕ) (s x : List ℕ) (h : Option ℕ) → later.capacity ≡ capacity → held.capacity ≤ later.capacity → IfSome limit (λ k. capacity ≡ k) → view_of s h ≡ ended held.built → IsInside s h → capacity < length s + length x → room limit held < size held.built + length x
-origin_exceeds limit held later capacity s x h e grows fixed v i full =
-    let whole : s ≡ wire (closed held.built) = i.octets ∙ ap shown v ∙ append-nil (wire (closed held.built)) in
-    let over : room limit later < size held.built + length x = exceeds limit later capacity (size held.built + length x) e fixed (omega (arith, ap length whole, full)) in
-    omega (arith, room_grows limit held later grows, over)
+pub absolute_of : (s : List ℕ) (ls : List (List ℕ)) → s ≡ wire ls → IsAbsoluteName ls → IsAbsoluteWire s × (labels_in s ≡ ls)
+absolute_of s ls e a = (subst IsAbsoluteWire (sym e) (wire_absolute ls a), ap labels_in e ∙ labels_in_wire ls)
+
+-- an absolute name behind a relative one
+pub absolute_behind : (s x t : List ℕ) → IsRelativeWire s → IsAbsoluteWire x → length s + length x ≤ 255 → t ≡ s ++ x → IsAbsoluteWire t × (labels_in t ≡ labels_in s ++ labels_in x)
+absolute_behind s x t r a small e =
+    let ls : List (List ℕ) = labels_in s ++ labels_in x in
+    let joined : t ≡ wire ls = e ∙ ap (λ (y : List ℕ). y ++ x) (sym r.0) ∙ ap (λ (y : List ℕ). wire (labels_in s) ++ y) (sym a.0) ∙ sym (wire_append (labels_in s) (labels_in x)) in
+    let short : length (wire ls) ≤ 255 = omega (arith, ap length joined, ap length e, length-append s x, small) in
+    absolute_of t ls joined (relative_then_absolute (labels_in s) (labels_in x) r.1.0 a.1.0, short)
+
+-- the room isn't more than the capacity that there is later
+pub room_held : (limit : Option ℕ) (held later : Held) (capacity : ℕ) → later.capacity ≡ capacity → held.capacity ≤ later.capacity → IfSome limit (λ k. capacity ≡ k) → room limit held ≤ capacity
+room_held None held later capacity e grows fixed = omega (arith, e, grows)
+room_held (Some k) held later capacity e grows fixed = omega (arith, fixed)

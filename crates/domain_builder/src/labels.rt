@@ -8,7 +8,7 @@ ghost use Rattle.domain_builder.specs.Pushing.{NameThenLabel, LabelThenName, Nam
 
 use crate::push_error::{PushError, PushNameError};
 use arrayvec::ArrayVec;
-use domain_list::composing::compose_labels;
+use domain_list::composing::put_name;
 use domain_list::{AbsoluteLabels, RelativeLabels};
 use octseq::{EmptyBuilder, FreezeBuilder, Octets, OctetsBuilder, OctetsFrom, OctetsMut, ShortBuf};
 use std::alloc::Global;
@@ -34,6 +34,7 @@ impl<B: OctetsBuilder + OctetsMut> Model for LabelsBuilder<B> {
 
 impl<B: EmptyBuilder + OctetsMut> LabelsBuilder<B> {
     /// A builder of nothing.
+    #[inline(always)]
     pub fn new(alloc: Global) -> Self
         ensures built { result.built ≡ nothing }
         ensures room { IfSome B.ROOM (λ n. result.capacity ≡ n) }
@@ -76,6 +77,7 @@ impl<B: OctetsBuilder + OctetsMut> LabelsBuilder<B> {
     }
 
     /// Whether a label is open.
+    #[inline(always)]
     pub fn in_label(&self) -> bool
         ensures { result ≡ nat_lt 0 (length self.now.built.open_label) }
     {
@@ -83,6 +85,7 @@ impl<B: OctetsBuilder + OctetsMut> LabelsBuilder<B> {
     }
 
     /// The octets, in which an open label's length is 0.
+    #[inline(always)]
     pub fn as_slice(&self) -> &[u8]
         ensures octets { result.now ≡ shown self.now.built }
         ensures len { length result.now ≤ 254 }
@@ -94,6 +97,7 @@ impl<B: OctetsBuilder + OctetsMut> LabelsBuilder<B> {
 
     /// The number of octets.
     #[tactic(auto, using(crate::proofs::Building::size_shown))]
+    #[inline(always)]
     pub fn len(&self) -> usize
         ensures size { result ≡ size self.now.built }
         ensures short { result ≤ 254 }
@@ -103,6 +107,7 @@ impl<B: OctetsBuilder + OctetsMut> LabelsBuilder<B> {
     }
 
     /// The number of octets of the open label.
+    #[inline(always)]
     fn open_len(&self) -> usize
         ensures label { result ≡ length self.now.built.open_label }
         ensures short { result ≤ 63 }
@@ -115,6 +120,7 @@ impl<B: OctetsBuilder + OctetsMut> LabelsBuilder<B> {
 
     /// The number of octets with n more in the open label.
     #[tactic(auto, using(crate::proofs::Building::size_pushed_open, crate::proofs::Building::size_pushed_none))]
+    #[inline(always)]
     fn len_with(&self, n: usize) -> usize
         requires some { 0 < n }
         requires small { n < 2 ^ 63 }
@@ -135,6 +141,7 @@ impl<B: OctetsBuilder + OctetsMut> LabelsBuilder<B> {
     }
 
     /// Adds octets that make neither a long label nor a long name.
+    #[inline(always)]
     fn add(&mut self, slice: &[u8]) -> Result<(), PushError>
         requires some { 0 < length slice.now }
         requires label { length (pushed self.old.built slice.now).open_label ≤ 63 }
@@ -151,8 +158,7 @@ impl<B: OctetsBuilder + OctetsMut> LabelsBuilder<B> {
             }
         }
         let head = self.builder.as_slice().len();
-        let octets = headed(0, slice);
-        match self.builder.append_slice(&octets[..slice.len() + 1]) {
+        match append_headed(&mut self.builder, 0, slice) {
             Ok(()) => {}
             Err(_) => return Err(PushError::ShortBuf),
         }
@@ -161,6 +167,7 @@ impl<B: OctetsBuilder + OctetsMut> LabelsBuilder<B> {
     }
 
     /// Adds an octet to the open label, or opens one.
+    #[inline(always)]
     pub fn push(&mut self, ch: u8) -> Result<(), PushError>
         ensures made { OnOk result (self.new.built ≡ pushed self.old.built (ch ∷ [])) }
         ensures kept { OnErr result (self.new.built ≡ self.old.built) }
@@ -178,6 +185,7 @@ impl<B: OctetsBuilder + OctetsMut> LabelsBuilder<B> {
 
     /// Adds octets to the open label, or opens one, but for no octets.
     #[tactic(auto, using(crate::proofs::Building::nothing_pushed))]
+    #[inline(always)]
     pub fn append_slice(&mut self, slice: &[u8]) -> Result<(), PushError>
         ensures made { OnOk result (self.new.built ≡ pushed self.old.built slice.now) }
         ensures kept { OnErr result (self.new.built ≡ self.old.built) }
@@ -199,6 +207,7 @@ impl<B: OctetsBuilder + OctetsMut> LabelsBuilder<B> {
     }
 
     /// Finishes the open label, if any.
+    #[inline(always)]
     pub fn end_label(&mut self)
         ensures ended { self.new.built ≡ ended self.old.built }
         ensures capacity { self.old.capacity ≤ self.new.capacity }
@@ -212,6 +221,7 @@ impl<B: OctetsBuilder + OctetsMut> LabelsBuilder<B> {
 
     /// Finishes the open label and adds a label, but for no octets.
     #[tactic(auto, using(crate::proofs::Building::size_labelled, crate::proofs::Building::labelled_nothing))]
+    #[inline(always)]
     pub fn append_label(&mut self, slice: &[u8]) -> Result<(), PushError>
         ensures made { OnOk result (self.new.built ≡ labelled self.old.built slice.now) }
         ensures kept { OnErr result (self.new.built ≡ self.old.built) }
@@ -234,6 +244,7 @@ impl<B: OctetsBuilder + OctetsMut> LabelsBuilder<B> {
     }
 
     /// Finishes the open label and adds a label that isn't long and makes no long name.
+    #[inline(always)]
     fn add_label(&mut self, slice: &[u8]) -> Result<(), PushError>
         requires some { 0 < length slice.now }
         requires label { length slice.now ≤ 63 }
@@ -244,8 +255,7 @@ impl<B: OctetsBuilder + OctetsMut> LabelsBuilder<B> {
         ensures capacity { self.old.capacity ≤ self.new.capacity }
     {
         let end = self.builder.as_slice().len();
-        let octets = headed(slice.len() as u8, slice);
-        match self.builder.append_slice(&octets[..slice.len() + 1]) {
+        match append_headed(&mut self.builder, slice.len() as u8, slice) {
             Ok(()) => {}
             Err(_) => return Err(PushError::ShortBuf),
         }
@@ -300,17 +310,12 @@ impl<B: OctetsBuilder + OctetsMut> LabelsBuilder<B> {
         ensures answer { NameFits (size (named self.old.built (N.labels name.now))) (room B.limit self.old) result }
         ensures capacity { self.old.capacity ≤ self.new.capacity }
     {
-        if self.len() + name.compose_len() as usize > 254 {
-            return Err(PushNameError::LongName);
+        if let Some(flat) = name.as_flat_slice() {
+            return self.append_wire(flat);
         }
-        let mut octets = ArrayVec::<u8, 255>::new();
-        let Ok(()) = compose_labels(name.iter_labels(), &mut octets) else {
-            unreachable!();
-        };
-        match self.add_labels(octets.as_slice()) {
-            Ok(()) => Ok(()),
-            Err(_) => Err(PushNameError::ShortBuf),
-        }
+        let mut octets = [0; 255];
+        let len = put_name(name, &mut octets);
+        self.append_wire(&octets[..len])
     }
 
     /// Finishes the open label and adds the labels whose wire form the octets are.
@@ -352,6 +357,21 @@ impl<B: OctetsBuilder + OctetsMut> LabelsBuilder<B> {
         }
         Ok(())
     }
+
+    /// Finishes the open label and gives the builder beneath, which has the labels in their wire form.
+    #[inline(always)]
+    pub fn into_builder(mut self) -> B
+        ensures wire { IsRelativeWire (B.octets result) }
+        ensures labels { labels_in (B.octets result) ≡ closed self.built }
+        ensures size { length (B.octets result) ≡ size self.built }
+        ensures room { room B.limit self ≤ B.capacity result }
+    {
+        self.is_name();
+        self.end_label();
+        let _size = self.len();
+        let LabelsBuilder { builder, head: _ } = self;
+        builder
+    }
 }
 
 impl<B: OctetsBuilder + OctetsMut + FreezeBuilder + Drop> LabelsBuilder<B>
@@ -359,36 +379,28 @@ where
     B::Octets: Drop,
 {
     /// Finishes the open label and gives the labels in their wire form.
-    pub fn finish(mut self) -> B::Octets
+    #[inline(always)]
+    pub fn finish(self) -> B::Octets
         ensures wire { IsRelativeWire (⟦<B::Octets as Octets>⟧.octets result) }
         ensures labels { labels_in (⟦<B::Octets as Octets>⟧.octets result) ≡ closed self.built }
     {
-        self.is_name();
-        self.end_label();
-        let _size = self.len();
-        let LabelsBuilder { builder, head: _ } = self;
-        builder.freeze()
+        self.into_builder().freeze()
     }
 
     /// Finishes the open label and gives the labels, and behind them those of an absolute name whose wire
     /// form is `origin`, in their wire form.
-    pub fn finish_with(mut self, origin: &[u8]) -> Result<B::Octets, ShortBuf>
+    #[inline(always)]
+    pub fn finish_with(self, origin: &[u8]) -> Result<B::Octets, ShortBuf>
         requires origin { IsAbsoluteWire origin.now }
         requires short { size self.built + length origin.now ≤ 255 }
         ensures wire { IfOk result (λ octets. IsAbsoluteWire (⟦<B::Octets as Octets>⟧.octets octets)) }
         ensures labels { IfOk result (λ octets. labels_in (⟦<B::Octets as Octets>⟧.octets octets) ≡ closed self.built ++ labels_in origin.now) }
         ensures full { OnErr result (room B.limit self < size self.built + length origin.now) }
     {
-        self.is_name();
-        self.end_label();
-        let _size = self.len();
-        let LabelsBuilder {
-            mut builder,
-            head: _,
-        } = self;
-        match builder.append_slice(origin) {
+        let mut builder = self.into_builder();
+        match append_absolute(&mut builder, origin) {
             Ok(()) => Ok(builder.freeze()),
-            Err(_) => Err(ShortBuf),
+            Err(e) => Err(e),
         }
     }
 }
@@ -407,14 +419,27 @@ where
         ensures labels { IfOk result (λ octets. labels_in (⟦<B::Octets as Octets>⟧.octets octets) ≡ closed self.built ++ N.labels origin.now) }
         ensures answer { OriginFits (size self.built + length (wire (N.labels origin.now))) (room B.limit self) result }
     {
-        if self.len() + origin.compose_len() as usize > 255 {
+        if let Some(flat) = origin.as_flat_slice() {
+            return self.append_origin_wire(flat);
+        }
+        let mut octets = [0; 255];
+        let len = put_name(origin, &mut octets);
+        self.append_origin_wire(&octets[..len])
+    }
+
+    /// Finishes the open label and gives the labels, and behind them those of an absolute name whose wire
+    /// form is `origin`.
+    #[inline(always)]
+    fn append_origin_wire(self, origin: &[u8]) -> Result<B::Octets, PushNameError>
+        requires origin { IsAbsoluteWire origin.now }
+        ensures wire { IfOk result (λ octets. IsAbsoluteWire (⟦<B::Octets as Octets>⟧.octets octets)) }
+        ensures labels { IfOk result (λ octets. labels_in (⟦<B::Octets as Octets>⟧.octets octets) ≡ closed self.built ++ labels_in origin.now) }
+        ensures answer { OriginFits (size self.built + length origin.now) (room B.limit self) result }
+    {
+        if self.len() + origin.len() > 255 {
             return Err(PushNameError::LongName);
         }
-        let mut octets = ArrayVec::<u8, 255>::new();
-        let Ok(()) = compose_labels(origin.iter_labels(), &mut octets) else {
-            unreachable!();
-        };
-        match self.finish_with(octets.as_slice()) {
+        match self.finish_with(origin) {
             Ok(octets) => Ok(octets),
             Err(_) => Err(PushNameError::ShortBuf),
         }
@@ -470,15 +495,74 @@ fn hex_digit(nibble: u8) -> u8
     }
 }
 
-/// A head and the octets behind it.
-fn headed(head: u8, slice: &[u8]) -> [u8; 64]
+/// As many octets as a label has at most with its head.
+static BLANKS: [u8; 64] = [0; 64];
+
+/// Appends a head and the octets behind it, or nothing.
+///
+/// Nothing is put together beforehand: to read that back as soon as it is written takes longer than to write
+/// twice. A full `Vec` grows to twice its octets and to eight at least. Where these are enough, the head is
+/// appended alone, since memory is then asked for once all the same. Else room for all is appended, and written.
+#[inline(always)]
+fn append_headed<B: OctetsBuilder + OctetsMut>(
+    builder: &mut B,
+    head: u8,
+    slice: &[u8],
+) -> Result<(), B::AppendError>
     requires { length slice.now ≤ 63 }
-    ensures { take (length slice.now + 1) result ≡ head ∷ slice.now }
+    ensures ok { OnOk result (B.octets builder.new ≡ B.octets builder.old ++ head ∷ slice.now) }
+    ensures err { OnErr result (B.octets builder.new ≡ B.octets builder.old) }
+    ensures full { OnErr result (B.capacity builder.old < length (B.octets builder.old) + length (head ∷ slice.now)) }
+    ensures capacity { B.capacity builder.old ≤ B.capacity builder.new }
 {
-    let mut octets = [0; 64];
-    octets[0] = head;
-    octets[1..slice.len() + 1].copy_from_slice(slice);
-    octets
+    let start = builder.as_slice().len();
+    if slice.len() < start || start + slice.len() < 8 {
+        match builder.append_slice(&[head]) {
+            Ok(()) => {}
+            Err(e) => return Err(e),
+        }
+        return match builder.append_slice(slice) {
+            Ok(()) => Ok(()),
+            Err(e) => {
+                builder.truncate(start);
+                Err(e)
+            }
+        };
+    }
+    match builder.append_slice(&BLANKS[..slice.len() + 1]) {
+        Ok(()) => {}
+        Err(e) => return Err(e),
+    }
+    put_headed(builder.as_slice_mut(), start, head, slice);
+    Ok(())
+}
+
+/// Writes a head and the octets behind it over those at the end, from a place on.
+#[inline(always)]
+fn put_headed(octets: &mut [u8], start: usize, head: u8, slice: &[u8])
+    requires { start + 1 + length slice.now ≡ length octets.old }
+    ensures { octets.new ≡ take start octets.old ++ head ∷ slice.now }
+{
+    octets[start] = head;
+    octets[start + 1..].copy_from_slice(slice);
+}
+
+/// Appends an absolute name behind a relative one, both in their wire form, or nothing.
+#[inline(always)]
+pub fn append_absolute<B: OctetsBuilder>(builder: &mut B, origin: &[u8]) -> Result<(), ShortBuf>
+    requires relative { IsRelativeWire (B.octets builder.old) }
+    requires origin { IsAbsoluteWire origin.now }
+    requires short { length (B.octets builder.old) + length origin.now ≤ 255 }
+    ensures wire { OnOk result (IsAbsoluteWire (B.octets builder.new)) }
+    ensures labels { OnOk result (labels_in (B.octets builder.new) ≡ labels_in (B.octets builder.old) ++ labels_in origin.now) }
+    ensures kept { OnErr result (B.octets builder.new ≡ B.octets builder.old) }
+    ensures full { OnErr result (B.capacity builder.old < length (B.octets builder.old) + length origin.now) }
+{
+    match builder.append_slice(origin) {
+        Ok(()) => {}
+        Err(_) => return Err(ShortBuf),
+    }
+    Ok(())
 }
 
 /// Writes one octet.

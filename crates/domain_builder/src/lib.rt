@@ -13,7 +13,7 @@ mod reverse;
 pub mod text;
 
 pub use error::{FromStrError, PresentationError, PresentationErrorKind, RelativeFromStrError};
-pub use labels::LabelsBuilder;
+pub use labels::{LabelsBuilder, append_absolute};
 pub use laws::text_laws;
 pub use part::{Fault, Part, part_of};
 pub use push_error::{PushError, PushNameError};

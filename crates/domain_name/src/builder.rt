@@ -20,7 +20,7 @@ ghost use Rattle.domain_name.specs.Names.{name_labels, relative_labels};
 use crate::absolute::Name;
 use crate::relative::RelativeName;
 use arrayvec::ArrayVec;
-use domain_builder::{FromStrError, LabelsBuilder, PushError, PushNameError};
+use domain_builder::{FromStrError, LabelsBuilder, PushError, PushNameError, append_absolute};
 use domain_flat::{RelativeNameError, check_relative};
 use domain_label::scan::Symbol;
 use domain_list::{AbsoluteLabels, RelativeLabels};
@@ -41,6 +41,7 @@ pub struct NameBuilder<B: OctetsBuilder + OctetsMut> {
 
 impl<B: EmptyBuilder + OctetsMut> NameBuilder<B> {
     /// A builder of nothing, which takes no memory yet.
+    #[inline(always)]
     pub fn new(alloc: Global) -> Self
         ensures built { built result ≡ nothing }
         ensures room { IfSome B.ROOM (λ n. (held result).capacity ≡ n) }
@@ -69,6 +70,7 @@ impl<B: EmptyBuilder + OctetsMut> NameBuilder<B> {
 
 impl NameBuilder<Vec<u8>> {
     /// A builder of nothing over a `Vec`, which takes no memory yet.
+    #[inline(always)]
     pub fn new_vec(alloc: Global) -> Self
         ensures { built result ≡ nothing }
     {
@@ -171,6 +173,7 @@ impl<B: OctetsBuilder + OctetsMut> NameBuilder<B> {
 
     /// How many octets there are, with all length octets: at most 254, and never more than a fixed room of the
     /// builder beneath.
+    #[inline(always)]
     pub fn len(&self) -> usize
         ensures size { result ≡ size (built self.now) }
         ensures short { result ≤ 254 }
@@ -187,6 +190,7 @@ impl<B: OctetsBuilder + OctetsMut> NameBuilder<B> {
     }
 
     /// Whether a label is open.
+    #[inline(always)]
     pub fn in_label(&self) -> bool
         ensures { result ≡ nat_lt 0 (length (built self.now).open_label) }
     {
@@ -197,6 +201,7 @@ impl<B: OctetsBuilder + OctetsMut> NameBuilder<B> {
     ///
     /// `LongName` where all would be more than 254 octets; else `LongLabel` where the label would have more
     /// than 63; else `ShortBuf`.
+    #[inline(always)]
     pub fn push(&mut self, ch: u8) -> Result<(), PushError>
         ensures made { OnOk result (built self.new ≡ pushed (built self.old) (ch ∷ [])) }
         ensures kept { OnErr result (built self.new ≡ built self.old) }
@@ -210,6 +215,7 @@ impl<B: OctetsBuilder + OctetsMut> NameBuilder<B> {
     ///
     /// `LongLabel` where the label would have more than 63 octets; else `LongName` where all would be more
     /// than 254; else `ShortBuf`.
+    #[inline(always)]
     pub fn append_slice(&mut self, slice: &[u8]) -> Result<(), PushError>
         ensures made { OnOk result (built self.new ≡ pushed (built self.old) slice.now) }
         ensures kept { OnErr result (built self.new ≡ built self.old) }
@@ -221,6 +227,7 @@ impl<B: OctetsBuilder + OctetsMut> NameBuilder<B> {
     }
 
     /// Finishes the open label, if any. It can't be refused: the length octet has its place already.
+    #[inline(always)]
     pub fn end_label(&mut self)
         ensures ended { built self.new ≡ ended (built self.old) }
         ensures grows { (held self.old).capacity ≤ (held self.new).capacity }
@@ -232,6 +239,7 @@ impl<B: OctetsBuilder + OctetsMut> NameBuilder<B> {
     ///
     /// `LongLabel` where they are more than 63; else `LongName` where all would be more than 254; else
     /// `ShortBuf`.
+    #[inline(always)]
     pub fn append_label(&mut self, label: &[u8]) -> Result<(), PushError>
         ensures made { OnOk result (built self.new ≡ labelled (built self.old) label.now) }
         ensures kept { OnErr result (built self.new ≡ built self.old) }
@@ -353,6 +361,7 @@ where
     B::Octets: Drop,
 {
     /// Finishes the open label and gives the labels as a relative name. It can't be refused.
+    #[inline(always)]
     pub fn finish(self) -> RelativeName<B::Octets>
         ensures { relative_labels result ≡ closed (built self) }
     {
@@ -363,16 +372,18 @@ where
     /// Finishes the open label and gives the labels and the root as an absolute name.
     ///
     /// `ShortBuf` only where the root doesn't fit, or where memory was refused.
+    #[inline(always)]
     pub fn into_name(self) -> Result<Name<B::Octets>, PushError>
         ensures ok { IfOk result (λ name. name_labels name ≡ closed (built self) ++ Root) }
         ensures err { IfErr result (λ e. (e ≡ push.ShortBuf) × (room B.limit (held self) < size (built self) + 1)) }
     {
-        let NameBuilder { labels } = self;
-        let _short = labels.len();
-        match labels.finish_with(&[0]) {
-            Ok(octets) => Ok(Name::from_wire(octets)),
-            Err(_) => Err(PushError::ShortBuf),
+        let _short = self.labels.len();
+        let mut builder = self.labels.into_builder();
+        match append_absolute(&mut builder, &[0]) {
+            Ok(()) => {}
+            Err(_) => return Err(PushError::ShortBuf),
         }
+        Ok(Name::from_wire(builder.freeze()))
     }
 
     /// Finishes the open label and gives the labels and behind them those of an absolute name of any kind,

@@ -12,15 +12,15 @@ returns-in-Err-clause-refused g c =
     let e = size_open _ c.args.slice.now c.self.inside.head c.args.self.now.built (ap (λ (v : Held). v.built) c.self.view_is) c.self.invariant (sym c.is_some.ensures ∙ c.if-is_some.true) in
     (refl, exceeds g.B.OctetsBuilder.limit c.args.self.now (g.B.Octets.capacity c.self.inside.builder) _ (ap (λ (v : Held). v.capacity) (sym c.self.view_is)) (g.met.B.OctetsBuilder.fixed c.self.inside.builder) (rw e c.in-Err.ensures.full))
 
-pub returns-in-Err-append_slice-clause-refused : goal.returns-in-Err-append_slice-clause-refused
-returns-in-Err-append_slice-clause-refused g c =
-    let e = size_new _ c.args.slice.now _ c.self.inside.head c.args.self.now.built c.headed-octets.ensures (ap (λ (v : Held). v.built) c.self.view_is) c.self.invariant (sym c.is_some.ensures ∙ c.if-is_some.false) c.requires.some in
-    (refl, exceeds g.B.OctetsBuilder.limit c.args.self.now (g.B.Octets.capacity c.self.inside.builder) _ (ap (λ (v : Held). v.capacity) (sym c.self.view_is)) (g.met.B.OctetsBuilder.fixed c.self.inside.builder) (rw e c.in-Err-append_slice.ensures.full))
+pub returns-in-Err-append_headed-clause-refused : goal.returns-in-Err-append_headed-clause-refused
+returns-in-Err-append_headed-clause-refused g c =
+    let e = size_new _ c.args.slice.now _ c.self.inside.head c.args.self.now.built refl (ap (λ (v : Held). v.built) c.self.view_is) c.self.invariant (sym c.is_some.ensures ∙ c.if-is_some.false) c.requires.some in
+    (refl, exceeds g.B.OctetsBuilder.limit c.args.self.now (g.B.Octets.capacity c.self.inside.builder) _ (ap (λ (v : Held). v.capacity) (sym c.self.view_is)) (g.met.B.OctetsBuilder.fixed c.self.inside.builder) (rw e c.in-Err-append_headed.ensures.full))
 
 pub invariant_of-self-2 : goal.invariant_of-self-2
 invariant_of-self-2 g c =
-    (add_headed _ _ c.args.slice.now _ _ c.self.inside.head c.args.self.now.built c.as_slice-head.ensures c.headed-octets.ensures (ap (λ (v : Held). v.built) c.self.view_is) c.self.invariant (sym c.is_some.ensures ∙ c.if-is_some.false) c.in-Ok-append_slice.ensures.ok c.requires.some c.requires.label c.requires.name).0
+    (add_headed _ _ c.args.slice.now _ _ c.self.inside.head c.args.self.now.built c.as_slice-head.ensures refl (ap (λ (v : Held). v.built) c.self.view_is) c.self.invariant (sym c.is_some.ensures ∙ c.if-is_some.false) c.in-Ok-append_headed.ensures.ok c.requires.some c.requires.label c.requires.name).0
 
 pub returns-clause-made : goal.returns-clause-made
 returns-clause-made g c =
-    (add_headed _ _ c.args.slice.now _ _ c.self.inside.head c.args.self.now.built c.as_slice-head.ensures c.headed-octets.ensures (ap (λ (v : Held). v.built) c.self.view_is) c.self.invariant (sym c.is_some.ensures ∙ c.if-is_some.false) c.in-Ok-append_slice.ensures.ok c.requires.some c.requires.label c.requires.name).1
+    (add_headed _ _ c.args.slice.now _ _ c.self.inside.head c.args.self.now.built c.as_slice-head.ensures refl (ap (λ (v : Held). v.built) c.self.view_is) c.self.invariant (sym c.is_some.ensures ∙ c.if-is_some.false) c.in-Ok-append_headed.ensures.ok c.requires.some c.requires.label c.requires.name).1

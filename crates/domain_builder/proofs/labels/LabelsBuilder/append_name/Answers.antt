@@ -1,17 +1,28 @@
-use Rattle.std.proofs.Common.{◌≡◌, ap, sym, ◌∙◌, subst, rules}
-use Rattle.domain_label.specs.Wire.{wire, labels_in, IsRelativeWire}
-use Rattle.domain_label.proofs.WireLaws.{labels_in_wire, wire_relative}
-use Rattle.domain_builder.specs.Built.{named}
+use Rattle.std.proofs.Common.{◌≡◌, List, ℕ, OnOk, subst}
+use Rattle.domain_builder.specs.Built.{named, size}
+use Rattle.domain_builder.specs.Inside.{room}
+use Rattle.domain_builder.specs.Pushing.{NameFits}
+use Rattle.domain_builder.proofs.Building.{relative_of}
 use Rattle.domain_builder.proofs.labels.LabelsBuilder.append_name.Goals as goal
 
-pub add_labels-requires-clause-labels : goal.add_labels-requires-clause-labels
-add_labels-requires-clause-labels g c =
-    let ls = g.N.NameLabels.labels c.args.name.now in
-    let e : c.as_slice.result.now ≡ wire ls = search rules in
-    subst IsRelativeWire (sym e) (wire_relative ls (g.met.N.Relative.relative c.args.name.now))
+pub append_wire-requires : goal.append_wire-requires
+append_wire-requires g c = record { labels = (relative_of _ _ c.in-Some.ensures.wire (g.met.N.Relative.relative c.args.name.now)).0 }
 
-pub returns-in-Ok-add_labels-clause-made : goal.returns-in-Ok-add_labels-clause-made
-returns-in-Ok-add_labels-clause-made g c =
-    let ls = g.N.NameLabels.labels c.args.name.now in
-    let e : c.as_slice.result.now ≡ wire ls = search rules in
-    c.in-Ok-add_labels.ensures.made ∙ ap (named c.args.self.now.built) (ap labels_in e ∙ labels_in_wire ls)
+pub returns-in-Some-clause-made : goal.returns-in-Some-clause-made
+returns-in-Some-clause-made g c =
+    subst (λ (ls : List (List ℕ)). OnOk c.append_wire.result (c.append_wire.new.self.built ≡ named c.args.self.now.built ls)) (relative_of _ _ c.in-Some.ensures.wire (g.met.N.Relative.relative c.args.name.now)).1 c.append_wire.ensures.made
+
+pub returns-in-Some-clause-answer : goal.returns-in-Some-clause-answer
+returns-in-Some-clause-answer g c =
+    subst (λ (ls : List (List ℕ)). NameFits (size (named c.args.self.now.built ls)) (room g.B.OctetsBuilder.limit c.args.self.now) c.append_wire.result) (relative_of _ _ c.in-Some.ensures.wire (g.met.N.Relative.relative c.args.name.now)).1 c.append_wire.ensures.answer
+
+pub append_wire-requires-2 : goal.append_wire-requires-2
+append_wire-requires-2 g c = record { labels = (relative_of _ _ c.put_name-len.ensures.wire (g.met.N.Relative.relative c.args.name.now)).0 }
+
+pub returns-clause-made : goal.returns-clause-made
+returns-clause-made g c =
+    subst (λ (ls : List (List ℕ)). OnOk c.append_wire-2.result (c.append_wire-2.new.self.built ≡ named c.args.self.now.built ls)) (relative_of _ _ c.put_name-len.ensures.wire (g.met.N.Relative.relative c.args.name.now)).1 c.append_wire-2.ensures.made
+
+pub returns-clause-answer : goal.returns-clause-answer
+returns-clause-answer g c =
+    subst (λ (ls : List (List ℕ)). NameFits (size (named c.args.self.now.built ls)) (room g.B.OctetsBuilder.limit c.args.self.now) c.append_wire-2.result) (relative_of _ _ c.put_name-len.ensures.wire (g.met.N.Relative.relative c.args.name.now)).1 c.append_wire-2.ensures.answer

@@ -1,17 +1,19 @@
-use Rattle.std.proofs.Common.{◌≡◌, ◌++◌, ap, sym, ◌∙◌, subst, rules}
-use Rattle.domain_label.specs.Wire.{wire, labels_in, IsAbsoluteWire}
-use Rattle.domain_label.proofs.WireLaws.{labels_in_wire, wire_absolute}
+use Rattle.std.proofs.Common.{◌≡◌, ◌++◌, List, ℕ, IfOk, subst}
+use Rattle.domain_label.specs.Wire.{labels_in}
 use Rattle.domain_builder.specs.Built.{closed}
+use Rattle.domain_builder.proofs.Building.{absolute_of}
 use Rattle.domain_builder.proofs.labels.LabelsBuilder.append_origin.Goals as goal
 
-pub finish_with-requires-clause-origin : goal.finish_with-requires-clause-origin
-finish_with-requires-clause-origin g c =
-    let ls = g.N.NameLabels.labels c.args.origin.now in
-    let e : c.as_slice.result.now ≡ wire ls = search rules in
-    subst IsAbsoluteWire (sym e) (wire_absolute ls (g.met.N.Absolute.absolute c.args.origin.now))
+pub append_origin_wire-requires : goal.append_origin_wire-requires
+append_origin_wire-requires g c = record { origin = (absolute_of _ _ c.in-Some.ensures.wire (g.met.N.Absolute.absolute c.args.origin.now)).0 }
 
-pub returns-in-Ok-finish_with-clause-labels : goal.returns-in-Ok-finish_with-clause-labels
-returns-in-Ok-finish_with-clause-labels g c =
-    let ls = g.N.NameLabels.labels c.args.origin.now in
-    let e : c.as_slice.result.now ≡ wire ls = search rules in
-    c.in-Ok-finish_with.ensures.labels ∙ ap (λ ks. closed c.args.self.built ++ ks) (ap labels_in e ∙ labels_in_wire ls)
+pub returns-in-Some-clause-labels : goal.returns-in-Some-clause-labels
+returns-in-Some-clause-labels g c =
+    subst (λ (ls : List (List ℕ)). IfOk c.append_origin_wire.result (λ octets. labels_in (g.B.Octets.Octets.octets octets) ≡ closed c.args.self.built ++ ls)) (absolute_of _ _ c.in-Some.ensures.wire (g.met.N.Absolute.absolute c.args.origin.now)).1 c.append_origin_wire.ensures.labels
+
+pub append_origin_wire-requires-2 : goal.append_origin_wire-requires-2
+append_origin_wire-requires-2 g c = record { origin = (absolute_of _ _ c.put_name-len.ensures.wire (g.met.N.Absolute.absolute c.args.origin.now)).0 }
+
+pub returns-clause-labels : goal.returns-clause-labels
+returns-clause-labels g c =
+    subst (λ (ls : List (List ℕ)). IfOk c.append_origin_wire-2.result (λ octets. labels_in (g.B.Octets.Octets.octets octets) ≡ closed c.args.self.built ++ ls)) (absolute_of _ _ c.put_name-len.ensures.wire (g.met.N.Absolute.absolute c.args.origin.now)).1 c.append_origin_wire-2.ensures.labels
