@@ -10,3 +10,4 @@ pub mod Alike
 pub mod Finishing
 pub mod Octetwise
 pub mod Put
+pub mod Parts

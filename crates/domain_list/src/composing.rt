@@ -1,6 +1,6 @@
 //! Writing names in wire form, without compression (RFC 1035, 3.1).
 ghost use Rattle.std.specs.Prelude.{◌≡◌, ◌≤◌, ◌<◌, ◌+◌, ◌++◌, length, take, IfSome, OnOk, OnErr};
-ghost use Rattle.domain_label.specs.Low.{low_all};
+ghost use Rattle.domain_label.specs.Low.{low, low_all};
 ghost use Rattle.domain_label.specs.Views.{label_octets};
 ghost use Rattle.domain_label.specs.Wire.{wire, wire_label};
 
@@ -80,6 +80,34 @@ pub fn put_name<'a, N: ToLabelIter<'a>>(name: &'a N, octets: &mut [u8; 255]) -> 
     put_labels(name.iter_labels(), octets)
 }
 
+/// Puts octets at the beginning of a buffer, A to Z as a to z, and tells how many there are.
+#[inline(always)]
+fn put_low(flat: &[u8], octets: &mut [u8; 255]) -> usize
+    requires { length flat.now ≤ 255 }
+    ensures size { result ≡ length flat.now }
+    ensures low { take result octets.new ≡ low flat.now }
+{
+    for i in 0..flat.len() {
+        octets[i] = flat[i].to_ascii_lowercase();
+    }
+    flat.len()
+}
+
+/// Puts the wire form of a name of any kind at the beginning of a buffer, A to Z as a to z, and tells how
+/// many octets it has.
+#[inline(always)]
+fn put_low_name<'a, N: ToLabelIter<'a>>(name: &'a N, octets: &mut [u8; 255]) -> usize
+    ensures wire { take result octets.new ≡ wire (low_all (N.labels name.now)) }
+    ensures fits { result ≤ 255 }
+{
+    if let Some(flat) = name.as_flat_slice() {
+        return put_low(flat, octets);
+    }
+    let len = put_labels(name.iter_labels(), octets);
+    octets.make_ascii_lowercase();
+    len
+}
+
 /// Appends the wire form of a name of any kind at once, or nothing.
 ///
 /// The target's error where the octets don't fit, or where there was no memory for them; the target
@@ -121,7 +149,6 @@ pub fn compose_canonical_name<'a, N: ToLabelIter<'a>, Target: OctetsBuilder>(
     ensures fixed { IfSome Target.limit (λ n. Target.capacity target.old ≡ n) }
 {
     let mut octets = [0; 255];
-    let len = put_name(name, &mut octets);
-    octets.make_ascii_lowercase();
+    let len = put_low_name(name, &mut octets);
     target.append_slice(&octets[..len])
 }
