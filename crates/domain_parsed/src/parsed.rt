@@ -94,11 +94,18 @@ impl<'a> ParsedName<&'a [u8]> {
     ///
     /// ```rust
     /// pub fn question<'a>(parser: &mut Parser<'a>) -> Result<(ParsedName<&'a [u8]>, u16, u16), ParseError>
-    ///     ensures { IfOk result (λ read. Names 255 (message parser.old) (place parser.old) (parsed_labels read.0)) }
+    ///     ensures name { IfOk result (λ read. Names 255 (message parser.old) (place parser.old) (parsed_labels read.0)) }
+    ///     ensures behind { IfOk result (λ read. (e : ℕ) × EndsBefore (message parser.old) (place parser.old) e
+    ///         × (read.1 ≡ from_be_bytes w16 (slice_range (message parser.old) e (e + 2)))
+    ///         × (read.2 ≡ from_be_bytes w16 (slice_range (message parser.old) (e + 2) (e + 4)))
+    ///         × MovesTo parser.old parser.new (e + 4)) }
+    ///     ensures err { OnErr result (parser.new ≡ parser.old) }
     /// {
-    ///     let name = ParsedName::parse(parser)?;
-    ///     let rtype = parser.parse_u16_be()?;
-    ///     let class = parser.parse_u16_be()?;
+    ///     let mut ahead = *parser;
+    ///     let name = ParsedName::parse(&mut ahead)?;
+    ///     let rtype = ahead.parse_u16_be()?;
+    ///     let class = ahead.parse_u16_be()?;
+    ///     *parser = ahead;
     ///     Ok((name, rtype, class))
     /// }
     /// ```
