@@ -3,7 +3,7 @@ use Rattle.domain_label.specs.Low.{low_all}
 use Rattle.domain_label.specs.Wire.{wire}
 use Rattle.domain_label.proofs.Lowered.{low_size}
 use Rattle.domain_traits.proofs.Made.{absolute_lowered}
-use Rattle.domain_traits.proofs.to_name.ToName.try_to_canonical_name.Goals as goal
+use Rattle.domain_traits.proofs.to_name.ToName.to_canonical_name.Goals as goal
 
 pub name_of-requires : goal.name_of-requires
 name_of-requires g c =

@@ -3,7 +3,7 @@ use Rattle.domain_label.specs.Low.{low_all}
 use Rattle.domain_label.specs.Wire.{wire}
 use Rattle.domain_label.proofs.Lowered.{low_size}
 use Rattle.domain_traits.proofs.Made.{relative_lowered}
-use Rattle.domain_traits.proofs.to_relative_name.ToRelativeName.try_to_canonical_relative_name.Goals as goal
+use Rattle.domain_traits.proofs.to_relative_name.ToRelativeName.to_canonical_relative_name.Goals as goal
 
 pub relative_name_of-requires : goal.relative_name_of-requires
 relative_name_of-requires g c =
