@@ -11,3 +11,4 @@ pub mod Finishing
 pub mod Octetwise
 pub mod Put
 pub mod Parts
+pub mod Moved

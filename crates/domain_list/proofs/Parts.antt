@@ -11,7 +11,7 @@ use Rattle.domain_list.proofs.Octetwise.{sliced_end}
 pub low_part : (a b : List ℕ) (m n : ℕ) → low a ≡ low b → low (take n (drop m a)) ≡ low (take n (drop m b))
 low_part a b m n e =
     let down : (o : List ℕ) → low (take n (drop m o)) ≡ take n (drop m (low o)) =
-        λ o. sym (take-map to_ascii_lowercase n (drop m o)) ∙ ap (take n) (sym (drop-map to_ascii_lowercase m o)) in
+    λ o. sym (take-map to_ascii_lowercase n (drop m o)) ∙ ap (take n) (sym (drop-map to_ascii_lowercase m o)) in
     down a ∙ (ap (λ o. take n (drop m o)) e ∙ sym (down b))
 
 split_low : (o : List ℕ) (n : ℕ) → low o ≡ low (take n o) ++ low (drop n o)
@@ -33,7 +33,7 @@ low_covered a b last place le front back =
 pub low_further : (a b : List ℕ) (place size n : ℕ) → n ≡ size → low (take place a) ≡ low (take place b) → low (take n (drop place a)) ≡ low (take n (drop place b)) → low (take (place + size) a) ≡ low (take (place + size) b)
 low_further a b place size n same front part =
     let both : (o : List ℕ) → low (take (place + size) o) ≡ low (take place o) ++ low (take n (drop place o)) =
-        λ o. ap low (ap (λ k. take (place + k) o) (sym same) ∙ take-add place n o) ∙ map-append to_ascii_lowercase (take place o) (take n (drop place o)) in
+    λ o. ap low (ap (λ k. take (place + k) o) (sym same) ∙ take-add place n o) ∙ map-append to_ascii_lowercase (take place o) (take n (drop place o)) in
     both a ∙ (ap (λ r. r ++ low (take n (drop place a))) front ∙ (ap (λ r. low (take place b) ++ r) part ∙ sym (both b)))
 
 low_end : (a b : List ℕ) (m : ℕ) → low a ≡ low b → low (drop m a) ≡ low (drop m b)

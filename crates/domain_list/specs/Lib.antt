@@ -9,3 +9,4 @@ pub mod Facts
 pub mod ChainParts
 pub mod Joined
 pub mod Alike
+pub mod Moving

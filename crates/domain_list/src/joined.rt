@@ -1,7 +1,10 @@
 //! Labels as text, joined by dots.
-ghost use Rattle.std.specs.Prelude.{◌≡◌, Some};
+ghost use Rattle.std.specs.Prelude.{◌≡◌, ◌≤◌, ◌+◌, ◌*◌, ◌++◌, length, OnOk, Some};
+ghost use Rattle.std.specs.Fmt.{IsPlainFormatter};
+ghost use Rattle.std.specs.Str.{IsAscii};
 ghost use Rattle.domain_label.specs.Text.{dot_before, text};
 ghost use Rattle.domain_label.specs.Views.{label_octets};
+ghost use Rattle.domain_list.specs.Moving.{HasMoved};
 
 use crate::labels::LabelIterator;
 use arrayvec::ArrayVec;
@@ -10,23 +13,43 @@ use domain_label::presentation::{ascii_text, push_label};
 use std::fmt;
 use std::marker::PhantomData;
 
-/// A label with a dot before it, and the root label as nothing.
-#[derive(Clone, Copy)]
-struct DotBefore<'a>(Label<'a>);
+/// How many characters are put together before they are written. It is more than those of one label and a
+/// dot; and no more than a name mostly has, since the room is cleared before it is filled.
+const ROOM: usize = 320;
 
-impl<'a> fmt::Display for DotBefore<'a> {
-    ghost output = { λ shown. Some (dot_before (label_octets shown.0)) };
-
-    fn fmt<W: fmt::Write>(&self, f: &mut fmt::Formatter<W>) -> fmt::Result {
-        let label = self.0;
-        if label.is_root() {
-            return Ok(());
-        }
-        let mut text = ArrayVec::<u8, 253>::new();
-        text.push(b'.');
-        push_label(label.as_slice(), &mut text);
-        f.write_str(ascii_text(text.as_slice()))
+/// Writes what the buffer has and empties it, where so many more characters don't fit behind it.
+#[inline(always)]
+fn make_room<W: fmt::Write>(
+    needed: usize,
+    text: &mut ArrayVec<u8, ROOM>,
+    f: &mut fmt::Formatter<W>,
+) -> fmt::Result
+    requires few { needed ≤ 320 }
+    requires ascii { IsAscii text.old.items }
+    ensures room { OnOk result (length text.new.items + needed ≤ 320) }
+    ensures ascii { OnOk result (IsAscii text.new.items) }
+    ensures moved { IsPlainFormatter f.old → OnOk result (HasMoved W.write_str_gives f.old text.old.items text.new.items f.new) }
+{
+    if text.remaining_capacity() < needed {
+        f.write_str(ascii_text(text.as_slice()))?;
+        text.clear();
     }
+    Ok(())
+}
+
+/// Appends a label with a dot before it, and the root label as nothing.
+#[inline(always)]
+fn push_dot_before(label: Label, text: &mut ArrayVec<u8, ROOM>)
+    requires room { length text.old.items + 4 * length (label_octets label) + 1 ≤ 320 }
+    requires ascii { IsAscii text.old.items }
+    ensures text { text.new.items ≡ text.old.items ++ dot_before (label_octets label.entry) }
+    ensures ascii { IsAscii text.new.items }
+{
+    if label.is_root() {
+        return;
+    }
+    text.push(b'.');
+    push_label(label.as_slice(), text);
 }
 
 /// Shows labels joined by dots, the root left out, so that the root alone is the empty text.
@@ -60,11 +83,12 @@ impl<'a, I: LabelIterator<'a>> fmt::Display for JoinedLabels<'a, I> {
         let Some(first) = labels.next() else {
             return Ok(());
         };
-        write!(f, "{first}")?;
+        let mut text = ArrayVec::<u8, ROOM>::new();
+        push_label(first.as_slice(), &mut text);
         while let Some(label) = labels.next() {
-            let shown = DotBefore(label);
-            write!(f, "{shown}")?;
+            make_room(4 * label.len() + 1, &mut text, f)?;
+            push_dot_before(label, &mut text);
         }
-        Ok(())
+        f.write_str(ascii_text(text.as_slice()))
     }
 }

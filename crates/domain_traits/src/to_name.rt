@@ -40,11 +40,7 @@ pub trait ToName<'a>: AbsoluteLabels<'a> {
         ensures ok { IfOk result (λ name. name_labels name ≡ Self.labels self.now) }
         ensures err { OnErr result (MayLackRoom Octs.Builder.ROOM (length (wire (Self.labels self.now)))) }
     {
-        let mut target = Octs::Builder::with_capacity(alloc, self.compose_len() as usize)?;
-        match compose_name(self, &mut target) {
-            Ok(()) => Ok(name_of(Octs::from_builder(target))),
-            Err(e) => Err(e.into()),
-        }
+        self.to_name(alloc)
     }
 
     /// The same as `try_to_name`.
@@ -70,7 +66,11 @@ pub trait ToName<'a>: AbsoluteLabels<'a> {
         ensures ok { IfOk result (λ name. name_labels name ≡ Self.labels self.now) }
         ensures err { OnErr result (MayLackRoom Octs.Builder.ROOM (length (wire (Self.labels self.now)))) }
     {
-        self.try_to_name(alloc)
+        let mut target = Octs::Builder::with_capacity(alloc, self.compose_len() as usize)?;
+        match compose_name(self, &mut target) {
+            Ok(()) => Ok(name_of(Octs::from_builder(target))),
+            Err(e) => Err(e.into()),
+        }
     }
 
     /// The name in one piece with A to Z as a to z, its canonical form (RFC 4034, 6.2), over octets of
@@ -86,11 +86,7 @@ pub trait ToName<'a>: AbsoluteLabels<'a> {
         ensures ok { IfOk result (λ name. name_labels name ≡ low_all (Self.labels self.now)) }
         ensures err { OnErr result (MayLackRoom Octs.Builder.ROOM (length (wire (Self.labels self.now)))) }
     {
-        let mut target = Octs::Builder::with_capacity(alloc, self.compose_len() as usize)?;
-        match compose_canonical_name(self, &mut target) {
-            Ok(()) => Ok(name_of(Octs::from_builder(target))),
-            Err(e) => Err(e.into()),
-        }
+        self.to_canonical_name(alloc)
     }
 
     /// The same as `try_to_canonical_name`.
@@ -103,7 +99,11 @@ pub trait ToName<'a>: AbsoluteLabels<'a> {
         ensures ok { IfOk result (λ name. name_labels name ≡ low_all (Self.labels self.now)) }
         ensures err { OnErr result (MayLackRoom Octs.Builder.ROOM (length (wire (Self.labels self.now)))) }
     {
-        self.try_to_canonical_name(alloc)
+        let mut target = Octs::Builder::with_capacity(alloc, self.compose_len() as usize)?;
+        match compose_canonical_name(self, &mut target) {
+            Ok(()) => Ok(name_of(Octs::from_builder(target))),
+            Err(e) => Err(e.into()),
+        }
     }
 
     /// The same name in one piece, over new octets. `ShortBuf` only where memory was refused.

@@ -37,11 +37,7 @@ pub trait ToRelativeName<'a>: RelativeLabels<'a> {
         ensures ok { IfOk result (λ name. relative_labels name ≡ Self.labels self.now) }
         ensures err { OnErr result (MayLackRoom Octs.Builder.ROOM (length (wire (Self.labels self.now)))) }
     {
-        let mut target = Octs::Builder::with_capacity(alloc, self.compose_len() as usize)?;
-        match compose_name(self, &mut target) {
-            Ok(()) => Ok(relative_name_of(Octs::from_builder(target))),
-            Err(e) => Err(e.into()),
-        }
+        self.to_relative_name(alloc)
     }
 
     /// The same as `try_to_relative_name`.
@@ -54,7 +50,11 @@ pub trait ToRelativeName<'a>: RelativeLabels<'a> {
         ensures ok { IfOk result (λ name. relative_labels name ≡ Self.labels self.now) }
         ensures err { OnErr result (MayLackRoom Octs.Builder.ROOM (length (wire (Self.labels self.now)))) }
     {
-        self.try_to_relative_name(alloc)
+        let mut target = Octs::Builder::with_capacity(alloc, self.compose_len() as usize)?;
+        match compose_name(self, &mut target) {
+            Ok(()) => Ok(relative_name_of(Octs::from_builder(target))),
+            Err(e) => Err(e.into()),
+        }
     }
 
     /// The name in one piece with A to Z as a to z (RFC 4034, 6.2), over octets of the caller's choice.
@@ -69,11 +69,7 @@ pub trait ToRelativeName<'a>: RelativeLabels<'a> {
         ensures ok { IfOk result (λ name. relative_labels name ≡ low_all (Self.labels self.now)) }
         ensures err { OnErr result (MayLackRoom Octs.Builder.ROOM (length (wire (Self.labels self.now)))) }
     {
-        let mut target = Octs::Builder::with_capacity(alloc, self.compose_len() as usize)?;
-        match compose_canonical_name(self, &mut target) {
-            Ok(()) => Ok(relative_name_of(Octs::from_builder(target))),
-            Err(e) => Err(e.into()),
-        }
+        self.to_canonical_relative_name(alloc)
     }
 
     /// The same as `try_to_canonical_relative_name`.
@@ -86,7 +82,11 @@ pub trait ToRelativeName<'a>: RelativeLabels<'a> {
         ensures ok { IfOk result (λ name. relative_labels name ≡ low_all (Self.labels self.now)) }
         ensures err { OnErr result (MayLackRoom Octs.Builder.ROOM (length (wire (Self.labels self.now)))) }
     {
-        self.try_to_canonical_relative_name(alloc)
+        let mut target = Octs::Builder::with_capacity(alloc, self.compose_len() as usize)?;
+        match compose_canonical_name(self, &mut target) {
+            Ok(()) => Ok(relative_name_of(Octs::from_builder(target))),
+            Err(e) => Err(e.into()),
+        }
     }
 
     /// The same name in one piece, over new octets. `ShortBuf` only where memory was refused, which the

@@ -1,6 +1,6 @@
 use Rattle.std.proofs.Common.{◌++◌, ◌∙◌, ap}
 use Rattle.domain_label.specs.Wire.{wire}
-use Rattle.domain_traits.proofs.to_relative_name.ToRelativeName.try_to_relative_name.Goals as goal
+use Rattle.domain_traits.proofs.to_relative_name.ToRelativeName.to_relative_name.Goals as goal
 
 pub relative_name_of-requires : goal.relative_name_of-requires
 relative_name_of-requires g c =

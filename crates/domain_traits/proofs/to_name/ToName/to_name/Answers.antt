@@ -1,6 +1,6 @@
 use Rattle.std.proofs.Common.{◌++◌, ◌∙◌, ap}
 use Rattle.domain_label.specs.Wire.{wire}
-use Rattle.domain_traits.proofs.to_name.ToName.try_to_name.Goals as goal
+use Rattle.domain_traits.proofs.to_name.ToName.to_name.Goals as goal
 
 pub name_of-requires : goal.name_of-requires
 name_of-requires g c =
