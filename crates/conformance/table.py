@@ -69,6 +69,47 @@ def pointers(count):
     return b"\0" + pointer(0) + b"".join(pointer(2 * k - 1) for k in range(1, count))
 
 
+def read_slowly(message, place, limit=255):
+    """The labels of the name at a place, its flag and the place behind it, by the three cases of RFC 1035, 4.1.4; or the
+    first fault on the way."""
+    labels, at, passed, followed, behind, flag = [], place, 0, 0, None, "f"
+    while at < len(message):
+        head = message[at]
+        if head == 0:
+            return labels + [b""], flag, behind or at + 1
+        elif head < 0x40:
+            label = message[at + 1:at + 1 + head]
+            passed += 1 + head
+            if len(label) < head:
+                break
+            if passed > 254:
+                return "long domain name"
+            labels.append(label)
+            at += 1 + head
+        elif head < 0xC0:
+            return "invalid label type"
+        else:
+            if at + 1 == len(message):
+                break
+            target = (head & 0x3F) << 8 | message[at + 1]
+            if target >= at or followed == limit:
+                return "too many compression pointers"
+            behind, followed, flag, at = behind or at + 2, followed + 1, "c" if labels else "f", target
+    return "unexpected end of input"
+
+
+def from_ends(labels, calls):
+    """What calls give on a list of labels, `f` at its front and `b` at its back."""
+    labels = list(labels)
+    return ",".join(hx(labels.pop(0 if call == "f" else -1)) if labels else "none" for call in calls)
+
+
+def in_orders(labels):
+    """The labels from the front, from the back and from both ends in turn."""
+    count = len(labels)
+    return " ".join(from_ends(labels, calls) for calls in ("f" * count, "b" * count, ("fb" * count)[:count]))
+
+
 WWW = absolute(b"www", b"example", b"com")
 MIXED = absolute(b"wWw", b"eXAMple", b"Com")
 OTHER = absolute(b"ww4", b"EXAMPLE", b"com")
@@ -88,6 +129,20 @@ RISING = [
 PARTS = [b"", rel(b"www"), rel(b"www", b"example"), RELATIVE, rel(b"example", b"com"), rel(b"com")]
 FAR = b"\x80" * 16383 + b"\1z\0\1y\xff\xff"
 assert len(MOST) == 765
+
+
+def scattered_most():
+    """127 labels, each behind two pointers, and a pointer to the first of them. Its place, too."""
+    message, last = b"\0", 0
+    for at in range(127):
+        message += pointer(last)
+        last = len(message)
+        message += bytes([1, b"aBcD"[at % 4] + at // 4 % 8]) + pointer(last - 2)
+    return message + pointer(last), len(message)
+
+
+WORST, WORST_PLACE = scattered_most()
+assert len(read_slowly(WORST, WORST_PLACE)[0]) == 128 and isinstance(read_slowly(WORST, WORST_PLACE, 254), str)
 
 rnd = random.Random(1035)
 
@@ -521,6 +576,38 @@ for at, one in enumerate(RISING):
         promised.append((rows[-1][0], " cmp=%s " % cmp))
 told("walk", b"123\0", 3, "- - - f00 none f00 1 0 - 2e 00")
 
+
+topic("names in canonical order")
+# Each comes before the next one (RFC 4034, 6.1).
+IN_ORDER = [
+    b"\0", absolute(b"\0"), absolute(b"\xff" * 63, b"\0"), absolute(b"\0\0"), absolute(b"1"), absolute(b"@"), absolute(b"["), absolute(b"`"),
+    absolute(b"A"), absolute(b"\0", b"a"), absolute(b"\0\0", b"A"), absolute(b"a", b"a"), absolute(b"A", b"A", b"a"), absolute(b"\xff", b"A"), absolute(b"a\0"), absolute(b"A@"),
+    absolute(b"aA"), absolute(b"A" * 62), absolute(b"a" * 63), absolute(b"A" * 62 + b"b"), absolute(b"\xff", b"a" * 62 + b"B"), absolute(b"aB"),
+    absolute(b"a\xff"), absolute(b"b"), absolute(b"a", b"b"), absolute(b"Z"), absolute(b"{"), absolute(b"\x7f"), absolute(b"\x80"), absolute(b"\xc1"), absolute(b"\xe1"),
+    absolute(b"\xff"), absolute(b"\0", b"\xff"), absolute(b"\xff", b"\xff"), absolute(b"\xff\0"), absolute(b"\xff" * 63),
+]
+for lower, upper in list(zip(IN_ORDER, IN_ORDER[1:])) + [(IN_ORDER[0], IN_ORDER[-1]), (b"\1a" * 126 + b"\0", b"\1A" * 127 + b"\0"), (b"\1A" * 127 + b"\0", b"\1B" + b"\1a" * 126 + b"\0"),
+                         (b"\1z" + b"\1a" * 126 + b"\0", b"\1a" * 126 + b"\1b\0"), (LONG + b"\x03123\0", LONG + b"\x03124\0"), (absolute(b"b", b"a"), absolute(b"a", b"b"))]:
+    told("canonical", lower, upper, "<")
+    told("canonical", upper, lower, ">")
+for one, other in ((b"\0", b"\0"), (WWW, WWW), (WWW, MIXED), (absolute(b"A" * 63), absolute(b"a" * 63)), (b"\1a" * 127 + b"\0", b"\1A" * 127 + b"\0"),
+                   (absolute(b"@AMZ[", b"`amz{\xff\0"), absolute(b"@amz[", b"`AMZ{\xff\0"))):
+    told("canonical", one, other, "=")
+told("canonical", b"\3www", WWW, "bad")
+told("canonical", WWW, b"\3www", "bad")
+for at, one in enumerate(RISING):
+    for place, other in enumerate(RISING):
+        cmp = "<" if at < place else "=" if at == place else ">"
+        told("canonical", one, other, cmp)
+        told("pcanonical", BESIDE, len(b"".join(RISING[:at])), len(b"".join(RISING[:place])), cmp)
+for message, one, other, answer in (
+    (SCATTERED, 15, 15, "="), (SCATTERED, 15, 5, ">"), (SCATTERED, 5, 15, "<"), (SCATTERED, 0, 5, "<"), (SCATTERED, 4, 0, "<"), (FLAT_POINTER, 0, 17, "="), (FLAT_POINTER, 4, 17, "<"),
+    (b"\1a\0\1B\xc0\0\1A\1b\xc0\0", 3, 7, "<"), (b"\1a\0\1B\xc0\0\1A\1b\xc0\0", 9, 3, "="), (b"\1b\0\2aa\0\1a\xc0\0", 0, 3, ">"), (b"\1b\0\2aa\0\1a\xc0\0", 7, 3, ">"),
+    (MOST, 509, 511, ">"), (MOST, 511, 509, "<"), (MOST, 509, 0, ">"), (MOST, 507, 0, "="), (WORST, WORST_PLACE, WORST_PLACE - 4, "="), (WORST, WORST_PLACE, 3, ">"), (INSIDE, 0, 4, ">"),
+    (SCATTERED, 15, 16, "bad"), (SCATTERED, 21, 0, "bad"),
+):
+    told("pcanonical", message, one, other, answer)
+
 topic("chains")
 told("chain", LONG, b"\x03123", "ok %s 254 %s" % (hx(LONG + b"\x03123"), ",".join(["313233"] + [hx(b"123456789")] * 25)))
 told("chain", LONG, b"\0041234", "err long domain name")
@@ -620,6 +707,36 @@ for message in (SCATTERED, FLAT_POINTER, ONCE, INSIDE, b"\1a\xc0\0", b"\1a\1b\xc
             row("parse", message, place, end)
             row("skip", message, place, end)
             row("nparse", message, place, end)
+WIRE_OF_WORST = rel(*read_slowly(WORST, WORST_PLACE)[0])
+told("parse", WORST, WORST_PLACE, "ok %s c %d" % (hx(WIRE_OF_WORST), len(WORST)))
+told("skip", WORST, WORST_PLACE, "ok %d" % len(WORST))
+row("walk", WORST, WORST_PLACE)
+told("pforms", WORST, WORST_PLACE, "made=%s canonical=%s cow=own held=%s lowered=%s composed=err aa err aa dotted=%s rrsig=127" % (
+    hx(WIRE_OF_WORST), hx(WIRE_OF_WORST.lower()), *["buffer size exceeded"] * 2, hx(WIRE_OF_WORST[1::2].replace(b"", b".")[1:])))
+row("pcmp", WORST, WORST_PLACE, WORST_PLACE - 4)
+topic("what is left of names without their first labels, from both ends")
+LEFT = PLACED + [(INSIDE, 0), (INSIDE, 4), (b"123\0", 3), (b"\1a" * 127 + b"\0", 0), (MOST, 509), (WORST, WORST_PLACE), (FAR, 16386), (rel(b"\0", b"\xff", b"\0\0") + b"\0" + b"\2Ab" + pointer(2), 8)]
+for message, place in LEFT:
+    labels = read_slowly(message, place)[0]
+    told("parentswalk", message, place, " / ".join(in_orders(labels[at:]) for at in range(len(labels))))
+told("parentswalk", SCATTERED, 21, "bad")
+told("mixture", WWW, 0, 0, "fbbffb", "777777,-,636f6d,6578616d706c65,none,none")
+told("mixture", SCATTERED, 15, 0, "bbbbf", "-,636f6d,6578616d706c65,777777,none")
+told("mixture", SCATTERED, 15, 0, "fbbff", "777777,-,636f6d,6578616d706c65,none")
+told("mixture", SCATTERED, 15, 1, "bfff", "-,6578616d706c65,636f6d,none")
+told("mixture", SCATTERED, 15, 9, "fb", "-,none")
+told("mixture", MOST, 509, 126, "bff", "-,61,none")
+told("mixture", MOST, 509, 0, "b" * 129, "-," + "61," * 127 + "none")
+told("mixture", SCATTERED, 15, 0, "x", "bad")
+told("mixture", SCATTERED, 21, 0, "f", "bad")
+mixtures = random.Random(4034)
+for message, place in LEFT[:-2] + [LEFT[-1]]:
+    labels = read_slowly(message, place)[0]
+    for dropped in sorted({0, 1, 2, len(labels) // 2, len(labels) - 2, len(labels) - 1}):
+        if 0 <= dropped < len(labels):
+            for calls in ["".join(mixtures.choice("fb") for _call in range(len(labels) - dropped + 3)) for _time in range(4)]:
+                told("mixture", message, place, dropped, calls, from_ends(labels[dropped:], calls))
+
 topic("names parsed without pointers")
 told("nparse", b"\3com\0\3www\7example\3com\0af", 0, "ok 03636f6d00 5")
 told("nparse", b"\3com\0\3www\7example\3com\0af", 5, "ok %s 22" % hx(WWW))
@@ -702,6 +819,22 @@ for message, place, limit, answer in (
     (b"\0", 0, 256, "bad"), (b"\0", 2, 1, "bad"),
 ):
     own("parselimit", message, place, limit, answer)
+# The nth pointer of a row of them needs a limit of n, and the name of 127 labels all that there are.
+for count in (1, 2, 3, 63, 64, 127, 128, 129, 253, 254, 255):
+    place = 2 * count - 1
+    own("parselimit", pointers(256), place, count, "ok 00 f %d" % (place + 2))
+    own("parselimit", pointers(256), place, count - 1, "err %d too many compression pointers" % place)
+own("parselimit", WORST, WORST_PLACE, 255, "ok %s c %d" % (hx(WIRE_OF_WORST), len(WORST)))
+own("parselimit", WORST, WORST_PLACE, 254, "err %d too many compression pointers" % WORST_PLACE)
+own("parselimit", WORST, WORST_PLACE - 4, 253, "err %d too many compression pointers" % (WORST_PLACE - 4))
+own("parselimit", WORST, WORST_PLACE - 4, 254, "ok %s c %d" % (hx(WIRE_OF_WORST), WORST_PLACE))
+for message in (SCATTERED, ONCE, INSIDE, b"\4\1a\xc0\1\xc0\1", b"\1a\xc0\0", b"\1a\1b\xc0\0", b"\xc0\2\xc0\00012", b"\0\xc0\0\xc0\1\1a\xc0\3\xc0\5\xc0", b"\1a\xc0\2\x80\xc0\1"):
+    for place in range(len(message)):
+        for limit in (0, 1, 2, 62, 63, 124, 125, 126, 127, 255):
+            read = read_slowly(message, place, limit)
+            answer = "err %d %s" % (place, read) if isinstance(read, str) else "ok %s %s %d" % (hx(rel(*read[0])), *read[1:])
+            if limit < 3 or isinstance(read, str) and read != read_slowly(message, place, limit - 1):
+                own("parselimit", message, place, limit, answer)
 
 topic("names one after another on one target that writes them shorter; the answers are by the definition, from a slow model of it")
 with open(os.path.join(os.path.dirname(os.path.abspath(__file__)), "compress.rows")) as file:

@@ -1,7 +1,7 @@
 //! An answer in the making.
 
 use crate::fail::Fail;
-use domain::base::name::LabelIterator;
+use domain::base::name::{Label, LabelIterator};
 use std::alloc::{AllocError, Global};
 use std::cmp::Ordering;
 use std::fmt::Display;
@@ -178,58 +178,83 @@ impl Answer {
         }
     }
 
-    /// Labels from the front.
-    fn put_labels<'a, I: LabelIterator<'a>>(&mut self, labels: I) {
+    /// Labels taken from two ends in turn, until there is none at the one nor at the other.
+    fn put_taken<'a, I: LabelIterator<'a>>(&mut self, labels: I, one: End, other: End) {
         let mut labels = labels;
         let mut is_first = true;
-        for _time in 0..1000u32 {
-            let Some(label) = labels.next() else {
+        for time in 0..1000u32 {
+            let end = if time % 2 == 0 { one } else { other };
+            let Some(label) = take(&mut labels, end) else {
                 break;
             };
             self.put_comma(&mut is_first);
             self.put_hex(label.as_slice());
         }
         self.put_none(is_first);
+        let is_over = labels.next().is_none() && labels.next_back().is_none();
+        self.agree(is_over, b"next behind the last label");
     }
 
     /// Labels from the back.
     pub fn put_turned<'a, I: LabelIterator<'a>>(&mut self, labels: I) {
-        let mut labels = labels;
-        let mut is_first = true;
-        for _time in 0..1000u32 {
-            let Some(label) = labels.next_back() else {
-                break;
-            };
-            self.put_comma(&mut is_first);
-            self.put_hex(label.as_slice());
-        }
-        self.put_none(is_first);
-    }
-
-    /// Labels taken from both ends in turn.
-    fn put_turns<'a, I: LabelIterator<'a>>(&mut self, labels: I) {
-        let mut labels = labels;
-        let mut is_first = true;
-        for _time in 0..1000u32 {
-            let Some(label) = labels.next() else {
-                break;
-            };
-            self.put_comma(&mut is_first);
-            self.put_hex(label.as_slice());
-            if let Some(label) = labels.next_back() {
-                self.put_comma(&mut is_first);
-                self.put_hex(label.as_slice());
-            }
-        }
-        self.put_none(is_first);
+        self.put_taken(labels, End::Back, End::Back);
     }
 
     /// The labels from the front, from the back and from both ends in turn.
-    pub fn put_orders<'a, I: LabelIterator<'a>>(&mut self, front: I, back: I, turns: I) {
-        self.put_labels(front);
+    pub fn put_orders<'a, I: LabelIterator<'a>>(&mut self, labels: I) {
+        self.put_taken(labels, End::Front, End::Front);
         self.put(b" ");
-        self.put_turned(back);
+        self.put_turned(labels);
         self.put(b" ");
-        self.put_turns(turns);
+        self.put_taken(labels, End::Front, End::Back);
+    }
+
+    /// What calls give one after another, `f` at the front and `b` at the back. The labels of the twin must be the same.
+    pub fn put_mixture<'a, I: LabelIterator<'a>, J: LabelIterator<'a>>(
+        &mut self,
+        labels: I,
+        twins: J,
+        calls: &[u8],
+    ) {
+        let mut labels = labels;
+        let mut twins = twins;
+        let mut is_first = true;
+        for call in calls {
+            let Some(end) = end_of(*call) else {
+                return self.fail(Fail::Bad);
+            };
+            self.put_comma(&mut is_first);
+            match (take(&mut labels, end), take(&mut twins, end)) {
+                (Some(label), Some(twin)) => {
+                    self.put_hex(label.as_slice());
+                    self.same(label.as_slice(), twin.as_slice(), b"next");
+                }
+                (None, None) => self.put(b"none"),
+                _ => self.wrong(b"next"),
+            }
+        }
+    }
+}
+
+/// An end of a name.
+#[derive(Clone, Copy)]
+enum End {
+    Front,
+    Back,
+}
+
+fn end_of(call: u8) -> Option<End> {
+    match call {
+        b'f' => Some(End::Front),
+        b'b' => Some(End::Back),
+        _ => None,
+    }
+}
+
+/// The next label from an end.
+fn take<'a, I: LabelIterator<'a>>(labels: &mut I, end: End) -> Option<Label<'a>> {
+    match end {
+        End::Front => labels.next(),
+        End::Back => labels.next_back(),
     }
 }

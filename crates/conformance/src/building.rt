@@ -2,7 +2,7 @@
 
 use crate::answer::Answer;
 use crate::fail::Fail;
-use crate::fields::{octets_of, split_once};
+use crate::fields::{is, octets_of, split_once};
 use crate::labels::put_relative_kind;
 use crate::text::{put_text_error, symbols_of};
 use arrayvec::ArrayVec;
@@ -25,10 +25,6 @@ struct Plan<'a> {
     front: &'a [u8],
     calls: &'a [BuilderCall<'a>],
     last: Last<'a>,
-}
-
-fn is(word: &[u8], known: &[u8]) -> bool {
-    word == known
 }
 
 /// The octets behind the word of each call, none where there is no argument.
@@ -157,21 +153,16 @@ fn plan_of<'a>(
 
 /// `build CALLS`: over a `Vec`.
 pub fn put_build(out: &mut Answer, line: &[u8]) {
-    let arguments = arguments_of(out, line);
-    let mut calls = Vec::new(out.alloc());
-    let (front, last) = plan_of(out, line, arguments.as_slice(), &mut calls);
-    let plan = Plan {
-        front,
-        calls: calls.as_slice(),
-        last,
-    };
-    if put_built::<Vec<u8>>(out, plan) {
-        takes_symbols(out, plan);
-    }
+    put_line(out, None, line);
 }
 
 /// `buildcap OCTETS CALLS`: over an array of so many octets.
 pub fn put_buildcap(out: &mut Answer, room: usize, line: &[u8]) {
+    put_line(out, Some(room), line);
+}
+
+/// Calls over an array of so many octets, or over a `Vec`.
+fn put_line(out: &mut Answer, room: Option<usize>, line: &[u8]) {
     let arguments = arguments_of(out, line);
     let mut calls = Vec::new(out.alloc());
     let (front, last) = plan_of(out, line, arguments.as_slice(), &mut calls);
@@ -180,7 +171,11 @@ pub fn put_buildcap(out: &mut Answer, room: usize, line: &[u8]) {
         calls: calls.as_slice(),
         last,
     };
-    let _begun = put_built_in_room(out, plan, room);
+    if let Some(room) = room {
+        let _begun = put_built_in_room(out, plan, room);
+    } else if put_built::<Vec<u8>>(out, plan) {
+        takes_symbols(out, plan);
+    }
 }
 
 fn put_built_in_room(out: &mut Answer, plan: Plan<'_>, room: usize) -> bool {
@@ -265,62 +260,67 @@ fn put_call<B: OctetsBuilder + OctetsMut>(
     call: BuilderCall<'_>,
 ) -> bool {
     match call {
-        BuilderCall::Push(octet) => put_pushed(out, builder.push(octet)),
-        BuilderCall::PushSymbol(symbol) => put_read(out, builder.push_symbol(symbol)),
-        BuilderCall::AppendSlice(octets) => put_pushed(out, builder.append_slice(octets)),
+        BuilderCall::Push(octet) => put_done(out, builder.push(octet)),
+        BuilderCall::PushSymbol(symbol) => put_done(out, builder.push_symbol(symbol)),
+        BuilderCall::AppendSlice(octets) => put_done(out, builder.append_slice(octets)),
         BuilderCall::EndLabel => {
             builder.end_label();
-            put_pushed(out, Ok(()))
+            put_done(out, Ok::<(), PushError>(()))
         }
-        BuilderCall::AppendLabel(octets) => put_pushed(out, builder.append_label(octets)),
+        BuilderCall::AppendLabel(octets) => put_done(out, builder.append_label(octets)),
         BuilderCall::AppendDecU8Label(octet) => {
-            put_pushed(out, builder.append_dec_u8_label(octet))
+            put_done(out, builder.append_dec_u8_label(octet))
         }
         BuilderCall::AppendHexDigitLabel(octet) => {
-            put_pushed(out, builder.append_hex_digit_label(octet))
+            put_done(out, builder.append_hex_digit_label(octet))
         }
-        BuilderCall::AppendName(name) => put_named(out, builder.append_name(&name)),
-        BuilderCall::AppendChars(text) => put_read(out, builder.append_chars(text.chars())),
+        BuilderCall::AppendName(name) => put_done(out, builder.append_name(&name)),
+        BuilderCall::AppendChars(text) => put_done(out, builder.append_chars(text.chars())),
     }
 }
 
-fn put_pushed(out: &mut Answer, pushed: Result<(), PushError>) -> bool {
-    match pushed {
-        Ok(()) => out.put(b"ok"),
-        Err(error) => put_push_error(out, error),
-    }
-    pushed.is_ok()
+/// A refusal that is told by its kind.
+trait Kind {
+    fn put(&self, out: &mut Answer);
 }
 
-fn put_push_error(out: &mut Answer, error: PushError) {
-    match error {
-        PushError::LongLabel => out.put(b"LongLabel"),
-        PushError::LongName => out.put(b"LongName"),
-        PushError::ShortBuf => out.put(b"ShortBuf"),
-    }
-}
-
-fn put_named(out: &mut Answer, named: Result<(), PushNameError>) -> bool {
-    match named {
-        Ok(()) => out.put(b"ok"),
-        Err(error) => put_push_name_error(out, error),
-    }
-    named.is_ok()
-}
-
-fn put_push_name_error(out: &mut Answer, error: PushNameError) {
-    match error {
-        PushNameError::LongName => out.put(b"LongName"),
-        PushNameError::ShortBuf => out.put(b"ShortBuf"),
+impl Kind for PushError {
+    fn put(&self, out: &mut Answer) {
+        match self {
+            PushError::LongLabel => out.put(b"LongLabel"),
+            PushError::LongName => out.put(b"LongName"),
+            PushError::ShortBuf => out.put(b"ShortBuf"),
+        }
     }
 }
 
-fn put_read(out: &mut Answer, read: Result<(), FromStrError>) -> bool {
-    match read {
-        Ok(()) => out.put(b"ok"),
-        Err(error) => put_text_error(out, error),
+impl Kind for PushNameError {
+    fn put(&self, out: &mut Answer) {
+        match self {
+            PushNameError::LongName => out.put(b"LongName"),
+            PushNameError::ShortBuf => out.put(b"ShortBuf"),
+        }
     }
-    read.is_ok()
+}
+
+impl Kind for FromStrError {
+    fn put(&self, out: &mut Answer) {
+        put_text_error(out, *self);
+    }
+}
+
+/// Puts whether a call was accepted, or why not, and tells that.
+fn put_done<E: Kind + Copy>(out: &mut Answer, done: Result<(), E>) -> bool {
+    match done {
+        Ok(()) => {
+            out.put(b"ok");
+            true
+        }
+        Err(error) => {
+            error.put(out);
+            false
+        }
+    }
 }
 
 fn is_measured<B: OctetsBuilder + OctetsMut>(out: &mut Answer, builder: &NameBuilder<B>) {
@@ -367,11 +367,11 @@ where
         Last::Finish => out.put_hex_behind(b"ok ", builder.finish().as_slice()),
         Last::IntoName => match builder.into_name() {
             Ok(name) => out.put_hex_behind(b"ok ", name.as_slice()),
-            Err(error) => put_push_error(out, error),
+            Err(error) => error.put(out),
         },
         Last::Origin(origin) => match builder.append_origin(&origin) {
             Ok(name) => out.put_hex_behind(b"ok ", name.as_slice()),
-            Err(error) => put_push_name_error(out, error),
+            Err(error) => error.put(out),
         },
     }
 }
@@ -438,6 +438,6 @@ fn put_absolute_in_an_array(out: &mut Answer, octets: &[u8]) {
     out.agree(!builder.in_label(), b"into_builder");
     match builder.finish().into_absolute() {
         Ok(made) => out.put_hex(made.as_slice()),
-        Err(error) => put_push_error(out, error),
+        Err(error) => error.put(out),
     }
 }

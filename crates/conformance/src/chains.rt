@@ -6,6 +6,7 @@ use crate::compare::{
 };
 use crate::fail::Fail;
 use crate::flat::put_stripped;
+use crate::labels::wire_of;
 use crate::made::{put_chain_forms, put_relative_chain_forms};
 use crate::message::name_at;
 use domain::base::name::*;
@@ -29,27 +30,12 @@ fn relative_chain<'a>(left: &'a [u8], right: &'a [u8]) -> Option<Relatively<'a>>
 }
 
 /// A chain's wire form, its length and its labels from the back.
-fn put_chain_of<'a, I: LabelIterator<'a>>(out: &mut Answer, len: u16, front: I, back: I) {
-    out.put(b"ok ");
-    put_wire(out, front);
+fn put_chain_of<'a, I: LabelIterator<'a>>(out: &mut Answer, len: u16, labels: I) {
+    let wire = wire_of(out, labels);
+    out.put_hex_behind(b"ok ", wire.as_slice());
     out.put_text_behind(b" ", len);
     out.put(b" ");
-    out.put_turned(back);
-}
-
-/// The wire form of labels, written label by label.
-fn put_wire<'a, I: LabelIterator<'a>>(out: &mut Answer, labels: I) {
-    let mut octets: Vec<u8> = Vec::new(out.alloc());
-    let mut labels = labels;
-    for _time in 0..1000u32 {
-        let Some(label) = labels.next() else {
-            break;
-        };
-        if label.compose(&mut octets).is_err() {
-            out.fail(Fail::Memory);
-        }
-    }
-    out.put_hex(octets.as_slice());
+    out.put_turned(labels);
 }
 
 fn put_refusal(out: &mut Answer, error: LongChainError) {
@@ -73,11 +59,11 @@ pub fn put_chain(out: &mut Answer, left: &[u8], right: &[u8]) {
 fn put_absolute_chain(out: &mut Answer, left: RelativeName<&[u8]>, right: Name<&[u8]>) {
     match left.chain(right) {
         Ok(chain) => {
-            let (front, back) = (chain.iter_labels(), chain.iter_labels());
-            put_chain_of(out, chain.compose_len(), front, back);
+            put_chain_of(out, chain.compose_len(), chain.iter_labels());
             out.agree(chain.is_absolute(), b"is_absolute");
             let (one, other) = chain.unwrap();
-            out.agree(one == left && other == right, b"unwrap");
+            out.same(one.as_slice(), left.as_slice(), b"unwrap");
+            out.same(other.as_slice(), right.as_slice(), b"unwrap");
         }
         Err(error) => put_refusal(out, error),
     }
@@ -86,9 +72,11 @@ fn put_absolute_chain(out: &mut Answer, left: RelativeName<&[u8]>, right: Name<&
 fn put_relative_chain(out: &mut Answer, left: RelativeName<&[u8]>, right: RelativeName<&[u8]>) {
     match left.chain(right) {
         Ok(chain) => {
-            let (front, back) = (chain.iter_labels(), chain.iter_labels());
-            put_chain_of(out, chain.compose_len(), front, back);
+            put_chain_of(out, chain.compose_len(), chain.iter_labels());
             out.agree(!chain.is_absolute(), b"is_absolute");
+            let (one, other) = chain.unwrap();
+            out.same(one.as_slice(), left.as_slice(), b"unwrap");
+            out.same(other.as_slice(), right.as_slice(), b"unwrap");
         }
         Err(error) => put_refusal(out, error),
     }
@@ -113,11 +101,7 @@ pub fn put_chainwalk(out: &mut Answer, left: &[u8], right: &[u8]) {
     let Some(chain) = relative_chain(left, right) else {
         return out.fail(Fail::Bad);
     };
-    out.put_orders(
-        chain.iter_labels(),
-        chain.iter_labels(),
-        chain.iter_labels(),
-    );
+    out.put_orders(chain.iter_labels());
 }
 
 /// `rooted NAME`: the name with the root behind it.
@@ -126,8 +110,7 @@ pub fn put_rooted(out: &mut Answer, octets: &[u8]) {
         return out.fail(Fail::Bad);
     };
     let chain = name.chain_root();
-    let (front, back) = (chain.iter_labels(), chain.iter_labels());
-    put_chain_of(out, chain.compose_len(), front, back);
+    put_chain_of(out, chain.compose_len(), chain.iter_labels());
     out.put_shown_behind(b" ", chain.fmt_with_dot());
 }
 

@@ -3,6 +3,7 @@
 use crate::address::put_address;
 use crate::answer::Answer;
 use crate::building::{put_absolute, put_build, put_buildcap};
+use crate::canonical::{put_canonical, put_parsed_canonical};
 use crate::chains::{
     put_chain, put_chaincmp, put_chainends, put_chainforms, put_chainrel, put_chainstrip,
     put_chainwalk, put_pchain, put_rooted,
@@ -11,7 +12,7 @@ use crate::compare::{put_cmp, put_ends, put_pcmp, put_pname, put_prel, put_relcm
 use crate::compress::put_compressed;
 use crate::errors::put_errors;
 use crate::fail::Fail;
-use crate::fields::Fields;
+use crate::fields::{Fields, is};
 use crate::flat::{put_flatwalk, put_name, put_part, put_show, put_split, put_strip};
 use crate::kept::{put_empty, put_fromflat, put_keep, put_relkeep, put_root, put_wildcard};
 use crate::labels::{
@@ -19,7 +20,9 @@ use crate::labels::{
     put_splitlabel, put_splitmut,
 };
 use crate::made::{put_flat_forms, put_lent_forms, put_parsed_forms, put_relative_flat_forms};
-use crate::message::{put_limited, put_nparse, put_parse, put_rest, put_skip, put_walk};
+use crate::message::{
+    put_limited, put_mixture, put_nparse, put_parentswalk, put_parse, put_rest, put_skip, put_walk,
+};
 use crate::numbers::{put_arrays, put_composevec, put_ints, put_signed, put_unsigned, put_whole};
 use crate::octets::{put_append, put_from, put_truncate, put_write};
 use crate::parser::put_calls;
@@ -125,10 +128,13 @@ fn respond_to_three(fields: Fields<'_>, octets: &[u8], out: &mut Answer) {
 fn respond_to_many(fields: Fields<'_>, octets: &[u8], out: &mut Answer) {
     let place = fields.number(2, out);
     fields.expect(5, out);
-    if fields.at(0) == b"parser".as_slice() {
+    if is(fields.at(0), b"parser") {
         let end = fields.number(3, out);
         put_calls(out, octets, place, end, fields.at(4));
-    } else if fields.at(0) == b"pchain".as_slice() {
+    } else if is(fields.at(0), b"mixture") {
+        let labels = fields.number(3, out);
+        put_mixture(out, octets, place, labels, fields.at(4));
+    } else if is(fields.at(0), b"pchain") {
         let left = fields.octets(3, out);
         let right = fields.octets(4, out);
         put_pchain(out, octets, place, left.as_slice(), right.as_slice());
@@ -233,6 +239,7 @@ fn respond_placed(call: Placed, octets: &[u8], place: usize, out: &mut Answer) {
         Placed::Fromflat => put_fromflat(out, octets, place),
         Placed::Textroom => put_textroom(out, octets, place),
         Placed::Reltextroom => put_reltextroom(out, octets, place),
+        Placed::Parentswalk => put_parentswalk(out, octets, place),
     }
 }
 
@@ -251,6 +258,7 @@ fn respond_ranged(call: Ranged, octets: &[u8], begin: usize, end: usize, out: &m
         Ranged::Pcmp => put_pcmp(out, octets, begin, end),
         Ranged::Rest => put_rest(out, octets, begin, end),
         Ranged::Parselimit => put_limited(out, octets, begin, end),
+        Ranged::Pcanonical => put_parsed_canonical(out, octets, begin, end),
     }
 }
 
@@ -268,6 +276,7 @@ fn respond_paired(call: Paired, a: &[u8], b: &[u8], out: &mut Answer) {
         Paired::Append => put_append(out, a, b),
         Paired::Composevec => put_composevec(out, a, b),
         Paired::Rdatacmp => put_rdatacmp(out, a, b),
+        Paired::Canonical => put_canonical(out, a, b),
     }
 }
 

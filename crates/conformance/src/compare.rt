@@ -4,6 +4,7 @@ use crate::answer::Answer;
 use crate::fail::Fail;
 use crate::message::name_at;
 use domain::base::name::*;
+use std::cmp::Ordering;
 use std::hash::{DefaultHasher, Hash, Hasher};
 
 /// The digest of octets, each fed as one number.
@@ -15,17 +16,21 @@ fn digest(octets: &[u8]) -> u64 {
     hasher.finish()
 }
 
-/// The octets that an absolute name feeds a hasher: they are those of its lowered wire form, which its
-/// digest tells.
+/// Puts the octets that a name feeds a hasher, which the digest of these tells.
+fn put_fed_octets<N: Hash>(out: &mut Answer, name: &N, octets: &[u8]) {
+    let mut hasher = DefaultHasher::new();
+    name.hash(&mut hasher);
+    out.agree(hasher.finish() == digest(octets), b"hash");
+    out.put_hex(octets);
+}
+
+/// A name feeds a hasher its lowered wire form.
 fn put_fed<'a, N: AbsoluteLabels<'a> + Hash>(out: &mut Answer, name: &'a N) {
     let mut octets = Vec::new(out.alloc());
     if name.compose_canonical(&mut octets).is_err() {
         out.fail(Fail::Memory);
     }
-    let mut hasher = DefaultHasher::new();
-    name.hash(&mut hasher);
-    out.agree(hasher.finish() == digest(octets.as_slice()), b"hash");
-    out.put_hex(octets.as_slice());
+    put_fed_octets(out, name, octets.as_slice());
 }
 
 fn put_relative_fed(out: &mut Answer, name: RelativeName<&[u8]>) {
@@ -33,10 +38,14 @@ fn put_relative_fed(out: &mut Answer, name: RelativeName<&[u8]>) {
     if name.compose_canonical(&mut octets).is_err() {
         out.fail(Fail::Memory);
     }
-    let mut hasher = DefaultHasher::new();
-    name.hash(&mut hasher);
-    out.agree(hasher.finish() == digest(octets.as_slice()), b"hash");
-    out.put_hex(octets.as_slice());
+    put_fed_octets(out, &name, octets.as_slice());
+}
+
+/// The operators and calls of one kind of names tell this.
+fn is_ordered<N: Ord>(out: &mut Answer, a: &N, b: &N, same: bool, order: Ordering) {
+    out.agree((a == b) == same, b"==");
+    out.agree(a.cmp(b) == order, b"cmp");
+    out.agree(a.partial_cmp(b) == Some(order), b"partial_cmp");
 }
 
 fn put_related<'a, A: AbsoluteLabels<'a>, B: AbsoluteLabels<'a>>(
@@ -73,10 +82,7 @@ pub fn put_cmp(out: &mut Answer, a: &[u8], b: &[u8]) {
         return out.fail(Fail::Bad);
     };
     put_compared(out, &a, &b);
-    let order = a.name_cmp(&b);
-    out.agree((a == b) == a.name_eq(&b), b"==");
-    out.agree(a.cmp(&b) == order, b"cmp");
-    out.agree(a.partial_cmp(&b) == Some(order), b"partial_cmp");
+    is_ordered(out, &a, &b, a.name_eq(&b), a.name_cmp(&b));
 }
 
 /// `relcmp A B`
@@ -96,10 +102,7 @@ pub fn put_relcmp(out: &mut Answer, a: &[u8], b: &[u8]) {
 
 fn put_relative_pair(out: &mut Answer, a: RelativeName<&[u8]>, b: RelativeName<&[u8]>) {
     put_relative_related(out, &a, &b);
-    let order = a.name_cmp(&b);
-    out.agree((a == b) == a.name_eq(&b), b"==");
-    out.agree(a.cmp(&b) == order, b"cmp");
-    out.agree(a.partial_cmp(&b) == Some(order), b"partial_cmp");
+    is_ordered(out, &a, &b, a.name_eq(&b), a.name_cmp(&b));
 }
 
 /// `pcmp MSG P Q`
@@ -113,10 +116,13 @@ pub fn put_pcmp(out: &mut Answer, message: &[u8], left: usize, right: usize) {
     put_compared(out, &left, &right);
     out.put(b" / ");
     put_beside_twin(out, left, right);
-    let order = left.name_cmp(&right);
-    out.agree((left == right) == left.name_eq(&right), b"==");
-    out.agree(left.cmp(&right) == order, b"cmp");
-    out.agree(left.partial_cmp(&right) == Some(order), b"partial_cmp");
+    is_ordered(
+        out,
+        &left,
+        &right,
+        left.name_eq(&right),
+        left.name_cmp(&right),
+    );
 }
 
 /// The left name beside the flat twin of the right one.

@@ -2,7 +2,7 @@
 
 use crate::answer::Answer;
 use crate::fail::Fail;
-use crate::fields::{decimal, octets_of, split_once};
+use crate::fields::{decimal, is, octets_of, split_once};
 use domain::base::compress::CompressComposer;
 use domain::base::name::{Name, ParsedName, ToName};
 use domain::base::wire::Composer;
@@ -38,10 +38,10 @@ fn put_resized(
     let Ok(number) = decimal(digits) else {
         return out.fail(Fail::Bad);
     };
-    if word == b"cut".as_slice() {
+    if is(word, b"cut") {
         target.truncate(number);
         out.put(b"-");
-    } else if word == b"pad".as_slice() && number <= MOST {
+    } else if is(word, b"pad") && number <= MOST {
         pad(out, target, number);
         out.put_number_behind(b"+", number);
     } else {

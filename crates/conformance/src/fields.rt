@@ -66,6 +66,11 @@ impl<'a> Fields<'a> {
     }
 }
 
+/// Whether a field is the word that is looked for.
+pub fn is(word: &[u8], known: &[u8]) -> bool {
+    word == known
+}
+
 /// The octets before a sign and those behind it, `None` where the sign isn't there.
 pub fn split_once(octets: &[u8], sign: u8) -> (&[u8], Option<&[u8]>) {
     let mut len = octets.len();

@@ -2,7 +2,7 @@
 
 use crate::answer::Answer;
 use crate::fail::Fail;
-use crate::labels::put_name_error;
+use crate::labels::{put_name_error, wire_of};
 use domain::base::name::*;
 
 /// `name OCTETS`
@@ -68,27 +68,20 @@ pub fn put_flatwalk(out: &mut Answer, octets: &[u8]) {
     let Ok(name) = Name::from_slice(octets) else {
         return out.fail(Fail::Bad);
     };
-    out.put_orders(name.iter(), name.iter(), name.iter());
+    out.put_orders(name.iter());
     out.put(b" ");
     let mut is_first = true;
     for suffix in name.iter_suffixes() {
         put_rest(out, suffix, &mut is_first);
     }
     out.put_none(is_first);
-    gives_labels(out, name);
+    gives_labels(out, &name);
 }
 
 /// The labels of a reference to a name, written one behind the other, are the name's octets.
-fn gives_labels(out: &mut Answer, name: Name<&[u8]>) {
-    let mut octets: Vec<u8> = Vec::new(out.alloc());
-    let mut refused = false;
-    for label in &name {
-        refused = refused || label.compose(&mut octets).is_err();
-    }
-    if refused {
-        out.fail(Fail::Memory);
-    }
-    out.same(octets.as_slice(), name.as_slice(), b"into_iter");
+fn gives_labels<'a>(out: &mut Answer, name: &'a Name<&'a [u8]>) {
+    let wire = wire_of(out, name.into_iter());
+    out.same(wire.as_slice(), name.as_slice(), b"into_iter");
 }
 
 /// The first label and the rest, which is the parent.

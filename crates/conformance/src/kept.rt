@@ -2,6 +2,7 @@
 
 use crate::answer::Answer;
 use crate::fail::Fail;
+use crate::message::leave_out;
 use arrayvec::ArrayVec;
 use domain::base::name::*;
 use octseq::{Octets, OctetsFrom, ShortBuf};
@@ -106,11 +107,7 @@ pub fn put_fromflat(out: &mut Answer, octets: &[u8], labels: usize) {
         return out.fail(Fail::Bad);
     };
     let mut name = ParsedName::from(flat);
-    for _label in 0..labels.min(1000) {
-        if !name.parent() {
-            break;
-        }
-    }
+    leave_out(&mut name, labels);
     let Ok(copy) = name.clone(out.alloc()) else {
         return out.fail(Fail::Memory);
     };

@@ -156,6 +156,21 @@ pub fn put_slice(out: &mut Answer, message: &[u8], start: usize) {
     out.put_none(is_first);
 }
 
+/// Labels as they stand on the wire, one behind the other.
+pub fn wire_of<'a, I: LabelIterator<'a>>(out: &mut Answer, labels: I) -> Vec<u8> {
+    let mut octets: Vec<u8> = Vec::new(out.alloc());
+    let mut labels = labels;
+    for _time in 0..1000u32 {
+        let Some(label) = labels.next() else {
+            break;
+        };
+        if label.compose(&mut octets).is_err() {
+            out.fail(Fail::Memory);
+        }
+    }
+    octets
+}
+
 pub fn put_label_type(out: &mut Answer, kind: LabelTypeError) {
     out.put(b"BadLabel(");
     put_label_type_alone(out, kind);

@@ -7,6 +7,7 @@
 mod address;
 mod answer;
 mod building;
+mod canonical;
 mod chains;
 mod command;
 mod compare;

@@ -5,7 +5,7 @@ use crate::fail::Fail;
 use arrayvec::ArrayVec;
 use domain::base::name::*;
 use domain::base::wire::ParseError;
-use octseq::Parser;
+use octseq::{Octets, Parser};
 
 /// A parser of a message at a place, with an end.
 pub fn parser_at(message: &[u8], place: usize, end: usize) -> Option<Parser<'_>> {
@@ -36,16 +36,11 @@ pub fn put_parse(out: &mut Answer, message: &[u8], place: usize, end: usize) {
     let mut twin = parser;
     let read = ParsedName::parse(&mut parser);
     let again = ParsedName::parse_ref(&mut twin);
+    out.agree(is_same_read(&again, &read), b"parse_ref");
     out.agree(twin.pos() == parser.pos(), b"parse_ref");
     match read {
-        Ok(name) => {
-            out.agree(is_same_read(again, name), b"parse_ref");
-            put_read(out, name, parser.pos());
-        }
-        Err(error) => {
-            out.agree(again == Err(error), b"parse_ref");
-            put_refusal(out, parser.pos(), error);
-        }
+        Ok(name) => put_read(out, name, parser.pos()),
+        Err(error) => put_refusal(out, parser.pos(), error),
     }
 }
 
@@ -57,17 +52,34 @@ pub fn put_limited(out: &mut Answer, message: &[u8], place: usize, limit: usize)
     let Some(mut parser) = parser_at(message, place, message.len()) else {
         return out.fail(Fail::Bad);
     };
-    match ParsedName::parse_with_limit(&mut parser, limit as u8) {
+    let mut twin = parser;
+    let read = ParsedName::parse_with_limit(&mut parser, limit as u8);
+    if limit == 255 {
+        // The limit of `parse`.
+        let again = ParsedName::parse(&mut twin);
+        out.agree(is_same_read(&again, &read), b"parse");
+        out.agree(twin.pos() == parser.pos(), b"parse");
+    }
+    match read {
         Ok(name) => put_read(out, name, parser.pos()),
         Err(error) => put_refusal(out, parser.pos(), error),
     }
 }
 
-fn is_same_read(read: Result<ParsedName<&[u8]>, ParseError>, name: ParsedName<&[u8]>) -> bool {
-    match read {
-        Ok(same) => same == name && same.is_compressed() == name.is_compressed(),
-        Err(_) => false,
+fn is_same_read(
+    one: &Result<ParsedName<&[u8]>, ParseError>,
+    other: &Result<ParsedName<&[u8]>, ParseError>,
+) -> bool {
+    match (one, other) {
+        (Ok(a), Ok(b)) => is_same_name(a, b),
+        (Err(a), Err(b)) => a == b,
+        _ => false,
     }
+}
+
+/// The same labels without case, and the same flag.
+fn is_same_name(a: &ParsedName<&[u8]>, b: &ParsedName<&[u8]>) -> bool {
+    a == b && a.is_compressed() == b.is_compressed()
 }
 
 fn put_read(out: &mut Answer, name: ParsedName<&[u8]>, place: usize) {
@@ -106,7 +118,7 @@ fn has_parts_of(out: &mut Answer, name: ParsedName<&[u8]>, flat: Name<&[u8]>) {
     let twin = ParsedName::from(flat);
     out.agree(twin == name && !twin.is_compressed(), b"from");
     let lent = name.ref_octets();
-    out.agree(lent.deref_octets() == name, b"deref_octets");
+    out.agree(is_same_name(&lent.deref_octets(), &name), b"deref_octets");
 }
 
 /// A name in a message is flattened over a `Vec` and over an array of 255 octets.
@@ -159,7 +171,7 @@ pub fn put_walk(out: &mut Answer, message: &[u8], place: usize) {
 }
 
 fn put_walked(out: &mut Answer, name: ParsedName<&[u8]>) {
-    out.put_orders(name.iter(), name.iter(), name.iter());
+    out.put_orders(name.iter());
     out.put(b" ");
     put_suffixes(out, name);
     out.put(b" ");
@@ -255,7 +267,43 @@ pub fn put_rest(out: &mut Answer, message: &[u8], place: usize, labels: usize) {
             break;
         }
     }
-    out.put_orders(rest.iter(), rest.iter(), rest.iter());
+    out.put_orders(rest.iter());
     out.put(b" ");
     put_part_of(out, rest);
+}
+
+/// `parentswalk MSG PLACE`: the labels from both ends, of the name and of what each `parent` leaves.
+pub fn put_parentswalk(out: &mut Answer, message: &[u8], place: usize) {
+    let Some(mut rest) = name_at(message, place) else {
+        return out.fail(Fail::Bad);
+    };
+    out.put_orders(rest.iter());
+    for _label in 0..1000u32 {
+        if !rest.parent() {
+            break;
+        }
+        out.put(b" / ");
+        out.put_orders(rest.iter());
+    }
+}
+
+/// Leaves out the first labels of a name, down to the root.
+pub fn leave_out<Octs: Octets>(name: &mut ParsedName<Octs>, labels: usize) {
+    for _label in 0..labels.min(1000) {
+        if !name.parent() {
+            break;
+        }
+    }
+}
+
+/// `mixture MSG PLACE N CALLS`: without the first N labels, what calls on either end give, also on the flat twin.
+pub fn put_mixture(out: &mut Answer, message: &[u8], place: usize, labels: usize, calls: &[u8]) {
+    let Some(mut rest) = name_at(message, place) else {
+        return out.fail(Fail::Bad);
+    };
+    leave_out(&mut rest, labels);
+    match rest.to_vec(out.alloc()) {
+        Ok(flat) => out.put_mixture(rest.iter(), flat.iter(), calls),
+        Err(_) => out.fail(Fail::Memory),
+    }
 }

@@ -12,10 +12,10 @@ use std::borrow::CowSlice;
 /// Shortens octets of any kind, and compares what is left.
 fn is_shortened<T: Truncate + Drop>(out: &mut Answer, octets: T, len: usize, left: &[u8]) {
     let mut octets = octets;
-    Truncate::truncate(&mut octets, len);
-    out.same(Octets::as_slice(&octets), left, b"truncate");
     Truncate::truncate(&mut &mut octets, len);
     out.same(Octets::as_slice(&&octets), left, b"truncate");
+    Truncate::truncate(&mut octets, len);
+    out.same(Octets::as_slice(&octets), left, b"truncate");
 }
 
 /// `truncate OCTETS LEN`

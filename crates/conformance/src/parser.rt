@@ -2,7 +2,7 @@
 
 use crate::answer::Answer;
 use crate::fail::Fail;
-use crate::fields::{decimal, split_once};
+use crate::fields::{decimal, is, split_once};
 use crate::message::parser_at;
 use octseq::{Parser, ShortInput};
 use std::fmt::Display;
@@ -24,10 +24,6 @@ enum Step {
     Seek(usize),
     Advance(usize),
     Parser(usize),
-}
-
-fn is(word: &[u8], known: &[u8]) -> bool {
-    word == known
 }
 
 /// A call without a number.

@@ -1,6 +1,7 @@
 //! Record data, and the names of addresses.
 
 use crate::answer::Answer;
+use crate::canonical::is_in_canonical_order;
 use crate::fail::Fail;
 use arrayvec::ArrayVec;
 use domain::base::cmp::CanonicalOrd;
@@ -11,7 +12,6 @@ use domain::base::rdata::{
 };
 use domain::base::wire::{Composer, ParseError};
 use octseq::{EmptyBuilder, Octets, Parser};
-use std::cmp::Ordering;
 
 const PRIVATE: u16 = 65280;
 
@@ -125,14 +125,7 @@ pub fn put_rdatacmp(out: &mut Answer, a: &[u8], b: &[u8]) {
     out.put_order(b" cmp=", order);
     out.put_order(b" canonical=", a.canonical_cmp(&b));
     out.agree(a.partial_cmp(&b) == Some(order), b"partial_cmp");
-    is_in_canonical_order(out, a, b, order);
-}
-
-fn is_in_canonical_order(out: &mut Answer, a: Data<'_>, b: Data<'_>, order: Ordering) {
-    out.agree(a.canonical_lt(&b) == order.is_lt(), b"canonical_lt");
-    out.agree(a.canonical_le(&b) == order.is_le(), b"canonical_le");
-    out.agree(a.canonical_gt(&b) == order.is_gt(), b"canonical_gt");
-    out.agree(a.canonical_ge(&b) == order.is_ge(), b"canonical_ge");
+    is_in_canonical_order(out, &a, &b, order);
 }
 
 /// `longdata LEN`: so many octets that are zero as record data.

@@ -1,8 +1,8 @@
 //! Serial numbers.
 
 use crate::answer::Answer;
+use crate::canonical::is_in_canonical_order;
 use crate::fail::Fail;
-use domain::base::cmp::CanonicalOrd;
 use domain::base::serial::Serial;
 use octseq::Parser;
 
@@ -26,20 +26,12 @@ pub fn put_serial(out: &mut Answer, a: &[u8], b: &[u8]) {
         Some(order) => out.put_order(b"", order),
         None => out.put(b"none"),
     }
-    is_in_canonical_order(out, a, b);
-    is_written(out, a);
-    is_shown(out, a);
-}
-
-/// The canonical order is that of the numbers.
-fn is_in_canonical_order(out: &mut Answer, a: Serial, b: Serial) {
+    // The canonical order is that of the numbers.
     let order = a.into_int().cmp(&b.into_int());
     out.agree((a == b) == order.is_eq(), b"==");
-    out.agree(a.canonical_cmp(&b) == order, b"canonical_cmp");
-    out.agree(a.canonical_lt(&b) == order.is_lt(), b"canonical_lt");
-    out.agree(a.canonical_le(&b) == order.is_le(), b"canonical_le");
-    out.agree(a.canonical_gt(&b) == order.is_gt(), b"canonical_gt");
-    out.agree(a.canonical_ge(&b) == order.is_ge(), b"canonical_ge");
+    is_in_canonical_order(out, &a, &b, order);
+    is_written(out, a);
+    is_shown(out, a);
 }
 
 /// A serial's octets are those of its number.

@@ -7,54 +7,62 @@ use domain::base::name::*;
 use domain::base::scan::{Symbol, SymbolCharsError, Symbols};
 use octseq::{EmptyBuilder, FromBuilder, Octets};
 
+/// The octets of the name that was read, or the fault of its text. Those of absolute names are among those of relative ones.
+type Read<'r> = Result<&'r [u8], RelativeFromStrError>;
+
+fn absolute_read<Octs: Octets>(read: &Result<Name<Octs>, FromStrError>) -> Read<'_> {
+    match read {
+        Ok(name) => Ok(name.as_slice()),
+        Err(error) => Err(RelativeFromStrError::from(*error)),
+    }
+}
+
+fn relative_read<Octs: Octets>(
+    read: &Result<RelativeName<Octs>, RelativeFromStrError>,
+) -> Read<'_> {
+    match read {
+        Ok(name) => Ok(name.as_slice()),
+        Err(error) => Err(*error),
+    }
+}
+
+fn put_read(out: &mut Answer, read: Read<'_>) {
+    match read {
+        Ok(octets) => out.put_hex_behind(b"ok ", octets),
+        Err(error) => {
+            out.put(b"err ");
+            put_relative_text_error(out, error);
+        }
+    }
+}
+
 /// `text TEXT`
 pub fn put_text(out: &mut Answer, octets: &[u8]) {
     let Ok(text) = str::from_utf8(octets) else {
         return out.fail(Fail::Bad);
     };
     let read: Result<Name<Vec<u8>>, FromStrError> = Name::from_chars(out.alloc(), text.chars());
-    match read {
-        Ok(name) => {
-            out.put_hex_behind(b"ok ", name.as_slice());
-            is_read_alike(out, text, Ok(name.as_slice()));
-        }
-        Err(error) => {
-            out.put(b"err ");
-            put_text_error(out, error);
-            is_read_alike(out, text, Err(error));
-        }
-    }
+    put_read(out, absolute_read(&read));
+    is_read_alike(out, text, absolute_read(&read));
 }
 
 /// The other calls that read an absolute name answer the same.
-fn is_read_alike(out: &mut Answer, text: &str, wanted: Result<&[u8], FromStrError>) {
+fn is_read_alike(out: &mut Answer, text: &str, wanted: Read<'_>) {
     let read = Name::vec_from_str(out.alloc(), text);
-    is_read_as(out, read, wanted, b"vec_from_str");
+    out.agree(absolute_read(&read) == wanted, b"vec_from_str");
     let read: Result<Name<ArrayVec<u8, 255>>, FromStrError> = text.parse();
-    is_read_as(out, read, wanted, b"from_str");
+    out.agree(absolute_read(&read) == wanted, b"from_str");
     if let Some(symbols) = symbols_of(out, text) {
         is_read_of_symbols(out, symbols.as_slice(), wanted);
     }
 }
 
-fn is_read_of_symbols(out: &mut Answer, symbols: &[Symbol], wanted: Result<&[u8], FromStrError>) {
+fn is_read_of_symbols(out: &mut Answer, symbols: &[Symbol], wanted: Read<'_>) {
     let read: Result<Name<Vec<u8>>, FromStrError> = Name::from_symbols(
         out.alloc(),
         symbols.iter().copied(),
     );
-    is_read_as(out, read, wanted, b"from_symbols");
-}
-
-fn is_read_as<Octs: Octets + Drop>(
-    out: &mut Answer,
-    read: Result<Name<Octs>, FromStrError>,
-    wanted: Result<&[u8], FromStrError>,
-    call: &[u8],
-) {
-    match read {
-        Ok(name) => out.agree(wanted == Ok(name.as_slice()), call),
-        Err(error) => out.agree(wanted == Err(error), call),
-    }
+    out.agree(absolute_read(&read) == wanted, b"from_symbols");
 }
 
 /// The symbols of a text, where no escape is broken.
@@ -82,41 +90,16 @@ pub fn put_reltext(out: &mut Answer, octets: &[u8]) {
         out.alloc(),
         text.chars(),
     );
-    match read {
-        Ok(name) => {
-            out.put_hex_behind(b"ok ", name.as_slice());
-            is_relative_read_alike(out, text, Ok(name.as_slice()));
-        }
-        Err(error) => {
-            out.put(b"err ");
-            put_relative_text_error(out, error);
-            is_relative_read_alike(out, text, Err(error));
-        }
-    }
+    put_read(out, relative_read(&read));
+    is_relative_read_alike(out, text, relative_read(&read));
 }
 
 /// The other calls that read a relative name answer the same.
-fn is_relative_read_alike(
-    out: &mut Answer,
-    text: &str,
-    wanted: Result<&[u8], RelativeFromStrError>,
-) {
+fn is_relative_read_alike(out: &mut Answer, text: &str, wanted: Read<'_>) {
     let read = RelativeName::vec_from_str(out.alloc(), text);
-    is_relative_read_as(out, read, wanted, b"vec_from_str");
+    out.agree(relative_read(&read) == wanted, b"vec_from_str");
     let read: Result<RelativeName<ArrayVec<u8, 254>>, RelativeFromStrError> = text.parse();
-    is_relative_read_as(out, read, wanted, b"from_str");
-}
-
-fn is_relative_read_as<Octs: Octets + Drop>(
-    out: &mut Answer,
-    read: Result<RelativeName<Octs>, RelativeFromStrError>,
-    wanted: Result<&[u8], RelativeFromStrError>,
-    call: &[u8],
-) {
-    match read {
-        Ok(name) => out.agree(wanted == Ok(name.as_slice()), call),
-        Err(error) => out.agree(wanted == Err(error), call),
-    }
+    out.agree(relative_read(&read) == wanted, b"from_str");
 }
 
 /// `labeltext TEXT`
@@ -189,17 +172,8 @@ where
     Octs::Builder: EmptyBuilder + Drop,
 {
     let read: Result<Name<Octs>, FromStrError> = Name::from_chars(out.alloc(), text.chars());
-    match read {
-        Ok(name) => {
-            out.put_hex_behind(b"ok ", name.as_slice());
-            is_read_as(out, twin, Ok(name.as_slice()), b"from_str");
-        }
-        Err(error) => {
-            out.put(b"err ");
-            put_text_error(out, error);
-            is_read_as(out, twin, Err(error), b"from_str");
-        }
-    }
+    put_read(out, absolute_read(&read));
+    out.agree(absolute_read(&twin) == absolute_read(&read), b"from_str");
 }
 
 /// `textroom TEXT OCTETS`
@@ -228,17 +202,8 @@ where
         out.alloc(),
         text.chars(),
     );
-    match read {
-        Ok(name) => {
-            out.put_hex_behind(b"ok ", name.as_slice());
-            is_relative_read_as(out, twin, Ok(name.as_slice()), b"from_str");
-        }
-        Err(error) => {
-            out.put(b"err ");
-            put_relative_text_error(out, error);
-            is_relative_read_as(out, twin, Err(error), b"from_str");
-        }
-    }
+    put_read(out, relative_read(&read));
+    out.agree(relative_read(&twin) == relative_read(&read), b"from_str");
 }
 
 /// `reltextroom TEXT OCTETS`

@@ -1,5 +1,7 @@
 //! The words of the calls, by what stands behind them.
 
+use crate::fields::is;
+
 /// Nothing
 #[derive(Clone, Copy)]
 pub enum Bare {
@@ -79,6 +81,7 @@ pub enum Placed {
     Fromflat,
     Textroom,
     Reltextroom,
+    Parentswalk,
 }
 
 /// `OCTETS PLACE`, and an end
@@ -97,6 +100,7 @@ pub enum Ranged {
     Pcmp,
     Rest,
     Parselimit,
+    Pcanonical,
 }
 
 /// `OCTETS OCTETS`
@@ -114,6 +118,7 @@ pub enum Paired {
     Append,
     Composevec,
     Rdatacmp,
+    Canonical,
 }
 
 /// `OCTETS OCTETS OCTETS`
@@ -131,10 +136,6 @@ pub enum Beside {
     Pname,
     Prel,
     Write,
-}
-
-fn is(word: &[u8], known: &[u8]) -> bool {
-    word == known
 }
 
 pub fn find_bare(word: &[u8]) -> Option<Bare> {
@@ -311,6 +312,9 @@ pub fn find_placed(word: &[u8]) -> Option<Placed> {
     if is(word, b"reltextroom") {
         return Some(Placed::Reltextroom);
     }
+    if is(word, b"parentswalk") {
+        return Some(Placed::Parentswalk);
+    }
     None
 }
 
@@ -342,6 +346,9 @@ pub fn find_ranged(word: &[u8]) -> Option<Ranged> {
     }
     if is(word, b"parselimit") {
         return Some(Ranged::Parselimit);
+    }
+    if is(word, b"pcanonical") {
+        return Some(Ranged::Pcanonical);
     }
     None
 }
@@ -382,6 +389,9 @@ pub fn find_paired(word: &[u8]) -> Option<Paired> {
     }
     if is(word, b"rdatacmp") {
         return Some(Paired::Rdatacmp);
+    }
+    if is(word, b"canonical") {
+        return Some(Paired::Canonical);
     }
     None
 }
