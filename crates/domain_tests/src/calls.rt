@@ -158,13 +158,13 @@ fn is_compared_on_the_wire<'a, N: AbsoluteLabels<'a>>(name: &'a N, others: &'a O
         && name.lowercase_composed_cmp(other) == Ordering::Greater
 }
 
-fn is_matched<'a, N: AbsoluteLabels<'a>>(name: &'a N, others: &'a Others<'a>) -> bool {
-    let Others {
-        other,
-        start,
-        end,
-        ..
-    } = others;
+/// A name begins with `start` and ends with `end`. It doesn't begin with `end`, nor end with `other`.
+fn is_matched<'a, N: ToLabelIter<'a>, S: ToLabelIter<'a>, E: ToLabelIter<'a>, O: ToLabelIter<'a>>(
+    name: &'a N,
+    start: &'a S,
+    end: &'a E,
+    other: &'a O,
+) -> bool {
     name.starts_with(start)
         && name.ends_with(end)
         && !name.starts_with(end)
@@ -190,7 +190,8 @@ pub fn every_call_of_absolute<'a, N: AbsoluteLabels<'a>>(
     assert!(rt; is_made_flat(alloc, name, wanted) && is_made_canonical(alloc, name, wanted));
     assert!(rt; is_copied(alloc, name, wanted, flat));
     assert!(rt; is_compared(name, others) && is_compared_on_the_wire(name, others));
-    assert!(rt; is_matched(name, others) && name.is_absolute() && name.rrsig_label_count() == 3);
+    assert!(rt; is_matched(name, &others.start, &others.end, &others.other));
+    assert!(rt; name.is_absolute() && name.rrsig_label_count() == 3);
     assert!(rt; is_shown(alloc, name));
 }
 
@@ -249,22 +250,6 @@ fn is_relative_compared<'a, N: RelativeLabels<'a>>(
         && name.name_cmp(other) == Ordering::Less
 }
 
-fn is_relative_matched<'a, N: RelativeLabels<'a>>(
-    name: &'a N,
-    others: &'a RelativeOthers<'a>,
-) -> bool {
-    let RelativeOthers {
-        start,
-        end,
-        root,
-        ..
-    } = others;
-    name.starts_with(start)
-        && name.ends_with(end)
-        && !name.starts_with(end)
-        && !name.ends_with(root)
-}
-
 /// Asks `www.Example` of any kind for all that relative names have and that lends the name. It must give
 /// [`RELATIVE`].
 pub fn every_call_of_relative<'a, N: RelativeLabels<'a>>(
@@ -280,6 +265,7 @@ pub fn every_call_of_relative<'a, N: RelativeLabels<'a>>(
     assert!(rt; is_made_flat_relative(alloc, name, wanted.wire));
     assert!(rt; is_made_canonical_relative(alloc, name, wanted.canonical));
     assert!(rt; is_relative_copied(alloc, name, wanted.wire, flat));
-    assert!(rt; is_relative_compared(name, others) && is_relative_matched(name, others));
+    assert!(rt; is_relative_compared(name, others));
+    assert!(rt; is_matched(name, &others.start, &others.end, &others.root));
     assert!(rt; !name.is_absolute() && !name.is_empty());
 }
