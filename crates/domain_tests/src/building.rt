@@ -3,7 +3,7 @@
 //! As in `memory`, at most one request of a test is refused, whichever it is: so of calls that are made
 //! twice at most one is refused, and a call that was refused is accepted when it is made again.
 
-use crate::names::{WWW, relative};
+use crate::names::{WWW, octets_of, relative, relative_octets_of};
 use domain::base::name::*;
 use domain::base::net::IpAddr;
 use domain::base::scan::Symbol;
@@ -11,38 +11,19 @@ use octseq::{OctetsFrom, ShortBuf};
 use std::alloc::Global;
 use std::process::Abort;
 
-/// 1 where a name was refused for want of memory. Else it has these octets.
+/// 1 where octets were refused for want of memory. Else they are these.
 fn refused<E: PartialEq + Drop>(
     rt: &impl Abort,
-    made: Result<Name<Vec<u8>>, E>,
+    made: Result<Vec<u8>, E>,
     short: E,
     wanted: &[u8],
 ) -> u8 {
     match made {
-        Ok(name) => {
-            assert_eq!(rt; name.as_slice(), wanted);
+        Ok(octets) => {
+            assert_eq!(rt; octets.as_slice(), wanted);
             0
         }
         Err(error) => {
-            assert!(rt; error == short);
-            1
-        }
-    }
-}
-
-/// The same of a relative name.
-fn relative_refused(
-    rt: &impl Abort,
-    made: Result<RelativeName<Vec<u8>>, RelativeFromStrError>,
-    wanted: &[u8],
-) -> u8 {
-    match made {
-        Ok(name) => {
-            assert_eq!(rt; name.as_slice(), wanted);
-            0
-        }
-        Err(error) => {
-            let short = RelativeFromStrError::FromStr(FromStrError::ShortBuf);
             assert!(rt; error == short);
             1
         }
@@ -54,18 +35,18 @@ fn read_absolute(rt: &impl Abort, alloc: Global) -> u8 {
     let text = "www.Example.com";
     let by_str = refused(
         rt,
-        Name::vec_from_str(alloc, text),
+        octets_of(Name::vec_from_str(alloc, text)),
         FromStrError::ShortBuf,
         WWW,
     );
     let read: Result<Name<Vec<u8>>, FromStrError> = Name::from_chars(alloc, text.chars());
-    let by_chars = refused(rt, read, FromStrError::ShortBuf, WWW);
+    let by_chars = refused(rt, octets_of(read), FromStrError::ShortBuf, WWW);
     let symbols = [Symbol::Char('a'), Symbol::DecimalEscape(0)];
     let read: Result<Name<Vec<u8>>, FromStrError> = Name::from_symbols(
         alloc,
         symbols.iter().copied(),
     );
-    let by_symbols = refused(rt, read, FromStrError::ShortBuf, b"\x02a\0\0");
+    let by_symbols = refused(rt, octets_of(read), FromStrError::ShortBuf, b"\x02a\0\0");
     by_str.saturating_add(by_chars).saturating_add(by_symbols)
 }
 
@@ -73,12 +54,14 @@ fn read_absolute(rt: &impl Abort, alloc: Global) -> u8 {
 fn read_relative(rt: &impl Abort, alloc: Global) -> u8 {
     let text = "www.Example";
     let wanted = b"\x03www\x07Example".as_slice();
-    let by_str = relative_refused(rt, RelativeName::vec_from_str(alloc, text), wanted);
+    let short = RelativeFromStrError::FromStr(FromStrError::ShortBuf);
+    let read = RelativeName::vec_from_str(alloc, text);
+    let by_str = refused(rt, relative_octets_of(read), short, wanted);
     let read: Result<RelativeName<Vec<u8>>, RelativeFromStrError> = RelativeName::from_chars(
         alloc,
         text.chars(),
     );
-    by_str.saturating_add(relative_refused(rt, read, wanted))
+    by_str.saturating_add(refused(rt, relative_octets_of(read), short, wanted))
 }
 
 #[test]
@@ -95,15 +78,16 @@ fn texts_are_read_or_refused(rt: HostRuntime) {
 fn make_names(rt: &impl Abort, alloc: Global) -> u8 {
     let address = IpAddr::from([192u8, 0, 2, 1]);
     let wanted = b"\x011\x012\x010\x03192\x07in-addr\x04arpa\0".as_slice();
-    let reverse = Name::reverse_from_addr(alloc, address);
-    let count = refused(rt, reverse, PushError::ShortBuf, wanted);
+    let reverse: Result<Name<Vec<u8>>, PushError> = Name::reverse_from_addr(alloc, address);
+    let count = refused(rt, octets_of(reverse), PushError::ShortBuf, wanted);
     let held: Result<RelativeName<Vec<u8>>, ShortBuf> = RelativeName::try_octets_from(
         alloc,
         relative(rt, b"\x03www\x07Example\x03com"),
     );
     match held {
         Ok(name) => {
-            count.saturating_add(refused(rt, name.into_absolute(), PushError::ShortBuf, WWW))
+            let made = octets_of(name.into_absolute());
+            count.saturating_add(refused(rt, made, PushError::ShortBuf, WWW))
         }
         Err(_) => count.saturating_add(1),
     }
@@ -150,7 +134,7 @@ fn builders_go_on_behind_a_refusal(rt: HostRuntime) {
         Err(_) => count = count.saturating_add(1),
     }
     match builder.into_name() {
-        Ok(name) => assert_eq!(rt; name.len(), wanted.len() + 1),
+        Ok(name) => assert_eq!(rt; name.into_relative().as_slice(), wanted),
         Err(error) => {
             assert!(rt; error == PushError::ShortBuf);
             count = count.saturating_add(1);

@@ -1,9 +1,9 @@
 //! Every call that names have, over a name of any kind.
 
-use crate::names::{LOWER_WWW, WWW, absolute, relative};
+use crate::names::{LOWER_WWW, WWW, absolute, octets_of, relative, relative_octets_of};
 use arrayvec::ArrayVec;
 use domain::base::name::*;
-use octseq::ShortBuf;
+use octseq::{Octets, ShortBuf};
 use std::alloc::Global;
 use std::borrow::CowSlice;
 use std::cmp::Ordering;
@@ -103,11 +103,23 @@ fn is_composed<'a, N: AbsoluteLabels<'a>>(alloc: Global, name: &'a N, wanted: Wa
         && canonical.as_slice() == wanted.canonical
 }
 
+/// Whether octets were made, and are these.
+fn are_made<Octs: Octets + Drop>(made: Result<Octs, ShortBuf>, wanted: &[u8]) -> bool {
+    matches!(&made, Ok(octets) if octets.as_slice() == wanted)
+}
+
+/// Whether octets were lent, or made where they don't lie in one piece, and are these.
+fn are_lent(made: Result<CowSlice<'_, u8>, ShortBuf>, wanted: &[u8], flat: bool) -> bool {
+    let Ok(octets) = made else {
+        return false;
+    };
+    Octets::as_slice(&octets) == wanted && matches!(&octets, CowSlice::Borrowed(_)) == flat
+}
+
 fn is_made_flat<'a, N: AbsoluteLabels<'a>>(alloc: Global, name: &'a N, wanted: Wanted<'_>) -> bool {
     let made: Result<Name<Vec<u8>>, ShortBuf> = name.to_name(alloc);
     let tried: Result<Name<ArrayVec<u8, 17>>, ShortBuf> = name.try_to_name(alloc);
-    matches!(&made, Ok(name) if name.as_slice() == wanted.wire)
-        && matches!(&tried, Ok(name) if name.as_slice() == wanted.wire)
+    are_made(octets_of(made), wanted.wire) && are_made(octets_of(tried), wanted.wire)
 }
 
 fn is_made_canonical<'a, N: AbsoluteLabels<'a>>(
@@ -117,8 +129,7 @@ fn is_made_canonical<'a, N: AbsoluteLabels<'a>>(
 ) -> bool {
     let made: Result<Name<Vec<u8>>, ShortBuf> = name.to_canonical_name(alloc);
     let tried: Result<Name<ArrayVec<u8, 17>>, ShortBuf> = name.try_to_canonical_name(alloc);
-    matches!(&made, Ok(name) if name.as_slice() == wanted.canonical)
-        && matches!(&tried, Ok(name) if name.as_slice() == wanted.canonical)
+    are_made(octets_of(made), wanted.canonical) && are_made(octets_of(tried), wanted.canonical)
 }
 
 fn is_copied<'a, N: AbsoluteLabels<'a>>(
@@ -127,12 +138,8 @@ fn is_copied<'a, N: AbsoluteLabels<'a>>(
     wanted: Wanted<'_>,
     flat: bool,
 ) -> bool {
-    let Ok(cow) = name.to_cow(alloc) else {
-        return false;
-    };
-    matches!(&name.to_vec(alloc), Ok(owned) if owned.as_slice() == wanted.wire)
-        && cow.as_slice() == wanted.wire
-        && matches!(cow.as_octets(), CowSlice::Borrowed(_)) == flat
+    are_made(octets_of(name.to_vec(alloc)), wanted.wire)
+        && are_lent(octets_of(name.to_cow(alloc)), wanted.wire, flat)
 }
 
 fn is_compared<'a, N: AbsoluteLabels<'a>>(name: &'a N, others: &'a Others<'a>) -> bool {
@@ -151,13 +158,13 @@ fn is_compared_on_the_wire<'a, N: AbsoluteLabels<'a>>(name: &'a N, others: &'a O
         && name.lowercase_composed_cmp(other) == Ordering::Greater
 }
 
-fn is_matched<'a, N: AbsoluteLabels<'a>>(name: &'a N, others: &'a Others<'a>) -> bool {
-    let Others {
-        other,
-        start,
-        end,
-        ..
-    } = others;
+/// A name begins with `start` and ends with `end`. It doesn't begin with `end`, nor end with `other`.
+fn is_matched<'a, N: ToLabelIter<'a>, S: ToLabelIter<'a>, E: ToLabelIter<'a>, O: ToLabelIter<'a>>(
+    name: &'a N,
+    start: &'a S,
+    end: &'a E,
+    other: &'a O,
+) -> bool {
     name.starts_with(start)
         && name.ends_with(end)
         && !name.starts_with(end)
@@ -183,7 +190,8 @@ pub fn every_call_of_absolute<'a, N: AbsoluteLabels<'a>>(
     assert!(rt; is_made_flat(alloc, name, wanted) && is_made_canonical(alloc, name, wanted));
     assert!(rt; is_copied(alloc, name, wanted, flat));
     assert!(rt; is_compared(name, others) && is_compared_on_the_wire(name, others));
-    assert!(rt; is_matched(name, others) && name.is_absolute() && name.rrsig_label_count() == 3);
+    assert!(rt; is_matched(name, &others.start, &others.end, &others.other));
+    assert!(rt; name.is_absolute() && name.rrsig_label_count() == 3);
     assert!(rt; is_shown(alloc, name));
 }
 
@@ -203,38 +211,32 @@ fn is_relative_composed<'a, N: RelativeLabels<'a>>(
 fn is_made_flat_relative<'a, N: RelativeLabels<'a>>(
     alloc: Global,
     name: &'a N,
-    wanted: Wanted<'_>,
+    wanted: &[u8],
 ) -> bool {
     let made: Result<RelativeName<Vec<u8>>, ShortBuf> = name.to_relative_name(alloc);
     let tried: Result<RelativeName<ArrayVec<u8, 12>>, ShortBuf> = name.try_to_relative_name(alloc);
-    matches!(&made, Ok(name) if name.as_slice() == wanted.wire)
-        && matches!(&tried, Ok(name) if name.as_slice() == wanted.wire)
+    are_made(relative_octets_of(made), wanted) && are_made(relative_octets_of(tried), wanted)
 }
 
 fn is_made_canonical_relative<'a, N: RelativeLabels<'a>>(
     alloc: Global,
     name: &'a N,
-    wanted: Wanted<'_>,
+    wanted: &[u8],
 ) -> bool {
     let made: Result<RelativeName<Vec<u8>>, ShortBuf> = name.to_canonical_relative_name(alloc);
     let tried: Result<RelativeName<ArrayVec<u8, 12>>, ShortBuf> =
         name.try_to_canonical_relative_name(alloc);
-    matches!(&made, Ok(name) if name.as_slice() == wanted.canonical)
-        && matches!(&tried, Ok(name) if name.as_slice() == wanted.canonical)
+    are_made(relative_octets_of(made), wanted) && are_made(relative_octets_of(tried), wanted)
 }
 
 fn is_relative_copied<'a, N: RelativeLabels<'a>>(
     alloc: Global,
     name: &'a N,
-    wanted: Wanted<'_>,
+    wanted: &[u8],
     flat: bool,
 ) -> bool {
-    let Ok(cow) = name.to_cow(alloc) else {
-        return false;
-    };
-    matches!(&name.to_vec(alloc), Ok(owned) if owned.as_slice() == wanted.wire)
-        && cow.as_slice() == wanted.wire
-        && matches!(cow.as_octets(), CowSlice::Borrowed(_)) == flat
+    are_made(relative_octets_of(name.to_vec(alloc)), wanted)
+        && are_lent(relative_octets_of(name.to_cow(alloc)), wanted, flat)
 }
 
 fn is_relative_compared<'a, N: RelativeLabels<'a>>(
@@ -246,22 +248,6 @@ fn is_relative_compared<'a, N: RelativeLabels<'a>>(
         && !name.name_eq(other)
         && name.name_cmp(twin) == Ordering::Equal
         && name.name_cmp(other) == Ordering::Less
-}
-
-fn is_relative_matched<'a, N: RelativeLabels<'a>>(
-    name: &'a N,
-    others: &'a RelativeOthers<'a>,
-) -> bool {
-    let RelativeOthers {
-        start,
-        end,
-        root,
-        ..
-    } = others;
-    name.starts_with(start)
-        && name.ends_with(end)
-        && !name.starts_with(end)
-        && !name.ends_with(root)
 }
 
 /// Asks `www.Example` of any kind for all that relative names have and that lends the name. It must give
@@ -276,9 +262,10 @@ pub fn every_call_of_relative<'a, N: RelativeLabels<'a>>(
 ) {
     assert!(rt; gives_labels(alloc, name, wanted) && is_measured(name, wanted, flat));
     assert!(rt; is_relative_composed(alloc, name, wanted));
-    assert!(rt; is_made_flat_relative(alloc, name, wanted));
-    assert!(rt; is_made_canonical_relative(alloc, name, wanted));
-    assert!(rt; is_relative_copied(alloc, name, wanted, flat));
-    assert!(rt; is_relative_compared(name, others) && is_relative_matched(name, others));
+    assert!(rt; is_made_flat_relative(alloc, name, wanted.wire));
+    assert!(rt; is_made_canonical_relative(alloc, name, wanted.canonical));
+    assert!(rt; is_relative_copied(alloc, name, wanted.wire, flat));
+    assert!(rt; is_relative_compared(name, others));
+    assert!(rt; is_matched(name, &others.start, &others.end, &others.root));
     assert!(rt; !name.is_absolute() && !name.is_empty());
 }

@@ -156,28 +156,21 @@ fn failed_writing_has_a_status_and_a_text(rt: HostRuntime) {
     }
 }
 
-#[test]
-fn a_reason_that_is_not_written_changes_no_status(rt: HostRuntime) {
+/// What the words are answered over the message, the reason being told to a writer.
+fn status_of<E: Write>(alloc: Global, words: &[&str], told: &mut E) -> u8 {
     let mut input = SCATTERED;
     let mut output = ArrayVec::<u8, 32>::new();
+    run(alloc, words, &mut input, &mut output, told)
+}
+
+#[test]
+fn a_reason_that_is_not_written_changes_no_status(rt: HostRuntime) {
     let mut told = FailingWriter {
         left: 0,
         kind: ErrorKind::BrokenPipe,
     };
-    assert_eq!(rt;
-        run(
-            rt.alloc(),
-            &["at", "99"],
-            &mut input,
-            &mut output,
-            &mut told
-        ),
-        1
-    );
-    assert_eq!(rt;
-        run(rt.alloc(), &["at"], &mut input, &mut output, &mut told),
-        2
-    );
+    assert_eq!(rt; status_of(rt.alloc(), &["at", "99"], &mut told), 1);
+    assert_eq!(rt; status_of(rt.alloc(), &["at"], &mut told), 2);
 }
 
 /// The name of three labels of 63 octets and one of 61, each octet four characters.
@@ -210,22 +203,11 @@ fn a_line_is_written_by_one_call(rt: HostRuntime) {
 
 #[test]
 fn a_reason_is_written_by_one_call(rt: HostRuntime) {
-    let mut input = SCATTERED;
-    let mut output = ArrayVec::<u8, 8>::new();
     let mut told = CountingWriter {
         calls: 0,
         octets: 0,
     };
-    assert_eq!(rt;
-        run(
-            rt.alloc(),
-            &["at", "99"],
-            &mut input,
-            &mut output,
-            &mut told
-        ),
-        1
-    );
-    assert_eq!(rt; run(rt.alloc(), &[], &mut input, &mut output, &mut told), 2);
+    assert_eq!(rt; status_of(rt.alloc(), &["at", "99"], &mut told), 1);
+    assert_eq!(rt; status_of(rt.alloc(), &[], &mut told), 2);
     assert_eq!(rt; told.calls, 2);
 }

@@ -1,11 +1,9 @@
 //! Callers that are generic over builders, octets and names: the traits' clauses suffice for them.
-ghost use Rattle.std.specs.Prelude.{◌≡◌, ◌≤◌, ◌<◌, ◌+◌, ◌++◌, ◌∷◌, [], ◌↔◌, ℕ, List, length, slice_set, IsOk, IsErr, IsSome, IfOk, IfSome, IsTrue, OnOk, OnErr, MatchBool};
-ghost use Rattle.domain_flat.specs.Flat.{IsLabelStart};
-ghost use Rattle.domain_label.specs.Low.{low, low_all};
+ghost use Rattle.std.specs.Prelude.{◌≡◌, ◌≤◌, ◌<◌, ◌+◌, ◌∷◌, ◌↔◌, ℕ, List, length, slice_set, IsOk, IsErr, IfOk, IfSome, IsTrue, MatchBool};
+ghost use Rattle.domain_label.specs.Low.{low_all};
 ghost use Rattle.domain_label.specs.Views.{label_octets};
-ghost use Rattle.domain_label.specs.Wire.{wire, wire_label};
+ghost use Rattle.domain_label.specs.Wire.{wire};
 ghost use Rattle.domain_list.specs.Count.{rrsig_labels};
-ghost use Rattle.domain_name.specs.Names.{name_labels, relative_labels};
 ghost use Rattle.domain_parsed.specs.Views.{parsed_labels};
 
 use crate::names::{LOWER_WWW, SCATTERED, WWW, absolute, parsed};
@@ -74,28 +72,6 @@ fn compose_under_limit<B: OctetsBuilder>(label: Label, target: &mut B) -> Result
     label.compose(target)
 }
 
-/// A label as it is signed, appended to any target.
-fn append_signed<B: OctetsBuilder>(label: Label, target: &mut B) -> Result<(), B::AppendError>
-    ensures ok { OnOk result (B.octets target.new ≡ B.octets target.old ++ wire_label (low (label_octets label.entry))) }
-    ensures err { OnErr result (B.octets target.new ≡ B.octets target.old) }
-{
-    label.compose_canonical(target)
-}
-
-/// The first label of a name, as a name. `None` where no label begins behind it, as for the root.
-fn host<'a>(name: &'a Name<&'a [u8]>) -> Option<RelativeName<&'a [u8]>>
-    ensures front { IfSome result (λ host. (zone : List (List ℕ)) × (name_labels name.now ≡ relative_labels host ++ zone)) }
-    ensures first { IfSome result (λ host. (label : List ℕ) × (rest : List (List ℕ)) × (name_labels name.now ≡ label ∷ rest) × (length (wire (relative_labels host)) ≡ length label + 1)) }
-    ensures some { (label : List ℕ) → (rest : List (List ℕ)) → name_labels name.now ≡ label ∷ rest → (IsSome result ↔ IsLabelStart (name_labels name.now) (length label + 1)) }
-{
-    let first = name.first().len() + 1;
-    if name.is_label_start(first) {
-        let (host, _zone) = name.split(first);
-        return Some(host);
-    }
-    None
-}
-
 /// Whether three names are the same without case.
 fn all_same<'a, A: AbsoluteLabels<'a>, B: AbsoluteLabels<'a>, C: AbsoluteLabels<'a>>(
     a: &'a A,
@@ -105,26 +81,6 @@ fn all_same<'a, A: AbsoluteLabels<'a>, B: AbsoluteLabels<'a>, C: AbsoluteLabels<
     ensures { IsTrue result ↔ ((low_all (A.labels a.now) ≡ low_all (B.labels b.now)) × (low_all (B.labels b.now) ≡ low_all (C.labels c.now))) }
 {
     a.name_eq(b) && b.name_eq(c)
-}
-
-/// The question for the addresses of a name: the name, and then its type and class.
-fn address_question<'a, N: AbsoluteLabels<'a>>(
-    name: &'a N,
-    alloc: Global,
-) -> Result<Vec<u8>, ShortBuf>
-    ensures { IfOk result (λ octets. octets.items ≡ wire (N.labels name.now) ++ 0 ∷ 1 ∷ 0 ∷ 1 ∷ []) }
-{
-    let mut octets = Vec::new(alloc);
-    name.compose(&mut octets)?;
-    octets.append_slice(&[0, 1, 0, 1])?;
-    Ok(octets)
-}
-
-/// A name of any kind as a key: in one piece, owned, and lowered.
-fn key<'a, N: AbsoluteLabels<'a>>(name: &'a N, alloc: Global) -> Result<Name<Vec<u8>>, ShortBuf>
-    ensures { IfOk result (λ made. name_labels made ≡ low_all (N.labels name.now)) }
-{
-    name.to_canonical_name(alloc)
 }
 
 /// What a name of any kind has for a signature: its canonical octets and its number of labels.
@@ -182,26 +138,15 @@ fn a_wrapper_takes_over_octets(rt: HostRuntime) {
 }
 
 #[test]
-fn labels_are_signed(rt: HostRuntime) {
+fn labels_are_composed_under_a_limit(rt: HostRuntime) {
     let Ok((label, _)) = Label::split_from(b"\x0312C") else {
         panic!(rt; "no label");
     };
     let mut octets = ArrayVec::<u8, 8>::new();
     assert!(rt; compose_under_limit(label, &mut octets).is_ok());
-    assert!(rt; append_signed(label, &mut octets).is_ok());
-    assert!(rt; append_signed(Label::root(), &mut octets).is_err());
-    assert_eq!(rt; octets.as_slice(), b"\x0312C\x0312c".as_slice());
-}
-
-#[test]
-fn hosts_are_first_labels(rt: HostRuntime) {
-    for (octets, wanted) in [(WWW, b"\x03www".as_slice()), (b"\x03com\0", b"\x03com")] {
-        match host(&absolute(&rt, octets)) {
-            Some(host) => assert_eq!(rt; host.as_slice(), wanted),
-            None => panic!(rt; "no host"),
-        }
-    }
-    assert!(rt; host(&Name::root_ref()).is_none());
+    assert!(rt; compose_under_limit(label, &mut octets).is_ok());
+    assert!(rt; compose_under_limit(Label::root(), &mut octets).is_err());
+    assert_eq!(rt; octets.as_slice(), b"\x0312C\x0312C".as_slice());
 }
 
 #[test]
@@ -211,18 +156,8 @@ fn callers_compare_names_of_any_kind(rt: HostRuntime) {
 }
 
 #[test]
-fn callers_get_octets_of_names_of_any_kind(rt: HostRuntime) {
-    let name = parsed(&rt, SCATTERED, 15);
-    let question = b"\x03www\x07Example\x03com\0\0\x01\0\x01".as_slice();
-    match address_question(&name, rt.alloc()) {
-        Ok(octets) => assert_eq!(rt; octets.as_slice(), question),
-        Err(_) => panic!(rt; "memory"),
-    }
-    match key(&name, rt.alloc()) {
-        Ok(key) => assert_eq!(rt; key.as_slice(), LOWER_WWW),
-        Err(_) => panic!(rt; "memory"),
-    }
-    match signed(&name, rt.alloc()) {
+fn callers_sign_names_of_any_kind(rt: HostRuntime) {
+    match signed(&parsed(&rt, SCATTERED, 15), rt.alloc()) {
         Ok((octets, count)) => assert!(rt; octets.as_slice() == LOWER_WWW && count == 3),
         Err(_) => panic!(rt; "memory"),
     }

@@ -4,7 +4,10 @@
 //! most one of all is refused: so it gives the right octets or `ShortBuf`, whichever request is refused, and a
 //! call that always refuses is told with no request refused.
 
-use crate::names::{LOWER_WWW, SCATTERED, WWW, absolute, parsed, relative, relative_joined};
+use crate::names::{
+    LOWER_WWW, SCATTERED, WWW, absolute, octets_of, parsed, relative, relative_joined,
+    relative_octets_of,
+};
 use arrayvec::ArrayVec;
 use domain::base::name::*;
 use domain::base::wire::{Compose, compose_vec};
@@ -31,22 +34,6 @@ impl Refusals {
             Ok(octets) => assert_eq!(rt; octets.as_slice(), wanted),
             Err(ShortBuf) => self.count = self.count.saturating_add(1),
         }
-    }
-}
-
-fn octets_of<Octs: Octets + Drop>(made: Result<Name<Octs>, ShortBuf>) -> Result<Octs, ShortBuf> {
-    match made {
-        Ok(name) => Ok(name.into_octets()),
-        Err(e) => Err(e),
-    }
-}
-
-fn relative_octets_of<Octs: Octets + Drop>(
-    made: Result<RelativeName<Octs>, ShortBuf>,
-) -> Result<Octs, ShortBuf> {
-    match made {
-        Ok(name) => Ok(name.into_octets()),
-        Err(e) => Err(e),
     }
 }
 
@@ -170,6 +157,8 @@ fn octets_are_appended_or_refused(rt: HostRuntime) {
         });
         if let Ok(octets) = &composed {
             assert_eq!(rt; octets.len(), 257);
+            assert!(rt; octets.as_slice().starts_with(&[1, 2]));
+            assert!(rt; octets.as_slice().ends_with(LONGEST));
         }
         refusals.look(&rt, composed.map(|_octets| b"".as_slice()), b"");
         let mut octets = Vec::new(alloc);

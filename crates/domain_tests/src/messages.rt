@@ -1,7 +1,9 @@
 //! Worked and hostile messages, read and skipped at every place.
 
 use crate::names::SCATTERED;
-use crate::slow_reader::{agrees_at_every_place, agrees_at_every_place_and_end};
+use crate::slow_reader::{
+    agrees_at_every_place, agrees_at_every_place_and_end, agrees_with_limits,
+};
 use std::alloc::Global;
 use std::process::Abort;
 
@@ -30,6 +32,7 @@ fn short_messages(rt: HostRuntime) {
         b"\x40a\x80\0",
     ] {
         agrees_at_every_place_and_end(&rt, rt.alloc(), message);
+        agrees_with_limits(&rt, rt.alloc(), message, &[0, 1, 2, 126, 127, 255]);
     }
 }
 
@@ -98,4 +101,11 @@ fn at_most_255_pointers(rt: HostRuntime) {
     put(&rt, &mut octets, 127, b"\x01a");
     put(&rt, &mut octets, 1, b"\xc1\xfb");
     agrees_at_every_place(&rt, alloc, &octets);
+}
+
+#[test]
+fn at_most_as_many_pointers_as_the_limit(rt: HostRuntime) {
+    let alloc = rt.alloc();
+    let octets = pointer_chain(&rt, alloc, 255);
+    agrees_with_limits(&rt, alloc, &octets, &[0, 1, 64, 127, 128, 254, 255]);
 }

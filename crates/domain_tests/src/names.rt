@@ -1,7 +1,7 @@
 //! Names that the tests are made of.
 
 use domain::base::name::*;
-use octseq::Parser;
+use octseq::{Octets, Parser};
 use std::process::Abort;
 
 pub const WWW: &[u8] = b"\x03www\x07Example\x03com\0";
@@ -51,5 +51,22 @@ pub fn relative_joined<'a>(rt: &impl Abort, left: &'a [u8], right: &'a [u8]) -> 
     match Chain::new(relative(rt, left), relative(rt, right)) {
         Ok(name) => name,
         Err(_) => panic!(rt; "too long"),
+    }
+}
+
+/// The octets of a name that was made, where it was.
+pub fn octets_of<Octs: Octets + Drop, E: Drop>(made: Result<Name<Octs>, E>) -> Result<Octs, E> {
+    match made {
+        Ok(name) => Ok(name.into_octets()),
+        Err(e) => Err(e),
+    }
+}
+
+pub fn relative_octets_of<Octs: Octets + Drop, E: Drop>(
+    made: Result<RelativeName<Octs>, E>,
+) -> Result<Octs, E> {
+    match made {
+        Ok(name) => Ok(name.into_octets()),
+        Err(e) => Err(e),
     }
 }

@@ -1,5 +1,5 @@
-//! Names read slowly, by the three cases of the grammar, against `parse` and `skip` at every place. The
-//! place behind a name and its pieces come from the front and the base, not from the reading.
+//! Names read slowly, by the three cases of the grammar, against `parse`, `parse_with_limit` and `skip` at every
+//! place. The place behind a name and its pieces come from the front and the base, not from the reading.
 ghost use Rattle.std.specs.Prelude.{◌≤◌, length};
 
 use domain::base::name::ParsedName;
@@ -47,16 +47,17 @@ fn head_at(message: &[u8], at: usize) -> Result<Stands, ParseError> {
     }
 }
 
-/// The labels of the name at a place, on the wire, or the first fault.
+/// The labels of the name at a place, on the wire, or the first fault. A pointer past the limit is one.
 fn read_slowly<R: Abort>(
     rt: &R,
     alloc: Global,
     message: &[u8],
     place: usize,
+    limit: u8,
 ) -> Result<Vec<u8>, ParseError> {
     let mut wire = Vec::new(alloc);
     let mut at = place;
-    let mut pointers = 0u16;
+    let mut pointers = 0u8;
     for _head in 0..384u16 {
         match head_at(message, at)? {
             Stands::Root => {
@@ -73,7 +74,7 @@ fn read_slowly<R: Abort>(
                 at = behind;
             }
             Stands::Pointer(target) => {
-                if target >= at || pointers >= 255 {
+                if target >= at || pointers >= limit {
                     return Err(excessive());
                 }
                 pointers += 1;
@@ -168,10 +169,11 @@ fn is_as_read<R: Abort>(
     alloc: Global,
     message: &[u8],
     place: usize,
+    limit: u8,
     name: &ParsedName<&[u8]>,
     end: usize,
 ) {
-    match read_slowly(rt, alloc, message, place) {
+    match read_slowly(rt, alloc, message, place, limit) {
         Ok(wire) => assert!(rt; wire_of(rt, alloc, name) == wire, "labels at {place}"),
         Err(_) => panic!(rt; "a name at {place}"),
     }
@@ -185,8 +187,15 @@ fn is_as_read<R: Abort>(
 }
 
 /// Whether no name is at a place, and the first fault is this one.
-fn is_as_refused<R: Abort>(rt: &R, alloc: Global, message: &[u8], place: usize, fault: ParseError) {
-    match read_slowly(rt, alloc, message, place) {
+fn is_as_refused<R: Abort>(
+    rt: &R,
+    alloc: Global,
+    message: &[u8],
+    place: usize,
+    limit: u8,
+    fault: ParseError,
+) {
+    match read_slowly(rt, alloc, message, place, limit) {
         Ok(_) => panic!(rt; "no name at {place}"),
         Err(wanted) => assert!(rt; fault == wanted, "fault at {place}"),
     }
@@ -199,9 +208,23 @@ fn agrees_to_parse<R: Abort>(rt: &R, alloc: Global, octets: &[u8], place: usize,
 {
     let mut parser = Parser::with_range(octets, place..end);
     match ParsedName::parse(&mut parser) {
-        Ok(name) => is_as_read(rt, alloc, &octets[..end], place, &name, parser.pos()),
+        Ok(name) => is_as_read(rt, alloc, &octets[..end], place, 255, &name, parser.pos()),
         Err(fault) => {
-            is_as_refused(rt, alloc, &octets[..end], place, fault);
+            is_as_refused(rt, alloc, &octets[..end], place, 255, fault);
+            assert!(rt; parser.pos() == place);
+        }
+    }
+}
+
+/// Whether `parse_with_limit` does.
+fn agrees_to_limit<R: Abort>(rt: &R, alloc: Global, octets: &[u8], place: usize, limit: u8)
+    requires inside { place ≤ length octets.now }
+{
+    let mut parser = Parser::with_range(octets, place..octets.len());
+    match ParsedName::parse_with_limit(&mut parser, limit) {
+        Ok(name) => is_as_read(rt, alloc, octets, place, limit, &name, parser.pos()),
+        Err(fault) => {
+            is_as_refused(rt, alloc, octets, place, limit, fault);
             assert!(rt; parser.pos() == place);
         }
     }
@@ -239,5 +262,14 @@ pub fn agrees_at_every_place<R: Abort>(rt: &R, alloc: Global, octets: &[u8]) {
     for place in 0..octets.len() + 1 {
         agrees_to_parse(rt, alloc, octets, place, octets.len());
         agrees_to_skip(rt, octets, place, octets.len());
+    }
+}
+
+/// Every place, with each of these limits.
+pub fn agrees_with_limits<R: Abort>(rt: &R, alloc: Global, octets: &[u8], limits: &[u8]) {
+    for place in 0..octets.len() + 1 {
+        for limit in limits {
+            agrees_to_limit(rt, alloc, octets, place, *limit);
+        }
     }
 }
