@@ -66,6 +66,7 @@ pub trait ToName<'a>: AbsoluteLabels<'a> {
         ensures ok { IfOk result (λ name. name_labels name ≡ Self.labels self.now) }
         ensures err { OnErr result (MayLackRoom Octs.Builder.ROOM (length (wire (Self.labels self.now)))) }
     {
+        // The body stands here and not in the call above: a result that is handed on is copied once more.
         let mut target = Octs::Builder::with_capacity(alloc, self.compose_len() as usize)?;
         match compose_name(self, &mut target) {
             Ok(()) => Ok(name_of(Octs::from_builder(target))),
@@ -99,6 +100,7 @@ pub trait ToName<'a>: AbsoluteLabels<'a> {
         ensures ok { IfOk result (λ name. name_labels name ≡ low_all (Self.labels self.now)) }
         ensures err { OnErr result (MayLackRoom Octs.Builder.ROOM (length (wire (Self.labels self.now)))) }
     {
+        // The body stands here and not in the call above: a result that is handed on is copied once more.
         let mut target = Octs::Builder::with_capacity(alloc, self.compose_len() as usize)?;
         match compose_canonical_name(self, &mut target) {
             Ok(()) => Ok(name_of(Octs::from_builder(target))),

@@ -50,6 +50,7 @@ pub trait ToRelativeName<'a>: RelativeLabels<'a> {
         ensures ok { IfOk result (λ name. relative_labels name ≡ Self.labels self.now) }
         ensures err { OnErr result (MayLackRoom Octs.Builder.ROOM (length (wire (Self.labels self.now)))) }
     {
+        // The body stands here and not in the call above: a result that is handed on is copied once more.
         let mut target = Octs::Builder::with_capacity(alloc, self.compose_len() as usize)?;
         match compose_name(self, &mut target) {
             Ok(()) => Ok(relative_name_of(Octs::from_builder(target))),
@@ -82,6 +83,7 @@ pub trait ToRelativeName<'a>: RelativeLabels<'a> {
         ensures ok { IfOk result (λ name. relative_labels name ≡ low_all (Self.labels self.now)) }
         ensures err { OnErr result (MayLackRoom Octs.Builder.ROOM (length (wire (Self.labels self.now)))) }
     {
+        // The body stands here and not in the call above: a result that is handed on is copied once more.
         let mut target = Octs::Builder::with_capacity(alloc, self.compose_len() as usize)?;
         match compose_canonical_name(self, &mut target) {
             Ok(()) => Ok(relative_name_of(Octs::from_builder(target))),
