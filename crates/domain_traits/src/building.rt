@@ -27,7 +27,9 @@ pub(crate) fn lend_or_build<'a, N: ToLabelIter<'a>>(
         Some(flat) => Ok(CowSlice::Borrowed(flat)),
         None => {
             let mut octets = Vec::with_capacity(alloc, name.compose_len() as usize)?;
-            compose_name(name, &mut octets)?;
+            let Ok(()) = compose_name(name, &mut octets) else {
+                unreachable!();
+            };
             Ok(CowSlice::Owned(octets))
         }
     }
