@@ -44,6 +44,8 @@ mod refused;
 #[cfg(test)]
 mod room;
 #[cfg(test)]
+mod sizes;
+#[cfg(test)]
 mod slow_reader;
 #[cfg(test)]
 mod words;

@@ -3,8 +3,6 @@
 use crate::names::{LOWER_WWW, SCATTERED, WWW, absolute, parsed, relative};
 use arrayvec::ArrayVec;
 use domain::base::name::*;
-use octseq::{EmptyBuilder, FromBuilder, OctetsFrom, ShortBuf};
-use std::alloc::Global;
 use std::process::Abort;
 
 const SIZE: usize = 20;
@@ -59,27 +57,4 @@ fn names_are_composed_where_they_fit(rt: HostRuntime) {
     composes_name(&rt, &absolute(&rt, WWW));
     composes_name(&rt, &parsed(&rt, SCATTERED, 15));
     composes_relative(&rt, &relative(&rt, b"\x03www\x07Example"));
-}
-
-/// Whether a name is made over octets of a kind, plain, lowered and flattened, and copied from its own
-/// octets. The four agree.
-fn makes<Octs>(rt: &impl Abort, alloc: Global) -> bool
-where
-    Octs: FromBuilder + OctetsFrom<&'static [u8]> + Drop,
-    Octs::Builder: EmptyBuilder + Drop,
-{
-    let name = parsed(rt, SCATTERED, 15);
-    let plain: Result<Name<Octs>, ShortBuf> = name.to_name(alloc);
-    let lowered: Result<Name<Octs>, ShortBuf> = name.to_canonical_name(alloc);
-    let flat: Result<Name<Octs>, ShortBuf> = name.flatten_into(alloc);
-    assert!(rt; plain.is_ok() == lowered.is_ok() && plain.is_ok() == flat.is_ok());
-    let copied = Octs::try_octets_from(alloc, WWW);
-    assert_eq!(rt; copied.is_ok(), plain.is_ok());
-    plain.is_ok()
-}
-
-#[test]
-fn names_are_made_where_they_fit(rt: HostRuntime) {
-    let alloc = rt.alloc();
-    assert!(rt; !makes::<ArrayVec<u8, 16>>(&rt, alloc) && makes::<ArrayVec<u8, 17>>(&rt, alloc));
 }
