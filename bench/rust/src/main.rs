@@ -83,6 +83,22 @@ fn parse(message: &[u8], place: usize) -> u64 {
     }
 }
 
+/// The same by a call that isn't inlined, so that the name is handed on in memory.
+#[inline(never)]
+fn kept(message: &[u8], place: usize) -> u64 {
+    match handed_on(message, place) {
+        Some((name, behind)) => {
+            (behind as u64) << 16 | (name.compose_len() as u64) << 1 | name.is_compressed() as u64
+        }
+        None => REFUSED,
+    }
+}
+
+#[inline(never)]
+fn handed_on(message: &[u8], place: usize) -> Option<(ParsedName<&[u8]>, usize)> {
+    parsed(message, place)
+}
+
 /// The place behind the name.
 #[inline(never)]
 fn skip(message: &[u8], place: usize) -> u64 {
@@ -693,6 +709,7 @@ const DOMAIN: Peer = Peer {
     name: "rust-domain",
     messages: &[
         ("parse", parse),
+        ("kept", kept),
         ("skip", skip),
         ("flatten", flatten),
         ("flatten_canonical", flatten_canonical),
