@@ -55,7 +55,13 @@ fn read_name_with<L: Ledger>(
     ensures inside { OnOk result (progress.new.at < length message.now) }
     ensures fault { IfErr result (λ fault. (f : Fault limit message.now progress.old.at fault) × (length f.passed + f.pointers + 1 ≤ 128 + limit)) }
 {
-    read_name_counted(message, progress, places, limit, &mut Heads::<L>::new(blank))
+    read_name_counted(
+        message,
+        progress,
+        places,
+        limit,
+        &mut Heads::<L>::new(blank),
+    )
 }
 
 /// The place behind the front of the name at a place, wherever its pointer leads to.
