@@ -1,47 +1,27 @@
 //! Names made over arrays of every size: refused by all that are too small, and made by the first that isn't.
 
-use crate::names::{LOWER_WWW, SCATTERED, WWW, absolute, parsed, relative};
+use crate::names::{
+    LOWER_WWW, SCATTERED, WWW, absolute, octets_of, parsed, relative, relative_octets_of,
+};
 use arrayvec::ArrayVec;
 use domain::base::name::*;
 use octseq::{EmptyBuilder, FromBuilder, Octets, OctetsFrom, ShortBuf};
 use std::alloc::Global;
 use std::process::Abort;
 
-/// How many octets `www.Example.com.` has.
-const ABSOLUTE: usize = 17;
-
-/// How many octets `www.Example` has.
-const RELATIVE: usize = 12;
-
-/// Over a room of a size a name was made of these octets where they fit.
-fn assert_made<Octs: Octets + Drop>(
+/// Over a room of a size these octets were made where they fit.
+fn assert_made<Octs: Octets + Drop, E: Drop>(
     rt: &impl Abort,
     size: usize,
-    made: Result<Name<Octs>, ShortBuf>,
+    made: Result<Octs, E>,
     wanted: &[u8],
 ) {
     match made {
-        Ok(name) => {
-            assert!(rt; size >= ABSOLUTE, "made over {size}");
-            assert_eq!(rt; name.as_slice(), wanted, "made over {size}");
+        Ok(octets) => {
+            assert!(rt; size >= wanted.len(), "made over {size}");
+            assert_eq!(rt; octets.as_slice(), wanted, "made over {size}");
         }
-        Err(ShortBuf) => assert!(rt; size < ABSOLUTE, "refused by {size}"),
-    }
-}
-
-/// Over a room of a size a relative name was made of these octets where they fit.
-fn assert_made_relative<Octs: Octets + Drop>(
-    rt: &impl Abort,
-    size: usize,
-    made: Result<RelativeName<Octs>, ShortBuf>,
-    wanted: &[u8],
-) {
-    match made {
-        Ok(name) => {
-            assert!(rt; size >= RELATIVE, "made over {size}");
-            assert_eq!(rt; name.as_slice(), wanted, "made over {size}");
-        }
-        Err(ShortBuf) => assert!(rt; size < RELATIVE, "refused by {size}"),
+        Err(_) => assert!(rt; size < wanted.len(), "refused by {size}"),
     }
 }
 
@@ -56,10 +36,14 @@ where
     Octs: FromBuilder + Drop,
     Octs::Builder: EmptyBuilder + Drop,
 {
-    assert_made::<Octs>(rt, size, name.to_name(alloc), WWW);
-    assert_made::<Octs>(rt, size, name.try_to_name(alloc), WWW);
-    assert_made::<Octs>(rt, size, name.to_canonical_name(alloc), LOWER_WWW);
-    assert_made::<Octs>(rt, size, name.try_to_canonical_name(alloc), LOWER_WWW);
+    let made: Result<Name<Octs>, ShortBuf> = name.to_name(alloc);
+    assert_made(rt, size, octets_of(made), WWW);
+    let made: Result<Name<Octs>, ShortBuf> = name.try_to_name(alloc);
+    assert_made(rt, size, octets_of(made), WWW);
+    let made: Result<Name<Octs>, ShortBuf> = name.to_canonical_name(alloc);
+    assert_made(rt, size, octets_of(made), LOWER_WWW);
+    let made: Result<Name<Octs>, ShortBuf> = name.try_to_canonical_name(alloc);
+    assert_made(rt, size, octets_of(made), LOWER_WWW);
 }
 
 /// Makes `www.Example` of any kind over a room of a size, by each call.
@@ -73,17 +57,14 @@ where
     Octs: FromBuilder + Drop,
     Octs::Builder: EmptyBuilder + Drop,
 {
-    let plain = b"\x03www\x07Example".as_slice();
-    let lowered = b"\x03www\x07example".as_slice();
-    assert_made_relative::<Octs>(rt, size, name.to_relative_name(alloc), plain);
-    assert_made_relative::<Octs>(rt, size, name.try_to_relative_name(alloc), plain);
-    assert_made_relative::<Octs>(rt, size, name.to_canonical_relative_name(alloc), lowered);
-    assert_made_relative::<Octs>(
-        rt,
-        size,
-        name.try_to_canonical_relative_name(alloc),
-        lowered,
-    );
+    let made: Result<RelativeName<Octs>, ShortBuf> = name.to_relative_name(alloc);
+    assert_made(rt, size, relative_octets_of(made), b"\x03www\x07Example");
+    let made: Result<RelativeName<Octs>, ShortBuf> = name.try_to_relative_name(alloc);
+    assert_made(rt, size, relative_octets_of(made), b"\x03www\x07Example");
+    let made: Result<RelativeName<Octs>, ShortBuf> = name.to_canonical_relative_name(alloc);
+    assert_made(rt, size, relative_octets_of(made), b"\x03www\x07example");
+    let made: Result<RelativeName<Octs>, ShortBuf> = name.try_to_canonical_relative_name(alloc);
+    assert_made(rt, size, relative_octets_of(made), b"\x03www\x07example");
 }
 
 /// Makes names of every kind over a room of a size, and flattens one.
@@ -100,15 +81,12 @@ where
         &relative(rt, b"\x03www\x07Example"),
         alloc,
     );
-    assert_made::<Octs>(rt, size, parsed(rt, SCATTERED, 15).flatten_into(alloc), WWW);
-    assert_made::<Octs>(
-        rt,
-        size,
-        parsed(rt, SCATTERED, 15).try_flatten_into(alloc),
-        WWW,
-    );
+    let flat: Result<Name<Octs>, ShortBuf> = parsed(rt, SCATTERED, 15).flatten_into(alloc);
+    assert_made(rt, size, octets_of(flat), WWW);
+    let flat: Result<Name<Octs>, ShortBuf> = parsed(rt, SCATTERED, 15).try_flatten_into(alloc);
+    assert_made(rt, size, octets_of(flat), WWW);
     let copied = Octs::try_octets_from(alloc, WWW);
-    assert_eq!(rt; copied.is_ok(), size >= ABSOLUTE);
+    assert_eq!(rt; copied.is_ok(), size >= WWW.len());
 }
 
 #[test]
