@@ -31,6 +31,7 @@ pub(crate) fn remember(
         if len == 0 {
             return;
         }
+        // Past the end none of the label's places counts, and the sum below can't wrap before it.
         if start >= PLACES_END {
             return;
         }

@@ -1,6 +1,5 @@
 //! Finding the longest end of a name that was written before.
-ghost use Rattle.std.specs.Prelude.{◌≡◌, ◌↔◌, ◌+◌, ◌≤◌, ◌<◌, length, slice_range, IfSome, IsNone, IsTrue};
-ghost use Rattle.domain_label.specs.Low.{low};
+ghost use Rattle.std.specs.Prelude.{◌≡◌, ◌<◌, IfSome, IsNone};
 ghost use Rattle.domain_label.specs.Wire.{labels_in, IsAbsoluteWire};
 ghost use Rattle.domain_rdata.specs.ReadBack.{StandsAt};
 ghost use Rattle.domain_compress.specs.Compressing.{NoEnd};
@@ -9,19 +8,11 @@ ghost use Rattle.domain_compress.specs.Written.{places, StandsThrough, EndAt, No
 
 use crate::marks::{first_marks, may_stand};
 use crate::written::{StandingEnd, Written};
+use domain_label::same::same_octets;
 use domain_reading::head::{Head, read_head};
 use domain_reading::heads::Heads;
 use std::marker::Brand;
 use std::sync::ledger::{Blank, Ledger};
-
-/// Whether so many octets from a place on are the same without case.
-fn same_octets(left: &[u8], at: usize, right: &[u8], start: usize, len: usize) -> bool
-    requires left { at + len ≤ length left.now }
-    requires right { start + len ≤ length right.now }
-    ensures { IsTrue result ↔ (low (slice_range left.now at (at + len)) ≡ low (slice_range right.now start (start + len))) }
-{
-    left[at..at + len].eq_ignore_ascii_case(&right[start..start + len])
-}
 
 /// How many pointers lead along the name at the place, where it is this one without case.
 fn pointers_at(octets: &[u8], place: usize, name: &[u8]) -> Option<u8>
@@ -64,7 +55,9 @@ fn pointers_at_with<L: Ledger>(octets: &[u8], place: usize, name: &[u8], blank: 
                     return None;
                 }
                 let size = usize::from(len);
-                if !same_octets(octets, at + 1, name, passed + 1, size) {
+                let there = &octets[at + 1..at + 1 + size];
+                let here = &name[passed + 1..passed + 1 + size];
+                if !same_octets(there, here) {
                     return None;
                 }
                 at = at + 1 + size;

@@ -3,6 +3,7 @@ mod LowLemmas
 pub mod Lowered
 mod OwnedLemmas
 mod OwnedMemory
+pub mod Parts
 pub mod ReadOnce
 pub mod Scanning
 pub mod Shapes

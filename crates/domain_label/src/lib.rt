@@ -11,6 +11,7 @@ pub mod laws;
 pub mod order;
 pub mod owned;
 pub mod presentation;
+pub mod same;
 pub mod scan;
 pub mod slice_labels;
 pub mod split;

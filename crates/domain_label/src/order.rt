@@ -9,6 +9,7 @@ ghost use Rattle.domain_label.specs.Low.{low_eq, low_cmp, feed_label, label_comp
 ghost use Rattle.domain_label.specs.Views.{label_octets};
 
 use crate::label::Label;
+use crate::same::same_octets;
 use std::cmp::Ordering;
 use std::hash::{Hash, Hasher};
 
@@ -19,7 +20,7 @@ impl<'a> PartialEq for Label<'a> {
     ghost laws = { Prim.search (comparing, rules) };
 
     fn eq(&self, other: &Label<'a>) -> bool {
-        self.as_slice().eq_ignore_ascii_case(other.as_slice())
+        same_octets(self.as_slice(), other.as_slice())
     }
 }
 

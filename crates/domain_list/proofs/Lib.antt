@@ -10,5 +10,4 @@ pub mod Alike
 pub mod Finishing
 pub mod Octetwise
 pub mod Put
-pub mod Parts
 pub mod Moved

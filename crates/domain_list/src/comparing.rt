@@ -7,10 +7,11 @@ ghost use Rattle.domain_label.specs.Wire.{wire};
 ghost use Rattle.domain_list.specs.Alike.{EndAlike};
 ghost use Rattle.domain_list.specs.Order.{order, last_order, same_name, composed_order, lowercase_composed_order};
 
-use crate::flat::{known_alike, same_octets};
+use crate::flat::known_alike;
 use crate::labels::{LabelIterator, ToLabelIter};
 use domain_label::Label;
 use domain_label::order::low_order;
+use domain_label::same::same_octets;
 use std::cmp::Ordering;
 
 /// Whether the labels that are left are the same without ASCII case (RFC 4343).

@@ -5,8 +5,8 @@ ghost use Rattle.domain_label.specs.Wire.{wire};
 ghost use Rattle.domain_list.specs.Ends.{StartsWith, EndsWith};
 
 use crate::comparing::{eq_labels, next_label};
-use crate::flat::same_octets;
 use crate::labels::{LabelIterator, ToLabelIter};
+use domain_label::same::same_octets;
 
 /// Whether the labels that `a` has left begin with those of `b`, without ASCII case.
 pub fn begins_with<'a, A: LabelIterator<'a>, B: LabelIterator<'a>>(a: A, b: B) -> bool

@@ -7,7 +7,7 @@ pub mod composing;
 pub mod counting;
 pub mod dotted;
 pub mod ends;
-pub mod flat;
+mod flat;
 pub mod hashing;
 pub mod joined;
 pub mod labels;

@@ -1,9 +1,8 @@
 -- The order of serial numbers turns with its sides.
-use Rattle.std.specs.Prelude.{◌≡◌, ℕ, ◌+◌, ◌-◌, ◌%◌, ◌^◌, ◌<◌, ◌≤◌, Option, Some, None, refl}
-use Rattle.std.proofs.Common.{arith, sym, ◌∙◌}
+use Rattle.std.specs.Prelude.{◌≡◌, ℕ, ◌+◌, ◌-◌, ◌%◌, ◌^◌, ◌<◌, Some, None, refl}
+use Rattle.std.proofs.Common.{arith}
 use Rattle.std.specs.declared.cmp.Ordering.TheVariants.{Less, Equal, Greater}
-use Rattle.std.specs.declared.cmp.Ordering.{Ordering}
-use Rattle.domain_serial.specs.Serials.{distance, IsSerialOrder, AddedIsLater, TurnsWithItsSides}
+use Rattle.domain_serial.specs.Serials.{distance, AddedIsLater, TurnsWithItsSides}
 
 ahead_by : (s n : ℕ) → s < 2 ^ 32 → n < 2 ^ 31 → distance s ((s + n) % 2 ^ 32) ≡ n
 ahead_by s n below few = omega arith

@@ -36,8 +36,8 @@ returns-then-pointers-clause-none g c = λ _. not_back _ c.heads.invariant (rw c
 pub heads-preserved : goal.heads-preserved
 heads-preserved g c = along_pointer _ c.heads.invariant (rw c.in-Pointer.is at c.in-Ok.ensures.found).0 (omega (arith, c.if-target-at.false)) (omega (arith, c.heads.invariant.few, c.if-pointers.false))
 
-pub same_octets-requires-clause-right : goal.same_octets-requires-clause-right
-same_octets-requires-clause-right g c =
+pub slice_bounds-here-end : goal.slice_bounds-here-end
+slice_bounds-here-end g c =
     omega (arith, (ahead_along _ c.requires.wire c.heads.invariant).head_fits, c.if-name-passed.false, c.from-size.ensures)
 
 pub returns-then-not-same_octets-clause-none : goal.returns-then-not-same_octets-clause-none

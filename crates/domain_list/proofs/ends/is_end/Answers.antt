@@ -1,7 +1,8 @@
 use Rattle.std.proofs.Common.{◌≤◌, ◌-◌, length, arith, ap, subst, ◌∙◌}
 use Rattle.domain_label.specs.Wire.{AreLabels}
 use Rattle.domain_list.proofs.Alike.{name_labels_short, labels_behind}
-use Rattle.domain_list.proofs.Octetwise.{same_labels_of, last_of_wire, end_fits, sliced_end}
+use Rattle.domain_label.proofs.Parts.{sliced_end}
+use Rattle.domain_list.proofs.Octetwise.{same_labels_of, last_of_wire, end_fits}
 use Rattle.domain_list.proofs.ends.is_end.Goals as goal
 
 pub overflow_sub-a : goal.overflow_sub-a

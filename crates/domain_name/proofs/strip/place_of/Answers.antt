@@ -1,7 +1,7 @@
 use Rattle.std.proofs.Common.{arith, sym, ap, ◌∙◌, ◌-◌, length, refl, true≢false}
 use Rattle.domain_label.specs.Low.{low}
 use Rattle.domain_label.specs.Wire.{labels_in}
-use Rattle.domain_list.proofs.Octetwise.{sliced_end}
+use Rattle.domain_label.proofs.Parts.{sliced_end}
 use Rattle.domain_name.proofs.Stripping.{octets_size, suffix_fits, suffix_begins, suffix_same, same_suffix}
 use Rattle.domain_name.proofs.strip.place_of.Goals as goal
 

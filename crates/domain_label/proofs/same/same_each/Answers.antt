@@ -1,6 +1,6 @@
 use Rattle.std.proofs.Common.{arith, refl}
-use Rattle.domain_list.proofs.Octetwise.{same_more, same_all}
-use Rattle.domain_list.proofs.flat.same_each.Goals as goal
+use Rattle.domain_label.proofs.Parts.{same_more, same_all}
+use Rattle.domain_label.proofs.same.same_each.Goals as goal
 
 pub loop-i-init : goal.loop-i-init
 loop-i-init c = (λ _. refl, λ _. refl)

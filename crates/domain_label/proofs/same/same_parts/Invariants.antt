@@ -1,6 +1,6 @@
 use Rattle.std.proofs.Common.{◌≡◌, ◌-◌, ◌≤◌, length, take}
 use Rattle.domain_label.specs.Low.{low}
-use Rattle.domain_list.proofs.flat.same_parts.Given as goal
+use Rattle.domain_label.proofs.same.same_parts.Given as goal
 
 abbrev pub invariant-parts : goal.invariant-parts
 invariant-parts l = record {
