@@ -20,8 +20,9 @@ use domain_reading::standing::{MAX_LABELS, place_of};
 use domain_wire::ParseError;
 use octseq::{Octets, OctetsFrom, Parser, ShortBuf};
 use std::alloc::{AllocError, Global};
+use std::marker::Brand;
 use std::ops::Range;
-use std::sync::ledger::Ledger;
+use std::sync::ledger::{Blank, Ledger};
 
 /// The most pointers that are followed for one name.
 const MAX_POINTERS: u8 = 255;
@@ -120,23 +121,7 @@ impl<'a> ParsedName<&'a [u8]> {
         ensures refused { IfErr result (λ e. TellsFault 255 parser.old e) }
         ensures unchanged { OnErr result (parser.new ≡ parser.old) }
     {
-        // This is `parse_with_limit` at 255, written out: a call between would copy the table once more.
-        let mut places = [0; MAX_LABELS];
-        let mut progress = Progress::new(parser.pos());
-        read_name(parser.as_slice(), &mut progress, &mut places, MAX_POINTERS)?;
-        let Ok(()) = parser.seek(progress.place_behind()) else {
-            unreachable!();
-        };
-        Ok(ParsedName {
-            octets: parser.octets_ref(),
-            base: progress.base,
-            places,
-            count: progress.count,
-            dropped: 0,
-            passed: 0,
-            name_len: progress.len + 1,
-            compressed: progress.compressed,
-        })
+        ParsedName::parse_with::<Brand>(parser, MAX_POINTERS, Blank::new(1))
     }
 
     /// The same as `parse`.
@@ -169,6 +154,7 @@ impl<'a> ParsedName<&'a [u8]> {
         ensures refused { IfErr result (λ e. TellsFault limit parser.old e) }
         ensures unchanged { OnErr result (parser.new ≡ parser.old) }
     {
+        // `parse_counted` without a count, written out: a call between would copy the table once more.
         let mut places = [0; MAX_LABELS];
         let mut found = Progress::new(parser.pos());
         read_name(parser.as_slice(), &mut found, &mut places, limit)?;
@@ -176,6 +162,28 @@ impl<'a> ParsedName<&'a [u8]> {
             unreachable!();
         };
         Ok(ParsedName::of(parser.octets_ref(), &found, places))
+    }
+
+    /// `parse_counted` with a counter of its own.
+    #[inline(always)]
+    fn parse_with<L: Ledger>(
+        parser: &mut Parser<'a>,
+        limit: u8,
+        blank: Blank,
+    ) -> Result<ParsedName<&'a [u8]>, ParseError>
+        requires ledger { blank.name ≡ L.name }
+        requires parts { blank.parts ≡ L.parts }
+        requires some { 0 < blank.parts }
+        ensures exact { IsOk result ↔ ((ls : List (List ℕ)) × Names limit (message parser.old) (place parser.old) ls) }
+        ensures labels { IfOk result (λ name. Names limit (message parser.old) (place parser.old) (parsed_labels name)) }
+        ensures octets { IfOk result (λ name. parsed_octets name ≡ whole parser.old) }
+        ensures scattered { IfOk result (λ name. (is_scattered name ≡ false) ↔ LiesInOnePiece (message parser.old) (place parser.old)) }
+        ensures moves { OnOk result (MovesBehindFront parser.old parser.new) }
+        ensures plain { (ls : List (List ℕ)) → LiesPlainly parser.old ls → MatchResult result (λ name. (parsed_labels name ≡ ls) × (is_scattered name ≡ false) × (place parser.new ≡ place parser.old + length (wire ls))) (λ _. ⊥) }
+        ensures refused { IfErr result (λ e. TellsFault limit parser.old e) }
+        ensures unchanged { OnErr result (parser.new ≡ parser.old) }
+    {
+        ParsedName::parse_counted(parser, limit, &mut Heads::<L>::new(blank))
     }
 
     /// The same as `parse_with_limit`, with the heads that are read counted: those of labels, of pointers and

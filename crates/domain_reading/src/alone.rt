@@ -2,8 +2,9 @@
 //!
 //! A count of heads is kept in a ledger, and a type parameter stands for it. A caller that has no ledger
 //! picks one where it passes `Brand` to a function that is generic over ledgers, and only such a function
-//! can open the count. So each walk is two functions here: the one that is called, which picks, and one
-//! over a ledger, which opens the count.
+//! can open the count. So each walk is two functions: the one that is called, which picks, and one over a
+//! ledger, which opens the count. That of `front_end` stands in `read`, since it is the walk itself; the
+//! others stand here.
 ghost use Rattle.std.specs.Prelude.{◌≡◌, ℕ, ◌+◌, ◌≤◌, ◌<◌, length, IfOk, IfErr, OnOk};
 ghost use Rattle.domain_label.specs.Views.{label_octets};
 ghost use Rattle.domain_reading.specs.Faults.{Fault, Skips, SkipFault};

@@ -1,7 +1,7 @@
 //! The walks along names in messages, head after head: reading a name, and passing over one.
 //!
-//! Reading counts the heads in a ledger that its caller names. The module `alone` has the same walks for
-//! callers that want no count.
+//! Reading counts the heads for its caller, passing over a name for itself. The module `alone` has what callers
+//! without a count call.
 ghost use Rattle.std.specs.Prelude.{◌≡◌, ◌+◌, ◌≤◌, ◌<◌, length, IfOk, IfErr, OnOk};
 ghost use Rattle.domain_reading.specs.Faults.{Fault, Skips, SkipFault};
 ghost use Rattle.domain_reading.specs.Outcomes.{NameRead};
