@@ -5,7 +5,7 @@ use Rattle.std.proofs.lemmas.Grind.{common_steps}
 use Rattle.domain_label.specs.Wire.{wire, labels_in, IsRelative, IsRelativeName, IsAbsoluteName, IsAbsoluteWire, IsRelativeWire, Root}
 use Rattle.domain_label.proofs.WireLaws.{labels_in_wire, wire_absolute, wire_relative, wire_append, relative_then_absolute, relative_then_relative}
 use Rattle.domain_builder.specs.Built.{Built, shown, shown_label, closed_with, closed, size, pushed, ended, labelled, named}
-use Rattle.domain_builder.specs.Inside.{Held, room, view_of, head_of, IsInside}
+use Rattle.domain_builder.specs.Inside.{Held, room, view_of, head_of, closed_at, IsInside}
 
 length-cons-pos : (c : ℕ) (cs : List ℕ) → 0 < length (c ∷ cs)
 length-cons-pos c cs = omega arith
@@ -213,27 +213,24 @@ size_labelled_fields s x u h b eu v i some =
     size_labelled b x some
     ∙ rw (eu, ap length (i.octets ∙ ap shown v), ← size_shown b) (omega arith)
 
--- what is known at the place that the head is
-pub held_at : (s : List ℕ) (ho h : Option ℕ) (b : Built) → ho ≡ h → view_of s ho ≡ b → IsInside s ho → (view_of s h ≡ b) × IsInside s h
-held_at s ho h b e v i = rw (← e) (v, i)
-
--- what is known of a head that isn't there
-pub none_of : (ho : Option ℕ) → is_some ho ≡ false → ho ≡ None
-none_of None e = refl
-none_of (Some h) e = absurd (cc)
+-- where an open label's octets begin and end
+pub open_fits : (s n : List ℕ) (h : Option ℕ) → n ≡ s → IsInside s h → IfSome h (λ p. (p < length n) × (length n ≤ p + 64))
+open_fits s n None e i = tt
+open_fits s n (Some h) e i = rw e (fits (view_of s (Some h)).labels (view_of s (Some h)).open_label i.octets i.head i.label_short)
+  where
+    fits : (ls : List (List ℕ)) (o : List ℕ) → s ≡ wire ls ++ shown_label o → Some h ≡ head_of (record { labels = ls; open_label = o }) → length o ≤ 63 → (h < length s) × (length s ≤ h + 64)
+    fits ls [] e eh short = absurd (cc)
+    fits ls (c ∷ cs) e eh short = let size : length s ≡ length (wire ls) + length (0 ∷ c ∷ cs) = ap length e ∙ length-append (wire ls) (0 ∷ c ∷ cs) in grind (arith, common_steps)
 
 -- the fields that the code has after each call: n is what it read the number of octets from
-pub end_of : (s t n : List ℕ) (ho : Option ℕ) (h : ℕ) (b : Built) → ho ≡ Some h → n ≡ s → view_of s ho ≡ b → IsInside s ho → t ≡ set s h (length n - h - 1) → IsInside t None × (view_of t None ≡ ended b)
-end_of s t n ho h b eh en v i e = let at = held_at s ho (Some h) b eh v i in ended_fields s t h b at.0 at.1 (e ∙ ap (λ (w : List ℕ). set s h (length w - h - 1)) en)
+pub end_closed : (s t n : List ℕ) (h : Option ℕ) (b : Built) → n ≡ s → view_of s h ≡ b → IsInside s h → t ≡ closed_at s h (length n) → IsInside t None × (view_of t None ≡ ended b)
+end_closed s t n None b en v i e = ended_inside b t (built_of s None b v i) (e ∙ none_octets s b v i)
+end_closed s t n (Some h) b en v i e = ended_fields s t h b v i (e ∙ ap (λ (w : List ℕ). set s h (length w - h - 1)) en)
 
-pub label_at : (s u t x n y : List ℕ) (ho : Option ℕ) (h : ℕ) (b : Built) → ho ≡ Some h → n ≡ s → view_of s ho ≡ b → IsInside s ho → u ≡ length x ∷ x → y ≡ s ++ u → t ≡ set y h (length n - h - 1) → 0 < length x → length x ≤ 63 → size (labelled b x) ≤ 254 → IsInside t None × (view_of t None ≡ labelled b x)
-label_at s u t x n y ho h b eh en v i eu ey e some short small =
-    let at = held_at s ho (Some h) b eh v i in
-    labelled_open s u t x h b at.0 at.1 eu (e ∙ ap (λ (w : List ℕ). set w h (length n - h - 1)) ey ∙ ap (λ (w : List ℕ). set (s ++ u) h (length w - h - 1)) en) some short small
-
-pub label_behind : (s u t x : List ℕ) (ho : Option ℕ) (b : Built) → is_some ho ≡ false → view_of s ho ≡ b → IsInside s ho → u ≡ length x ∷ x → t ≡ s ++ u → 0 < length x → length x ≤ 63 → size (labelled b x) ≤ 254 → IsInside t ho × (view_of t ho ≡ labelled b x)
-label_behind s u t x None b en v i eu e some short small = labelled_none s u t x b v i eu e some short small
-label_behind s u t x (Some h) b en v i eu e some short small = absurd (cc)
+pub label_closed : (s u t x n y : List ℕ) (h : Option ℕ) (b : Built) → n ≡ s → view_of s h ≡ b → IsInside s h → u ≡ length x ∷ x → y ≡ s ++ u → t ≡ closed_at y h (length n) → 0 < length x → length x ≤ 63 → size (labelled b x) ≤ 254 → IsInside t None × (view_of t None ≡ labelled b x)
+label_closed s u t x n y None b en v i eu ey e some short small = labelled_none s u t x b v i eu (e ∙ ey) some short small
+label_closed s u t x n y (Some h) b en v i eu ey e some short small =
+    labelled_open s u t x h b v i eu (e ∙ ap (λ (w : List ℕ). set w h (length n - h - 1)) ey ∙ ap (λ (w : List ℕ). set (s ++ u) h (length w - h - 1)) en) some short small
 
 -- what is built are the labels of a relative name
 pub built_relative : (s : List ℕ) (h : Option ℕ) (b : Built) → view_of s h ≡ b → IsInside s h → IsRelativeName (closed b)
@@ -254,15 +251,11 @@ named_inside b x t i w small e =
     (relative_then_relative (closed b) ls (IsRelative-closed b.labels b.open_label i.labels i.label_short) w.1.0) (omega arith)
     (omega (arith, ap length joined, length-append (wire (closed b)) x, small))
 
-pub named_at : (s t x n y : List ℕ) (ho : Option ℕ) (h : ℕ) (b : Built) → ho ≡ Some h → n ≡ s → view_of s ho ≡ b → IsInside s ho → y ≡ s ++ x → t ≡ set y h (length n - h - 1) → IsRelativeWire x → size b + length x ≤ 254 → IsInside t None × (view_of t None ≡ named b (labels_in x))
-named_at s t x n y ho h b eh en v i ey e w small =
-    let at = held_at s ho (Some h) b eh v i in
-    named_inside b x t (built_of s (Some h) b at.0 at.1) w small
-    (e ∙ ap (λ (z : List ℕ). set z h (length n - h - 1)) ey ∙ ap (λ (z : List ℕ). set (s ++ x) h (length z - h - 1)) en ∙ open_octets s x h b at.0 at.1)
-
-pub named_behind : (s t x : List ℕ) (ho : Option ℕ) (b : Built) → is_some ho ≡ false → view_of s ho ≡ b → IsInside s ho → t ≡ s ++ x → IsRelativeWire x → size b + length x ≤ 254 → IsInside t ho × (view_of t ho ≡ named b (labels_in x))
-named_behind s t x None b en v i e w small = named_inside b x t (built_of s None b v i) w small (e ∙ ap (λ (z : List ℕ). z ++ x) (none_octets s b v i))
-named_behind s t x (Some h) b en v i e w small = absurd (cc)
+pub named_closed : (s t x n y : List ℕ) (h : Option ℕ) (b : Built) → n ≡ s → view_of s h ≡ b → IsInside s h → y ≡ s ++ x → t ≡ closed_at y h (length n) → IsRelativeWire x → size b + length x ≤ 254 → IsInside t None × (view_of t None ≡ named b (labels_in x))
+named_closed s t x n y None b en v i ey e w small = named_inside b x t (built_of s None b v i) w small (e ∙ ey ∙ ap (λ (z : List ℕ). z ++ x) (none_octets s b v i))
+named_closed s t x n y (Some h) b en v i ey e w small =
+    named_inside b x t (built_of s (Some h) b v i) w small
+    (e ∙ ap (λ (z : List ℕ). set z h (length n - h - 1)) ey ∙ ap (λ (z : List ℕ). set (s ++ x) h (length z - h - 1)) en ∙ open_octets s x h b v i)
 
 pub length_fields : (s : List ℕ) (h : Option ℕ) (b : Built) → view_of s h ≡ b → IsInside s h → length s ≡ size b
 length_fields s h b v i = ap length (i.octets ∙ ap shown v) ∙ sym (size_shown b)

@@ -7,5 +7,6 @@ pub mod Outcomes
 pub mod Building
 pub mod Pushes
 pub mod Spelled
+pub mod PlainTexts
 pub mod Digits
 pub mod Reversing

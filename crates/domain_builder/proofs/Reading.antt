@@ -101,25 +101,30 @@ name_rest all rest x b m n (Err f) e h other t a s = name_stops all rest x b m n
 
 -- ---- the outcomes of a relative name
 
-pub relative_stops : (all : List Item) (b m : Built) (f : Fault) → b ≡ nothing → StopsAt b (parts all) m f → FirstFault (parts all) f
-relative_stops all b m f e s = stops_first (parts all) m f (subst (λ (z : Built). StopsAt z (parts all) m f) e s)
+-- parts that are read into an empty buffer
+pub from_nothing : (ps : List Part) (b m : Built) (r : Result (Unit {0}) Fault) → b ≡ nothing → MatchResult r (λ _. Makes b ps m) (λ f. StopsAt b ps m f) → MatchResult r (λ _. Makes nothing ps m) (λ f. (k : Built) × StopsAt nothing ps k f)
+from_nothing ps b m (Ok u) e g = subst (λ (z : Built). Makes z ps m) e g
+from_nothing ps b m (Err f) e s = (m, subst (λ (z : Built). StopsAt z ps m f) e s)
 
-pub relative_open : (all : List Item) (b m : Built) → b ≡ nothing → Makes b (parts all) m → nat_lt 0 (length m.open_label) ≡ true → IsRelativeText (parts all) (closed m)
-relative_open all b m e g t = made_relative (parts all) m.labels m.open_label (subst (λ (z : Built). Makes z (parts all) m) e g) (ltb-true 0 (length m.open_label) t)
+pub relative_stops : (ps : List Part) (f : Fault) → (m : Built) × StopsAt nothing ps m f → FirstFault ps f
+relative_stops ps f s = stops_first ps s.0 f s.1
 
-pub relative_dotted : (all : List Item) (b m : Built) → b ≡ nothing → Makes b (parts all) m → nat_lt 0 (length m.open_label) ≡ false → nat_lt 0 (length m.labels) ≡ true → EndsInDot (parts all)
-relative_dotted all b m e g t u = at m.labels m.open_label (subst (λ (z : Built). Makes z (parts all) m) e g) t u
+pub relative_open : (ps : List Part) (m : Built) → Makes nothing ps m → nat_lt 0 (length m.open_label) ≡ true → IsRelativeText ps (closed m)
+relative_open ps m g t = made_relative ps m.labels m.open_label g (ltb-true 0 (length m.open_label) t)
+
+pub relative_dotted : (ps : List Part) (m : Built) → Makes nothing ps m → nat_lt 0 (length m.open_label) ≡ false → nat_lt 0 (length m.labels) ≡ true → EndsInDot ps
+relative_dotted ps m g t u = at m.labels m.open_label g t u
   where
-    at : (ls : List (List ℕ)) (o : List ℕ) → Makes nothing (parts all) (built ls o) → nat_lt 0 (length o) ≡ false → nat_lt 0 (length ls) ≡ true → EndsInDot (parts all)
+    at : (ls : List (List ℕ)) (o : List ℕ) → Makes nothing ps (built ls o) → nat_lt 0 (length o) ≡ false → nat_lt 0 (length ls) ≡ true → EndsInDot ps
     at [] [] h t u = absurd (let k = ltb-true 0 (length {A = List ℕ} []) u in omega (arith, k))
-    at (l ∷ ls) [] h t u = made_dotted (parts all) l ls h
+    at (l ∷ ls) [] h t u = made_dotted ps l ls h
     at ls (c ∷ o) h t u = absurd (let k = ltb-false 0 (length (c ∷ o)) t in omega (arith, k))
 
-pub relative_empty : (all : List Item) (b m : Built) → b ≡ nothing → Makes b (parts all) m → nat_lt 0 (length m.open_label) ≡ false → nat_lt 0 (length m.labels) ≡ false → IsRelativeText (parts all) (closed m)
-relative_empty all b m e g t u = at m.labels m.open_label (subst (λ (z : Built). Makes z (parts all) m) e g) t u
+pub relative_empty : (ps : List Part) (m : Built) → Makes nothing ps m → nat_lt 0 (length m.open_label) ≡ false → nat_lt 0 (length m.labels) ≡ false → IsRelativeText ps (closed m)
+relative_empty ps m g t u = at m.labels m.open_label g t u
   where
-    at : (ls : List (List ℕ)) (o : List ℕ) → Makes nothing (parts all) (built ls o) → nat_lt 0 (length o) ≡ false → nat_lt 0 (length ls) ≡ false → IsRelativeText (parts all) (closed_with ls o)
-    at [] [] h t u = made_empty (parts all) h
+    at : (ls : List (List ℕ)) (o : List ℕ) → Makes nothing ps (built ls o) → nat_lt 0 (length o) ≡ false → nat_lt 0 (length ls) ≡ false → IsRelativeText ps (closed_with ls o)
+    at [] [] h t u = made_empty ps h
     at (l ∷ ls) o h t u = absurd (let k = ltb-false 0 (length (l ∷ ls)) u in omega (arith, k))
     at [] (c ∷ o) h t u = absurd (let k = ltb-false 0 (length (c ∷ o)) t in omega (arith, k))
 

@@ -78,7 +78,7 @@ has_spelling c h = at (is_special c) refl (is_unprintable c) refl
     at false e true f = omega (arith, h)
     at false e false f = (plain c e).1
 
-char_part : (c : ℕ) → c ≢ 46 → IsPrintable c → symbol_part (Char c) ≡ Octet c
+pub char_part : (c : ℕ) → c ≢ 46 → IsPrintable c → symbol_part (Char c) ≡ Octet c
 char_part c other print = rw (ne_eqb c 46 other, le-leb 32 c print.0, le-leb c 126 print.1) refl
 
 escape_part : (c : ℕ) → c ≢ 91 → symbol_part (SimpleEscape c) ≡ Octet c

@@ -1,5 +1,5 @@
 -- What the fields of a name builder mean.
-use Rattle.std.specs.Prelude.{◌≡◌, ℕ, ◌+◌, ◌≤◌, List, [], ◌∷◌, length, take, drop, Option, None, Some}
+use Rattle.std.specs.Prelude.{◌≡◌, ℕ, ◌+◌, ◌-◌, ◌≤◌, List, [], ◌∷◌, length, take, drop, slice_set, Option, None, Some}
 use Rattle.domain_label.specs.Wire.{wire, labels_in, IsRelative}
 use Rattle.domain_builder.specs.Built.{Built, shown}
 
@@ -25,6 +25,11 @@ head_of b = place (length (wire b.labels)) b.open_label
     place : ℕ → List ℕ → Option ℕ
     place h [] = None
     place h (c ∷ cs) = Some h
+
+-- Octets once the length of the open label, if there is one, is written; its octets end at n.
+abbrev pub closed_at : List ℕ → Option ℕ → ℕ → List ℕ
+closed_at s None n = s
+closed_at s (Some h) n = slice_set s h (n - h - 1)
 
 -- The octets are those of the labels.
 pub record IsInside (s : List ℕ) (h : Option ℕ) : Type 0 where

@@ -1,5 +1,6 @@
 pub mod Built
 pub mod Parts
+pub mod Plain
 pub mod TextGrammar
 pub mod Texts
 pub mod Laws

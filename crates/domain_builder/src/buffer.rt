@@ -1,10 +1,12 @@
 //! A buffer in which a name is put together.
-ghost use Rattle.std.specs.Prelude.{◌≡◌, ◌++◌, ℕ, ◌+◌, ◌<◌, ◌≤◌, nat_lt, List, [], ◌∷◌, length, Result, Some, None, IfOk, IfErr, OnOk, OnErr, MatchResult};
+ghost use Rattle.std.specs.Prelude.{◌≡◌, ◌++◌, ℕ, ◌+◌, ◌<◌, ◌≤◌, nat_lt, List, [], ◌∷◌, length, take, drop, Result, Some, None, IfOk, IfErr, OnOk, OnErr, MatchResult};
 ghost use Rattle.std.specs.Iterator.{AlwaysYields, IsFinite};
 ghost use Rattle.domain_label.specs.declared.symbol.Symbol.{Symbol};
 ghost use Rattle.domain_label.specs.declared.symbol.SymbolCharsError.{SymbolCharsError};
+ghost use Rattle.domain_label.specs.Spelling.{Reads};
 ghost use Rattle.domain_label.specs.Wire.{wire, Root, IsAbsoluteName, IsRelativeName};
-ghost use Rattle.domain_builder.specs.Built.{nothing, closed, size, pushed, ended, too_long, refusal, after, Makes, StopsAt};
+ghost use Rattle.domain_builder.specs.Plain.{IsPlainText};
+ghost use Rattle.domain_builder.specs.Built.{Built, nothing, closed, size, pushed, ended, too_long, refusal, after, Makes, StopsAt};
 ghost use Rattle.domain_builder.specs.Buffer.{buffer_view, IsBuffer};
 ghost use Rattle.domain_builder.specs.Parts.{parts};
 ghost use Rattle.octseq.specs.Room.{MayLackRoom};
@@ -108,6 +110,36 @@ fn add_part(octets: &mut [u8; 255], ends: &mut Ends, part: Part) -> Result<(), F
     }
 }
 
+/// Ends the labels of a plain text that lies behind the place of the first length octet. A label's length takes
+/// the place of the dot before it.
+#[inline(always)]
+fn end_plain(octets: &mut [u8; 255], text: &[u8]) -> Result<Ends, Fault>
+    requires plain { IsPlainText text.now }
+    requires there { take (length text.now) (drop 1 octets.old) ≡ text.now }
+    ensures inside { IfOk result (λ ends. IsBuffer octets.new ends.head ends.open_len) }
+    ensures read { (all : List (Result Symbol SymbolCharsError)) → Reads text.now all →
+        MatchResult result (λ ends. Makes nothing (parts all) (buffer_view octets.new ends.head ends.open_len)) (λ f. (built : Built) × StopsAt nothing (parts all) built f) }
+{
+    let mut head = 0;
+    for i in 0..text.len() {
+        if text[i] == b'.' {
+            if i == head {
+                return Err(Fault::EmptyLabel);
+            }
+            if i - head > 63 {
+                return Err(Fault::LongLabel);
+            }
+            octets[head] = (i - head) as u8;
+            head = i + 1;
+        }
+    }
+    let open_len = text.len() - head;
+    if open_len > 63 {
+        return Err(Fault::LongLabel);
+    }
+    Ok(Ends { head, open_len })
+}
+
 /// Adds what is read of a text, up to the first part that is refused.
 #[inline(always)]
 fn add_parts<I: Iterator<Item = Result<Symbol, SymbolCharsError>> + Drop>(
@@ -195,6 +227,27 @@ impl NameBuffer {
         let read = add_parts(&mut self.octets, &mut ends, items);
         self.ends = ends;
         read
+    }
+
+    /// Reads a plain text. What the buffer held before is gone.
+    #[inline(always)]
+    pub(crate) fn read_plain(&mut self, text: &[u8]) -> Result<(), Fault>
+        requires plain { IsPlainText text.now }
+        ensures { (all : List (Result Symbol SymbolCharsError)) → Reads text.now all →
+            MatchResult result (λ _. Makes nothing (parts all) self.new) (λ f. (built : Built) × StopsAt nothing (parts all) built f) }
+    {
+        self.ends = Ends {
+            head: 0,
+            open_len: 0,
+        };
+        self.octets[1..text.len() + 1].copy_from_slice(text);
+        match end_plain(&mut self.octets, text) {
+            Ok(read) => {
+                self.ends = read;
+                Ok(())
+            }
+            Err(fault) => Err(fault),
+        }
     }
 
     /// The number of octets of the labels, the open one among them.

@@ -1,9 +1,9 @@
 //! Labels put together in the octets of a builder. A builder of names is made of one.
-ghost use Rattle.std.specs.Prelude.{◌≡◌, ◌++◌, ℕ, List, [], ◌∷◌, ◌≤◌, ◌<◌, ◌^◌, ◌+◌, ◌%◌, nat_lt, length, take, slice_set, true, Some, None, IfOk, OnOk, OnErr, IfErr, IfSome, IsSome, IsOk};
+ghost use Rattle.std.specs.Prelude.{◌≡◌, ◌++◌, ℕ, List, [], ◌∷◌, ◌≤◌, ◌<◌, ◌^◌, ◌+◌, ◌%◌, nat_lt, length, take, true, Some, None, IfOk, OnOk, OnErr, IfErr, IfSome, IsSome, IsOk};
 ghost use Rattle.std.specs.Fmt.{decimal, digit_glyph};
 ghost use Rattle.domain_label.specs.Wire.{wire, IsAbsoluteWire, IsRelativeName, IsRelativeWire, labels_in};
 ghost use Rattle.domain_builder.specs.Built.{nothing, finished, closed, pushed, ended, labelled, named, shown, size};
-ghost use Rattle.domain_builder.specs.Inside.{room};
+ghost use Rattle.domain_builder.specs.Inside.{closed_at, room};
 ghost use Rattle.domain_builder.specs.Pushing.{NameThenLabel, LabelThenName, NameAlone, NameFits, OriginFits};
 
 use crate::push_error::{PushError, PushNameError};
@@ -133,7 +133,7 @@ impl<B: OctetsBuilder + OctetsMut> LabelsBuilder<B> {
         }
     }
 
-    /// What is built are the labels of a relative name.
+    /// What is built are the labels of a relative name. It does nothing, and is called for what its contract says.
     fn is_name(&self)
         ensures { IsRelativeName (closed self.now.built) }
     {
@@ -194,7 +194,8 @@ impl<B: OctetsBuilder + OctetsMut> LabelsBuilder<B> {
         ensures capacity { self.old.capacity ≤ self.new.capacity }
     {
         if slice.is_empty() {
-            let _size = (self.len(), self.open_len());
+            // Called for what their contracts say: nothing is too long, and so `Ok` is right.
+            let _sizes = (self.len(), self.open_len());
             return Ok(());
         }
         if slice.len() > 63 - self.open_len() {
@@ -212,11 +213,9 @@ impl<B: OctetsBuilder + OctetsMut> LabelsBuilder<B> {
         ensures ended { self.new.built ≡ ended self.old.built }
         ensures capacity { self.old.capacity ≤ self.new.capacity }
     {
-        if let Some(head) = self.head {
-            let open = self.builder.as_slice().len() - head - 1;
-            set_octet(&mut self.builder, head, open as u8);
-            self.head = None;
-        }
+        let end = self.builder.as_slice().len();
+        close(&mut self.builder, self.head, end);
+        self.head = None;
     }
 
     /// Finishes the open label and adds a label, but for no octets.
@@ -230,6 +229,7 @@ impl<B: OctetsBuilder + OctetsMut> LabelsBuilder<B> {
         ensures capacity { self.old.capacity ≤ self.new.capacity }
     {
         if slice.is_empty() {
+            // Called for what its contract says: the name isn't too long, and so `Ok` is right.
             let _size = self.len();
             self.end_label();
             return Ok(());
@@ -259,11 +259,8 @@ impl<B: OctetsBuilder + OctetsMut> LabelsBuilder<B> {
             Ok(()) => {}
             Err(_) => return Err(PushError::ShortBuf),
         }
-        if let Some(head) = self.head {
-            let open = end - head - 1;
-            set_octet(&mut self.builder, head, open as u8);
-            self.head = None;
-        }
+        close(&mut self.builder, self.head, end);
+        self.head = None;
         Ok(())
     }
 
@@ -350,11 +347,8 @@ impl<B: OctetsBuilder + OctetsMut> LabelsBuilder<B> {
             Ok(()) => {}
             Err(_) => return Err(ShortBuf),
         }
-        if let Some(head) = self.head {
-            let open = len - head - 1;
-            set_octet(&mut self.builder, head, open as u8);
-            self.head = None;
-        }
+        close(&mut self.builder, self.head, len);
+        self.head = None;
         Ok(())
     }
 
@@ -366,6 +360,7 @@ impl<B: OctetsBuilder + OctetsMut> LabelsBuilder<B> {
         ensures size { length (B.octets result) ≡ size self.built }
         ensures room { room B.limit self ≤ B.capacity result }
     {
+        // The first and the last are called for what their contracts say of the octets that are given.
         self.is_name();
         self.end_label();
         let _size = self.len();
@@ -403,12 +398,7 @@ where
             Err(e) => Err(e),
         }
     }
-}
 
-impl<B: OctetsBuilder + OctetsMut + FreezeBuilder + Drop> LabelsBuilder<B>
-where
-    B::Octets: Drop,
-{
     /// Finishes the open label and gives the labels, and behind them those of an absolute name of any kind,
     /// in one piece that is appended once.
     pub fn append_origin<'a, N: AbsoluteLabels<'a>>(
@@ -495,14 +485,7 @@ fn hex_digit(nibble: u8) -> u8
     }
 }
 
-/// As many octets as a label has at most with its head.
-static BLANKS: [u8; 64] = [0; 64];
-
-/// Appends a head and the octets behind it, or nothing.
-///
-/// Nothing is put together beforehand: to read that back as soon as it is written takes longer than to write
-/// twice. A full `Vec` grows to twice its octets and to eight at least. Where these are enough, the head is
-/// appended alone, since memory is then asked for once all the same. Else room for all is appended, and written.
+/// Appends a head and the octets behind it in one slice, or nothing.
 #[inline(always)]
 fn append_headed<B: OctetsBuilder + OctetsMut>(
     builder: &mut B,
@@ -515,26 +498,9 @@ fn append_headed<B: OctetsBuilder + OctetsMut>(
     ensures full { OnErr result (B.capacity builder.old < length (B.octets builder.old) + length (head ∷ slice.now)) }
     ensures capacity { B.capacity builder.old ≤ B.capacity builder.new }
 {
-    let start = builder.as_slice().len();
-    if slice.len() < start || start + slice.len() < 8 {
-        match builder.append_slice(&[head]) {
-            Ok(()) => {}
-            Err(e) => return Err(e),
-        }
-        return match builder.append_slice(slice) {
-            Ok(()) => Ok(()),
-            Err(e) => {
-                builder.truncate(start);
-                Err(e)
-            }
-        };
-    }
-    match builder.append_slice(&BLANKS[..slice.len() + 1]) {
-        Ok(()) => {}
-        Err(e) => return Err(e),
-    }
-    put_headed(builder.as_slice_mut(), start, head, slice);
-    Ok(())
+    let mut octets = [0; 64];
+    put_headed(&mut octets[..slice.len() + 1], 0, head, slice);
+    builder.append_slice(&octets[..slice.len() + 1])
 }
 
 /// Writes a head and the octets behind it over those at the end, from a place on.
@@ -565,11 +531,16 @@ pub fn append_absolute<B: OctetsBuilder>(builder: &mut B, origin: &[u8]) -> Resu
     Ok(())
 }
 
-/// Writes one octet.
-fn set_octet<T: OctetsMut>(octets: &mut T, place: usize, octet: u8)
-    requires { place < length (T.octets octets.old) }
-    ensures octets { T.octets octets.new ≡ slice_set (T.octets octets.old) place octet }
+/// Writes the length of the open label, if there is one, whose octets end at a place.
+#[inline(always)]
+fn close<T: OctetsMut>(octets: &mut T, head: Option<usize>, end: usize)
+    requires open { IfSome head (λ h. (h < end) × (end ≤ h + 64)) }
+    requires inside { end ≤ length (T.octets octets.old) }
+    ensures octets { T.octets octets.new ≡ closed_at (T.octets octets.old) head end }
     ensures capacity { T.capacity octets.new ≡ T.capacity octets.old }
 {
-    octets.as_slice_mut()[place] = octet;
+    if let Some(head) = head {
+        let open = end - head - 1;
+        octets.as_slice_mut()[head] = open as u8;
+    }
 }

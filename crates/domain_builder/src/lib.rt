@@ -8,6 +8,7 @@ mod error;
 mod labels;
 mod laws;
 mod part;
+mod plain;
 mod push_error;
 mod reverse;
 pub mod text;

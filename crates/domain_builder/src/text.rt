@@ -1,26 +1,33 @@
 //! The octets of names that texts spell (RFC 1035, 5.1).
-ghost use Rattle.std.specs.Prelude.{◌≡◌, ℕ, ◌++◌, List, Result, Option, Some, IfOk, IfErr, MatchResult};
+ghost use Rattle.std.specs.Prelude.{◌≡◌, ℕ, ◌++◌, List, [], Result, Option, Some, IfOk, IfErr, OnOk, MatchResult};
 ghost use Rattle.std.specs.Iterator.{AlwaysYields, IsFinite};
 ghost use Rattle.std.specs.Str.{chars};
+ghost use Rattle.domain_label.specs.Spelling.{Reads};
 ghost use Rattle.domain_label.specs.Wire.{Root, IsAbsoluteWire, IsRelativeWire, labels_in};
 ghost use Rattle.domain_label.specs.declared.symbol.Symbol.{Symbol};
 ghost use Rattle.domain_label.specs.declared.symbol.SymbolCharsError.{SymbolCharsError};
-ghost use Rattle.domain_builder.specs.Built.{nothing, closed, Makes, StopsAt};
+ghost use Rattle.domain_builder.specs.Built.{Built, nothing, closed, Makes, StopsAt};
 ghost use Rattle.domain_builder.specs.Parts.{parts, symbol_parts, IsDotPart};
+ghost use Rattle.domain_builder.specs.Plain.{IsPlainText};
 ghost use Rattle.domain_builder.specs.TextGrammar.{IsNameText, NameFault, IsRelativeText, NoRelative, SpellsName, SpellsNoName, SpellsRelative, SpellsNoRelative};
 ghost use Rattle.domain_builder.specs.Told.{NoName, NoRelativeName, NoNameRead, NoRelativeRead, Lacks, RelativeLacks, Tells, RelativeTells};
 ghost use Rattle.domain_builder.specs.declared.part.Fault.{Fault};
+ghost use Rattle.domain_builder.specs.declared.part.Part.{Part};
 
 use crate::buffer::NameBuffer;
 use crate::error::{FromStrError, RelativeFromStrError};
 use crate::part::{Fault, Part, part_of};
+use crate::plain::is_plain;
 use arrayvec::ArrayVec;
 use domain_label::scan::{Symbol, SymbolCharsError, Symbols, WholeSymbols};
 use octseq::{EmptyBuilder, FromBuilder, ShortBuf};
 use std::alloc::Global;
 
 /// Reads the text of an absolute name into a buffer. What it then holds are the labels before the root.
-#[inline(always)]
+///
+/// It is called and not inlined: what its caller does is then short enough for the compiler to see that an
+/// array needn't be cleared before it is written.
+#[inline(never)]
 fn read_name<I: Iterator<Item = Result<Symbol, SymbolCharsError>> + Drop>(
     buffer: &mut NameBuffer,
     mut items: I,
@@ -58,20 +65,14 @@ fn is_dot(part: Part) -> bool
     }
 }
 
-/// Reads the text of a relative name into a buffer. The error is `None` where the text ends in a dot
-/// behind a label.
+/// Refuses the text of a relative name that was read and ends in a dot behind a label. That is told as
+/// `None`.
 #[inline(always)]
-fn read_relative<I: Iterator<Item = Result<Symbol, SymbolCharsError>> + Drop>(
-    buffer: &mut NameBuffer,
-    items: I,
-) -> Result<(), Option<Fault>>
-    requires empty { buffer.old ≡ nothing }
-    requires can { I.can_next items }
-    requires ends { IsFinite (I.remaining items) }
-    ensures { (all : List (Result Symbol SymbolCharsError)) → AlwaysYields I.next_gives (λ x. x) items all →
-        MatchResult result (λ _. IsRelativeText (parts all) (closed buffer.new)) (λ why. NoRelative (parts all) why) }
+fn refuse_final_dot(buffer: &NameBuffer, read: Result<(), Fault>) -> Result<(), Option<Fault>>
+    ensures { (ps : List Part) → MatchResult read (λ _. Makes nothing ps buffer.now) (λ f. (built : Built) × StopsAt nothing ps built f) →
+        MatchResult result (λ _. IsRelativeText ps (closed buffer.now)) (λ why. NoRelative ps why) }
 {
-    match buffer.push_parts(items) {
+    match read {
         Ok(()) => {}
         Err(fault) => return Err(Some(fault)),
     }
@@ -84,24 +85,65 @@ fn read_relative<I: Iterator<Item = Result<Symbol, SymbolCharsError>> + Drop>(
     Ok(())
 }
 
-/// The octets of the absolute name that is read of a text. A fault of the text is told before a want of
-/// room.
-#[tactic(auto, using(crate::proofs::OneOutcome::size_root))]
-#[inline(always)]
-fn absolute_from_items<
-    Octs: FromBuilder + Drop,
-    I: Iterator<Item = Result<Symbol, SymbolCharsError>> + Drop,
->(alloc: Global, items: I) -> Result<Octs, FromStrError>
-where
-    Octs::Builder: EmptyBuilder + Drop,
+/// Reads the text of a relative name into a buffer. It isn't inlined either.
+#[inline(never)]
+fn read_relative<I: Iterator<Item = Result<Symbol, SymbolCharsError>> + Drop>(
+    buffer: &mut NameBuffer,
+    items: I,
+) -> Result<(), Option<Fault>>
+    requires empty { buffer.old ≡ nothing }
     requires can { I.can_next items }
     requires ends { IsFinite (I.remaining items) }
-    ensures wire { IfOk result (λ octets. IsAbsoluteWire (Octs.octets octets)) }
-    ensures text { (all : List (Result Symbol SymbolCharsError)) → AlwaysYields I.next_gives (λ x. x) items all →
-        MatchResult result (λ octets. IsNameText (parts all) (labels_in (Octs.octets octets))) (λ e. NoName Octs.Builder.ROOM (parts all) e) }
+    ensures { (all : List (Result Symbol SymbolCharsError)) → AlwaysYields I.next_gives (λ x. x) items all →
+        MatchResult result (λ _. IsRelativeText (parts all) (closed buffer.new)) (λ why. NoRelative (parts all) why) }
 {
-    let mut buffer = NameBuffer::new();
-    match read_name(&mut buffer, items) {
+    let read = buffer.push_parts(items);
+    refuse_final_dot(buffer, read)
+}
+
+/// Reads the text of an absolute name into a buffer, a plain one where it lies.
+#[inline(always)]
+fn read_name_text(buffer: &mut NameBuffer, text: &str) -> Result<(), Fault>
+    requires empty { buffer.old ≡ nothing }
+    ensures { (all : List (Result Symbol SymbolCharsError)) → Reads (chars text.now) all →
+        MatchResult result (λ _. IsNameText (parts all) (closed buffer.new ++ Root)) (λ f. NameFault (parts all) f) }
+{
+    if is_plain(text.as_bytes()) {
+        return buffer.read_plain(text.as_bytes());
+    }
+    read_name(buffer, Symbols::new(text.chars()))
+}
+
+/// The same for a relative name.
+#[inline(always)]
+fn read_relative_text(buffer: &mut NameBuffer, text: &str) -> Result<(), Option<Fault>>
+    requires empty { buffer.old ≡ nothing }
+    ensures { (all : List (Result Symbol SymbolCharsError)) → Reads (chars text.now) all →
+        MatchResult result (λ _. IsRelativeText (parts all) (closed buffer.new)) (λ why. NoRelative (parts all) why) }
+{
+    if is_plain(text.as_bytes()) {
+        let read = buffer.read_plain(text.as_bytes());
+        return refuse_final_dot(buffer, read);
+    }
+    read_relative(buffer, Symbols::new(text.chars()))
+}
+
+/// The octets of the absolute name that was read into a buffer. A fault of the text is told before a want
+/// of room.
+#[tactic(auto, using(crate::proofs::OneOutcome::size_root))]
+#[inline(always)]
+fn absolute_octets<Octs: FromBuilder + Drop>(
+    alloc: Global,
+    buffer: &mut NameBuffer,
+    read: Result<(), Fault>,
+) -> Result<Octs, FromStrError>
+where
+    Octs::Builder: EmptyBuilder + Drop,
+    ensures wire { IfOk result (λ octets. IsAbsoluteWire (Octs.octets octets)) }
+    ensures text { (ps : List Part) → MatchResult read (λ _. IsNameText ps (closed buffer.old ++ Root)) (NameFault ps) →
+        MatchResult result (λ octets. IsNameText ps (labels_in (Octs.octets octets))) (NoName Octs.Builder.ROOM ps) }
+{
+    match read {
         Ok(()) => {}
         Err(fault) => return Err(fault.into()),
     }
@@ -120,20 +162,18 @@ where
 
 /// The same for a relative name.
 #[inline(always)]
-fn relative_from_items<
-    Octs: FromBuilder + Drop,
-    I: Iterator<Item = Result<Symbol, SymbolCharsError>> + Drop,
->(alloc: Global, items: I) -> Result<Octs, RelativeFromStrError>
+fn relative_octets<Octs: FromBuilder + Drop>(
+    alloc: Global,
+    buffer: &mut NameBuffer,
+    read: Result<(), Option<Fault>>,
+) -> Result<Octs, RelativeFromStrError>
 where
     Octs::Builder: EmptyBuilder + Drop,
-    requires can { I.can_next items }
-    requires ends { IsFinite (I.remaining items) }
     ensures wire { IfOk result (λ octets. IsRelativeWire (Octs.octets octets)) }
-    ensures text { (all : List (Result Symbol SymbolCharsError)) → AlwaysYields I.next_gives (λ x. x) items all →
-        MatchResult result (λ octets. IsRelativeText (parts all) (labels_in (Octs.octets octets))) (λ e. NoRelativeName Octs.Builder.ROOM (parts all) e) }
+    ensures text { (ps : List Part) → MatchResult read (λ _. IsRelativeText ps (closed buffer.old)) (NoRelative ps) →
+        MatchResult result (λ octets. IsRelativeText ps (labels_in (Octs.octets octets))) (NoRelativeName Octs.Builder.ROOM ps) }
 {
-    let mut buffer = NameBuffer::new();
-    match read_relative(&mut buffer, items) {
+    match read {
         Ok(()) => {}
         Err(None) => return Err(RelativeFromStrError::AbsoluteName),
         Err(Some(fault)) => return Err(RelativeFromStrError::FromStr(fault.into())),
@@ -149,6 +189,25 @@ where
             Err(RelativeFromStrError::FromStr(short.into()))
         }
     }
+}
+
+/// The octets of the absolute name that is read of the items of a text.
+#[inline(always)]
+fn absolute_from_items<
+    Octs: FromBuilder + Drop,
+    I: Iterator<Item = Result<Symbol, SymbolCharsError>> + Drop,
+>(alloc: Global, items: I) -> Result<Octs, FromStrError>
+where
+    Octs::Builder: EmptyBuilder + Drop,
+    requires can { I.can_next items }
+    requires ends { IsFinite (I.remaining items) }
+    ensures wire { IfOk result (λ octets. IsAbsoluteWire (Octs.octets octets)) }
+    ensures text { (all : List (Result Symbol SymbolCharsError)) → AlwaysYields I.next_gives (λ x. x) items all →
+        MatchResult result (λ octets. IsNameText (parts all) (labels_in (Octs.octets octets))) (NoName Octs.Builder.ROOM (parts all)) }
+{
+    let mut buffer = NameBuffer::new();
+    let read = read_name(&mut buffer, items);
+    absolute_octets(alloc, &mut buffer, read)
 }
 
 /// Reads an absolute name from text: its octets.
@@ -190,7 +249,9 @@ where
     ensures exact { (cs : List ℕ) (why : Option Fault) → AlwaysYields I.next_gives (λ c. c) chars cs → SpellsNoRelative cs why →
         MatchResult result (λ _. ⊥) (RelativeTells why) }
 {
-    relative_from_items(alloc, Symbols::new(chars))
+    let mut buffer = NameBuffer::new();
+    let read = read_relative(&mut buffer, Symbols::new(chars));
+    relative_octets(alloc, &mut buffer, read)
 }
 
 /// Reads an absolute name from symbols: its octets.
@@ -225,7 +286,9 @@ where
         MatchResult result (λ octets. labels_in (Octs.octets octets) ≡ ls) (Lacks Octs.Builder.ROOM ls) }
     ensures exact { (f : Fault) → SpellsNoName (chars text.now) f → MatchResult result (λ _. ⊥) (Tells f) }
 {
-    absolute_from_chars(alloc, text.chars())
+    let mut buffer = NameBuffer::new();
+    let read = read_name_text(&mut buffer, text);
+    absolute_octets(alloc, &mut buffer, read)
 }
 
 /// Reads a relative name from text: its octets.
@@ -243,83 +306,94 @@ where
         MatchResult result (λ octets. labels_in (Octs.octets octets) ≡ ls) (RelativeLacks Octs.Builder.ROOM ls) }
     ensures exact { (why : Option Fault) → SpellsNoRelative (chars text.now) why → MatchResult result (λ _. ⊥) (RelativeTells why) }
 {
-    relative_from_chars(alloc, text.chars())
+    let mut buffer = NameBuffer::new();
+    let read = read_relative_text(&mut buffer, text);
+    relative_octets(alloc, &mut buffer, read)
 }
 
-/// The octets of the absolute name that is read of a text, in a fixed room that asks for no memory.
+/// Appends the octets of the absolute name that was read into a buffer to an empty array. No memory is asked
+/// for.
 #[tactic(auto, using(crate::proofs::OneOutcome::size_root))]
 #[inline(always)]
-fn absolute_array_from_items<
-    const N: usize,
-    I: Iterator<Item = Result<Symbol, SymbolCharsError>> + Drop,
->(items: I) -> Result<ArrayVec<u8, N>, FromStrError>
-    requires can { I.can_next items }
-    requires ends { IsFinite (I.remaining items) }
-    ensures wire { IfOk result (λ octets. IsAbsoluteWire octets.items) }
-    ensures text { (all : List (Result Symbol SymbolCharsError)) → AlwaysYields I.next_gives (λ x. x) items all →
-        MatchResult result (λ octets. IsNameText (parts all) (labels_in octets.items)) (λ e. NoName (Some N) (parts all) e) }
+fn absolute_array<const N: usize>(
+    octets: &mut ArrayVec<u8, N>,
+    buffer: &mut NameBuffer,
+    read: Result<(), Fault>,
+) -> Result<(), FromStrError>
+    requires empty { octets.old.items ≡ [] }
+    ensures wire { OnOk result (IsAbsoluteWire octets.new.items) }
+    ensures text { (ps : List Part) → MatchResult read (λ _. IsNameText ps (closed buffer.old ++ Root)) (NameFault ps) →
+        MatchResult result (λ _. IsNameText ps (labels_in octets.new.items)) (NoName (Some N) ps) }
 {
-    let mut buffer = NameBuffer::new();
-    match read_name(&mut buffer, items) {
+    match read {
         Ok(()) => {}
         Err(fault) => return Err(fault.into()),
     }
-    let mut name = ArrayVec::new();
-    match buffer.append_name(&mut name) {
-        Ok(()) => Ok(name),
+    match buffer.append_name(octets) {
+        Ok(()) => Ok(()),
         Err(short) => Err(short.into()),
     }
 }
 
 /// The same for a relative name.
 #[inline(always)]
-fn relative_array_from_items<
-    const N: usize,
-    I: Iterator<Item = Result<Symbol, SymbolCharsError>> + Drop,
->(items: I) -> Result<ArrayVec<u8, N>, RelativeFromStrError>
-    requires can { I.can_next items }
-    requires ends { IsFinite (I.remaining items) }
-    ensures wire { IfOk result (λ octets. IsRelativeWire octets.items) }
-    ensures text { (all : List (Result Symbol SymbolCharsError)) → AlwaysYields I.next_gives (λ x. x) items all →
-        MatchResult result (λ octets. IsRelativeText (parts all) (labels_in octets.items)) (λ e. NoRelativeName (Some N) (parts all) e) }
+fn relative_array<const N: usize>(
+    octets: &mut ArrayVec<u8, N>,
+    buffer: &mut NameBuffer,
+    read: Result<(), Option<Fault>>,
+) -> Result<(), RelativeFromStrError>
+    requires empty { octets.old.items ≡ [] }
+    ensures wire { OnOk result (IsRelativeWire octets.new.items) }
+    ensures text { (ps : List Part) → MatchResult read (λ _. IsRelativeText ps (closed buffer.old)) (NoRelative ps) →
+        MatchResult result (λ _. IsRelativeText ps (labels_in octets.new.items)) (NoRelativeName (Some N) ps) }
 {
-    let mut buffer = NameBuffer::new();
-    match read_relative(&mut buffer, items) {
+    match read {
         Ok(()) => {}
         Err(None) => return Err(RelativeFromStrError::AbsoluteName),
         Err(Some(fault)) => return Err(RelativeFromStrError::FromStr(fault.into())),
     }
-    let mut labels = ArrayVec::new();
-    match buffer.append_relative(&mut labels) {
-        Ok(()) => Ok(labels),
+    match buffer.append_relative(octets) {
+        Ok(()) => Ok(()),
         Err(short) => Err(RelativeFromStrError::FromStr(short.into())),
     }
 }
 
-/// Reads an absolute name from text: its octets, in a fixed room that asks for no memory.
+/// Reads an absolute name from text into an empty array: its octets. No memory is asked for.
+///
+/// The array is the caller's: a `Result` that holds one is copied each time it is handed on.
 #[inline(always)]
-pub fn absolute_array_from_str<const N: usize>(text: &str) -> Result<ArrayVec<u8, N>, FromStrError>
-    ensures wire { IfOk result (λ octets. IsAbsoluteWire octets.items) }
-    ensures ok { IfOk result (λ octets. SpellsName (chars text.now) (labels_in octets.items)) }
+pub fn absolute_into_array<const N: usize>(
+    octets: &mut ArrayVec<u8, N>,
+    text: &str,
+) -> Result<(), FromStrError>
+    requires empty { octets.old.items ≡ [] }
+    ensures wire { OnOk result (IsAbsoluteWire octets.new.items) }
+    ensures ok { OnOk result (SpellsName (chars text.now) (labels_in octets.new.items)) }
     ensures err { IfErr result (NoNameRead (Some N) (chars text.now)) }
     ensures accepts { (ls : List (List ℕ)) → SpellsName (chars text.now) ls →
-        MatchResult result (λ octets. labels_in octets.items ≡ ls) (Lacks (Some N) ls) }
+        MatchResult result (λ _. labels_in octets.new.items ≡ ls) (Lacks (Some N) ls) }
     ensures exact { (f : Fault) → SpellsNoName (chars text.now) f → MatchResult result (λ _. ⊥) (Tells f) }
 {
-    absolute_array_from_items(Symbols::new(text.chars()))
+    let mut buffer = NameBuffer::new();
+    let read = read_name_text(&mut buffer, text);
+    absolute_array(octets, &mut buffer, read)
 }
 
-/// Reads a relative name from text: its octets, in a fixed room that asks for no memory.
+/// Reads a relative name from text into an empty array: its octets. No memory is asked for.
 #[inline(always)]
-pub fn relative_array_from_str<const N: usize>(
+pub fn relative_into_array<const N: usize>(
+    octets: &mut ArrayVec<u8, N>,
     text: &str,
-) -> Result<ArrayVec<u8, N>, RelativeFromStrError>
-    ensures wire { IfOk result (λ octets. IsRelativeWire octets.items) }
-    ensures ok { IfOk result (λ octets. SpellsRelative (chars text.now) (labels_in octets.items)) }
+) -> Result<(), RelativeFromStrError>
+    requires empty { octets.old.items ≡ [] }
+    ensures wire { OnOk result (IsRelativeWire octets.new.items) }
+    ensures ok { OnOk result (SpellsRelative (chars text.now) (labels_in octets.new.items)) }
     ensures err { IfErr result (NoRelativeRead (Some N) (chars text.now)) }
     ensures accepts { (ls : List (List ℕ)) → SpellsRelative (chars text.now) ls →
-        MatchResult result (λ octets. labels_in octets.items ≡ ls) (RelativeLacks (Some N) ls) }
+        MatchResult result (λ _. labels_in octets.new.items ≡ ls) (RelativeLacks (Some N) ls) }
     ensures exact { (why : Option Fault) → SpellsNoRelative (chars text.now) why → MatchResult result (λ _. ⊥) (RelativeTells why) }
 {
-    relative_array_from_items(Symbols::new(text.chars()))
+    let mut buffer = NameBuffer::new();
+    let read = read_relative_text(&mut buffer, text);
+    relative_array(octets, &mut buffer, read)
 }

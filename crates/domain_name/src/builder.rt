@@ -377,6 +377,8 @@ where
         ensures ok { IfOk result (λ name. name_labels name ≡ closed (built self) ++ Root) }
         ensures err { IfErr result (λ e. (e ≡ push.ShortBuf) × (room B.limit (held self) < size (built self) + 1)) }
     {
+        // This is `finish_with` of the root, written out, since a result between would copy an array's octets once
+        // more. The length is asked for what its contract says: with the root there are at most 255 octets.
         let _short = self.labels.len();
         let mut builder = self.labels.into_builder();
         match append_absolute(&mut builder, &[0]) {

@@ -21,8 +21,8 @@ use crate::builder::NameBuilder;
 use crate::relative::RelativeName;
 use arrayvec::ArrayVec;
 use domain_builder::text::{
-    absolute_array_from_str, absolute_from_chars, absolute_from_str, absolute_from_symbols,
-    relative_array_from_str, relative_from_chars, relative_from_str,
+    absolute_from_chars, absolute_from_str, absolute_from_symbols, absolute_into_array,
+    relative_from_chars, relative_from_str, relative_into_array,
 };
 use domain_builder::{FromStrError, PushError, RelativeFromStrError, reverse_octets};
 use domain_label::scan::Symbol;
@@ -129,8 +129,9 @@ impl<const N: usize> FromStr for Name<ArrayVec<u8, N>> {
 
     #[inline(always)]
     fn from_str(text: &str) -> Result<Self, FromStrError> {
-        match absolute_array_from_str(text) {
-            Ok(octets) => Ok(Name::from_wire(octets)),
+        let mut octets = ArrayVec::new();
+        match absolute_into_array(&mut octets, text) {
+            Ok(()) => Ok(Name::from_wire(octets)),
             Err(e) => Err(e),
         }
     }
@@ -194,8 +195,9 @@ impl<const N: usize> FromStr for RelativeName<ArrayVec<u8, N>> {
 
     #[inline(always)]
     fn from_str(text: &str) -> Result<Self, RelativeFromStrError> {
-        match relative_array_from_str(text) {
-            Ok(octets) => Ok(RelativeName::from_wire(octets)),
+        let mut octets = ArrayVec::new();
+        match relative_into_array(&mut octets, text) {
+            Ok(()) => Ok(RelativeName::from_wire(octets)),
             Err(e) => Err(e),
         }
     }
