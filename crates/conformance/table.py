@@ -911,6 +911,17 @@ SIGNS = ["a", "B", "0", "9", ".", ".", "\\", "\\", "[", " ", "\u00e9", "\\065", 
 for _time in range(260):
     text_rows("".join(rnd.choice(SIGNS) for _sign in range(rnd.randrange(1, 9))))
 
+PLAIN = [chr(code) for code in range(0x20, 0x7F) if chr(code) not in ".\\"]
+drawn = random.Random(253)
+for _time in range(60):
+    sizes = [drawn.choice((1, 2, 3, 8, 17, 62, 63)) for _label in range(drawn.randrange(1, 6))]
+    labels = ["".join(drawn.choice(PLAIN) for _sign in range(size)) for size in sizes]
+    place = drawn.randrange(sum(sizes) + len(sizes))
+    text = ".".join(labels)
+    for it in (text, text + ".", text[:place] + drawn.choice(("..", "\\", "\x1f", "\x7f", "\u00e9", "x" * 60 + ".")) + text[place:]):
+        row("text", spelled(it))
+        row("reltext", spelled(it))
+
 topic("names from text in small rooms")
 for text, room, answer in (("ab", 4, "ok 02616200"), ("abc", 4, "err ShortBuf"), ("abcd..", 4, "err EmptyLabel"), ("abcd\\256", 4, "err BadLabel(SymbolChars(BadEscape))"),
                            (".", 0, "err ShortBuf"), ("", 0, "err BadLabel(SymbolChars(ShortInput))"), (".", 2, "ok 00")):

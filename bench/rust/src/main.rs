@@ -493,36 +493,6 @@ fn check_show(name: &[u8]) -> u64 {
     }
 }
 
-/// The same without the check: for `Name` values that are at hand.
-fn unchecked(name: &[u8]) -> Name<&[u8]> {
-    unsafe { Name::from_octets_unchecked(name) }
-}
-
-#[inline(never)]
-fn eq(left: &[u8], right: &[u8]) -> u64 {
-    unchecked(left).name_eq(&unchecked(right)) as u64
-}
-
-#[inline(never)]
-fn cmp(left: &[u8], right: &[u8]) -> u64 {
-    unchecked(left).name_cmp(&unchecked(right)) as i8 as u8 as u64
-}
-
-#[inline(never)]
-fn hash(name: &[u8]) -> u64 {
-    let mut hash = Fnv::new();
-    unchecked(name).hash(&mut hash);
-    hash.finish()
-}
-
-#[inline(never)]
-fn back(name: &[u8]) -> u64 {
-    unchecked(name)
-        .iter()
-        .rev()
-        .fold(0, |sum: u64, label| sum.wrapping_mul(31) + label.len() as u64)
-}
-
 /// Reads a name from text: over a `Vec<u8>`, and over an array of 255 octets.
 #[inline(never)]
 fn from_chars(text: &[u8]) -> u64 {
@@ -736,8 +706,6 @@ const DOMAIN: Peer = Peer {
         ("check_to_vec", check_to_vec),
         ("check_suffixes", check_suffixes),
         ("check_split", check_split),
-        ("hash", hash),
-        ("back", back),
         ("append_labels", append_labels),
         ("push_octets", push_octets),
         ("chained", chained),
@@ -750,8 +718,6 @@ const DOMAIN: Peer = Peer {
         ("check_starts", check_starts),
         ("check_ends", check_ends),
         ("check_strip", check_strip),
-        ("eq", eq),
-        ("cmp", cmp),
     ],
     texts: &[
         ("from_chars", from_chars),

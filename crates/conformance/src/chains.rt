@@ -1,9 +1,7 @@
 //! Chains of two names.
 
 use crate::answer::Answer;
-use crate::compare::{
-    put_beside_chain, put_beside_relative_chain, put_ends_beside_chain, put_parsed_beside_chain,
-};
+use crate::compare::{put_both_related, put_both_relative_related, put_ends_of, put_related};
 use crate::fail::Fail;
 use crate::flat::put_stripped;
 use crate::labels::wire_of;
@@ -30,10 +28,11 @@ fn relative_chain<'a>(left: &'a [u8], right: &'a [u8]) -> Option<Relatively<'a>>
 }
 
 /// A chain's wire form, its length and its labels from the back.
-fn put_chain_of<'a, I: LabelIterator<'a>>(out: &mut Answer, len: u16, labels: I) {
+fn put_chain_of<'a, N: ToLabelIter<'a>>(out: &mut Answer, chain: &'a N) {
+    let labels = chain.iter_labels();
     let wire = wire_of(out, labels);
     out.put_hex_behind(b"ok ", wire.as_slice());
-    out.put_text_behind(b" ", len);
+    out.put_text_behind(b" ", chain.compose_len());
     out.put(b" ");
     out.put_turned(labels);
 }
@@ -59,7 +58,7 @@ pub fn put_chain(out: &mut Answer, left: &[u8], right: &[u8]) {
 fn put_absolute_chain(out: &mut Answer, left: RelativeName<&[u8]>, right: Name<&[u8]>) {
     match left.chain(right) {
         Ok(chain) => {
-            put_chain_of(out, chain.compose_len(), chain.iter_labels());
+            put_chain_of(out, &chain);
             out.agree(chain.is_absolute(), b"is_absolute");
             let (one, other) = chain.unwrap();
             out.same(one.as_slice(), left.as_slice(), b"unwrap");
@@ -72,7 +71,7 @@ fn put_absolute_chain(out: &mut Answer, left: RelativeName<&[u8]>, right: Name<&
 fn put_relative_chain(out: &mut Answer, left: RelativeName<&[u8]>, right: RelativeName<&[u8]>) {
     match left.chain(right) {
         Ok(chain) => {
-            put_chain_of(out, chain.compose_len(), chain.iter_labels());
+            put_chain_of(out, &chain);
             out.agree(!chain.is_absolute(), b"is_absolute");
             let (one, other) = chain.unwrap();
             out.same(one.as_slice(), left.as_slice(), b"unwrap");
@@ -109,8 +108,12 @@ pub fn put_rooted(out: &mut Answer, octets: &[u8]) {
     let Ok(name) = RelativeName::from_slice(octets) else {
         return out.fail(Fail::Bad);
     };
-    let chain = name.chain_root();
-    put_chain_of(out, chain.compose_len(), chain.iter_labels());
+    put_absolute_name(out, &name.chain_root());
+}
+
+/// What a chain has, and its text.
+fn put_absolute_name<'a, N: AbsoluteLabels<'a>>(out: &mut Answer, chain: &'a N) {
+    put_chain_of(out, chain);
     out.put_shown_behind(b" ", chain.fmt_with_dot());
 }
 
@@ -120,7 +123,7 @@ pub fn put_chaincmp(out: &mut Answer, left: &[u8], right: &[u8], octets: &[u8]) 
         return out.fail(Fail::Bad);
     };
     match Name::from_slice(octets) {
-        Ok(name) => put_beside_chain(out, &chain, &name),
+        Ok(name) => put_both_related(out, &chain, &name),
         Err(_) => out.fail(Fail::Bad),
     }
 }
@@ -131,7 +134,7 @@ pub fn put_chainrel(out: &mut Answer, left: &[u8], right: &[u8], octets: &[u8]) 
         return out.fail(Fail::Bad);
     };
     match RelativeName::from_slice(octets) {
-        Ok(name) => put_beside_relative_chain(out, &chain, &name),
+        Ok(name) => put_both_relative_related(out, &chain, &name),
         Err(_) => out.fail(Fail::Bad),
     }
 }
@@ -142,7 +145,7 @@ pub fn put_chainends(out: &mut Answer, left: &[u8], right: &[u8], octets: &[u8])
         return out.fail(Fail::Bad);
     };
     match Name::from_slice(octets) {
-        Ok(name) => put_ends_beside_chain(out, &name, &chain),
+        Ok(name) => put_ends_of(out, &name, &chain),
         Err(_) => out.fail(Fail::Bad),
     }
 }
@@ -164,7 +167,7 @@ pub fn put_pchain(out: &mut Answer, message: &[u8], place: usize, left: &[u8], r
         return out.fail(Fail::Bad);
     };
     match absolute_chain(left, right) {
-        Some(chain) => put_parsed_beside_chain(out, &parsed, &chain),
+        Some(chain) => put_related(out, &parsed, &chain),
         None => out.fail(Fail::Bad),
     }
 }

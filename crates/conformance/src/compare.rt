@@ -48,7 +48,7 @@ fn is_ordered<N: Ord>(out: &mut Answer, a: &N, b: &N, same: bool, order: Orderin
     out.agree(a.partial_cmp(b) == Some(order), b"partial_cmp");
 }
 
-fn put_related<'a, A: AbsoluteLabels<'a>, B: AbsoluteLabels<'a>>(
+pub fn put_related<'a, A: AbsoluteLabels<'a>, B: AbsoluteLabels<'a>>(
     out: &mut Answer,
     a: &'a A,
     b: &'a B,
@@ -152,7 +152,7 @@ pub fn put_pname(out: &mut Answer, message: &[u8], place: usize, octets: &[u8]) 
 }
 
 /// Whether an absolute name begins and ends with a relative one, and the relative one with it.
-fn put_ends_of<'a, A: AbsoluteLabels<'a>, R: RelativeLabels<'a>>(
+pub fn put_ends_of<'a, A: AbsoluteLabels<'a>, R: RelativeLabels<'a>>(
     out: &mut Answer,
     a: &'a A,
     r: &'a R,
@@ -197,42 +197,24 @@ fn put_relative_related<'a, A: RelativeLabels<'a>, B: RelativeLabels<'a>>(
     out.put_bit(b" ends=", a.ends_with(b));
 }
 
-/// A chain and an absolute name, on either side.
-pub fn put_beside_chain<'a>(
+/// Two absolute names, on either side.
+pub fn put_both_related<'a, A: AbsoluteLabels<'a>, B: AbsoluteLabels<'a>>(
     out: &mut Answer,
-    chain: &'a Chain<RelativeName<&'a [u8]>, Name<&'a [u8]>>,
-    name: &'a Name<&'a [u8]>,
+    a: &'a A,
+    b: &'a B,
 ) {
-    put_related(out, chain, name);
+    put_related(out, a, b);
     out.put(b" / ");
-    put_related(out, name, chain);
+    put_related(out, b, a);
 }
 
-/// A name in a message and a chain.
-pub fn put_parsed_beside_chain<'a>(
+/// Two relative names, on either side.
+pub fn put_both_relative_related<'a, A: RelativeLabels<'a>, B: RelativeLabels<'a>>(
     out: &mut Answer,
-    parsed: &'a ParsedName<&'a [u8]>,
-    chain: &'a Chain<RelativeName<&'a [u8]>, Name<&'a [u8]>>,
+    a: &'a A,
+    b: &'a B,
 ) {
-    put_related(out, parsed, chain);
-}
-
-/// A chain of relative names and a relative name, on either side.
-pub fn put_beside_relative_chain<'a>(
-    out: &mut Answer,
-    chain: &'a Chain<RelativeName<&'a [u8]>, RelativeName<&'a [u8]>>,
-    name: &'a RelativeName<&'a [u8]>,
-) {
-    put_relative_related(out, chain, name);
+    put_relative_related(out, a, b);
     out.put(b" / ");
-    put_relative_related(out, name, chain);
-}
-
-/// An absolute name and a chain of relative names.
-pub fn put_ends_beside_chain<'a>(
-    out: &mut Answer,
-    name: &'a Name<&'a [u8]>,
-    chain: &'a Chain<RelativeName<&'a [u8]>, RelativeName<&'a [u8]>>,
-) {
-    put_ends_of(out, name, chain);
+    put_relative_related(out, b, a);
 }

@@ -168,7 +168,7 @@ pub fn name_at_with_limit<R: Read, W: Write>(
 
 const USAGE: &str = "usage: dnsnames at PLACE [--pointers N] | dnsnames text NAME | dnsnames list";
 
-/// Does what is asked for, and flushes the output.
+/// Does what is asked for, and flushes the output. Where this fails, `Write` is told, whatever came before.
 fn carry_out<R: Read, W: Write>(
     alloc: Global,
     asked: Asked<'_>,
@@ -192,6 +192,7 @@ fn carry_out<R: Read, W: Write>(
 /// Carries out the words that follow the program's name, and flushes the output. The answer is the status
 /// to end with: 0 where it is done, 1 where the input or the text is refused, 2 for other words, 3 where
 /// reading, writing or memory failed. The reason is written to `errors`; that this fails changes no status.
+/// Where flushing fails, `writing failed` is the reason, whatever came before.
 ///
 /// `at PLACE` is `name_at`, `at PLACE --pointers N` is `name_at_with_limit`, `text NAME` is `name_text`, and
 /// `list` is `list`.

@@ -8,6 +8,7 @@ use domain::base::name::*;
 use domain::base::net::IpAddr;
 use domain::base::scan::Symbol;
 use octseq::ShortBuf;
+use std::alloc::Global;
 use std::borrow::CowSlice;
 use std::process::Abort;
 
@@ -67,33 +68,47 @@ fn names_of_names_in_messages(rt: HostRuntime) {
     }
 }
 
-#[test]
-fn names_of_chains(rt: HostRuntime) {
-    let alloc = rt.alloc();
-    let chain = relative_joined(&rt, b"\x03www", b"\x07Example\x03com");
-    assert_asked_once(&rt, relative_octets_of(chain.to_vec(alloc)));
-    let made: Result<RelativeName<Vec<u8>>, ShortBuf> = chain.to_relative_name(alloc);
-    assert_asked_once(&rt, relative_octets_of(made));
-    let made: Result<RelativeName<Vec<u8>>, ShortBuf> = chain.to_canonical_relative_name(alloc);
-    assert_asked_once(&rt, relative_octets_of(made));
-    if let Some(octets) = owned(relative_octets_of(chain.to_cow(alloc))) {
-        assert_asked_once::<ShortBuf>(&rt, Ok(octets));
+/// Each name that is made of a relative one of any kind, by calls or in a builder that had none.
+fn relative_names_of<'a, N: RelativeLabels<'a>>(rt: &impl Abort, alloc: Global, name: &'a N) {
+    assert_asked_once(rt, relative_octets_of(name.to_vec(alloc)));
+    let made: Result<RelativeName<Vec<u8>>, ShortBuf> = name.to_relative_name(alloc);
+    assert_asked_once(rt, relative_octets_of(made));
+    let made: Result<RelativeName<Vec<u8>>, ShortBuf> = name.to_canonical_relative_name(alloc);
+    assert_asked_once(rt, relative_octets_of(made));
+    if let Some(octets) = owned(relative_octets_of(name.to_cow(alloc))) {
+        assert_asked_once::<ShortBuf>(rt, Ok(octets));
+    }
+    built_of(rt, alloc, name);
+}
+
+fn built_of<'a, N: RelativeLabels<'a>>(rt: &impl Abort, alloc: Global, name: &'a N) {
+    let mut builder = NameBuilder::new_vec(alloc);
+    if builder.append_name(name).is_ok() {
+        assert_asked_once::<ShortBuf>(rt, Ok(builder.finish().into_octets()));
     }
 }
 
 #[test]
-fn names_that_are_appended(rt: HostRuntime) {
-    let name = parsed(&rt, SCATTERED, 15);
-    let mut plain = Vec::new(rt.alloc());
-    let composed = name.compose(&mut plain);
-    assert_asked_once(&rt, composed.map(|_done| plain));
-    let mut lowered = Vec::new(rt.alloc());
-    let composed = name.compose_canonical(&mut lowered);
-    assert_asked_once(&rt, composed.map(|_done| lowered));
-    let mut builder = NameBuilder::new_vec(rt.alloc());
+fn names_of_chains(rt: HostRuntime) {
     let chain = relative_joined(&rt, b"\x03www", b"\x07Example\x03com");
-    let appended = builder.append_name(&chain);
-    assert_asked_once(&rt, appended.map(|_done| builder.finish().into_octets()));
-    let builder = NameBuilder::new_vec(rt.alloc());
-    assert_asked_once(&rt, octets_of(builder.append_origin(&name)));
+    relative_names_of(&rt, rt.alloc(), &chain);
+}
+
+/// The octets of a name of any kind behind none.
+fn appended_of<'a, N: AbsoluteLabels<'a>>(rt: &impl Abort, alloc: Global, name: &'a N) {
+    let mut plain = Vec::new(alloc);
+    if name.compose(&mut plain).is_ok() {
+        assert_asked_once::<ShortBuf>(rt, Ok(plain));
+    }
+    let mut lowered = Vec::new(alloc);
+    if name.compose_canonical(&mut lowered).is_ok() {
+        assert_asked_once::<ShortBuf>(rt, Ok(lowered));
+    }
+    let builder = NameBuilder::new_vec(alloc);
+    assert_asked_once(rt, octets_of(builder.append_origin(name)));
+}
+
+#[test]
+fn names_that_are_appended(rt: HostRuntime) {
+    appended_of(&rt, rt.alloc(), &parsed(&rt, SCATTERED, 15));
 }

@@ -176,6 +176,26 @@ fn is_shown<'a, N: AbsoluteLabels<'a>>(alloc: Global, name: &'a N) -> bool {
     matches!(&shown, Ok(text) if text.as_str() == "www.Example.com.")
 }
 
+/// Composes a name, and makes others of it.
+fn is_made<'a, N: AbsoluteLabels<'a>>(
+    alloc: Global,
+    name: &'a N,
+    wanted: Wanted<'_>,
+    flat: bool,
+) -> bool {
+    is_composed(alloc, name, wanted)
+        && is_made_flat(alloc, name, wanted)
+        && is_made_canonical(alloc, name, wanted)
+        && is_copied(alloc, name, wanted, flat)
+}
+
+/// Holds a name against others.
+fn is_related<'a, N: AbsoluteLabels<'a>>(name: &'a N, others: &'a Others<'a>) -> bool {
+    is_compared(name, others)
+        && is_compared_on_the_wire(name, others)
+        && is_matched(name, &others.start, &others.end, &others.other)
+}
+
 /// Asks `www.Example.com.` of any kind for all that absolute names have. It must give [`ABSOLUTE`].
 pub fn every_call_of_absolute<'a, N: AbsoluteLabels<'a>>(
     rt: &impl Abort,
@@ -185,13 +205,12 @@ pub fn every_call_of_absolute<'a, N: AbsoluteLabels<'a>>(
     wanted: Wanted<'_>,
     flat: bool,
 ) {
-    assert!(rt; gives_labels(alloc, name, wanted) && is_measured(name, wanted, flat));
-    assert!(rt; is_composed(alloc, name, wanted));
-    assert!(rt; is_made_flat(alloc, name, wanted) && is_made_canonical(alloc, name, wanted));
-    assert!(rt; is_copied(alloc, name, wanted, flat));
-    assert!(rt; is_compared(name, others) && is_compared_on_the_wire(name, others));
-    assert!(rt; is_matched(name, &others.start, &others.end, &others.other));
-    assert!(rt; name.is_absolute() && name.rrsig_label_count() == 3);
+    assert!(rt; gives_labels(alloc, name, wanted));
+    assert!(rt; is_measured(name, wanted, flat));
+    assert!(rt; is_made(alloc, name, wanted, flat));
+    assert!(rt; is_related(name, others));
+    assert!(rt; name.is_absolute());
+    assert!(rt; name.rrsig_label_count() == 3);
     assert!(rt; is_shown(alloc, name));
 }
 
@@ -250,6 +269,19 @@ fn is_relative_compared<'a, N: RelativeLabels<'a>>(
         && name.name_cmp(other) == Ordering::Less
 }
 
+/// Composes a name, and makes others of it.
+fn is_relative_made<'a, N: RelativeLabels<'a>>(
+    alloc: Global,
+    name: &'a N,
+    wanted: Wanted<'_>,
+    flat: bool,
+) -> bool {
+    is_relative_composed(alloc, name, wanted)
+        && is_made_flat_relative(alloc, name, wanted.wire)
+        && is_made_canonical_relative(alloc, name, wanted.canonical)
+        && is_relative_copied(alloc, name, wanted.wire, flat)
+}
+
 /// Asks `www.Example` of any kind for all that relative names have and that lends the name. It must give
 /// [`RELATIVE`].
 pub fn every_call_of_relative<'a, N: RelativeLabels<'a>>(
@@ -260,12 +292,11 @@ pub fn every_call_of_relative<'a, N: RelativeLabels<'a>>(
     wanted: Wanted<'_>,
     flat: bool,
 ) {
-    assert!(rt; gives_labels(alloc, name, wanted) && is_measured(name, wanted, flat));
-    assert!(rt; is_relative_composed(alloc, name, wanted));
-    assert!(rt; is_made_flat_relative(alloc, name, wanted.wire));
-    assert!(rt; is_made_canonical_relative(alloc, name, wanted.canonical));
-    assert!(rt; is_relative_copied(alloc, name, wanted.wire, flat));
+    assert!(rt; gives_labels(alloc, name, wanted));
+    assert!(rt; is_measured(name, wanted, flat));
+    assert!(rt; is_relative_made(alloc, name, wanted, flat));
     assert!(rt; is_relative_compared(name, others));
     assert!(rt; is_matched(name, &others.start, &others.end, &others.root));
-    assert!(rt; !name.is_absolute() && !name.is_empty());
+    assert!(rt; !name.is_absolute());
+    assert!(rt; !name.is_empty());
 }

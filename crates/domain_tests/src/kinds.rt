@@ -59,15 +59,32 @@ fn references_to_relative_names_and_chains_of_two(rt: HostRuntime) {
     every_call_of_relative(&rt, rt.alloc(), &chain, &others, RELATIVE, false);
 }
 
+/// Whether a name begins with this relative one, doesn't end with it, and another one is the same.
+fn begins<'a, A: AbsoluteLabels<'a>, R: RelativeLabels<'a>, N: RelativeLabels<'a>>(
+    whole: &'a A,
+    twin: &'a R,
+    name: &'a N,
+) -> bool {
+    whole.starts_with(name) && !whole.ends_with(name) && twin.name_eq(name)
+}
+
+/// Whether a name in a message is the same as this one.
+fn is_in_message<'a, N: AbsoluteLabels<'a>>(
+    scattered: &'a ParsedName<&'a [u8]>,
+    name: &'a N,
+) -> bool {
+    scattered.name_eq(name) && scattered.name_cmp(name) == Ordering::Equal
+}
+
 #[test]
 fn names_beside_chains(rt: HostRuntime) {
     let flat = absolute(&rt, WWW);
+    let twin = relative(&rt, b"\x03www\x07EXAMPLE");
     let relative_chain = relative_joined(&rt, b"\x03WWW", b"\x07example");
-    assert!(rt; flat.starts_with(&relative_chain) && !flat.ends_with(&relative_chain));
-    assert!(rt; relative(&rt, b"\x03www\x07EXAMPLE").name_eq(&relative_chain));
+    assert!(rt; begins(&flat, &twin, &relative_chain));
     let scattered = parsed(&rt, SCATTERED, 15);
     let chain = joined(&rt, b"\x03www", parsed(&rt, SCATTERED, 5));
-    assert!(rt; scattered.name_eq(&chain) && scattered.name_cmp(&chain) == Ordering::Equal);
+    assert!(rt; is_in_message(&scattered, &chain));
 }
 
 #[test]

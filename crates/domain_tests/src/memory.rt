@@ -93,19 +93,25 @@ fn relative_names_are_made_or_refused(rt: HostRuntime) {
     assert!(rt; refusals.count <= 1);
 }
 
+/// Makes names of `www.com` of any kind.
+fn makes_of_relative<'a, N: RelativeLabels<'a>>(
+    rt: &impl Abort,
+    alloc: Global,
+    refusals: &mut Refusals,
+    name: &'a N,
+) {
+    let wanted = b"\x03www\x03com";
+    refusals.look(rt, relative_octets_of(name.to_cow(alloc)), wanted);
+    let made: Result<RelativeName<Vec<u8>>, ShortBuf> = name.to_relative_name(alloc);
+    refusals.look(rt, relative_octets_of(made), wanted);
+}
+
 #[test]
 fn relative_chains_are_made_or_refused(rt: HostRuntime) {
-    let alloc = rt.alloc();
     let mut refusals = Refusals { count: 0 };
     for _time in 0..2u8 {
         let chain = relative_joined(&rt, b"\x03www", b"\x03com");
-        refusals.look(
-            &rt,
-            relative_octets_of(chain.to_cow(alloc)),
-            b"\x03www\x03com",
-        );
-        let made: Result<RelativeName<Vec<u8>>, ShortBuf> = chain.to_relative_name(alloc);
-        refusals.look(&rt, relative_octets_of(made), b"\x03www\x03com");
+        makes_of_relative(&rt, rt.alloc(), &mut refusals, &chain);
     }
     assert!(rt; refusals.count <= 1);
 }

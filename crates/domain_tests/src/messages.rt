@@ -1,9 +1,7 @@
 //! Worked and hostile messages, read and skipped at every place.
 
 use crate::names::SCATTERED;
-use crate::slow_reader::{
-    agrees_at_every_place, agrees_at_every_place_and_end, agrees_with_limits,
-};
+use crate::slow_reader::{agrees_at_every_place_and_end, agrees_with_limits};
 use std::alloc::Global;
 use std::process::Abort;
 
@@ -30,6 +28,11 @@ fn short_messages(rt: HostRuntime) {
         b"\x03www\x07example",
         b"\x03www\x07example\xbffoo",
         b"\x40a\x80\0",
+        // Pointers that run through labels again and again until the name is too long.
+        b"\x01a\x01b\xc0\x00",
+        b"\x04\x01a\xc0\x01\xc0\x01",
+        // A message with a question and an answer, whose name is that of the question.
+        b"\x12\x34\x81\x80\0\x01\0\x01\0\0\0\0\x01a\0\0\x01\0\x01\xc0\x0c\0\x01\0\x01\0\0\x0e\x10\0\x04\xc0\0\x02\x01",
     ] {
         agrees_at_every_place_and_end(&rt, rt.alloc(), message);
         agrees_with_limits(&rt, rt.alloc(), message, &[0, 1, 2, 126, 127, 255]);
@@ -60,8 +63,13 @@ fn repeated(
 
 #[test]
 fn octets_past_the_end_do_not_count(rt: HostRuntime) {
-    let message = repeated(&rt, rt.alloc(), b"\x3fab\xc0\0", 95, b"x", b"");
-    agrees_at_every_place_and_end(&rt, rt.alloc(), &message);
+    for (front, times, octets) in [
+        (b"\x3fab\xc0\0".as_slice(), 95, b"x".as_slice()),
+        (SCATTERED, 100, b"\xff"),
+    ] {
+        let message = repeated(&rt, rt.alloc(), front, times, octets, b"");
+        agrees_at_every_place_and_end(&rt, rt.alloc(), &message);
+    }
 }
 
 #[test]
@@ -78,7 +86,7 @@ fn names_about_as_long_as_allowed(rt: HostRuntime) {
         (b"", 126, b"\x01a", b"\x02aa\0"),
     ] {
         let message = repeated(&rt, alloc, front, times, octets, behind);
-        agrees_at_every_place(&rt, alloc, &message);
+        agrees_at_every_place_and_end(&rt, alloc, &message);
     }
 }
 
@@ -96,11 +104,11 @@ fn pointer_chain(rt: &impl Abort, alloc: Global, pointers: u8) -> Vec<u8> {
 #[test]
 fn at_most_255_pointers(rt: HostRuntime) {
     let alloc = rt.alloc();
-    agrees_at_every_place(&rt, alloc, &pointer_chain(&rt, alloc, 255));
+    agrees_at_every_place_and_end(&rt, alloc, &pointer_chain(&rt, alloc, 255));
     let mut octets = pointer_chain(&rt, alloc, 253);
     put(&rt, &mut octets, 127, b"\x01a");
     put(&rt, &mut octets, 1, b"\xc1\xfb");
-    agrees_at_every_place(&rt, alloc, &octets);
+    agrees_at_every_place_and_end(&rt, alloc, &octets);
 }
 
 #[test]

@@ -257,14 +257,6 @@ pub fn agrees_at_every_place_and_end<R: Abort>(rt: &R, alloc: Global, octets: &[
     }
 }
 
-/// Every place, with the parser's end at the end of the octets.
-pub fn agrees_at_every_place<R: Abort>(rt: &R, alloc: Global, octets: &[u8]) {
-    for place in 0..octets.len() + 1 {
-        agrees_to_parse(rt, alloc, octets, place, octets.len());
-        agrees_to_skip(rt, octets, place, octets.len());
-    }
-}
-
 /// Every place, with each of these limits.
 pub fn agrees_with_limits<R: Abort>(rt: &R, alloc: Global, octets: &[u8], limits: &[u8]) {
     for place in 0..octets.len() + 1 {
