@@ -124,7 +124,7 @@ fn end_plain(octets: &mut [u8; 255], text: &[u8]) -> Result<Ends, Fault>
     for i in 0..text.len() {
         if text[i] == b'.' {
             if i == head {
-                return Err(Fault::EmptyLabel);
+                return Err(Fault::EmptyLabel); // No label stands before this dot.
             }
             if i - head > 63 {
                 return Err(Fault::LongLabel);
