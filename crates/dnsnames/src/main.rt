@@ -6,7 +6,7 @@
 mod words;
 
 use crate::words::Words;
-use domain::tool;
+use domain_tool::tool;
 use std::env;
 use std::io::ErrorKind;
 use std::process::ExitCode;

@@ -1,10 +1,4 @@
-pub mod Engines
-pub mod Lines
-pub mod NameFaults
-pub mod Entries
-pub mod Written
-pub mod Counted
-pub mod WireText
-pub mod Numerals
-pub mod WordParts
-pub mod Words
+pub use Rattle.domain_tool.specs.Engines
+pub use Rattle.domain_tool.specs.Lines
+pub use Rattle.domain_tool.specs.Words
+pub use Rattle.domain_tool.specs.WireText

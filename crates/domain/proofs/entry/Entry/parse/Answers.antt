@@ -1,5 +1,0 @@
-use Rattle.domain.proofs.Entries.{line_of_question}
-use Rattle.domain.proofs.entry.Entry.parse.Goals as goal
-
-pub returns-in-Ok-clause-ok : goal.returns-in-Ok-clause-ok
-returns-in-Ok-clause-ok c = line_of_question _ _ _ _ _ c.in-Question.is c.in-Ok.ensures.ok

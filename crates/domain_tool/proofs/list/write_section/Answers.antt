@@ -1,0 +1,21 @@
+use Rattle.std.proofs.Common.{rules, subst}
+use Rattle.std.specs.Io.KnownBytes.{append_known}
+use Rattle.octseq.specs.Parsing.{place}
+use Rattle.domain_tool.specs.Written.{WritesEntry}
+use Rattle.domain_tool.proofs.Entries.{same_message, moves_on}
+use Rattle.domain_tool.proofs.Listing.{writes_none, writes_next, writes_up_to}
+use Rattle.domain_tool.proofs.list.write_section.Goals as goal
+
+pub loop-entry-init : goal.loop-entry-init
+loop-entry-init g c = (writes_none _ _ _, search rules)
+
+pub loop-entry-preserved : goal.loop-entry-preserved
+loop-entry-preserved g c =
+    let before = c.loop-entry.invariant in
+    let same = same_message _ _ _ before.1 in
+    let one = c.in_default.ensures.written in
+    (writes_next _ _ c.loop-entry._entry _ _ _ _ _ _ before.0 (subst (λ m. WritesEntry m c.args.section (place c.loop-entry.parser) (place c.write_entry.new.parser) (append_known (g.W.Write.contents c.loop-entry.output) c.loop-entry.lines.items) (append_known (g.W.Write.contents c.write_entry.new.output) c.write_entry.new.lines.items)) same one), moves_on _ _ _ _ _ before.1 c.in_default.ensures.moves)
+
+pub returns-in-Err-clause-refused : goal.returns-in-Err-clause-refused
+returns-in-Err-clause-refused g c =
+    writes_up_to _ _ _ _ _ _ _ _ _ _ c.in-Err.e c.loop-entry.invariant.0 c.loop-entry-test.true (same_message _ _ _ c.loop-entry.invariant.1) c.in-Err.ensures.refused c.in-Err.ensures.nothing_written

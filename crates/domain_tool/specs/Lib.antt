@@ -1,0 +1,10 @@
+pub mod Engines
+pub mod Lines
+pub mod NameFaults
+pub mod Entries
+pub mod Written
+pub mod Counted
+pub mod WireText
+pub mod Numerals
+pub mod WordParts
+pub mod Words

@@ -1,0 +1,45 @@
+-- What `name_text` writes, and when it refuses.
+use Rattle.std.specs.Prelude.{ℕ, ◌/◌, ◌%◌, List, [], ◌∷◌, ◌++◌, Option, Result, Ok, Err, ⊤}
+use Rattle.std.specs.Io.KnownBytes.{Appends}
+use Rattle.std.specs.List.{flat_map}
+use Rattle.domain_label.specs.Hex.{hex_digit}
+use Rattle.domain_label.specs.Wire.{wire}
+use Rattle.domain_builder.specs.TextGrammar.{SpellsName, SpellsNoName}
+use Rattle.domain_builder.specs.Told.{MatchFromStr}
+use Rattle.domain_builder.specs.declared.error.FromStrError.{FromStrError}
+use Rattle.domain_tool.specs.declared.tool.ToolError.{ToolError}
+use Rattle.domain_tool.specs.declared.tool.ToolError.TheVariants.{Parse, Text, Read, Write, Memory}
+
+-- an octet in two lower case digits, the high one first
+abbrev pub octet_digits : ℕ → List ℕ
+octet_digits n = hex_digit (n / 16) ∷ hex_digit (n % 16) ∷ []
+
+abbrev pub hexadecimal : List ℕ → List ℕ
+hexadecimal octets = flat_map octet_digits octets
+
+-- The characters are the text of a name (RFC 1035, 5.1). Its wire form was written in hexadecimal
+-- digits, with a newline, and nothing else.
+abbrev pub WritesWireOf : List ℕ → Option (List ℕ) → Option (List ℕ) → Type 0
+WritesWireOf cs old new = (ls : List (List ℕ)) × SpellsName cs ls × Appends old new (hexadecimal (wire ls) ++ 10 ∷ [])
+
+-- The characters are the text of no name, and the error tells their first fault.
+abbrev pub HasTextFault : List ℕ → FromStrError → Type 0
+HasTextFault cs e = MatchFromStr e (SpellsNoName cs) ⊥
+
+-- The text was refused, and P holds of the reason; or the output couldn't be written. Nothing else fails.
+abbrev pub IfTextRefused : Result (Unit {0}) ToolError → (FromStrError → Type 0) → Type 0
+IfTextRefused (Ok done) P = ⊤
+IfTextRefused (Err (Parse e)) P = ⊥
+IfTextRefused (Err (Text e)) P = P e
+IfTextRefused (Err Read) P = ⊥
+IfTextRefused (Err Write) P = ⊤
+IfTextRefused (Err Memory) P = ⊥
+
+-- The text was refused for this reason.
+abbrev pub RefusesText : Result (Unit {0}) ToolError → (FromStrError → Type 0) → Type 0
+RefusesText (Ok done) P = ⊥
+RefusesText (Err (Parse e)) P = ⊥
+RefusesText (Err (Text e)) P = P e
+RefusesText (Err Read) P = ⊥
+RefusesText (Err Write) P = ⊥
+RefusesText (Err Memory) P = ⊥

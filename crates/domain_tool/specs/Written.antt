@@ -1,0 +1,22 @@
+-- What was written of a message's lines.
+use Rattle.std.specs.Prelude.{ℕ, ◌<◌, List, [], ◌∷◌, ◌++◌, replicate, Option}
+use Rattle.std.specs.Io.KnownBytes.{Appends}
+use Rattle.domain_wire.specs.declared.error.ParseError.{ParseError}
+use Rattle.domain_tool.specs.declared.section.Section.{Section}
+use Rattle.domain_tool.specs.Lines.{IsLineOf, Lists, NoEntry}
+
+-- The entry of this section that stands from p to e was written as its line.
+abbrev pub WritesEntry : List ℕ → Section → ℕ → ℕ → Option (List ℕ) → Option (List ℕ) → Type 0
+WritesEntry m s p e old new = (line : List ℕ) × IsLineOf m s p line e × Appends old new (line ++ 10 ∷ [])
+
+-- The entries of these sections that stand from p to e were written as their lines.
+abbrev pub WritesEntries : List ℕ → List Section → ℕ → ℕ → Option (List ℕ) → Option (List ℕ) → Type 0
+WritesEntries m ss p e old new = (text : List ℕ) × Lists m ss p text e × Appends old new text
+
+-- The first of n entries of a section were written, and then one isn't there.
+pub record WritesUpTo (m : List ℕ) (s : Section) (n p : ℕ) (old new : Option (List ℕ)) (why : ParseError) : Type 0 where
+  pub before : ℕ
+  pub few : before < n
+  pub place : ℕ
+  pub written : WritesEntries m (replicate before s) p place old new
+  pub missing : NoEntry m s place why

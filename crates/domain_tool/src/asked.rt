@@ -1,0 +1,99 @@
+//! What the words behind the program's name ask for.
+ghost use Rattle.std.specs.Prelude.{◌≡◌, ℕ, map, slice_index, ◌↔◌, IsTrue, IsNone, IfSome};
+ghost use Rattle.domain_tool.specs.WordParts.{AsksWithin};
+ghost use Rattle.domain_tool.specs.Numerals.{TellsPlace, TellsPointers};
+
+/// What words ask for.
+#[derive(Clone, Copy)]
+pub(crate) enum Asked<'a> {
+    /// The name at a place of the message, through at most so many pointers.
+    At(u32, u8),
+    /// The wire form of the name that a text spells.
+    Text(&'a str),
+    /// The lines of the message.
+    List,
+}
+
+impl<'a> Asked<'a> {
+    ghost use Rattle.domain_tool.specs.Words.{Asks, AsksPlainly, AsksSomething};
+    ghost use Rattle.domain_tool.specs.declared.asked.Asked.{Asked};
+
+    /// What the words ask for, if it is one of these.
+    pub(crate) fn by(words: &[&'a str]) -> Option<Asked<'a>>
+        ensures some { IfSome result (λ asked. Asks (map (λ word. word.now) words.now) asked) }
+        ensures none { IsNone result → AsksSomething (map (λ word. word.now) words.now) → ⊥ }
+    {
+        match limited(words) {
+            Some((place, pointers)) => Some(Asked::At(place, pointers)),
+            None => Asked::plainly(words),
+        }
+    }
+
+    /// The same of words that limit no pointers.
+    fn plainly(words: &[&'a str]) -> Option<Asked<'a>>
+        ensures some { IfSome result (λ asked. AsksPlainly (map (λ word. word.now) words.now) asked) }
+        ensures none { IsNone result → (asked : Asked) → AsksPlainly (map (λ word. word.now) words.now) asked → ⊥ }
+    {
+        match words {
+            ["at", word] => match place_of(word) {
+                Some(place) => Some(Asked::At(place, u8::MAX)),
+                None => None,
+            },
+            ["text", text] => Some(Asked::Text(text)),
+            ["list"] => Some(Asked::List),
+            _ => None,
+        }
+    }
+}
+
+/// The place of the name that words ask for, and how many pointers it may have at most, where they tell
+/// both.
+fn limited(words: &[&str]) -> Option<(u32, u8)>
+    ensures some { IfSome result (λ asked. AsksWithin (map (λ word. word.now) words.now) asked.0 asked.1) }
+    ensures none { IsNone result → (place : ℕ) → (pointers : ℕ) → AsksWithin (map (λ word. word.now) words.now) place pointers → ⊥ }
+{
+    match words {
+        ["at", word, "--pointers", limit] => match place_of(word) {
+            Some(place) => match pointers_of(limit) {
+                Some(pointers) => Some((place, pointers)),
+                None => None,
+            },
+            None => None,
+        },
+        _ => None,
+    }
+}
+
+/// The place that a word tells: one to ten decimal digits, at most 4,294,967,295.
+fn place_of(word: &str) -> Option<u32>
+    ensures some { IfSome result (λ place. TellsPlace word.now place) }
+    ensures none { IsNone result → (place : ℕ) → TellsPlace word.now place → ⊥ }
+{
+    let word_octets = word.as_bytes();
+    if word_octets.len() > 10 || begins_with_plus(word_octets) {
+        return None;
+    }
+    word.parse().ok()
+}
+
+/// The number of pointers that a word tells: one to three decimal digits, at most 255.
+fn pointers_of(word: &str) -> Option<u8>
+    ensures some { IfSome result (λ pointers. TellsPointers word.now pointers) }
+    ensures none { IsNone result → (pointers : ℕ) → TellsPointers word.now pointers → ⊥ }
+{
+    let word_octets = word.as_bytes();
+    if word_octets.len() > 3 || begins_with_plus(word_octets) {
+        return None;
+    }
+    word.parse().ok()
+}
+
+/// Whether the first octet is a plus sign, which a number may have before it elsewhere.
+fn begins_with_plus(octets: &[u8]) -> bool
+    ensures { IsTrue result ↔ (slice_index octets.now 0 ≡ 43) }
+{
+    match octets {
+        [first, ..] => *first == b'+',
+        [] => false,
+    }
+}

@@ -1,0 +1,207 @@
+//! Entries of a message (RFC 1035, 4.1).
+ghost use Rattle.std.specs.Prelude.{◌≡◌, ◌++◌, ◌∷◌, Some, IfOk, IfErr, OnOk};
+ghost use Rattle.std.specs.Fmt.{decimal};
+ghost use Rattle.octseq.specs.Parsing.{message, place, MovesTo};
+
+use crate::section::Section;
+use domain_list::dotted::DisplayWithDot;
+use domain_parsed::ParsedName;
+use domain_rdata::{Rtype, UnknownRecordData};
+use domain_wire::error::ParseError;
+use octseq::Parser;
+use std::fmt;
+
+/// A question: a name, a type and a class (RFC 1035, 4.1.2).
+#[derive(Clone, Copy)]
+pub(crate) struct Question<'a> {
+    name: ParsedName<&'a [u8]>,
+    rtype: Rtype,
+    class: u16,
+}
+
+impl<'a> Question<'a> {
+    ghost use Rattle.domain_tool.specs.Entries.{question_line};
+    ghost use Rattle.domain_tool.specs.Lines.{IsQuestion, NoQuestion};
+
+    /// Reads a question, and moves the parser behind it.
+    pub(crate) fn parse(parser: &mut Parser<'a>) -> Result<Question<'a>, ParseError>
+        ensures ok { IfOk result (λ it. IsQuestion (message parser.old) (place parser.old) (question_line it) (place parser.new)) }
+        ensures moves { OnOk result (MovesTo parser.old parser.new (place parser.new)) }
+        ensures refused { IfErr result (λ e. NoQuestion (message parser.old) (place parser.old) e) }
+    {
+        let name = match ParsedName::parse(parser) {
+            Ok(name) => name,
+            Err(e) => return Err(e),
+        };
+        let rtype = match parser.parse_u16_be() {
+            Ok(rtype) => rtype,
+            Err(e) => return Err(ParseError::from(e)),
+        };
+        let class = match parser.parse_u16_be() {
+            Ok(class) => class,
+            Err(e) => return Err(ParseError::from(e)),
+        };
+        Ok(Question {
+            name,
+            rtype: Rtype::from_int(rtype),
+            class,
+        })
+    }
+}
+
+/// The name with a final dot, the type and the class, a space before each.
+impl<'a> fmt::Display for Question<'a> {
+    ghost use Rattle.domain_tool.specs.Entries.{question_line};
+
+    ghost output = { λ it. Some (question_line it) };
+
+    fn fmt<W: fmt::Write>(&self, f: &mut fmt::Formatter<W>) -> fmt::Result {
+        let name = DisplayWithDot::new(&self.name);
+        let rtype = self.rtype.to_int();
+        let class = self.class;
+        write!(f, " {name} {rtype} {class}")
+    }
+}
+
+/// What stands before the data of a record (RFC 1035, 4.1.3).
+#[derive(Clone, Copy)]
+struct RecordHead<'a> {
+    name: ParsedName<&'a [u8]>,
+    rtype: u16,
+    class: u16,
+    time_to_live: u32,
+    len: u16,
+}
+
+impl<'a> RecordHead<'a> {
+    ghost use Rattle.domain_tool.specs.Entries.{IsRecordHead};
+    ghost use Rattle.domain_tool.specs.Lines.{NoRecord};
+
+    /// Reads what stands before the data, and moves the parser to the data.
+    fn parse(parser: &mut Parser<'a>) -> Result<RecordHead<'a>, ParseError>
+        ensures ok { IfOk result (λ it. IsRecordHead (message parser.old) (place parser.old) it (place parser.new)) }
+        ensures moves { OnOk result (MovesTo parser.old parser.new (place parser.new)) }
+        ensures refused { IfErr result (λ e. NoRecord (message parser.old) (place parser.old) e) }
+    {
+        let name = match ParsedName::parse(parser) {
+            Ok(name) => name,
+            Err(e) => return Err(e),
+        };
+        let rtype = match parser.parse_u16_be() {
+            Ok(rtype) => rtype,
+            Err(e) => return Err(ParseError::from(e)),
+        };
+        let class = match parser.parse_u16_be() {
+            Ok(class) => class,
+            Err(e) => return Err(ParseError::from(e)),
+        };
+        let time_to_live = match parser.parse_u32_be() {
+            Ok(seconds) => seconds,
+            Err(e) => return Err(ParseError::from(e)),
+        };
+        let len = match parser.parse_u16_be() {
+            Ok(len) => len,
+            Err(e) => return Err(ParseError::from(e)),
+        };
+        Ok(RecordHead {
+            name,
+            rtype,
+            class,
+            time_to_live,
+            len,
+        })
+    }
+}
+
+/// A record (RFC 1035, 4.1.3).
+#[derive(Clone, Copy)]
+pub(crate) struct Record<'a> {
+    head: RecordHead<'a>,
+    data: UnknownRecordData<&'a [u8]>,
+}
+
+impl<'a> Record<'a> {
+    ghost use Rattle.domain_tool.specs.Entries.{record_line};
+    ghost use Rattle.domain_tool.specs.Lines.{IsRecord, NoRecord};
+
+    /// Reads a record, and moves the parser behind it.
+    pub(crate) fn parse(parser: &mut Parser<'a>) -> Result<Record<'a>, ParseError>
+        ensures ok { IfOk result (λ it. IsRecord (message parser.old) (place parser.old) (record_line it) (place parser.new)) }
+        ensures moves { OnOk result (MovesTo parser.old parser.new (place parser.new)) }
+        ensures refused { IfErr result (λ e. NoRecord (message parser.old) (place parser.old) e) }
+    {
+        let head = match RecordHead::parse(parser) {
+            Ok(head) => head,
+            Err(e) => return Err(e),
+        };
+        let octets = match parser.parse_octets(usize::from(head.len)) {
+            Ok(octets) => octets,
+            Err(e) => return Err(ParseError::from(e)),
+        };
+        let Ok(data) = UnknownRecordData::from_octets(Rtype::from_int(head.rtype), octets) else {
+            unreachable!();
+        };
+        Ok(Record { head, data })
+    }
+}
+
+/// The name with a final dot, the type, the class, the time to live and the data, a space before each.
+impl<'a> fmt::Display for Record<'a> {
+    ghost use Rattle.domain_tool.specs.Entries.{record_line};
+
+    ghost output = { λ it. Some (record_line it) };
+
+    fn fmt<W: fmt::Write>(&self, f: &mut fmt::Formatter<W>) -> fmt::Result {
+        let name = DisplayWithDot::new(&self.head.name);
+        let rtype = self.head.rtype;
+        let class = self.head.class;
+        let time_to_live = self.head.time_to_live;
+        write!(f, " {name} {rtype} {class} {time_to_live} {}", self.data)
+    }
+}
+
+/// An entry of a section.
+#[derive(Clone, Copy)]
+pub(crate) enum Entry<'a> {
+    Question(Question<'a>),
+    Record(Section, Record<'a>),
+}
+
+impl<'a> Entry<'a> {
+    ghost use Rattle.domain_tool.specs.Entries.{entry_line};
+    ghost use Rattle.domain_tool.specs.Lines.{IsLineOf, NoEntry};
+
+    /// Reads an entry of this section, and moves the parser behind it.
+    pub(crate) fn parse(section: Section, parser: &mut Parser<'a>) -> Result<Entry<'a>, ParseError>
+        ensures ok { IfOk result (λ it. IsLineOf (message parser.old) section (place parser.old) (entry_line it) (place parser.new)) }
+        ensures moves { OnOk result (MovesTo parser.old parser.new (place parser.new)) }
+        ensures refused { IfErr result (λ e. NoEntry (message parser.old) section (place parser.old) e) }
+    {
+        match section {
+            Section::Question => match Question::parse(parser) {
+                Ok(question) => Ok(Entry::Question(question)),
+                Err(e) => Err(e),
+            },
+            Section::Answer | Section::Authority | Section::Additional => {
+                match Record::parse(parser) {
+                    Ok(record) => Ok(Entry::Record(section, record)),
+                    Err(e) => Err(e),
+                }
+            }
+        }
+    }
+}
+
+/// The word of the section and the entry.
+impl<'a> fmt::Display for Entry<'a> {
+    ghost use Rattle.domain_tool.specs.Entries.{entry_line};
+
+    ghost output = { λ it. Some (entry_line it) };
+
+    fn fmt<W: fmt::Write>(&self, f: &mut fmt::Formatter<W>) -> fmt::Result {
+        match self {
+            Entry::Question(question) => write!(f, "question{question}"),
+            Entry::Record(section, record) => write!(f, "{section}{record}"),
+        }
+    }
+}

@@ -1,0 +1,11 @@
+//! The engines of the program dnsnames: names, texts and messages from a reader to a writer.
+#![tactic(auto)]
+
+mod asked;
+mod buffer;
+mod entry;
+mod line;
+mod list;
+pub mod section;
+mod text;
+pub mod tool;

@@ -1,0 +1,166 @@
+//! The engine that lists what a message holds.
+ghost use Rattle.std.specs.Prelude.{◌≡◌, ◌<◌, ◌≤◌, ℕ, List, length, replicate, OnOk, OnErr, IfOk, IfErr, IfSome};
+ghost use Rattle.std.specs.Io.KnownBytes.{Appends, Keeps, IsAtEnd, append_known};
+ghost use Rattle.octseq.specs.Parsing.{message, place, MovesTo};
+ghost use Rattle.domain_tool.specs.Engines.{IfRefused, OnAnswer, OnNoWork};
+ghost use Rattle.domain_tool.specs.Lines.{IsListing, NoEntry, StopsListing};
+ghost use Rattle.domain_tool.specs.Written.{WritesEntry, WritesEntries, WritesUpTo};
+
+use crate::buffer::{put_line, write_lines};
+use crate::entry::Entry;
+use crate::section::Section;
+use crate::tool::{ToolError, read_all};
+use domain_wire::error::ParseError;
+use octseq::{Parser, ShortInput};
+use std::alloc::Global;
+use std::io::{Read, Write};
+
+/// Writes the line of the entry at the parser's place behind the lines that aren't written yet, and moves
+/// the parser behind it.
+fn write_entry<W: Write>(
+    section: Section,
+    parser: &mut Parser<'_>,
+    lines: &mut Vec<u8>,
+    output: &mut W,
+) -> Result<(), ToolError>
+    ensures written { OnOk result (WritesEntry (message parser.old) section (place parser.old) (place parser.new) (append_known (W.contents output.old) lines.old.items) (append_known (W.contents output.new) lines.new.items)) }
+    ensures moves { OnOk result (MovesTo parser.old parser.new (place parser.new)) }
+    ensures refused { IfRefused result (λ e. NoEntry (message parser.old) section (place parser.old) e) }
+    ensures nothing_written { IfRefused result (λ _. Keeps (append_known (W.contents output.old) lines.old.items) (append_known (W.contents output.new) lines.new.items)) }
+    ensures err { IfErr result (λ e. (e ≡ ToolError.Read) → ⊥) }
+{
+    let entry = match Entry::parse(section, parser) {
+        Ok(entry) => entry,
+        Err(e) => return Err(ToolError::Parse(e)),
+    };
+    put_line(lines, output, entry)?;
+    Ok(())
+}
+
+/// Writes the lines of so many entries of a section, and moves the parser behind them.
+fn write_section<W: Write>(
+    section: Section,
+    count: u16,
+    parser: &mut Parser<'_>,
+    lines: &mut Vec<u8>,
+    output: &mut W,
+) -> Result<(), ToolError>
+    ensures written { OnOk result (WritesEntries (message parser.old) (replicate count section) (place parser.old) (place parser.new) (append_known (W.contents output.old) lines.old.items) (append_known (W.contents output.new) lines.new.items)) }
+    ensures moves { OnOk result (MovesTo parser.old parser.new (place parser.new)) }
+    ensures refused { IfRefused result (λ e. WritesUpTo (message parser.old) section count (place parser.old) (append_known (W.contents output.old) lines.old.items) (append_known (W.contents output.new) lines.new.items) e) }
+    ensures err { IfErr result (λ e. (e ≡ ToolError.Read) → ⊥) }
+{
+    for _entry in 0..count {
+        if let Err(e) = write_entry(section, parser, lines, output) {
+            return Err(e);
+        }
+    }
+    Ok(())
+}
+
+/// How many entries each section has.
+#[derive(Clone, Copy)]
+struct Counts {
+    questions: u16,
+    answers: u16,
+    authority: u16,
+    additional: u16,
+}
+
+impl Counts {
+    ghost use Rattle.domain_tool.specs.Counted.{IsCounted};
+
+    /// Reads the header of a message, and moves the parser behind its 12 octets (RFC 1035, 4.1.1).
+    fn parse(parser: &mut Parser<'_>) -> Result<Counts, ShortInput>
+        requires { place parser.old ≡ 0 }
+        ensures ok { IfOk result (λ counts. IsCounted (message parser.old) counts) }
+        ensures moves { OnOk result (MovesTo parser.old parser.new 12) }
+        ensures short { OnErr result (length (message parser.old) < 12) }
+    {
+        parser.advance(4)?;
+        Ok(Counts {
+            questions: parser.parse_u16_be()?,
+            answers: parser.parse_u16_be()?,
+            authority: parser.parse_u16_be()?,
+            additional: parser.parse_u16_be()?,
+        })
+    }
+}
+
+/// Writes the lines of the message behind the lines that aren't written yet.
+fn list_message<W: Write>(
+    message: &[u8],
+    lines: &mut Vec<u8>,
+    output: &mut W,
+) -> Result<(), ToolError>
+    ensures written { OnOk result ((text : List ℕ) × IsListing message.now text × Appends (append_known (W.contents output.old) lines.old.items) (append_known (W.contents output.new) lines.new.items) text) }
+    ensures refused { IfRefused result (λ e. (text : List ℕ) × StopsListing message.now text e × Appends (append_known (W.contents output.old) lines.old.items) (append_known (W.contents output.new) lines.new.items) text) }
+    ensures err { IfErr result (λ e. (e ≡ ToolError.Read) → ⊥) }
+{
+    let mut parser = Parser::from_ref(message);
+    let counts = match Counts::parse(&mut parser) {
+        Ok(counts) => counts,
+        Err(e) => return Err(ToolError::Parse(ParseError::from(e))),
+    };
+    if let Err(e) = write_section(
+        Section::Question,
+        counts.questions,
+        &mut parser,
+        lines,
+        output,
+    ) {
+        return Err(e);
+    }
+    if let Err(e) = write_section(Section::Answer, counts.answers, &mut parser, lines, output) {
+        return Err(e);
+    }
+    if let Err(e) = write_section(
+        Section::Authority,
+        counts.authority,
+        &mut parser,
+        lines,
+        output,
+    ) {
+        return Err(e);
+    }
+    write_section(
+        Section::Additional,
+        counts.additional,
+        &mut parser,
+        lines,
+        output,
+    )
+}
+
+/// Reads the input to its end, and writes a line for each question and record of the message.
+///
+/// The counts of the header say how many entries each section has (RFC 1035, 4.1.1); octets behind the
+/// last one are ignored. A line has the word of the section (`question`, `answer`, `authority`,
+/// `additional`), the name with a final dot, type and class, and for a record its time to live and its
+/// data in the generic text of RFC 3597. `Parse` where the header or an entry isn't there, with the fault
+/// of its name, else `ShortInput`; the lines of the entries before it are written then. `Read` where the
+/// input couldn't be read; nothing is written then.
+pub fn list<R: Read, W: Write>(
+    alloc: Global,
+    input: &mut R,
+    output: &mut W,
+) -> Result<(), ToolError>
+    ensures whole { OnAnswer result (IsAtEnd (R.remaining input.new)) }
+    ensures written { OnOk result (IfSome (R.remaining input.old) (λ m. (text : List ℕ) × IsListing m text × Appends (W.contents output.old) (W.contents output.new) text)) }
+    ensures refused { IfRefused result (λ e. IfSome (R.remaining input.old) (λ m. (text : List ℕ) × StopsListing m text e × Appends (W.contents output.old) (W.contents output.new) text)) }
+    ensures nothing_written { IfErr result (λ e. (e ≡ ToolError.Read) → Keeps (W.contents output.old) (W.contents output.new)) }
+{
+    let octets = read_all(alloc, input)?;
+    let mut lines = Vec::new(alloc);
+    match list_message(octets.as_slice(), &mut lines, output) {
+        Ok(()) => {
+            write_lines(&mut lines, output)?;
+            Ok(())
+        }
+        Err(ToolError::Parse(e)) => {
+            write_lines(&mut lines, output)?;
+            Err(ToolError::Parse(e))
+        }
+        Err(e) => Err(e),
+    }
+}

@@ -1,0 +1,226 @@
+//! The engines of the program `dnsnames`, over any reader and writer.
+ghost use Rattle.std.specs.Prelude.{◌≡◌, ◌≤◌, ◌∷◌, ◌++◌, ◌↔◌, [], map, ◌⊎◌, OnOk, IfOk, IfErr, IfSome};
+ghost use Rattle.std.specs.Io.KnownBytes.{Appends, Keeps, IsAtEnd};
+ghost use Rattle.domain_reading.specs.Grammar.{Names};
+ghost use Rattle.domain_parsed.specs.Views.{parsed_labels};
+ghost use Rattle.domain_tool.specs.Engines.{IfRefused, NoNameAt, NoNameWithin, OnAnswer, OnNoWork, WritesNameAt, WritesNameWithin};
+ghost use Rattle.domain_tool.specs.Words.{Asks, AsksSomething, OnRefusal, Refuses, Writes};
+ghost use Rattle.domain_tool.specs.declared.asked.Asked.{Asked};
+
+use crate::asked::Asked;
+use crate::line::line_of;
+pub use crate::list::list;
+pub use crate::text::name_text;
+use domain_builder::FromStrError;
+use domain_list::dotted::DisplayWithDot;
+use domain_parsed::ParsedName;
+use domain_wire::error::ParseError;
+use octseq::Parser;
+use std::alloc::Global;
+use std::error::Error;
+use std::io::{ErrorKind, Read, Write};
+use std::{fmt, io};
+
+/// Why an engine didn't do its work.
+#[derive(Clone, Copy, Debug, PartialEq, Eq)]
+pub enum ToolError {
+    /// The input isn't what is asked for.
+    Parse(ParseError),
+    /// The text is that of no name.
+    Text(FromStrError),
+    /// The input couldn't be read.
+    Read,
+    /// The output couldn't be written. How much of it was written isn't known.
+    Write,
+    /// There was no memory.
+    Memory,
+}
+
+impl fmt::Display for ToolError {
+    ghost use Rattle.std.specs.Prelude.{Some};
+    ghost use Rattle.domain_tool.specs.Engines.{tool_error_text};
+
+    ghost output = { λ e. Some (tool_error_text e) };
+
+    fn fmt<W: fmt::Write>(&self, f: &mut fmt::Formatter<W>) -> fmt::Result {
+        match self {
+            ToolError::Parse(e) => write!(f, "{e}"),
+            ToolError::Text(e) => write!(f, "{e}"),
+            ToolError::Read => write!(f, "reading failed"),
+            ToolError::Write => write!(f, "writing failed"),
+            ToolError::Memory => write!(f, "out of memory"),
+        }
+    }
+}
+
+impl Error for ToolError {}
+
+/// Reads the input to its end.
+pub(crate) fn read_all<R: Read>(alloc: Global, input: &mut R) -> Result<Vec<u8>, ToolError>
+    ensures octets { IfOk result (λ octets. IfSome (R.remaining input.old) (λ m. octets.items ≡ m)) }
+    ensures whole { OnOk result (IsAtEnd (R.remaining input.new)) }
+    ensures err { IfErr result (λ e. (e ≡ ToolError.Read) ⊎ (e ≡ ToolError.Memory)) }
+{
+    let mut octets = Vec::new(alloc);
+    match input.read_to_end(&mut octets) {
+        Ok(_) => Ok(octets),
+        Err(e) if e.kind() == ErrorKind::OutOfMemory => Err(ToolError::Memory),
+        Err(_) => Err(ToolError::Read),
+    }
+}
+
+/// The name at a place of a message, through at most so many pointers. A place past the end is
+/// `ShortInput`.
+fn parse_at(message: &[u8], place: u32, limit: u8) -> Result<ParsedName<&[u8]>, ParseError>
+    ensures ok { IfOk result (λ name. Names limit message.now place (parsed_labels name)) }
+    ensures err { IfErr result (λ e. NoNameWithin limit message.now place e) }
+{
+    let mut parser = Parser::from_ref(message);
+    if parser.seek(place as usize).is_err() {
+        return Err(ParseError::ShortInput);
+    }
+    ParsedName::parse_with_limit(&mut parser, limit)
+}
+
+/// Why a text wasn't written.
+#[derive(Clone, Copy)]
+pub(crate) enum WriteFault {
+    Refused,
+    Memory,
+}
+
+impl From<io::Error> for WriteFault {
+    fn from(e: io::Error) -> WriteFault {
+        match e.kind() {
+            ErrorKind::OutOfMemory => WriteFault::Memory,
+            _ => WriteFault::Refused,
+        }
+    }
+}
+
+impl From<WriteFault> for ToolError {
+    ghost use Rattle.domain_tool.specs.declared.tool.ToolError.TheVariants.{Write as WriteFailed, Memory};
+
+    ghost from_gives = { λ _ e. (e ≡ WriteFailed) ⊎ (e ≡ Memory) };
+
+    fn from(fault: WriteFault) -> ToolError {
+        match fault {
+            WriteFault::Refused => ToolError::Write,
+            WriteFault::Memory => ToolError::Memory,
+        }
+    }
+}
+
+/// Writes a text and a newline. They are put together on the stack and written by one call, without any
+/// memory; a longer line is written piece by piece.
+pub(crate) fn write_line<D: fmt::Display + Drop, W: Write>(
+    output: &mut W,
+    text: D,
+) -> Result<(), WriteFault>
+    ensures { OnOk result (IfSome (D.output text) (λ shown. Appends (W.contents output.old) (W.contents output.new) (shown ++ 10 ∷ []))) }
+{
+    match line_of(&text) {
+        Some(line) => output.write_all(line.as_slice())?,
+        None => writeln!(output, "{text}")?,
+    }
+    Ok(())
+}
+
+/// Reads the input to its end, and writes the name at the place, with a final dot and a
+/// newline.
+///
+/// The name may have compression pointers (RFC 1035, 4.1.4). `Parse` where none is there, with the fault
+/// of `ParsedName::parse`; nothing is written then. A place past the input is `ShortInput`.
+pub fn name_at<R: Read, W: Write>(
+    alloc: Global,
+    input: &mut R,
+    output: &mut W,
+    place: u32,
+) -> Result<(), ToolError>
+    ensures whole { OnAnswer result (IsAtEnd (R.remaining input.new)) }
+    ensures written { OnOk result (IfSome (R.remaining input.old) (λ m. WritesNameAt m place (W.contents output.old) (W.contents output.new))) }
+    ensures refused { IfRefused result (λ e. IfSome (R.remaining input.old) (λ m. NoNameAt m place e)) }
+    ensures nothing_written { OnNoWork result (Keeps (W.contents output.old) (W.contents output.new)) }
+{
+    name_at_with_limit(alloc, input, output, place, u8::MAX)
+}
+
+/// The same as `name_at`, with at most `limit` pointers followed: one more is "too many compression
+/// pointers".
+pub fn name_at_with_limit<R: Read, W: Write>(
+    alloc: Global,
+    input: &mut R,
+    output: &mut W,
+    place: u32,
+    limit: u8,
+) -> Result<(), ToolError>
+    ensures whole { OnAnswer result (IsAtEnd (R.remaining input.new)) }
+    ensures written { OnOk result (IfSome (R.remaining input.old) (λ m. WritesNameWithin limit m place (W.contents output.old) (W.contents output.new))) }
+    ensures refused { IfRefused result (λ e. IfSome (R.remaining input.old) (λ m. NoNameWithin limit m place e)) }
+    ensures nothing_written { OnNoWork result (Keeps (W.contents output.old) (W.contents output.new)) }
+{
+    let octets = read_all(alloc, input)?;
+    let name = match parse_at(octets.as_slice(), place, limit) {
+        Ok(name) => name,
+        Err(e) => return Err(ToolError::Parse(e)),
+    };
+    write_line(output, DisplayWithDot::new(&name))?;
+    Ok(())
+}
+
+const USAGE: &str = "usage: dnsnames at PLACE [--pointers N] | dnsnames text NAME | dnsnames list";
+
+/// Does what is asked for, and flushes the output. Where this fails, `Write` is told, whatever came before.
+fn carry_out<R: Read, W: Write>(
+    alloc: Global,
+    asked: Asked<'_>,
+    input: &mut R,
+    output: &mut W,
+) -> Result<(), ToolError>
+    ensures done { OnOk result (Writes asked.entry (R.remaining input.old) (W.contents output.old) (W.contents output.new)) }
+    ensures refused { IfErr result (λ e. OnRefusal e (Refuses asked.entry (R.remaining input.old) (W.contents output.old) (W.contents output.new))) }
+{
+    let answer = match asked {
+        Asked::At(place, limit) => name_at_with_limit(alloc, input, output, place, limit),
+        Asked::Text(text) => name_text(alloc, text, output),
+        Asked::List => list(alloc, input, output),
+    };
+    match output.flush() {
+        Ok(()) => answer,
+        Err(_) => Err(ToolError::Write),
+    }
+}
+
+/// Carries out the words that follow the program's name, and flushes the output. The answer is the status
+/// to end with: 0 where it is done, 1 where the input or the text is refused, 2 for other words, 3 where
+/// reading, writing or memory failed. The reason is written to `errors`; that this fails changes no status.
+/// Where flushing fails, `writing failed` is the reason, whatever came before.
+///
+/// `at PLACE` is `name_at`, `at PLACE --pointers N` is `name_at_with_limit`, `text NAME` is `name_text`, and
+/// `list` is `list`.
+pub fn run<R: Read, W: Write, E: Write>(
+    alloc: Global,
+    words: &[&str],
+    input: &mut R,
+    output: &mut W,
+    errors: &mut E,
+) -> u8
+    ensures status { result ≤ 3 }
+    ensures done { result ≡ 0 → (asked : Asked) × Asks (map (λ word. word.now) words.now) asked × Writes asked (R.remaining input.old) (W.contents output.old) (W.contents output.new) }
+    ensures refused { result ≡ 1 → (asked : Asked) × Asks (map (λ word. word.now) words.now) asked × Refuses asked (R.remaining input.old) (W.contents output.old) (W.contents output.new) }
+    ensures usage { result ≡ 2 ↔ (AsksSomething (map (λ word. word.now) words.now) → ⊥) }
+    ensures untouched { result ≡ 2 → (input.new ≡ input.old) × (output.new ≡ output.old) }
+{
+    let Some(asked) = Asked::by(words) else {
+        let _ = write_line(errors, USAGE);
+        return 2;
+    };
+    let Err(e) = carry_out(alloc, asked, input, output) else {
+        return 0;
+    };
+    let _ = write_line(errors, e);
+    match e {
+        ToolError::Parse(_) | ToolError::Text(_) => 1,
+        ToolError::Read | ToolError::Write | ToolError::Memory => 3,
+    }
+}
