@@ -87,3 +87,9 @@ sliced_low a b m f g =
     let x = ap low (sliced_end a m f) in
     let y = ap low (sliced_end b m g) in
     (λ e. x ∙ (low_end a b m e ∙ sym y), λ e. sym x ∙ (e ∙ y))
+
+-- two parts that leave no gap
+pub same_both : (s t : Bool) (a b : List ℕ) (size last : ℕ) → length a ≡ length b → last ≤ length a → last ≤ size → (IsTrue s ↔ (low (take (length a - last) (drop last a)) ≡ low (take (length b - last) (drop last b)))) → (IsTrue t ↔ (low (take size a) ≡ low (take size b))) → IsTrue (s && t) ↔ (low a ≡ low b)
+same_both true true a b size last e f g h i = (λ x. low_covered a b last size g (i.0 refl) ((sliced_low a b last f (omega (arith, e, f))).1 (h.0 refl)), λ x. refl)
+same_both true false a b size last e f g h i = (λ x. absurd (true≢false (sym x)), λ x. i.1 (low_part a b 0 size x))
+same_both false t a b size last e f g h i = (λ x. absurd (true≢false (sym x)), λ x. h.1 ((sliced_low a b last f (omega (arith, e, f))).0 x))

@@ -1,7 +1,10 @@
 //! Octets compared without ASCII case, many at a time. A length octet is below `A`, so it is its own lower
 //! case, and wire forms are compared so without going over their labels.
-ghost use Rattle.std.specs.Prelude.{◌≡◌, ◌≤◌, ◌<◌, IsTrue, ◌↔◌, length};
+ghost use Rattle.std.specs.Prelude.{◌≡◌, ◌≤◌, ◌+◌, IsTrue, ◌↔◌, length};
 ghost use Rattle.domain_label.specs.Low.{low};
+
+/// How many octets are compared at a time where there are many.
+const PART: usize = 16;
 
 /// Whether octets, as many on both sides, are the same without ASCII case. All are looked at, so that many
 /// can be taken at a time.
@@ -17,41 +20,63 @@ fn same_each(a: &[u8], b: &[u8]) -> bool
     same
 }
 
-/// The same, `size` octets at a time. The last ones come first, so that none are left over behind parts of
-/// that size: the last of these parts may reach into them.
+/// The same of so many octets that the first and the last `size` of them are all. The two parts may overlap, and
+/// both are looked at, so that nothing waits for a test.
 #[inline(always)]
-fn same_parts(a: &[u8], b: &[u8], size: usize) -> bool
+fn same_ends(a: &[u8], b: &[u8], size: usize) -> bool
     requires sized { length a.now ≡ length b.now }
     requires long { size ≤ length a.now }
-    requires some { 0 < size }
+    requires short { length a.now ≤ size + size }
     ensures { IsTrue result ↔ (low a.now ≡ low b.now) }
 {
     let last = a.len() - size;
+    let mut same = same_each(&a[last..], &b[last..]);
+    same &= same_each(&a[..size], &b[..size]);
+    same
+}
+
+/// The same of many octets, as those of a whole name. The last ones come first, so that none are left over behind
+/// the parts: the last of these may reach into them.
+fn same_parts(a: &[u8], b: &[u8]) -> bool
+    requires sized { length a.now ≡ length b.now }
+    requires long { 16 ≤ length a.now }
+    ensures { IsTrue result ↔ (low a.now ≡ low b.now) }
+{
+    let last = a.len() - PART;
     if !same_each(&a[last..], &b[last..]) {
         return false;
     }
     let mut place = 0;
     'parts: while place < last {
-        if !same_each(&a[place..place + size], &b[place..place + size]) {
+        if !same_each(&a[place..place + PART], &b[place..place + PART]) {
             return false;
         }
-        place += size;
+        place += PART;
     }
     true
 }
 
 /// Whether octets are the same without ASCII case.
+///
+/// Most labels are short: they are compared without a loop and without a call.
+#[inline(always)]
 pub fn same_octets(a: &[u8], b: &[u8]) -> bool
     ensures { IsTrue result ↔ (low a.now ≡ low b.now) }
 {
     if a.len() != b.len() {
         return false;
     }
-    if a.len() >= 16 {
-        return same_parts(a, b, 16);
+    if a.len() > PART {
+        return same_parts(a, b);
     }
     if a.len() >= 8 {
-        return same_parts(a, b, 8);
+        return same_ends(a, b, 8);
+    }
+    if a.len() >= 4 {
+        return same_ends(a, b, 4);
+    }
+    if a.len() >= 2 {
+        return same_ends(a, b, 2);
     }
     same_each(a, b)
 }

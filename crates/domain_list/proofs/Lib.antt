@@ -10,4 +10,5 @@ pub mod Alike
 pub mod Finishing
 pub mod Octetwise
 pub mod Put
+pub mod Flatwise
 pub mod Moved

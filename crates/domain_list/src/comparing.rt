@@ -3,7 +3,7 @@
 ghost use Rattle.std.specs.Prelude.{◌≡◌, ◌≢◌, ◌<◌, ◌∷◌, IsTrue, ◌↔◌, length, MatchBool};
 ghost use Rattle.domain_label.specs.Low.{low, low_all};
 ghost use Rattle.domain_label.specs.Views.{label_octets};
-ghost use Rattle.domain_label.specs.Wire.{wire};
+ghost use Rattle.domain_label.specs.Wire.{wire, AreLabels};
 ghost use Rattle.domain_list.specs.Alike.{EndAlike};
 ghost use Rattle.domain_list.specs.Order.{order, last_order, same_name, composed_order, lowercase_composed_order};
 
@@ -33,13 +33,43 @@ pub(crate) fn eq_labels<'a, A: LabelIterator<'a>, B: LabelIterator<'a>>(a: A, b:
     }
 }
 
+/// Whether the labels that are left, of `len` octets on the wire, have this wire form without ASCII case.
+///
+/// Each label is looked for at the front of what is left of the octets, so that no second iterator reads their
+/// length octets, and a label of another length is told by one comparison.
+#[inline(always)]
+fn eq_flat<'a, I: LabelIterator<'a>>(labels: I, len: u16, flat: &[u8]) -> bool
+    requires sized { len ≡ length (wire (I.left labels)) }
+    requires labels { AreLabels (I.left labels) }
+    ensures { IsTrue result ↔ (low flat.now ≡ low (wire (I.left labels))) }
+{
+    if usize::from(len) != flat.len() {
+        return false;
+    }
+    let mut labels = labels;
+    let mut rest = flat;
+    while let Some(label) = labels.next() {
+        let end = 1 + label.len();
+        if usize::from(rest[0]) != label.len() {
+            return false;
+        }
+        if !same_octets(&rest[1..end], label.as_slice()) {
+            return false;
+        }
+        rest = &rest[end..];
+    }
+    true
+}
+
 /// Whether the labels of two names are the same without ASCII case (RFC 4343).
 pub fn eq_names<'a, A: ToLabelIter<'a>, B: ToLabelIter<'a>>(a: &'a A, b: &'a B) -> bool
     ensures { IsTrue result ↔ (low_all (A.labels a.now) ≡ low_all (B.labels b.now)) }
 {
     match (a.as_flat_slice(), b.as_flat_slice()) {
         (Some(a), Some(b)) => return same_octets(a, b),
-        _ => return eq_labels(a.iter_labels(), b.iter_labels()),
+        (Some(flat), None) => return eq_flat(b.iter_labels(), b.compose_len(), flat),
+        (None, Some(flat)) => return eq_flat(a.iter_labels(), a.compose_len(), flat),
+        (None, None) => return eq_labels(a.iter_labels(), b.iter_labels()),
     }
 }
 
