@@ -5,7 +5,7 @@
 //! can open the count. So each walk is two functions: the one that is called, which picks, and one over a
 //! ledger, which opens the count. That of `front_end` stands in `read`, since it is the walk itself; the
 //! others stand here.
-ghost use Rattle.std.specs.Prelude.{◌≡◌, ℕ, ◌+◌, ◌≤◌, ◌<◌, length, IfOk, IfErr, OnOk};
+ghost use Rattle.std.specs.Prelude.{◌≡◌, ℕ, ◌+◌, ◌≤◌, ◌<◌, length, IfSome, IfOk, IfErr, OnOk};
 ghost use Rattle.domain_label.specs.Views.{label_octets};
 ghost use Rattle.domain_reading.specs.Faults.{Fault, Skips, SkipFault};
 ghost use Rattle.domain_reading.specs.Outcomes.{NameRead};
@@ -65,6 +65,40 @@ fn read_name_with<L: Ledger>(
     )
 }
 
+/// The place behind the front of the name at a place, where that is found with one test of the end for each
+/// head: an octet is left behind it, so both octets of a pointer are there. `None` says nothing.
+#[inline(always)]
+fn quick_end(message: &[u8], pos: usize) -> Option<usize>
+    ensures skips { IfSome result (λ end. Skips message.now pos end) }
+    ensures inside { IfSome result (λ end. end ≤ length message.now) }
+{
+    if pos >= message.len() {
+        return None;
+    }
+    let last = message.len() - 1;
+    let mut at = pos;
+    'heads: while at < last {
+        let first = message[at];
+        if first == 0 || first > 63 {
+            if first >= 192 {
+                return Some(at + 2);
+            }
+            if first == 0 {
+                return Some(at + 1);
+            }
+            return None;
+        }
+        at = at + 1 + usize::from(first);
+        if at >= pos + 255 {
+            return None;
+        }
+    }
+    if at == last && message[at] == 0 {
+        return Some(at + 1);
+    }
+    None
+}
+
 /// The place behind the front of the name at a place, wherever its pointer leads to.
 #[inline(always)]
 pub fn front_end(message: &[u8], pos: usize) -> Result<usize, NameFault>
@@ -72,7 +106,10 @@ pub fn front_end(message: &[u8], pos: usize) -> Result<usize, NameFault>
     ensures inside { IfOk result (λ end. end ≤ length message.now) }
     ensures fault { IfErr result (λ fault. SkipFault message.now pos fault) }
 {
-    front_end_with::<Brand>(message, pos, Blank::new(1))
+    match quick_end(message, pos) {
+        Some(end) => Ok(end),
+        None => front_end_with::<Brand>(message, pos, Blank::new(1)),
+    }
 }
 
 /// The label that stands at a place.
