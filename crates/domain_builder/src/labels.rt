@@ -485,7 +485,7 @@ fn hex_digit(nibble: u8) -> u8
     }
 }
 
-/// Appends a head and the octets behind it in one slice, or nothing.
+/// Appends a head and then the octets behind it, or nothing. One octet goes out together with its head.
 #[inline(always)]
 fn append_headed<B: OctetsBuilder + OctetsMut>(
     builder: &mut B,
@@ -498,19 +498,16 @@ fn append_headed<B: OctetsBuilder + OctetsMut>(
     ensures full { OnErr result (B.capacity builder.old < length (B.octets builder.old) + length (head ∷ slice.now)) }
     ensures capacity { B.capacity builder.old ≤ B.capacity builder.new }
 {
-    let mut octets = [0; 64];
-    put_headed(&mut octets[..slice.len() + 1], 0, head, slice);
-    builder.append_slice(&octets[..slice.len() + 1])
-}
-
-/// Writes a head and the octets behind it over those at the end, from a place on.
-#[inline(always)]
-fn put_headed(octets: &mut [u8], start: usize, head: u8, slice: &[u8])
-    requires { start + 1 + length slice.now ≡ length octets.old }
-    ensures { octets.new ≡ take start octets.old ++ head ∷ slice.now }
-{
-    octets[start] = head;
-    octets[start + 1..].copy_from_slice(slice);
+    if let [octet] = slice {
+        return builder.append_slice(&[head, *octet]);
+    }
+    let start = builder.as_slice().len();
+    builder.append_slice(&[head])?;
+    if let Err(e) = builder.append_slice(slice) {
+        builder.truncate(start);
+        return Err(e);
+    }
+    Ok(())
 }
 
 /// Appends an absolute name behind a relative one, both in their wire form, or nothing.
