@@ -6,3 +6,4 @@ pub mod Composing
 pub mod Marking
 pub mod Bettering
 pub mod Once
+mod Knowing

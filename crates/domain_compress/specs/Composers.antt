@@ -5,9 +5,9 @@ use Rattle.domain_compress.specs.Compressing.{Place}
 use Rattle.domain_compress.specs.Written.{places}
 
 -- the target
-abbrev pub target_of : {T E : Type 0} → CompressComposer T E → T
+abbrev pub target_of : {T E : Type 0} {g : _} {h : _} {i : _} {j : _} {k : _} → CompressComposer T E g h i j k → T
 target_of c = c.target
 
 -- the places that it remembers
-abbrev pub written_places : {T E : Type 0} → CompressComposer T E → List Place
+abbrev pub written_places : {T E : Type 0} {g : _} {h : _} {i : _} {j : _} {k : _} → CompressComposer T E g h i j k → List Place
 written_places c = places c.written.items

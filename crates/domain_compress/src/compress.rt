@@ -1,9 +1,11 @@
 //! A composer that writes names shorter (RFC 1035, 4.1.4).
-ghost use Rattle.std.specs.Prelude.{◌≡◌, ◌≤◌, ◌<◌, ◌+◌, ◌++◌, [], List, length, take, OnOk, OnErr, IfSome, true};
-ghost use Rattle.std.proofs.lemmas.Bool.{true≢false};
+ghost use Rattle.std.specs.Prelude.{◌≡◌, ◌≤◌, ◌<◌, ◌+◌, ◌++◌, [], List, length, take, OnOk, OnErr, IfSome, true, false};
+ghost use Rattle.std.proofs.lemmas.Bool.{true≢false, false≢true};
+ghost use Rattle.std.proofs.Props.{props};
 ghost use Rattle.domain_label.specs.Wire.{labels_in, IsAbsoluteWire};
 ghost use Rattle.domain_rdata.specs.ReadBack.{Appended, Exceeds};
 ghost use Rattle.domain_compress.specs.Compressing.{Adds, Place, places_within};
+ghost use Rattle.domain_compress.specs.Hashes.{IsKnown};
 ghost use Rattle.domain_compress.specs.MayWrite.{MayWrite};
 ghost use Rattle.domain_compress.specs.Written.{places};
 
@@ -30,6 +32,9 @@ use octseq::{Octets, OctetsBuilder, OctetsMut, Truncate};
 pub struct CompressComposer<T: Composer> {
     target: T,
     written: ArrayVec<Written, 128>,
+    /// Whether the hashes count, which they don't once octets were lent for writing.
+    hashed: bool,
+    ghost known: { IsKnown hashed (T.octets target) written.items } by { Prim.hlevel props },
 }
 
 impl<T: Composer> CompressComposer<T> {
@@ -43,6 +48,7 @@ impl<T: Composer> CompressComposer<T> {
         CompressComposer {
             target,
             written: ArrayVec::new(),
+            hashed: true,
         }
     }
 
@@ -50,7 +56,7 @@ impl<T: Composer> CompressComposer<T> {
     pub fn into_target(self) -> T
         ensures { result ≡ target_of self }
     {
-        let CompressComposer { target, written: _ } = self;
+        let CompressComposer { target, .. } = self;
         target
     }
 }
@@ -66,9 +72,10 @@ impl<T: Composer> Octets for CompressComposer<T> {
 }
 
 impl<T: Composer> OctetsMut for CompressComposer<T> {
-    ghost with_octets = { λ c w. record c { target = T.with_octets c.target w } };
+    ghost with_octets = { λ c w. record c { target = T.with_octets c.target w; hashed = false; known = λ e. absurd (false≢true e) } };
 
     fn as_slice_mut(&mut self) -> &mut [u8] {
+        self.hashed = false;
         self.target.as_slice_mut()
     }
 
@@ -87,8 +94,10 @@ impl<T: Composer> Truncate for CompressComposer<T> {
         ensures capacity { T.capacity self.old.target ≤ T.capacity self.new.target }
         ensures places { written_places self.new ≡ places_within len (written_places self.old) }
     {
+        // While octets go away under the places, no hash counts.
+        self.hashed = false;
         self.target.truncate(len);
-        forget(&mut self.written, len);
+        self.hashed = forget(&mut self.written, self.target.as_slice(), len);
     }
 }
 
@@ -148,20 +157,34 @@ impl<T: Composer> Composer for CompressComposer<T> {
         ensures capacity { T.capacity self.old.target ≤ T.capacity self.new.target }
     {
         let start = self.target.as_slice().len();
-        let begun = match append_beginning(&mut self.target, self.written.as_slice(), name) {
+        let begun = match append_beginning(
+            &mut self.target,
+            self.written.as_slice(),
+            name,
+            self.hashed,
+        ) {
             Ok(begun) => begun,
             Err(e) => return Err(e),
         };
         if let Some(at) = begun {
-            let end = self.target.as_slice().len();
-            remember(&mut self.written, &name[..at], start, end);
+            let octets = self.target.as_slice();
+            let end = octets.len();
+            self.hashed = remember(
+                &mut self.written,
+                self.hashed,
+                octets,
+                &name[..at],
+                start,
+                end,
+            );
             return Ok(());
         }
         if let Err(e) = self.target.append_slice(name) {
             return Err(e);
         }
-        let end = self.target.as_slice().len();
-        remember(&mut self.written, name, start, end);
+        let octets = self.target.as_slice();
+        let end = octets.len();
+        self.hashed = remember(&mut self.written, self.hashed, octets, name, start, end);
         Ok(())
     }
 

@@ -1,31 +1,62 @@
-//! Passing over places where no end of a name can stand, by the first two octets there.
-ghost use Rattle.std.specs.Prelude.{◌≡◌, ◌<◌, ℕ, List, length, IsTrue};
+//! Passing over places where no end of a name can stand, by a hash of the first label there.
+ghost use Rattle.std.specs.Prelude.{◌≡◌, ◌<◌, ℕ, List, length, slice_index, nat_eq, IsTrue, true};
 ghost use Rattle.domain_label.specs.Wire.{IsAbsoluteWire};
 ghost use Rattle.domain_rdata.specs.ReadBack.{StandsAt};
-ghost use Rattle.domain_compress.specs.Ends.{first_label, kind_of, IsMarked, AreMarked};
+ghost use Rattle.domain_compress.specs.Ends.{first_label, hash_of, slot_of, IsMarked, AreMarked};
+ghost use Rattle.domain_compress.specs.Hashes.{HasHash};
 
-/// The number of a label's kind: of its length, and of its first octet without case.
-fn kind(len: u8, first: u8) -> usize
-    ensures { result ≡ kind_of len first }
+/// The hash of a label, by its length, its first octet and its last, without case.
+fn hash(len: u8, first: u8, last: u8) -> u16
+    ensures { result ≡ hash_of len first last }
 {
-    usize::from(len % 8) * 32 + usize::from(first % 32)
+    u16::from(len) * 67 + u16::from(first % 32) * 29 + u16::from(last % 32) * 7
 }
 
-/// The kinds of the labels with which the ends of a name begin, each marked by a 1.
-pub(crate) fn first_marks(name: &[u8]) -> [u8; 256]
-    requires { IsAbsoluteWire name.now }
-    ensures { AreMarked result name.now }
+/// Where a hash is marked.
+fn slot(hash: u16) -> usize
+    ensures { result ≡ slot_of hash }
 {
-    let mut marks = [0u8; 256];
+    usize::from(hash % 256)
+}
+
+/// Whether the hash is marked.
+pub(crate) fn is_marked(marks: &[u8; 256], hash: u16) -> bool
+    ensures { result ≡ nat_eq (slice_index marks.now (slot_of hash)) 1 }
+{
+    marks[slot(hash)] == 1
+}
+
+/// Marks the hashes of the labels with which the ends of a name begin by a 1 each.
+pub(crate) fn mark_firsts(marks: &mut [u8; 256], name: &[u8])
+    requires { IsAbsoluteWire name.now }
+    ensures { AreMarked marks.new name.now }
+{
     let mut begin = 0;
     'ends: while name[begin] != 0 {
-        marks[kind(name[begin], name[begin + 1])] = 1;
-        begin = begin + 1 + usize::from(name[begin]);
+        let size = usize::from(name[begin]);
+        let hash = hash(name[begin], name[begin + 1], name[begin + size]);
+        marks[slot(hash)] = 1;
+        begin = begin + 1 + size;
     }
-    marks
 }
 
-/// Whether a name whose first label is of a marked kind may stand at the place. Where a pointer stands it may.
+/// The hash of the label at the place, and whether a label stands there at all, with another octet behind it.
+pub(crate) fn hash_there(octets: &[u8], place: usize) -> (bool, u16)
+    requires { place < 16384 }
+    ensures { result.0 ≡ true → HasHash octets.now place result.1 }
+{
+    if place >= octets.len() {
+        return (false, 0);
+    }
+    let len = octets[place];
+    let last = place + usize::from(len);
+    if len >= 64 || last + 1 >= octets.len() {
+        return (false, 0);
+    }
+    (true, hash(len, octets[place + 1], octets[last]))
+}
+
+/// Whether a name whose first label has a marked hash may stand at the place. Where a pointer stands it may.
 pub(crate) fn may_stand(octets: &[u8], place: usize, marks: &[u8; 256]) -> bool
     requires { place < 16384 }
     ensures { (ls : List (List ℕ)) → 0 < length (first_label ls) → IsMarked marks.now ls → StandsAt octets.now place ls → IsTrue result }
@@ -37,5 +68,9 @@ pub(crate) fn may_stand(octets: &[u8], place: usize, marks: &[u8; 256]) -> bool
     if len >= 64 {
         return true;
     }
-    marks[kind(len, octets[place + 1])] == 1
+    let last = place + usize::from(len);
+    if last >= octets.len() {
+        return false;
+    }
+    is_marked(marks, hash(len, octets[place + 1], octets[last]))
 }

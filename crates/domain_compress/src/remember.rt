@@ -2,8 +2,10 @@
 ghost use Rattle.std.specs.Prelude.{◌≡◌, ◌++◌, ◌+◌, ◌≤◌, take};
 ghost use Rattle.domain_label.specs.Wire.{labels_in, IsWire};
 ghost use Rattle.domain_compress.specs.Compressing.{places_from, places_within};
+ghost use Rattle.domain_compress.specs.Hashes.{IsKnown};
 ghost use Rattle.domain_compress.specs.Written.{places};
 
+use crate::marks::hash_there;
 use crate::written::Written;
 use arrayvec::ArrayVec;
 
@@ -11,56 +13,74 @@ use arrayvec::ArrayVec;
 const PLACES_END: usize = 16384;
 
 /// Remembers where these labels stand, but for the root, that were written from `start` on for a name that ends
-/// at `end`.
+/// at `end`. Tells whether all hashes are still those of the labels in the octets.
 pub(crate) fn remember(
     written: &mut ArrayVec<Written, 128>,
+    hashed: bool,
+    octets: &[u8],
     labels: &[u8],
     start: usize,
     end: usize,
-)
+) -> bool
     requires labels { IsWire labels.now }
     requires end { end ≤ start + 255 }
-    ensures { places written.new.items ≡ take 128 (places written.old.items ++ places_from start end (labels_in labels.now)) }
+    ensures known { IsKnown hashed octets.now written.old.items → IsKnown result octets.now written.new.items }
+    ensures places { places written.new.items ≡ take 128 (places written.old.items ++ places_from start end (labels_in labels.now)) }
 {
     if written.remaining_capacity() == 0 {
-        return;
+        return hashed;
     }
     let mut at = 0;
+    let mut holds = hashed;
     'labels: while at < labels.len() {
         let len = usize::from(labels[at]);
         if len == 0 {
-            return;
+            return holds;
         }
         // Past the end none of the label's places counts, and the sum below can't wrap before it.
         if start >= PLACES_END {
-            return;
+            return holds;
         }
         if start + at >= PLACES_END {
-            return;
+            return holds;
         }
         if written.remaining_capacity() == 0 {
-            return;
+            return holds;
         }
+        let (stands, hash) = hash_there(octets, start + at);
         written.push(Written {
             place: (start + at) as u16,
             end: end as u16,
+            hash,
         });
+        holds = holds & stands;
         at = at + 1 + len;
     }
+    holds
 }
 
-/// Forgets the places of names that end past `len`.
-pub(crate) fn forget(written: &mut ArrayVec<Written, 128>, len: usize)
-    ensures { places written.new.items ≡ places_within len (places written.old.items) }
+/// Forgets the places of names that end past `len`, and reads the hashes of the others anew. Tells whether they
+/// are those of the labels in the octets.
+pub(crate) fn forget(written: &mut ArrayVec<Written, 128>, octets: &[u8], len: usize) -> bool
+    ensures known { IsKnown result octets.now written.new.items }
+    ensures places { places written.new.items ≡ places_within len (places written.old.items) }
 {
     let _room = written.remaining_capacity();
     let mut kept = ArrayVec::new();
+    let mut holds = true;
     let mut rest = written.as_slice();
     'places: while let [first, more @ ..] = rest {
         if usize::from(first.end) <= len {
-            kept.push(*first);
+            let (stands, hash) = hash_there(octets, usize::from(first.place));
+            kept.push(Written {
+                place: first.place,
+                end: first.end,
+                hash,
+            });
+            holds = stands & holds;
         }
         rest = more;
     }
     *written = kept;
+    holds
 }

@@ -4,9 +4,10 @@ ghost use Rattle.domain_label.specs.Wire.{labels_in, IsAbsoluteWire};
 ghost use Rattle.domain_rdata.specs.ReadBack.{StandsAt};
 ghost use Rattle.domain_compress.specs.Compressing.{NoEnd};
 ghost use Rattle.domain_compress.specs.Ends.{AreMarked};
+ghost use Rattle.domain_compress.specs.Hashes.{IsKnown};
 ghost use Rattle.domain_compress.specs.Written.{places, StandsThrough, EndAt, NoEndAt, EndFound, Improves, begin_or_length};
 
-use crate::marks::{first_marks, may_stand};
+use crate::marks::{is_marked, mark_firsts, may_stand};
 use crate::written::{StandingEnd, Written};
 use domain_label::same::same_octets;
 use domain_reading::head::{Head, read_head};
@@ -136,24 +137,34 @@ fn better_end(
 /// The longest end of the name that is read at one of the places, without case, and the first of these. The
 /// root alone is no end.
 ///
-/// It goes over the places once. What stands at most of them begins with a label of another kind than any
-/// end of the name, and is passed at a glance.
-pub(crate) fn longest_end(octets: &[u8], written: &[Written], name: &[u8]) -> Option<StandingEnd>
-    requires { IsAbsoluteWire name.now }
+/// It goes over the places once. What stands at most of them begins with a label of another hash than any end
+/// of the name: where the hashes count, the octets aren't read there.
+pub(crate) fn longest_end(
+    octets: &[u8],
+    written: &[Written],
+    name: &[u8],
+    hashed: bool,
+) -> Option<StandingEnd>
+    requires wire { IsAbsoluteWire name.now }
+    requires known { IsKnown hashed octets.now written.now }
     ensures none { IsNone result → NoEnd octets.now (places written.now) (labels_in name.now) }
     ensures some { IfSome result (λ end. EndFound octets.now (places written.now) name.now end) }
 {
-    let marks = first_marks(name);
+    let mut marks = [0u8; 256];
+    mark_firsts(&mut marks, name);
     let mut best = None;
     let mut rest = written;
     'places: while let Some((first, more)) = rest.split_first() {
+        rest = more;
+        if hashed && !is_marked(&marks, first.hash) {
+            continue;
+        }
         best = better_end(octets, *first, name, &marks, best);
         if let Some(end) = best {
             if end.begin == 0 {
                 return Some(end);
             }
         }
-        rest = more;
     }
     best
 }

@@ -1,17 +1,22 @@
 //! What a composer remembers of a label, and what it finds.
 ghost use Rattle.std.specs.Prelude.{◌<◌};
 
-/// Where a label was written, and where the name ends that it was written for.
+/// Where a label was written, where the name ends that it was written for, and a hash of the label.
 #[derive(Clone, Copy)]
 pub(crate) struct Written {
     pub(crate) place: u16,
     pub(crate) end: u16,
+    pub(crate) hash: u16,
     ghost low: { place < 16384 },
 }
 
 impl Default for Written {
     fn default() -> Written {
-        Written { place: 0, end: 0 }
+        Written {
+            place: 0,
+            end: 0,
+            hash: 0,
+        }
     }
 }
 

@@ -2,30 +2,32 @@ use Rattle.std.proofs.Common.{List, ◌≡◌, subst, sym, ◌+◌, ◌∙◌, a
 use Rattle.domain_compress.specs.Compressing.{Place}
 use Rattle.domain_compress.specs.Written.{places}
 use Rattle.domain_compress.proofs.Remembering.{Remembered, remember_start, remember_next, remember_full, remember_root, remember_far, remember_all, places_size, places_push}
+use Rattle.domain_compress.proofs.Knowing.{known_push}
 use Rattle.domain_compress.proofs.remember.remember.Goals as goal
 
 pub labels-init : goal.labels-init
 labels-init c = record {
   done = remember_start _ _ _ _ c.requires.labels;
+  known = λ old. old;
   few = omega (arith, places_size c.args.written.now.items, c.remaining_capacity.ensures);
 }
 
-pub returns-then-remaining_capacity-eq0 : goal.returns-then-remaining_capacity-eq0
-returns-then-remaining_capacity-eq0 c =
+pub returns-then-remaining_capacity-eq0-clause-places : goal.returns-then-remaining_capacity-eq0-clause-places
+returns-then-remaining_capacity-eq0-clause-places c =
     remember_full _ _ c.args.labels.now _ _ 0 (remember_start (places c.args.written.now.items) c.args.labels.now c.args.start c.args.end c.requires.labels) (omega (arith, places_size c.args.written.now.items, c.remaining_capacity.ensures))
 
-pub returns-then-remaining_capacity-eq0-2 : goal.returns-then-remaining_capacity-eq0-2
-returns-then-remaining_capacity-eq0-2 c =
+pub returns-then-remaining_capacity-eq0-2-clause-places : goal.returns-then-remaining_capacity-eq0-2-clause-places
+returns-then-remaining_capacity-eq0-2-clause-places c =
     remember_full _ _ _ _ _ _ c.labels.invariant.done (omega (arith, places_size c.labels.written.items, c.remaining_capacity-in-labels.ensures))
 
-pub returns-then-len-eq0 : goal.returns-then-len-eq0
-returns-then-len-eq0 c = remember_root _ _ _ _ _ _ c.labels.invariant.done c.labels.invariant.few (sym c.from-len.ensures ∙ c.if-len-eq0.true)
+pub returns-then-len-eq0-clause-places : goal.returns-then-len-eq0-clause-places
+returns-then-len-eq0-clause-places c = remember_root _ _ _ _ _ _ c.labels.invariant.done c.labels.invariant.few (sym c.from-len.ensures ∙ c.if-len-eq0.true)
 
-pub returns-then-start-ge-PLACES_END : goal.returns-then-start-ge-PLACES_END
-returns-then-start-ge-PLACES_END c = remember_far _ _ _ _ _ _ c.labels.invariant.done c.labels.invariant.few (omega arith)
+pub returns-then-start-ge-PLACES_END-clause-places : goal.returns-then-start-ge-PLACES_END-clause-places
+returns-then-start-ge-PLACES_END-clause-places c = remember_far _ _ _ _ _ _ c.labels.invariant.done c.labels.invariant.few (omega arith)
 
-pub returns-then-start-at-ge-PLACES_END : goal.returns-then-start-at-ge-PLACES_END
-returns-then-start-at-ge-PLACES_END c = remember_far _ _ _ _ _ _ c.labels.invariant.done c.labels.invariant.few (omega arith)
+pub returns-then-start-at-ge-PLACES_END-clause-places : goal.returns-then-start-at-ge-PLACES_END-clause-places
+returns-then-start-at-ge-PLACES_END-clause-places c = remember_far _ _ _ _ _ _ c.labels.invariant.done c.labels.invariant.few (omega arith)
 
 pub labels-preserved : goal.labels-preserved
 labels-preserved c =
@@ -33,8 +35,9 @@ labels-preserved c =
     let size : length c.push.new.self.items ≡ length c.labels.written.items + 1 = c.push.ensures.len in
     record {
       done = subst P (sym (places_push _ _ _ c.push.ensures.items)) (remember_next _ _ _ _ _ _ _ c.labels.invariant.done c.labels-test.true (sym c.from-len.ensures) (omega arith) (omega arith));
+      known = λ old. known_push _ _ _ _ _ _ (c.labels.invariant.known old) c.hash_there-stands.ensures c.push.ensures.items;
       few = omega (arith, places_size c.push.new.self.items, size, c.remaining_capacity-in-labels.ensures);
     }
 
-pub returns : goal.returns
-returns c = remember_all _ _ _ _ _ _ c.labels.invariant.done c.labels.invariant.few (omega arith)
+pub returns-clause-places : goal.returns-clause-places
+returns-clause-places c = remember_all _ _ _ _ _ _ c.labels.invariant.done c.labels.invariant.few (omega arith)

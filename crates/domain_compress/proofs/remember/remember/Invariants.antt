@@ -1,4 +1,5 @@
 use Rattle.std.proofs.Common.{◌-◌, ◌≤◌, length}
+use Rattle.domain_compress.specs.Hashes.{IsKnown}
 use Rattle.domain_compress.specs.Written.{places}
 use Rattle.domain_compress.proofs.Remembering.{Remembered}
 use Rattle.domain_compress.proofs.remember.remember.Given as goal
@@ -6,6 +7,7 @@ use Rattle.domain_compress.proofs.remember.remember.Given as goal
 abbrev pub invariant-labels : goal.invariant-labels
 invariant-labels l = record {
   done : Remembered (places l.initial.written.items) (places l.written.items) l.labels l.start l.end l.at;
+  known : IsKnown l.hashed l.octets l.initial.written.items → IsKnown l.holds l.octets l.written.items;
   few : length (places l.written.items) ≤ 128;
 }
 

@@ -1,8 +1,10 @@
+use Rattle.std.proofs.Common.{sym, ◌∙◌}
 use Rattle.domain_compress.proofs.Bettering.{seen_start, seen_next, seen_whole}
+use Rattle.domain_compress.proofs.Knowing.{skipped, known_first, known_behind}
 use Rattle.domain_compress.proofs.search.longest_end.Goals as goal
 
 pub places-init : goal.places-init
-places-init c = record { seen = seen_start _ _ _; marked = c.first_marks-marks.ensures }
+places-init c = record { seen = seen_start _ _ _; known = c.requires.known; marked = c.mark_firsts.ensures }
 
 pub returns-then-end-eq0-clause-some : goal.returns-then-end-eq0-clause-some
 returns-then-end-eq0-clause-some c =
@@ -10,8 +12,17 @@ returns-then-end-eq0-clause-some c =
 
 pub places-preserved-else-end-eq0 : goal.places-preserved-else-end-eq0
 places-preserved-else-end-eq0 c =
-    record { seen = seen_next _ _ _ _ _ _ _ _ c.places.invariant.seen c.in-Some.ensures.cases.0 c.in-Some-best.ensures; marked = c.places.invariant.marked }
+    record { seen = seen_next _ _ _ _ _ _ _ _ c.places.invariant.seen c.in-Some.ensures.cases.0 c.in-Some-best.ensures; known = known_behind _ _ _ _ _ c.in-Some.ensures.cases.0 c.places.invariant.known; marked = c.places.invariant.marked }
 
 pub places-preserved : goal.places-preserved
 places-preserved c =
-    record { seen = seen_next _ _ _ _ _ _ _ _ c.places.invariant.seen c.in-Some.ensures.cases.0 c.better_end-best.ensures; marked = c.places.invariant.marked }
+    record { seen = seen_next _ _ _ _ _ _ _ _ c.places.invariant.seen c.in-Some.ensures.cases.0 c.better_end-best.ensures; known = known_behind _ _ _ _ _ c.in-Some.ensures.cases.0 c.places.invariant.known; marked = c.places.invariant.marked }
+
+pub places-preserved-then-not-is_marked : goal.places-preserved-then-not-is_marked
+places-preserved-then-not-is_marked c =
+    let here = known_first _ _ _ _ c.in-Some.ensures.cases.0 (c.places.invariant.known c.if-hashed.true) in
+    record {
+      seen = seen_next _ _ _ _ _ _ _ _ c.places.invariant.seen c.in-Some.ensures.cases.0 (λ ws old. skipped _ _ _ c.in-Some.first.now ws _ c.requires.wire c.places.invariant.marked here (sym c.is_marked.ensures ∙ c.if-not-is_marked.true) old);
+      known = known_behind _ _ _ _ _ c.in-Some.ensures.cases.0 c.places.invariant.known;
+      marked = c.places.invariant.marked;
+    }

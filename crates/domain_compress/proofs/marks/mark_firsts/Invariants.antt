@@ -1,7 +1,7 @@
 use Rattle.std.proofs.Common.{◌-◌, ◌≡◌, length}
 use Rattle.domain_compress.specs.Ends.{IsMarked}
 use Rattle.domain_compress.proofs.Searching.{Passed}
-use Rattle.domain_compress.proofs.marks.first_marks.Given as goal
+use Rattle.domain_compress.proofs.marks.mark_firsts.Given as goal
 
 abbrev pub invariant-ends : goal.invariant-ends
 invariant-ends l = record {

@@ -1,0 +1,20 @@
+-- What is remembered of the label at a place.
+use Rattle.std.specs.Prelude.{◌≡◌, ℕ, ◌+◌, ◌<◌, List, length, slice_index, Bool, true}
+use Rattle.std.specs.List.{All}
+use Rattle.domain_compress.specs.declared.written.Written.{Written}
+use Rattle.domain_compress.specs.Ends.{hash_of}
+
+-- The hash of the label whose first octet stands at p.
+abbrev pub hash_at : List ℕ → ℕ → ℕ
+hash_at t p = hash_of (slice_index t p) (slice_index t (p + 1)) (slice_index t (p + slice_index t p))
+
+-- A label stands at p within t, and has that hash.
+abbrev pub HasHash : List ℕ → ℕ → ℕ → Type 0
+HasHash t p h = (slice_index t p < 64) × (p + 1 + slice_index t p < length t) × (h ≡ hash_at t p)
+
+abbrev pub IsHashed : List ℕ → Written → Type 0
+IsHashed t w = HasHash t w.place w.hash
+
+-- Where the hashes count, they are those of the labels at the places.
+abbrev pub IsKnown : Bool → List ℕ → List Written → Type 0
+IsKnown hashed t ws = hashed ≡ true → All (IsHashed t) ws
