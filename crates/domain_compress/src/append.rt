@@ -10,17 +10,27 @@ ghost use Rattle.domain_compress.specs.Written.{places};
 
 use crate::search::longest_end;
 use crate::written::Written;
+use arrayvec::ArrayVec;
 use octseq::OctetsBuilder;
 
 /// The most pointers that lead along a name.
 const MAX_POINTERS: u8 = 255;
 
-/// The octets of a pointer.
-fn pointer(place: u16) -> [u8; 2]
-    requires { place < 16384 }
-    ensures { result ≡ pointer_to place }
+/// The labels before a place of the name, and a pointer.
+fn pointed(name: &[u8], at: usize, place: u16) -> ArrayVec<u8, 255>
+    requires low { place < 16384 }
+    requires inside { at + 2 ≤ length name.now }
+    requires short { length name.now ≤ 255 }
+    ensures { result.items ≡ take at name.now ++ pointer_to place }
 {
-    (49152 + place).to_be_bytes()
+    let mut octets = ArrayVec::new();
+    let Ok(()) = octets.try_extend_from_slice(&name[..at]) else {
+        unreachable!();
+    };
+    let Ok(()) = octets.try_extend_from_slice(&(49152 + place).to_be_bytes()) else {
+        unreachable!();
+    };
+    octets
 }
 
 /// Appends the labels before the longest end of the name that was written, and a pointer to it. `None` where
@@ -44,13 +54,8 @@ pub(crate) fn append_beginning<Target: OctetsBuilder>(
     if end.pointers == MAX_POINTERS {
         return Ok(None);
     }
-    let start = target.as_slice().len();
-    if let Err(e) = target.append_slice(&name[..end.begin]) {
-        return Err(e);
+    match target.append_slice(&pointed(name, end.begin, end.place)) {
+        Ok(()) => Ok(Some(end.begin)),
+        Err(e) => Err(e),
     }
-    if let Err(e) = target.append_slice(&pointer(end.place)) {
-        target.truncate(start);
-        return Err(e);
-    }
-    Ok(Some(end.begin))
 }

@@ -1,8 +1,8 @@
-use Rattle.std.proofs.Common.{ℕ, List, ◌++◌, length, take, length-append, append_assoc, refl, sym, ap, subst, ◌∙◌, arith}
+use Rattle.std.proofs.Common.{ℕ, List, ◌++◌, length, refl, sym, ap, subst, ◌∙◌, arith}
 use Rattle.std.specs.List.{All}
 use Rattle.domain_label.specs.Wire.{labels_in}
 use Rattle.domain_compress.specs.Hashes.{IsHashed}
-use Rattle.domain_compress.specs.Compressing.{NoEnd, pointer_to}
+use Rattle.domain_compress.specs.Compressing.{NoEnd}
 use Rattle.domain_compress.specs.Compressing.Compresses.{flat}
 use Rattle.domain_compress.specs.Written.{places, EndFound}
 use Rattle.domain_compress.proofs.Composing.{pointed_so, not_pointed, exceeds_pointed}
@@ -21,25 +21,13 @@ returns-then-end-clause-ok g c =
     let P : List ℕ → Type 0 = λ t. EndFound t (places c.args.written.now) c.args.name.now c.in-Some.end in
     (refl {a = g.Target.Octets.octets c.args.target.now}, not_pointed _ _ _ _ c.requires.wire (subst P c.as_slice.ensures c.in-Some.ensures.some) c.if-end.true)
 
-pub pointer-requires : goal.pointer-requires
-pointer-requires g c = c.in-Some.ensures.some.low
+pub returns-in-Ok-clause-ok : goal.returns-in-Ok-clause-ok
+returns-in-Ok-clause-ok g c =
+    let P : List ℕ → Type 0 = λ t. EndFound t (places c.args.written.now) c.args.name.now c.in-Some.end in
+    let t = g.Target.Octets.octets c.args.target.now in
+    pointed_so t _ _ _ _ c.requires.wire (subst P c.as_slice.ensures c.in-Some.ensures.some) c.if-end.false (c.in-Ok.ensures.ok ∙ ap (λ o. t ++ o) (c.deref.ensures.0 ∙ c.pointed.ensures))
 
 pub returns-in-Err-clause-full : goal.returns-in-Err-clause-full
 returns-in-Err-clause-full g c =
     let P : List ℕ → Type 0 = λ t. EndFound t (places c.args.written.now) c.args.name.now c.in-Some.end in
-    exceeds_pointed _ _ _ _ _ c.requires.wire (subst P c.as_slice.ensures c.in-Some.ensures.some) c.if-end.false (omega (arith, c.in-Err.ensures.full, length-append (take c.in-Some.end.begin c.args.name.now) (pointer_to c.in-Some.end.place)))
-
-pub returns-in-Err-append_slice-clause-full : goal.returns-in-Err-append_slice-clause-full
-returns-in-Err-append_slice-clause-full g c =
-    let P : List ℕ → Type 0 = λ t. EndFound t (places c.args.written.now) c.args.name.now c.in-Some.end in
-    let begun = take c.in-Some.end.begin c.args.name.now in
-    let t = g.Target.Octets.octets c.args.target.now in
-    exceeds_pointed _ _ _ _ _ c.requires.wire (subst P c.as_slice.ensures c.in-Some.ensures.some) c.if-end.false (omega (arith, c.in-Err-append_slice.ensures.full, c.in_default-append_slice.ensures.capacity, ap length c.in_default-append_slice.ensures.ok, ap length c.pointer.ensures, length-append t begun, length-append begun (pointer_to c.in-Some.end.place)))
-
-pub returns-clause-ok : goal.returns-clause-ok
-returns-clause-ok g c =
-    let P : List ℕ → Type 0 = λ t. EndFound t (places c.args.written.now) c.args.name.now c.in-Some.end in
-    let begun = take c.in-Some.end.begin c.args.name.now in
-    let t = g.Target.Octets.octets c.args.target.now in
-    let whole = c.in_default-append_slice-2.ensures.ok ∙ (ap (λ o. o ++ c.pointer.result) c.in_default-append_slice.ensures.ok ∙ (ap (λ o. (t ++ begun) ++ o) c.pointer.ensures ∙ append_assoc t begun (pointer_to c.in-Some.end.place))) in
-    pointed_so t _ _ _ _ c.requires.wire (subst P c.as_slice.ensures c.in-Some.ensures.some) c.if-end.false whole
+    exceeds_pointed _ _ _ _ _ c.requires.wire (subst P c.as_slice.ensures c.in-Some.ensures.some) c.if-end.false (omega (arith, c.in-Err.ensures.full, ap length (c.deref.ensures.0 ∙ c.pointed.ensures)))
