@@ -3,3 +3,4 @@ pub mod Seams
 pub mod Starts
 pub mod Cuts
 pub mod OneFault
+pub mod NotBoth

@@ -102,7 +102,7 @@ one_why (long x n) (walked m g) = absurd (omega (arith, n, m))
 one_why (walked n f) (long y m) = absurd (omega (arith, n, m))
 one_why (walked n f) (walked m g) = one_walked f g
 
-none_is_short : (r : List ℕ) (e : SplitLabelError) → SplitFault r e → (e ≡ ShortInput → ⊥) → r ≡ [] → ⊥
+pub none_is_short : (r : List ℕ) (e : SplitLabelError) → SplitFault r e → (e ≡ ShortInput → ⊥) → r ≡ [] → ⊥
 none_is_short [] e f other n = other f
 none_is_short (h ∷ r) e f other n = not_nil h r n
 

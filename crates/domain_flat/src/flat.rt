@@ -12,7 +12,7 @@ use domain_label::{Label, SplitLabelError};
 use domain_wire::ParseError;
 
 /// The most octets of an absolute name, all length octets among them (RFC 1035, 3.1).
-const MAX_NAME_LEN: usize = 255;
+pub const MAX_NAME_LEN: usize = 255;
 
 /// The most octets of a relative name, which leave one for a root label.
 const MAX_RELATIVE_LEN: usize = 254;

@@ -5,12 +5,10 @@ ghost use Rattle.domain_label.proofs.WireLaws.{IsWire_prop};
 ghost use Rattle.domain_flat.specs.Flat.{HasFirst, HasLast};
 ghost use Rattle.domain_flat.specs.Starts.{label_starts};
 
+use crate::flat::MAX_NAME_LEN;
 use domain_label::Label;
 use domain_list::LabelIterator;
 use std::marker::PhantomData;
-
-/// The most octets of a name, which are all that a table of starts can tell.
-const MAX_LEN: usize = 255;
 
 /// The most labels of a name, the root among them.
 const MAX_LABELS: usize = 128;
@@ -94,7 +92,7 @@ fn find_starts(octets: &[u8], starts: &mut [u8; MAX_LABELS]) -> Option<u8>
     ensures few { IfSome result (λ count. count ≤ 128) }
     ensures table { IfSome result (λ count. take count starts.new ≡ label_starts 0 (labels_in octets.now)) }
 {
-    if octets.len() > MAX_LEN {
+    if octets.len() > MAX_NAME_LEN {
         return None;
     }
     let mut count = 0u8;

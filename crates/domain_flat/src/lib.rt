@@ -10,6 +10,6 @@ pub mod places;
 
 pub use canonical::make_lowercase;
 pub use error::{NameError, NameErrorKind, RelativeNameError, RelativeNameErrorKind};
-pub use flat::{check_absolute, check_relative, name_len};
+pub use flat::{MAX_NAME_LEN, check_absolute, check_relative, name_len};
 pub use iter::NameIter;
 pub use places::is_label_end;

@@ -16,7 +16,9 @@ use crate::relative::RelativeName;
 use crate::strip::suffix_place;
 use crate::suffixes::SuffixIter;
 use arrayvec::ArrayVec;
-use domain_flat::{NameError, NameIter, check_absolute, is_label_end, make_lowercase, name_len};
+use domain_flat::{
+    MAX_NAME_LEN, NameError, NameIter, check_absolute, is_label_end, make_lowercase, name_len,
+};
 use domain_label::Label;
 use domain_list::{AbsoluteLabels, DisplayWithDot};
 use domain_wire::ParseError;
@@ -131,6 +133,9 @@ impl<'a> Name<&'a [u8]> {
         ))
     }
 }
+
+// It is what the tests of octets take as the most.
+const _: () = prove!(Name::<&'static [u8]>::MAX_LEN == MAX_NAME_LEN);
 
 impl Name<&'static [u8]> {
     ghost use Rattle.domain_name.specs.Names.{name_labels};

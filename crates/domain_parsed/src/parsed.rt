@@ -12,7 +12,7 @@ use crate::suffixes::ParsedSuffixIter;
 use arrayvec::ArrayVec;
 use domain_label::Label;
 use domain_name::{Name, RelativeName};
-use domain_reading::alone::{front_end, read_name, standing_label};
+use domain_reading::alone::{front_end, standing_label};
 use domain_reading::heads::Heads;
 use domain_reading::progress::Progress;
 use domain_reading::read::read_name_counted;
@@ -154,14 +154,7 @@ impl<'a> ParsedName<&'a [u8]> {
         ensures refused { IfErr result (λ e. TellsFault limit parser.old e) }
         ensures unchanged { OnErr result (parser.new ≡ parser.old) }
     {
-        // `parse_counted` without a count, written out: a call between would copy the table once more.
-        let mut places = [0; MAX_LABELS];
-        let mut found = Progress::new(parser.pos());
-        read_name(parser.as_slice(), &mut found, &mut places, limit)?;
-        let Ok(()) = parser.seek(found.place_behind()) else {
-            unreachable!();
-        };
-        Ok(ParsedName::of(parser.octets_ref(), &found, places))
+        ParsedName::parse_with::<Brand>(parser, limit, Blank::new(1))
     }
 
     /// `parse_counted` with a counter of its own.

@@ -17,7 +17,10 @@ pub enum Head {
     Pointer(usize),
 }
 
-/// Reads the head at a place, and sees that its octets are there. Each head is read here, and counted.
+/// Reads the head at a place, and sees that its octets are there.
+///
+/// It is the one function here that takes a head from octets, and the one that counts. What walks along names calls it:
+/// `read_name_counted`, `front_end_with`, `read_label`, and the search of `domain_compress`.
 #[inline(always)]
 pub fn read_head<L: Ledger>(
     message: &[u8],

@@ -32,9 +32,9 @@ impl<L: Ledger> Heads<L> {
         Heads { book, share }
     }
 
-    /// Counts one more head.
+    /// Counts one more head. Only `read_head` calls it.
     #[inline(always)]
-    pub fn count(&mut self)
+    pub(crate) fn count(&mut self)
         ensures { self.new ≡ self.old + 1 }
     {
         self.book.add(&mut self.share, 1);

@@ -41,6 +41,27 @@ Refuses (At place pointers) input old new = IfSome input (λ m. (e : ParseError)
 Refuses (TextOf text) input old new = ((e : FromStrError) × HasTextFault (chars text.now) e) × Keeps old new
 Refuses Lines input old new = IfSome input (λ m. (text : List ℕ) × (e : ParseError) × StopsListing m text e × Appends old new text)
 
+-- Reading, writing or memory failed, as the error tells. Where reading did, nothing was written. The text of a name
+-- asks for neither input nor memory, so there writing did.
+abbrev pub Fails : Asked → ToolError → Option (List ℕ) → Option (List ℕ) → Type 0
+Fails asked (Parse e) old new = ⊥
+Fails asked (Text e) old new = ⊥
+Fails asked Write old new = ⊤
+Fails (At place pointers) Read old new = Keeps old new
+Fails Lines Read old new = Keeps old new
+Fails (TextOf text) Read old new = ⊥
+Fails (At place pointers) Memory old new = ⊤
+Fails Lines Memory old new = ⊤
+Fails (TextOf text) Memory old new = ⊥
+
+-- On an error that tells what failed.
+abbrev pub OnFailure : ToolError → Type 0 → Type 0
+OnFailure (Parse e) P = ⊤
+OnFailure (Text e) P = ⊤
+OnFailure Read P = P
+OnFailure Write P = P
+OnFailure Memory P = P
+
 -- On an error that tells what is wrong with what was asked for.
 abbrev pub OnRefusal : ToolError → Type 0 → Type 0
 OnRefusal (Parse e) P = P

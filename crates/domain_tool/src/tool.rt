@@ -4,8 +4,9 @@ ghost use Rattle.std.specs.Io.KnownBytes.{Appends, Keeps, IsAtEnd};
 ghost use Rattle.domain_reading.specs.Grammar.{Names};
 ghost use Rattle.domain_parsed.specs.Views.{parsed_labels};
 ghost use Rattle.domain_tool.specs.Engines.{IfRefused, NoNameAt, NoNameWithin, OnAnswer, OnNoWork, WritesNameAt, WritesNameWithin};
-ghost use Rattle.domain_tool.specs.Words.{Asks, AsksSomething, OnRefusal, Refuses, Writes};
+ghost use Rattle.domain_tool.specs.Words.{Asks, AsksSomething, Fails, OnFailure, OnRefusal, Refuses, Writes};
 ghost use Rattle.domain_tool.specs.declared.asked.Asked.{Asked};
+ghost use Rattle.domain_tool.specs.declared.tool.ToolError.{ToolError};
 
 use crate::asked::Asked;
 use crate::line::line_of;
@@ -179,6 +180,7 @@ fn carry_out<R: Read, W: Write>(
 ) -> Result<(), ToolError>
     ensures done { OnOk result (Writes asked.entry (R.remaining input.old) (W.contents output.old) (W.contents output.new)) }
     ensures refused { IfErr result (λ e. OnRefusal e (Refuses asked.entry (R.remaining input.old) (W.contents output.old) (W.contents output.new))) }
+    ensures failed { IfErr result (λ e. OnFailure e (Fails asked.entry e (W.contents output.old) (W.contents output.new))) }
 {
     let answer = match asked {
         Asked::At(place, limit) => name_at_with_limit(alloc, input, output, place, limit),
@@ -208,8 +210,10 @@ pub fn run<R: Read, W: Write, E: Write>(
     ensures status { result ≤ 3 }
     ensures done { result ≡ 0 → (asked : Asked) × Asks (map (λ word. word.now) words.now) asked × Writes asked (R.remaining input.old) (W.contents output.old) (W.contents output.new) }
     ensures refused { result ≡ 1 → (asked : Asked) × Asks (map (λ word. word.now) words.now) asked × Refuses asked (R.remaining input.old) (W.contents output.old) (W.contents output.new) }
+    ensures failed { result ≡ 3 → (asked : Asked) × Asks (map (λ word. word.now) words.now) asked × (e : ToolError) × Fails asked e (W.contents output.old) (W.contents output.new) }
     ensures usage { result ≡ 2 ↔ (AsksSomething (map (λ word. word.now) words.now) → ⊥) }
     ensures untouched { result ≡ 2 → (input.new ≡ input.old) × (output.new ≡ output.old) }
+    ensures quiet { result ≡ 0 → errors.new ≡ errors.old }
 {
     let Some(asked) = Asked::by(words) else {
         let _ = write_line(errors, USAGE);
