@@ -1,12 +1,20 @@
-//! Names one after another on one target that writes them shorter.
+//! Names, and record data that is a name, one after another on one target that writes them shorter.
+ghost use Rattle.std.specs.Prelude.{false};
+ghost use Rattle.domain_label.specs.Low.{low_all};
+ghost use Rattle.domain_label.specs.Wire.{wire};
+ghost use Rattle.domain_name.proofs.Shapes.{flat_absolute};
+ghost use Rattle.domain_name.specs.Names.{name_labels};
+ghost use Rattle.domain_rdata.specs.FlatNames.{flat_name_octets};
+ghost use Rattle.domain_rdata.specs.RecordData.{NameOctets};
 
 use crate::answer::Answer;
 use crate::fail::Fail;
 use crate::fields::{decimal, is, octets_of, split_once};
 use domain::base::compress::CompressComposer;
 use domain::base::name::{Name, ParsedName, ToName};
+use domain::base::rdata::{ComposeRecordData, RecordData, Rtype};
 use domain::base::wire::Composer;
-use octseq::{Octets, OctetsBuilder, Parser, Truncate};
+use octseq::{Octets, OctetsBuilder, OctetsMut, Parser, Truncate};
 
 /// The most zero octets that one call appends.
 const MOST: usize = 65535;
@@ -23,9 +31,24 @@ pub fn put_compressed(out: &mut Answer, calls: &[u8]) {
         let (word, number) = split_once(call, b':');
         match number {
             None => put_name(out, &mut target, word),
+            Some(digits) if is(word, b"data") => put_data(out, &mut target, digits),
+            Some(fields) if is(word, b"set") => put_written(out, &mut target, fields),
             Some(digits) => put_resized(out, &mut target, word, digits),
         }
     }
+}
+
+/// `set:PLACE:OCTET`: the octet at a place is written over.
+fn put_written(out: &mut Answer, target: &mut CompressComposer<Vec<u8>>, fields: &[u8]) {
+    let (digits, octet) = split_once(fields, b':');
+    let (Ok(place), Ok(written)) = (decimal(digits), octets_of(octet.unwrap_or(b""), out.alloc())) else {
+        return out.fail(Fail::Bad);
+    };
+    match (target.as_slice_mut().get_mut(place), written.as_slice()) {
+        (Some(octet), [new]) => *octet = *new,
+        _ => return out.fail(Fail::Bad),
+    }
+    out.put(b"-");
 }
 
 /// `cut:LEN`, and `pad:COUNT` for zero octets.
@@ -57,6 +80,48 @@ fn pad(out: &mut Answer, target: &mut CompressComposer<Vec<u8>>, count: usize) {
     }
 }
 
+/// Record data that is one name, of a length that isn't known before it is composed.
+#[derive(Clone, Copy)]
+struct NameData<'a> {
+    name: Name<&'a [u8]>,
+}
+
+impl<'a> RecordData for NameData<'a> {
+    ghost type_number = { λ _. 2 };
+
+    fn rtype(&self) -> Rtype {
+        Rtype::from_int(2)
+    }
+}
+
+impl<'a> ComposeRecordData for NameData<'a> {
+    ghost composed = { λ it c t s. NameOctets (name_labels it.name) c t s };
+
+    ghost canonical = { λ it. wire (low_all (name_labels it.name)) };
+
+    ghost knows_len = { λ _ _. false };
+
+    fn rdlen(&self, _compress: bool) -> Option<u16> {
+        None
+    }
+
+    fn compose_rdata<Target: Composer>(
+        &self,
+        target: &mut Target,
+    ) -> Result<(), Target::AppendError> {
+        target.append_compressed_name(&self.name)
+    }
+
+    fn compose_canonical_rdata<Target: Composer>(
+        &self,
+        target: &mut Target,
+    ) -> Result<(), Target::AppendError> {
+        self.name.compose_canonical(target)
+    }
+
+    ghost flat = { λ it c t u s. flat_name_octets (name_labels it.name) c t u s (flat_absolute it.name) };
+}
+
 /// The octets that a name takes.
 fn put_name(out: &mut Answer, target: &mut CompressComposer<Vec<u8>>, digits: &[u8]) {
     let octets = match octets_of(digits, out.alloc()) {
@@ -71,6 +136,32 @@ fn put_name(out: &mut Answer, target: &mut CompressComposer<Vec<u8>>, digits: &[
         return out.fail(Fail::Memory);
     }
     put_read_back(out, target.as_slice(), start, name);
+}
+
+/// `data:NAME`: the octets that record data takes that is the name, with its length in front.
+fn put_data(out: &mut Answer, target: &mut CompressComposer<Vec<u8>>, digits: &[u8]) {
+    let octets = match octets_of(digits, out.alloc()) {
+        Ok(octets) => octets,
+        Err(fail) => return out.fail(fail),
+    };
+    let Ok(name) = Name::from_slice(octets.as_slice()) else {
+        return out.fail(Fail::Bad);
+    };
+    let start = target.as_slice().len();
+    let rdata = NameData { name };
+    if rdata.compose_len_rdata(target).is_err() {
+        return out.fail(Fail::Memory);
+    }
+    let mut parser = Parser::from_ref(target.as_slice());
+    out.agree(parser.seek(start).is_ok(), b"compose_len_rdata");
+    match parser.parse_u16_be() {
+        Ok(len) => {
+            out.put_hex(&len.to_be_bytes());
+            out.agree(usize::from(len) == parser.remaining(), b"compose_len_rdata");
+        }
+        Err(_) => out.wrong(b"compose_len_rdata"),
+    }
+    put_read_back(out, target.as_slice(), parser.pos(), name);
 }
 
 /// The octets from a place on, which must be read as the name, up to their end.

@@ -62,7 +62,7 @@ pub mod name {
 /// Laws of names, as the contracts of calls that do nothing.
 pub mod laws {
     pub use domain_list::laws::order_laws;
-    pub use domain_reading::reads_laws;
+    pub use domain_reading::{overwriting_laws, reads_laws};
 }
 
 /// Serial numbers.

@@ -74,6 +74,3 @@ adds_flat t ws ws' name t' w x all e =
       all = whole;
       places = e ∙ ap (λ n. take 128 (ws ++ places_from (length t) n (labels_in name))) (ap length whole ∙ length-append t (wire (labels_in name)));
     }
-
-pub adds_appended : (t : List ℕ) (ws ws' : List Place) (ls : List (List ℕ)) (t' : List ℕ) → Adds t ws ls t' ws' → Appended (MayWrite t ws ls) t t'
-adds_appended t ws ws' ls t' x = record { octets = x.octets; allowed = (x.labels, x.compresses); all = x.all }

@@ -7,3 +7,4 @@ pub mod Marking
 pub mod Bettering
 pub mod Once
 mod Knowing
+pub mod Standing

@@ -6,3 +6,4 @@ pub mod Hashes
 pub mod Composers
 pub mod Beginnings
 pub mod MayWrite
+pub mod Standing

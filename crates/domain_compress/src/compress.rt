@@ -6,7 +6,7 @@ ghost use Rattle.domain_label.specs.Wire.{labels_in, IsAbsoluteWire};
 ghost use Rattle.domain_rdata.specs.ReadBack.{Appended, Exceeds};
 ghost use Rattle.domain_compress.specs.Compressing.{Adds, Place, places_within};
 ghost use Rattle.domain_compress.specs.Hashes.{IsKnown};
-ghost use Rattle.domain_compress.specs.MayWrite.{MayWrite};
+ghost use Rattle.domain_compress.specs.MayWrite.{MayWrite, adds_appended};
 ghost use Rattle.domain_compress.specs.Written.{places};
 
 use crate::append::append_beginning;
@@ -191,6 +191,8 @@ impl<T: Composer> Composer for CompressComposer<T> {
     fn can_compress(&self) -> bool {
         true
     }
+
+    ghost appended = { λ c d ls. adds_appended (T.octets c.target) (written_places c) (written_places d) ls (T.octets d.target) };
 
     ghost reads_back = { λ c ls s name w. compressed_reads_back (T.octets c.target) (places c.written.items) ls w.0 s name w.1 };
 

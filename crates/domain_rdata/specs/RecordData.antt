@@ -12,13 +12,17 @@ pub record NameOctets (ls : List (List ℕ)) (compresses : Bool) (t s : List ℕ
   pub read : ReadsBack t ls s
   pub flat : compresses ≡ false → s ≡ wire ls
 
--- A length in two octets and then as many octets of data were appended.
--- When the data was composed, two octets stood before it.
-pub record LengthAndData (May : List ℕ → List ℕ → Type 0) (old new : List ℕ) : Type 0 where
-  pub before : List ℕ
-  pub two : length before ≡ 2
+-- This length in two octets and then n octets of data were appended, which may be composed behind the length.
+pub record Behind (May : List ℕ → List ℕ → Type 0) (old : List ℕ) (len n : ℕ) (new : List ℕ) : Type 0 where
   pub octets : List ℕ
-  pub allowed : May (old ++ before) octets
+  pub allowed : May (old ++ to_be_bytes w16 len) octets
+  pub size : length octets ≡ n
+  pub all : new ≡ old ++ to_be_bytes w16 len ++ octets
+
+-- A length in two octets and then as many octets of data were appended, which may be composed behind this length.
+pub record LengthAndData (May : List ℕ → List ℕ → Type 0) (old new : List ℕ) : Type 0 where
+  pub octets : List ℕ
+  pub allowed : May (old ++ to_be_bytes w16 (length octets)) octets
   pub few : length octets ≤ 65535
   pub all : new ≡ old ++ to_be_bytes w16 (length octets) ++ octets
 

@@ -2,7 +2,7 @@
 ghost use Rattle.std.specs.Prelude.{◌≡◌, ℕ, ◌++◌, ◌+◌, ◌<◌, ◌≤◌, List, length, OnOk, OnErr, Bool, false, refl};
 ghost use Rattle.domain_label.specs.Wire.{wire, labels_in, IsAbsoluteName, IsAbsoluteWire};
 ghost use Rattle.domain_rdata.specs.ReadBack.{ReadsBack, Appended, Exceeds};
-ghost use Rattle.domain_rdata.specs.FlatNames.{flat_reads_back};
+ghost use Rattle.domain_rdata.specs.FlatNames.{flat_appended, flat_reads_back};
 
 use arrayvec::ArrayVec;
 use domain_list::AbsoluteLabels;
@@ -26,15 +26,19 @@ pub trait Composer: OctetsBuilder + OctetsMut {
     /// The octets that may be appended for the labels of an absolute name, given what was composed.
     ghost may_append: { Self → List (List ℕ) → List ℕ → Type 0 };
 
-    /// Whether names may be written shorter than their wire form.
+    /// Whether names may be written shorter than their wire form. Where it is true they needn't be.
     ghost compresses: { Bool };
 
     /// What the composer remembers of the names that it wrote, where octets alone don't tell.
+    ///
+    /// It is a word of the composer's own: of a composer that isn't known nothing else is promised of it
+    /// than that a refused call leaves it.
     ghost Memory: { Type 0 };
 
     ghost memory: { Self → Memory };
 
-    /// What the composer becomes where the labels of an absolute name were appended.
+    /// What the composer becomes where the labels of an absolute name were appended: by the law `appended`
+    /// octets that may be appended came to its own. What else it tells is the composer's own affair.
     ghost appends: { Self → List (List ℕ) → Self → Type 0 };
 
     /// Appends octets that may be appended for the name whose wire form is given, or nothing.
@@ -75,6 +79,9 @@ pub trait Composer: OctetsBuilder + OctetsMut {
         self.append_flat_name(&wire_octets(name))
     }
 
+    /// Where a name was appended, octets that may be appended for it stand behind those before.
+    ghost appended: { (c d : Self) (ls : List (List ℕ)) → appends c ls d → Appended (may_append c ls) (Self.octets c) (Self.octets d) };
+
     /// What may be appended is read as an equal name.
     ghost reads_back: { (c : Self) (ls : List (List ℕ)) (s : List ℕ) → IsAbsoluteName ls → may_append c ls s → ReadsBack (Self.octets c) ls s };
 
@@ -91,7 +98,7 @@ impl Composer for Vec<u8> {
 
     ghost memory = { λ _. tt };
 
-    ghost appends = { λ _ _ _. Unit {0} };
+    ghost appends = { λ c ls d. d.items ≡ c.items ++ wire ls };
 
     fn append_flat_name(&mut self, name: &[u8]) -> Result<(), Self::AppendError> {
         self.append_slice(name)
@@ -100,6 +107,8 @@ impl Composer for Vec<u8> {
     fn can_compress(&self) -> bool {
         false
     }
+
+    ghost appended = { λ c d ls. flat_appended c.items d.items ls };
 
     ghost reads_back = { λ c ls s. flat_reads_back c.items ls s };
 
@@ -115,7 +124,7 @@ impl<const N: usize> Composer for ArrayVec<u8, N> {
 
     ghost memory = { λ _. tt };
 
-    ghost appends = { λ _ _ _. Unit {0} };
+    ghost appends = { λ c ls d. d.items ≡ c.items ++ wire ls };
 
     fn append_flat_name(&mut self, name: &[u8]) -> Result<(), Self::AppendError> {
         self.append_slice(name)
@@ -124,6 +133,8 @@ impl<const N: usize> Composer for ArrayVec<u8, N> {
     fn can_compress(&self) -> bool {
         false
     }
+
+    ghost appended = { λ c d ls. flat_appended c.items d.items ls };
 
     ghost reads_back = { λ c ls s. flat_reads_back c.items ls s };
 
@@ -148,6 +159,8 @@ impl<T: Composer> Composer for &mut T {
     fn can_compress(&self) -> bool {
         (**self).can_compress()
     }
+
+    ghost appended = { λ c d. T.appended c.now d.now };
 
     ghost reads_back = { λ c. T.reads_back c.now };
 

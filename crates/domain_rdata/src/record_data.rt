@@ -5,14 +5,15 @@ ghost use Rattle.domain_wire.specs.Values.{IsReading};
 ghost use Rattle.domain_wire.specs.declared.error.ParseError.{ParseError};
 ghost use Rattle.std.specs.Int.{w16, to_be_bytes};
 ghost use Rattle.domain_rdata.specs.ReadBack.{Appended, Exceeds};
-ghost use Rattle.domain_rdata.specs.RecordData.{LengthAndData, LengthAndCanonical, ComposeRefused, CanonicalRefused};
+ghost use Rattle.domain_rdata.specs.RecordData.{Behind, LengthAndData, LengthAndCanonical, ExceedsWithLength, ComposeRefused, CanonicalRefused};
 ghost use Rattle.domain_rdata.specs.Rtypes.{rtype_number};
 
 use crate::composer::Composer;
 use crate::long::LongRecordData;
 use crate::rtype::Rtype;
+use arrayvec::ArrayVec;
 use domain_wire::ParseError;
-use octseq::Parser;
+use octseq::{Octets, OctetsBuilder, OctetsMut, Parser, Truncate};
 use std::error::Error;
 use std::fmt;
 
@@ -39,6 +40,9 @@ impl<E> fmt::Display for ComposeRdataError<E> {
 }
 
 impl<E: fmt::Debug + Drop> Error for ComposeRdataError<E> {}
+
+/// The most octets of record data: a length of 16 bits tells no more.
+const MOST_OCTETS: usize = 65535;
 
 /// Writes a length over the two octets at a place.
 fn write_length(octets: &mut [u8], place: usize, len: u16)
@@ -67,7 +71,8 @@ pub trait ComposeRecordData: RecordData {
     /// not.
     ghost composed: { Self → Bool → List ℕ → List ℕ → Type 0 };
 
-    /// The octets of the canonical form (RFC 4034, 6.2).
+    /// The octets of the canonical form (RFC 4034, 6.2). They are what the type says; that they are another
+    /// form of the same data isn't asked of it.
     ghost canonical: { Self → List ℕ };
 
     /// Whether the number of the octets is known, for a target that may write names shorter or for one
@@ -120,32 +125,13 @@ pub trait ComposeRecordData: RecordData {
         ensures why { IfErr result (λ e. ComposeRefused (composed self.now Target.compresses) (Target.octets target.old) (Target.capacity target.old) e) }
         ensures capacity { Target.capacity target.old ≤ Target.capacity target.new }
     {
-        let start = target.as_slice().len();
-        if let Some(len) = self.rdlen(Target::can_compress(target)) {
-            if let Err(e) = target.append_slice(&len.to_be_bytes()) {
-                return Err(ComposeRdataError::Append(e));
-            }
-            if let Err(e) = self.compose_rdata(target) {
-                target.truncate(start);
-                return Err(ComposeRdataError::Append(e));
-            }
-            return Ok(());
+        let Some(len) = self.rdlen(target.can_compress()) else {
+            return compose_measured(self, target);
+        };
+        match compose_behind(self, target, len) {
+            Ok(_len) => Ok(()),
+            Err(e) => Err(ComposeRdataError::Append(e)),
         }
-        if let Err(e) = target.append_slice(&[0, 0]) {
-            return Err(ComposeRdataError::Append(e));
-        }
-        if let Err(e) = self.compose_rdata(target) {
-            target.truncate(start);
-            return Err(ComposeRdataError::Append(e));
-        }
-        let data = start + 2;
-        let len = target.as_slice().len() - data;
-        if len > 65535 {
-            target.truncate(start);
-            return Err(ComposeRdataError::Long(LongRecordData));
-        }
-        write_length(target.as_slice_mut(), start, len as u16);
-        Ok(())
     }
 
     /// Appends the length of the canonical form in two octets, and the canonical form, or nothing.
@@ -188,6 +174,99 @@ pub trait ComposeRecordData: RecordData {
         write_length(target.as_slice_mut(), start, len as u16);
         Ok(())
     }
+
+    /// What may be appended to a target that doesn't write names shorter may be appended to any,
+    /// whatever it holds.
+    ghost flat: { (it : Self) (compresses : Bool) (t u s : List ℕ) → composed it false t s → composed it compresses u s };
+}
+
+/// Appends a length, and behind it the data, or nothing; and tells how many octets the data has.
+fn compose_behind<Data: ComposeRecordData, Target: Composer>(
+    rdata: &Data,
+    target: &mut Target,
+    len: u16,
+) -> Result<usize, Target::AppendError>
+    ensures ok { IfOk result (λ n. Behind (Data.composed rdata.now Target.compresses) (Target.octets target.old) len n (Target.octets target.new)) }
+    ensures err { OnErr result (Target.octets target.new ≡ Target.octets target.old) }
+    ensures full { OnErr result (ExceedsWithLength (Data.composed rdata.now Target.compresses) (Target.octets target.old) (Target.capacity target.old)) }
+    ensures capacity { Target.capacity target.old ≤ Target.capacity target.new }
+{
+    let start = target.as_slice().len();
+    if let Err(e) = target.append_slice(&len.to_be_bytes()) {
+        return Err(e);
+    }
+    if let Err(e) = rdata.compose_rdata(target) {
+        target.truncate(start);
+        return Err(e);
+    }
+    Ok(target.as_slice().len() - (start + 2))
+}
+
+/// Appends data whose length isn't known before it is composed, with its length in front, or nothing.
+///
+/// A target that writes names shorter may lead to any octets that stand before, the length too. So the
+/// data is composed once to be measured, and again behind its length. What it has then may be another
+/// number of octets, where the target was written over so that names are read through the length.
+fn compose_measured<Data: ComposeRecordData, Target: Composer>(
+    rdata: &Data,
+    target: &mut Target,
+) -> Result<(), ComposeRdataError<Target::AppendError>>
+    ensures ok { OnOk result (LengthAndData (Data.composed rdata.now Target.compresses) (Target.octets target.old) (Target.octets target.new)) }
+    ensures err { OnErr result (Target.octets target.new ≡ Target.octets target.old) }
+    ensures why { IfErr result (λ e. ComposeRefused (Data.composed rdata.now Target.compresses) (Target.octets target.old) (Target.capacity target.old) e) }
+    ensures capacity { Target.capacity target.old ≤ Target.capacity target.new }
+{
+    let start = target.as_slice().len();
+    let len = match compose_behind(rdata, target, 0) {
+        Ok(len) => len,
+        Err(e) => return Err(ComposeRdataError::Append(e)),
+    };
+    if len > MOST_OCTETS {
+        target.truncate(start);
+        return Err(ComposeRdataError::Long(LongRecordData));
+    }
+    if !target.can_compress() {
+        write_length(target.as_slice_mut(), start, len as u16);
+        return Ok(());
+    }
+    target.truncate(start);
+    let again = match compose_behind(rdata, target, len as u16) {
+        Ok(again) => again,
+        Err(e) => return Err(ComposeRdataError::Append(e)),
+    };
+    if again == len {
+        return Ok(());
+    }
+    target.truncate(start);
+    compose_flat(rdata, target)
+}
+
+/// Appends the data with its length in front and with no name shorter, or nothing.
+#[cold]
+#[inline(never)]
+fn compose_flat<Data: ComposeRecordData, Target: Composer>(
+    rdata: &Data,
+    target: &mut Target,
+) -> Result<(), ComposeRdataError<Target::AppendError>>
+    ensures ok { OnOk result (LengthAndData (Data.composed rdata.now Target.compresses) (Target.octets target.old) (Target.octets target.new)) }
+    ensures err { OnErr result (Target.octets target.new ≡ Target.octets target.old) }
+    ensures why { IfErr result (λ e. ComposeRefused (Data.composed rdata.now Target.compresses) (Target.octets target.old) (Target.capacity target.old) e) }
+    ensures capacity { Target.capacity target.old ≤ Target.capacity target.new }
+{
+    let mut octets = ArrayVec::<u8, MOST_OCTETS>::new();
+    let Ok(()) = rdata.compose_rdata(&mut octets) else {
+        return Err(ComposeRdataError::Long(LongRecordData));
+    };
+    let start = target.as_slice().len();
+    let len = octets.len() as u16;
+    if let Err(e) = target.append_slice(&len.to_be_bytes()) {
+        return Err(ComposeRdataError::Append(e));
+    }
+    if let Err(e) = target.append_slice(octets.as_slice()) {
+        target.truncate(start);
+        return Err(ComposeRdataError::Append(e));
+    }
+    Ok(())
 }
 
 impl<T: RecordData> RecordData for &T {
@@ -222,6 +301,8 @@ impl<T: ComposeRecordData> ComposeRecordData for &T {
     ) -> Result<(), Target::AppendError> {
         (**self).compose_canonical_rdata(target)
     }
+
+    ghost flat = { λ it. T.flat it.now };
 }
 
 /// Record data that is read from a message, of the types that it is made for.

@@ -14,7 +14,9 @@ ghost use Rattle.domain_rdata.specs.UnknownReading.{all_that_is_left};
 
 use crate::composer::Composer;
 use crate::long::LongRecordData;
-use crate::record_data::{ComposeRecordData, ParseRecordData, RecordData};
+use crate::record_data::{
+    ComposeRecordData, ParseAnyRecordData, ParseRecordData, RecordData,
+};
 use crate::rtype::Rtype;
 use arrayvec::ArrayVec;
 use domain_label::hex::hex_digit;
@@ -171,6 +173,8 @@ impl<Octs: Octets> ComposeRecordData for UnknownRecordData<Octs> {
     ) -> Result<(), Target::AppendError> {
         target.append_slice(self.octets.as_slice())
     }
+
+    ghost flat = { λ _ _ _ _ _ h. h };
 }
 
 impl<'a> UnknownRecordData<&'a [u8]> {
@@ -218,6 +222,28 @@ impl<'a> ParseRecordData<'a> for UnknownRecordData<&'a [u8]> {
         parser: &mut Parser<'a>,
     ) -> Result<Option<UnknownRecordData<&'a [u8]>>, ParseError> {
         Ok(Some(UnknownRecordData::parse_any_rdata(rtype, parser)?))
+    }
+
+    ghost lawful = { λ _. all_that_is_left };
+}
+
+/// Takes all that is left, whatever the type.
+impl<'a> ParseAnyRecordData<'a> for UnknownRecordData<&'a [u8]> {
+    ghost use Rattle.domain_rdata.specs.Unknown.{data_octets};
+
+    ghost View = { List ℕ };
+
+    ghost seen = { data_octets };
+
+    ghost stands = { λ _. IsAllThatIsLeft };
+
+    ghost fails = { λ _. TooMuchIsLeft };
+
+    fn parse_any_rdata(
+        rtype: Rtype,
+        parser: &mut Parser<'a>,
+    ) -> Result<UnknownRecordData<&'a [u8]>, ParseError> {
+        UnknownRecordData::parse_any_rdata(rtype, parser)
     }
 
     ghost lawful = { λ _. all_that_is_left };

@@ -1,4 +1,5 @@
 pub mod Reading
+pub mod Touching
 pub mod Walking
 pub mod Fronts
 pub mod Naming

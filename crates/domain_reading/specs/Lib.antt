@@ -5,3 +5,4 @@ pub mod Places
 pub mod Heads
 pub mod Progress
 pub mod Outcomes
+pub mod Touched

@@ -1,9 +1,10 @@
 //! Laws of reading names.
-ghost use Rattle.std.specs.Prelude.{◌≡◌, ℕ, ◌+◌, ◌⊎◌, List, ◌++◌, length};
+ghost use Rattle.std.specs.Prelude.{◌≡◌, ℕ, ◌+◌, ◌<◌, ◌≤◌, ◌⊎◌, List, ◌++◌, length, drop};
 ghost use Rattle.domain_label.specs.Wire.{wire, IsAbsoluteName};
-ghost use Rattle.domain_reading.specs.Grammar.{Reads, Names, Front, EndsBefore, Stop, root, Base};
+ghost use Rattle.domain_reading.specs.Grammar.{PointerAt, Reads, Names, Flat, Front, EndsBefore, Stop, root, Base};
 ghost use Rattle.domain_reading.specs.Faults.{Fault, Skips, SkipFault};
 ghost use Rattle.domain_reading.specs.Labels.{labels_at};
+ghost use Rattle.domain_reading.specs.Touched.{Touches, IsKept, ReadsBehind};
 ghost use Rattle.domain_reading.specs.declared.fault.NameFault.{NameFault};
 
 /// What holds of names in messages. The call does nothing: its contract is the laws.
@@ -30,4 +31,22 @@ pub fn reads_laws()
     ensures skips_or_not { (m : List ℕ) (p : ℕ) → ((e : ℕ) × Skips m p e) ⊎ ((d : NameFault) × SkipFault m p d) }
     ensures skips_not_both { (m : List ℕ) (p e : ℕ) (d : NameFault) → Skips m p e → SkipFault m p d → ⊥ }
     ensures one_skip_fault { (m : List ℕ) (p : ℕ) (d e : NameFault) → SkipFault m p d → SkipFault m p e → d ≡ e }
+{}
+
+/// What holds of names in a message whose octets are written over. The call does nothing: its contract is
+/// the laws.
+///
+/// A name is read from some octets of the message (`Touches`). Where these stay, the same labels are read,
+/// whatever becomes of the others. So what is read from the place n on alone is read, and is a name, whatever
+/// is written before n. A name that is read through no pointer is read from its own place on, and one whose
+/// labels and pointer stand behind n, from n on where what the pointer leads to is.
+pub fn overwriting_laws()
+    ensures kept { (m w : List ℕ) (p k : ℕ) (ls : List (List ℕ)) (r : Reads m p k ls) → ((i : ℕ) → Touches r i → IsKept m w i) → Reads w p k ls }
+    ensures inside { (m : List ℕ) (p k : ℕ) (ls : List (List ℕ)) (r : Reads m p k ls) (i : ℕ) → Touches r i → i < length m }
+    ensures behind { (n : ℕ) (m w : List ℕ) (p : ℕ) (ls : List (List ℕ)) → ReadsBehind n m p ls → drop n w ≡ drop n m → ReadsBehind n w p ls }
+    ensures more { (n : ℕ) (m u : List ℕ) (p : ℕ) (ls : List (List ℕ)) → ReadsBehind n m p ls → ReadsBehind n (m ++ u) p ls }
+    ensures name { (n k : ℕ) (m w : List ℕ) (p : ℕ) (xs ls : List (List ℕ)) → ReadsBehind n m p xs → drop n w ≡ drop n m → Names k m p ls → Names k w p ls }
+    ensures flat { (m : List ℕ) (p : ℕ) (ls : List (List ℕ)) → Names 0 m p ls → ReadsBehind p m p ls }
+    ensures labels { (n : ℕ) (m : List ℕ) (p r : ℕ) (fs ls : List (List ℕ)) → n ≤ p → Flat m p fs r → ReadsBehind n m r ls → ReadsBehind n m p (fs ++ ls) }
+    ensures pointer { (n : ℕ) (m : List ℕ) (p q : ℕ) (ls : List (List ℕ)) → n ≤ p → PointerAt m p q → q < p → ReadsBehind n m q ls → ReadsBehind n m p ls }
 {}

@@ -11,4 +11,4 @@ pub mod progress;
 pub mod read;
 pub mod standing;
 
-pub use laws::reads_laws;
+pub use laws::{overwriting_laws, reads_laws};

@@ -3,7 +3,9 @@
 ghost use Rattle.std.specs.Prelude.{if◌then◌else◌, false, true};
 ghost use Rattle.domain_label.specs.Low.{low_all};
 ghost use Rattle.domain_label.specs.Wire.{wire};
+ghost use Rattle.domain_name.proofs.Shapes.{flat_absolute};
 ghost use Rattle.domain_name.specs.Names.{name_labels};
+ghost use Rattle.domain_rdata.specs.FlatNames.{flat_name_octets};
 ghost use Rattle.domain_rdata.specs.RecordData.{NameOctets};
 
 use crate::names::absolute;
@@ -353,6 +355,8 @@ impl<'a> ComposeRecordData for NameData<'a> {
     ) -> Result<(), Target::AppendError> {
         self.name.compose_canonical(target)
     }
+
+    ghost flat = { λ it c t u s. flat_name_octets (name_labels it.name) c t u s (flat_absolute it.name) };
 }
 
 /// Appends `www.example.com.`, and data behind it.

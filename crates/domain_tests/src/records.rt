@@ -50,6 +50,8 @@ impl<'a> ComposeRecordData for Unmeasured<'a> {
     ) -> Result<(), Target::AppendError> {
         target.append_slice(self.octets)
     }
+
+    ghost flat = { λ _ _ _ _ _ all. all };
 }
 
 /// So many octets that are zero.

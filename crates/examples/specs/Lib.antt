@@ -1,2 +1,4 @@
+pub mod Addresses
+pub mod AnyTypes
 pub mod CharacterStrings
 pub mod Hosts
