@@ -324,6 +324,11 @@ LABELS = [b"", b"\1", b"*", b"\xc8", b"example", b"eXAMple", b"e4ample", b"aB", 
 for one in LABELS:
     for other in LABELS:
         row("label", one, other)
+for octets, label in ((b"\3WWWabc", 4), (b"\0abc", 1), (b"\1a", 2), (b"\0", 1), (b"\x3f" + b"A" * 99, 64), (b"\x3f" + b"A" * 63, 64), (b"\2ab\3abc", 3)):
+    own("restfill", octets, "ok " + hx(octets[:label] + b"*" * (len(octets) - label)))
+for octets in (b"", b"\2a", b"\x41WWW", b"\x80WWW", b"\xc0\0WWW", b"\xc0", b"\x3f" + b"A" * 62):
+    own("restfill", octets, "err " + hx(octets))
+
 topic("the labels of a slice")
 for octets, start, answer in (
     (b"\xc0\0", 0, "none"), (b"\1a\xc0\0", 0, "61,61"), (b"\7example\3com\0", 8, "636f6d,-"),
@@ -442,6 +447,7 @@ for octets in FLAT:
         row("chainforms", octets[:first], octets[first:-1])
     for labels in (0, 1, 2, 3, 1000):
         row("fromflat", octets, labels)
+told("keep", absolute(b"www"), "0377777700 03777777")
 for octets in PARTS + [b"\1*"]:
     for word in ("relforms", "relshow", "relwalk", "rooted", "relkeep"):
         row(word, octets)
@@ -457,6 +463,28 @@ told("chainforms", rel(b"www"), absolute(b"com"), "made={0} canonical={0} cow=ow
     hx(absolute(b"www", b"com")), hx(b"www.com.")))
 row("forms", absolute(b"www", b"examples", b"com"))
 row("pforms", b"\3com\0\7exampleS\xc0\0\3www\xc0\5".replace(b"\7exampleS", b"\10exampleS"), 16)
+
+topic("names in rooms of each size")
+for message, place, name in ((SCATTERED, 15, WWW), (WWW, 0, WWW), (SCATTERED, 0, absolute(b"com")), (b"\0", 0, b"\0"), (MIXED, 0, MIXED)):
+    for size in range(18):
+        held = b"\xaa" * (17 - size)
+        own("room", message, place, size, " / ".join(" ".join(
+            "ok " + hx(held + octets) if len(octets) <= size else "err " + hx(held) for octets in (made, made.lower())) for made in (name, name, name[:-1])))
+own("room", WWW, 0, 18, "bad")
+own("room", WWW, 1, 17, "bad")
+for message, place, name in ((SCATTERED, 15, WWW), (WWW, 0, WWW), (MIXED, 0, MIXED), (SCATTERED, 0, absolute(b"com")), (b"\0", 0, b"\0"), (LONG + b"\x03123\0", 0, LONG + b"\x03123\0"),
+                             (absolute(b"wWw", b"Examples"), 0, absolute(b"wWw", b"Examples")), (absolute(b"www", b"examples", b"com"), 0, absolute(b"www", b"examples", b"com"))):
+    for size in (0, 16, 17):
+        own("sized", message, place, size, " ".join(hx(octets) if len(octets) <= size else "buffer size exceeded" for octets in (name, name.lower())))
+own("sized", WWW, 0, 15, "bad")
+topic("room that is asked for")
+for size in (0, 1, 7, 8, 9, 17, 253, 254, 255, 256, 257, 16384, 65535, 65536, 1000000):
+    own("capacity", size, "ok ok ok ok ok")
+own("capacity", 2**64 - 1, "err ok err err ok")
+own("capacity", 2**63, "err ok err err ok")
+for field in (2**64, "x", "-1", ""):
+    own("capacity", field, "bad")
+
 topic("names shown, and their labels")
 told("show", WWW, "text=%s dotted=%s rrsig=3 labels=4 canonical=%s first=777777 suffixes=%s,%s,%s,00" % (
     hx(b"www.example.com"), hx(b"www.example.com."), hx(WWW), hx(WWW), hx(WWW[4:]), hx(WWW[12:])))
@@ -525,6 +553,7 @@ for one in SET:
             row("relcmp", one[:-1], other[:-1])
 told("cmp", absolute(b"b"), absolute(b"aa"), "eq=0 cmp=> composed=< lower=< starts=0 ends=0 hash=016200 02616100")
 told("cmp", absolute(b"B"), absolute(b"a"), "eq=0 cmp=> composed=< lower=> starts=0 ends=0 hash=016200 016100")
+told("cmp", absolute(b"\1a"), absolute(b"a"), "eq=0 cmp=< composed=> lower=> starts=0 ends=0 hash=02016100 016100")
 for one in PARTS:
     for other in PARTS:
         row("relcmp", one, other)
@@ -574,7 +603,10 @@ for at, one in enumerate(RISING):
         cmp = "<" if at < place else "=" if at == place else ">"
         row("pcmp", BESIDE, len(b"".join(RISING[:at])), len(b"".join(RISING[:place])))
         promised.append((rows[-1][0], " cmp=%s " % cmp))
+    promised.append(("cmp %s %s" % (hx(one), hx(RISING[5])), " ends=%d " % (at >= 5)))
 told("walk", b"123\0", 3, "- - - f00 none f00 1 0 - 2e 00")
+told("pname", SCATTERED, 15, absolute(b"wWw", b"EXAMPLE", b"com"), " / ".join(
+    "eq=1 cmp== composed=%s lower== starts=1 ends=1 hash=%s %s" % (sign, hx(WWW), hx(WWW)) for sign in "><"))
 
 
 topic("names in canonical order")
@@ -679,6 +711,7 @@ told("parse", b"\1a\1b\xc0\0", 0, "err 0 long domain name")
 told("parse", b"\4\1a\xc0\1\xc0\1", 0, "err 0 long domain name")
 told("parse", FAR, 16386, "ok 0179017a00 c 16390")
 told("parse", FAR, 16388, "ok 017a00 f 16390")
+told("parse", FAR, 0, "err 0 invalid label type")
 row("parse", b"\3www\0" + b"\x55" * 600 + b"\1a\xc0\0", 605)
 row("pforms", b"\3www\0" + b"\x55" * 600 + b"\1a\xc0\0", 605)
 row("walk", b"\3www\0" + b"\x55" * 600 + b"\1a\xc0\0", 605)
@@ -723,6 +756,8 @@ told("parentswalk", SCATTERED, 21, "bad")
 told("mixture", WWW, 0, 0, "fbbffb", "777777,-,636f6d,6578616d706c65,none,none")
 told("mixture", SCATTERED, 15, 0, "bbbbf", "-,636f6d,6578616d706c65,777777,none")
 told("mixture", SCATTERED, 15, 0, "fbbff", "777777,-,636f6d,6578616d706c65,none")
+told("mixture", SCATTERED + b"\xff" * 100, 15, 0, "bbbbb", "-,636f6d,6578616d706c65,777777,none")
+told("mixture", SCATTERED, 15, 1, "bfbfb", "-,6578616d706c65,636f6d,none,none")
 told("mixture", SCATTERED, 15, 1, "bfff", "-,6578616d706c65,636f6d,none")
 told("mixture", SCATTERED, 15, 9, "fb", "-,none")
 told("mixture", MOST, 509, 126, "bff", "-,61,none")
@@ -979,6 +1014,14 @@ for front in (b"\xc0", b"\xc0\0", b"\x40a", b"\x80", b"\2a", b"\0", b"\1a\0", LO
     row("build", called(("from", front), ("push", b"x"), "into_name"))
 for calls in ("nothing", "push", "push:6162", "push:", "push:6", "label:0", "name:00", "name:02", "char:6161", "char:-", "origin:01", "origin:-", "chars:ff", "dec:-", "end;", ";end", "simple:", "end;x"):
     told("build", calls, "bad")
+told("build", called(("label", b"1" * 63), ("label", b"2" * 63), ("label", b"3" * 61), ("slice", b"4" * 63), ("push", b"5")),
+     "ok;ok;ok;ok;LongName %s 1" % hx(rel(b"1" * 63, b"2" * 63, b"3" * 61) + b"\0" + b"4" * 63))
+told("build", called(("label", b"1" * 63), ("label", b"2" * 63), ("label", b"3" * 61), ("slice", b"4" * 62), ("push", b"5"), ("push", b"6"), "finish"),
+     "ok;ok;ok;ok;ok;LongName;ok " + hx(rel(b"1" * 63, b"2" * 63, b"3" * 61, b"4" * 62 + b"5")))
+for last in ("finish", "into_name", "origin:00"):
+    for calls in ("%s;push:61", "%s;end", "push:61;%s;finish", "%s;into_name", "%s;origin:00", "from:0161;%s;slice:-"):
+        own("build", calls % last, "bad")
+        own("buildcap", 5, calls % last, "bad")
 told("build 0161 0162", "bad")
 told("build", "bad")
 own("buildcap", 9, "end", "bad")
@@ -1112,6 +1155,8 @@ told("longdata", 65535, "ok 65535")
 told("longdata", 65536, "err record data too long")
 told("longdata", 65537, "err record data too long")
 told("longdata", 100000, "err record data too long")
+for size in (1, 254, 255, 256, 257, 16384, 32767, 32768, 65534):
+    told("longdata", size, "ok %d" % size)
 told("lengths", "65535,0", "ok")
 told("lengths", "65535,1", "err record data too long")
 told("lengths", "18446744073709551615,1", "err record data too long")
@@ -1132,10 +1177,68 @@ for octets, begin, end, calls, answer in (
 
 topic("texts of errors")
 LABEL_LONG, LONG_TEXT, SHORT, INPUT, ESCAPE = "label length limit exceeded", "long domain name", "buffer size exceeded", "unexpected end of input", "illegal escape sequence"
+TOOL = [INPUT, SHORT, "reading failed", "writing failed", "out of memory"]
 own("errors", "".join(it + ";" for it in (
     ["long label", LABEL_LONG, LONG_TEXT, LONG_TEXT, SHORT, SHORT] + [LONG_TEXT, LONG_TEXT, SHORT, SHORT] + [INPUT] * 4 + [ESCAPE] * 4 + ["illegal character"] * 4
     + ["a binary label was encountered"] * 3 + [LABEL_LONG] * 3 + ["empty label"] * 3 + [LONG_TEXT] * 3 + [SHORT, "absolute domain name"]
-    + ["record data too long", "record data too long", SHORT, "record data too long", "illegal signature time"])))
+    + ["record data too long", "record data too long", SHORT, "record data too long", "illegal signature time"] + TOOL)))
+
+topic("the program's words")
+USAGE = b"usage: dnsnames at PLACE [--pointers N] | dnsnames text NAME | dnsnames list\n"
+ENDED, MANY = b"unexpected end of input\n", b"too many compression pointers\n"
+ANSWER = bytes.fromhex("123481800001000100000000" "0161000001 0001" "c00c00010001 00000e10 0004 c0000201")
+QUESTION, RECORD = b"question a. 1 1\n", b"answer a. 1 1 3600 \\# 4 c0 00 02 01\n"
+
+
+def ran(texts, octets, status, shown=b"", reason=b""):
+    words = ",".join(hx(text.encode()) for text in texts) or "none"
+    own("run", words, octets, "%d %s %s" % (status, hx(shown), hx(reason)))
+
+
+for place, shown in (("0", b"www.example.com.\n"), ("4", b"example.com.\n"), ("16", b".\n"), ("12", b"com.\n"), ("00", b"www.example.com.\n"), ("0000000004", b"example.com.\n")):
+    ran(["at", place], WWW, 0, shown)
+for place in ("17", "18", "4294967295"):
+    ran(["at", place], WWW, 1, b"", ENDED)
+ran(["at", "0"], absolute(octet_label), 0, b"a\\.\\\\\\ \\007\\128A.\n")
+for octets, reason in ((b"\x40a\0", b"invalid label type\n"), (b"\xc0\0", MANY), (b"\1a\xc0\0", b"long domain name\n"), (b"", ENDED)):
+    ran(["at", "0"], octets, 1, b"", reason)
+for place in ("4294967296", "00000000000", "x", "", "+1", "-1", "1 ", "\u0661"):
+    ran(["at", place], WWW, 2, b"", USAGE)
+for texts in ([], ["at"], ["at", "0", "0"], ["AT", "0"], ["text"], ["text", "a", "b"], ["list", "0"], ["at", "15", "--pointers"], ["at", "x", "--pointers", "2"], ["at", "0", "--pointer", "2"], ["", ""]):
+    ran(texts, SCATTERED, 2, b"", USAGE)
+ran(["at", "00"], b"\0", 0, b".\n")
+for place, shown in (("0", b"com.\n"), ("4", b".\n"), ("5", b"example.com.\n"), ("15", b"www.example.com.\n")):
+    ran(["at", place], SCATTERED, 0, shown)
+    ran(["at", place], SCATTERED.replace(b"example", b"Example"), 0, shown.replace(b"example", b"Example"))
+for place in ("21", "22"):
+    ran(["at", place], SCATTERED, 1, b"", ENDED)
+ran(["at", "0"], INSIDE, 0, b"\\001a\\000.a.\n")
+ran(["at", "0"], rel(*[b"\x80" * 63] * 3, b"\xff" * 61) + b"\0", 0, b".".join([b"\\128" * 63] * 3 + [b"\\255" * 61]) + b".\n")
+for limit, status, shown, reason in (("2", 0, b"www.example.com.\n", b""), ("002", 0, b"www.example.com.\n", b""), ("255", 0, b"www.example.com.\n", b""), ("1", 1, b"", MANY), ("0", 1, b"", MANY),
+                                     ("256", 2, b"", USAGE), ("0002", 2, b"", USAGE), ("+2", 2, b"", USAGE), ("", 2, b"", USAGE)):
+    ran(["at", "15", "--pointers", limit], SCATTERED, status, shown, reason)
+for size in (1, 255, 256, 16384, 65534, 65535, 65536, 65537, 100000):
+    for place in (0, size - 1):
+        ran(["at", str(place)], "zeros:%d" % size, 0, b".\n")
+    ran(["at", str(size)], "zeros:%d" % size, 1, b"", ENDED)
+    if size > 11:
+        ran(["list"], "zeros:%d" % size, 0)
+ran(["at", "0"], "zeros:0", 1, b"", ENDED)
+for line in ("run 6174,30 zeros:x", "run 6174,30 zeros:100001", "run 6174,30 ones:1", "run 6174,30", "run 6174,3 00", "run ff 00", "run , 00", "run 6174,30 00 00"):
+    own(line, "bad")
+for text, wire in (("www.example.com", WWW), ("www.example.com.", WWW), ("a\\065.b", b"\2aA\1b\0"), (".", b"\0"), (LABEL * 25 + "123", LONG + b"\x03123\0")):
+    ran(["text", text], b"", 0, hx(wire).encode() + b"\n")
+for text, reason in (("", ENDED), ("a..b", b"empty label\n"), (".a", b"empty label\n"), ("\\", ENDED), ("\\256", b"illegal escape sequence\n"), ("\u00e9", b"illegal character\n"),
+                     ("\\[a", b"a binary label was encountered\n"), ("1" * 64, b"label length limit exceeded\n"), (LABEL * 25 + "1234", b"long domain name\n")):
+    ran(["text", text], b"", 1, b"", reason)
+ran(["list"], ANSWER, 0, QUESTION + RECORD)
+ran(["list"], ANSWER + b"\xff" * 9, 0, QUESTION + RECORD)
+ran(["list"], ANSWER[:-1], 1, QUESTION, ENDED)
+ran(["list"], ANSWER[:4] + b"\0\2" + b"\0" * 6 + b"\1a\0\0\1\0\1", 1, QUESTION, ENDED)
+ran(["list"], b"\0" * 11, 1, b"", ENDED)
+ran(["list"], b"\0" * 12, 0)
+ran(["list"], ANSWER[:4] + b"\xff" * 8, 1, b"", ENDED)
+ran(["list"], ANSWER[:4] + b"\0\1" + b"\0" * 6 + b"\xc0\x0c\0\1\0\1", 1, b"", MANY)
 
 
 

@@ -85,6 +85,12 @@ impl Answer {
         self.agree(a == b, call);
     }
 
+    /// Octets for which memory was asked once, and for no more than they are, have room for no more: 8 octets are the
+    /// least that a `Vec` asks for where it grows. If it grew on the way, it would have room for twice what it had.
+    pub fn asked_once(&mut self, octets: &Vec<u8>, call: &[u8]) {
+        self.agree(octets.capacity() <= octets.len().max(8), call);
+    }
+
     /// Appends octets as they are.
     pub fn put(&mut self, octets: &[u8]) {
         if self.octets.extend_from_slice(octets).is_err() {

@@ -130,6 +130,10 @@ fn plan_of<'a>(
     let mut front: &'a [u8] = b"";
     let mut last = Last::Nothing;
     for (at, field) in line.split(|octet| *octet == b';').enumerate() {
+        if !matches!(last, Last::Nothing) {
+            // The builder is gone: no call stands behind one that takes it.
+            out.fail(Fail::Bad);
+        }
         let (word, _digits) = split_once(field, b':');
         let octets = match arguments.get(at) {
             Some(argument) => argument.as_slice(),
@@ -172,7 +176,9 @@ fn put_line(out: &mut Answer, room: Option<usize>, line: &[u8]) {
         last,
     };
     if let Some(room) = room {
-        let _begun = put_built_in_room(out, plan, room);
+        if put_built_in_room(out, plan, room) {
+            is_copied_in_an_array(out, plan);
+        }
     } else if put_built::<Vec<u8>>(out, plan) {
         takes_symbols(out, plan);
     }
@@ -376,7 +382,7 @@ where
     }
 }
 
-/// The symbols of each text do what its characters do.
+/// The symbols of each text do what its characters do, and a copy of the builder goes on as the builder does.
 fn takes_symbols(out: &mut Answer, plan: Plan<'_>) {
     let Some(mut builder) = begun::<Vec<u8>>(out, plan.front) else {
         return;
@@ -387,7 +393,38 @@ fn takes_symbols(out: &mut Answer, plan: Plan<'_>) {
                 takes_symbols_alike(out, &builder, text, symbols.as_slice());
             }
         }
-        let _accepted = builder.apply_all(&[*call]);
+        goes_on_as_its_copy(out, &mut builder, *call);
+    }
+}
+
+/// A copy that was made before a call takes it as the builder does.
+fn goes_on_as_its_copy(
+    out: &mut Answer,
+    builder: &mut NameBuilder<Vec<u8>>,
+    call: BuilderCall<'_>,
+) {
+    let Ok(mut copy) = builder.clone(out.alloc()) else {
+        return out.fail(Fail::Memory);
+    };
+    out.same(copy.as_slice(), builder.as_slice(), b"clone");
+    let accepted = copy.apply_all(&[call]);
+    out.agree(builder.apply_all(&[call]) == accepted, b"clone");
+    out.same(copy.as_slice(), builder.as_slice(), b"clone");
+    out.agree(copy.in_label() == builder.in_label(), b"clone");
+}
+
+/// A builder over an array of 255 octets that took all calls, and a copy of it.
+fn is_copied_in_an_array(out: &mut Answer, plan: Plan<'_>) {
+    let Some(mut builder) = begun::<ArrayVec<u8, 255>>(out, plan.front) else {
+        return;
+    };
+    let _accepted = builder.apply_all(plan.calls);
+    match builder.clone(out.alloc()) {
+        Ok(copy) => {
+            out.same(copy.as_slice(), builder.as_slice(), b"clone");
+            out.agree(copy.in_label() == builder.in_label(), b"clone");
+        }
+        Err(_) => out.wrong(b"clone"),
     }
 }
 

@@ -28,11 +28,10 @@ fn relative_chain<'a>(left: &'a [u8], right: &'a [u8]) -> Option<Relatively<'a>>
 }
 
 /// A chain's wire form, its length and its labels from the back.
-fn put_chain_of<'a, N: ToLabelIter<'a>>(out: &mut Answer, chain: &'a N) {
-    let labels = chain.iter_labels();
+fn put_chain_of<'a, I: LabelIterator<'a>>(out: &mut Answer, labels: I, len: u16) {
     let wire = wire_of(out, labels);
     out.put_hex_behind(b"ok ", wire.as_slice());
-    out.put_text_behind(b" ", chain.compose_len());
+    out.put_text_behind(b" ", len);
     out.put(b" ");
     out.put_turned(labels);
 }
@@ -58,7 +57,7 @@ pub fn put_chain(out: &mut Answer, left: &[u8], right: &[u8]) {
 fn put_absolute_chain(out: &mut Answer, left: RelativeName<&[u8]>, right: Name<&[u8]>) {
     match left.chain(right) {
         Ok(chain) => {
-            put_chain_of(out, &chain);
+            put_chain_of(out, chain.iter_labels(), chain.compose_len());
             out.agree(chain.is_absolute(), b"is_absolute");
             let (one, other) = chain.unwrap();
             out.same(one.as_slice(), left.as_slice(), b"unwrap");
@@ -71,7 +70,7 @@ fn put_absolute_chain(out: &mut Answer, left: RelativeName<&[u8]>, right: Name<&
 fn put_relative_chain(out: &mut Answer, left: RelativeName<&[u8]>, right: RelativeName<&[u8]>) {
     match left.chain(right) {
         Ok(chain) => {
-            put_chain_of(out, &chain);
+            put_chain_of(out, chain.iter_labels(), chain.compose_len());
             out.agree(!chain.is_absolute(), b"is_absolute");
             let (one, other) = chain.unwrap();
             out.same(one.as_slice(), left.as_slice(), b"unwrap");
@@ -108,12 +107,8 @@ pub fn put_rooted(out: &mut Answer, octets: &[u8]) {
     let Ok(name) = RelativeName::from_slice(octets) else {
         return out.fail(Fail::Bad);
     };
-    put_absolute_name(out, &name.chain_root());
-}
-
-/// What a chain has, and its text.
-fn put_absolute_name<'a, N: AbsoluteLabels<'a>>(out: &mut Answer, chain: &'a N) {
-    put_chain_of(out, chain);
+    let chain = name.chain_root();
+    put_chain_of(out, chain.iter_labels(), chain.compose_len());
     out.put_shown_behind(b" ", chain.fmt_with_dot());
 }
 

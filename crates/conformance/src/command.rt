@@ -4,28 +4,32 @@ use crate::address::put_address;
 use crate::answer::Answer;
 use crate::building::{put_absolute, put_build, put_buildcap};
 use crate::canonical::{put_canonical, put_parsed_canonical};
+use crate::capacity::put_capacity;
 use crate::chains::{
     put_chain, put_chaincmp, put_chainends, put_chainforms, put_chainrel, put_chainstrip,
     put_chainwalk, put_pchain, put_rooted,
 };
 use crate::compare::{put_cmp, put_ends, put_pcmp, put_pname, put_prel, put_relcmp};
-use crate::compress::put_compressed;
+use crate::compress::{put_compressed, put_compressedcap};
 use crate::errors::put_errors;
 use crate::fail::Fail;
 use crate::fields::{Fields, is};
 use crate::flat::{put_flatwalk, put_name, put_part, put_show, put_split, put_strip};
 use crate::kept::{put_empty, put_fromflat, put_keep, put_relkeep, put_root, put_wildcard};
 use crate::labels::{
-    put_label, put_labelerrors, put_labelfill, put_labelmut, put_nameerrors, put_slice,
-    put_splitlabel, put_splitmut,
+    put_label, put_labelerrors, put_labelfill, put_labelmut, put_nameerrors, put_restfill,
+    put_slice, put_splitlabel, put_splitmut,
 };
-use crate::made::{put_flat_forms, put_lent_forms, put_parsed_forms, put_relative_flat_forms};
+use crate::made::{
+    put_flat_forms, put_lent_forms, put_parsed_forms, put_relative_flat_forms, put_room, put_sized,
+};
 use crate::message::{
     put_limited, put_mixture, put_nparse, put_parentswalk, put_parse, put_rest, put_skip, put_walk,
 };
 use crate::numbers::{put_arrays, put_composevec, put_ints, put_signed, put_unsigned, put_whole};
 use crate::octets::{put_append, put_from, put_truncate, put_write};
 use crate::parser::put_calls;
+use crate::program::put_run;
 use crate::records::{put_lengths, put_longdata, put_rdata, put_rdatacmp, put_rev};
 use crate::relative::{put_rel, put_relpart, put_relshow, put_relsplit, put_relstrip, put_relwalk};
 use crate::serials::{put_add, put_serial};
@@ -172,6 +176,12 @@ fn respond_told(call: Told, fields: Fields<'_>, out: &mut Answer) {
         Told::Add => put_add(out, first, second),
         Told::Build => put_build(out, first),
         Told::Compress => put_compressed(out, first),
+        Told::Compresscap => {
+            let room = fields.number(1, out);
+            put_compressedcap(out, room, second);
+        }
+        Told::Capacity => put_capacity(out, first),
+        Told::Run => put_run(out, first, second),
         Told::Longdata => {
             let len = fields.number(1, out);
             put_longdata(out, len);
@@ -179,7 +189,9 @@ fn respond_told(call: Told, fields: Fields<'_>, out: &mut Answer) {
         Told::Lengths => put_lengths(out, first),
     }
     match call {
-        Told::Build | Told::Compress | Told::Longdata | Told::Lengths => fields.expect(2, out),
+        Told::Build | Told::Compress | Told::Longdata | Told::Lengths | Told::Capacity => {
+            fields.expect(2, out);
+        }
         _ => fields.expect(3, out),
     }
 }
@@ -196,6 +208,7 @@ fn respond_alone(call: Alone, octets: &[u8], out: &mut Answer) {
         Alone::Splitmut => put_splitmut(out, octets),
         Alone::Labelmut => put_labelmut(out, octets),
         Alone::Labelfill => put_labelfill(out, octets),
+        Alone::Restfill => put_restfill(out, octets),
         Alone::Labelerrors => put_labelerrors(out, octets),
         Alone::Nameerrors => put_nameerrors(out, octets),
     }
@@ -259,6 +272,8 @@ fn respond_ranged(call: Ranged, octets: &[u8], begin: usize, end: usize, out: &m
         Ranged::Rest => put_rest(out, octets, begin, end),
         Ranged::Parselimit => put_limited(out, octets, begin, end),
         Ranged::Pcanonical => put_parsed_canonical(out, octets, begin, end),
+        Ranged::Room => put_room(out, octets, begin, end),
+        Ranged::Sized => put_sized(out, octets, begin, end),
     }
 }
 

@@ -10,51 +10,111 @@ ghost use Rattle.domain_rdata.specs.RecordData.{NameOctets};
 use crate::answer::Answer;
 use crate::fail::Fail;
 use crate::fields::{decimal, is, octets_of, split_once};
+use arrayvec::ArrayVec;
 use domain::base::compress::CompressComposer;
 use domain::base::name::{Name, ParsedName, ToName};
 use domain::base::rdata::{ComposeRecordData, RecordData, Rtype};
 use domain::base::wire::Composer;
-use octseq::{Octets, OctetsBuilder, OctetsMut, Parser, Truncate};
+use octseq::{EmptyBuilder, Octets, OctetsBuilder, OctetsMut, Parser, Truncate};
 
 /// The most zero octets that one call appends.
 const MOST: usize = 65535;
 
+/// A name that was written, and where it ends.
+#[derive(Drop)]
+struct Written {
+    start: usize,
+    end: usize,
+    octets: Vec<u8>,
+}
+
 /// `compress CALLS`: what each call appends.
 pub fn put_compressed(out: &mut Answer, calls: &[u8]) {
-    let mut target = CompressComposer::new(Vec::<u8>::new(out.alloc()));
+    put_on::<Vec<u8>>(out, calls);
+}
+
+/// `compresscap OCTETS CALLS`: the same over an array of so many octets.
+pub fn put_compressedcap(out: &mut Answer, room: usize, calls: &[u8]) {
+    match room {
+        22 => put_on::<ArrayVec<u8, 22>>(out, calls),
+        40 => put_on::<ArrayVec<u8, 40>>(out, calls),
+        _ => out.fail(Fail::Bad),
+    }
+}
+
+fn put_on<T: EmptyBuilder + Composer + Drop>(out: &mut Answer, calls: &[u8]) {
+    let mut target = CompressComposer::new(T::empty(out.alloc()));
+    let mut names: Vec<Written> = Vec::new(out.alloc());
     let mut is_first = true;
     for call in calls.split(|octet| *octet == b';') {
         if !is_first {
             out.put(b";");
         }
         is_first = false;
-        let (word, number) = split_once(call, b':');
-        match number {
-            None => put_name(out, &mut target, word),
-            Some(digits) if is(word, b"data") => put_data(out, &mut target, digits),
-            Some(fields) if is(word, b"set") => put_written(out, &mut target, fields),
-            Some(digits) => put_resized(out, &mut target, word, digits),
+        let (word, argument) = split_once(call, b':');
+        match argument {
+            None => put_name(out, &mut target, word, &mut names),
+            Some(digits) => put_other(out, &mut target, word, digits, &mut names),
         }
+        are_read_back(out, target.as_slice(), &mut names);
     }
 }
 
-/// `set:PLACE:OCTET`: the octet at a place is written over.
-fn put_written(out: &mut Answer, target: &mut CompressComposer<Vec<u8>>, fields: &[u8]) {
-    let (digits, octet) = split_once(fields, b':');
-    let (Ok(place), Ok(written)) = (decimal(digits), octets_of(octet.unwrap_or(b""), out.alloc())) else {
+/// `raw:OCTETS`, `data:NAME`, `over:PLACE,OCTETS`, `cut:LEN`, and `pad:COUNT` for zero octets.
+fn put_other<T: Composer>(
+    out: &mut Answer,
+    target: &mut CompressComposer<T>,
+    word: &[u8],
+    field: &[u8],
+    names: &mut Vec<Written>,
+) {
+    if is(word, b"raw") {
+        put_raw(out, target, field);
+    } else if is(word, b"data") {
+        put_data(out, target, field);
+    } else if is(word, b"over") {
+        // What stood there may be a name no longer.
+        names.clear();
+        put_over(out, target, field);
+    } else {
+        put_resized(out, target, word, field);
+    }
+}
+
+/// Octets as they are, which are no name.
+fn put_raw<T: Composer>(out: &mut Answer, target: &mut CompressComposer<T>, digits: &[u8]) {
+    match octets_of(digits, out.alloc()) {
+        Ok(octets) => {
+            if target.append_slice(octets.as_slice()).is_err() {
+                out.fail(Fail::Bad);
+            }
+            out.put_hex(octets.as_slice());
+        }
+        Err(fail) => out.fail(fail),
+    }
+}
+
+/// Octets over those that stand at a place.
+fn put_over<T: Composer>(out: &mut Answer, target: &mut CompressComposer<T>, field: &[u8]) {
+    let (place, digits) = split_once(field, b',');
+    let (Ok(place), Ok(octets)) = (
+        decimal(place),
+        octets_of(digits.unwrap_or(b""), out.alloc()),
+    ) else {
         return out.fail(Fail::Bad);
     };
-    match (target.as_slice_mut().get_mut(place), written.as_slice()) {
-        (Some(octet), [new]) => *octet = *new,
-        _ => return out.fail(Fail::Bad),
+    for (at, octet) in octets.iter().enumerate() {
+        match target.as_slice_mut().get_mut(place.saturating_add(at)) {
+            Some(written) => *written = *octet,
+            None => out.fail(Fail::Bad),
+        }
     }
     out.put(b"-");
 }
 
-/// `cut:LEN`, and `pad:COUNT` for zero octets.
-fn put_resized(
+fn put_resized<T: Composer>(
     out: &mut Answer,
-    target: &mut CompressComposer<Vec<u8>>,
+    target: &mut CompressComposer<T>,
     word: &[u8],
     digits: &[u8],
 ) {
@@ -72,7 +132,7 @@ fn put_resized(
     }
 }
 
-fn pad(out: &mut Answer, target: &mut CompressComposer<Vec<u8>>, count: usize) {
+fn pad<T: Composer>(out: &mut Answer, target: &mut CompressComposer<T>, count: usize) {
     for _time in 0..count {
         if target.append_slice(&[0]).is_err() {
             out.fail(Fail::Memory);
@@ -122,8 +182,40 @@ impl<'a> ComposeRecordData for NameData<'a> {
     ghost flat = { λ it c t u s. flat_name_octets (name_labels it.name) c t u s (flat_absolute it.name) };
 }
 
-/// The octets that a name takes.
-fn put_name(out: &mut Answer, target: &mut CompressComposer<Vec<u8>>, digits: &[u8]) {
+/// The octets that record data takes that is the name, with its length in front, or `err` where it is refused.
+fn put_data<T: Composer>(out: &mut Answer, target: &mut CompressComposer<T>, digits: &[u8]) {
+    let octets = match octets_of(digits, out.alloc()) {
+        Ok(octets) => octets,
+        Err(fail) => return out.fail(fail),
+    };
+    let Ok(name) = Name::from_slice(octets.as_slice()) else {
+        return out.fail(Fail::Bad);
+    };
+    let start = target.as_slice().len();
+    if (NameData { name }).compose_len_rdata(target).is_err() {
+        out.agree(target.as_slice().len() == start, b"compose_len_rdata");
+        return out.put(b"err");
+    }
+    let mut parser = Parser::from_ref(target.as_slice());
+    out.agree(parser.seek(start).is_ok(), b"compose_len_rdata");
+    out.put_hex(parser.peek_all());
+    match parser.parse_u16_be() {
+        Ok(len) => out.agree(usize::from(len) == parser.remaining(), b"compose_len_rdata"),
+        Err(_) => out.wrong(b"compose_len_rdata"),
+    }
+    match ParsedName::parse(&mut parser) {
+        Ok(read) => out.agree(read.name_eq(&name), b"name_eq"),
+        Err(_) => out.wrong(b"parse"),
+    }
+}
+
+/// The octets that a name takes, or `err` where it is refused, which leaves the target.
+fn put_name<T: EmptyBuilder + Composer>(
+    out: &mut Answer,
+    target: &mut CompressComposer<T>,
+    digits: &[u8],
+    names: &mut Vec<Written>,
+) {
     let octets = match octets_of(digits, out.alloc()) {
         Ok(octets) => octets,
         Err(fail) => return out.fail(fail),
@@ -133,45 +225,44 @@ fn put_name(out: &mut Answer, target: &mut CompressComposer<Vec<u8>>, digits: &[
     };
     let start = target.as_slice().len();
     if target.append_compressed_name(&name).is_err() {
-        return out.fail(Fail::Memory);
+        out.agree(target.as_slice().len() == start, b"append_compressed_name");
+        return match T::ROOM {
+            Some(_) => out.put(b"err"),
+            None => out.fail(Fail::Memory),
+        };
     }
-    put_read_back(out, target.as_slice(), start, name);
+    let end = target.as_slice().len();
+    out.put_hex(target.as_slice().get(start..).unwrap_or(b""));
+    let written = Written { start, end, octets };
+    if names.push(written).is_err() {
+        out.fail(Fail::Memory);
+    }
 }
 
-/// `data:NAME`: the octets that record data takes that is the name, with its length in front.
-fn put_data(out: &mut Answer, target: &mut CompressComposer<Vec<u8>>, digits: &[u8]) {
-    let octets = match octets_of(digits, out.alloc()) {
-        Ok(octets) => octets,
-        Err(fail) => return out.fail(fail),
-    };
-    let Ok(name) = Name::from_slice(octets.as_slice()) else {
+/// Each name that is left is read at its place, up to its end.
+fn are_read_back(out: &mut Answer, message: &[u8], names: &mut Vec<Written>) {
+    let left = names
+        .iter()
+        .filter(|name| name.end <= message.len())
+        .count();
+    names.truncate(left);
+    for name in names.as_slice() {
+        is_read_back(out, message, name);
+    }
+}
+
+fn is_read_back(out: &mut Answer, message: &[u8], written: &Written) {
+    let Ok(name) = Name::from_slice(written.octets.as_slice()) else {
         return out.fail(Fail::Bad);
     };
-    let start = target.as_slice().len();
-    let rdata = NameData { name };
-    if rdata.compose_len_rdata(target).is_err() {
-        return out.fail(Fail::Memory);
-    }
-    let mut parser = Parser::from_ref(target.as_slice());
-    out.agree(parser.seek(start).is_ok(), b"compose_len_rdata");
-    match parser.parse_u16_be() {
-        Ok(len) => {
-            out.put_hex(&len.to_be_bytes());
-            out.agree(usize::from(len) == parser.remaining(), b"compose_len_rdata");
-        }
-        Err(_) => out.wrong(b"compose_len_rdata"),
-    }
-    put_read_back(out, target.as_slice(), parser.pos(), name);
-}
-
-/// The octets from a place on, which must be read as the name, up to their end.
-fn put_read_back(out: &mut Answer, octets: &[u8], start: usize, name: Name<&[u8]>) {
-    let mut parser = Parser::from_ref(octets);
-    out.agree(parser.seek(start).is_ok(), b"append_compressed_name");
-    out.put_hex(parser.peek_all());
+    let mut parser = Parser::from_ref(message);
+    out.agree(
+        parser.seek(written.start).is_ok(),
+        b"append_compressed_name",
+    );
     match ParsedName::parse(&mut parser) {
         Ok(read) => out.agree(read.name_eq(&name), b"name_eq"),
         Err(_) => out.wrong(b"parse"),
     }
-    out.agree(parser.remaining() == 0, b"remaining");
+    out.agree(parser.pos() == written.end, b"append_compressed_name");
 }

@@ -58,7 +58,7 @@ fn is_composed_where_it_fits(out: &mut Answer, label: Label<'_>) {
 }
 
 /// An array of 64 octets that has room for so many more.
-fn room_for(out: &mut Answer, len: usize) -> ArrayVec<u8, 64> {
+pub fn room_for(out: &mut Answer, len: usize) -> ArrayVec<u8, 64> {
     let mut room = ArrayVec::<u8, 64>::new();
     for _octet in len..64 {
         out.agree(room.append_slice(b"\xee").is_ok(), b"append_slice");
@@ -265,6 +265,24 @@ pub fn put_labelfill(out: &mut Answer, octets: &[u8]) {
     match LabelMut::split_from_mut(copy.as_mut_slice()) {
         Ok((label, _rest)) => {
             for octet in label.as_slice_mut() {
+                *octet = b'*';
+            }
+            out.put(b"ok ");
+        }
+        Err(_) => out.put(b"err "),
+    }
+    out.put_hex(copy.as_slice());
+}
+
+/// `restfill OCTETS`: each octet behind the label is written over with a star.
+pub fn put_restfill(out: &mut Answer, octets: &[u8]) {
+    let mut copy = Vec::new(out.alloc());
+    if copy.extend_from_slice(octets).is_err() {
+        return out.fail(Fail::Memory);
+    }
+    match LabelMut::split_from_mut(copy.as_mut_slice()) {
+        Ok((_label, rest)) => {
+            for octet in rest {
                 *octet = b'*';
             }
             out.put(b"ok ");

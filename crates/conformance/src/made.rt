@@ -5,11 +5,20 @@ use crate::fail::Fail;
 use crate::message::name_at;
 use arrayvec::ArrayVec;
 use domain::base::name::*;
-use octseq::OctetsBuilder;
+use octseq::{EmptyBuilder, FromBuilder, Octets, OctetsBuilder, ShortBuf};
 use std::borrow::CowSlice;
 
-/// The octets that an array which can be too small for a name holds before it.
-const HELD: &[u8] = b"\xaa";
+/// How many octets an array has that can be too small for a name.
+const SIZE: usize = 17;
+
+/// An array that has room for so many octets behind those that it holds.
+fn with_room(out: &mut Answer, room: usize) -> ArrayVec<u8, SIZE> {
+    let mut target = ArrayVec::new();
+    for _held in room..SIZE {
+        out.agree(target.append_slice(b"\xaa").is_ok(), b"append_slice");
+    }
+    target
+}
 
 fn put_composed(out: &mut Answer, refused: bool, octets: &[u8]) {
     out.put(if refused { b"err " } else { b"ok " });
@@ -19,7 +28,10 @@ fn put_composed(out: &mut Answer, refused: bool, octets: &[u8]) {
 fn put_cow(out: &mut Answer, octets: &CowSlice<'_, u8>) {
     match octets {
         CowSlice::Borrowed(_) => out.put(b" cow=lent"),
-        CowSlice::Owned(_) => out.put(b" cow=own"),
+        CowSlice::Owned(made) => {
+            out.put(b" cow=own");
+            out.asked_once(made, b"memory of to_cow");
+        }
     }
 }
 
@@ -31,7 +43,8 @@ fn put_forms<'a, N: AbsoluteLabels<'a>>(out: &mut Answer, name: &'a N) {
     put_canonical(out, name);
     put_lent(out, name);
     put_held(out, name);
-    put_appended(out, name);
+    out.put(b" composed=");
+    put_appended(out, name, 16);
     put_dotted(out, name);
 }
 
@@ -50,9 +63,31 @@ fn put_vec<'a, N: AbsoluteLabels<'a>>(out: &mut Answer, name: &'a N) {
         out.fail(Fail::Memory);
     }
     out.same(octets.as_slice(), made.as_slice(), b"compose");
-    let again: Result<Name<Vec<u8>>, _> = name.to_name(out.alloc());
-    match again {
-        Ok(again) => out.same(again.as_slice(), made.as_slice(), b"to_name"),
+    out.asked_once(&octets, b"memory of compose");
+    out.asked_once(made.as_octets(), b"memory of to_vec");
+    is_named(out, name, made.as_slice());
+    is_origin(out, name, made.as_slice());
+}
+
+fn is_named<'a, N: AbsoluteLabels<'a>>(out: &mut Answer, name: &'a N, wanted: &[u8]) {
+    let made: Result<Name<Vec<u8>>, _> = name.to_name(out.alloc());
+    match made {
+        Ok(made) => {
+            out.same(made.as_slice(), wanted, b"to_name");
+            out.asked_once(made.as_octets(), b"memory of to_name");
+        }
+        Err(_) => out.fail(Fail::Memory),
+    }
+}
+
+/// A builder of nothing takes the name as its origin.
+fn is_origin<'a, N: AbsoluteLabels<'a>>(out: &mut Answer, name: &'a N, wanted: &[u8]) {
+    let builder = NameBuilder::new_vec(out.alloc());
+    match builder.append_origin(name) {
+        Ok(made) => {
+            out.same(made.as_slice(), wanted, b"append_origin");
+            out.asked_once(made.as_octets(), b"memory of append_origin");
+        }
         Err(_) => out.fail(Fail::Memory),
     }
 }
@@ -68,6 +103,8 @@ fn put_canonical<'a, N: AbsoluteLabels<'a>>(out: &mut Answer, name: &'a N) {
         out.fail(Fail::Memory);
     }
     out.same(octets.as_slice(), made.as_slice(), b"compose_canonical");
+    out.asked_once(&octets, b"memory of compose_canonical");
+    out.asked_once(made.as_octets(), b"memory of canonical names");
 }
 
 fn put_lent<'a, N: AbsoluteLabels<'a>>(out: &mut Answer, name: &'a N) {
@@ -99,14 +136,12 @@ fn put_held<'a, N: AbsoluteLabels<'a>>(out: &mut Answer, name: &'a N) {
     }
 }
 
-fn put_appended<'a, N: AbsoluteLabels<'a>>(out: &mut Answer, name: &'a N) {
-    let mut target = ArrayVec::<u8, 17>::new();
-    out.agree(target.append_slice(HELD).is_ok(), b"append_slice");
+/// What is composed behind other octets that leave so much room, and the same of the canonical form.
+fn put_appended<'a, N: AbsoluteLabels<'a>>(out: &mut Answer, name: &'a N, room: usize) {
+    let mut target = with_room(out, room);
     let refused = name.compose(&mut target).is_err();
-    out.put(b" composed=");
     put_composed(out, refused, target.as_slice());
-    let mut target = ArrayVec::<u8, 17>::new();
-    out.agree(target.append_slice(HELD).is_ok(), b"append_slice");
+    let mut target = with_room(out, room);
     let refused = name.compose_canonical(&mut target).is_err();
     out.put(b" ");
     put_composed(out, refused, target.as_slice());
@@ -136,6 +171,71 @@ pub fn put_parsed_forms(out: &mut Answer, message: &[u8], place: usize) {
     }
 }
 
+/// `room MSG PLACE N`: what the name composes where there is room for N octets, then its flat twin, and then that
+/// without its root label.
+pub fn put_room(out: &mut Answer, message: &[u8], place: usize, room: usize) {
+    let Some(name) = name_at(message, place) else {
+        return out.fail(Fail::Bad);
+    };
+    if room > SIZE {
+        return out.fail(Fail::Bad);
+    }
+    put_appended(out, &name, room);
+    match name.to_vec(out.alloc()) {
+        Ok(flat) => put_flat_room(out, flat.for_slice(), room),
+        Err(_) => out.fail(Fail::Memory),
+    }
+}
+
+fn put_flat_room(out: &mut Answer, name: Name<&[u8]>, room: usize) {
+    out.put(b" / ");
+    put_appended(out, &name, room);
+    out.put(b" / ");
+    put_relative_appended(out, &name.into_relative(), room);
+}
+
+/// `sized MSG PLACE N`: the name and its canonical form made over an array of N octets.
+pub fn put_sized(out: &mut Answer, message: &[u8], place: usize, size: usize) {
+    let Some(name) = name_at(message, place) else {
+        return out.fail(Fail::Bad);
+    };
+    match size {
+        0 => put_over::<ArrayVec<u8, 0>>(out, name),
+        16 => put_over::<ArrayVec<u8, 16>>(out, name),
+        17 => put_over::<ArrayVec<u8, 17>>(out, name),
+        _ => out.fail(Fail::Bad),
+    }
+}
+
+fn put_over<Octs: FromBuilder + Drop>(out: &mut Answer, name: ParsedName<&[u8]>)
+where
+    Octs::Builder: EmptyBuilder + Drop,
+{
+    let made: Result<Name<Octs>, ShortBuf> = name.to_name(out.alloc());
+    put_made(out, made_octets(&made));
+    let tried: Result<Name<Octs>, ShortBuf> = name.try_to_name(out.alloc());
+    out.agree(made_octets(&tried) == made_octets(&made), b"try_to_name");
+    let flat: Result<Name<Octs>, ShortBuf> = name.flatten_into(out.alloc());
+    out.agree(made_octets(&flat) == made_octets(&made), b"flatten_into");
+    out.put(b" ");
+    let lowered: Result<Name<Octs>, ShortBuf> = name.to_canonical_name(out.alloc());
+    put_made(out, made_octets(&lowered));
+}
+
+fn made_octets<Octs: Octets>(made: &Result<Name<Octs>, ShortBuf>) -> Option<&[u8]> {
+    match made {
+        Ok(name) => Some(name.as_slice()),
+        Err(_) => None,
+    }
+}
+
+fn put_made(out: &mut Answer, octets: Option<&[u8]>) {
+    match octets {
+        Some(octets) => out.put_hex(octets),
+        None => out.put_text(ShortBuf),
+    }
+}
+
 /// The forms of a chain that ends in an absolute name.
 pub fn put_chain_forms(out: &mut Answer, left: RelativeName<&[u8]>, right: Name<&[u8]>) {
     match left.chain(right) {
@@ -152,7 +252,8 @@ fn put_relative_forms<'a, N: RelativeLabels<'a>>(out: &mut Answer, name: &'a N) 
     put_relative_canonical(out, name);
     put_relative_lent(out, name);
     put_relative_held(out, name);
-    put_relative_appended(out, name);
+    out.put(b" composed=");
+    put_relative_appended(out, name, 16);
 }
 
 fn put_relative_vec<'a, N: RelativeLabels<'a>>(out: &mut Answer, name: &'a N) {
@@ -166,11 +267,32 @@ fn put_relative_vec<'a, N: RelativeLabels<'a>>(out: &mut Answer, name: &'a N) {
         out.fail(Fail::Memory);
     }
     out.same(octets.as_slice(), made.as_slice(), b"compose");
-    let again: Result<RelativeName<Vec<u8>>, _> = name.to_relative_name(out.alloc());
-    match again {
-        Ok(again) => out.same(again.as_slice(), made.as_slice(), b"to_relative_name"),
+    out.asked_once(&octets, b"memory of compose");
+    out.asked_once(made.as_octets(), b"memory of to_vec");
+    is_relative_named(out, name, made.as_slice());
+    is_appended(out, name, made.as_slice());
+}
+
+fn is_relative_named<'a, N: RelativeLabels<'a>>(out: &mut Answer, name: &'a N, wanted: &[u8]) {
+    let made: Result<RelativeName<Vec<u8>>, _> = name.to_relative_name(out.alloc());
+    match made {
+        Ok(made) => {
+            out.same(made.as_slice(), wanted, b"to_relative_name");
+            out.asked_once(made.as_octets(), b"memory of to_relative_name");
+        }
         Err(_) => out.fail(Fail::Memory),
     }
+}
+
+/// A builder of nothing takes the labels of the name.
+fn is_appended<'a, N: RelativeLabels<'a>>(out: &mut Answer, name: &'a N, wanted: &[u8]) {
+    let mut builder = NameBuilder::new_vec(out.alloc());
+    if builder.append_name(name).is_err() {
+        return out.fail(Fail::Memory);
+    }
+    let made = builder.finish();
+    out.same(made.as_slice(), wanted, b"append_name");
+    out.asked_once(made.as_octets(), b"memory of append_name");
 }
 
 fn put_relative_canonical<'a, N: RelativeLabels<'a>>(out: &mut Answer, name: &'a N) {
@@ -184,6 +306,8 @@ fn put_relative_canonical<'a, N: RelativeLabels<'a>>(out: &mut Answer, name: &'a
         out.fail(Fail::Memory);
     }
     out.same(octets.as_slice(), made.as_slice(), b"compose_canonical");
+    out.asked_once(&octets, b"memory of compose_canonical");
+    out.asked_once(made.as_octets(), b"memory of canonical names");
 }
 
 fn put_relative_lent<'a, N: RelativeLabels<'a>>(out: &mut Answer, name: &'a N) {
@@ -217,14 +341,12 @@ fn put_relative_held<'a, N: RelativeLabels<'a>>(out: &mut Answer, name: &'a N) {
     }
 }
 
-fn put_relative_appended<'a, N: RelativeLabels<'a>>(out: &mut Answer, name: &'a N) {
-    let mut target = ArrayVec::<u8, 17>::new();
-    out.agree(target.append_slice(HELD).is_ok(), b"append_slice");
+/// What `put_appended` tells, of a relative name.
+fn put_relative_appended<'a, N: RelativeLabels<'a>>(out: &mut Answer, name: &'a N, room: usize) {
+    let mut target = with_room(out, room);
     let refused = name.compose(&mut target).is_err();
-    out.put(b" composed=");
     put_composed(out, refused, target.as_slice());
-    let mut target = ArrayVec::<u8, 17>::new();
-    out.agree(target.append_slice(HELD).is_ok(), b"append_slice");
+    let mut target = with_room(out, room);
     let refused = name.compose_canonical(&mut target).is_err();
     out.put(b" ");
     put_composed(out, refused, target.as_slice());

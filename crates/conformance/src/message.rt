@@ -125,7 +125,10 @@ fn has_parts_of(out: &mut Answer, name: ParsedName<&[u8]>, flat: Name<&[u8]>) {
 fn is_flattened(out: &mut Answer, name: ParsedName<&[u8]>, wire: &[u8]) {
     let flattened: Result<Name<Vec<u8>>, _> = name.flatten_into(out.alloc());
     match flattened {
-        Ok(made) => out.same(made.as_slice(), wire, b"flatten_into"),
+        Ok(made) => {
+            out.same(made.as_slice(), wire, b"flatten_into");
+            out.asked_once(made.as_octets(), b"memory of flatten_into");
+        }
         Err(_) => out.fail(Fail::Memory),
     }
     let held: Result<Name<ArrayVec<u8, 255>>, _> = name.try_flatten_into(out.alloc());

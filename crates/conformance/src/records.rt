@@ -3,6 +3,7 @@
 use crate::answer::Answer;
 use crate::canonical::is_in_canonical_order;
 use crate::fail::Fail;
+use crate::fields::number_of;
 use arrayvec::ArrayVec;
 use domain::base::cmp::CanonicalOrd;
 use domain::base::name::*;
@@ -11,7 +12,7 @@ use domain::base::rdata::{
     ComposeRecordData, LongRecordData, ParseRecordData, RecordData, Rtype, UnknownRecordData,
 };
 use domain::base::wire::{Composer, ParseError};
-use octseq::{EmptyBuilder, Octets, Parser};
+use octseq::{EmptyBuilder, Octets, OctetsFrom, Parser, ShortBuf};
 
 const PRIVATE: u16 = 65280;
 
@@ -40,6 +41,43 @@ pub fn put_rdata(out: &mut Answer, octets: &[u8]) {
     is_composed_where_it_fits::<ArrayVec<u8, 4>>(out, data, composed.as_slice());
     is_composed_where_it_fits::<ArrayVec<u8, 5>>(out, data, composed.as_slice());
     is_read(out, octets);
+    is_copied(out, data);
+    is_copied_in_an_array(out, data);
+}
+
+/// The data over a `Vec` of its own, and a copy of that.
+fn is_copied(out: &mut Answer, data: Data<'_>) {
+    let held: Result<UnknownRecordData<Vec<u8>>, ShortBuf> = UnknownRecordData::try_octets_from(
+        out.alloc(),
+        data,
+    );
+    let Ok(held) = held else {
+        return out.fail(Fail::Memory);
+    };
+    out.same(held.data().as_slice(), *data.data(), b"try_octets_from");
+    match held.clone(out.alloc()) {
+        Ok(copy) => {
+            out.same(copy.data().as_slice(), *data.data(), b"clone");
+            out.agree(copy.rtype() == data.rtype(), b"clone");
+        }
+        Err(_) => out.fail(Fail::Memory),
+    }
+}
+
+/// The same over an array of 255 octets, which is refused only what doesn't fit.
+fn is_copied_in_an_array(out: &mut Answer, data: Data<'_>) {
+    let held: Result<UnknownRecordData<ArrayVec<u8, 255>>, ShortBuf> =
+        UnknownRecordData::try_octets_from(out.alloc(), data);
+    let Ok(held) = held else {
+        return out.agree(data.data().len() > 255, b"try_octets_from");
+    };
+    match held.clone(out.alloc()) {
+        Ok(copy) => {
+            out.same(copy.data().as_slice(), *data.data(), b"clone");
+            out.agree(copy.rtype() == data.rtype(), b"clone");
+        }
+        Err(_) => out.wrong(b"clone"),
+    }
 }
 
 /// The canonical form, and a reference to the data, are composed to the same octets.
@@ -138,11 +176,30 @@ pub fn put_longdata(out: &mut Answer, len: usize) {
         Ok(data) => {
             out.put_number_behind(b"ok ", data.data().len());
             is_read(out, octets.as_slice());
+            is_copied(out, data);
+            is_behind_its_length(out, data);
         }
         Err(error) => {
             out.put_text_behind(b"err ", error);
             is_refused(out, octets.as_slice(), error);
         }
+    }
+}
+
+/// What is composed with its length is two octets that tell it, and the data.
+fn is_behind_its_length(out: &mut Answer, data: Data<'_>) {
+    let mut composed: Vec<u8> = Vec::new(out.alloc());
+    if data.compose_len_rdata(&mut composed).is_err() {
+        return out.fail(Fail::Memory);
+    }
+    let octets: &[u8] = *data.data();
+    match composed.as_slice() {
+        [high, low, rest @ ..] => {
+            let told = u16::from_be_bytes([*high, *low]);
+            out.agree(usize::from(told) == octets.len(), b"compose_len_rdata");
+            out.same(rest, octets, b"compose_len_rdata");
+        }
+        _ => out.wrong(b"compose_len_rdata"),
     }
 }
 
@@ -154,10 +211,6 @@ fn is_refused(out: &mut Answer, octets: &[u8], error: LongRecordData) {
     let read = Data::parse_rdata(Rtype::from_int(1), &mut parser);
     out.agree(read == Err(ParseError::from(error)), b"parse_rdata");
     out.agree(parser.pos() == 0, b"parse_any_rdata");
-}
-
-fn number_of(digits: &[u8]) -> Option<usize> {
-    str::from_utf8(digits).ok()?.parse::<usize>().ok()
 }
 
 /// `lengths LEN,LEN,LEN`: parts of record data of these lengths.
@@ -218,6 +271,7 @@ fn put_reverse(out: &mut Answer, address: IpAddr) {
     };
     out.put_hex_behind(b"ok ", name.as_slice());
     out.put_shown_behind(b" ", &name);
+    out.asked_once(name.as_octets(), b"memory of reverse_from_addr");
     let held: Result<Name<ArrayVec<u8, 28>>, PushError> = Name::reverse_from_addr(
         out.alloc(),
         address,

@@ -43,13 +43,22 @@ pub fn put_text(out: &mut Answer, octets: &[u8]) {
     };
     let read: Result<Name<Vec<u8>>, FromStrError> = Name::from_chars(out.alloc(), text.chars());
     put_read(out, absolute_read(&read));
+    is_asked_once(out, &read, b"memory of from_chars");
     is_read_alike(out, text, absolute_read(&read));
+}
+
+/// Memory for a name that was read was asked for once.
+fn is_asked_once(out: &mut Answer, read: &Result<Name<Vec<u8>>, FromStrError>, call: &[u8]) {
+    if let Ok(name) = read {
+        out.asked_once(name.as_octets(), call);
+    }
 }
 
 /// The other calls that read an absolute name answer the same.
 fn is_read_alike(out: &mut Answer, text: &str, wanted: Read<'_>) {
     let read = Name::vec_from_str(out.alloc(), text);
     out.agree(absolute_read(&read) == wanted, b"vec_from_str");
+    is_asked_once(out, &read, b"memory of vec_from_str");
     let read: Result<Name<ArrayVec<u8, 255>>, FromStrError> = text.parse();
     out.agree(absolute_read(&read) == wanted, b"from_str");
     if let Some(symbols) = symbols_of(out, text) {
@@ -63,6 +72,7 @@ fn is_read_of_symbols(out: &mut Answer, symbols: &[Symbol], wanted: Read<'_>) {
         symbols.iter().copied(),
     );
     out.agree(absolute_read(&read) == wanted, b"from_symbols");
+    is_asked_once(out, &read, b"memory of from_symbols");
 }
 
 /// The symbols of a text, where no escape is broken.
@@ -98,6 +108,9 @@ pub fn put_reltext(out: &mut Answer, octets: &[u8]) {
 fn is_relative_read_alike(out: &mut Answer, text: &str, wanted: Read<'_>) {
     let read = RelativeName::vec_from_str(out.alloc(), text);
     out.agree(relative_read(&read) == wanted, b"vec_from_str");
+    if let Ok(name) = &read {
+        out.asked_once(name.as_octets(), b"memory of vec_from_str");
+    }
     let read: Result<RelativeName<ArrayVec<u8, 254>>, RelativeFromStrError> = text.parse();
     out.agree(relative_read(&read) == wanted, b"from_str");
 }

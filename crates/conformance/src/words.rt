@@ -23,6 +23,9 @@ pub enum Told {
     Longdata,
     Lengths,
     Compress,
+    Compresscap,
+    Capacity,
+    Run,
 }
 
 /// `OCTETS`
@@ -38,6 +41,7 @@ pub enum Alone {
     Splitmut,
     Labelmut,
     Labelfill,
+    Restfill,
     Labelerrors,
     Nameerrors,
 }
@@ -101,6 +105,8 @@ pub enum Ranged {
     Rest,
     Parselimit,
     Pcanonical,
+    Room,
+    Sized,
 }
 
 /// `OCTETS OCTETS`
@@ -182,6 +188,15 @@ pub fn find_told(word: &[u8]) -> Option<Told> {
     if is(word, b"compress") {
         return Some(Told::Compress);
     }
+    if is(word, b"compresscap") {
+        return Some(Told::Compresscap);
+    }
+    if is(word, b"capacity") {
+        return Some(Told::Capacity);
+    }
+    if is(word, b"run") {
+        return Some(Told::Run);
+    }
     None
 }
 
@@ -215,6 +230,9 @@ pub fn find_alone(word: &[u8]) -> Option<Alone> {
     }
     if is(word, b"labelfill") {
         return Some(Alone::Labelfill);
+    }
+    if is(word, b"restfill") {
+        return Some(Alone::Restfill);
     }
     if is(word, b"labelerrors") {
         return Some(Alone::Labelerrors);
@@ -349,6 +367,12 @@ pub fn find_ranged(word: &[u8]) -> Option<Ranged> {
     }
     if is(word, b"pcanonical") {
         return Some(Ranged::Pcanonical);
+    }
+    if is(word, b"room") {
+        return Some(Ranged::Room);
+    }
+    if is(word, b"sized") {
+        return Some(Ranged::Sized);
     }
     None
 }

@@ -1,5 +1,4 @@
-//! Names on a target that writes them shorter: many of them, each read back; full targets; memory that is
-//! refused; record data; and octets that were written over.
+//! Names on a target that writes them shorter, where memory is refused, and record data there.
 ghost use Rattle.std.specs.Prelude.{if◌then◌else◌, false, true};
 ghost use Rattle.domain_label.specs.Low.{low_all};
 ghost use Rattle.domain_label.specs.Wire.{wire};
@@ -8,68 +7,14 @@ ghost use Rattle.domain_name.specs.Names.{name_labels};
 ghost use Rattle.domain_rdata.specs.FlatNames.{flat_name_octets};
 ghost use Rattle.domain_rdata.specs.RecordData.{NameOctets};
 
-use crate::names::absolute;
+use crate::names::{LOWER_WWW, absolute};
 use arrayvec::ArrayVec;
 use domain::base::compress::CompressComposer;
 use domain::base::name::*;
 use domain::base::rdata::{ComposeRecordData, RecordData, Rtype};
 use domain::base::wire::Composer;
-use octseq::{Octets, OctetsBuilder, OctetsMut, Parser, Truncate};
+use octseq::{Octets, Parser};
 use std::process::Abort;
-
-const WWW: &[u8] = b"\x03www\x07example\x03com\0";
-
-const FTP: &[u8] = b"\x03ftp\x07EXAMPLE\x03com\0";
-
-/// Draws numbers, always the same ones.
-#[derive(Clone, Copy)]
-struct Draws {
-    state: u32,
-}
-
-impl Draws {
-    /// A number below `count`, which isn't 0 and is at most 65,536.
-    fn below(&mut self, count: u32) -> u32 {
-        self.state = self
-            .state
-            .wrapping_mul(1_664_525)
-            .wrapping_add(1_013_904_223);
-        if count == 0 {
-            return 0;
-        }
-        self.state / 65536 % count
-    }
-}
-
-type Drawn = ArrayVec<u8, 32>;
-
-fn put(rt: &impl Abort, octets: &mut Drawn, octet: u8) {
-    assert!(rt; octets.try_push(octet).is_ok());
-}
-
-/// A name of one to five labels, which have one or two octets out of a few, so that many ends are alike.
-fn drawn_name(rt: &impl Abort, seed: u32) -> Drawn {
-    let mut draws = Draws { state: seed };
-    let mut octets = ArrayVec::new();
-    let labels = draws.below(5).wrapping_add(1);
-    for _label in 0..labels {
-        let len = if draws.below(2) == 0 { 1 } else { 2 };
-        put(rt, &mut octets, len);
-        for _octet in 0..len {
-            let octet = match draws.below(6) {
-                0 => b'a',
-                1 => b'A',
-                2 => b'b',
-                3 => b'B',
-                4 => b'[',
-                _ => b'0',
-            };
-            put(rt, &mut octets, octet);
-        }
-    }
-    put(rt, &mut octets, 0);
-    octets
-}
 
 fn appended<Target: Composer>(rt: &impl Abort, target: &mut Target, octets: &[u8]) -> bool {
     target.append_compressed_name(&absolute(rt, octets)).is_ok()
@@ -89,132 +34,31 @@ fn read_back(rt: &impl Abort, message: &[u8], place: usize, octets: &[u8]) -> us
     parser.pos()
 }
 
-/// Where a name was written that was drawn.
-#[derive(Clone, Copy, Default)]
-struct Placed {
-    place: usize,
-    seed: u32,
-}
+/// Ends that are alike, and some that are not.
+const NAMES: [&[u8]; 6] = [
+    LOWER_WWW,
+    b"\x03ftp\x07EXAMPLE\x03com\0",
+    b"\0",
+    b"\x01a\x03www\x07example\x03COM\0",
+    b"\x01b\x03net\0",
+    b"\x01c\x01B\x03Net\0",
+];
 
-fn read_all(rt: &impl Abort, message: &[u8], placed: &[Placed]) {
-    for it in placed {
-        let name = drawn_name(rt, it.seed);
-        read_back(rt, message, it.place, name.as_slice());
-    }
-}
-
-/// Appends a name that is drawn, and reads it back. Its place is answered.
-fn append_drawn(
-    rt: &impl Abort,
-    target: &mut CompressComposer<ArrayVec<u8, 4000>>,
-    seed: u32,
-) -> Placed {
-    let name = drawn_name(rt, seed);
-    let place = target.as_slice().len();
-    assert!(rt; appended(rt, target, name.as_slice()));
-    let end = read_back(rt, target.as_slice(), place, name.as_slice());
-    assert_eq!(rt; end, target.as_slice().len());
-    assert!(rt; end.saturating_sub(place) <= name.len());
-    Placed { place, seed }
-}
-
-#[test]
-fn names_stay_readable_behind_further_names(rt: HostRuntime) {
-    let mut target = CompressComposer::new(ArrayVec::new());
-    let mut placed = ArrayVec::<Placed, 200>::new();
-    for seed in 0..200u32 {
-        assert!(rt;
-            placed
-                .try_push(append_drawn(&rt, &mut target, seed))
-                .is_ok()
-        );
-        read_all(&rt, target.as_slice(), placed.as_slice());
-    }
-}
-
-#[test]
-fn names_that_a_cut_leaves_stay_readable(rt: HostRuntime) {
-    let mut target = CompressComposer::new(ArrayVec::new());
-    let mut placed = ArrayVec::<Placed, 200>::new();
-    for seed in 0..200u32 {
-        let it = append_drawn(&rt, &mut target, seed);
-        if seed % 3 == 0 {
-            target.truncate(it.place.saturating_add(1));
-            target.truncate(it.place);
-        } else {
-            assert!(rt; placed.try_push(it).is_ok());
-        }
-        read_all(&rt, target.as_slice(), placed.as_slice());
-    }
-}
-
-/// A target that has room for so many octets behind those that it holds.
-fn with_room(rt: &impl Abort, room: usize) -> CompressComposer<ArrayVec<u8, 40>> {
-    let mut octets = ArrayVec::new();
-    for _held in room..40 {
-        assert!(rt; octets.try_push(0xff).is_ok());
-    }
-    CompressComposer::new(octets)
-}
-
-#[test]
-fn each_room_takes_what_fits(rt: HostRuntime) {
-    for room in 0..41usize {
-        let mut target = with_room(&rt, room);
-        let start = target.as_slice().len();
-        assert_eq!(rt;
-            appended(&rt, &mut target, WWW),
-            room >= 17,
-            "room for {room}"
-        );
-        let place = target.as_slice().len();
-        assert_eq!(rt;
-            appended(&rt, &mut target, FTP),
-            room >= 23,
-            "room for {room}"
-        );
-        let octets = target.into_target();
-        let behind = octets.as_slice().get(start..).unwrap_or(&[]);
-        if room >= 23 {
-            assert_eq!(rt; read_back(&rt, octets.as_slice(), place, FTP), octets.len());
-            assert_eq!(rt; behind.len(), 23);
-        } else if room >= 17 {
-            assert_eq!(rt; behind, WWW);
-        } else {
-            assert_eq!(rt; behind.len(), 0);
-        }
-    }
-}
-
-#[test]
-fn a_refused_name_leaves_the_target(rt: HostRuntime) {
-    let mut target = CompressComposer::new(ArrayVec::<u8, 22>::new());
-    assert!(rt; appended(&rt, &mut target, WWW));
-    assert!(rt; !appended(&rt, &mut target, FTP));
-    assert_eq!(rt; target.as_slice(), WWW);
-    assert!(rt; appended(&rt, &mut target, b"\x02ns\x03COM\0"));
-    assert_eq!(rt;
-        target.as_slice(),
-        b"\x03www\x07example\x03com\0\x02ns\xc0\x0c".as_slice()
-    );
-}
-
-/// Appends names that are drawn, and reads each back. A call that is refused is made again; how many were is
+/// Appends names over and over, and reads each back. A call that is refused is made again; how many were is
 /// answered.
-fn refused_of_many<Target: Composer>(rt: &impl Abort, target: &mut Target) -> usize {
+fn refused_of_many(rt: &impl Abort, target: &mut CompressComposer<Vec<u8>>) -> usize {
     let mut refusals = 0usize;
-    for seed in 0..100u32 {
-        let name = drawn_name(rt, seed);
-        let place = target.as_slice().len();
-        if !appended(rt, target, name.as_slice()) {
-            refusals = refusals.saturating_add(1);
-            assert_eq!(rt; target.as_slice().len(), place);
-            assert!(rt; appended(rt, target, name.as_slice()));
+    for _time in 0..10u8 {
+        for name in NAMES {
+            let place = target.as_slice().len();
+            if !appended(rt, target, name) {
+                refusals = refusals.saturating_add(1);
+                assert_eq!(rt; target.as_slice().len(), place);
+                assert!(rt; appended(rt, target, name));
+            }
+            let end = read_back(rt, target.as_slice(), place, name);
+            assert_eq!(rt; end, target.as_slice().len());
         }
-        assert_eq!(rt;
-            read_back(rt, target.as_slice(), place, name.as_slice()),
-            target.as_slice().len()
-        );
     }
     refusals
 }
@@ -224,94 +68,8 @@ fn refused_of_many<Target: Composer>(rt: &impl Abort, target: &mut Target) -> us
 fn names_are_written_or_refused(rt: HostRuntime) {
     let mut target = CompressComposer::new(Vec::<u8>::new(rt.alloc()));
     assert!(rt; refused_of_many(&rt, &mut target) <= 1);
-    let mut again = CompressComposer::new(ArrayVec::<u8, 4000>::new());
-    assert_eq!(rt; refused_of_many(&rt, &mut again), 0);
-    assert_eq!(rt; target.as_slice(), again.as_slice());
-}
-
-/// Pointers one behind the other, the first to the name `b` at the beginning.
-fn pointers(rt: &impl Abort, count: u16) -> ArrayVec<u8, 600> {
-    let mut octets = ArrayVec::new();
-    assert!(rt; octets.try_extend_from_slice(b"\x01b\0").is_ok());
-    for at in 0..count {
-        let place = if at == 0 {
-            0
-        } else {
-            at.saturating_mul(2).saturating_add(1)
-        };
-        assert!(rt;
-            octets
-                .try_extend_from_slice(&place.saturating_add(0xc000).to_be_bytes())
-                .is_ok()
-        );
-    }
-    octets
-}
-
-/// Writes a pointer to the place over two octets.
-fn put_pointer(octets: &mut [u8], at: usize, place: u16) {
-    let [high, low] = place.saturating_add(0xc000).to_be_bytes();
-    put_octet(octets, at, high);
-    put_octet(octets, at.saturating_add(1), low);
-}
-
-fn put_octet(octets: &mut [u8], at: usize, written: u8) {
-    if let Some(octet) = octets.get_mut(at) {
-        *octet = written;
-    }
-}
-
-/// The octets of `a.b.` behind a place that leads through so many pointers to `b`.
-fn behind_pointers(rt: &impl Abort, count: u16) -> ArrayVec<u8, 600> {
-    let mut target = CompressComposer::new(pointers(rt, count.saturating_sub(1)));
-    let start = target.as_slice().len();
-    assert!(rt; appended(rt, &mut target, b"\x01b\0"));
-    let last = count.saturating_mul(2).saturating_sub(1);
-    let place = if count == 1 { 0 } else { last };
-    put_pointer(target.as_slice_mut(), start, place);
-    let begin = target.as_slice().len();
-    assert!(rt; appended(rt, &mut target, b"\x01a\x01B\0"));
-    assert_eq!(rt;
-        read_back(rt, target.as_slice(), begin, b"\x01A\x01b\0"),
-        target.as_slice().len()
-    );
-    let mut written = ArrayVec::new();
-    let octets = target.into_target();
-    assert!(rt;
-        written
-            .try_extend_from_slice(octets.as_slice().get(begin..).unwrap_or(&[]))
-            .is_ok()
-    );
-    written
-}
-
-#[test]
-fn one_pointer_too_many_is_not_written(rt: HostRuntime) {
-    assert_eq!(rt;
-        behind_pointers(&rt, 1).as_slice(),
-        b"\x01a\xc0\x03".as_slice()
-    );
-    assert_eq!(rt;
-        behind_pointers(&rt, 254).as_slice(),
-        b"\x01a\xc1\xfd".as_slice()
-    );
-    assert_eq!(rt;
-        behind_pointers(&rt, 255).as_slice(),
-        b"\x01a\x01B\0".as_slice()
-    );
-}
-
-#[test]
-fn octets_that_were_written_over_are_read_anew(rt: HostRuntime) {
-    let mut target = CompressComposer::new(ArrayVec::<u8, 100>::new());
-    assert!(rt; appended(&rt, &mut target, b"\x01a\x01b\0"));
-    put_octet(target.as_slice_mut(), 3, b'c');
-    assert!(rt; appended(&rt, &mut target, b"\x01b\0"));
-    assert!(rt; appended(&rt, &mut target, b"\x01d\x01C\0"));
-    assert_eq!(rt;
-        target.as_slice(),
-        b"\x01a\x01c\0\x01b\0\x01d\xc0\x02".as_slice()
-    );
+    // 39 octets for the six names, and then nine times two octets for each, and one for the root.
+    assert_eq!(rt; target.as_slice().len(), 138);
 }
 
 /// Record data that is one name.
@@ -365,7 +123,7 @@ fn compose_both<Target: Composer>(rt: &impl Abort, target: &mut Target, canonica
         name: absolute(rt, b"\x02ns\x07Example\x03com\0"),
     };
     assert!(rt; target.can_compress());
-    assert!(rt; appended(rt, target, WWW));
+    assert!(rt; appended(rt, target, LOWER_WWW));
     if canonical {
         assert!(rt; data.compose_canonical_len_rdata(target).is_ok());
     } else {

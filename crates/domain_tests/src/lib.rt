@@ -4,8 +4,6 @@
 #![tactic(auto)]
 
 #[cfg(test)]
-mod asked;
-#[cfg(test)]
 mod building;
 #[cfg(test)]
 mod calls;
@@ -21,8 +19,6 @@ mod generic;
 mod instants;
 #[cfg(test)]
 mod kinds;
-#[cfg(test)]
-mod labels;
 #[cfg(test)]
 mod lines;
 #[cfg(test)]
@@ -42,10 +38,4 @@ mod records;
 #[cfg(test)]
 mod refused;
 #[cfg(test)]
-mod room;
-#[cfg(test)]
-mod sizes;
-#[cfg(test)]
 mod slow_reader;
-#[cfg(test)]
-mod words;

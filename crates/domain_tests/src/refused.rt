@@ -4,7 +4,6 @@
 //! twice at most one is refused.
 
 use crate::names::relative;
-use arrayvec::ArrayVec;
 use domain::base::name::*;
 use domain::base::rdata::{ComposeRdataError, ComposeRecordData, Rtype, UnknownRecordData};
 use octseq::{EmptyBuilder, Octets, OctetsBuilder, OctetsFrom, ShortBuf};
@@ -46,18 +45,6 @@ fn record_data_is_copied_or_refused(rt: HostRuntime) {
     let first = copy_data(&rt, rt.alloc());
     let second = copy_data(&rt, rt.alloc());
     assert!(rt; !first || !second);
-}
-
-#[test]
-fn record_data_in_arrays_is_never_refused_a_copy(rt: HostRuntime) -> Result<(), ShortBuf> {
-    let lent = data(&rt, OCTETS);
-    let held: UnknownRecordData<ArrayVec<u8, 3>> = UnknownRecordData::try_octets_from(
-        rt.alloc(),
-        lent,
-    )?;
-    let copy = held.clone(rt.alloc())?;
-    assert_eq!(rt; copy.data().as_slice(), OCTETS);
-    Ok(())
 }
 
 /// Appends record data with its length to no octets, and tells whether that was refused.

@@ -1,0 +1,75 @@
+//! What the program `dnsnames` does with the words behind its name.
+
+use crate::answer::Answer;
+use crate::fail::Fail;
+use crate::fields::{decimal, is, octets_of, split_once};
+use domain::tool::run;
+
+/// The most zero octets that an input has.
+const MOST: usize = 100_000;
+
+/// `run WORDS INPUT`: the status, what is written, and the reason that is told.
+pub fn put_run(out: &mut Answer, words: &[u8], input: &[u8]) {
+    let words = words_of(out, words);
+    let mut texts: Vec<&str> = Vec::new(out.alloc());
+    for word in words.as_slice() {
+        match str::from_utf8(word.as_slice()) {
+            Ok(text) => {
+                if texts.push(text).is_err() {
+                    out.fail(Fail::Memory);
+                }
+            }
+            Err(_) => out.fail(Fail::Bad),
+        }
+    }
+    match input_of(out, input) {
+        Ok(octets) => put_done(out, texts.as_slice(), octets.as_slice()),
+        Err(fail) => out.fail(fail),
+    }
+}
+
+/// The octets of each word, with commas between, `none` where there is no word.
+fn words_of(out: &mut Answer, field: &[u8]) -> Vec<Vec<u8>> {
+    let mut words = Vec::new(out.alloc());
+    if is(field, b"none") {
+        return words;
+    }
+    for digits in field.split(|octet| *octet == b',') {
+        match octets_of(digits, out.alloc()) {
+            Ok(octets) => {
+                if words.push(octets).is_err() {
+                    out.fail(Fail::Memory);
+                }
+            }
+            Err(fail) => out.fail(fail),
+        }
+    }
+    words
+}
+
+/// Octets, or `zeros:LEN`.
+fn input_of(out: &Answer, field: &[u8]) -> Result<Vec<u8>, Fail> {
+    let (word, digits) = split_once(field, b':');
+    let Some(digits) = digits else {
+        return octets_of(field, out.alloc());
+    };
+    let len = decimal(digits)?;
+    if !is(word, b"zeros") || len > MOST {
+        return Err(Fail::Bad);
+    }
+    let mut zeros = Vec::new(out.alloc());
+    match zeros.resize(len, 0) {
+        Ok(()) => Ok(zeros),
+        Err(_) => Err(Fail::Memory),
+    }
+}
+
+fn put_done(out: &mut Answer, words: &[&str], octets: &[u8]) {
+    let mut input = octets;
+    let mut written: Vec<u8> = Vec::new(out.alloc());
+    let mut told: Vec<u8> = Vec::new(out.alloc());
+    let status = run(out.alloc(), words, &mut input, &mut written, &mut told);
+    out.put_number(usize::from(status));
+    out.put_hex_behind(b" ", written.as_slice());
+    out.put_hex_behind(b" ", told.as_slice());
+}
