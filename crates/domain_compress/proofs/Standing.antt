@@ -52,12 +52,12 @@ places_cut n e t (w ∷ ws) a =
 cut_drop : (n e : ℕ) (m : List ℕ) → drop n (take e m) ≡ take (e - n) (drop n m)
 cut_drop n e m = elim (cases_lt e n) [
   | inl lt ↦
-    let few : length (take e m) ≤ n = omega (arith, length-take e m, lt) in
-    let nothing : e - n ≡ 0 = omega (arith, lt) in
-    drop_all n (take e m) few ∙ sym (ap (λ k. take k (drop n m)) nothing)
+      let few : length (take e m) ≤ n = omega (arith, length-take e m, lt) in
+      let nothing : e - n ≡ 0 = omega (arith, lt) in
+      drop_all n (take e m) few ∙ sym (ap (λ k. take k (drop n m)) nothing)
   | inr le ↦
-    let whole : n + (e - n) ≡ e = omega (arith, le) in
-    ap (λ k. drop n (take k m)) (sym whole) ∙ drop-take n (e - n) m
+      let whole : n + (e - n) ≡ e = omega (arith, le) in
+      ap (λ k. drop n (take k m)) (sym whole) ∙ drop-take n (e - n) m
 ]
 
 place_kept : (n : ℕ) (t o : List ℕ) (w : Place) → drop n o ≡ drop n t → length o ≡ length t → PlaceStands n t w → PlaceStands n o w
@@ -82,8 +82,8 @@ first_stands : (n : ℕ) (t : List ℕ) (b : List (List ℕ)) (p : ℕ) (ws : Li
 first_stands n t b p [] a first = absurd first
 first_stands n t b p (w ∷ ws) a first = elim first [
   | inl here ↦
-    let x = All-head (PlaceStands n t) w ws a in
-    (x.labels, subst (λ q. ReadsBehind n t q x.labels) (sym here.1) (subst (λ o. ReadsBehind n o w.at x.labels) (take-append-drop w.end t) (behind_more (drop w.end t) x.reads)))
+      let x = All-head (PlaceStands n t) w ws a in
+      (x.labels, subst (λ q. ReadsBehind n t q x.labels) (sym here.1) (subst (λ o. ReadsBehind n o w.at x.labels) (take-append-drop w.end t) (behind_more (drop w.end t) x.reads)))
   | inr later ↦ first_stands n t b p ws (All-tail (PlaceStands n t) w ws a) later.1
 ]
 

@@ -14,9 +14,7 @@ ghost use Rattle.domain_rdata.specs.UnknownReading.{all_that_is_left};
 
 use crate::composer::Composer;
 use crate::long::LongRecordData;
-use crate::record_data::{
-    ComposeRecordData, ParseAnyRecordData, ParseRecordData, RecordData,
-};
+use crate::record_data::{ComposeRecordData, ParseAnyRecordData, ParseRecordData, RecordData};
 use crate::rtype::Rtype;
 use arrayvec::ArrayVec;
 use domain_label::hex::hex_digit;

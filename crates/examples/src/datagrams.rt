@@ -7,8 +7,8 @@ ghost use Rattle.domain_rdata.specs.FlatNames.{flat_appended, flat_reads_back};
 ghost use Rattle.domain_rdata.specs.ReadBack.{StandsAt};
 ghost use Rattle.octseq.specs.Octets.{refill_whole};
 
-use arrayvec::ArrayVec;
 use crate::compressing::append_at;
+use arrayvec::ArrayVec;
 use domain::base::name::Name;
 use domain::base::wire::Composer;
 use octseq::{Octets, OctetsBuilder, OctetsMut, ShortBuf, Truncate};
