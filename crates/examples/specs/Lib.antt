@@ -1,4 +1,2 @@
-pub mod Addresses
-pub mod AnyTypes
 pub mod CharacterStrings
 pub mod Hosts
