@@ -1177,11 +1177,10 @@ for octets, begin, end, calls, answer in (
 
 topic("texts of errors")
 LABEL_LONG, LONG_TEXT, SHORT, INPUT, ESCAPE = "label length limit exceeded", "long domain name", "buffer size exceeded", "unexpected end of input", "illegal escape sequence"
-TOOL = [INPUT, SHORT, "reading failed", "writing failed", "out of memory"]
 own("errors", "".join(it + ";" for it in (
     ["long label", LABEL_LONG, LONG_TEXT, LONG_TEXT, SHORT, SHORT] + [LONG_TEXT, LONG_TEXT, SHORT, SHORT] + [INPUT] * 4 + [ESCAPE] * 4 + ["illegal character"] * 4
     + ["a binary label was encountered"] * 3 + [LABEL_LONG] * 3 + ["empty label"] * 3 + [LONG_TEXT] * 3 + [SHORT, "absolute domain name"]
-    + ["record data too long", "record data too long", SHORT, "record data too long", "illegal signature time"] + TOOL)))
+    + ["record data too long", "record data too long", SHORT, "record data too long", "illegal signature time"])))
 
 topic("the program's words")
 USAGE = b"usage: dnsnames at PLACE [--pointers N] | dnsnames text NAME | dnsnames list\n"

@@ -2,7 +2,6 @@
 
 use crate::answer::Answer;
 use crate::fail::Fail;
-use crate::fields::number_of;
 use arrayvec::ArrayVec;
 use domain::base::name::NameBuilder;
 use octseq::{EmptyBuilder, Octets, OctetsBuilder, OctetsMut, ShortBuf};
@@ -21,6 +20,10 @@ pub fn put_capacity(out: &mut Answer, digits: &[u8]) {
         out,
         NameBuilder::<ArrayVec<u8, 8>>::with_capacity(alloc, len),
     );
+}
+
+fn number_of(digits: &[u8]) -> Option<usize> {
+    str::from_utf8(digits).ok()?.parse::<usize>().ok()
 }
 
 fn put_vec(out: &mut Answer, len: usize) {

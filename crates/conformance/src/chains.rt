@@ -28,10 +28,11 @@ fn relative_chain<'a>(left: &'a [u8], right: &'a [u8]) -> Option<Relatively<'a>>
 }
 
 /// A chain's wire form, its length and its labels from the back.
-fn put_chain_of<'a, I: LabelIterator<'a>>(out: &mut Answer, labels: I, len: u16) {
+fn put_chain_of<'a, N: ToLabelIter<'a>>(out: &mut Answer, chain: &'a N) {
+    let labels = chain.iter_labels();
     let wire = wire_of(out, labels);
     out.put_hex_behind(b"ok ", wire.as_slice());
-    out.put_text_behind(b" ", len);
+    out.put_text_behind(b" ", chain.compose_len());
     out.put(b" ");
     out.put_turned(labels);
 }
@@ -57,7 +58,7 @@ pub fn put_chain(out: &mut Answer, left: &[u8], right: &[u8]) {
 fn put_absolute_chain(out: &mut Answer, left: RelativeName<&[u8]>, right: Name<&[u8]>) {
     match left.chain(right) {
         Ok(chain) => {
-            put_chain_of(out, chain.iter_labels(), chain.compose_len());
+            put_chain_of(out, &chain);
             out.agree(chain.is_absolute(), b"is_absolute");
             let (one, other) = chain.unwrap();
             out.same(one.as_slice(), left.as_slice(), b"unwrap");
@@ -70,7 +71,7 @@ fn put_absolute_chain(out: &mut Answer, left: RelativeName<&[u8]>, right: Name<&
 fn put_relative_chain(out: &mut Answer, left: RelativeName<&[u8]>, right: RelativeName<&[u8]>) {
     match left.chain(right) {
         Ok(chain) => {
-            put_chain_of(out, chain.iter_labels(), chain.compose_len());
+            put_chain_of(out, &chain);
             out.agree(!chain.is_absolute(), b"is_absolute");
             let (one, other) = chain.unwrap();
             out.same(one.as_slice(), left.as_slice(), b"unwrap");
@@ -107,8 +108,12 @@ pub fn put_rooted(out: &mut Answer, octets: &[u8]) {
     let Ok(name) = RelativeName::from_slice(octets) else {
         return out.fail(Fail::Bad);
     };
-    let chain = name.chain_root();
-    put_chain_of(out, chain.iter_labels(), chain.compose_len());
+    put_absolute_name(out, &name.chain_root());
+}
+
+/// What a chain has, and its text.
+fn put_absolute_name<'a, N: AbsoluteLabels<'a>>(out: &mut Answer, chain: &'a N) {
+    put_chain_of(out, chain);
     out.put_shown_behind(b" ", chain.fmt_with_dot());
 }
 

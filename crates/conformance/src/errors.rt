@@ -6,7 +6,6 @@ use domain::base::rdata::{ComposeRdataError, LongRecordData};
 use domain::base::scan::{BadSymbol, SymbolCharsError};
 use domain::base::serial::IllegalSignatureTime;
 use domain::base::wire::ParseError;
-use domain::tool::ToolError;
 use octseq::ShortBuf;
 use std::fmt::Display;
 
@@ -23,7 +22,6 @@ pub fn put_errors(out: &mut Answer) {
     put_label_errors(out);
     put_presentation_errors(out);
     put_data_errors(out);
-    put_tool_errors(out);
 }
 
 fn put_push_errors(out: &mut Answer) {
@@ -91,12 +89,4 @@ fn put_data_errors(out: &mut Answer) {
     put_error(out, ComposeRdataError::<ShortBuf>::Append(ShortBuf));
     put_error(out, ComposeRdataError::<ShortBuf>::Long(LongRecordData));
     put_error(out, IllegalSignatureTime::new());
-}
-
-fn put_tool_errors(out: &mut Answer) {
-    put_error(out, ToolError::Parse(ParseError::ShortInput));
-    put_error(out, ToolError::Text(FromStrError::ShortBuf));
-    put_error(out, ToolError::Read);
-    put_error(out, ToolError::Write);
-    put_error(out, ToolError::Memory);
 }

@@ -127,11 +127,6 @@ pub fn decimal(field: &[u8]) -> Result<usize, Fail> {
     Ok(number)
 }
 
-/// A number in as many digits as it may have.
-pub fn number_of(digits: &[u8]) -> Option<usize> {
-    str::from_utf8(digits).ok()?.parse::<usize>().ok()
-}
-
 fn digit_value(digit: u8) -> Option<u8> {
     match digit {
         b'0'..=b'9' => Some(digit.wrapping_sub(b'0')),

@@ -58,7 +58,7 @@ fn is_composed_where_it_fits(out: &mut Answer, label: Label<'_>) {
 }
 
 /// An array of 64 octets that has room for so many more.
-pub fn room_for(out: &mut Answer, len: usize) -> ArrayVec<u8, 64> {
+fn room_for(out: &mut Answer, len: usize) -> ArrayVec<u8, 64> {
     let mut room = ArrayVec::<u8, 64>::new();
     for _octet in len..64 {
         out.agree(room.append_slice(b"\xee").is_ok(), b"append_slice");

@@ -2,8 +2,8 @@
 
 use crate::answer::Answer;
 use crate::fail::Fail;
-use crate::labels::room_for;
 use crate::message::parser_at;
+use arrayvec::ArrayVec;
 use domain::base::net::{Ipv4Addr, Ipv6Addr};
 use domain::base::wire::{Compose, Parse, ParseError, compose_vec, parse_slice};
 use octseq::{OctetsBuilder, Parser};
@@ -103,7 +103,7 @@ pub fn put_whole(out: &mut Answer, octets: &[u8]) {
     }
 }
 
-/// What a value is composed to, in a room that it just fits, and in one that lacks an octet.
+/// What a value is composed to, in a room of 16 octets that it fits, and in one that lacks an octet.
 pub fn put_composed<T: Compose>(out: &mut Answer, value: &T, len: usize) {
     let mut octets: Vec<u8> = Vec::new(out.alloc());
     if value.compose(&mut octets).is_err() {
@@ -131,6 +131,15 @@ fn is_refused_by_a_full_room<T: Compose>(out: &mut Answer, value: &T, len: usize
         b"compose of what exceeds the room",
     );
     out.agree(full.len() == held, b"compose of what exceeds the room");
+}
+
+/// An array of 16 octets that has room for so many more.
+fn room_for(out: &mut Answer, len: usize) -> ArrayVec<u8, 16> {
+    let mut room = ArrayVec::<u8, 16>::new();
+    for _octet in len..16 {
+        out.agree(room.append_slice(b"\xee").is_ok(), b"append_slice");
+    }
+    room
 }
 
 fn number_of(field: &[u8]) -> Option<i128> {

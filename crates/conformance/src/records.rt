@@ -3,7 +3,6 @@
 use crate::answer::Answer;
 use crate::canonical::is_in_canonical_order;
 use crate::fail::Fail;
-use crate::fields::number_of;
 use arrayvec::ArrayVec;
 use domain::base::cmp::CanonicalOrd;
 use domain::base::name::*;
@@ -211,6 +210,10 @@ fn is_refused(out: &mut Answer, octets: &[u8], error: LongRecordData) {
     let read = Data::parse_rdata(Rtype::from_int(1), &mut parser);
     out.agree(read == Err(ParseError::from(error)), b"parse_rdata");
     out.agree(parser.pos() == 0, b"parse_any_rdata");
+}
+
+fn number_of(digits: &[u8]) -> Option<usize> {
+    str::from_utf8(digits).ok()?.parse::<usize>().ok()
 }
 
 /// `lengths LEN,LEN,LEN`: parts of record data of these lengths.

@@ -16,7 +16,6 @@ pub struct Wanted<'w> {
     /// The labels from the last one on.
     turned: &'w [u8],
     canonical: &'w [u8],
-    absolute: bool,
 }
 
 /// Of `www.Example.com.`
@@ -24,7 +23,6 @@ pub const ABSOLUTE: Wanted<'static> = Wanted {
     wire: WWW,
     turned: b"\0\x03com\x07Example\x03www",
     canonical: LOWER_WWW,
-    absolute: true,
 };
 
 /// Of `www.Example`
@@ -32,7 +30,6 @@ pub const RELATIVE: Wanted<'static> = Wanted {
     wire: b"\x03www\x07Example",
     turned: b"\x07Example\x03www",
     canonical: b"\x03www\x07example",
-    absolute: false,
 };
 
 /// Names that an absolute one is compared with.
@@ -95,19 +92,6 @@ fn gives_labels<'a, N: ToLabelIter<'a>>(alloc: Global, name: &'a N, wanted: Want
 fn is_measured<'a, N: ToLabelIter<'a>>(name: &'a N, wanted: Wanted<'_>, flat: bool) -> bool {
     let lent = if flat { Some(wanted.wire) } else { None };
     name.compose_len() as usize == wanted.wire.len() && name.as_flat_slice() == lent
-}
-
-/// Asks a name of any kind, absolute or relative, for what all names have.
-pub fn is_asked<'a, N: ToLabelIter<'a>>(
-    rt: &impl Abort,
-    alloc: Global,
-    name: &'a N,
-    wanted: Wanted<'_>,
-    flat: bool,
-) {
-    assert!(rt; gives_labels(alloc, name, wanted));
-    assert!(rt; is_measured(name, wanted, flat));
-    assert!(rt; name.is_absolute() == wanted.absolute);
 }
 
 fn is_composed<'a, N: AbsoluteLabels<'a>>(alloc: Global, name: &'a N, wanted: Wanted<'_>) -> bool {
@@ -221,9 +205,11 @@ pub fn every_call_of_absolute<'a, N: AbsoluteLabels<'a>>(
     wanted: Wanted<'_>,
     flat: bool,
 ) {
-    is_asked(rt, alloc, name, wanted, flat);
+    assert!(rt; gives_labels(alloc, name, wanted));
+    assert!(rt; is_measured(name, wanted, flat));
     assert!(rt; is_made(alloc, name, wanted, flat));
     assert!(rt; is_related(name, others));
+    assert!(rt; name.is_absolute());
     assert!(rt; name.rrsig_label_count() == 3);
     assert!(rt; is_shown(alloc, name));
 }
@@ -306,9 +292,11 @@ pub fn every_call_of_relative<'a, N: RelativeLabels<'a>>(
     wanted: Wanted<'_>,
     flat: bool,
 ) {
-    is_asked(rt, alloc, name, wanted, flat);
+    assert!(rt; gives_labels(alloc, name, wanted));
+    assert!(rt; is_measured(name, wanted, flat));
     assert!(rt; is_relative_made(alloc, name, wanted, flat));
     assert!(rt; is_relative_compared(name, others));
     assert!(rt; is_matched(name, &others.start, &others.end, &others.root));
+    assert!(rt; !name.is_absolute());
     assert!(rt; !name.is_empty());
 }

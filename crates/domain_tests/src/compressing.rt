@@ -7,7 +7,7 @@ ghost use Rattle.domain_name.specs.Names.{name_labels};
 ghost use Rattle.domain_rdata.specs.FlatNames.{flat_name_octets};
 ghost use Rattle.domain_rdata.specs.RecordData.{NameOctets};
 
-use crate::names::{LOWER_WWW, absolute};
+use crate::names::absolute;
 use arrayvec::ArrayVec;
 use domain::base::compress::CompressComposer;
 use domain::base::name::*;
@@ -15,6 +15,58 @@ use domain::base::rdata::{ComposeRecordData, RecordData, Rtype};
 use domain::base::wire::Composer;
 use octseq::{Octets, Parser};
 use std::process::Abort;
+
+const WWW: &[u8] = b"\x03www\x07example\x03com\0";
+
+/// Draws numbers, always the same ones.
+#[derive(Clone, Copy)]
+struct Draws {
+    state: u32,
+}
+
+impl Draws {
+    /// A number below `count`, which isn't 0 and is at most 65,536.
+    fn below(&mut self, count: u32) -> u32 {
+        self.state = self
+            .state
+            .wrapping_mul(1_664_525)
+            .wrapping_add(1_013_904_223);
+        if count == 0 {
+            return 0;
+        }
+        self.state / 65536 % count
+    }
+}
+
+type Drawn = ArrayVec<u8, 32>;
+
+fn put(rt: &impl Abort, octets: &mut Drawn, octet: u8) {
+    assert!(rt; octets.try_push(octet).is_ok());
+}
+
+/// A name of one to five labels, which have one or two octets out of a few, so that many ends are alike.
+fn drawn_name(rt: &impl Abort, seed: u32) -> Drawn {
+    let mut draws = Draws { state: seed };
+    let mut octets = ArrayVec::new();
+    let labels = draws.below(5).wrapping_add(1);
+    for _label in 0..labels {
+        let len = if draws.below(2) == 0 { 1 } else { 2 };
+        put(rt, &mut octets, len);
+        for _octet in 0..len {
+            let octet = match draws.below(6) {
+                0 => b'a',
+                1 => b'A',
+                2 => b'b',
+                3 => b'B',
+                4 => b'[',
+                _ => b'0',
+            };
+            put(rt, &mut octets, octet);
+        }
+    }
+    put(rt, &mut octets, 0);
+    octets
+}
 
 fn appended<Target: Composer>(rt: &impl Abort, target: &mut Target, octets: &[u8]) -> bool {
     target.append_compressed_name(&absolute(rt, octets)).is_ok()
@@ -34,31 +86,22 @@ fn read_back(rt: &impl Abort, message: &[u8], place: usize, octets: &[u8]) -> us
     parser.pos()
 }
 
-/// Ends that are alike, and some that are not.
-const NAMES: [&[u8]; 6] = [
-    LOWER_WWW,
-    b"\x03ftp\x07EXAMPLE\x03com\0",
-    b"\0",
-    b"\x01a\x03www\x07example\x03COM\0",
-    b"\x01b\x03net\0",
-    b"\x01c\x01B\x03Net\0",
-];
-
-/// Appends names over and over, and reads each back. A call that is refused is made again; how many were is
+/// Appends names that are drawn, and reads each back. A call that is refused is made again; how many were is
 /// answered.
-fn refused_of_many(rt: &impl Abort, target: &mut CompressComposer<Vec<u8>>) -> usize {
+fn refused_of_many<Target: Composer>(rt: &impl Abort, target: &mut Target) -> usize {
     let mut refusals = 0usize;
-    for _time in 0..10u8 {
-        for name in NAMES {
-            let place = target.as_slice().len();
-            if !appended(rt, target, name) {
-                refusals = refusals.saturating_add(1);
-                assert_eq!(rt; target.as_slice().len(), place);
-                assert!(rt; appended(rt, target, name));
-            }
-            let end = read_back(rt, target.as_slice(), place, name);
-            assert_eq!(rt; end, target.as_slice().len());
+    for seed in 0..100u32 {
+        let name = drawn_name(rt, seed);
+        let place = target.as_slice().len();
+        if !appended(rt, target, name.as_slice()) {
+            refusals = refusals.saturating_add(1);
+            assert_eq!(rt; target.as_slice().len(), place);
+            assert!(rt; appended(rt, target, name.as_slice()));
         }
+        assert_eq!(rt;
+            read_back(rt, target.as_slice(), place, name.as_slice()),
+            target.as_slice().len()
+        );
     }
     refusals
 }
@@ -68,8 +111,9 @@ fn refused_of_many(rt: &impl Abort, target: &mut CompressComposer<Vec<u8>>) -> u
 fn names_are_written_or_refused(rt: HostRuntime) {
     let mut target = CompressComposer::new(Vec::<u8>::new(rt.alloc()));
     assert!(rt; refused_of_many(&rt, &mut target) <= 1);
-    // 39 octets for the six names, and then nine times two octets for each, and one for the root.
-    assert_eq!(rt; target.as_slice().len(), 138);
+    let mut again = CompressComposer::new(ArrayVec::<u8, 4000>::new());
+    assert_eq!(rt; refused_of_many(&rt, &mut again), 0);
+    assert_eq!(rt; target.as_slice(), again.as_slice());
 }
 
 /// Record data that is one name.
@@ -123,7 +167,7 @@ fn compose_both<Target: Composer>(rt: &impl Abort, target: &mut Target, canonica
         name: absolute(rt, b"\x02ns\x07Example\x03com\0"),
     };
     assert!(rt; target.can_compress());
-    assert!(rt; appended(rt, target, LOWER_WWW));
+    assert!(rt; appended(rt, target, WWW));
     if canonical {
         assert!(rt; data.compose_canonical_len_rdata(target).is_ok());
     } else {

@@ -14,10 +14,10 @@ const LINE: &[u8] = b"www.Example.com.\n";
 /// A reader that gives one octet at a time, and fails behind a number of them.
 #[derive(Drop)]
 pub struct FailingReader<'a> {
-    octets: &'a [u8],
-    given: usize,
-    fails_after: usize,
-    kind: ErrorKind,
+    pub octets: &'a [u8],
+    pub given: usize,
+    pub fails_after: usize,
+    pub kind: ErrorKind,
 }
 
 impl Read for FailingReader<'_> {
@@ -34,14 +34,10 @@ impl Read for FailingReader<'_> {
     }
 }
 
-/// A reader of these octets that fails behind a number of them.
-pub fn failing_reader(
-    octets: &'static [u8],
-    fails_after: usize,
-    kind: ErrorKind,
-) -> FailingReader<'static> {
+/// A reader of the message that fails behind a number of octets.
+fn failing_reader(fails_after: usize, kind: ErrorKind) -> FailingReader<'static> {
     FailingReader {
-        octets,
+        octets: SCATTERED,
         given: 0,
         fails_after,
         kind,
@@ -99,7 +95,7 @@ pub const KINDS: [(ErrorKind, ToolError, ToolError); 2] = [
 fn a_reader_that_fails_is_told(rt: HostRuntime) {
     for (kind, error, _) in KINDS {
         for fails_after in 0..SCATTERED.len() + 1 {
-            let mut input = failing_reader(SCATTERED, fails_after, kind);
+            let mut input = failing_reader(fails_after, kind);
             let mut output = ArrayVec::<u8, 32>::new();
             let answer = name_at(rt.alloc(), &mut input, &mut output, 15);
             assert!(rt; answer == Err(error) && output.is_empty());
@@ -109,7 +105,7 @@ fn a_reader_that_fails_is_told(rt: HostRuntime) {
 
 #[test]
 fn a_reader_that_gives_one_octet_at_a_time_is_read_to_its_end(rt: HostRuntime) {
-    let mut input = failing_reader(SCATTERED, usize::MAX, ErrorKind::BrokenPipe);
+    let mut input = failing_reader(usize::MAX, ErrorKind::BrokenPipe);
     let mut output = ArrayVec::<u8, 32>::new();
     assert_eq!(rt; name_at(rt.alloc(), &mut input, &mut output, 15), Ok(()));
     assert_eq!(rt; output.as_slice(), LINE);
@@ -138,7 +134,7 @@ fn failed_reading_has_a_status_and_a_text(rt: HostRuntime) {
         (ErrorKind::BrokenPipe, b"reading failed\n".as_slice()),
         (ErrorKind::OutOfMemory, b"out of memory\n"),
     ] {
-        let mut input = failing_reader(SCATTERED, 3, kind);
+        let mut input = failing_reader(3, kind);
         let mut output = ArrayVec::<u8, 32>::new();
         let mut told = ArrayVec::<u8, 32>::new();
         let status = run(rt.alloc(), &["at", "0"], &mut input, &mut output, &mut told);

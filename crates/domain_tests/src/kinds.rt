@@ -1,7 +1,7 @@
 //! Every call over references to names, chains that end in messages, and kinds of names of the tests' own.
 
 use crate::calls::{
-    ABSOLUTE, RELATIVE, every_call_of_absolute, every_call_of_relative, is_asked, names_beside,
+    ABSOLUTE, RELATIVE, every_call_of_absolute, every_call_of_relative, names_beside,
     relative_names_beside,
 };
 use crate::lists::{AbsoluteList, Numbered, RelativeList};
@@ -39,17 +39,6 @@ fn relative_list<'x>(rt: &impl Abort, labels: &'x [Label<'static>]) -> RelativeL
         Some(name) => name,
         None => panic!(rt; "no relative name"),
     }
-}
-
-#[test]
-fn one_call_over_each_kind_of_names(rt: HostRuntime) {
-    let alloc = rt.alloc();
-    is_asked(&rt, alloc, &absolute(&rt, WWW), ABSOLUTE, true);
-    is_asked(&rt, alloc, &parsed(&rt, SCATTERED, 15), ABSOLUTE, false);
-    let name = relative(&rt, b"\x03www\x07Example");
-    is_asked(&rt, alloc, &name, RELATIVE, true);
-    let chain = joined(&rt, b"\x03www", parsed(&rt, SCATTERED, 5));
-    is_asked(&rt, alloc, &chain, ABSOLUTE, false);
 }
 
 #[test]
@@ -127,13 +116,14 @@ fn relative_names_of_other_types(rt: HostRuntime) {
 
 #[test]
 fn chains_of_other_types(rt: HostRuntime) {
+    let others = names_beside(&rt);
     let labels = labels_of_www(&rt);
     let left = relative_list(&rt, &labels[..2]);
     let right = absolute_list(&rt, &labels[2..]);
     let Ok(chain) = left.chain(right) else {
         panic!(rt; "too long");
     };
-    assert_eq!(rt; chain.compose_len(), 17);
+    every_call_of_absolute(&rt, rt.alloc(), &chain, &others, ABSOLUTE, false);
     let (left, right) = chain.unwrap();
     assert_eq!(rt; (left.compose_len(), right.compose_len()), (12, 5));
     assert_eq!(rt; left.chain_root().compose_len(), 13);
@@ -143,22 +133,12 @@ fn chains_of_other_types(rt: HostRuntime) {
 fn names_of_other_types_are_at_most_so_long(rt: HostRuntime) {
     let labels = [label(&rt, b"123456789"); 26];
     assert!(rt; RelativeList::new(&labels).is_none());
-    assert!(rt; RelativeList::new(&labels[..25]).is_some());
+    let long = relative_list(&rt, &labels[..25]);
     assert!(rt; AbsoluteList::new(&labels[..25]).is_none());
-}
-
-/// A label of 63 octets and one of 62: half of the octets of the longest relative name.
-const HALF: &[u8] =
-    b"\x3f123456789012345678901234567890123456789012345678901234567890123\x3e12345678901234567890123456789012345678901234567890123456789012";
-
-/// How long a name of any kind is with the root behind it.
-fn rooted_len<'a, L: RelativeLabels<'a> + Drop>(name: L) -> u16 {
-    name.chain_root().compose_len()
-}
-
-#[test]
-fn the_root_stands_behind_the_longest_chain(rt: HostRuntime) {
-    let chain = relative_joined(&rt, HALF, HALF);
+    assert!(rt; long.chain(relative(&rt, b"\x041234")).is_err());
+    assert!(rt; long.chain(absolute(&rt, b"\x041234\0")).is_err());
+    let Ok(chain) = long.chain(relative(&rt, b"\x03123")) else {
+        panic!(rt; "too long");
+    };
     assert_eq!(rt; chain.compose_len(), 254);
-    assert_eq!(rt; rooted_len(chain), 255);
 }

@@ -39,3 +39,5 @@ mod records;
 mod refused;
 #[cfg(test)]
 mod slow_reader;
+#[cfg(test)]
+mod words;

@@ -1,16 +1,13 @@
 //! The engines that list a message and show a name's wire form, over readers and writers that fail, and with
 //! memory refused.
 
-use crate::engines::{CountingWriter, FailingWriter, KINDS, failing_reader};
+use crate::engines::{CountingWriter, FailingReader, FailingWriter, KINDS};
+use crate::words::ANSWER;
 use arrayvec::ArrayVec;
 use domain::tool::{ToolError, list, name_text, run};
 use std::alloc::AllocError;
 use std::io;
 use std::io::{ErrorKind, Write};
-
-/// A question and an answer, whose name is a pointer to that of the question.
-const ANSWER: &[u8] =
-    b"\x12\x34\x81\x80\0\x01\0\x01\0\0\0\0\x01a\0\0\x01\0\x01\xc0\x0c\0\x01\0\x01\0\0\x0e\x10\0\x04\xc0\0\x02\x01";
 
 const LINES: &[u8] = b"question a. 1 1\nanswer a. 1 1 3600 \\# 4 c0 00 02 01\n";
 
@@ -37,7 +34,12 @@ impl Write for KeepingWriter {
 fn a_reader_that_fails_lists_nothing(rt: HostRuntime) {
     for (kind, error, _) in KINDS {
         for fails_after in 0..ANSWER.len() + 1 {
-            let mut input = failing_reader(ANSWER, fails_after, kind);
+            let mut input = FailingReader {
+                octets: ANSWER,
+                given: 0,
+                fails_after,
+                kind,
+            };
             let mut output = ArrayVec::<u8, 64>::new();
             let answer = list(rt.alloc(), &mut input, &mut output);
             assert!(rt; answer == Err(error) && output.is_empty());

@@ -18,9 +18,6 @@ pub type Iterators<'a> = (
     ChainIter<'a, NameIter<'a>, NameIter<'a>>,
 );
 
-/// What shows a name with a dot at its end.
-pub type Shown<'a> = DisplayWithDot<'a, Chain<RelativeName<&'a [u8]>, Name<&'a [u8]>>>;
-
 pub type Errors = (LongLabelError, StripSuffixError);
 
 /// How long an absolute name of any kind is, and how many labels a signature counts.
@@ -48,4 +45,21 @@ fn traits_by_their_paths(rt: HostRuntime) {
     assert!(rt; absolute_paths(&root) == (1, 0));
     assert!(rt; relative_paths(&RelativeName::wildcard_ref()) == (false, false));
     assert!(rt; flat(ParsedName::from(root), rt.alloc()).is_ok());
+}
+
+/// The chain of two names.
+fn chain(
+    left: RelativeName<&'static [u8]>,
+) -> Option<Chain<RelativeName<&'static [u8]>, Name<&'static [u8]>>> {
+    Chain::new(left, Name::root_ref()).ok()
+}
+
+#[test]
+fn a_chain_is_shown(rt: HostRuntime) {
+    let Some(chain) = chain(RelativeName::wildcard_ref()) else {
+        panic!(rt; "too long");
+    };
+    let mut shown = String::new(rt.alloc());
+    assert!(rt; write!(shown, "{}", DisplayWithDot::new(&chain)).is_ok());
+    assert_eq!(rt; shown.as_str(), "*.");
 }
