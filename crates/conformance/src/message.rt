@@ -191,6 +191,10 @@ fn put_part_of(out: &mut Answer, name: ParsedName<&[u8]>) {
         Ok(flat) => {
             out.put(if name.is_compressed() { b"c" } else { b"f" });
             out.put_hex(flat.as_slice());
+            out.agree(
+                usize::from(name.compose_len()) == flat.len(),
+                b"compose_len",
+            );
         }
         Err(_) => out.fail(Fail::Memory),
     }
