@@ -15,8 +15,9 @@ use Rattle.domain_reading.proofs.Touching.{behind_more, behind_kept, behind_from
 use Rattle.domain_rdata.specs.ReadBack.{StandsAt}
 use Rattle.domain_compress.specs.Compressing.{Place, pointer_to, FirstPlace, LongestEnd, Compresses, Adds, places_from, places_within}
 use Rattle.domain_compress.specs.Compressing.Compresses.{pointer as pointed, flat, unread}
-use Rattle.domain_compress.specs.Pointed.{flat_plain, pointer_behind as pointer_plain, begins_relative}
+use Rattle.domain_compress.specs.Pointed.{flat_plain, pointer_behind as pointer_plain, begins_relative, compressed_reads_back}
 use Rattle.domain_compress.specs.Standing.{PlaceStands, PlacesStand}
+use Rattle.domain_compress.proofs.Once.{stands_more}
 
 -- ---- more octets, fewer octets, other octets before n
 
@@ -163,3 +164,14 @@ added n t u ws vs ls name le stand x =
     let all : All P (take 128 (ws ++ places_from (length t) (length t + length x.octets) x.labels)) = subst (λ e. All P (take 128 (ws ++ places_from (length t) e x.labels))) (length-append t x.octets) (All-take P 128 (ws ++ places_from (length t) (length m) x.labels) both) in
     let same : All P vs = subst (λ vs. All P vs) (sym x.places) all in
     (subst (λ o. PlacesStand n o vs) (sym x.all) same, (new.read, subst (λ o. ReadsBehind n o (length t) new.read) (sym x.all) new.reads))
+
+-- So a name that was written is read at its place behind more octets, and whatever is written before n.
+pub added_stays : (n : ℕ) (t u v o : List ℕ) (ws vs : List Place) (ls : List (List ℕ)) → IsAbsoluteName ls → n ≤ length t → PlacesStand n t ws → Adds t ws ls u vs → drop n o ≡ drop n (u ++ v) → StandsAt o (length t) ls
+added_stays n t u v o ws vs ls name le stand x same =
+    let new = (added n t u ws vs ls name le stand x).1 in
+    let P : List ℕ → Type 0 = λ m. StandsAt m (length t) ls in
+    let there : StandsAt u (length t) ls = subst P (sym x.all) (compressed_reads_back t ws ls x.labels x.octets name x.compresses).stands in
+    stands_kept n (u ++ v) o (length t) new.0 ls (behind_more v new.1) same (stands_more u v (length t) ls there)
+
+pub no_places : (n : ℕ) (t : List ℕ) → PlacesStand n t []
+no_places n t = All-nil (PlaceStands n t)

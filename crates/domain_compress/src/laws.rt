@@ -1,5 +1,5 @@
 //! Laws of writing names shorter.
-ghost use Rattle.std.specs.Prelude.{◌≡◌, ℕ, ◌≤◌, List, ◌++◌, length, take, drop};
+ghost use Rattle.std.specs.Prelude.{◌≡◌, ℕ, ◌≤◌, List, [], ◌++◌, length, take, drop};
 ghost use Rattle.domain_label.specs.Wire.{IsAbsoluteName};
 ghost use Rattle.domain_rdata.specs.ReadBack.{StandsAt, ReadsBack};
 ghost use Rattle.domain_reading.specs.Touched.{ReadsBehind};
@@ -14,7 +14,8 @@ ghost use Rattle.domain_compress.specs.Standing.{PlacesStand};
 ///
 /// Where each name at a remembered place is read from the octets between n and its end alone, the next name is
 /// written so that it is, too; it stays so behind more octets, after a cut and whatever is written over the octets
-/// before n. A message that is begun with n octets, before a composer remembers a place, has no other names.
+/// before n. A message that is begun with n octets, before a composer remembers a place, has no other names. So a
+/// name that was written is read at its place when more octets stand behind it, and the header is written over.
 pub fn compress_laws()
     ensures once { (t : List ℕ) (ws : List Place) (ls a b : List (List ℕ)) (r s : List ℕ) → Compresses t ws ls a r → Compresses t ws ls b s → (a ≡ b) × (r ≡ s) }
     ensures reads_back { (t : List ℕ) (ws : List Place) (ls a : List (List ℕ)) (s : List ℕ) → IsAbsoluteName ls → Compresses t ws ls a s → ReadsBack t ls s }
@@ -22,6 +23,8 @@ pub fn compress_laws()
     ensures cut { (t : List ℕ) (p e n : ℕ) (ls : List (List ℕ)) → StandsAt (take e t) p ls → e ≤ n → StandsAt (take n t) p ls }
     ensures kept { (n : ℕ) (t o : List ℕ) (p : ℕ) (c ls : List (List ℕ)) → ReadsBehind n t p c → drop n o ≡ drop n t → StandsAt t p ls → StandsAt o p ls }
     ensures places_added { (n : ℕ) (t u : List ℕ) (ws vs : List Place) (ls : List (List ℕ)) → IsAbsoluteName ls → n ≤ length t → PlacesStand n t ws → Adds t ws ls u vs → PlacesStand n u vs × ((c : List (List ℕ)) × ReadsBehind n u (length t) c) }
+    ensures stays { (n : ℕ) (t u v o : List ℕ) (ws vs : List Place) (ls : List (List ℕ)) → IsAbsoluteName ls → n ≤ length t → PlacesStand n t ws → Adds t ws ls u vs → drop n o ≡ drop n (u ++ v) → StandsAt o (length t) ls }
+    ensures places_none { (n : ℕ) (t : List ℕ) → PlacesStand n t [] }
     ensures places_more { (n : ℕ) (t u : List ℕ) (ws : List Place) → PlacesStand n t ws → PlacesStand n (t ++ u) ws }
     ensures places_cut { (n e : ℕ) (t : List ℕ) (ws : List Place) → PlacesStand n t ws → PlacesStand n (take e t) (places_within e ws) }
     ensures places_kept { (n : ℕ) (t o : List ℕ) (ws : List Place) → drop n o ≡ drop n t → length o ≡ length t → PlacesStand n t ws → PlacesStand n o ws }

@@ -1,8 +1,8 @@
 //! Every call over references to names, chains that end in messages, and kinds of names of the tests' own.
 
 use crate::calls::{
-    ABSOLUTE, RELATIVE, every_call_of_absolute, every_call_of_relative, names_beside,
-    relative_names_beside,
+    ABSOLUTE, RELATIVE, every_call_of_absolute, every_call_of_any, every_call_of_relative,
+    names_beside, relative_names_beside,
 };
 use crate::lists::{AbsoluteList, Numbered, RelativeList};
 use crate::names::{SCATTERED, WWW, absolute, joined, parsed, relative, relative_joined};
@@ -39,6 +39,17 @@ fn relative_list<'x>(rt: &impl Abort, labels: &'x [Label<'static>]) -> RelativeL
         Some(name) => name,
         None => panic!(rt; "no relative name"),
     }
+}
+
+#[test]
+fn one_function_for_names_of_all_four_kinds(rt: HostRuntime) {
+    let alloc = rt.alloc();
+    every_call_of_any(&rt, alloc, &absolute(&rt, WWW), ABSOLUTE, true);
+    let name = relative(&rt, b"\x03www\x07Example");
+    every_call_of_any(&rt, alloc, &name, RELATIVE, true);
+    every_call_of_any(&rt, alloc, &parsed(&rt, SCATTERED, 15), ABSOLUTE, false);
+    let chain = joined(&rt, b"\x03www", parsed(&rt, SCATTERED, 5));
+    every_call_of_any(&rt, alloc, &chain, ABSOLUTE, false);
 }
 
 #[test]

@@ -2,12 +2,15 @@
 //! function stands here as the documents have it, with its contract, and is proved.
 #![tactic(auto)]
 
+pub mod address_data;
 pub mod builders;
 pub mod chains;
 pub mod character_strings;
 pub mod circle;
 pub mod comparing;
 pub mod compressing;
+pub mod counted;
+pub mod counts_last;
 pub mod exchange;
 pub mod flat_names;
 pub mod flattening;

@@ -11,7 +11,7 @@ ghost use Rattle.domain_reading.specs.declared.fault.NameFault.{NameFault};
 ghost use Rattle.octseq.specs.Parsing.{message, place, MovesTo};
 
 use domain::base::name::*;
-use domain::base::wire::ParseError;
+use domain::base::wire::{ParseError, parse_slice};
 use octseq::Parser;
 use std::alloc::{AllocError, Global};
 use std::sync::ledger::Ledger;
@@ -31,6 +31,13 @@ pub fn question<'a>(parser: &mut Parser<'a>) -> Result<(ParsedName<&'a [u8]>, u1
     let class = ahead.parse_u16_be()?;
     *parser = ahead;
     Ok((name, rtype, class))
+}
+
+/// The name that has all of the octets.
+pub fn whole_name(octets: &[u8]) -> Result<ParsedName<&[u8]>, ParseError>
+    ensures name { IfOk result (λ name. Names 255 octets.now 0 (parsed_labels name)) }
+{
+    parse_slice(octets, ParsedName::parse)
 }
 
 /// Passes over a question: the name, and the four octets of its type and class.

@@ -1,6 +1,6 @@
 use Rattle.domain_compress.specs.Pointed.{compressed_reads_back}
 use Rattle.domain_compress.proofs.Once.{compresses_once, stands_more, stands_cut}
-use Rattle.domain_compress.proofs.Standing.{stands_kept, added, places_more, places_cut, places_kept}
+use Rattle.domain_compress.proofs.Standing.{stands_kept, added, added_stays, no_places, places_more, places_cut, places_kept}
 use Rattle.domain_compress.proofs.laws.compress_laws.Goals as goal
 
 pub returns-clause-once : goal.returns-clause-once
@@ -29,3 +29,9 @@ returns-clause-places_kept c = places_kept
 
 pub returns-clause-places_added : goal.returns-clause-places_added
 returns-clause-places_added c = added
+
+pub returns-clause-stays : goal.returns-clause-stays
+returns-clause-stays c = added_stays
+
+pub returns-clause-places_none : goal.returns-clause-places_none
+returns-clause-places_none c = no_places

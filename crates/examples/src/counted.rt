@@ -1,0 +1,87 @@
+//! A composer of one's own: one that counts the names that are appended, and appends them to another.
+ghost use Rattle.std.specs.Prelude.{◌≡◌, ◌++◌, ◌+◌, ◌<◌, ◌≤◌, ℕ, List, length, take, OnOk, OnErr, IfSome};
+ghost use Rattle.domain_label.specs.Wire.{labels_in, IsAbsoluteWire};
+ghost use Rattle.domain_rdata.specs.ReadBack.{Appended, Exceeds};
+
+use domain::base::wire::Composer;
+use octseq::{Octets, OctetsBuilder, OctetsMut, Truncate};
+
+/// A composer, and how many names were appended to it, at most the greatest number of 32 bits.
+#[derive(Drop)]
+pub struct Counted<T: Composer> {
+    pub target: T,
+    pub names: u32,
+}
+
+impl<T: Composer> Octets for Counted<T> {
+    ghost octets = { λ it. T.octets it.target };
+
+    ghost capacity = { λ it. T.capacity it.target };
+
+    fn as_slice(&self) -> &[u8] {
+        self.target.as_slice()
+    }
+}
+
+impl<T: Composer> OctetsMut for Counted<T> {
+    ghost with_octets = { λ it w. record it { target = T.with_octets it.target w } };
+
+    fn as_slice_mut(&mut self) -> &mut [u8] {
+        self.target.as_slice_mut()
+    }
+
+    ghost written = { λ it w h. T.written it.target w h };
+
+    ghost room_stays = { λ it w. T.room_stays it.target w };
+}
+
+impl<T: Composer> Truncate for Counted<T> {
+    fn truncate(&mut self, len: usize) {
+        self.target.truncate(len);
+    }
+}
+
+impl<T: Composer> OctetsBuilder for Counted<T> {
+    type AppendError = T::AppendError;
+
+    ghost limit = { T.limit };
+
+    fn append_slice(&mut self, slice: &[u8]) -> Result<(), T::AppendError> {
+        self.target.append_slice(slice)
+    }
+
+    fn keep_limit(&self) {
+        self.target.keep_limit();
+    }
+
+    ghost fixed = { λ it. T.fixed it.target };
+}
+
+/// Names are written as the target writes them. It remembers what the target does, and the number.
+impl<T: Composer> Composer for Counted<T> {
+    ghost may_append = { λ it. T.may_append it.target };
+
+    ghost compresses = { T.compresses };
+
+    ghost Memory = { T.Memory × ℕ };
+
+    ghost memory = { λ it. (T.memory it.target, it.names) };
+
+    ghost appends = { λ it labels new. T.appends it.target labels new.target };
+
+    fn append_flat_name(&mut self, name: &[u8]) -> Result<(), T::AppendError> {
+        self.target.append_flat_name(name)?;
+        self.names = self.names.saturating_add(1);
+        Ok(())
+    }
+
+    fn can_compress(&self) -> bool {
+        self.target.can_compress()
+    }
+
+    ghost appended = { λ it new. T.appended it.target new.target };
+
+    ghost reads_back = { λ it. T.reads_back it.target };
+
+    ghost flat = { λ it. T.flat it.target };
+}
