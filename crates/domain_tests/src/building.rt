@@ -3,6 +3,7 @@
 //! As in `memory`, at most one request of a test is refused, whichever it is: so of calls that are made
 //! twice at most one is refused, and a call that was refused is accepted when it is made again.
 
+use crate::memory::{MOST_REFUSED, are_few};
 use crate::names::{WWW, octets_of, relative, relative_octets_of};
 use domain::base::name::*;
 use domain::base::net::IpAddr;
@@ -71,7 +72,7 @@ fn texts_are_read_or_refused(rt: HostRuntime) {
         count = count.saturating_add(read_absolute(&rt, rt.alloc()));
         count = count.saturating_add(read_relative(&rt, rt.alloc()));
     }
-    assert!(rt; count <= 1);
+    assert!(rt; count <= MOST_REFUSED);
 }
 
 /// The name of an address, and a relative name with the root behind it.
@@ -97,7 +98,7 @@ fn make_names(rt: &impl Abort, alloc: Global) -> u8 {
 fn names_of_addresses_and_of_relative_names_are_made_or_refused(rt: HostRuntime) {
     let first = make_names(&rt, rt.alloc());
     let second = make_names(&rt, rt.alloc());
-    assert!(rt; first.saturating_add(second) <= 1);
+    assert!(rt; first.saturating_add(second) <= MOST_REFUSED);
 }
 
 /// Makes a call, and makes it again where it was refused, which leaves the builder.
@@ -112,7 +113,7 @@ fn insist(rt: &impl Abort, builder: &mut NameBuilder<Vec<u8>>, call: BuilderCall
 }
 
 #[test]
-fn builders_go_on_behind_a_refusal(rt: HostRuntime) {
+fn builders_go_on_behind_a_refused_call(rt: HostRuntime) {
     let mut builder = NameBuilder::new_vec(rt.alloc());
     let mut count: u8 = 0;
     for call in [
@@ -140,7 +141,7 @@ fn builders_go_on_behind_a_refusal(rt: HostRuntime) {
             count = count.saturating_add(1);
         }
     }
-    assert!(rt; count <= 1);
+    assert!(rt; count <= MOST_REFUSED);
 }
 
 /// Builds a name in room for it, and tells whether that room was given.
@@ -161,5 +162,5 @@ fn build_in_room(rt: &impl Abort, alloc: Global) -> bool {
 fn in_room_that_was_given_nothing_is_refused(rt: HostRuntime) {
     let first = build_in_room(&rt, rt.alloc());
     let second = build_in_room(&rt, rt.alloc());
-    assert!(rt; first || second);
+    assert!(rt; are_few(!first, !second));
 }

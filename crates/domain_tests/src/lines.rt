@@ -2,6 +2,7 @@
 //! memory refused.
 
 use crate::engines::{CountingWriter, FailingReader, FailingWriter, KINDS};
+use crate::memory::MOST_REFUSED;
 use crate::words::ANSWER;
 use arrayvec::ArrayVec;
 use domain::tool::{ToolError, list, name_text, run};
@@ -109,7 +110,7 @@ fn lines_that_are_not_flushed_are_told(rt: HostRuntime) {
 }
 
 #[test]
-fn a_message_is_listed_or_memory_is_told(rt: HostRuntime) {
+fn a_message_is_listed_or_memory_was_refused(rt: HostRuntime) {
     let mut refused = 0u8;
     for _time in 0..2u8 {
         let mut input = ANSWER;
@@ -122,7 +123,7 @@ fn a_message_is_listed_or_memory_is_told(rt: HostRuntime) {
             }
         }
     }
-    assert!(rt; refused <= 1);
+    assert!(rt; refused <= MOST_REFUSED);
 }
 
 #[test]

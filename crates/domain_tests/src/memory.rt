@@ -16,6 +16,15 @@ use octseq::{EmptyBuilder, Octets, OctetsBuilder, OctetsFrom, ShortBuf};
 use std::alloc::Global;
 use std::process::Abort;
 
+/// How many calls of a test may be refused, in a run that refuses one request. `./test-refused-memory` tells by
+/// copies of these sources with 0 here whether a request is left to refuse.
+pub const MOST_REFUSED: u8 = 1;
+
+/// Whether no more calls of two were refused.
+pub fn are_few(first: bool, second: bool) -> bool {
+    u8::from(first).saturating_add(u8::from(second)) <= MOST_REFUSED
+}
+
 /// How many calls were refused.
 #[derive(Clone, Copy)]
 struct Refusals {
@@ -56,7 +65,7 @@ fn absolute_names_are_made_or_refused(rt: HostRuntime) {
             refusals.look(&rt, octets_of(made), octets);
         }
     }
-    assert!(rt; refusals.count <= 1);
+    assert!(rt; refusals.count <= MOST_REFUSED);
 }
 
 #[test]
@@ -71,7 +80,7 @@ fn scattered_names_are_made_or_refused(rt: HostRuntime) {
         let made: Result<Name<Vec<u8>>, ShortBuf> = name.flatten_into(alloc);
         refusals.look(&rt, octets_of(made), WWW);
     }
-    assert!(rt; refusals.count <= 1);
+    assert!(rt; refusals.count <= MOST_REFUSED);
 }
 
 #[test]
@@ -90,7 +99,7 @@ fn relative_names_are_made_or_refused(rt: HostRuntime) {
         let made: Result<RelativeName<Vec<u8>>, ShortBuf> = name.to_canonical_relative_name(alloc);
         refusals.look(&rt, relative_octets_of(made), b"\x03www");
     }
-    assert!(rt; refusals.count <= 1);
+    assert!(rt; refusals.count <= MOST_REFUSED);
 }
 
 /// Makes names of `www.com` of any kind.
@@ -113,7 +122,7 @@ fn relative_chains_are_made_or_refused(rt: HostRuntime) {
         let chain = relative_joined(&rt, b"\x03www", b"\x03com");
         makes_of_relative(&rt, rt.alloc(), &mut refusals, &chain);
     }
-    assert!(rt; refusals.count <= 1);
+    assert!(rt; refusals.count <= MOST_REFUSED);
 }
 
 #[test]
@@ -132,7 +141,7 @@ fn copies_are_made_or_refused(rt: HostRuntime) {
             }
         }
     }
-    assert!(rt; refusals.count <= 1);
+    assert!(rt; refusals.count <= MOST_REFUSED);
 }
 
 /// Copies what is left of the longest name without its first label. `ShortBuf` where memory is refused.
@@ -149,7 +158,7 @@ fn copy_rest(rt: &impl Abort, alloc: Global) -> Result<(), ShortBuf> {
 fn names_in_messages_are_copied_or_refused(rt: HostRuntime) {
     let first = copy_rest(&rt, rt.alloc());
     let second = copy_rest(&rt, rt.alloc());
-    assert!(rt; first.is_ok() || second.is_ok());
+    assert!(rt; are_few(first.is_err(), second.is_err()));
 }
 
 #[test]
@@ -178,13 +187,13 @@ fn octets_are_appended_or_refused(rt: HostRuntime) {
         let made = <Vec<u8> as EmptyBuilder>::with_capacity(alloc, 300);
         refusals.look(&rt, made, b"");
     }
-    assert!(rt; refusals.count <= 1);
+    assert!(rt; refusals.count <= MOST_REFUSED);
     assert!(rt; compose_vec(alloc, |_octets| Err(ShortBuf)).is_err());
     assert!(rt; <Vec<u8> as EmptyBuilder>::with_capacity(alloc, usize::MAX).is_err());
 }
 
 #[test]
-fn the_engine_answers_or_tells_of_memory(rt: HostRuntime) {
+fn the_engine_answers_or_tells_that_memory_was_refused(rt: HostRuntime) {
     let mut refused = 0u8;
     for _time in 0..2u8 {
         let mut input = SCATTERED;
@@ -198,5 +207,5 @@ fn the_engine_answers_or_tells_of_memory(rt: HostRuntime) {
             }
         }
     }
-    assert!(rt; refused <= 1);
+    assert!(rt; refused <= MOST_REFUSED);
 }

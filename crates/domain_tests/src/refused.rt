@@ -3,6 +3,7 @@
 //! As in `memory`, at most one request of a test is refused, whichever it is: so of calls that are made
 //! twice at most one is refused.
 
+use crate::memory::are_few;
 use crate::names::relative;
 use domain::base::name::*;
 use domain::base::rdata::{ComposeRdataError, ComposeRecordData, Rtype, UnknownRecordData};
@@ -44,7 +45,7 @@ fn copy_data(rt: &impl Abort, alloc: Global) -> bool {
 fn record_data_is_copied_or_refused(rt: HostRuntime) {
     let first = copy_data(&rt, rt.alloc());
     let second = copy_data(&rt, rt.alloc());
-    assert!(rt; !first || !second);
+    assert!(rt; are_few(first, second));
 }
 
 /// Appends record data with its length to no octets, and tells whether that was refused.
@@ -67,7 +68,7 @@ fn compose_data(rt: &impl Abort, alloc: Global) -> bool {
 fn record_data_is_composed_or_refused(rt: HostRuntime) {
     let first = compose_data(&rt, rt.alloc());
     let second = compose_data(&rt, rt.alloc());
-    assert!(rt; !first || !second);
+    assert!(rt; are_few(first, second));
 }
 
 /// Copies a relative name twice, makes the copy absolute, and tells whether memory was refused.
@@ -99,7 +100,7 @@ fn make_absolute(rt: &impl Abort, alloc: Global) -> bool {
 fn relative_names_are_copied_and_made_absolute_or_refused(rt: HostRuntime) {
     let first = make_absolute(&rt, rt.alloc());
     let second = make_absolute(&rt, rt.alloc());
-    assert!(rt; !first || !second);
+    assert!(rt; are_few(first, second));
 }
 
 /// Makes a relative name absolute in octets that have room for the root, which is never refused, and tells
@@ -123,5 +124,5 @@ fn make_absolute_in_room(rt: &impl Abort, alloc: Global) -> bool {
 fn the_root_is_never_refused_room_that_is_there(rt: HostRuntime) {
     let first = make_absolute_in_room(&rt, rt.alloc());
     let second = make_absolute_in_room(&rt, rt.alloc());
-    assert!(rt; !first || !second);
+    assert!(rt; are_few(first, second));
 }
