@@ -307,7 +307,8 @@ impl<T: ComposeRecordData> ComposeRecordData for &T {
 
 /// Record data that is read from a message, of the types that it is made for.
 pub trait ParseRecordData<'a>: RecordData + Sized {
-    /// What contracts see of the data.
+    /// What contracts see of the data. Each type says so of itself: one that shows nothing promises nothing
+    /// of what it reads but where it ends.
     ghost View: { Type 0 };
 
     /// What contracts see of this data.
@@ -342,7 +343,8 @@ pub trait ParseRecordData<'a>: RecordData + Sized {
 
 /// Record data that is read from a message whatever its type.
 pub trait ParseAnyRecordData<'a>: RecordData + Sized {
-    /// What contracts see of the data.
+    /// What contracts see of the data. Each type says so of itself: one that shows nothing promises nothing
+    /// of what it reads but where it ends.
     ghost View: { Type 0 };
 
     /// What contracts see of this data.

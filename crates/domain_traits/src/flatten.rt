@@ -14,7 +14,8 @@ pub trait FlattenInto<Target>: Sized {
     /// What was made says the same as what it was made of.
     ghost same: { Self → Target → Type 0 };
 
-    /// The values that may be refused. No other ever is.
+    /// The values that may be refused. No other ever is. Which these are each type says of itself: one that
+    /// says all may be refused promises nothing.
     ghost may_refuse: { Self → Type 0 };
 
     /// The flat value.

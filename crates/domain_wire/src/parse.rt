@@ -25,7 +25,8 @@ use octseq::Parser;
 /// Numbers, addresses and arrays have the same number of octets whatever they are. Numbers are read with
 /// the high octet first, signed ones in two's complement (RFC 1035, 2.3.2), and addresses as their octets.
 pub trait Parse<'a>: Sized {
-    /// What contracts see of a value.
+    /// What contracts see of a value. Each type says so of itself: one that shows nothing promises nothing
+    /// of what it reads but where it ends.
     ghost View: { Type 0 };
 
     /// What contracts see of this value.

@@ -5,6 +5,7 @@ ghost use Rattle.domain_rdata.specs.ReadBack.{StandsAt};
 use arrayvec::ArrayVec;
 use domain::base::compress::CompressComposer;
 use domain::base::name::*;
+use domain::base::rdata::{ComposeRdataError, ComposeRecordData};
 use domain::base::wire::Composer;
 use octseq::{Octets, ShortBuf};
 
@@ -19,6 +20,21 @@ pub fn append_at<'a, Target: Composer, N: AbsoluteLabels<'a>>(
     let place = target.as_slice().len();
     target.append_compressed_name(name)?;
     Ok(place)
+}
+
+/// Appends the data of a record with its length in front, and then a name, and tells where that is read.
+pub fn append_data_and_name<'a, Target: Composer, Data: ComposeRecordData, N: AbsoluteLabels<'a>>(
+    target: &mut Target,
+    data: &Data,
+    name: &'a N,
+) -> Result<usize, ComposeRdataError<Target::AppendError>>
+    ensures stands { IfOk result (λ place. StandsAt (Target.octets target.new) place (N.labels name.now)) }
+{
+    data.compose_len_rdata(target)?;
+    match append_at(target, name) {
+        Ok(place) => Ok(place),
+        Err(e) => Err(ComposeRdataError::Append(e)),
+    }
 }
 
 /// Both names in one message of at most 512 octets; the second one is written shorter where it ends as

@@ -19,7 +19,8 @@ pub trait OctetsFrom<Src>: Sized {
     /// What was made says the same as what it was made of.
     ghost same: { Src → Self → Type 0 };
 
-    /// The sources that may be refused. No other ever is.
+    /// The sources that may be refused. No other ever is. Which these are each type says of itself: one that
+    /// says all may be refused promises nothing.
     ghost may_refuse: { Src → Type 0 };
 
     /// Makes the value.
