@@ -18,7 +18,7 @@ use octseq::{OctetsBuilder, OctetsMut};
 impl<B: OctetsBuilder + OctetsMut> LabelsBuilder<B> {
     /// Adds a part of a text: a dot ends the open label.
     fn push_part(&mut self, part: Part) -> Result<(), FromStrError>
-        ensures takes { TakesPart (room B.limit self.old) self.old.built part result self.new.built }
+        ensures takes { TakesPart (room B.limit self.new) self.old.built part result self.new.built }
         ensures capacity { self.old.capacity ≤ self.new.capacity }
     {
         match part {
@@ -52,7 +52,7 @@ impl<B: OctetsBuilder + OctetsMut> LabelsBuilder<B> {
     /// `\[` where none is open; `BadSymbol` at a character that stands for no octet; else the refusals of
     /// `push`. A refused call changes nothing.
     pub fn push_symbol(&mut self, symbol: Symbol) -> Result<(), FromStrError>
-        ensures takes { TakesPart (room B.limit self.old) self.old.built (symbol_part symbol) result self.new.built }
+        ensures takes { TakesPart (room B.limit self.new) self.old.built (symbol_part symbol) result self.new.built }
         ensures capacity { self.old.capacity ≤ self.new.capacity }
     {
         self.push_part(part_of(Ok(symbol)))
@@ -66,7 +66,7 @@ impl<B: OctetsBuilder + OctetsMut> LabelsBuilder<B> {
         requires can { I.can_next items }
         requires ends { IsFinite (I.remaining items) }
         ensures takes { (all : List (Result Symbol SymbolCharsError)) → AlwaysYields I.next_gives (λ x. x) items all →
-            TakesParts (room B.limit self.old) self.old.built (parts all) result self.new.built }
+            TakesParts (room B.limit self.new) self.old.built (parts all) result self.new.built }
         ensures capacity { self.old.capacity ≤ self.new.capacity }
     {
         for item in items {
@@ -89,7 +89,7 @@ impl<B: OctetsBuilder + OctetsMut> LabelsBuilder<B> {
         requires can { I.can_next chars }
         requires ends { IsFinite (I.remaining chars) }
         ensures takes { (cs : List ℕ) (items : List (Result Symbol SymbolCharsError)) → AlwaysYields I.next_gives (λ c. c) chars cs → Reads cs items →
-            TakesParts (room B.limit self.old) self.old.built (parts items) result self.new.built }
+            TakesParts (room B.limit self.new) self.old.built (parts items) result self.new.built }
         ensures capacity { self.old.capacity ≤ self.new.capacity }
     {
         self.append_items(Symbols::new(chars))
@@ -103,7 +103,7 @@ impl<B: OctetsBuilder + OctetsMut> LabelsBuilder<B> {
         requires can { I.can_next symbols }
         requires ends { IsFinite (I.remaining symbols) }
         ensures takes { (ss : List Symbol) → AlwaysYields I.next_gives (λ x. x) symbols ss →
-            TakesParts (room B.limit self.old) self.old.built (symbol_parts ss) result self.new.built }
+            TakesParts (room B.limit self.new) self.old.built (symbol_parts ss) result self.new.built }
         ensures capacity { self.old.capacity ≤ self.new.capacity }
     {
         self.append_items(WholeSymbols::new(symbols))
@@ -112,7 +112,7 @@ impl<B: OctetsBuilder + OctetsMut> LabelsBuilder<B> {
     /// Pushes the symbols of a text in turn, as `append_chars` does those of its characters.
     pub fn append_str(&mut self, text: &str) -> Result<(), FromStrError>
         ensures takes { (items : List (Result Symbol SymbolCharsError)) → Reads (chars text.now) items →
-            TakesParts (room B.limit self.old) self.old.built (parts items) result self.new.built }
+            TakesParts (room B.limit self.new) self.old.built (parts items) result self.new.built }
         ensures capacity { self.old.capacity ≤ self.new.capacity }
     {
         self.append_chars(text.chars())

@@ -148,7 +148,7 @@ impl<B: OctetsBuilder + OctetsMut> LabelsBuilder<B> {
         requires name { size (pushed self.old.built slice.now) ≤ 254 }
         ensures made { OnOk result (self.new.built ≡ pushed self.old.built slice.now) }
         ensures kept { OnErr result (self.new.built ≡ self.old.built) }
-        ensures refused { IfErr result (λ e. (e ≡ PushError.ShortBuf) × (room B.limit self.old < size (pushed self.old.built slice.now))) }
+        ensures refused { IfErr result (λ e. (e ≡ PushError.ShortBuf) × (room B.limit self.new < size (pushed self.old.built slice.now))) }
         ensures capacity { self.old.capacity ≤ self.new.capacity }
     {
         if self.head.is_some() {
@@ -171,7 +171,7 @@ impl<B: OctetsBuilder + OctetsMut> LabelsBuilder<B> {
     pub fn push(&mut self, ch: u8) -> Result<(), PushError>
         ensures made { OnOk result (self.new.built ≡ pushed self.old.built (ch ∷ [])) }
         ensures kept { OnErr result (self.new.built ≡ self.old.built) }
-        ensures answer { NameThenLabel (length (pushed self.old.built (ch ∷ [])).open_label) (size (pushed self.old.built (ch ∷ []))) (room B.limit self.old) result }
+        ensures answer { NameThenLabel (length (pushed self.old.built (ch ∷ [])).open_label) (size (pushed self.old.built (ch ∷ []))) (room B.limit self.new) result }
         ensures capacity { self.old.capacity ≤ self.new.capacity }
     {
         if self.len_with(1) > 254 {
@@ -189,7 +189,7 @@ impl<B: OctetsBuilder + OctetsMut> LabelsBuilder<B> {
     pub fn append_slice(&mut self, slice: &[u8]) -> Result<(), PushError>
         ensures made { OnOk result (self.new.built ≡ pushed self.old.built slice.now) }
         ensures kept { OnErr result (self.new.built ≡ self.old.built) }
-        ensures answer { LabelThenName (length (pushed self.old.built slice.now).open_label) (size (pushed self.old.built slice.now)) (room B.limit self.old) result }
+        ensures answer { LabelThenName (length (pushed self.old.built slice.now).open_label) (size (pushed self.old.built slice.now)) (room B.limit self.new) result }
         ensures nothing { slice.now ≡ [] → IsOk result }
         ensures capacity { self.old.capacity ≤ self.new.capacity }
     {
@@ -224,7 +224,7 @@ impl<B: OctetsBuilder + OctetsMut> LabelsBuilder<B> {
     pub fn append_label(&mut self, slice: &[u8]) -> Result<(), PushError>
         ensures made { OnOk result (self.new.built ≡ labelled self.old.built slice.now) }
         ensures kept { OnErr result (self.new.built ≡ self.old.built) }
-        ensures answer { LabelThenName (length slice.now) (size (labelled self.old.built slice.now)) (room B.limit self.old) result }
+        ensures answer { LabelThenName (length slice.now) (size (labelled self.old.built slice.now)) (room B.limit self.new) result }
         ensures nothing { slice.now ≡ [] → IsOk result }
         ensures capacity { self.old.capacity ≤ self.new.capacity }
     {
@@ -251,7 +251,7 @@ impl<B: OctetsBuilder + OctetsMut> LabelsBuilder<B> {
         requires name { size (labelled self.old.built slice.now) ≤ 254 }
         ensures made { OnOk result (self.new.built ≡ labelled self.old.built slice.now) }
         ensures kept { OnErr result (self.new.built ≡ self.old.built) }
-        ensures refused { IfErr result (λ e. (e ≡ PushError.ShortBuf) × (room B.limit self.old < size (labelled self.old.built slice.now))) }
+        ensures refused { IfErr result (λ e. (e ≡ PushError.ShortBuf) × (room B.limit self.new < size (labelled self.old.built slice.now))) }
         ensures capacity { self.old.capacity ≤ self.new.capacity }
     {
         let end = self.builder.as_slice().len();
@@ -268,7 +268,7 @@ impl<B: OctetsBuilder + OctetsMut> LabelsBuilder<B> {
     pub fn append_dec_u8_label(&mut self, value: u8) -> Result<(), PushError>
         ensures made { OnOk result (self.new.built ≡ labelled self.old.built (decimal value)) }
         ensures kept { OnErr result (self.new.built ≡ self.old.built) }
-        ensures answer { NameAlone (size (labelled self.old.built (decimal value))) (room B.limit self.old) result }
+        ensures answer { NameAlone (size (labelled self.old.built (decimal value))) (room B.limit self.new) result }
         ensures capacity { self.old.capacity ≤ self.new.capacity }
     {
         let (high, middle, low) = (
@@ -289,7 +289,7 @@ impl<B: OctetsBuilder + OctetsMut> LabelsBuilder<B> {
     pub fn append_hex_digit_label(&mut self, nibble: u8) -> Result<(), PushError>
         ensures made { OnOk result (self.new.built ≡ labelled self.old.built (digit_glyph true (nibble % 16) ∷ [])) }
         ensures kept { OnErr result (self.new.built ≡ self.old.built) }
-        ensures answer { NameAlone (size (labelled self.old.built (digit_glyph true (nibble % 16) ∷ []))) (room B.limit self.old) result }
+        ensures answer { NameAlone (size (labelled self.old.built (digit_glyph true (nibble % 16) ∷ []))) (room B.limit self.new) result }
         ensures capacity { self.old.capacity ≤ self.new.capacity }
     {
         self.append_label(&[hex_digit(nibble)])
@@ -304,7 +304,7 @@ impl<B: OctetsBuilder + OctetsMut> LabelsBuilder<B> {
     ) -> Result<(), PushNameError>
         ensures made { OnOk result (self.new.built ≡ named self.old.built (N.labels name.now)) }
         ensures kept { OnErr result (self.new.built ≡ self.old.built) }
-        ensures answer { NameFits (size (named self.old.built (N.labels name.now))) (room B.limit self.old) result }
+        ensures answer { NameFits (size (named self.old.built (N.labels name.now))) (room B.limit self.new) result }
         ensures capacity { self.old.capacity ≤ self.new.capacity }
     {
         if let Some(flat) = name.as_flat_slice() {
@@ -321,7 +321,7 @@ impl<B: OctetsBuilder + OctetsMut> LabelsBuilder<B> {
         requires labels { IsRelativeWire slice.now }
         ensures made { OnOk result (self.new.built ≡ named self.old.built (labels_in slice.now)) }
         ensures kept { OnErr result (self.new.built ≡ self.old.built) }
-        ensures answer { NameFits (size (named self.old.built (labels_in slice.now))) (room B.limit self.old) result }
+        ensures answer { NameFits (size (named self.old.built (labels_in slice.now))) (room B.limit self.new) result }
         ensures capacity { self.old.capacity ≤ self.new.capacity }
     {
         if self.len() + slice.len() > 254 {
@@ -339,7 +339,7 @@ impl<B: OctetsBuilder + OctetsMut> LabelsBuilder<B> {
         requires short { size self.old.built + length slice.now ≤ 254 }
         ensures made { OnOk result (self.new.built ≡ named self.old.built (labels_in slice.now)) }
         ensures kept { OnErr result (self.new.built ≡ self.old.built) }
-        ensures full { OnErr result (room B.limit self.old < size self.old.built + length slice.now) }
+        ensures full { OnErr result (room B.limit self.new < size self.old.built + length slice.now) }
         ensures capacity { self.old.capacity ≤ self.new.capacity }
     {
         let len = self.builder.as_slice().len();
@@ -495,7 +495,7 @@ fn append_headed<B: OctetsBuilder + OctetsMut>(
     requires { length slice.now ≤ 63 }
     ensures ok { OnOk result (B.octets builder.new ≡ B.octets builder.old ++ head ∷ slice.now) }
     ensures err { OnErr result (B.octets builder.new ≡ B.octets builder.old) }
-    ensures full { OnErr result (B.capacity builder.old < length (B.octets builder.old) + length (head ∷ slice.now)) }
+    ensures full { OnErr result (B.capacity builder.new < length (B.octets builder.old) + length (head ∷ slice.now)) }
     ensures capacity { B.capacity builder.old ≤ B.capacity builder.new }
 {
     if let [octet] = slice {

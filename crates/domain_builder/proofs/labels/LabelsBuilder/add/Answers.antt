@@ -10,12 +10,12 @@ invariant_of-self g c =
 pub returns-in-Err-clause-refused : goal.returns-in-Err-clause-refused
 returns-in-Err-clause-refused g c =
     let e = size_open _ c.args.slice.now c.self.inside.head c.args.self.now.built (ap (λ (v : Held). v.built) c.self.view_is) c.self.invariant (sym c.is_some.ensures ∙ c.if-is_some.true) in
-    (refl, exceeds g.B.OctetsBuilder.limit c.args.self.now (g.B.Octets.capacity c.self.inside.builder) _ (ap (λ (v : Held). v.capacity) (sym c.self.view_is)) (g.met.B.OctetsBuilder.fixed c.self.inside.builder) (rw e c.in-Err.ensures.full))
+    (refl, exceeds g.B.OctetsBuilder.limit _ (g.B.Octets.capacity c.append_slice.new.self) _ refl (g.met.B.OctetsBuilder.fixed c.append_slice.new.self) (rw e c.in-Err.ensures.full))
 
 pub returns-in-Err-append_headed-clause-refused : goal.returns-in-Err-append_headed-clause-refused
 returns-in-Err-append_headed-clause-refused g c =
     let e = size_new _ c.args.slice.now _ c.self.inside.head c.args.self.now.built refl (ap (λ (v : Held). v.built) c.self.view_is) c.self.invariant (sym c.is_some.ensures ∙ c.if-is_some.false) c.requires.some in
-    (refl, exceeds g.B.OctetsBuilder.limit c.args.self.now (g.B.Octets.capacity c.self.inside.builder) _ (ap (λ (v : Held). v.capacity) (sym c.self.view_is)) (g.met.B.OctetsBuilder.fixed c.self.inside.builder) (rw e c.in-Err-append_headed.ensures.full))
+    (refl, exceeds g.B.OctetsBuilder.limit _ (g.B.Octets.capacity c.append_headed.new.builder) _ refl (g.met.B.OctetsBuilder.fixed c.append_headed.new.builder) (rw e c.in-Err-append_headed.ensures.full))
 
 pub invariant_of-self-2 : goal.invariant_of-self-2
 invariant_of-self-2 g c =

@@ -1,4 +1,4 @@
-use Rattle.std.proofs.Common.{ap, sym, refl}
+use Rattle.std.proofs.Common.{ap, refl}
 use Rattle.domain_builder.specs.Inside.{Held}
 use Rattle.domain_builder.proofs.Building.{exceeds, label_closed, open_fits, size_labelled_fields}
 use Rattle.domain_builder.proofs.labels.LabelsBuilder.add_label.Goals as goal
@@ -6,7 +6,7 @@ use Rattle.domain_builder.proofs.labels.LabelsBuilder.add_label.Goals as goal
 pub returns-in-Err-clause-refused : goal.returns-in-Err-clause-refused
 returns-in-Err-clause-refused g c =
     let e = size_labelled_fields _ c.args.slice.now _ c.self.inside.head c.args.self.now.built refl (ap (λ (v : Held). v.built) c.self.view_is) c.self.invariant c.requires.some in
-    (refl, exceeds g.B.OctetsBuilder.limit c.args.self.now (g.B.Octets.capacity c.self.inside.builder) _ (ap (λ (v : Held). v.capacity) (sym c.self.view_is)) (g.met.B.OctetsBuilder.fixed c.self.inside.builder) (rw e c.in-Err.ensures.full))
+    (refl, exceeds g.B.OctetsBuilder.limit _ (g.B.Octets.capacity c.append_headed.new.builder) _ refl (g.met.B.OctetsBuilder.fixed c.append_headed.new.builder) (rw e c.in-Err.ensures.full))
 
 pub close-requires-clause-open : goal.close-requires-clause-open
 close-requires-clause-open g c = open_fits _ _ c.self.inside.head c.as_slice-end.ensures c.self.invariant

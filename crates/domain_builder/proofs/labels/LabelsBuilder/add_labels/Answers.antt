@@ -1,4 +1,4 @@
-use Rattle.std.proofs.Common.{ap, sym}
+use Rattle.std.proofs.Common.{ap, refl}
 use Rattle.domain_builder.specs.Inside.{Held}
 use Rattle.domain_builder.proofs.Building.{exceeds, named_closed, open_fits, length_fields}
 use Rattle.domain_builder.proofs.labels.LabelsBuilder.add_labels.Goals as goal
@@ -6,7 +6,7 @@ use Rattle.domain_builder.proofs.labels.LabelsBuilder.add_labels.Goals as goal
 pub returns-in-Err-clause-full : goal.returns-in-Err-clause-full
 returns-in-Err-clause-full g c =
     let e = length_fields (g.B.Octets.octets c.self.inside.builder) c.self.inside.head c.args.self.now.built (ap (λ (v : Held). v.built) c.self.view_is) c.self.invariant in
-    exceeds g.B.OctetsBuilder.limit c.args.self.now (g.B.Octets.capacity c.self.inside.builder) _ (ap (λ (v : Held). v.capacity) (sym c.self.view_is)) (g.met.B.OctetsBuilder.fixed c.self.inside.builder) (rw (← e) c.in-Err.ensures.full)
+    exceeds g.B.OctetsBuilder.limit _ (g.B.Octets.capacity c.append_slice.new.self) _ refl (g.met.B.OctetsBuilder.fixed c.append_slice.new.self) (rw (← e) c.in-Err.ensures.full)
 
 pub close-requires-clause-open : goal.close-requires-clause-open
 close-requires-clause-open g c = open_fits _ _ c.self.inside.head c.as_slice-len.ensures c.self.invariant

@@ -3,7 +3,6 @@ use Rattle.domain_label.proofs.Scanning.{given_some, given_none}
 use Rattle.domain_builder.specs.Built.{refusal, after}
 use Rattle.domain_builder.proofs.Reading.{read_none, read_more, read_all}
 use Rattle.domain_builder.specs.Inside.{room}
-use Rattle.domain_builder.proofs.Building.{room_grows}
 use Rattle.domain_builder.proofs.Pushes.{takes_stop}
 use Rattle.domain_builder.proofs.labels.LabelsBuilder.append_items.Goals as goal
 
@@ -28,7 +27,7 @@ pub returns-in-Err-clause-takes : goal.returns-in-Err-clause-takes
 returns-in-Err-clause-takes g c = λ all h.
     let now = c.loop-item.invariant.takes all h in
     let n = given_some g.I.Iterator.next_gives c.loop-item.item-iterator c.next.new.self c.in-Some.item now.0 now.1 c.in-Some.ensures.steps in
-    takes_stop all now.0 n.0 c.in-Some.item (room g.B.OctetsBuilder.limit c.args.self.now) (room g.B.OctetsBuilder.limit c.loop-item.self) c.args.self.now.built c.loop-item.self.built c.push_part.new.self.built c.part_of.result c.in-Err.e now.2 n.1 c.part_of.ensures (room_grows g.B.OctetsBuilder.limit c.args.self.now c.loop-item.self c.loop-item.invariant.capacity) c.in-Err.ensures.takes
+    takes_stop all now.0 n.0 c.in-Some.item (room g.B.OctetsBuilder.limit c.push_part.new.self) c.args.self.now.built c.loop-item.self.built c.push_part.new.self.built c.part_of.result c.in-Err.e now.2 n.1 c.part_of.ensures c.in-Err.ensures.takes
 
 pub returns-clause-takes : goal.returns-clause-takes
 returns-clause-takes g c = λ all h.
