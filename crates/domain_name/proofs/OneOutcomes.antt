@@ -3,15 +3,17 @@ use Rattle.std.proofs.Common.{◌≡◌, ◌≢◌, ℕ, ◌+◌, ◌<◌, ◌�
 use Rattle.std.proofs.lemmas.Bool.Decides.{leb_tells}
 use Rattle.std.specs.Fmt.{decimal, digit_glyph}
 use Rattle.std.specs.Str.{chars}
-use Rattle.domain_label.specs.Spelling.{Reads}
+use Rattle.domain_label.specs.Spelling.{JustOne, Reads}
 use Rattle.domain_label.specs.declared.symbol.Symbol.{Symbol}
 use Rattle.domain_label.specs.declared.symbol.SymbolCharsError.{SymbolCharsError}
 use Rattle.domain_builder.specs.Built.{Built, size, pushed, ended, labelled, named, unless_open, too_long, refusal, after, Makes, StopsAt, LacksRoom}
+use Rattle.domain_builder.specs.Inside.{Held, room}
 use Rattle.domain_builder.specs.Parts.{parts, symbol_part}
 use Rattle.domain_builder.specs.declared.part.Fault.{Fault}
 use Rattle.domain_builder.specs.declared.part.Fault.TheVariants.{BinaryLabel}
 use Rattle.domain_builder.specs.declared.part.Part.{Part}
 use Rattle.domain_builder.specs.declared.part.Part.TheVariants.{Dot, Octet, Bracket, Nothing}
+use Rattle.domain_builder.proofs.Building.{room_grows}
 use Rattle.domain_builder.proofs.Sizes.{taken}
 use Rattle.domain_builder.proofs.Grammar.{makes_one}
 use Rattle.domain_builder.proofs.OneOutcome.{run, made_or_stopped, stops_at_one}
@@ -164,27 +166,110 @@ one_call room b (AppendChars x) r s = texts room b (chars x.now) r s
 
 -- ---- calls in turn
 
-pub one_outcome : (room : ℕ) (b : Built) (calls : List BuilderCall) → 254 ≤ room → size b ≤ 254 → OneOutcome room b calls
-unfolding At
-one_outcome room b [] r s = ((b, 0), (refl, refl), λ o h. (ap (λ (x : Built). (x, o.1)) h.0) ∙ ap (λ (n : ℕ). (b, n)) h.1)
-one_outcome room b (call ∷ calls) r s = let step = one_call room b call r s in go step (one_outcome room step.new calls r step.short)
+-- calls in turn, where there is the same room all along
+AppliesWithin : ℕ → Built → List BuilderCall → Built → ℕ → Type 0
+AppliesWithin room b [] new n = (new ≡ b) × (n ≡ 0)
+AppliesWithin room b (call ∷ calls) new n = (m : Built) × ((Accepted b call m × ((k : ℕ) × (n ≡ k + 1) × AppliesWithin room m calls new k)) ⊎ (PassedOver room b call m × AppliesWithin room m calls new n))
+
+OneWithin : ℕ → Built → List BuilderCall → Type 0
+OneWithin room b calls = JustOne (λ (o : Built × ℕ). AppliesWithin room b calls o.0 o.1)
+
+one_within : (room : ℕ) (b : Built) (calls : List BuilderCall) → 254 ≤ room → size b ≤ 254 → OneWithin room b calls
+unfolding At AppliesWithin OneWithin
+one_within room b [] r s = ((b, 0), (refl, refl), λ o h. (ap (λ (x : Built). (x, o.1)) h.0) ∙ ap (λ (n : ℕ). (b, n)) h.1)
+one_within room b (call ∷ calls) r s = let step = one_call room b call r s in go step (one_within room step.new calls r step.short)
   where
-    go : (step : OneStep (Accepted b call) (PassedOver room b call)) → OneOutcome room step.new calls → OneOutcome room b (call ∷ calls)
+    go : (step : OneStep (Accepted b call) (PassedOver room b call)) → OneWithin room step.new calls → OneWithin room b (call ∷ calls)
     go step others = at step.answer step.holds step.only others
       where
-        at : (answer : Bool) → At (Accepted b call) (PassedOver room b call) step.new answer → ((m : Built) (k : Bool) → At (Accepted b call) (PassedOver room b call) m k → (m ≡ step.new) × (k ≡ answer)) → OneOutcome room step.new calls → OneOutcome room b (call ∷ calls)
+        at : (answer : Bool) → At (Accepted b call) (PassedOver room b call) step.new answer → ((m : Built) (k : Bool) → At (Accepted b call) (PassedOver room b call) m k → (m ≡ step.new) × (k ≡ answer)) → OneWithin room step.new calls → OneWithin room b (call ∷ calls)
         at true holds only rest = ((rest.0.0, rest.0.1 + 1), (step.new, inl (holds, (rest.0.1, refl, rest.1))), λ o h. same o h)
           where
-            same : (o : Built × ℕ) → AppliesAll room b (call ∷ calls) o.0 o.1 → o ≡ (rest.0.0, rest.0.1 + 1)
+            same : (o : Built × ℕ) → AppliesWithin room b (call ∷ calls) o.0 o.1 → o ≡ (rest.0.0, rest.0.1 + 1)
             same o (m, inl (a, (k, e, h))) =
                 let p = only m true a in
-                let q = rest.2 (o.0, k) (subst (λ (x : Built). AppliesAll room x calls o.0 k) p.0 h) in
+                let q = rest.2 (o.0, k) (subst (λ (x : Built). AppliesWithin room x calls o.0 k) p.0 h) in
                 ap (λ (n : ℕ). (o.0, n)) e ∙ ap (λ (x : Built × ℕ). (x.0, x.1 + 1)) q
             same o (m, inr (n, h)) = let p = only m false n in absurd (cc p.1)
         at false holds only rest = (rest.0, (step.new, inr (holds, rest.1)), λ o h. same o h)
           where
-            same : (o : Built × ℕ) → AppliesAll room b (call ∷ calls) o.0 o.1 → o ≡ rest.0
+            same : (o : Built × ℕ) → AppliesWithin room b (call ∷ calls) o.0 o.1 → o ≡ rest.0
             same o (m, inl (a, h)) = let p = only m true a in absurd (cc p.1)
             same o (m, inr (n, h)) =
                 let p = only m false n in
-                rest.2 o (subst (λ (x : Built). AppliesAll room x calls o.0 o.1) p.0 h)
+                rest.2 o (subst (λ (x : Built). AppliesWithin room x calls o.0 o.1) p.0 h)
+
+-- ---- what the calls leave of the capacity
+
+-- with less room more may be passed over
+exceeds_less : (less here label whole : ℕ) → less ≤ here → Exceeds here label whole → Exceeds less label whole
+exceeds_less less here label whole h (inl e) = inl e
+exceeds_less less here label whole h (inr (inl e)) = inr (inl e)
+exceeds_less less here label whole h (inr (inr e)) = inr (inr (omega (arith, h, e)))
+
+too_much_less : (less here whole : ℕ) → less ≤ here → IsTooMuch here whole → IsTooMuch less whole
+too_much_less less here whole h (inl e) = inl e
+too_much_less less here whole h (inr e) = inr (omega (arith, h, e))
+
+symbol_less : (less here whole : ℕ) (P Q R : Type 0) → less ≤ here → P ⊎ (Q × R × (here < whole)) → P ⊎ (Q × R × (less < whole))
+symbol_less less here whole P Q R h (inl f) = inl f
+symbol_less less here whole P Q R h (inr e) = inr (e.0, e.1, omega (arith, h, e.2))
+
+lacks_less : (less here : ℕ) (b : Built) (ps : List Part) (new : Built) → less ≤ here → LacksRoom here b ps new → LacksRoom less b ps new
+lacks_less less here b ps new h l = record { before = l.before; part = l.part; rest = l.rest; parts = l.parts; made = l.made; taken = l.taken; octet = l.octet; full = omega (arith, h, l.full) }
+
+text_less : (less here : ℕ) (b : Built) (ps : List Part) (new : Built) → less ≤ here → ((f : Fault) × StopsAt b ps new f) ⊎ LacksRoom here b ps new → ((f : Fault) × StopsAt b ps new f) ⊎ LacksRoom less b ps new
+text_less less here b ps new h (inl f) = inl f
+text_less less here b ps new h (inr l) = inr (lacks_less less here b ps new h l)
+
+passed_less : (less here : ℕ) (b : Built) (call : BuilderCall) (new : Built) → less ≤ here → PassedOver here b call new → PassedOver less b call new
+passed_less less here b (Push c) new h p = (p.0, exceeds_less less here (length (pushed b (c ∷ [])).open_label) (size (pushed b (c ∷ []))) h p.1)
+passed_less less here b (PushSymbol s) new h p = (p.0, symbol_less less here (size (after b (symbol_part s))) ((f : Fault) × (refusal b (symbol_part s) ≡ Some f)) (refusal b (symbol_part s) ≡ None) (symbol_part s ≢ Dot) h p.1)
+passed_less less here b (AppendDecU8Label n) new h p = (p.0, too_much_less less here (size (labelled b (decimal n))) h p.1)
+passed_less less here b (AppendHexDigitLabel n) new h p = (p.0, too_much_less less here (size (labelled b (digit_glyph true (n % 16) ∷ []))) h p.1)
+passed_less less here b (AppendName n) new h p = (p.0, too_much_less less here (size (named b (relative_labels n))) h p.1)
+passed_less less here b (AppendSlice s) new h p = (p.0, exceeds_less less here (length (pushed b s.now).open_label) (size (pushed b s.now)) h p.1)
+passed_less less here b EndLabel new h p = p
+passed_less less here b (AppendLabel s) new h p = (p.0, exceeds_less less here (length s.now) (size (labelled b s.now)) h p.1)
+passed_less less here b (AppendChars s) new h p = λ items r. text_less less here b (parts items) new h (p items r)
+
+-- the room that a call leaves is no less
+no_less : (limit : Option ℕ) (less : ℕ) (b m : Held) → less ≤ room limit b → b.capacity ≤ m.capacity → less ≤ room limit m
+no_less limit less b m h grows = omega (arith, h, room_grows limit b m grows)
+
+-- calls that find no less room than this do what they do where they find just this
+with_less : (limit : Option ℕ) (less : ℕ) (b : Held) (calls : List BuilderCall) (new : Held) (n : ℕ) → less ≤ room limit b → AppliesAll limit b calls new n → AppliesWithin less b.built calls new.built n
+unfolding AppliesWithin
+with_less limit less b [] new n h a = (ap (λ (x : Held). x.built) a.0, a.1)
+with_less limit less b (call ∷ calls) new n h (m, inl (t, (k, e, a))) =
+    (m.built, inl (t.0, (k, e, with_less limit less m calls new k (no_less limit less b m h t.1) a)))
+with_less limit less b (call ∷ calls) new n h (m, inr (p, a)) =
+    let left = no_less limit less b m h p.1 in
+    (m.built, inr (passed_less less (room limit m) b.built call m.built left p.0, with_less limit less m calls new n left a))
+
+held_with : ℕ → Built → Held
+held_with capacity b = record { built = b; capacity = capacity }
+
+same_room : (limit : Option ℕ) (capacity : ℕ) (b m : Built) → room limit (held_with capacity m) ≤ room limit (held_with capacity b)
+unfolding held_with
+same_room limit capacity b m = room_grows limit (held_with capacity m) (held_with capacity b) (omega arith)
+
+-- where the room suffices the capacity may stay
+with_same : (limit : Option ℕ) (here capacity : ℕ) (b : Built) (calls : List BuilderCall) (new : Built) (n : ℕ) → room limit (held_with capacity b) ≤ here → AppliesWithin here b calls new n → AppliesAll limit (held_with capacity b) calls (held_with capacity new) n
+unfolding AppliesWithin held_with
+with_same limit here capacity b [] new n h a = (ap (held_with capacity) a.0, a.1)
+with_same limit here capacity b (call ∷ calls) new n h (m, inl (t, (k, e, a))) =
+    let left : room limit (held_with capacity m) ≤ here = omega (arith, h, same_room limit capacity b m) in
+    (held_with capacity m, inl ((t, omega arith), (k, e, with_same limit here capacity m calls new k left a)))
+with_same limit here capacity b (call ∷ calls) new n h (m, inr (p, a)) =
+    let left : room limit (held_with capacity m) ≤ here = omega (arith, h, same_room limit capacity b m) in
+    (held_with capacity m, inr ((passed_less (room limit (held_with capacity m)) here b call m left p, omega arith), with_same limit here capacity m calls new n left a))
+
+pub one_outcome : (limit : Option ℕ) (b : Held) (calls : List BuilderCall) → 254 ≤ room limit b → size b.built ≤ 254 → OneOutcome limit b calls
+unfolding held_with OneWithin
+one_outcome limit b calls r s =
+    let one = one_within (room limit b) b.built calls r s in (
+      one.0,
+      (b.capacity, with_same limit (room limit b) b.capacity b.built calls one.0.0 one.0.1 (omega arith) one.1),
+      λ o h. one.2 o (with_less limit (room limit b) b calls (held_with h.0 o.0) o.1 (omega arith) h.1),
+    )

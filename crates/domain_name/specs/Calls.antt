@@ -1,11 +1,12 @@
 -- Calls of a builder, one after another.
-use Rattle.std.specs.Prelude.{◌≡◌, ◌≢◌, ℕ, ◌+◌, ◌<◌, ◌≤◌, ◌⊎◌, Bool, true, false, Some, None, ◌%◌, List, [], ◌∷◌, length, Result}
+use Rattle.std.specs.Prelude.{◌≡◌, ◌≢◌, ℕ, ◌+◌, ◌<◌, ◌≤◌, ◌⊎◌, Bool, true, false, Option, Some, None, ◌%◌, List, [], ◌∷◌, length, Result}
 use Rattle.std.specs.Fmt.{decimal, digit_glyph}
 use Rattle.std.specs.Str.{chars}
 use Rattle.domain_label.specs.Spelling.{JustOne, Reads}
 use Rattle.domain_label.specs.declared.symbol.Symbol.{Symbol}
 use Rattle.domain_label.specs.declared.symbol.SymbolCharsError.{SymbolCharsError}
 use Rattle.domain_builder.specs.Built.{Built, size, pushed, ended, labelled, named, refusal, after, Makes, StopsAt, LacksRoom}
+use Rattle.domain_builder.specs.Inside.{Held, room}
 use Rattle.domain_builder.specs.Parts.{parts, symbol_part}
 use Rattle.domain_builder.specs.declared.part.Part.TheVariants.{Dot}
 use Rattle.domain_name.specs.declared.calls.BuilderCall.{BuilderCall}
@@ -49,16 +50,28 @@ PassedOver room b (AppendHexDigitLabel n) new = (new ≡ b) × IsTooMuch room (s
 PassedOver room b (AppendName n) new = (new ≡ b) × IsTooMuch room (size (named b (relative_labels n)))
 PassedOver room b (AppendChars s) new = (items : List (Result Symbol SymbolCharsError)) → Reads (chars s.now) items → ((f : Fault) × StopsAt b (parts items) new f) ⊎ LacksRoom room b (parts items) new
 
--- One call, accepted or not.
-abbrev pub Applies : ℕ → Built → BuilderCall → Built → Bool → Type 0
-Applies room b call new true = Accepted b call new
-Applies room b call new false = PassedOver room b call new
+-- A call is taken. No capacity is lost.
+abbrev pub Takes : Held → BuilderCall → Held → Type 0
+Takes b call new = Accepted b.built call new.built × (b.capacity ≤ new.capacity)
 
--- Calls in turn, n of them accepted.
-abbrev pub AppliesAll : ℕ → Built → List BuilderCall → Built → ℕ → Type 0
-AppliesAll room b [] new n = (new ≡ b) × (n ≡ 0)
-AppliesAll room b (call ∷ calls) new n = (m : Built) × ((Accepted b call m × ((k : ℕ) × (n ≡ k + 1) × AppliesAll room m calls new k)) ⊎ (PassedOver room b call m × AppliesAll room m calls new n))
+-- A call is passed over. The room is that which it leaves, and may have grown.
+abbrev pub PassesOver : Option ℕ → Held → BuilderCall → Held → Type 0
+PassesOver limit b call new = PassedOver (room limit new) b.built call new.built × (b.capacity ≤ new.capacity)
+
+-- One call, accepted or not.
+abbrev pub Applies : Option ℕ → Held → BuilderCall → Held → Bool → Type 0
+Applies limit b call new true = Takes b call new
+Applies limit b call new false = PassesOver limit b call new
+
+-- Calls in turn, n of them accepted. Each goes on from what the one before it left, the capacity too.
+abbrev pub AppliesAll : Option ℕ → Held → List BuilderCall → Held → ℕ → Type 0
+AppliesAll limit b [] new n = (new ≡ b) × (n ≡ 0)
+AppliesAll limit b (call ∷ calls) new n = (m : Held) × ((Takes b call m × ((k : ℕ) × (n ≡ k + 1) × AppliesAll limit m calls new k)) ⊎ (PassesOver limit b call m × AppliesAll limit m calls new n))
+
+-- What calls in turn may make, and how many of them may be accepted.
+abbrev pub MayEnd : Option ℕ → Held → List BuilderCall → Built × ℕ → Type 0
+MayEnd limit b calls end = (capacity : ℕ) × AppliesAll limit b calls (record { built = end.0; capacity = capacity }) end.1
 
 -- Calls in turn have one outcome.
-abbrev pub OneOutcome : ℕ → Built → List BuilderCall → Type 0
-OneOutcome room b calls = JustOne (λ (o : Built × ℕ). AppliesAll room b calls o.0 o.1)
+abbrev pub OneOutcome : Option ℕ → Held → List BuilderCall → Type 0
+OneOutcome limit b calls = JustOne (MayEnd limit b calls)

@@ -205,7 +205,7 @@ impl<B: OctetsBuilder + OctetsMut> NameBuilder<B> {
     pub fn push(&mut self, ch: u8) -> Result<(), PushError>
         ensures made { OnOk result (built self.new ≡ pushed (built self.old) (ch ∷ [])) }
         ensures kept { OnErr result (built self.new ≡ built self.old) }
-        ensures answer { NameThenLabel (length (pushed (built self.old) (ch ∷ [])).open_label) (size (pushed (built self.old) (ch ∷ []))) (room B.limit (held self.old)) result }
+        ensures answer { NameThenLabel (length (pushed (built self.old) (ch ∷ [])).open_label) (size (pushed (built self.old) (ch ∷ []))) (room B.limit (held self.new)) result }
         ensures grows { (held self.old).capacity ≤ (held self.new).capacity }
     {
         self.labels.push(ch)
@@ -219,7 +219,7 @@ impl<B: OctetsBuilder + OctetsMut> NameBuilder<B> {
     pub fn append_slice(&mut self, slice: &[u8]) -> Result<(), PushError>
         ensures made { OnOk result (built self.new ≡ pushed (built self.old) slice.now) }
         ensures kept { OnErr result (built self.new ≡ built self.old) }
-        ensures answer { LabelThenName (length (pushed (built self.old) slice.now).open_label) (size (pushed (built self.old) slice.now)) (room B.limit (held self.old)) result }
+        ensures answer { LabelThenName (length (pushed (built self.old) slice.now).open_label) (size (pushed (built self.old) slice.now)) (room B.limit (held self.new)) result }
         ensures grows { (held self.old).capacity ≤ (held self.new).capacity }
         ensures nothing { slice.now ≡ [] → IsOk result }
     {
@@ -243,7 +243,7 @@ impl<B: OctetsBuilder + OctetsMut> NameBuilder<B> {
     pub fn append_label(&mut self, label: &[u8]) -> Result<(), PushError>
         ensures made { OnOk result (built self.new ≡ labelled (built self.old) label.now) }
         ensures kept { OnErr result (built self.new ≡ built self.old) }
-        ensures answer { LabelThenName (length label.now) (size (labelled (built self.old) label.now)) (room B.limit (held self.old)) result }
+        ensures answer { LabelThenName (length label.now) (size (labelled (built self.old) label.now)) (room B.limit (held self.new)) result }
         ensures grows { (held self.old).capacity ≤ (held self.new).capacity }
         ensures nothing { label.now ≡ [] → IsOk result }
     {
@@ -256,7 +256,7 @@ impl<B: OctetsBuilder + OctetsMut> NameBuilder<B> {
     pub fn append_dec_u8_label(&mut self, value: u8) -> Result<(), PushError>
         ensures made { OnOk result (built self.new ≡ labelled (built self.old) (decimal value)) }
         ensures kept { OnErr result (built self.new ≡ built self.old) }
-        ensures answer { NameAlone (size (labelled (built self.old) (decimal value))) (room B.limit (held self.old)) result }
+        ensures answer { NameAlone (size (labelled (built self.old) (decimal value))) (room B.limit (held self.new)) result }
         ensures grows { (held self.old).capacity ≤ (held self.new).capacity }
     {
         self.labels.append_dec_u8_label(value)
@@ -269,7 +269,7 @@ impl<B: OctetsBuilder + OctetsMut> NameBuilder<B> {
     pub fn append_hex_digit_label(&mut self, nibble: u8) -> Result<(), PushError>
         ensures made { OnOk result (built self.new ≡ labelled (built self.old) (digit_glyph true (nibble % 16) ∷ [])) }
         ensures kept { OnErr result (built self.new ≡ built self.old) }
-        ensures answer { NameAlone (size (labelled (built self.old) (digit_glyph true (nibble % 16) ∷ []))) (room B.limit (held self.old)) result }
+        ensures answer { NameAlone (size (labelled (built self.old) (digit_glyph true (nibble % 16) ∷ []))) (room B.limit (held self.new)) result }
         ensures grows { (held self.old).capacity ≤ (held self.new).capacity }
     {
         self.labels.append_hex_digit_label(nibble)
@@ -284,7 +284,7 @@ impl<B: OctetsBuilder + OctetsMut> NameBuilder<B> {
     ) -> Result<(), PushNameError>
         ensures made { OnOk result (built self.new ≡ named (built self.old) (N.labels name.now)) }
         ensures kept { OnErr result (built self.new ≡ built self.old) }
-        ensures answer { NameFits (size (named (built self.old) (N.labels name.now))) (room B.limit (held self.old)) result }
+        ensures answer { NameFits (size (named (built self.old) (N.labels name.now))) (room B.limit (held self.new)) result }
         ensures grows { (held self.old).capacity ≤ (held self.new).capacity }
     {
         self.labels.append_name(name)
@@ -294,7 +294,7 @@ impl<B: OctetsBuilder + OctetsMut> NameBuilder<B> {
     pub(crate) fn append_flat(&mut self, name: RelativeName<&[u8]>) -> Result<(), PushNameError>
         ensures made { OnOk result (built self.new ≡ named (built self.old) (relative_labels name.entry)) }
         ensures kept { OnErr result (built self.new ≡ built self.old) }
-        ensures answer { NameFits (size (named (built self.old) (relative_labels name.entry))) (room B.limit (held self.old)) result }
+        ensures answer { NameFits (size (named (built self.old) (relative_labels name.entry))) (room B.limit (held self.new)) result }
         ensures grows { (held self.old).capacity ≤ (held self.new).capacity }
     {
         self.labels.append_wire(name.as_slice())
@@ -307,7 +307,7 @@ impl<B: OctetsBuilder + OctetsMut> NameBuilder<B> {
     /// `\[` where none is open; `BadSymbol` at a character that stands for no octet; else the refusals of
     /// `push`.
     pub fn push_symbol(&mut self, symbol: Symbol) -> Result<(), FromStrError>
-        ensures takes { TakesPart (room B.limit (held self.old)) (built self.old) (symbol_part symbol) result (built self.new) }
+        ensures takes { TakesPart (room B.limit (held self.new)) (built self.old) (symbol_part symbol) result (built self.new) }
         ensures grows { (held self.old).capacity ≤ (held self.new).capacity }
     {
         self.labels.push_symbol(symbol)
@@ -323,7 +323,7 @@ impl<B: OctetsBuilder + OctetsMut> NameBuilder<B> {
         requires can { I.can_next symbols }
         requires ends { IsFinite (I.remaining symbols) }
         ensures takes { (ss : List Symbol) → AlwaysYields I.next_gives (λ x. x) symbols ss →
-            TakesParts (room B.limit (held self.old)) (built self.old) (symbol_parts ss) result (built self.new) }
+            TakesParts (room B.limit (held self.new)) (built self.old) (symbol_parts ss) result (built self.new) }
         ensures grows { (held self.old).capacity ≤ (held self.new).capacity }
     {
         self.labels.append_symbols(symbols)
@@ -340,7 +340,7 @@ impl<B: OctetsBuilder + OctetsMut> NameBuilder<B> {
         requires can { I.can_next chars }
         requires ends { IsFinite (I.remaining chars) }
         ensures takes { (cs : List ℕ) (items : List (Result Symbol SymbolCharsError)) → AlwaysYields I.next_gives (λ c. c) chars cs → Reads cs items →
-            TakesParts (room B.limit (held self.old)) (built self.old) (parts items) result (built self.new) }
+            TakesParts (room B.limit (held self.new)) (built self.old) (parts items) result (built self.new) }
         ensures grows { (held self.old).capacity ≤ (held self.new).capacity }
     {
         self.labels.append_chars(chars)
@@ -349,7 +349,7 @@ impl<B: OctetsBuilder + OctetsMut> NameBuilder<B> {
     /// Pushes the symbols of a text in turn, as `append_chars` does those of its characters.
     pub(crate) fn append_str(&mut self, text: &str) -> Result<(), FromStrError>
         ensures takes { (items : List (Result Symbol SymbolCharsError)) → Reads (chars text.now) items →
-            TakesParts (room B.limit (held self.old)) (built self.old) (parts items) result (built self.new) }
+            TakesParts (room B.limit (held self.new)) (built self.old) (parts items) result (built self.new) }
         ensures grows { (held self.old).capacity ≤ (held self.new).capacity }
     {
         self.labels.append_str(text)

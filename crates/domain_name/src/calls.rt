@@ -1,7 +1,6 @@
 //! Calls of a builder, one after another.
 ghost use Rattle.std.specs.Prelude.{◌≤◌};
-ghost use Rattle.domain_builder.specs.Inside.{room};
-ghost use Rattle.domain_name.specs.Builders.{built, held};
+ghost use Rattle.domain_name.specs.Builders.{held};
 ghost use Rattle.domain_name.specs.Calls.{Applies, AppliesAll};
 
 use crate::builder::NameBuilder;
@@ -35,8 +34,7 @@ pub enum BuilderCall<'a> {
 impl<B: OctetsBuilder + OctetsMut> NameBuilder<B> {
     /// Makes a call, and tells whether it was accepted.
     fn apply(&mut self, call: &BuilderCall) -> bool
-        ensures applied { Applies (room B.limit (held self.old)) (built self.old) call.now (built self.new) result }
-        ensures grows { (held self.old).capacity ≤ (held self.new).capacity }
+        ensures { Applies B.limit (held self.old) call.now (held self.new) result }
     {
         match *call {
             BuilderCall::Push(ch) => match self.push(ch) {
@@ -81,9 +79,10 @@ impl<B: OctetsBuilder + OctetsMut> NameBuilder<B> {
     /// Makes each call in turn, passes over refused ones, and counts those that were accepted.
     ///
     /// A call that is passed over changes nothing, but for the symbols of a text before the first that was
-    /// refused: these stay.
+    /// refused: these stay. Where what it asks for isn't too long for a name, it exceeds the room that the call
+    /// itself leaves.
     pub fn apply_all(&mut self, calls: &[BuilderCall]) -> usize
-        ensures applied { AppliesAll (room B.limit (held self.old)) (built self.old) calls.now (built self.new) result }
+        ensures applied { AppliesAll B.limit (held self.old) calls.now (held self.new) result }
         ensures grows { (held self.old).capacity ≤ (held self.new).capacity }
     {
         let mut accepted = 0;
