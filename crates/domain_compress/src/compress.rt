@@ -91,7 +91,7 @@ impl<T: Composer> Truncate for CompressComposer<T> {
     /// them.
     fn truncate(&mut self, len: usize)
         ensures octets { T.octets self.new.target ≡ take len (T.octets self.old.target) }
-        ensures capacity { T.capacity self.old.target ≤ T.capacity self.new.target }
+        ensures capacity { T.capacity self.new.target ≡ T.capacity self.old.target }
         ensures places { written_places self.new ≡ places_within len (written_places self.old) }
     {
         // While octets go away under the places, no hash counts.
@@ -112,7 +112,7 @@ impl<T: Composer> OctetsBuilder for CompressComposer<T> {
     fn append_slice(&mut self, slice: &[u8]) -> Result<(), T::AppendError>
         ensures ok { OnOk result (T.octets self.new.target ≡ T.octets self.old.target ++ slice.now) }
         ensures err { OnErr result (T.octets self.new.target ≡ T.octets self.old.target) }
-        ensures full { OnErr result (T.capacity self.old.target < length (T.octets self.old.target) + length slice.now) }
+        ensures full { OnErr result (T.capacity self.new.target < length (T.octets self.old.target) + length slice.now) }
         ensures capacity { T.capacity self.old.target ≤ T.capacity self.new.target }
         ensures within { IfSome T.limit (λ n. length (T.octets self.new.target) ≤ n) }
         ensures places { written_places self.new ≡ written_places self.old }
