@@ -79,8 +79,7 @@ impl<B: OctetsBuilder + OctetsMut> NameBuilder<B> {
     /// Makes each call in turn, passes over refused ones, and counts those that were accepted.
     ///
     /// A call that is passed over changes nothing, but for the symbols of a text before the first that was
-    /// refused: these stay. Where what it asks for isn't too long for a name, it exceeds the room that the call
-    /// itself leaves.
+    /// refused: these stay. One that is passed over for want of room asks for more than the room that it leaves.
     pub fn apply_all(&mut self, calls: &[BuilderCall]) -> usize
         ensures applied { AppliesAll B.limit (held self.old) calls.now (held self.new) result }
         ensures grows { (held self.old).capacity ≤ (held self.new).capacity }
