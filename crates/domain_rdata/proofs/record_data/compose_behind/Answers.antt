@@ -1,7 +1,11 @@
 use Rattle.std.proofs.Common.{rules}
-use Rattle.domain_rdata.proofs.Lengths.{refused_data}
+use Rattle.domain_rdata.proofs.Lengths.{refused_data, taken_back}
 use Rattle.domain_rdata.proofs.record_data.compose_behind.Goals as goal
 
 pub returns-in-Err-compose_rdata-clause-full : goal.returns-in-Err-compose_rdata-clause-full
 returns-in-Err-compose_rdata-clause-full g c =
     refused_data _ _ _ _ _ _ c.in_default.ensures.ok (search rules) c.append_slice.ensures.capacity c.in-Err-compose_rdata.ensures.full
+
+pub returns-in-Err-compose_rdata-clause-err : goal.returns-in-Err-compose_rdata-clause-err
+returns-in-Err-compose_rdata-clause-err g c =
+    taken_back _ _ _ _ _ _ c.as_slice-start.ensures c.in_default.ensures.ok c.in-Err-compose_rdata.ensures.err c.truncate.ensures.octets
