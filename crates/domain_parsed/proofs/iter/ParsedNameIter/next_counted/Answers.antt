@@ -1,4 +1,4 @@
-use Rattle.std.proofs.Common.{arith}
+use Rattle.std.proofs.Common.{arith, refl}
 use Rattle.domain_reading.proofs.Places.{labels_over, labels_taken, taken}
 use Rattle.domain_parsed.proofs.iter.ParsedNameIter.next_counted.Goals as goal
 
@@ -7,6 +7,9 @@ returns-in_err-first-clause-first g c =
     let s = c.args.self.now in
     let e = labels_over s.octets.now s.base s.places.now c.in_err-first.ensures.cases in
     rw c.from_residual.ensures (e, e)
+
+pub returns-in_err-first-clause-counted : goal.returns-in_err-first-clause-counted
+returns-in_err-first-clause-counted g c = rw c.from_residual.ensures refl
 
 pub place_of-place-requires : goal.place_of-place-requires
 place_of-place-requires g c =

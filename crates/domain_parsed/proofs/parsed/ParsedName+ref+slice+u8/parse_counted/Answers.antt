@@ -1,4 +1,4 @@
-use Rattle.std.proofs.Common.{sym, ap, subst, ◌∙◌, rules}
+use Rattle.std.proofs.Common.{sym, ap, subst, ◌∙◌, rules, refl, Result, Ok, Err, OnErr}
 use Rattle.octseq.specs.Parsing.{message, place}
 use Rattle.domain_reading.specs.Grammar.{Names}
 use Rattle.domain_parsed.proofs.Parsing.{ok_not_err, no_name, fault_counted, read_here, held, piece_tells, plainly_named, plainly_read, name_counted}
@@ -19,6 +19,13 @@ pub returns-in_err-read_name_counted-clause-counted : goal.returns-in_err-read_n
 returns-in_err-read_name_counted-clause-counted g c =
     let here = ap (λ w. w.at) c.new-found.ensures ∙ c.pos.ensures.place in
     fault_counted _ _ _ c.args.parser.now c.from_residual.result (search rules) here c.from_residual.ensures.0 c.from_residual.ensures.1 c.in_err-read_name_counted.ensures.fault
+
+on_err : {T E : Type 0} (r : Result T E) (P : Type 0) → P → OnErr r P
+on_err (Ok x) P p = tt
+on_err (Err e) P p = p
+
+pub returns-in_err-read_name_counted-clause-unchanged : goal.returns-in_err-read_name_counted-clause-unchanged
+returns-in_err-read_name_counted-clause-unchanged g c = on_err c.from_residual.result _ refl
 
 pub of-requires : goal.of-requires
 of-requires g c =
