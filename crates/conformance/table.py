@@ -607,6 +607,10 @@ for at, one in enumerate(RISING):
 told("walk", b"123\0", 3, "- - - f00 none f00 1 0 - 2e 00")
 told("pname", SCATTERED, 15, absolute(b"wWw", b"EXAMPLE", b"com"), " / ".join(
     "eq=1 cmp== composed=%s lower== starts=1 ends=1 hash=%s %s" % (sign, hx(WWW), hx(WWW)) for sign in "><"))
+UPPER = absolute(b"wWw", b"EXAMPLE", b"com")
+told("chaincmp", rel(b"www"), absolute(b"example", b"com"), UPPER, " / ".join("eq=1 cmp== composed=%s lower== starts=1 ends=1" % sign for sign in "><"))
+told("cmp", WWW, UPPER, "eq=1 cmp== composed=> lower== starts=1 ends=1 hash=%s %s" % (hx(WWW), hx(WWW)))
+told("cmp", UPPER, OTHER, "eq=0 cmp=> composed=< lower=> starts=0 ends=0 hash=%s %s" % (hx(WWW), hx(absolute(b"ww4", b"example", b"com"))))
 
 
 topic("names in canonical order")
@@ -1211,6 +1215,7 @@ for place, shown in (("0", b"com.\n"), ("4", b".\n"), ("5", b"example.com.\n"), 
     ran(["at", place], SCATTERED.replace(b"example", b"Example"), 0, shown.replace(b"example", b"Example"))
 for place in ("21", "22"):
     ran(["at", place], SCATTERED, 1, b"", ENDED)
+ran(["at", "x"], SCATTERED, 2, b"", USAGE)
 ran(["at", "0"], INSIDE, 0, b"\\001a\\000.a.\n")
 ran(["at", "0"], rel(*[b"\x80" * 63] * 3, b"\xff" * 61) + b"\0", 0, b".".join([b"\\128" * 63] * 3 + [b"\\255" * 61]) + b".\n")
 for limit, status, shown, reason in (("2", 0, b"www.example.com.\n", b""), ("002", 0, b"www.example.com.\n", b""), ("255", 0, b"www.example.com.\n", b""), ("1", 1, b"", MANY), ("0", 1, b"", MANY),
@@ -1234,6 +1239,7 @@ ran(["list"], ANSWER, 0, QUESTION + RECORD)
 ran(["list"], ANSWER + b"\xff" * 9, 0, QUESTION + RECORD)
 ran(["list"], ANSWER[:-1], 1, QUESTION, ENDED)
 ran(["list"], ANSWER[:4] + b"\0\2" + b"\0" * 6 + b"\1a\0\0\1\0\1", 1, QUESTION, ENDED)
+ran(["list"], ANSWER[:2] + b"\0\0\0\2" + b"\0" * 6 + b"\1a\0\0\1\0\1", 1, QUESTION, ENDED)
 ran(["list"], b"\0" * 11, 1, b"", ENDED)
 ran(["list"], b"\0" * 12, 0)
 ran(["list"], ANSWER[:4] + b"\xff" * 8, 1, b"", ENDED)
