@@ -9,6 +9,7 @@ ghost use Rattle.domain_parsed.specs.Views.{parsed_labels};
 use crate::names::{LOWER_WWW, SCATTERED, WWW, absolute, parsed};
 use arrayvec::ArrayVec;
 use domain::base::name::*;
+use domain::base::wire::Compose;
 use octseq::{
     EmptyBuilder, FreezeBuilder, Octets, OctetsBuilder, OctetsFrom, OctetsMut, SameOctets,
     ShortBuf, Truncate,
@@ -171,4 +172,17 @@ fn a_name_is_shortened_to_the_root(rt: HostRuntime) {
         assert_eq!(rt; name.label_count(), left);
     }
     assert!(rt; !drop_first(&mut name) && name.is_root());
+}
+
+#[test]
+fn small_arrays_stay_empty_where_values_do_not_fit(rt: HostRuntime) {
+    let Ok(label) = Label::from_slice(b"www") else {
+        panic!(rt; "no label");
+    };
+    let mut three = ArrayVec::<u8, 3>::new();
+    assert!(rt; 1u32.compose(&mut three).is_err() && three.is_empty());
+    assert!(rt; label.compose(&mut three).is_err() && three.is_empty());
+    let mut four = ArrayVec::<u8, 4>::new();
+    assert!(rt; 1u32.compose(&mut four).is_ok());
+    assert_eq!(rt; four.as_slice(), b"\0\0\0\x01".as_slice());
 }
