@@ -120,6 +120,34 @@ fn last_of<'a>(word: &[u8], octets: &'a [u8]) -> Option<Last<'a>> {
     None
 }
 
+/// The argument of a call, no octets where it has none.
+fn argument_at(arguments: &[Vec<u8>], at: usize) -> &[u8] {
+    match arguments.get(at) {
+        Some(argument) => argument.as_slice(),
+        None => b"",
+    }
+}
+
+/// Adds a call to those of a line, or what ends them.
+fn add_call<'a>(
+    out: &mut Answer,
+    word: &[u8],
+    octets: &'a [u8],
+    calls: &mut Vec<BuilderCall<'a>>,
+    last: &mut Last<'a>,
+) {
+    if let Some(call) = call_of(word, octets) {
+        if calls.push(call).is_err() {
+            out.fail(Fail::Memory);
+        }
+        return;
+    }
+    match last_of(word, octets) {
+        Some(end) => *last = end,
+        None => out.fail(Fail::Bad),
+    }
+}
+
 /// The calls that stand in a line, whose octets are given, and what ends them.
 fn plan_of<'a>(
     out: &mut Answer,
@@ -135,21 +163,11 @@ fn plan_of<'a>(
             out.fail(Fail::Bad);
         }
         let (word, _digits) = split_once(field, b':');
-        let octets = match arguments.get(at) {
-            Some(argument) => argument.as_slice(),
-            None => b"",
-        };
+        let octets = argument_at(arguments, at);
         if at == 0 && is(word, b"from") {
             front = octets;
-        } else if let Some(call) = call_of(word, octets) {
-            if calls.push(call).is_err() {
-                out.fail(Fail::Memory);
-            }
         } else {
-            match last_of(word, octets) {
-                Some(end) => last = end,
-                None => out.fail(Fail::Bad),
-            }
+            add_call(out, word, octets, calls, &mut last);
         }
     }
     (front, last)
@@ -352,6 +370,20 @@ fn is_applied_alike<B: EmptyBuilder + OctetsMut + Drop>(
     out.agree(twin.in_label() == builder.in_label(), b"apply_all");
 }
 
+/// Puts the name that was made, or why there is none.
+fn put_name<Octs: Octets + Drop, E: Kind + Drop>(out: &mut Answer, made: Result<Name<Octs>, E>) {
+    match made {
+        Ok(name) => out.put_hex_behind(b"ok ", name.as_slice()),
+        Err(error) => error.put(out),
+    }
+}
+
+/// Puts what a builder is left with.
+fn put_left<B: OctetsBuilder + OctetsMut>(out: &mut Answer, builder: &NameBuilder<B>) {
+    out.put_hex_behind(b" ", builder.as_slice());
+    out.put_bit(b" ", builder.in_label());
+}
+
 /// Puts the name that the calls end in, or what the builder is left with.
 fn put_last<B: OctetsBuilder + OctetsMut + FreezeBuilder + Drop>(
     out: &mut Answer,
@@ -361,24 +393,14 @@ fn put_last<B: OctetsBuilder + OctetsMut + FreezeBuilder + Drop>(
 where
     B::Octets: Drop,
 {
-    if matches!(plan.last, Last::Nothing) {
-        out.put_hex_behind(b" ", builder.as_slice());
-        return out.put_bit(b" ", builder.in_label());
-    }
-    if !plan.calls.is_empty() {
+    if !plan.calls.is_empty() && !matches!(plan.last, Last::Nothing) {
         out.put(b";");
     }
     match plan.last {
-        Last::Nothing => {}
+        Last::Nothing => put_left(out, &builder),
         Last::Finish => out.put_hex_behind(b"ok ", builder.finish().as_slice()),
-        Last::IntoName => match builder.into_name() {
-            Ok(name) => out.put_hex_behind(b"ok ", name.as_slice()),
-            Err(error) => error.put(out),
-        },
-        Last::Origin(origin) => match builder.append_origin(&origin) {
-            Ok(name) => out.put_hex_behind(b"ok ", name.as_slice()),
-            Err(error) => error.put(out),
-        },
+        Last::IntoName => put_name(out, builder.into_name()),
+        Last::Origin(origin) => put_name(out, builder.append_origin(&origin)),
     }
 }
 

@@ -16,6 +16,14 @@ pub fn is_in_canonical_order<T: CanonicalOrd>(out: &mut Answer, a: &T, b: &T, or
     out.agree(a.canonical_ge(b) == order.is_ge(), b"canonical_ge");
 }
 
+/// Puts the canonical order of two values, which is turned round where they are.
+fn put_canonical_order<T: CanonicalOrd>(out: &mut Answer, a: &T, b: &T) {
+    let order = a.canonical_cmp(b);
+    out.put_order(b"", order);
+    is_in_canonical_order(out, a, b, order);
+    is_in_canonical_order(out, b, a, order.reverse());
+}
+
 /// `canonical A B`
 pub fn put_canonical(out: &mut Answer, a: &[u8], b: &[u8]) {
     let Ok(a) = Name::from_slice(a) else {
@@ -24,10 +32,7 @@ pub fn put_canonical(out: &mut Answer, a: &[u8], b: &[u8]) {
     let Ok(b) = Name::from_slice(b) else {
         return out.fail(Fail::Bad);
     };
-    let order = a.canonical_cmp(&b);
-    out.put_order(b"", order);
-    is_in_canonical_order(out, &a, &b, order);
-    is_in_canonical_order(out, &b, &a, order.reverse());
+    put_canonical_order(out, &a, &b);
 }
 
 /// `pcanonical MSG P Q`: of the names in the message and of their flat twins.
@@ -38,9 +43,12 @@ pub fn put_parsed_canonical(out: &mut Answer, message: &[u8], left: usize, right
     let Some(right) = name_at(message, right) else {
         return out.fail(Fail::Bad);
     };
+    put_canonical_order(out, &left, &right);
+    are_flat_in_order(out, left, right);
+}
+
+fn are_flat_in_order(out: &mut Answer, left: ParsedName<&[u8]>, right: ParsedName<&[u8]>) {
     let order = left.canonical_cmp(&right);
-    out.put_order(b"", order);
-    is_in_canonical_order(out, &left, &right, order);
     match (left.to_vec(out.alloc()), right.to_vec(out.alloc())) {
         (Ok(a), Ok(b)) => is_in_canonical_order(out, &a, &b, order),
         _ => out.fail(Fail::Memory),

@@ -1,17 +1,46 @@
 //! Chains of two names.
+//!
+//! A call that is generic over names is dear to check at a chain. So each kind of chain is given to one generic
+//! function, which is told the call.
 
 use crate::answer::Answer;
 use crate::compare::{put_both_related, put_both_relative_related, put_ends_of, put_related};
 use crate::fail::Fail;
 use crate::flat::put_stripped;
 use crate::labels::wire_of;
-use crate::made::{put_chain_forms, put_relative_chain_forms};
+use crate::made::{put_forms, put_relative_forms};
 use crate::message::name_at;
 use domain::base::name::*;
 
 type Absolutely<'a> = Chain<RelativeName<&'a [u8]>, Name<&'a [u8]>>;
 
 type Relatively<'a> = Chain<RelativeName<&'a [u8]>, RelativeName<&'a [u8]>>;
+
+/// What is asked of a chain that ends in an absolute name.
+#[derive(Clone, Copy)]
+enum AbsoluteCall<'a> {
+    Labels,
+    Dotted,
+    Forms,
+    /// It beside a name, and the name beside it.
+    Beside(Name<&'a [u8]>),
+    /// A name in a message beside it.
+    Behind(ParsedName<&'a [u8]>),
+    /// A name without it at its end.
+    Strip(Name<&'a [u8]>),
+}
+
+/// What is asked of a chain of two relative names.
+#[derive(Clone, Copy)]
+enum RelativeCall<'a> {
+    Labels,
+    Walk,
+    Forms,
+    /// It beside a name, and the name beside it.
+    Beside(RelativeName<&'a [u8]>),
+    /// The ends of a name.
+    Ends(Name<&'a [u8]>),
+}
 
 /// The chain of a relative and an absolute name, where it isn't too long.
 fn absolute_chain<'a>(left: &'a [u8], right: &'a [u8]) -> Option<Absolutely<'a>> {
@@ -37,6 +66,46 @@ fn put_chain_of<'a, N: ToLabelIter<'a>>(out: &mut Answer, chain: &'a N) {
     out.put_turned(labels);
 }
 
+fn put_absolute_call<'a, N: AbsoluteLabels<'a>>(
+    out: &mut Answer,
+    chain: &'a N,
+    call: &'a AbsoluteCall<'a>,
+) {
+    match call {
+        AbsoluteCall::Labels => put_chain_of(out, chain),
+        AbsoluteCall::Dotted => {
+            put_chain_of(out, chain);
+            out.put_shown_behind(b" ", chain.fmt_with_dot());
+        }
+        AbsoluteCall::Forms => put_forms(out, chain),
+        AbsoluteCall::Beside(name) => put_both_related(out, chain, name),
+        AbsoluteCall::Behind(name) => put_related(out, name, chain),
+        AbsoluteCall::Strip(name) => put_stripped(out, name.strip_suffix(chain)),
+    }
+}
+
+fn put_relative_call<'a, N: RelativeLabels<'a>>(
+    out: &mut Answer,
+    chain: &'a N,
+    call: &'a RelativeCall<'a>,
+) {
+    match call {
+        RelativeCall::Labels => put_chain_of(out, chain),
+        RelativeCall::Walk => out.put_orders(chain.iter_labels()),
+        RelativeCall::Forms => put_relative_forms(out, chain),
+        RelativeCall::Beside(name) => put_both_relative_related(out, chain, name),
+        RelativeCall::Ends(name) => put_ends_of(out, name, chain),
+    }
+}
+
+fn put_absolute(out: &mut Answer, chain: Absolutely<'_>, call: AbsoluteCall<'_>) {
+    put_absolute_call(out, &chain, &call);
+}
+
+fn put_relative(out: &mut Answer, chain: Relatively<'_>, call: RelativeCall<'_>) {
+    put_relative_call(out, &chain, &call);
+}
+
 fn put_refusal(out: &mut Answer, error: LongChainError) {
     out.put_text_behind(b"err ", error);
 }
@@ -58,7 +127,7 @@ pub fn put_chain(out: &mut Answer, left: &[u8], right: &[u8]) {
 fn put_absolute_chain(out: &mut Answer, left: RelativeName<&[u8]>, right: Name<&[u8]>) {
     match left.chain(right) {
         Ok(chain) => {
-            put_chain_of(out, &chain);
+            put_absolute(out, chain, AbsoluteCall::Labels);
             out.agree(chain.is_absolute(), b"is_absolute");
             let (one, other) = chain.unwrap();
             out.same(one.as_slice(), left.as_slice(), b"unwrap");
@@ -71,7 +140,7 @@ fn put_absolute_chain(out: &mut Answer, left: RelativeName<&[u8]>, right: Name<&
 fn put_relative_chain(out: &mut Answer, left: RelativeName<&[u8]>, right: RelativeName<&[u8]>) {
     match left.chain(right) {
         Ok(chain) => {
-            put_chain_of(out, &chain);
+            put_relative(out, chain, RelativeCall::Labels);
             out.agree(!chain.is_absolute(), b"is_absolute");
             let (one, other) = chain.unwrap();
             out.same(one.as_slice(), left.as_slice(), b"unwrap");
@@ -87,34 +156,38 @@ pub fn put_chainforms(out: &mut Answer, left: &[u8], right: &[u8]) {
         return out.fail(Fail::Bad);
     };
     match Name::from_slice(right) {
-        Ok(right) => put_chain_forms(out, left, right),
-        Err(_) => match RelativeName::from_slice(right) {
-            Ok(right) => put_relative_chain_forms(out, left, right),
-            Err(_) => out.fail(Fail::Bad),
+        Ok(right) => match left.chain(right) {
+            Ok(chain) => put_absolute(out, chain, AbsoluteCall::Forms),
+            Err(error) => put_refusal(out, error),
         },
+        Err(_) => put_relative_chainforms(out, left, right),
     }
 }
 
-/// `chainwalk L R`: the labels of a chain of relative names, and what it has with the root behind it.
+fn put_relative_chainforms(out: &mut Answer, left: RelativeName<&[u8]>, right: &[u8]) {
+    match RelativeName::from_slice(right) {
+        Ok(right) => match left.chain(right) {
+            Ok(chain) => put_relative(out, chain, RelativeCall::Forms),
+            Err(error) => put_refusal(out, error),
+        },
+        Err(_) => out.fail(Fail::Bad),
+    }
+}
+
+/// `chainwalk L R`: the labels of a chain of relative names.
 pub fn put_chainwalk(out: &mut Answer, left: &[u8], right: &[u8]) {
-    let Some(chain) = relative_chain(left, right) else {
-        return out.fail(Fail::Bad);
-    };
-    out.put_orders(chain.iter_labels());
+    match relative_chain(left, right) {
+        Some(chain) => put_relative(out, chain, RelativeCall::Walk),
+        None => out.fail(Fail::Bad),
+    }
 }
 
-/// `rooted NAME`: the name with the root behind it.
+/// `rooted NAME`: the name with the root behind it, and its text.
 pub fn put_rooted(out: &mut Answer, octets: &[u8]) {
-    let Ok(name) = RelativeName::from_slice(octets) else {
-        return out.fail(Fail::Bad);
-    };
-    put_absolute_name(out, &name.chain_root());
-}
-
-/// What a chain has, and its text.
-fn put_absolute_name<'a, N: AbsoluteLabels<'a>>(out: &mut Answer, chain: &'a N) {
-    put_chain_of(out, chain);
-    out.put_shown_behind(b" ", chain.fmt_with_dot());
+    match RelativeName::from_slice(octets) {
+        Ok(name) => put_absolute(out, name.chain_root(), AbsoluteCall::Dotted),
+        Err(_) => out.fail(Fail::Bad),
+    }
 }
 
 /// `chaincmp L R NAME`
@@ -123,7 +196,7 @@ pub fn put_chaincmp(out: &mut Answer, left: &[u8], right: &[u8], octets: &[u8]) 
         return out.fail(Fail::Bad);
     };
     match Name::from_slice(octets) {
-        Ok(name) => put_both_related(out, &chain, &name),
+        Ok(name) => put_absolute(out, chain, AbsoluteCall::Beside(name)),
         Err(_) => out.fail(Fail::Bad),
     }
 }
@@ -134,7 +207,7 @@ pub fn put_chainrel(out: &mut Answer, left: &[u8], right: &[u8], octets: &[u8]) 
         return out.fail(Fail::Bad);
     };
     match RelativeName::from_slice(octets) {
-        Ok(name) => put_both_relative_related(out, &chain, &name),
+        Ok(name) => put_relative(out, chain, RelativeCall::Beside(name)),
         Err(_) => out.fail(Fail::Bad),
     }
 }
@@ -145,7 +218,7 @@ pub fn put_chainends(out: &mut Answer, left: &[u8], right: &[u8], octets: &[u8])
         return out.fail(Fail::Bad);
     };
     match Name::from_slice(octets) {
-        Ok(name) => put_ends_of(out, &name, &chain),
+        Ok(name) => put_relative(out, chain, RelativeCall::Ends(name)),
         Err(_) => out.fail(Fail::Bad),
     }
 }
@@ -156,7 +229,7 @@ pub fn put_chainstrip(out: &mut Answer, left: &[u8], right: &[u8], octets: &[u8]
         return out.fail(Fail::Bad);
     };
     match Name::from_slice(octets) {
-        Ok(name) => put_stripped(out, name.strip_suffix(&chain)),
+        Ok(name) => put_absolute(out, chain, AbsoluteCall::Strip(name)),
         Err(_) => out.fail(Fail::Bad),
     }
 }
@@ -167,7 +240,7 @@ pub fn put_pchain(out: &mut Answer, message: &[u8], place: usize, left: &[u8], r
         return out.fail(Fail::Bad);
     };
     match absolute_chain(left, right) {
-        Some(chain) => put_related(out, &parsed, &chain),
+        Some(chain) => put_absolute(out, chain, AbsoluteCall::Behind(parsed)),
         None => out.fail(Fail::Bad),
     }
 }

@@ -33,12 +33,12 @@ fn put_fed<'a, N: AbsoluteLabels<'a> + Hash>(out: &mut Answer, name: &'a N) {
     put_fed_octets(out, name, octets.as_slice());
 }
 
-fn put_relative_fed(out: &mut Answer, name: RelativeName<&[u8]>) {
+fn put_relative_fed<'a, N: RelativeLabels<'a> + Hash>(out: &mut Answer, name: &'a N) {
     let mut octets = Vec::new(out.alloc());
     if name.compose_canonical(&mut octets).is_err() {
         out.fail(Fail::Memory);
     }
-    put_fed_octets(out, &name, octets.as_slice());
+    put_fed_octets(out, name, octets.as_slice());
 }
 
 /// The operators and calls of one kind of names tell this.
@@ -73,6 +73,12 @@ fn put_compared<'a, A: AbsoluteLabels<'a> + Hash, B: AbsoluteLabels<'a> + Hash>(
     put_fed(out, b);
 }
 
+/// Two names of one kind, and their operators.
+fn put_twins<'a, N: AbsoluteLabels<'a> + Ord + Hash>(out: &mut Answer, a: &'a N, b: &'a N) {
+    put_compared(out, a, b);
+    is_ordered(out, a, b, a.name_eq(b), a.name_cmp(b));
+}
+
 /// `cmp A B`
 pub fn put_cmp(out: &mut Answer, a: &[u8], b: &[u8]) {
     let Ok(a) = Name::from_slice(a) else {
@@ -81,8 +87,20 @@ pub fn put_cmp(out: &mut Answer, a: &[u8], b: &[u8]) {
     let Ok(b) = Name::from_slice(b) else {
         return out.fail(Fail::Bad);
     };
-    put_compared(out, &a, &b);
-    is_ordered(out, &a, &b, a.name_eq(&b), a.name_cmp(&b));
+    put_twins(out, &a, &b);
+}
+
+fn put_relative_twins<'a, N: RelativeLabels<'a> + Ord + Hash>(
+    out: &mut Answer,
+    a: &'a N,
+    b: &'a N,
+) {
+    put_relative_related(out, a, b);
+    is_ordered(out, a, b, a.name_eq(b), a.name_cmp(b));
+    out.put(b" hash=");
+    put_relative_fed(out, a);
+    out.put(b" ");
+    put_relative_fed(out, b);
 }
 
 /// `relcmp A B`
@@ -93,16 +111,7 @@ pub fn put_relcmp(out: &mut Answer, a: &[u8], b: &[u8]) {
     let Ok(b) = RelativeName::from_slice(b) else {
         return out.fail(Fail::Bad);
     };
-    put_relative_pair(out, a, b);
-    out.put(b" hash=");
-    put_relative_fed(out, a);
-    out.put(b" ");
-    put_relative_fed(out, b);
-}
-
-fn put_relative_pair(out: &mut Answer, a: RelativeName<&[u8]>, b: RelativeName<&[u8]>) {
-    put_relative_related(out, &a, &b);
-    is_ordered(out, &a, &b, a.name_eq(&b), a.name_cmp(&b));
+    put_relative_twins(out, &a, &b);
 }
 
 /// `pcmp MSG P Q`
@@ -113,16 +122,9 @@ pub fn put_pcmp(out: &mut Answer, message: &[u8], left: usize, right: usize) {
     let Some(right) = name_at(message, right) else {
         return out.fail(Fail::Bad);
     };
-    put_compared(out, &left, &right);
+    put_twins(out, &left, &right);
     out.put(b" / ");
     put_beside_twin(out, left, right);
-    is_ordered(
-        out,
-        &left,
-        &right,
-        left.name_eq(&right),
-        left.name_cmp(&right),
-    );
 }
 
 /// The left name beside the flat twin of the right one.
@@ -133,11 +135,20 @@ fn put_beside_twin(out: &mut Answer, left: ParsedName<&[u8]>, right: ParsedName<
     }
 }
 
+/// Two names, on either side.
+fn put_both_compared<'a, A: AbsoluteLabels<'a> + Hash, B: AbsoluteLabels<'a> + Hash>(
+    out: &mut Answer,
+    a: &'a A,
+    b: &'a B,
+) {
+    put_compared(out, a, b);
+    out.put(b" / ");
+    put_compared(out, b, a);
+}
+
 /// A name in a message and a flat one, on either side.
 fn put_beside_flat(out: &mut Answer, parsed: ParsedName<&[u8]>, flat: Name<&[u8]>) {
-    put_compared(out, &parsed, &flat);
-    out.put(b" / ");
-    put_compared(out, &flat, &parsed);
+    put_both_compared(out, &parsed, &flat);
 }
 
 /// `pname MSG PLACE NAME`

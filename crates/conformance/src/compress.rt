@@ -1,5 +1,5 @@
 //! Names, and record data that is a name, one after another on one target that writes them shorter.
-ghost use Rattle.std.specs.Prelude.{false};
+ghost use Rattle.std.specs.Prelude.{if◌then◌else◌, false, true};
 ghost use Rattle.domain_label.specs.Low.{low_all};
 ghost use Rattle.domain_label.specs.Wire.{wire};
 ghost use Rattle.domain_name.proofs.Shapes.{flat_absolute};
@@ -12,7 +12,7 @@ use crate::fail::Fail;
 use crate::fields::{decimal, is, octets_of, split_once};
 use arrayvec::ArrayVec;
 use domain::base::compress::CompressComposer;
-use domain::base::name::{Name, ParsedName, ToName};
+use domain::base::name::{Name, NameLabels, ParsedName, ToName};
 use domain::base::rdata::{ComposeRecordData, RecordData, Rtype};
 use domain::base::wire::Composer;
 use octseq::{EmptyBuilder, Octets, OctetsBuilder, OctetsMut, Parser, Truncate};
@@ -60,7 +60,7 @@ fn put_on<T: EmptyBuilder + Composer + Drop>(out: &mut Answer, calls: &[u8]) {
     }
 }
 
-/// `raw:OCTETS`, `data:NAME`, `over:PLACE,OCTETS`, `cut:LEN`, and `pad:COUNT` for zero octets.
+/// `raw:OCTETS`, `data:NAME`, `canonical:NAME`, `over:PLACE,OCTETS`, `cut:LEN`, and `pad:COUNT` for zero octets.
 fn put_other<T: Composer>(
     out: &mut Answer,
     target: &mut CompressComposer<T>,
@@ -71,7 +71,9 @@ fn put_other<T: Composer>(
     if is(word, b"raw") {
         put_raw(out, target, field);
     } else if is(word, b"data") {
-        put_data(out, target, field);
+        put_data(out, target, field, false);
+    } else if is(word, b"canonical") {
+        put_data(out, target, field, true);
     } else if is(word, b"over") {
         // What stood there may be a name no longer.
         names.clear();
@@ -140,7 +142,7 @@ fn pad<T: Composer>(out: &mut Answer, target: &mut CompressComposer<T>, count: u
     }
 }
 
-/// Record data that is one name, of a length that isn't known before it is composed.
+/// Record data that is one name, of a length that isn't known before it is composed where it may be written shorter.
 #[derive(Clone, Copy)]
 struct NameData<'a> {
     name: Name<&'a [u8]>,
@@ -159,10 +161,13 @@ impl<'a> ComposeRecordData for NameData<'a> {
 
     ghost canonical = { λ it. wire (low_all (name_labels it.name)) };
 
-    ghost knows_len = { λ _ _. false };
+    ghost knows_len = { λ _ compress. if compress then false else true };
 
-    fn rdlen(&self, _compress: bool) -> Option<u16> {
-        None
+    fn rdlen(&self, compress: bool) -> Option<u16> {
+        if compress {
+            return None;
+        }
+        Some(self.name.compose_len())
     }
 
     fn compose_rdata<Target: Composer>(
@@ -182,8 +187,26 @@ impl<'a> ComposeRecordData for NameData<'a> {
     ghost flat = { λ it c t u s. flat_name_octets (name_labels it.name) c t u s (flat_absolute it.name) };
 }
 
+/// Appends data with its length in front, and tells whether it was taken.
+fn is_taken<T: Composer>(
+    target: &mut CompressComposer<T>,
+    data: NameData<'_>,
+    canonical: bool,
+) -> bool {
+    if canonical {
+        data.compose_canonical_len_rdata(target).is_ok()
+    } else {
+        data.compose_len_rdata(target).is_ok()
+    }
+}
+
 /// The octets that record data takes that is the name, with its length in front, or `err` where it is refused.
-fn put_data<T: Composer>(out: &mut Answer, target: &mut CompressComposer<T>, digits: &[u8]) {
+fn put_data<T: Composer>(
+    out: &mut Answer,
+    target: &mut CompressComposer<T>,
+    digits: &[u8],
+    canonical: bool,
+) {
     let octets = match octets_of(digits, out.alloc()) {
         Ok(octets) => octets,
         Err(fail) => return out.fail(fail),
@@ -191,12 +214,19 @@ fn put_data<T: Composer>(out: &mut Answer, target: &mut CompressComposer<T>, dig
     let Ok(name) = Name::from_slice(octets.as_slice()) else {
         return out.fail(Fail::Bad);
     };
+    out.agree(target.can_compress(), b"can_compress");
     let start = target.as_slice().len();
-    if (NameData { name }).compose_len_rdata(target).is_err() {
+    if is_taken(target, NameData { name }, canonical) {
+        put_taken_data(out, target.as_slice(), start, name);
+    } else {
         out.agree(target.as_slice().len() == start, b"compose_len_rdata");
-        return out.put(b"err");
+        out.put(b"err");
     }
-    let mut parser = Parser::from_ref(target.as_slice());
+}
+
+/// The data at a place, up to the end, is the name behind its length.
+fn put_taken_data(out: &mut Answer, message: &[u8], start: usize, name: Name<&[u8]>) {
+    let mut parser = Parser::from_ref(message);
     out.agree(parser.seek(start).is_ok(), b"compose_len_rdata");
     out.put_hex(parser.peek_all());
     match parser.parse_u16_be() {
@@ -209,33 +239,62 @@ fn put_data<T: Composer>(out: &mut Answer, target: &mut CompressComposer<T>, dig
     }
 }
 
-/// The octets that a name takes, or `err` where it is refused, which leaves the target.
+/// The octets that a name takes, or `err` where it is refused.
 fn put_name<T: EmptyBuilder + Composer>(
     out: &mut Answer,
     target: &mut CompressComposer<T>,
     digits: &[u8],
     names: &mut Vec<Written>,
 ) {
-    let octets = match octets_of(digits, out.alloc()) {
-        Ok(octets) => octets,
-        Err(fail) => return out.fail(fail),
-    };
-    let Ok(name) = Name::from_slice(octets.as_slice()) else {
-        return out.fail(Fail::Bad);
+    match octets_of(digits, out.alloc()) {
+        Ok(octets) => put_kept(out, target, octets, names),
+        Err(fail) => out.fail(fail),
+    }
+}
+
+/// Appends a name, and keeps its octets where it was taken.
+fn put_kept<T: EmptyBuilder + Composer>(
+    out: &mut Answer,
+    target: &mut CompressComposer<T>,
+    octets: Vec<u8>,
+    names: &mut Vec<Written>,
+) {
+    let start = target.as_slice().len();
+    if put_appended(out, target, octets.as_slice()) {
+        let end = target.as_slice().len();
+        let written = Written { start, end, octets };
+        if names.push(written).is_err() {
+            out.fail(Fail::Memory);
+        }
+    }
+}
+
+/// Appends a name, and tells whether it was taken. A refused one leaves the target.
+fn put_appended<T: EmptyBuilder + Composer>(
+    out: &mut Answer,
+    target: &mut CompressComposer<T>,
+    octets: &[u8],
+) -> bool {
+    let Ok(name) = Name::from_slice(octets) else {
+        out.fail(Fail::Bad);
+        return false;
     };
     let start = target.as_slice().len();
-    if target.append_compressed_name(&name).is_err() {
+    let taken = target.append_compressed_name(&name).is_ok();
+    if taken {
+        out.put_hex(target.as_slice().get(start..).unwrap_or(b""));
+    } else {
         out.agree(target.as_slice().len() == start, b"append_compressed_name");
-        return match T::ROOM {
-            Some(_) => out.put(b"err"),
-            None => out.fail(Fail::Memory),
-        };
+        put_refused(out, T::ROOM);
     }
-    let end = target.as_slice().len();
-    out.put_hex(target.as_slice().get(start..).unwrap_or(b""));
-    let written = Written { start, end, octets };
-    if names.push(written).is_err() {
-        out.fail(Fail::Memory);
+    taken
+}
+
+/// A name is refused where a room is full, or for want of memory.
+fn put_refused(out: &mut Answer, room: Option<usize>) {
+    match room {
+        Some(_) => out.put(b"err"),
+        None => out.fail(Fail::Memory),
     }
 }
 

@@ -38,7 +38,7 @@ fn put_cow(out: &mut Answer, octets: &CowSlice<'_, u8>) {
 /// The name over a `Vec`, its canonical form, whether `to_cow` lends, the same over 17 octets, and
 /// what is composed into 17 octets behind one octet; the text with a final dot, and the labels that a signature
 /// counts.
-fn put_forms<'a, N: AbsoluteLabels<'a>>(out: &mut Answer, name: &'a N) {
+pub fn put_forms<'a, N: AbsoluteLabels<'a>>(out: &mut Answer, name: &'a N) {
     put_vec(out, name);
     put_canonical(out, name);
     put_lent(out, name);
@@ -236,18 +236,8 @@ fn put_made(out: &mut Answer, octets: Option<&[u8]>) {
     }
 }
 
-/// The forms of a chain that ends in an absolute name.
-pub fn put_chain_forms(out: &mut Answer, left: RelativeName<&[u8]>, right: Name<&[u8]>) {
-    match left.chain(right) {
-        Ok(chain) => put_forms(out, &chain),
-        Err(error) => {
-            out.put_text_behind(b"err ", error);
-        }
-    }
-}
-
 /// What `put_forms` tells, of a relative name.
-fn put_relative_forms<'a, N: RelativeLabels<'a>>(out: &mut Answer, name: &'a N) {
+pub fn put_relative_forms<'a, N: RelativeLabels<'a>>(out: &mut Answer, name: &'a N) {
     put_relative_vec(out, name);
     put_relative_canonical(out, name);
     put_relative_lent(out, name);
@@ -357,19 +347,5 @@ pub fn put_relative_flat_forms(out: &mut Answer, octets: &[u8]) {
     match RelativeName::from_slice(octets) {
         Ok(name) => put_relative_forms(out, &name),
         Err(_) => out.fail(Fail::Bad),
-    }
-}
-
-/// The forms of a chain of two relative names.
-pub fn put_relative_chain_forms(
-    out: &mut Answer,
-    left: RelativeName<&[u8]>,
-    right: RelativeName<&[u8]>,
-) {
-    match left.chain(right) {
-        Ok(chain) => put_relative_forms(out, &chain),
-        Err(error) => {
-            out.put_text_behind(b"err ", error);
-        }
     }
 }
