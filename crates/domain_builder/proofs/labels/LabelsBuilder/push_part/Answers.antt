@@ -5,7 +5,6 @@ use Rattle.domain_builder.specs.Pushing.{TakesPart}
 use Rattle.domain_builder.specs.Told.{MatchFromStr}
 use Rattle.domain_builder.specs.declared.error.FromStrError.{FromStrError}
 use Rattle.domain_builder.specs.declared.error.FromStrError.TheVariants.{Presentation, ShortBuf}
-use Rattle.domain_builder.specs.declared.part.Fault.{Fault}
 use Rattle.domain_builder.specs.declared.part.Fault.TheVariants.{EmptyLabel}
 use Rattle.domain_builder.specs.declared.part.Part.TheVariants.{Dot}
 use Rattle.domain_builder.proofs.labels.LabelsBuilder.push_part.Goals as goal
