@@ -1,6 +1,0 @@
-use Rattle.std.proofs.Common.{sym, ◌∙◌}
-use Rattle.domain_label.proofs.Lowered.{low_size}
-use Rattle.domain_tests.proofs.compressing.NameDataComposeRecordData.rdlen.Goals as goal
-
-pub returns-clause-canonical : goal.returns-clause-canonical
-returns-clause-canonical c = λ _. low_size _ ∙ sym c.compose_len.ensures
