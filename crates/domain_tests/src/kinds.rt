@@ -5,7 +5,7 @@ use crate::calls::{
     names_beside, relative_names_beside,
 };
 use crate::lists::{AbsoluteList, Numbered, RelativeList};
-use crate::names::{SCATTERED, WWW, absolute, joined, parsed, relative, relative_joined};
+use crate::names::{SCATTERED, WWW, absolute, joined, parsed, relative};
 use domain::base::name::*;
 use std::cmp::Ordering;
 use std::process::Abort;
@@ -62,40 +62,18 @@ fn references_to_names_and_chains_that_end_in_messages(rt: HostRuntime) {
 }
 
 #[test]
-fn references_to_relative_names_and_chains_of_two(rt: HostRuntime) {
+fn references_to_relative_names(rt: HostRuntime) {
     let others = relative_names_beside(&rt);
     let flat = relative(&rt, b"\x03www\x07Example");
     every_call_of_relative(&rt, rt.alloc(), &&flat, &others, RELATIVE, false);
-    let chain = relative_joined(&rt, b"\x03www", b"\x07Example");
-    every_call_of_relative(&rt, rt.alloc(), &chain, &others, RELATIVE, false);
-}
-
-/// Whether a name begins with this relative one, doesn't end with it, and another one is the same.
-fn begins<'a, A: AbsoluteLabels<'a>, R: RelativeLabels<'a>, N: RelativeLabels<'a>>(
-    whole: &'a A,
-    twin: &'a R,
-    name: &'a N,
-) -> bool {
-    whole.starts_with(name) && !whole.ends_with(name) && twin.name_eq(name)
-}
-
-/// Whether a name in a message is the same as this one.
-fn is_in_message<'a, N: AbsoluteLabels<'a>>(
-    scattered: &'a ParsedName<&'a [u8]>,
-    name: &'a N,
-) -> bool {
-    scattered.name_eq(name) && scattered.name_cmp(name) == Ordering::Equal
 }
 
 #[test]
-fn names_beside_chains(rt: HostRuntime) {
-    let flat = absolute(&rt, WWW);
-    let twin = relative(&rt, b"\x03www\x07EXAMPLE");
-    let relative_chain = relative_joined(&rt, b"\x03WWW", b"\x07example");
-    assert!(rt; begins(&flat, &twin, &relative_chain));
+fn a_name_in_a_message_beside_a_chain(rt: HostRuntime) {
     let scattered = parsed(&rt, SCATTERED, 15);
     let chain = joined(&rt, b"\x03www", parsed(&rt, SCATTERED, 5));
-    assert!(rt; is_in_message(&scattered, &chain));
+    assert!(rt; scattered.name_eq(&chain));
+    assert!(rt; scattered.name_cmp(&chain) == Ordering::Equal);
 }
 
 #[test]
