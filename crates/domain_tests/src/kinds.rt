@@ -130,5 +130,4 @@ fn names_of_other_types_are_at_most_so_long(rt: HostRuntime) {
         panic!(rt; "too long");
     };
     assert_eq!(rt; chain.compose_len(), 254);
-    assert_eq!(rt; chain.chain_root().compose_len(), 255);
 }
