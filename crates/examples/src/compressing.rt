@@ -22,7 +22,8 @@ pub fn append_at<'a, Target: Composer, N: AbsoluteLabels<'a>>(
     Ok(place)
 }
 
-/// Appends the data of a record with its length in front, and then a name, and tells where that is read.
+/// Appends the data of a record with its length in front, and then a name, and tells where that is read. Where
+/// the name is refused, the data stays.
 pub fn append_data_and_name<'a, Target: Composer, Data: ComposeRecordData, N: AbsoluteLabels<'a>>(
     target: &mut Target,
     data: &Data,
