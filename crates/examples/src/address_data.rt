@@ -84,13 +84,15 @@ impl<'a> ParseRecordData<'a> for AddressData {
     ghost lawful = { λ _. fixed_reading 4 ipv4_of };
 }
 
-/// The address at the parser's place, where the record is of that type.
+/// The address at the parser's place, where the record is of that type. `ShortInput` where fewer than four octets
+/// are left of such a record; the parser then stays.
 pub fn read_address<'a>(
     rtype: Rtype,
     parser: &mut Parser<'a>,
 ) -> Result<Option<Ipv4Addr>, ParseError>
     ensures address { IfOk result (λ read. IfSome read (λ it. it ≡ ipv4_of (slice_range (message parser.old) (place parser.old) (place parser.old + 4)))) }
     ensures none { IfOk result (λ read. IsNone read ↔ (nat_eq (rtype_number rtype) 1 ≡ false)) }
+    ensures short { OnErr result (length (message parser.old) < place parser.old + 4) }
     ensures err { OnErr result (parser.new ≡ parser.old) }
 {
     match AddressData::parse_rdata(rtype, parser)? {
