@@ -56,7 +56,7 @@ fn relative_chain<'a>(left: &'a [u8], right: &'a [u8]) -> Option<Relatively<'a>>
     left.chain(right).ok()
 }
 
-/// A chain's wire form, its length and its labels from the back.
+/// A chain's wire format, its length and its labels from the back.
 fn put_chain_of<'a, N: ToLabelIter<'a>>(out: &mut Answer, chain: &'a N) {
     let labels = chain.iter_labels();
     let wire = wire_of(out, labels);

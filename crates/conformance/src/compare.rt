@@ -24,7 +24,7 @@ fn put_fed_octets<N: Hash>(out: &mut Answer, name: &N, octets: &[u8]) {
     out.put_hex(octets);
 }
 
-/// A name feeds a hasher its lowered wire form.
+/// A name feeds a hasher its lowered wire format.
 fn put_fed<'a, N: AbsoluteLabels<'a> + Hash>(out: &mut Answer, name: &'a N) {
     let mut octets = Vec::new(out.alloc());
     if name.compose_canonical(&mut octets).is_err() {
@@ -127,7 +127,7 @@ pub fn put_pcmp(out: &mut Answer, message: &[u8], left: usize, right: usize) {
     put_beside_twin(out, left, right);
 }
 
-/// The left name beside the flat twin of the right one.
+/// The left name beside the same name as a `Name` of the right one.
 fn put_beside_twin(out: &mut Answer, left: ParsedName<&[u8]>, right: ParsedName<&[u8]>) {
     match right.to_vec(out.alloc()) {
         Ok(owned) => put_beside_flat(out, left, owned.for_slice()),

@@ -1,8 +1,8 @@
 //! Names, and record data that is a name, one after another on one target that writes them shorter.
 ghost use Rattle.std.specs.Prelude.{if◌then◌else◌, false, true};
-ghost use Rattle.domain_label.specs.Low.{low_all};
+ghost use Rattle.domain_label.specs.Lowercase.{lowercase_labels};
 ghost use Rattle.domain_label.specs.Wire.{wire};
-ghost use Rattle.domain_name.proofs.Shapes.{flat_absolute};
+ghost use Rattle.domain_name.proofs.NameFields.{flat_absolute};
 ghost use Rattle.domain_name.specs.Names.{name_labels};
 ghost use Rattle.domain_rdata.specs.FlatNames.{flat_name_octets};
 ghost use Rattle.domain_rdata.specs.RecordData.{NameOctets};
@@ -159,7 +159,7 @@ impl<'a> RecordData for NameData<'a> {
 impl<'a> ComposeRecordData for NameData<'a> {
     ghost composed = { λ it c t s. NameOctets (name_labels it.name) c t s };
 
-    ghost canonical = { λ it. wire (low_all (name_labels it.name)) };
+    ghost canonical = { λ it. wire (lowercase_labels (name_labels it.name)) };
 
     ghost knows_len = { λ _ compress. if compress then false else true };
 

@@ -171,7 +171,7 @@ pub fn put_parsed_forms(out: &mut Answer, message: &[u8], place: usize) {
     }
 }
 
-/// `room MSG PLACE N`: what the name composes where there is room for N octets, then its flat twin, and then that
+/// `room MSG PLACE N`: what the name composes where there is room for N octets, then the same name as a `Name`, and then that
 /// without its root label.
 pub fn put_room(out: &mut Answer, message: &[u8], place: usize, room: usize) {
     let Some(name) = name_at(message, place) else {

@@ -94,7 +94,7 @@ fn put_read(out: &mut Answer, name: ParsedName<&[u8]>, place: usize) {
     is_flattened(out, name, flat.as_slice());
 }
 
-/// What a name in a message tells of its octets is what its flat twin tells.
+/// What a name in a message tells of its octets is what the same name as a `Name` tells.
 fn is_measured_as(out: &mut Answer, name: ParsedName<&[u8]>, flat: Name<&[u8]>) {
     let len = flat.len();
     out.agree(name.compose_len() as usize == len, b"compose_len");
@@ -109,7 +109,7 @@ fn is_measured_as(out: &mut Answer, name: ParsedName<&[u8]>, flat: Name<&[u8]>) 
     }
 }
 
-/// The labels of a name in a message are those of its flat twin.
+/// The labels of a name in a message are those of the same name as a `Name`.
 fn has_parts_of(out: &mut Answer, name: ParsedName<&[u8]>, flat: Name<&[u8]>) {
     out.agree(name.label_count() == flat.label_count(), b"label_count");
     out.same(name.first().as_slice(), flat.first().as_slice(), b"first");
@@ -185,7 +185,7 @@ fn put_walked(out: &mut Answer, name: ParsedName<&[u8]>) {
     put_numbers(out, name);
 }
 
-/// The flag and the flat wire form of a name in a message.
+/// The flag and the flat wire format of a name in a message.
 fn put_part_of(out: &mut Answer, name: ParsedName<&[u8]>) {
     match name.to_vec(out.alloc()) {
         Ok(flat) => {
@@ -245,7 +245,7 @@ fn put_firsts(out: &mut Answer, name: ParsedName<&[u8]>) {
     );
 }
 
-/// The counts, the texts and the canonical wire form.
+/// The counts, the texts and the canonical wire format.
 fn put_numbers(out: &mut Answer, name: ParsedName<&[u8]>) {
     out.put_number(name.label_count());
     out.put_text_behind(b" ", name.rrsig_label_count());
@@ -303,7 +303,7 @@ pub fn leave_out<Octs: Octets>(name: &mut ParsedName<Octs>, labels: usize) {
     }
 }
 
-/// `mixture MSG PLACE N CALLS`: without the first N labels, what calls on either end give, also on the flat twin.
+/// `mixture MSG PLACE N CALLS`: without the first N labels, what calls on either end give, also on the same name as a `Name`.
 pub fn put_mixture(out: &mut Answer, message: &[u8], place: usize, labels: usize, calls: &[u8]) {
     let Some(mut rest) = name_at(message, place) else {
         return out.fail(Fail::Bad);

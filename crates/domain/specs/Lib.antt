@@ -1,3 +1,47 @@
+pub use Rattle.octseq.specs.Parsing
+pub use Rattle.octseq.specs.Capacity
+pub use Rattle.domain_wire.specs.Refusals
+pub use Rattle.domain_wire.specs.Numbers
+pub use Rattle.domain_wire.specs.Addresses
+pub use Rattle.domain_wire.specs.Values
+pub use Rattle.domain_wire.specs.FixedLength
+pub use Rattle.domain_serial.specs.Serials
+pub use Rattle.domain_label.specs.Wire
+pub use Rattle.domain_label.specs.Lowercase
+pub use Rattle.domain_label.specs.Text
+pub use Rattle.domain_label.specs.Spelling
+pub use Rattle.domain_label.specs.LabelText
+pub use Rattle.domain_label.specs.Labels as LabelViews
+pub use Rattle.domain_reading.specs.Grammar
+pub use Rattle.domain_reading.specs.Faults
+pub use Rattle.domain_reading.specs.ParseResult
+pub use Rattle.domain_reading.specs.Touched
+pub use Rattle.domain_reading.specs.declared.fault.NameFault
+pub use Rattle.domain_list.specs.Order
+pub use Rattle.domain_list.specs.EqualSuffixes
+pub use Rattle.domain_list.specs.Ancestors
+pub use Rattle.domain_list.specs.Chains
+pub use Rattle.domain_list.specs.ChainParts
+pub use Rattle.domain_list.specs.Ends
+pub use Rattle.domain_list.specs.HashInput
+pub use Rattle.domain_list.specs.Count
+pub use Rattle.domain_builder.specs.BuilderState
+pub use Rattle.domain_builder.specs.TextGrammar
+pub use Rattle.domain_builder.specs.ErrorText
+pub use Rattle.domain_builder.specs.Pushing
+pub use Rattle.domain_flat.specs.Flat
+pub use Rattle.domain_flat.specs.Starts
+pub use Rattle.domain_flat.specs.Faults as FlatFaults
+pub use Rattle.domain_name.specs.Names
+pub use Rattle.domain_name.specs.Suffixes
+pub use Rattle.domain_name.specs.Builders
+pub use Rattle.domain_parsed.specs.ParsedNames as ParsedViews
+pub use Rattle.domain_rdata.specs.RecordData
+pub use Rattle.domain_rdata.specs.ReadBack
+pub use Rattle.domain_rdata.specs.AnyData
+pub use Rattle.domain_rdata.specs.Rtypes
+pub use Rattle.domain_rdata.specs.Unknown
+pub use Rattle.domain_compress.specs.Compressing
 pub use Rattle.domain_tool.specs.Engines
 pub use Rattle.domain_tool.specs.Lines
 pub use Rattle.domain_tool.specs.Words

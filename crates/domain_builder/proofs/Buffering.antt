@@ -4,7 +4,7 @@ use Rattle.std.proofs.Math.Seq.{take-add}
 use Rattle.std.proofs.lemmas.List.{take-set-le, drop-set-add, take_more_set, drop-set, length-take-le}
 use Rattle.domain_label.specs.Wire.{wire, labels_in, IsRelative, IsRelativeName, IsAbsoluteName, IsAbsoluteWire, IsRelativeWire, Root}
 use Rattle.domain_label.proofs.WireLaws.{labels_in_wire, wire_absolute, wire_relative, wire_append, relative_then_relative, relative_then_absolute}
-use Rattle.domain_builder.specs.Built.{Built, closed_with, closed, size, pushed, ended}
+use Rattle.domain_builder.specs.BuilderState.{BuilderState, closed_with, closed, size, pushed, ended}
 use Rattle.domain_builder.specs.Buffer.{buffer_view, IsBuffer}
 use Rattle.domain_builder.proofs.Sizes.{built, size_some, length-wire_more}
 
@@ -120,10 +120,10 @@ inside_headed s head n v i =
     }
 
 -- the octets once the open label is ended
-pub relative_octets : (s : List ℕ) (head n : ℕ) (b : Built) → IsBuffer s head n → buffer_view s head n ≡ ended b → take head s ≡ wire (closed b)
-relative_octets s head n b i e = sym i.wire ∙ ap (λ (x : Built). wire x.labels) e
+pub relative_octets : (s : List ℕ) (head n : ℕ) (b : BuilderState) → IsBuffer s head n → buffer_view s head n ≡ ended b → take head s ≡ wire (closed b)
+relative_octets s head n b i e = sym i.wire ∙ ap (λ (x : BuilderState). wire x.labels) e
 
-pub name_octets : (s : List ℕ) (head n : ℕ) (b : Built) → IsBuffer s head n → buffer_view s head n ≡ ended b → take (head + 1) (set s head 0) ≡ wire (closed b ++ Root)
+pub name_octets : (s : List ℕ) (head n : ℕ) (b : BuilderState) → IsBuffer s head n → buffer_view s head n ≡ ended b → take (head + 1) (set s head 0) ≡ wire (closed b ++ Root)
 name_octets s head n b i e =
     take_more_set s head 0 (omega (arith, i.whole, i.fits))
     ∙ ap (λ (x : List ℕ). x ++ 0 ∷ []) (relative_octets s head n b i e)
@@ -141,16 +141,16 @@ short_size s head (suc n) i = let some : 0 < suc n = omega arith in omega (arith
 pub is_relative : (s : List ℕ) (head n : ℕ) → IsBuffer s head n → IsRelativeName (closed (buffer_view s head n))
 is_relative s head n i = (closed_labels (labels_in (take head s)) (take n (drop (head + 1) s)) i.labels (omega (arith, length_open s head n i, i.label_short)), short_size s head n i)
 
-pub ended_relative : (s : List ℕ) (head n : ℕ) (b : Built) → IsBuffer s head n → buffer_view s head n ≡ ended b → IsRelativeName (closed b)
-ended_relative s head n b i e = subst (λ (x : Built). IsRelativeName (closed x)) e (is_relative s head n i)
+pub ended_relative : (s : List ℕ) (head n : ℕ) (b : BuilderState) → IsBuffer s head n → buffer_view s head n ≡ ended b → IsRelativeName (closed b)
+ended_relative s head n b i e = subst (λ (x : BuilderState). IsRelativeName (closed x)) e (is_relative s head n i)
 
 pub with_root : (ls : List (List ℕ)) → IsRelativeName ls → IsAbsoluteName (ls ++ Root)
 with_root ls r = (relative_then_absolute ls Root r.0 refl, omega (arith, length-wire_more ls [], r.1))
 
-pub ended_absolute : (s : List ℕ) (head n : ℕ) (b : Built) → IsBuffer s head n → buffer_view s head n ≡ ended b → IsAbsoluteName (closed b ++ Root)
+pub ended_absolute : (s : List ℕ) (head n : ℕ) (b : BuilderState) → IsBuffer s head n → buffer_view s head n ≡ ended b → IsAbsoluteName (closed b ++ Root)
 ended_absolute s head n b i e = with_root (closed b) (ended_relative s head n b i e)
 
--- octets that are the wire form of labels
+-- octets that are the wire format of labels
 pub absolute_made : (s : List ℕ) (ls : List (List ℕ)) → IsAbsoluteName ls → s ≡ wire ls → IsAbsoluteWire s
 absolute_made s ls n e = subst IsAbsoluteWire (sym e) (wire_absolute ls n)
 

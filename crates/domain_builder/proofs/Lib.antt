@@ -6,7 +6,7 @@ pub mod Reading
 pub mod Outcomes
 pub mod Building
 pub mod Pushes
-pub mod Spelled
+pub mod DisplayedIsRead
 pub mod PlainTexts
 pub mod Digits
 pub mod Reversing

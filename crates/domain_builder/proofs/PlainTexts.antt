@@ -12,21 +12,21 @@ use Rattle.domain_label.specs.Spelling.{Reads}
 use Rattle.domain_label.specs.Wire.{wire, labels_in, Root}
 use Rattle.domain_label.specs.declared.symbol.Symbol.TheVariants.{Char}
 use Rattle.domain_builder.specs.Buffer.{buffer_view, IsBuffer}
-use Rattle.domain_builder.specs.Built.{Built, nothing, closed, ended, refusal, Makes, StopsAt}
-use Rattle.domain_builder.specs.Parts.{parts, part}
+use Rattle.domain_builder.specs.BuilderState.{BuilderState, empty_state, closed, ended, symbol_fault, Makes, StopsAt}
+use Rattle.domain_builder.specs.NameSymbols.{name_symbols, name_symbol}
 use Rattle.domain_builder.specs.Plain.{IsPlain, IsPlainText}
-use Rattle.domain_builder.specs.TextGrammar.{IsOctet, AreOctets, CanBegin, IsLabelText, IsNameText, NameFault}
-use Rattle.domain_builder.specs.declared.part.Fault.{Fault}
-use Rattle.domain_builder.specs.declared.part.Fault.TheVariants.{EmptyLabel, LongLabel}
-use Rattle.domain_builder.specs.declared.part.Part.{Part}
-use Rattle.domain_builder.specs.declared.part.Part.TheVariants.{Dot}
+use Rattle.domain_builder.specs.TextGrammar.{IsOctet, AreOctets, CanBegin, IsLabelText, IsNameText, NotANameText}
+use Rattle.domain_builder.specs.declared.name_symbol.TextFault.{TextFault}
+use Rattle.domain_builder.specs.declared.name_symbol.TextFault.TheVariants.{EmptyLabel, LongLabel}
+use Rattle.domain_builder.specs.declared.name_symbol.NameSymbol.{NameSymbol}
+use Rattle.domain_builder.specs.declared.name_symbol.NameSymbol.TheVariants.{Dot}
 use Rattle.domain_builder.proofs.Buffering.{length_open, length_head, view_ended, inside_ended}
 use Rattle.domain_builder.proofs.Grammar.{makes-append, label_made}
 use Rattle.domain_builder.proofs.OneOutcome.{made_name, stopped_name}
 use Rattle.domain_builder.proofs.Outcomes.{same_items}
 use Rattle.domain_builder.proofs.Reading.{Item}
 use Rattle.domain_builder.proofs.Sizes.{built, size_some, long_label}
-use Rattle.domain_builder.proofs.Spelled.{char_part}
+use Rattle.domain_builder.proofs.DisplayedIsRead.{char_part}
 
 -- ---- what a plain text is read as
 
@@ -34,19 +34,19 @@ abbrev pub plain_items : List ℕ → List Item
 plain_items [] = []
 plain_items (c ∷ cs) = Ok (Char c) ∷ plain_items cs
 
-abbrev pub text_parts : List ℕ → List Part
-text_parts cs = parts (plain_items cs)
+abbrev pub text_parts : List ℕ → List NameSymbol
+text_parts cs = name_symbols (plain_items cs)
 
 reads_plain : (cs : List ℕ) → AllByRecursion IsPlain cs → Reads cs (plain_items cs)
 reads_plain [] p = refl
 reads_plain (c ∷ cs) p = (p.0.1, (cs, refl, reads_plain cs p.1))
 
-pub read_parts : (cs : List ℕ) (all : List Item) → AllByRecursion IsPlain cs → Reads cs all → parts all ≡ text_parts cs
-read_parts cs all p r = ap parts (same_items cs all r ∙ sym (same_items cs (plain_items cs) (reads_plain cs p)))
+pub read_parts : (cs : List ℕ) (all : List Item) → AllByRecursion IsPlain cs → Reads cs all → name_symbols all ≡ text_parts cs
+read_parts cs all p r = ap name_symbols (same_items cs all r ∙ sym (same_items cs (plain_items cs) (reads_plain cs p)))
 
 parts_joined : (xs ys : List ℕ) → text_parts (xs ++ ys) ≡ text_parts xs ++ text_parts ys
 parts_joined [] ys = refl
-parts_joined (x ∷ xs) ys = ap (λ (z : List Part). part (Ok (Char x)) ∷ z) (parts_joined xs ys)
+parts_joined (x ∷ xs) ys = ap (λ (z : List NameSymbol). name_symbol (Ok (Char x)) ∷ z) (parts_joined xs ys)
 
 -- ---- the octets of a label
 
@@ -69,10 +69,10 @@ all_front P (x ∷ xs) (suc n) a = (a.0, all_front P xs n a.1)
 
 are_octets : (l : List ℕ) → AllByRecursion IsInLabel l → AreOctets (text_parts l) l
 are_octets [] a = tt
-are_octets (c ∷ l) a = (subst (λ (p : Part). IsOctet p c) (sym (char_part c a.0.1 a.0.0.0)) refl, are_octets l a.1)
+are_octets (c ∷ l) a = (subst (λ (p : NameSymbol). IsOctet p c) (sym (char_part c a.0.1 a.0.0.0)) refl, are_octets l a.1)
 
-can_begin : (c : ℕ) (ps : List Part) → IsInLabel c → CanBegin (part (Ok (Char c)) ∷ ps)
-can_begin c ps i = subst (λ (p : Part). CanBegin (p ∷ ps)) (sym (char_part c i.1 i.0.0)) tt
+can_begin : (c : ℕ) (ps : List NameSymbol) → IsInLabel c → CanBegin (name_symbol (Ok (Char c)) ∷ ps)
+can_begin c ps i = subst (λ (p : NameSymbol). CanBegin (p ∷ ps)) (sym (char_part c i.1 i.0.0)) tt
 
 is_label_text : (l : List ℕ) → 0 < length l → length l ≤ 63 → AllByRecursion IsInLabel l → IsLabelText (text_parts l) l
 is_label_text [] some short a = absurd (omega arith)
@@ -87,7 +87,7 @@ pub record IsEnded (octets text : List ℕ) (head at : ℕ) : Type 0 where
   pub behind : take (length text - head) (drop (head + 1) octets) ≡ drop head text
   pub passed : head ≤ at
   pub inside : at ≤ length text
-  pub made : Makes nothing (text_parts (take head text)) (buffer_view octets head 0)
+  pub made : Makes empty_state (text_parts (take head text)) (buffer_view octets head 0)
   pub label : AllByRecursion IsInLabel (take (at - head) (drop head text))
 
 pub none_ended : (octets text : List ℕ) → length octets ≡ 255 → take (length text) (drop 1 octets) ≡ text → IsEnded octets text 0 0
@@ -148,18 +148,18 @@ label_opened octets text head at e short fits = made (at - head) refl
         (label_made (text_parts l) l ls (is_label_text l some (omega (arith, long, fits)) e.label) (omega (arith, size_some ls l some, small)))
 
 -- up to the place, all is made
-pub all_made : (octets text : List ℕ) (head at : ℕ) → IsEnded octets text head at → length text ≤ 253 → at - head ≤ 63 → Makes nothing (text_parts (take at text)) (buffer_view octets head (at - head))
+pub all_made : (octets text : List ℕ) (head at : ℕ) → IsEnded octets text head at → length text ≤ 253 → at - head ≤ 63 → Makes empty_state (text_parts (take at text)) (buffer_view octets head (at - head))
 all_made octets text head at e short fits =
-    subst (λ z. Makes nothing z (buffer_view octets head (at - head))) (sym (ap text_parts (up_to text head at e.passed) ∙ parts_joined (take head text) (take (at - head) (drop head text))))
-    (makes-append (text_parts (take head text)) (text_parts (take (at - head) (drop head text))) nothing (buffer_view octets head 0) (buffer_view octets head (at - head)) e.made (label_opened octets text head at e short fits))
+    subst (λ z. Makes empty_state z (buffer_view octets head (at - head))) (sym (ap text_parts (up_to text head at e.passed) ∙ parts_joined (take head text) (take (at - head) (drop head text))))
+    (makes-append (text_parts (take head text)) (text_parts (take (at - head) (drop head text))) empty_state (buffer_view octets head 0) (buffer_view octets head (at - head)) e.made (label_opened octets text head at e short fits))
 
 -- a dot ends the open label
-dot_taken : (ls : List (List ℕ)) (o : List ℕ) → 0 < length o → refusal (built ls o) Dot ≡ None
+dot_taken : (ls : List (List ℕ)) (o : List ℕ) → 0 < length o → symbol_fault (built ls o) Dot ≡ None
 dot_taken ls [] some = absurd (omega arith)
 dot_taken ls (c ∷ o) some = refl
 
-dot_part : (c : ℕ) → c ≡ 46 → part (Ok (Char c)) ≡ Dot
-dot_part c e = ap (λ x. part (Ok (Char x))) e
+dot_part : (c : ℕ) → c ≡ 46 → name_symbol (Ok (Char c)) ≡ Dot
+dot_part c e = ap (λ x. name_symbol (Ok (Char x))) e
 
 behind_dot : (octets text : List ℕ) (head at : ℕ) → IsEnded octets text head at → at < length text → take (length text - (at + 1)) (drop (at + 2) octets) ≡ drop (at + 1) text
 behind_dot octets text head at e more =
@@ -181,41 +181,41 @@ dot_ended octets text head at e short more dot some fits =
     let next : head + 1 + n ≡ at + 1 = omega (arith, e.passed) in
     let long : 0 < length (take n (drop (head + 1) octets)) = omega (arith, length_open octets head n o, some) in
     let view : buffer_view (set octets head n) (at + 1) 0 ≡ ended (buffer_view octets head n) = ap (λ i. buffer_view (set octets head n) i 0) (sym next) ∙ view_ended octets head n o (omega (arith, some)) in
-    let ends : Makes (buffer_view octets head n) (part (Ok (Char (get_or text at 0))) ∷ []) (buffer_view (set octets head n) (at + 1) 0) =
+    let ends : Makes (buffer_view octets head n) (name_symbol (Ok (Char (get_or text at 0))) ∷ []) (buffer_view (set octets head n) (at + 1) 0) =
     subst (λ p. Makes (buffer_view octets head n) (p ∷ []) (buffer_view (set octets head n) (at + 1) 0)) (sym (dot_part (get_or text at 0) dot)) (dot_taken (labels_in (take head octets)) (take n (drop (head + 1) octets)) long, view) in
     record {
       front = subst (λ i. IsBuffer (set octets head n) i 0) next (inside_ended octets head n o (omega (arith, some)));
       behind = ap (take (length text - (at + 1))) (drop-set-lt (at + 1 + 1) octets head n (omega (arith, e.passed)) ∙ (let k : at + 1 + 1 ≡ at + 2 = omega arith in ap (λ i. drop i octets) k)) ∙ behind_dot octets text head at e more;
       passed = omega arith;
       inside = omega (arith, more);
-      made = subst (λ z. Makes nothing z (buffer_view (set octets head n) (at + 1) 0)) (sym (ap text_parts (take_more text at 0 more) ∙ parts_joined (take at text) (get_or text at 0 ∷ [])))
-          (makes-append (text_parts (take at text)) (part (Ok (Char (get_or text at 0))) ∷ []) nothing (buffer_view octets head n) (buffer_view (set octets head n) (at + 1) 0) (all_made octets text head at e short fits) ends);
+      made = subst (λ z. Makes empty_state z (buffer_view (set octets head n) (at + 1) 0)) (sym (ap text_parts (take_more text at 0 more) ∙ parts_joined (take at text) (get_or text at 0 ∷ [])))
+          (makes-append (text_parts (take at text)) (name_symbol (Ok (Char (get_or text at 0))) ∷ []) empty_state (buffer_view octets head n) (buffer_view (set octets head n) (at + 1) 0) (all_made octets text head at e short fits) ends);
       label = (let k : at + 1 - (at + 1) ≡ 0 = omega arith in subst (λ i. AllByRecursion IsInLabel (take i (drop (at + 1) text))) (sym k) tt);
     }
 
 -- ---- faults
 
 -- a text is what is before a place, the character there, and the rest
-whole_at : (text : List ℕ) (at : ℕ) → at < length text → text_parts text ≡ text_parts (take at text) ++ part (Ok (Char (get_or text at 0))) ∷ text_parts (drop (at + 1) text)
+whole_at : (text : List ℕ) (at : ℕ) → at < length text → text_parts text ≡ text_parts (take at text) ++ name_symbol (Ok (Char (get_or text at 0))) ∷ text_parts (drop (at + 1) text)
 whole_at text at more =
     ap text_parts (sym (take-append-drop at text) ∙ ap (λ z. take at text ++ z) (drop_more text at 0 more)) ∙ parts_joined (take at text) (get_or text at 0 ∷ drop (at + 1) text)
 
 -- a dot where no label is open
-pub empty_label : (octets text : List ℕ) (head at : ℕ) → IsEnded octets text head at → length text ≤ 253 → at < length text → get_or text at 0 ≡ 46 → at ≡ head → (m : Built) × StopsAt nothing (text_parts text) m EmptyLabel
+pub empty_label : (octets text : List ℕ) (head at : ℕ) → IsEnded octets text head at → length text ≤ 253 → at < length text → get_or text at 0 ≡ 46 → at ≡ head → (m : BuilderState) × StopsAt empty_state (text_parts text) m EmptyLabel
 empty_label octets text head at e short more dot same = (
   buffer_view octets head 0,
   record {
     before = text_parts (take at text);
-    part = part (Ok (Char (get_or text at 0)));
+    part = name_symbol (Ok (Char (get_or text at 0)));
     rest = text_parts (drop (at + 1) text);
     parts = whole_at text at more;
-    made = subst (λ i. Makes nothing (text_parts (take i text)) (buffer_view octets head 0)) (sym same) e.made;
-    refused = ap (refusal (buffer_view octets head 0)) (dot_part (get_or text at 0) dot);
+    made = subst (λ i. Makes empty_state (text_parts (take i text)) (buffer_view octets head 0)) (sym same) e.made;
+    refused = ap (symbol_fault (buffer_view octets head 0)) (dot_part (get_or text at 0) dot);
   },
 )
 
 -- the 64th octet of a label
-pub long_label_there : (octets text : List ℕ) (head at : ℕ) → IsEnded octets text head at → length text ≤ 253 → 63 < at - head → (m : Built) × StopsAt nothing (text_parts text) m LongLabel
+pub long_label_there : (octets text : List ℕ) (head at : ℕ) → IsEnded octets text head at → length text ≤ 253 → 63 < at - head → (m : BuilderState) × StopsAt empty_state (text_parts text) m LongLabel
 long_label_there octets text head at e short long =
     let to : ℕ = head + 63 in
     let inside : to < length text = omega (arith, e.passed, e.inside, long) in
@@ -240,11 +240,11 @@ long_label_there octets text head at e short long =
       buffer_view octets head 63,
       record {
         before = text_parts (take to text);
-        part = part (Ok (Char c));
+        part = name_symbol (Ok (Char c));
         rest = text_parts (drop (to + 1) text);
         parts = whole_at text to inside;
-        made = subst (λ i. Makes nothing (text_parts (take to text)) (buffer_view octets head i)) k (all_made octets text head to f short (omega (arith, k)));
-        refused = ap (refusal (buffer_view octets head 63)) (char_part c here.1 here.0.0) ∙ long_label (built ls (w ++ c ∷ [])) (omega (arith, size_some ls (w ++ c ∷ []) some, size)) (omega (arith, n));
+        made = subst (λ i. Makes empty_state (text_parts (take to text)) (buffer_view octets head i)) k (all_made octets text head to f short (omega (arith, k)));
+        refused = ap (symbol_fault (buffer_view octets head 63)) (char_part c here.1 here.0.0) ∙ long_label (built ls (w ++ c ∷ [])) (omega (arith, size_some ls (w ++ c ∷ []) some, size)) (omega (arith, n));
       },
     )
   where
@@ -256,10 +256,10 @@ long_label_there octets text head at e short long =
 pub whole_made : (octets text : List ℕ) (head at : ℕ) → IsEnded octets text head at → length text ≤ at → IsEnded octets text head (length text)
 whole_made octets text head at e end = let k : at ≡ length text = omega (arith, e.inside, end) in subst (IsEnded octets text head) k e
 
-pub all_read : (octets text : List ℕ) (head at : ℕ) → IsEnded octets text head at → length text ≤ at → length text ≤ 253 → length text - head ≤ 63 → Makes nothing (text_parts text) (buffer_view octets head (length text - head))
+pub all_read : (octets text : List ℕ) (head at : ℕ) → IsEnded octets text head at → length text ≤ at → length text ≤ 253 → length text - head ≤ 63 → Makes empty_state (text_parts text) (buffer_view octets head (length text - head))
 all_read octets text head at e end short fits =
     let all : take (length text) text ≡ text = grind (arith, common_steps) in
-    subst (λ t. Makes nothing (text_parts t) (buffer_view octets head (length text - head))) all
+    subst (λ t. Makes empty_state (text_parts t) (buffer_view octets head (length text - head))) all
     (all_made octets text head (length text) (whole_made octets text head at e end) short fits)
 
 pub all_inside : (octets text : List ℕ) (head at : ℕ) → IsEnded octets text head at → length text ≤ 253 → length text - head ≤ 63 → IsBuffer octets head (length text - head)
@@ -279,11 +279,11 @@ items_long [] = refl
 items_long (c ∷ cs) = ap suc (items_long cs)
 
 -- a plain text is that of a name, or has a fault
-pub plain_name : (text : List ℕ) (all : List Item) (b : Built) (r : Result (Unit {0}) Fault) → IsPlainText text → Reads text all → MatchResult r (λ _. Makes nothing (parts all) b) (λ f. (m : Built) × StopsAt nothing (parts all) m f) → MatchResult r (λ _. IsNameText (parts all) (closed b ++ Root)) (λ f. NameFault (parts all) f)
+pub plain_name : (text : List ℕ) (all : List Item) (b : BuilderState) (r : Result (Unit {0}) TextFault) → IsPlainText text → Reads text all → MatchResult r (λ _. Makes empty_state (name_symbols all) b) (λ f. (m : BuilderState) × StopsAt empty_state (name_symbols all) m f) → MatchResult r (λ _. IsNameText (name_symbols all) (closed b ++ Root)) (λ f. NotANameText (name_symbols all) f)
 plain_name text all b r p h m =
-    let long : length (parts all) ≡ length text = ap length (read_parts text all p.plain h) ∙ items_long text in
+    let long : length (name_symbols all) ≡ length text = ap length (read_parts text all p.plain h) ∙ items_long text in
     named r m (omega (arith, long, p.some))
   where
-    named : (r : Result (Unit {0}) Fault) → MatchResult r (λ _. Makes nothing (parts all) b) (λ f. (m : Built) × StopsAt nothing (parts all) m f) → 1 < length (parts all) → MatchResult r (λ _. IsNameText (parts all) (closed b ++ Root)) (λ f. NameFault (parts all) f)
-    named (Ok u) g long = made_name (parts all) b (omega (arith, long)) g
-    named (Err f) s long = stopped_name (parts all) s.0 f (λ alone. absurd (omega (arith, ap length alone, long))) s.1
+    named : (r : Result (Unit {0}) TextFault) → MatchResult r (λ _. Makes empty_state (name_symbols all) b) (λ f. (m : BuilderState) × StopsAt empty_state (name_symbols all) m f) → 1 < length (name_symbols all) → MatchResult r (λ _. IsNameText (name_symbols all) (closed b ++ Root)) (λ f. NotANameText (name_symbols all) f)
+    named (Ok u) g long = made_name (name_symbols all) b (omega (arith, long)) g
+    named (Err f) s long = stopped_name (name_symbols all) s.0 f (λ alone. absurd (omega (arith, ap length alone, long))) s.1

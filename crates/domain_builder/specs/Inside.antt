@@ -1,11 +1,11 @@
 -- What the fields of a name builder mean.
 use Rattle.std.specs.Prelude.{◌≡◌, ℕ, ◌+◌, ◌-◌, ◌≤◌, List, [], ◌∷◌, length, take, drop, slice_set, Option, None, Some}
 use Rattle.domain_label.specs.Wire.{wire, labels_in, IsRelative}
-use Rattle.domain_builder.specs.Built.{Built, shown}
+use Rattle.domain_builder.specs.BuilderState.{BuilderState, encoded}
 
 -- What a builder has built, and how many octets fit in all without new memory.
 pub record Held : Type 0 where
-  pub built : Built
+  pub built : BuilderState
   pub capacity : ℕ
 
 -- How many octets fit without new memory: as many as are fixed for the type, else as there is room for now.
@@ -14,12 +14,12 @@ room None held = held.capacity
 room (Some n) held = n
 
 -- What octets and the place of an open label's length octet say.
-abbrev pub view_of : List ℕ → Option ℕ → Built
+abbrev pub view_of : List ℕ → Option ℕ → BuilderState
 view_of s None = record { labels = labels_in s; open_label = [] }
 view_of s (Some h) = record { labels = labels_in (take h s); open_label = drop (h + 1) s }
 
 -- The place of the open label's length octet.
-abbrev pub head_of : Built → Option ℕ
+abbrev pub head_of : BuilderState → Option ℕ
 head_of b = place (length (wire b.labels)) b.open_label
   where
     place : ℕ → List ℕ → Option ℕ
@@ -33,7 +33,7 @@ closed_at s (Some h) n = slice_set s h (n - h - 1)
 
 -- The octets are those of the labels.
 pub record IsInside (s : List ℕ) (h : Option ℕ) : Type 0 where
-  pub octets : s ≡ shown (view_of s h)
+  pub octets : s ≡ encoded (view_of s h)
   pub head : h ≡ head_of (view_of s h)
   pub labels : IsRelative (view_of s h).labels
   pub label_short : length (view_of s h).open_label ≤ 63

@@ -1,11 +1,11 @@
-pub mod Built
-pub mod Parts
+pub mod BuilderState
+pub mod NameSymbols
 pub mod Plain
 pub mod TextGrammar
-pub mod Texts
+pub mod ErrorText
 pub mod Laws
 pub mod Buffer
-pub mod Told
+pub mod TextErrors
 pub mod Inside
 pub mod Pushing
 pub mod Reverse

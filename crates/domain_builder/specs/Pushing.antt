@@ -1,12 +1,12 @@
 -- When a builder refuses octets.
 use Rattle.std.specs.Prelude.{◌≡◌, ◌≢◌, ℕ, ◌<◌, ◌≤◌, Some, None, Result, Ok, Err, MatchResult, List}
-use Rattle.domain_builder.specs.Built.{Built, size, refusal, after, Makes, StopsAt, LacksRoom}
-use Rattle.domain_builder.specs.Told.{MatchFromStr}
+use Rattle.domain_builder.specs.BuilderState.{BuilderState, size, symbol_fault, after, Makes, StopsAt, LacksRoom}
+use Rattle.domain_builder.specs.TextErrors.{MatchFromStr}
 use Rattle.domain_builder.specs.declared.error.FromStrError.{FromStrError}
 use Rattle.domain_builder.specs.declared.error.FromStrError.TheVariants as short
-use Rattle.domain_builder.specs.declared.part.Fault.TheVariants as fault
-use Rattle.domain_builder.specs.declared.part.Part.{Part}
-use Rattle.domain_builder.specs.declared.part.Part.TheVariants.{Dot}
+use Rattle.domain_builder.specs.declared.name_symbol.TextFault.TheVariants as fault
+use Rattle.domain_builder.specs.declared.name_symbol.NameSymbol.{NameSymbol}
+use Rattle.domain_builder.specs.declared.name_symbol.NameSymbol.TheVariants.{Dot}
 use Rattle.domain_builder.specs.declared.push_error.PushNameError.{PushNameError}
 use Rattle.domain_builder.specs.declared.push_error.PushNameError.TheVariants as name
 use Rattle.domain_builder.specs.declared.push_error.PushError.{PushError}
@@ -38,14 +38,14 @@ NameAlone whole room r =
 
 -- A part of a text is taken, or nothing changes: it is refused, or else what it makes doesn't fit. A dot
 -- takes no room.
-abbrev pub TakesPart : (room : ℕ) → Built → Part → Result (Unit {0}) FromStrError → Built → Type 0
-TakesPart room b p r new =
-    MatchResult r (λ _. (refusal b p ≡ None) × (new ≡ after b p))
-    (λ e. (new ≡ b) × MatchFromStr e (λ f. refusal b p ≡ Some f) ((refusal b p ≡ None) × (p ≢ Dot) × (room < size (after b p))))
+abbrev pub TakesSymbol : (room : ℕ) → BuilderState → NameSymbol → Result (Unit {0}) FromStrError → BuilderState → Type 0
+TakesSymbol room b p r new =
+    MatchResult r (λ _. (symbol_fault b p ≡ None) × (new ≡ after b p))
+    (λ e. (new ≡ b) × MatchFromStr e (λ f. symbol_fault b p ≡ Some f) ((symbol_fault b p ≡ None) × (p ≢ Dot) × (room < size (after b p))))
 
 -- Parts are taken in turn, up to the first that is refused or doesn't fit. What those before it made stays.
-abbrev pub TakesParts : (room : ℕ) → Built → List Part → Result (Unit {0}) FromStrError → Built → Type 0
-TakesParts room b ps r new =
+abbrev pub TakesSymbols : (room : ℕ) → BuilderState → List NameSymbol → Result (Unit {0}) FromStrError → BuilderState → Type 0
+TakesSymbols room b ps r new =
     MatchResult r (λ _. Makes b ps new) (λ e. MatchFromStr e (StopsAt b ps new) (LacksRoom room b ps new))
 
 -- What a refusal of octets is told as, where the octets are those of a text.
@@ -54,6 +54,7 @@ PushTold LongLabel e = MatchFromStr e (λ f. f ≡ fault.LongLabel) ⊥
 PushTold LongName e = MatchFromStr e (λ f. f ≡ fault.LongName) ⊥
 PushTold ShortBuf e = e ≡ short.ShortBuf
 
+-- The same of a refusal to add a name.
 abbrev pub PushNameTold : PushNameError → FromStrError → Type 0
 PushNameTold name.LongName e = MatchFromStr e (λ f. f ≡ fault.LongName) ⊥
 PushNameTold name.ShortBuf e = e ≡ short.ShortBuf

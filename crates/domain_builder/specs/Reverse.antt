@@ -19,6 +19,7 @@ nibbles c = (digit_glyph true (c % 16) ∷ []) ∷ (digit_glyph true (c / 16 % 1
 abbrev pub ipv6_name : List ℕ → List (List ℕ)
 ipv6_name octets = flat_map nibbles (reverse octets) ++ codes "ip6" ∷ codes "arpa" ∷ Root
 
+-- The name under which an address is looked up.
 abbrev pub reverse_name : IpAddr → List (List ℕ)
 reverse_name (V4 addr) = ipv4_name (ipv4_octets addr)
 reverse_name (V6 addr) = ipv6_name (ipv6_octets addr)

@@ -5,44 +5,44 @@ ghost use Rattle.std.specs.Str.{chars};
 ghost use Rattle.domain_label.specs.declared.symbol.Symbol.{Symbol};
 ghost use Rattle.domain_label.specs.declared.symbol.SymbolCharsError.{SymbolCharsError};
 ghost use Rattle.domain_label.specs.Spelling.{Reads};
-ghost use Rattle.domain_builder.specs.Parts.{parts, symbol_part, symbol_parts};
-ghost use Rattle.domain_builder.specs.Pushing.{TakesPart, TakesParts};
+ghost use Rattle.domain_builder.specs.NameSymbols.{name_symbols, symbol_in_name, symbols_in_name};
+ghost use Rattle.domain_builder.specs.Pushing.{TakesSymbol, TakesSymbols};
 ghost use Rattle.domain_builder.specs.Inside.{room};
 
 use crate::error::FromStrError;
 use crate::labels::LabelsBuilder;
-use crate::part::{Fault, Part, part_of};
+use crate::name_symbol::{NameSymbol, TextFault, name_symbol_of};
 use domain_label::scan::{Symbol, SymbolCharsError, Symbols, WholeSymbols};
 use octseq::{OctetsBuilder, OctetsMut};
 
 impl<B: OctetsBuilder + OctetsMut> LabelsBuilder<B> {
     /// Adds a part of a text: a dot ends the open label.
-    fn push_part(&mut self, part: Part) -> Result<(), FromStrError>
-        ensures takes { TakesPart (room B.limit self.new) self.old.built part result self.new.built }
+    fn push_name_symbol(&mut self, part: NameSymbol) -> Result<(), FromStrError>
+        ensures takes { TakesSymbol (room B.limit self.new) self.old.built part result self.new.built }
         ensures capacity { self.old.capacity ≤ self.new.capacity }
     {
         match part {
-            Part::Octet(octet) => match self.push(octet) {
+            NameSymbol::Octet(octet) => match self.push(octet) {
                 Ok(()) => Ok(()),
                 Err(e) => Err(e.into()),
             },
-            Part::Dot => {
+            NameSymbol::Dot => {
                 if !self.in_label() {
-                    return Err(Fault::EmptyLabel.into());
+                    return Err(TextFault::EmptyLabel.into());
                 }
                 self.end_label();
                 Ok(())
             }
-            Part::Bracket => {
+            NameSymbol::Bracket => {
                 if !self.in_label() {
-                    return Err(Fault::BinaryLabel.into());
+                    return Err(TextFault::BinaryLabel.into());
                 }
                 match self.push(b'[') {
                     Ok(()) => Ok(()),
                     Err(e) => Err(e.into()),
                 }
             }
-            Part::Nothing(fault) => Err(fault.into()),
+            NameSymbol::Nothing(fault) => Err(fault.into()),
         }
     }
 
@@ -52,10 +52,10 @@ impl<B: OctetsBuilder + OctetsMut> LabelsBuilder<B> {
     /// `\[` where none is open; `BadSymbol` at a character that stands for no octet; else the refusals of
     /// `push`. A refused call changes nothing.
     pub fn push_symbol(&mut self, symbol: Symbol) -> Result<(), FromStrError>
-        ensures takes { TakesPart (room B.limit self.new) self.old.built (symbol_part symbol) result self.new.built }
+        ensures takes { TakesSymbol (room B.limit self.new) self.old.built (symbol_in_name symbol) result self.new.built }
         ensures capacity { self.old.capacity ≤ self.new.capacity }
     {
-        self.push_part(part_of(Ok(symbol)))
+        self.push_name_symbol(name_symbol_of(Ok(symbol)))
     }
 
     /// Pushes what is read of a text in turn, up to the first part that is refused.
@@ -66,11 +66,11 @@ impl<B: OctetsBuilder + OctetsMut> LabelsBuilder<B> {
         requires can { I.can_next items }
         requires ends { IsFinite (I.remaining items) }
         ensures takes { (all : List (Result Symbol SymbolCharsError)) → AlwaysYields I.next_gives (λ x. x) items all →
-            TakesParts (room B.limit self.new) self.old.built (parts all) result self.new.built }
+            TakesSymbols (room B.limit self.new) self.old.built (name_symbols all) result self.new.built }
         ensures capacity { self.old.capacity ≤ self.new.capacity }
     {
         for item in items {
-            match self.push_part(part_of(item)) {
+            match self.push_name_symbol(name_symbol_of(item)) {
                 Ok(()) => {}
                 Err(e) => return Err(e),
             }
@@ -89,7 +89,7 @@ impl<B: OctetsBuilder + OctetsMut> LabelsBuilder<B> {
         requires can { I.can_next chars }
         requires ends { IsFinite (I.remaining chars) }
         ensures takes { (cs : List ℕ) (items : List (Result Symbol SymbolCharsError)) → AlwaysYields I.next_gives (λ c. c) chars cs → Reads cs items →
-            TakesParts (room B.limit self.new) self.old.built (parts items) result self.new.built }
+            TakesSymbols (room B.limit self.new) self.old.built (name_symbols items) result self.new.built }
         ensures capacity { self.old.capacity ≤ self.new.capacity }
     {
         self.append_items(Symbols::new(chars))
@@ -103,7 +103,7 @@ impl<B: OctetsBuilder + OctetsMut> LabelsBuilder<B> {
         requires can { I.can_next symbols }
         requires ends { IsFinite (I.remaining symbols) }
         ensures takes { (ss : List Symbol) → AlwaysYields I.next_gives (λ x. x) symbols ss →
-            TakesParts (room B.limit self.new) self.old.built (symbol_parts ss) result self.new.built }
+            TakesSymbols (room B.limit self.new) self.old.built (symbols_in_name ss) result self.new.built }
         ensures capacity { self.old.capacity ≤ self.new.capacity }
     {
         self.append_items(WholeSymbols::new(symbols))
@@ -112,7 +112,7 @@ impl<B: OctetsBuilder + OctetsMut> LabelsBuilder<B> {
     /// Pushes the symbols of a text in turn, as `append_chars` does those of its characters.
     pub fn append_str(&mut self, text: &str) -> Result<(), FromStrError>
         ensures takes { (items : List (Result Symbol SymbolCharsError)) → Reads (chars text.now) items →
-            TakesParts (room B.limit self.new) self.old.built (parts items) result self.new.built }
+            TakesSymbols (room B.limit self.new) self.old.built (name_symbols items) result self.new.built }
         ensures capacity { self.old.capacity ≤ self.new.capacity }
     {
         self.append_chars(text.chars())

@@ -6,12 +6,12 @@ ghost use Rattle.domain_label.specs.declared.symbol.SymbolCharsError.{SymbolChar
 ghost use Rattle.domain_label.specs.Spelling.{Reads};
 ghost use Rattle.domain_label.specs.Wire.{wire, Root, IsAbsoluteName, IsRelativeName};
 ghost use Rattle.domain_builder.specs.Plain.{IsPlainText};
-ghost use Rattle.domain_builder.specs.Built.{Built, nothing, closed, size, pushed, ended, too_long, refusal, after, Makes, StopsAt};
+ghost use Rattle.domain_builder.specs.BuilderState.{BuilderState, empty_state, closed, size, pushed, ended, too_long, symbol_fault, after, Makes, StopsAt};
 ghost use Rattle.domain_builder.specs.Buffer.{buffer_view, IsBuffer};
-ghost use Rattle.domain_builder.specs.Parts.{parts};
-ghost use Rattle.octseq.specs.Room.{MayLackRoom};
+ghost use Rattle.domain_builder.specs.NameSymbols.{name_symbols};
+ghost use Rattle.octseq.specs.Capacity.{MayExceedCapacity};
 
-use crate::part::{Fault, Part, part_of};
+use crate::name_symbol::{NameSymbol, TextFault, name_symbol_of};
 use domain_label::scan::{Symbol, SymbolCharsError};
 use octseq::{EmptyBuilder, FromBuilder, OctetsBuilder, ShortBuf};
 use std::alloc::Global;
@@ -36,10 +36,10 @@ pub(crate) struct NameBuffer {
 }
 
 impl Model for NameBuffer {
-    ghost use Rattle.domain_builder.specs.Built.{Built};
+    ghost use Rattle.domain_builder.specs.BuilderState.{BuilderState};
     ghost use Rattle.domain_builder.specs.Buffer.{buffer_view, IsBuffer};
 
-    ghost Value = { Built };
+    ghost Value = { BuilderState };
 
     ghost view = { λ s. buffer_view s.octets s.ends.head s.ends.open_len };
 
@@ -48,19 +48,19 @@ impl Model for NameBuffer {
 
 /// Adds an octet to the open label, or opens one.
 #[inline(always)]
-fn push(octets: &mut [u8; 255], ends: &mut Ends, c: u8) -> Result<(), Fault>
+fn push(octets: &mut [u8; 255], ends: &mut Ends, c: u8) -> Result<(), TextFault>
     requires inside { IsBuffer octets.old ends.old.head ends.old.open_len }
     ensures inside { IsBuffer octets.new ends.new.head ends.new.open_len }
     ensures taken { OnOk result (too_long (pushed (buffer_view octets.old ends.old.head ends.old.open_len) (c ∷ [])) ≡ None) }
     ensures made { OnOk result (buffer_view octets.new ends.new.head ends.new.open_len ≡ pushed (buffer_view octets.old ends.old.head ends.old.open_len) (c ∷ [])) }
-    ensures refused { IfErr result (λ f. too_long (pushed (buffer_view octets.old ends.old.head ends.old.open_len) (c ∷ [])) ≡ Some f) }
-    ensures kept { OnErr result (buffer_view octets.new ends.new.head ends.new.open_len ≡ buffer_view octets.old ends.old.head ends.old.open_len) }
+    ensures err { IfErr result (λ f. too_long (pushed (buffer_view octets.old ends.old.head ends.old.open_len) (c ∷ [])) ≡ Some f) }
+    ensures unchanged { OnErr result (buffer_view octets.new ends.new.head ends.new.open_len ≡ buffer_view octets.old ends.old.head ends.old.open_len) }
 {
     if ends.head + ends.open_len > 252 {
-        return Err(Fault::LongName);
+        return Err(TextFault::LongName);
     }
     if ends.open_len >= 63 {
-        return Err(Fault::LongLabel);
+        return Err(TextFault::LongLabel);
     }
     octets[ends.head + 1 + ends.open_len] = c;
     ends.open_len += 1;
@@ -83,51 +83,51 @@ fn end_open(octets: &mut [u8; 255], ends: &mut Ends)
 
 /// Adds a part of a text: a dot ends the open label.
 #[inline(always)]
-fn add_part(octets: &mut [u8; 255], ends: &mut Ends, part: Part) -> Result<(), Fault>
+fn add_symbol(octets: &mut [u8; 255], ends: &mut Ends, part: NameSymbol) -> Result<(), TextFault>
     requires inside { IsBuffer octets.old ends.old.head ends.old.open_len }
     ensures inside { IsBuffer octets.new ends.new.head ends.new.open_len }
-    ensures taken { OnOk result (refusal (buffer_view octets.old ends.old.head ends.old.open_len) part ≡ None) }
+    ensures taken { OnOk result (symbol_fault (buffer_view octets.old ends.old.head ends.old.open_len) part ≡ None) }
     ensures made { OnOk result (buffer_view octets.new ends.new.head ends.new.open_len ≡ after (buffer_view octets.old ends.old.head ends.old.open_len) part) }
-    ensures refused { IfErr result (λ f. refusal (buffer_view octets.old ends.old.head ends.old.open_len) part ≡ Some f) }
-    ensures kept { OnErr result (buffer_view octets.new ends.new.head ends.new.open_len ≡ buffer_view octets.old ends.old.head ends.old.open_len) }
+    ensures err { IfErr result (λ f. symbol_fault (buffer_view octets.old ends.old.head ends.old.open_len) part ≡ Some f) }
+    ensures unchanged { OnErr result (buffer_view octets.new ends.new.head ends.new.open_len ≡ buffer_view octets.old ends.old.head ends.old.open_len) }
 {
     match part {
-        Part::Octet(c) => push(octets, ends, c),
-        Part::Dot => {
+        NameSymbol::Octet(c) => push(octets, ends, c),
+        NameSymbol::Dot => {
             if ends.open_len == 0 {
-                return Err(Fault::EmptyLabel);
+                return Err(TextFault::EmptyLabel);
             }
             end_open(octets, ends);
             Ok(())
         }
-        Part::Bracket => {
+        NameSymbol::Bracket => {
             if ends.open_len == 0 {
-                return Err(Fault::BinaryLabel);
+                return Err(TextFault::BinaryLabel);
             }
             push(octets, ends, b'[')
         }
-        Part::Nothing(fault) => Err(fault),
+        NameSymbol::Nothing(fault) => Err(fault),
     }
 }
 
 /// Ends the labels of a plain text that lies behind the place of the first length octet. A label's length takes
 /// the place of the dot before it.
 #[inline(always)]
-fn end_plain(octets: &mut [u8; 255], text: &[u8]) -> Result<Ends, Fault>
+fn end_plain(octets: &mut [u8; 255], text: &[u8]) -> Result<Ends, TextFault>
     requires plain { IsPlainText text.now }
     requires there { take (length text.now) (drop 1 octets.old) ≡ text.now }
     ensures inside { IfOk result (λ ends. IsBuffer octets.new ends.head ends.open_len) }
     ensures read { (all : List (Result Symbol SymbolCharsError)) → Reads text.now all →
-        MatchResult result (λ ends. Makes nothing (parts all) (buffer_view octets.new ends.head ends.open_len)) (λ f. (built : Built) × StopsAt nothing (parts all) built f) }
+        MatchResult result (λ ends. Makes empty_state (name_symbols all) (buffer_view octets.new ends.head ends.open_len)) (λ f. (built : BuilderState) × StopsAt empty_state (name_symbols all) built f) }
 {
     let mut head = 0;
     for i in 0..text.len() {
         if text[i] == b'.' {
             if i == head {
-                return Err(Fault::EmptyLabel); // No label stands before this dot.
+                return Err(TextFault::EmptyLabel); // No label stands before this dot.
             }
             if i - head > 63 {
-                return Err(Fault::LongLabel);
+                return Err(TextFault::LongLabel);
             }
             octets[head] = (i - head) as u8;
             head = i + 1;
@@ -135,27 +135,27 @@ fn end_plain(octets: &mut [u8; 255], text: &[u8]) -> Result<Ends, Fault>
     }
     let open_len = text.len() - head;
     if open_len > 63 {
-        return Err(Fault::LongLabel);
+        return Err(TextFault::LongLabel);
     }
     Ok(Ends { head, open_len })
 }
 
 /// Adds what is read of a text, up to the first part that is refused.
 #[inline(always)]
-fn add_parts<I: Iterator<Item = Result<Symbol, SymbolCharsError>> + Drop>(
+fn add_symbols<I: Iterator<Item = Result<Symbol, SymbolCharsError>> + Drop>(
     octets: &mut [u8; 255],
     ends: &mut Ends,
     items: I,
-) -> Result<(), Fault>
+) -> Result<(), TextFault>
     requires inside { IsBuffer octets.old ends.old.head ends.old.open_len }
     requires can { I.can_next items }
     requires ends { IsFinite (I.remaining items) }
     ensures inside { IsBuffer octets.new ends.new.head ends.new.open_len }
     ensures read { (all : List (Result Symbol SymbolCharsError)) → AlwaysYields I.next_gives (λ x. x) items all →
-        MatchResult result (λ _. Makes (buffer_view octets.old ends.old.head ends.old.open_len) (parts all) (buffer_view octets.new ends.new.head ends.new.open_len)) (λ f. StopsAt (buffer_view octets.old ends.old.head ends.old.open_len) (parts all) (buffer_view octets.new ends.new.head ends.new.open_len) f) }
+        MatchResult result (λ _. Makes (buffer_view octets.old ends.old.head ends.old.open_len) (name_symbols all) (buffer_view octets.new ends.new.head ends.new.open_len)) (λ f. StopsAt (buffer_view octets.old ends.old.head ends.old.open_len) (name_symbols all) (buffer_view octets.new ends.new.head ends.new.open_len) f) }
 {
     for item in items {
-        match add_part(octets, ends, part_of(item)) {
+        match add_symbol(octets, ends, name_symbol_of(item)) {
             Ok(()) => {}
             Err(fault) => return Err(fault),
         }
@@ -167,7 +167,7 @@ impl NameBuffer {
     /// A buffer without labels.
     #[inline(always)]
     pub(crate) fn new() -> Self
-        ensures { result ≡ nothing }
+        ensures { result ≡ empty_state }
     {
         NameBuffer {
             octets: [0; 255],
@@ -203,38 +203,38 @@ impl NameBuffer {
 
     /// Adds a part of a text: a dot ends the open label.
     #[inline(always)]
-    pub(crate) fn push_part(&mut self, part: Part) -> Result<(), Fault>
-        ensures taken { OnOk result (refusal self.old part ≡ None) }
+    pub(crate) fn push_name_symbol(&mut self, part: NameSymbol) -> Result<(), TextFault>
+        ensures taken { OnOk result (symbol_fault self.old part ≡ None) }
         ensures made { OnOk result (self.new ≡ after self.old part) }
-        ensures refused { IfErr result (λ f. refusal self.old part ≡ Some f) }
-        ensures kept { OnErr result (self.new ≡ self.old) }
+        ensures err { IfErr result (λ f. symbol_fault self.old part ≡ Some f) }
+        ensures unchanged { OnErr result (self.new ≡ self.old) }
     {
-        add_part(&mut self.octets, &mut self.ends, part)
+        add_symbol(&mut self.octets, &mut self.ends, part)
     }
 
     /// Adds what is read of a text, up to the first part that is refused.
     #[inline(always)]
-    pub(crate) fn push_parts<I: Iterator<Item = Result<Symbol, SymbolCharsError>> + Drop>(
+    pub(crate) fn push_name_symbols<I: Iterator<Item = Result<Symbol, SymbolCharsError>> + Drop>(
         &mut self,
         items: I,
-    ) -> Result<(), Fault>
+    ) -> Result<(), TextFault>
         requires can { I.can_next items }
         requires ends { IsFinite (I.remaining items) }
         ensures { (all : List (Result Symbol SymbolCharsError)) → AlwaysYields I.next_gives (λ x. x) items all →
-            MatchResult result (λ _. Makes self.old (parts all) self.new) (λ f. StopsAt self.old (parts all) self.new f) }
+            MatchResult result (λ _. Makes self.old (name_symbols all) self.new) (λ f. StopsAt self.old (name_symbols all) self.new f) }
     {
         let mut ends = self.ends;
-        let read = add_parts(&mut self.octets, &mut ends, items);
+        let read = add_symbols(&mut self.octets, &mut ends, items);
         self.ends = ends;
         read
     }
 
     /// Reads a plain text. What the buffer held before is gone.
     #[inline(always)]
-    pub(crate) fn read_plain(&mut self, text: &[u8]) -> Result<(), Fault>
+    pub(crate) fn read_plain(&mut self, text: &[u8]) -> Result<(), TextFault>
         requires plain { IsPlainText text.now }
         ensures { (all : List (Result Symbol SymbolCharsError)) → Reads text.now all →
-            MatchResult result (λ _. Makes nothing (parts all) self.new) (λ f. (built : Built) × StopsAt nothing (parts all) built f) }
+            MatchResult result (λ _. Makes empty_state (name_symbols all) self.new) (λ f. (built : BuilderState) × StopsAt empty_state (name_symbols all) built f) }
     {
         self.ends = Ends {
             head: 0,
@@ -263,7 +263,7 @@ impl NameBuffer {
         }
     }
 
-    /// Appends the wire form of the labels and the root, in one piece.
+    /// Appends the wire format of the labels and the root, in one piece.
     #[inline(always)]
     pub(crate) fn append_name<B: OctetsBuilder>(
         &mut self,
@@ -278,7 +278,7 @@ impl NameBuffer {
         target.append_slice(&self.octets[..self.ends.head + 1])
     }
 
-    /// Appends the wire form of the labels, in one piece.
+    /// Appends the wire format of the labels, in one piece.
     #[inline(always)]
     pub(crate) fn append_relative<B: OctetsBuilder>(
         &mut self,
@@ -301,7 +301,7 @@ pub(crate) fn octets_of<Octs: FromBuilder + Drop>(
 where
     Octs::Builder: EmptyBuilder + Drop,
     ensures ok { IfOk result (λ octets. Octs.octets octets ≡ slice.now) }
-    ensures err { OnErr result (MayLackRoom Octs.Builder.ROOM (length slice.now)) }
+    ensures err { OnErr result (MayExceedCapacity Octs.Builder.ROOM (length slice.now)) }
 {
     let mut target = Octs::Builder::with_capacity(alloc, slice.len())?;
     match target.append_slice(slice) {

@@ -1,11 +1,11 @@
 //! Why a text is no name.
 ghost use Rattle.std.specs.Prelude.{◌≡◌, Some};
-ghost use Rattle.domain_builder.specs.Told.{presentation_error_kind, presentation_fault, label_fault, broken_fault, MatchFromStr};
+ghost use Rattle.domain_builder.specs.TextErrors.{presentation_error_kind, presentation_fault, label_fault, broken_fault, MatchFromStr};
 ghost use Rattle.domain_builder.specs.declared.error.PresentationErrorKind.TheVariants.{BadLabel};
 ghost use Rattle.domain_builder.specs.declared.error.FromStrError.TheVariants as from_str;
-ghost use Rattle.domain_builder.specs.declared.part.Fault.TheVariants as fault;
+ghost use Rattle.domain_builder.specs.declared.name_symbol.TextFault.TheVariants as fault;
 
-use crate::part::Fault;
+use crate::name_symbol::TextFault;
 use crate::push_error::{PushError, PushNameError};
 use domain_label::scan::{BadSymbol, SymbolCharsError};
 use domain_label::{LabelFromStrError, LabelFromStrErrorKind};
@@ -48,7 +48,7 @@ impl From<PresentationErrorKind> for PresentationError {
 }
 
 impl fmt::Display for PresentationError {
-    ghost use Rattle.domain_builder.specs.Texts.{presentation_text};
+    ghost use Rattle.domain_builder.specs.ErrorText.{presentation_text};
 
     ghost output = { λ e. Some (presentation_text (presentation_error_kind e)) };
 
@@ -73,7 +73,7 @@ pub enum FromStrError {
 }
 
 impl fmt::Display for FromStrError {
-    ghost use Rattle.domain_builder.specs.Texts.{from_str_text};
+    ghost use Rattle.domain_builder.specs.ErrorText.{from_str_text};
 
     ghost output = { λ e. Some (from_str_text e) };
 
@@ -90,10 +90,10 @@ impl fmt::Display for FromStrError {
 
 impl Error for FromStrError {}
 
-impl From<Fault> for FromStrError {
+impl From<TextFault> for FromStrError {
     ghost from_gives = { λ fault e. MatchFromStr e (λ f. f ≡ fault) ⊥ };
 
-    fn from(fault: Fault) -> Self {
+    fn from(fault: TextFault) -> Self {
         FromStrError::Presentation(PresentationError {
             kind: presentation(fault),
         })
@@ -120,7 +120,7 @@ pub enum RelativeFromStrError {
 }
 
 impl fmt::Display for RelativeFromStrError {
-    ghost use Rattle.domain_builder.specs.Texts.{relative_from_str_text};
+    ghost use Rattle.domain_builder.specs.ErrorText.{relative_from_str_text};
 
     ghost output = { λ e. Some (relative_from_str_text e) };
 
@@ -151,8 +151,8 @@ impl From<PushError> for FromStrError {
 
     fn from(push: PushError) -> Self {
         match push {
-            PushError::LongLabel => Fault::LongLabel.into(),
-            PushError::LongName => Fault::LongName.into(),
+            PushError::LongLabel => TextFault::LongLabel.into(),
+            PushError::LongName => TextFault::LongName.into(),
             PushError::ShortBuf => FromStrError::ShortBuf,
         }
     }
@@ -166,19 +166,21 @@ fn label(kind: LabelFromStrErrorKind) -> PresentationErrorKind
 }
 
 /// The fault as the errors tell it.
-fn presentation(fault: Fault) -> PresentationErrorKind
+fn presentation(fault: TextFault) -> PresentationErrorKind
     ensures { presentation_fault result ≡ fault }
 {
     match fault {
-        Fault::ShortInput => label(LabelFromStrErrorKind::SymbolChars(
+        TextFault::ShortInput => label(LabelFromStrErrorKind::SymbolChars(
             SymbolCharsError::ShortInput,
         )),
-        Fault::BadEscape => label(LabelFromStrErrorKind::SymbolChars(SymbolCharsError::BadEscape)),
-        Fault::BadSymbol => label(LabelFromStrErrorKind::BadSymbol(BadSymbol)),
-        Fault::BinaryLabel => label(LabelFromStrErrorKind::BinaryLabel),
-        Fault::LongLabel => label(LabelFromStrErrorKind::LongLabel),
-        Fault::EmptyLabel => PresentationErrorKind::EmptyLabel,
-        Fault::LongName => PresentationErrorKind::LongName,
+        TextFault::BadEscape => label(LabelFromStrErrorKind::SymbolChars(
+            SymbolCharsError::BadEscape,
+        )),
+        TextFault::BadSymbol => label(LabelFromStrErrorKind::BadSymbol(BadSymbol)),
+        TextFault::BinaryLabel => label(LabelFromStrErrorKind::BinaryLabel),
+        TextFault::LongLabel => label(LabelFromStrErrorKind::LongLabel),
+        TextFault::EmptyLabel => PresentationErrorKind::EmptyLabel,
+        TextFault::LongName => PresentationErrorKind::LongName,
     }
 }
 
@@ -215,7 +217,7 @@ impl From<PresentationError> for FromStrError {
 }
 
 impl From<LabelFromStrError> for FromStrError {
-    ghost use Rattle.domain_builder.specs.Told.{IsBadLabel};
+    ghost use Rattle.domain_builder.specs.TextErrors.{IsBadLabel};
 
     ghost from_gives = { λ e r. IsBadLabel e r };
 
@@ -247,7 +249,7 @@ impl From<PushNameError> for FromStrError {
 
     fn from(push: PushNameError) -> Self {
         match push {
-            PushNameError::LongName => Fault::LongName.into(),
+            PushNameError::LongName => TextFault::LongName.into(),
             PushNameError::ShortBuf => FromStrError::ShortBuf,
         }
     }

@@ -2,7 +2,7 @@
 ghost use Rattle.std.specs.Prelude.{◌≡◌, ◌++◌, ℕ, List, [], ◌∷◌, ◌≤◌, ◌<◌, ◌^◌, ◌+◌, ◌%◌, nat_lt, length, take, true, Some, None, IfOk, OnOk, OnErr, IfErr, IfSome, IsSome, IsOk};
 ghost use Rattle.std.specs.Fmt.{decimal, digit_glyph};
 ghost use Rattle.domain_label.specs.Wire.{wire, IsAbsoluteWire, IsRelativeName, IsRelativeWire, labels_in};
-ghost use Rattle.domain_builder.specs.Built.{nothing, finished, closed, pushed, ended, labelled, named, shown, size};
+ghost use Rattle.domain_builder.specs.BuilderState.{empty_state, finished, closed, pushed, ended, labelled, named, encoded, size};
 ghost use Rattle.domain_builder.specs.Inside.{closed_at, room};
 ghost use Rattle.domain_builder.specs.Pushing.{NameThenLabel, LabelThenName, NameAlone, NameFits, OriginFits};
 
@@ -36,7 +36,7 @@ impl<B: EmptyBuilder + OctetsMut> LabelsBuilder<B> {
     /// A builder of nothing.
     #[inline(always)]
     pub fn new(alloc: Global) -> Self
-        ensures built { result.built ≡ nothing }
+        ensures built { result.built ≡ empty_state }
         ensures room { IfSome B.ROOM (λ n. result.capacity ≡ n) }
     {
         LabelsBuilder {
@@ -47,7 +47,7 @@ impl<B: EmptyBuilder + OctetsMut> LabelsBuilder<B> {
 
     /// A builder of nothing that has room for so many octets, where no room is fixed.
     pub fn with_capacity(alloc: Global, capacity: usize) -> Result<Self, ShortBuf>
-        ensures built { IfOk result (λ made. made.built ≡ nothing) }
+        ensures built { IfOk result (λ made. made.built ≡ empty_state) }
         ensures room { IfSome B.ROOM (λ n. IfOk result (λ made. made.capacity ≡ n)) }
         ensures ok { IsSome B.ROOM → IsOk result }
         ensures none { capacity ≡ 0 → IsOk result }
@@ -64,7 +64,7 @@ impl<B: EmptyBuilder + OctetsMut> LabelsBuilder<B> {
 }
 
 impl<B: OctetsBuilder + OctetsMut> LabelsBuilder<B> {
-    /// A builder of the labels whose wire form the octets are.
+    /// A builder of the labels whose wire format the octets are.
     pub fn from_wire(builder: B) -> Self
         requires { IsRelativeWire (B.octets builder) }
         ensures built { result.built ≡ finished (labels_in (B.octets builder)) }
@@ -87,7 +87,7 @@ impl<B: OctetsBuilder + OctetsMut> LabelsBuilder<B> {
     /// The octets, in which an open label's length is 0.
     #[inline(always)]
     pub fn as_slice(&self) -> &[u8]
-        ensures octets { result.now ≡ shown self.now.built }
+        ensures octets { result.now ≡ encoded self.now.built }
         ensures len { length result.now ≤ 254 }
         ensures within { IfSome B.limit (λ n. length result.now ≤ n) }
     {
@@ -147,8 +147,8 @@ impl<B: OctetsBuilder + OctetsMut> LabelsBuilder<B> {
         requires label { length (pushed self.old.built slice.now).open_label ≤ 63 }
         requires name { size (pushed self.old.built slice.now) ≤ 254 }
         ensures made { OnOk result (self.new.built ≡ pushed self.old.built slice.now) }
-        ensures kept { OnErr result (self.new.built ≡ self.old.built) }
-        ensures refused { IfErr result (λ e. (e ≡ PushError.ShortBuf) × (room B.limit self.new < size (pushed self.old.built slice.now))) }
+        ensures unchanged { OnErr result (self.new.built ≡ self.old.built) }
+        ensures err { IfErr result (λ e. (e ≡ PushError.ShortBuf) × (room B.limit self.new < size (pushed self.old.built slice.now))) }
         ensures capacity { self.old.capacity ≤ self.new.capacity }
     {
         if self.head.is_some() {
@@ -170,7 +170,7 @@ impl<B: OctetsBuilder + OctetsMut> LabelsBuilder<B> {
     #[inline(always)]
     pub fn push(&mut self, ch: u8) -> Result<(), PushError>
         ensures made { OnOk result (self.new.built ≡ pushed self.old.built (ch ∷ [])) }
-        ensures kept { OnErr result (self.new.built ≡ self.old.built) }
+        ensures unchanged { OnErr result (self.new.built ≡ self.old.built) }
         ensures answer { NameThenLabel (length (pushed self.old.built (ch ∷ [])).open_label) (size (pushed self.old.built (ch ∷ []))) (room B.limit self.new) result }
         ensures capacity { self.old.capacity ≤ self.new.capacity }
     {
@@ -188,7 +188,7 @@ impl<B: OctetsBuilder + OctetsMut> LabelsBuilder<B> {
     #[inline(always)]
     pub fn append_slice(&mut self, slice: &[u8]) -> Result<(), PushError>
         ensures made { OnOk result (self.new.built ≡ pushed self.old.built slice.now) }
-        ensures kept { OnErr result (self.new.built ≡ self.old.built) }
+        ensures unchanged { OnErr result (self.new.built ≡ self.old.built) }
         ensures answer { LabelThenName (length (pushed self.old.built slice.now).open_label) (size (pushed self.old.built slice.now)) (room B.limit self.new) result }
         ensures nothing { slice.now ≡ [] → IsOk result }
         ensures capacity { self.old.capacity ≤ self.new.capacity }
@@ -223,7 +223,7 @@ impl<B: OctetsBuilder + OctetsMut> LabelsBuilder<B> {
     #[inline(always)]
     pub fn append_label(&mut self, slice: &[u8]) -> Result<(), PushError>
         ensures made { OnOk result (self.new.built ≡ labelled self.old.built slice.now) }
-        ensures kept { OnErr result (self.new.built ≡ self.old.built) }
+        ensures unchanged { OnErr result (self.new.built ≡ self.old.built) }
         ensures answer { LabelThenName (length slice.now) (size (labelled self.old.built slice.now)) (room B.limit self.new) result }
         ensures nothing { slice.now ≡ [] → IsOk result }
         ensures capacity { self.old.capacity ≤ self.new.capacity }
@@ -250,8 +250,8 @@ impl<B: OctetsBuilder + OctetsMut> LabelsBuilder<B> {
         requires label { length slice.now ≤ 63 }
         requires name { size (labelled self.old.built slice.now) ≤ 254 }
         ensures made { OnOk result (self.new.built ≡ labelled self.old.built slice.now) }
-        ensures kept { OnErr result (self.new.built ≡ self.old.built) }
-        ensures refused { IfErr result (λ e. (e ≡ PushError.ShortBuf) × (room B.limit self.new < size (labelled self.old.built slice.now))) }
+        ensures unchanged { OnErr result (self.new.built ≡ self.old.built) }
+        ensures err { IfErr result (λ e. (e ≡ PushError.ShortBuf) × (room B.limit self.new < size (labelled self.old.built slice.now))) }
         ensures capacity { self.old.capacity ≤ self.new.capacity }
     {
         let end = self.builder.as_slice().len();
@@ -267,7 +267,7 @@ impl<B: OctetsBuilder + OctetsMut> LabelsBuilder<B> {
     /// Finishes the open label and adds a label of a number's decimal digits.
     pub fn append_dec_u8_label(&mut self, value: u8) -> Result<(), PushError>
         ensures made { OnOk result (self.new.built ≡ labelled self.old.built (decimal value)) }
-        ensures kept { OnErr result (self.new.built ≡ self.old.built) }
+        ensures unchanged { OnErr result (self.new.built ≡ self.old.built) }
         ensures answer { NameAlone (size (labelled self.old.built (decimal value))) (room B.limit self.new) result }
         ensures capacity { self.old.capacity ≤ self.new.capacity }
     {
@@ -288,11 +288,11 @@ impl<B: OctetsBuilder + OctetsMut> LabelsBuilder<B> {
     /// Finishes the open label and adds a label of one upper case digit, that of the lowest four bits.
     pub fn append_hex_digit_label(&mut self, nibble: u8) -> Result<(), PushError>
         ensures made { OnOk result (self.new.built ≡ labelled self.old.built (digit_glyph true (nibble % 16) ∷ [])) }
-        ensures kept { OnErr result (self.new.built ≡ self.old.built) }
+        ensures unchanged { OnErr result (self.new.built ≡ self.old.built) }
         ensures answer { NameAlone (size (labelled self.old.built (digit_glyph true (nibble % 16) ∷ []))) (room B.limit self.new) result }
         ensures capacity { self.old.capacity ≤ self.new.capacity }
     {
-        self.append_label(&[hex_digit(nibble)])
+        self.append_label(&[hex_character(nibble)])
     }
 
     /// Finishes the open label and adds the labels of a relative name of any kind, in one piece that is
@@ -303,7 +303,7 @@ impl<B: OctetsBuilder + OctetsMut> LabelsBuilder<B> {
         name: &'a N,
     ) -> Result<(), PushNameError>
         ensures made { OnOk result (self.new.built ≡ named self.old.built (N.labels name.now)) }
-        ensures kept { OnErr result (self.new.built ≡ self.old.built) }
+        ensures unchanged { OnErr result (self.new.built ≡ self.old.built) }
         ensures answer { NameFits (size (named self.old.built (N.labels name.now))) (room B.limit self.new) result }
         ensures capacity { self.old.capacity ≤ self.new.capacity }
     {
@@ -315,12 +315,12 @@ impl<B: OctetsBuilder + OctetsMut> LabelsBuilder<B> {
         self.append_wire(&octets[..len])
     }
 
-    /// Finishes the open label and adds the labels whose wire form the octets are.
+    /// Finishes the open label and adds the labels whose wire format the octets are.
     #[tactic(auto, using(crate::proofs::Building::size_named_wire))]
     pub fn append_wire(&mut self, slice: &[u8]) -> Result<(), PushNameError>
         requires labels { IsRelativeWire slice.now }
         ensures made { OnOk result (self.new.built ≡ named self.old.built (labels_in slice.now)) }
-        ensures kept { OnErr result (self.new.built ≡ self.old.built) }
+        ensures unchanged { OnErr result (self.new.built ≡ self.old.built) }
         ensures answer { NameFits (size (named self.old.built (labels_in slice.now))) (room B.limit self.new) result }
         ensures capacity { self.old.capacity ≤ self.new.capacity }
     {
@@ -333,12 +333,12 @@ impl<B: OctetsBuilder + OctetsMut> LabelsBuilder<B> {
         }
     }
 
-    /// Finishes the open label and adds labels in their wire form that make no long name.
+    /// Finishes the open label and adds labels in their wire format that make no long name.
     fn add_labels(&mut self, slice: &[u8]) -> Result<(), ShortBuf>
         requires labels { IsRelativeWire slice.now }
         requires short { size self.old.built + length slice.now ≤ 254 }
         ensures made { OnOk result (self.new.built ≡ named self.old.built (labels_in slice.now)) }
-        ensures kept { OnErr result (self.new.built ≡ self.old.built) }
+        ensures unchanged { OnErr result (self.new.built ≡ self.old.built) }
         ensures full { OnErr result (room B.limit self.new < size self.old.built + length slice.now) }
         ensures capacity { self.old.capacity ≤ self.new.capacity }
     {
@@ -352,7 +352,7 @@ impl<B: OctetsBuilder + OctetsMut> LabelsBuilder<B> {
         Ok(())
     }
 
-    /// Finishes the open label and gives the builder beneath, which has the labels in their wire form.
+    /// Finishes the open label and gives the builder beneath, which has the labels in their wire format.
     #[inline(always)]
     pub fn into_builder(mut self) -> B
         ensures wire { IsRelativeWire (B.octets result) }
@@ -373,7 +373,7 @@ impl<B: OctetsBuilder + OctetsMut + FreezeBuilder + Drop> LabelsBuilder<B>
 where
     B::Octets: Drop,
 {
-    /// Finishes the open label and gives the labels in their wire form.
+    /// Finishes the open label and gives the labels in their wire format.
     #[inline(always)]
     pub fn finish(self) -> B::Octets
         ensures wire { IsRelativeWire (⟦<B::Octets as Octets>⟧.octets result) }
@@ -383,7 +383,7 @@ where
     }
 
     /// Finishes the open label and gives the labels, and behind them those of an absolute name whose wire
-    /// form is `origin`, in their wire form.
+    /// format is `origin`, in their wire format.
     #[inline(always)]
     pub fn finish_with(self, origin: &[u8]) -> Result<B::Octets, ShortBuf>
         requires origin { IsAbsoluteWire origin.now }
@@ -418,7 +418,7 @@ where
     }
 
     /// Finishes the open label and gives the labels, and behind them those of an absolute name whose wire
-    /// form is `origin`.
+    /// format is `origin`.
     #[inline(always)]
     fn append_origin_wire(self, origin: &[u8]) -> Result<B::Octets, PushNameError>
         requires origin { IsAbsoluteWire origin.now }
@@ -452,7 +452,7 @@ impl LabelsBuilder<Vec<u8>> {
 impl<const N: usize> LabelsBuilder<ArrayVec<u8, N>> {
     /// A builder of nothing.
     pub fn new_array() -> Self
-        ensures { result.built ≡ nothing }
+        ensures { result.built ≡ empty_state }
     {
         LabelsBuilder {
             builder: ArrayVec::new(),
@@ -474,7 +474,7 @@ impl<const N: usize> LabelsBuilder<ArrayVec<u8, N>> {
 }
 
 /// The upper case digit of the lowest four bits.
-fn hex_digit(nibble: u8) -> u8
+fn hex_character(nibble: u8) -> u8
     ensures { result ≡ digit_glyph true (nibble % 16) }
 {
     let low = nibble % 16;
@@ -494,7 +494,7 @@ fn append_headed<B: OctetsBuilder + OctetsMut>(
 ) -> Result<(), B::AppendError>
     requires { length slice.now ≤ 63 }
     ensures ok { OnOk result (B.octets builder.new ≡ B.octets builder.old ++ head ∷ slice.now) }
-    ensures err { OnErr result (B.octets builder.new ≡ B.octets builder.old) }
+    ensures unchanged { OnErr result (B.octets builder.new ≡ B.octets builder.old) }
     ensures full { OnErr result (B.capacity builder.new < length (B.octets builder.old) + length (head ∷ slice.now)) }
     ensures capacity { B.capacity builder.old ≤ B.capacity builder.new }
 {
@@ -510,7 +510,7 @@ fn append_headed<B: OctetsBuilder + OctetsMut>(
     Ok(())
 }
 
-/// Appends an absolute name behind a relative one, both in their wire form, or nothing.
+/// Appends an absolute name behind a relative one, both in their wire format, or nothing.
 #[inline(always)]
 pub fn append_absolute<B: OctetsBuilder>(builder: &mut B, origin: &[u8]) -> Result<(), ShortBuf>
     requires relative { IsRelativeWire (B.octets builder.old) }
@@ -518,7 +518,7 @@ pub fn append_absolute<B: OctetsBuilder>(builder: &mut B, origin: &[u8]) -> Resu
     requires short { length (B.octets builder.old) + length origin.now ≤ 255 }
     ensures wire { OnOk result (IsAbsoluteWire (B.octets builder.new)) }
     ensures labels { OnOk result (labels_in (B.octets builder.new) ≡ labels_in (B.octets builder.old) ++ labels_in origin.now) }
-    ensures kept { OnErr result (B.octets builder.new ≡ B.octets builder.old) }
+    ensures unchanged { OnErr result (B.octets builder.new ≡ B.octets builder.old) }
     ensures full { OnErr result (B.capacity builder.old < length (B.octets builder.old) + length origin.now) }
 {
     match builder.append_slice(origin) {

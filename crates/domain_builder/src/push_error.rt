@@ -17,7 +17,7 @@ pub enum PushError {
 }
 
 impl fmt::Display for PushError {
-    ghost use Rattle.domain_builder.specs.Texts.{push_text};
+    ghost use Rattle.domain_builder.specs.ErrorText.{push_text};
 
     ghost output = { λ e. Some (push_text e) };
 
@@ -55,7 +55,7 @@ pub enum PushNameError {
 }
 
 impl fmt::Display for PushNameError {
-    ghost use Rattle.domain_builder.specs.Texts.{push_name_text};
+    ghost use Rattle.domain_builder.specs.ErrorText.{push_name_text};
 
     ghost output = { λ e. Some (push_name_text e) };
 

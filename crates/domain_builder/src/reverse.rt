@@ -2,9 +2,9 @@
 ghost use Rattle.std.specs.Prelude.{◌≡◌, ◌++◌, ◌∷◌, ◌+◌, ◌≤◌, ◌<◌, ℕ, List, length, map, reverse, codes, IfOk, OnErr};
 ghost use Rattle.std.specs.Fmt.{decimal};
 ghost use Rattle.std.specs.List.{flat_map};
-ghost use Rattle.octseq.specs.Room.{MayLackRoom};
+ghost use Rattle.octseq.specs.Capacity.{MayExceedCapacity};
 ghost use Rattle.domain_label.specs.Wire.{wire, Root, IsAbsoluteWire, labels_in};
-ghost use Rattle.domain_builder.specs.Built.{finished, closed, size};
+ghost use Rattle.domain_builder.specs.BuilderState.{finished, closed, size};
 ghost use Rattle.domain_builder.specs.Reverse.{nibbles, reverse_name};
 
 use crate::buffer::octets_of;
@@ -14,7 +14,7 @@ use domain_wire::net::IpAddr;
 use octseq::{EmptyBuilder, FromBuilder, ShortBuf};
 use std::alloc::Global;
 
-/// The wire form of the name under which an address is looked up, in one piece that is appended once.
+/// The wire format of the name under which an address is looked up, in one piece that is appended once.
 pub fn reverse_octets<Octs: FromBuilder + Drop>(
     alloc: Global,
     addr: IpAddr,
@@ -23,7 +23,7 @@ where
     Octs::Builder: EmptyBuilder + Drop,
     ensures wire { IfOk result (λ octets. IsAbsoluteWire (Octs.octets octets)) }
     ensures labels { IfOk result (λ octets. labels_in (Octs.octets octets) ≡ reverse_name addr) }
-    ensures err { OnErr result (MayLackRoom Octs.Builder.ROOM (length (wire (reverse_name addr)))) }
+    ensures err { OnErr result (MayExceedCapacity Octs.Builder.ROOM (length (wire (reverse_name addr)))) }
 {
     let octets = match addr {
         IpAddr::V4(addr) => under(decimal_labels(&addr.octets()), b"in-addr"),

@@ -6,17 +6,17 @@ ghost use Rattle.domain_label.specs.Spelling.{Reads};
 ghost use Rattle.domain_label.specs.Wire.{Root, IsAbsoluteWire, IsRelativeWire, labels_in};
 ghost use Rattle.domain_label.specs.declared.symbol.Symbol.{Symbol};
 ghost use Rattle.domain_label.specs.declared.symbol.SymbolCharsError.{SymbolCharsError};
-ghost use Rattle.domain_builder.specs.Built.{Built, nothing, closed, Makes, StopsAt};
-ghost use Rattle.domain_builder.specs.Parts.{parts, symbol_parts, IsDotPart};
+ghost use Rattle.domain_builder.specs.BuilderState.{BuilderState, empty_state, closed, Makes, StopsAt};
+ghost use Rattle.domain_builder.specs.NameSymbols.{name_symbols, symbols_in_name, IsDot};
 ghost use Rattle.domain_builder.specs.Plain.{IsPlainText};
-ghost use Rattle.domain_builder.specs.TextGrammar.{IsNameText, NameFault, IsRelativeText, NoRelative, SpellsName, SpellsNoName, SpellsRelative, SpellsNoRelative};
-ghost use Rattle.domain_builder.specs.Told.{NoName, NoRelativeName, NoNameRead, NoRelativeRead, Lacks, RelativeLacks, Tells, RelativeTells};
-ghost use Rattle.domain_builder.specs.declared.part.Fault.{Fault};
-ghost use Rattle.domain_builder.specs.declared.part.Part.{Part};
+ghost use Rattle.domain_builder.specs.TextGrammar.{IsNameText, NotANameText, IsRelativeText, NoRelative, SpellsName, SpellsNoName, SpellsRelative, SpellsNoRelative};
+ghost use Rattle.domain_builder.specs.TextErrors.{NoName, NoRelativeName, NoNameRead, NoRelativeRead, Lacks, RelativeLacks, Tells, RelativeTells};
+ghost use Rattle.domain_builder.specs.declared.name_symbol.TextFault.{TextFault};
+ghost use Rattle.domain_builder.specs.declared.name_symbol.NameSymbol.{NameSymbol};
 
 use crate::buffer::NameBuffer;
 use crate::error::{FromStrError, RelativeFromStrError};
-use crate::part::{Fault, Part, part_of};
+use crate::name_symbol::{NameSymbol, TextFault, name_symbol_of};
 use crate::plain::is_plain;
 use arrayvec::ArrayVec;
 use domain_label::scan::{Symbol, SymbolCharsError, Symbols, WholeSymbols};
@@ -28,39 +28,39 @@ use std::alloc::Global;
 /// It is called and not inlined: what its caller does is then short enough for the compiler to see that an
 /// array needn't be cleared before it is written.
 #[inline(never)]
-fn read_name<I: Iterator<Item = Result<Symbol, SymbolCharsError>> + Drop>(
+fn read_name_text<I: Iterator<Item = Result<Symbol, SymbolCharsError>> + Drop>(
     buffer: &mut NameBuffer,
     mut items: I,
-) -> Result<(), Fault>
-    requires empty { buffer.old ≡ nothing }
+) -> Result<(), TextFault>
+    requires empty { buffer.old ≡ empty_state }
     requires can { I.can_next items }
     requires ends { IsFinite (I.remaining items) }
     ensures { (all : List (Result Symbol SymbolCharsError)) → AlwaysYields I.next_gives (λ x. x) items all →
-        MatchResult result (λ _. IsNameText (parts all) (closed buffer.new ++ Root)) (λ f. NameFault (parts all) f) }
+        MatchResult result (λ _. IsNameText (name_symbols all) (closed buffer.new ++ Root)) (λ f. NotANameText (name_symbols all) f) }
 {
     let first = match items.next() {
-        None => return Err(Fault::ShortInput),
-        Some(item) => part_of(item),
+        None => return Err(TextFault::ShortInput),
+        Some(item) => name_symbol_of(item),
     };
     if is_dot(first) {
         match items.next() {
             None => return Ok(()),
-            Some(_) => return Err(Fault::EmptyLabel),
+            Some(_) => return Err(TextFault::EmptyLabel),
         }
     }
-    match buffer.push_part(first) {
-        Ok(()) => buffer.push_parts(items),
+    match buffer.push_name_symbol(first) {
+        Ok(()) => buffer.push_name_symbols(items),
         Err(fault) => Err(fault),
     }
 }
 
 /// Whether a part is a plain dot.
 #[inline(always)]
-fn is_dot(part: Part) -> bool
-    ensures { IsDotPart part result }
+fn is_dot(part: NameSymbol) -> bool
+    ensures { IsDot part result }
 {
     match part {
-        Part::Dot => true,
+        NameSymbol::Dot => true,
         _ => false,
     }
 }
@@ -68,8 +68,11 @@ fn is_dot(part: Part) -> bool
 /// Refuses the text of a relative name that was read and ends in a dot behind a label. That is told as
 /// `None`.
 #[inline(always)]
-fn refuse_final_dot(buffer: &NameBuffer, read: Result<(), Fault>) -> Result<(), Option<Fault>>
-    ensures { (ps : List Part) → MatchResult read (λ _. Makes nothing ps buffer.now) (λ f. (built : Built) × StopsAt nothing ps built f) →
+fn refuse_final_dot(
+    buffer: &NameBuffer,
+    read: Result<(), TextFault>,
+) -> Result<(), Option<TextFault>>
+    ensures { (ps : List NameSymbol) → MatchResult read (λ _. Makes empty_state ps buffer.now) (λ f. (built : BuilderState) × StopsAt empty_state ps built f) →
         MatchResult result (λ _. IsRelativeText ps (closed buffer.now)) (λ why. NoRelative ps why) }
 {
     match read {
@@ -87,45 +90,45 @@ fn refuse_final_dot(buffer: &NameBuffer, read: Result<(), Fault>) -> Result<(), 
 
 /// Reads the text of a relative name into a buffer. It isn't inlined either.
 #[inline(never)]
-fn read_relative<I: Iterator<Item = Result<Symbol, SymbolCharsError>> + Drop>(
+fn read_relative_text<I: Iterator<Item = Result<Symbol, SymbolCharsError>> + Drop>(
     buffer: &mut NameBuffer,
     items: I,
-) -> Result<(), Option<Fault>>
-    requires empty { buffer.old ≡ nothing }
+) -> Result<(), Option<TextFault>>
+    requires empty { buffer.old ≡ empty_state }
     requires can { I.can_next items }
     requires ends { IsFinite (I.remaining items) }
     ensures { (all : List (Result Symbol SymbolCharsError)) → AlwaysYields I.next_gives (λ x. x) items all →
-        MatchResult result (λ _. IsRelativeText (parts all) (closed buffer.new)) (λ why. NoRelative (parts all) why) }
+        MatchResult result (λ _. IsRelativeText (name_symbols all) (closed buffer.new)) (λ why. NoRelative (name_symbols all) why) }
 {
-    let read = buffer.push_parts(items);
+    let read = buffer.push_name_symbols(items);
     refuse_final_dot(buffer, read)
 }
 
 /// Reads the text of an absolute name into a buffer, a plain one where it lies.
 #[inline(always)]
-fn read_name_text(buffer: &mut NameBuffer, text: &str) -> Result<(), Fault>
-    requires empty { buffer.old ≡ nothing }
+fn read_name_str(buffer: &mut NameBuffer, text: &str) -> Result<(), TextFault>
+    requires empty { buffer.old ≡ empty_state }
     ensures { (all : List (Result Symbol SymbolCharsError)) → Reads (chars text.now) all →
-        MatchResult result (λ _. IsNameText (parts all) (closed buffer.new ++ Root)) (λ f. NameFault (parts all) f) }
+        MatchResult result (λ _. IsNameText (name_symbols all) (closed buffer.new ++ Root)) (λ f. NotANameText (name_symbols all) f) }
 {
     if is_plain(text.as_bytes()) {
         return buffer.read_plain(text.as_bytes());
     }
-    read_name(buffer, Symbols::new(text.chars()))
+    read_name_text(buffer, Symbols::new(text.chars()))
 }
 
 /// The same for a relative name.
 #[inline(always)]
-fn read_relative_text(buffer: &mut NameBuffer, text: &str) -> Result<(), Option<Fault>>
-    requires empty { buffer.old ≡ nothing }
+fn read_relative_str(buffer: &mut NameBuffer, text: &str) -> Result<(), Option<TextFault>>
+    requires empty { buffer.old ≡ empty_state }
     ensures { (all : List (Result Symbol SymbolCharsError)) → Reads (chars text.now) all →
-        MatchResult result (λ _. IsRelativeText (parts all) (closed buffer.new)) (λ why. NoRelative (parts all) why) }
+        MatchResult result (λ _. IsRelativeText (name_symbols all) (closed buffer.new)) (λ why. NoRelative (name_symbols all) why) }
 {
     if is_plain(text.as_bytes()) {
         let read = buffer.read_plain(text.as_bytes());
         return refuse_final_dot(buffer, read);
     }
-    read_relative(buffer, Symbols::new(text.chars()))
+    read_relative_text(buffer, Symbols::new(text.chars()))
 }
 
 /// The octets of the absolute name that was read into a buffer. A fault of the text is told before a want
@@ -135,12 +138,12 @@ fn read_relative_text(buffer: &mut NameBuffer, text: &str) -> Result<(), Option<
 fn absolute_octets<Octs: FromBuilder + Drop>(
     alloc: Global,
     buffer: &mut NameBuffer,
-    read: Result<(), Fault>,
+    read: Result<(), TextFault>,
 ) -> Result<Octs, FromStrError>
 where
     Octs::Builder: EmptyBuilder + Drop,
     ensures wire { IfOk result (λ octets. IsAbsoluteWire (Octs.octets octets)) }
-    ensures text { (ps : List Part) → MatchResult read (λ _. IsNameText ps (closed buffer.old ++ Root)) (NameFault ps) →
+    ensures text { (ps : List NameSymbol) → MatchResult read (λ _. IsNameText ps (closed buffer.old ++ Root)) (NotANameText ps) →
         MatchResult result (λ octets. IsNameText ps (labels_in (Octs.octets octets))) (NoName Octs.Builder.ROOM ps) }
 {
     match read {
@@ -165,12 +168,12 @@ where
 fn relative_octets<Octs: FromBuilder + Drop>(
     alloc: Global,
     buffer: &mut NameBuffer,
-    read: Result<(), Option<Fault>>,
+    read: Result<(), Option<TextFault>>,
 ) -> Result<Octs, RelativeFromStrError>
 where
     Octs::Builder: EmptyBuilder + Drop,
     ensures wire { IfOk result (λ octets. IsRelativeWire (Octs.octets octets)) }
-    ensures text { (ps : List Part) → MatchResult read (λ _. IsRelativeText ps (closed buffer.old)) (NoRelative ps) →
+    ensures text { (ps : List NameSymbol) → MatchResult read (λ _. IsRelativeText ps (closed buffer.old)) (NoRelative ps) →
         MatchResult result (λ octets. IsRelativeText ps (labels_in (Octs.octets octets))) (NoRelativeName Octs.Builder.ROOM ps) }
 {
     match read {
@@ -203,10 +206,10 @@ where
     requires ends { IsFinite (I.remaining items) }
     ensures wire { IfOk result (λ octets. IsAbsoluteWire (Octs.octets octets)) }
     ensures text { (all : List (Result Symbol SymbolCharsError)) → AlwaysYields I.next_gives (λ x. x) items all →
-        MatchResult result (λ octets. IsNameText (parts all) (labels_in (Octs.octets octets))) (NoName Octs.Builder.ROOM (parts all)) }
+        MatchResult result (λ octets. IsNameText (name_symbols all) (labels_in (Octs.octets octets))) (NoName Octs.Builder.ROOM (name_symbols all)) }
 {
     let mut buffer = NameBuffer::new();
-    let read = read_name(&mut buffer, items);
+    let read = read_name_text(&mut buffer, items);
     absolute_octets(alloc, &mut buffer, read)
 }
 
@@ -225,7 +228,7 @@ where
     ensures err { (cs : List ℕ) → AlwaysYields I.next_gives (λ c. c) chars cs → IfErr result (NoNameRead Octs.Builder.ROOM cs) }
     ensures accepts { (cs : List ℕ) (ls : List (List ℕ)) → AlwaysYields I.next_gives (λ c. c) chars cs → SpellsName cs ls →
         MatchResult result (λ octets. labels_in (Octs.octets octets) ≡ ls) (Lacks Octs.Builder.ROOM ls) }
-    ensures exact { (cs : List ℕ) (f : Fault) → AlwaysYields I.next_gives (λ c. c) chars cs → SpellsNoName cs f →
+    ensures exact { (cs : List ℕ) (f : TextFault) → AlwaysYields I.next_gives (λ c. c) chars cs → SpellsNoName cs f →
         MatchResult result (λ _. ⊥) (Tells f) }
 {
     absolute_from_items(alloc, Symbols::new(chars))
@@ -246,11 +249,11 @@ where
     ensures err { (cs : List ℕ) → AlwaysYields I.next_gives (λ c. c) chars cs → IfErr result (NoRelativeRead Octs.Builder.ROOM cs) }
     ensures accepts { (cs : List ℕ) (ls : List (List ℕ)) → AlwaysYields I.next_gives (λ c. c) chars cs → SpellsRelative cs ls →
         MatchResult result (λ octets. labels_in (Octs.octets octets) ≡ ls) (RelativeLacks Octs.Builder.ROOM ls) }
-    ensures exact { (cs : List ℕ) (why : Option Fault) → AlwaysYields I.next_gives (λ c. c) chars cs → SpellsNoRelative cs why →
+    ensures exact { (cs : List ℕ) (why : Option TextFault) → AlwaysYields I.next_gives (λ c. c) chars cs → SpellsNoRelative cs why →
         MatchResult result (λ _. ⊥) (RelativeTells why) }
 {
     let mut buffer = NameBuffer::new();
-    let read = read_relative(&mut buffer, Symbols::new(chars));
+    let read = read_relative_text(&mut buffer, Symbols::new(chars));
     relative_octets(alloc, &mut buffer, read)
 }
 
@@ -266,7 +269,7 @@ where
     requires ends { IsFinite (I.remaining symbols) }
     ensures wire { IfOk result (λ octets. IsAbsoluteWire (Octs.octets octets)) }
     ensures text { (ss : List Symbol) → AlwaysYields I.next_gives (λ x. x) symbols ss →
-        MatchResult result (λ octets. IsNameText (symbol_parts ss) (labels_in (Octs.octets octets))) (NoName Octs.Builder.ROOM (symbol_parts ss)) }
+        MatchResult result (λ octets. IsNameText (symbols_in_name ss) (labels_in (Octs.octets octets))) (NoName Octs.Builder.ROOM (symbols_in_name ss)) }
 {
     absolute_from_items(alloc, WholeSymbols::new(symbols))
 }
@@ -284,10 +287,10 @@ where
     ensures err { IfErr result (NoNameRead Octs.Builder.ROOM (chars text.now)) }
     ensures accepts { (ls : List (List ℕ)) → SpellsName (chars text.now) ls →
         MatchResult result (λ octets. labels_in (Octs.octets octets) ≡ ls) (Lacks Octs.Builder.ROOM ls) }
-    ensures exact { (f : Fault) → SpellsNoName (chars text.now) f → MatchResult result (λ _. ⊥) (Tells f) }
+    ensures exact { (f : TextFault) → SpellsNoName (chars text.now) f → MatchResult result (λ _. ⊥) (Tells f) }
 {
     let mut buffer = NameBuffer::new();
-    let read = read_name_text(&mut buffer, text);
+    let read = read_name_str(&mut buffer, text);
     absolute_octets(alloc, &mut buffer, read)
 }
 
@@ -304,10 +307,10 @@ where
     ensures err { IfErr result (NoRelativeRead Octs.Builder.ROOM (chars text.now)) }
     ensures accepts { (ls : List (List ℕ)) → SpellsRelative (chars text.now) ls →
         MatchResult result (λ octets. labels_in (Octs.octets octets) ≡ ls) (RelativeLacks Octs.Builder.ROOM ls) }
-    ensures exact { (why : Option Fault) → SpellsNoRelative (chars text.now) why → MatchResult result (λ _. ⊥) (RelativeTells why) }
+    ensures exact { (why : Option TextFault) → SpellsNoRelative (chars text.now) why → MatchResult result (λ _. ⊥) (RelativeTells why) }
 {
     let mut buffer = NameBuffer::new();
-    let read = read_relative_text(&mut buffer, text);
+    let read = read_relative_str(&mut buffer, text);
     relative_octets(alloc, &mut buffer, read)
 }
 
@@ -318,11 +321,11 @@ where
 fn absolute_array<const N: usize>(
     octets: &mut ArrayVec<u8, N>,
     buffer: &mut NameBuffer,
-    read: Result<(), Fault>,
+    read: Result<(), TextFault>,
 ) -> Result<(), FromStrError>
     requires empty { octets.old.items ≡ [] }
     ensures wire { OnOk result (IsAbsoluteWire octets.new.items) }
-    ensures text { (ps : List Part) → MatchResult read (λ _. IsNameText ps (closed buffer.old ++ Root)) (NameFault ps) →
+    ensures text { (ps : List NameSymbol) → MatchResult read (λ _. IsNameText ps (closed buffer.old ++ Root)) (NotANameText ps) →
         MatchResult result (λ _. IsNameText ps (labels_in octets.new.items)) (NoName (Some N) ps) }
 {
     match read {
@@ -340,11 +343,11 @@ fn absolute_array<const N: usize>(
 fn relative_array<const N: usize>(
     octets: &mut ArrayVec<u8, N>,
     buffer: &mut NameBuffer,
-    read: Result<(), Option<Fault>>,
+    read: Result<(), Option<TextFault>>,
 ) -> Result<(), RelativeFromStrError>
     requires empty { octets.old.items ≡ [] }
     ensures wire { OnOk result (IsRelativeWire octets.new.items) }
-    ensures text { (ps : List Part) → MatchResult read (λ _. IsRelativeText ps (closed buffer.old)) (NoRelative ps) →
+    ensures text { (ps : List NameSymbol) → MatchResult read (λ _. IsRelativeText ps (closed buffer.old)) (NoRelative ps) →
         MatchResult result (λ _. IsRelativeText ps (labels_in octets.new.items)) (NoRelativeName (Some N) ps) }
 {
     match read {
@@ -372,10 +375,10 @@ pub fn absolute_into_array<const N: usize>(
     ensures err { IfErr result (NoNameRead (Some N) (chars text.now)) }
     ensures accepts { (ls : List (List ℕ)) → SpellsName (chars text.now) ls →
         MatchResult result (λ _. labels_in octets.new.items ≡ ls) (Lacks (Some N) ls) }
-    ensures exact { (f : Fault) → SpellsNoName (chars text.now) f → MatchResult result (λ _. ⊥) (Tells f) }
+    ensures exact { (f : TextFault) → SpellsNoName (chars text.now) f → MatchResult result (λ _. ⊥) (Tells f) }
 {
     let mut buffer = NameBuffer::new();
-    let read = read_name_text(&mut buffer, text);
+    let read = read_name_str(&mut buffer, text);
     absolute_array(octets, &mut buffer, read)
 }
 
@@ -391,9 +394,9 @@ pub fn relative_into_array<const N: usize>(
     ensures err { IfErr result (NoRelativeRead (Some N) (chars text.now)) }
     ensures accepts { (ls : List (List ℕ)) → SpellsRelative (chars text.now) ls →
         MatchResult result (λ _. labels_in octets.new.items ≡ ls) (RelativeLacks (Some N) ls) }
-    ensures exact { (why : Option Fault) → SpellsNoRelative (chars text.now) why → MatchResult result (λ _. ⊥) (RelativeTells why) }
+    ensures exact { (why : Option TextFault) → SpellsNoRelative (chars text.now) why → MatchResult result (λ _. ⊥) (RelativeTells why) }
 {
     let mut buffer = NameBuffer::new();
-    let read = read_relative_text(&mut buffer, text);
+    let read = read_relative_str(&mut buffer, text);
     relative_array(octets, &mut buffer, read)
 }

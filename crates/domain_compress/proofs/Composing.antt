@@ -3,68 +3,77 @@ use Rattle.std.proofs.Common.{◌≡◌, ℕ, ◌+◌, ◌≤◌, ◌<◌, List,
 use Rattle.std.proofs.lemmas.Grind.{common_steps}
 use Rattle.domain_label.specs.Wire.{wire, labels_in, IsWire, IsAbsolute, IsRelative, IsAbsoluteWire}
 use Rattle.domain_label.proofs.WireLaws.{labels_in_wire, relative_labels}
-use Rattle.domain_flat.proofs.Seams.{IsWire_wire}
+use Rattle.domain_flat.proofs.LabelBounds.{IsWire_wire}
 use Rattle.domain_rdata.specs.ReadBack.{Appended, Exceeds}
-use Rattle.domain_compress.specs.Compressing.{Place, pointer_to, Compresses, IsRead, places_from, Adds}
+use Rattle.domain_compress.specs.Compressing.{RememberedLabel, pointer_to, Compresses, IsRead, remembered_from, Adds}
 use Rattle.domain_compress.specs.Compressing.Compresses.{pointer, unread}
-use Rattle.domain_compress.specs.declared.written.StandingEnd.{StandingEnd}
-use Rattle.domain_compress.specs.Written.{EndFound}
+use Rattle.domain_compress.specs.declared.written.WrittenSuffix.{WrittenSuffix}
+use Rattle.domain_compress.specs.Written.{SuffixFound}
 use Rattle.domain_compress.specs.MayWrite.{MayWrite}
+use Rattle.domain_compress.specs.Planned.{WritesPointer}
 use Rattle.domain_compress.specs.Beginnings.{PointerWritten}
 use Rattle.domain_compress.specs.Pointed.{begins_relative}
 use Rattle.domain_compress.proofs.Pointing.{pointed_read, pointed_unread}
 
-before_size : (t : List ℕ) (ws : List Place) (name : List ℕ) (end : StandingEnd) → (f : EndFound t ws name end) → length (wire f.before) ≡ end.begin
-before_size t ws name end f =
-    let inside : end.begin ≤ length name = omega (arith, f.inside) in
-    let k : length (take end.begin name) ≡ end.begin = grind (arith, common_steps) in
-    sym (ap length f.octets) ∙ k
-
-before_relative : (t : List ℕ) (ws : List Place) (name : List ℕ) (end : StandingEnd) → IsAbsoluteWire name → (f : EndFound t ws name end) → IsRelative f.before
+before_relative : (t : List ℕ) (ws : List RememberedLabel) (name : List ℕ) (end : WrittenSuffix) → IsAbsoluteWire name → (f : SuffixFound t ws name end) → IsRelative f.before
 before_relative t ws name end w f =
     let some : 0 < length f.behind = omega (arith, f.longest.more) in
     begins_relative f.before f.behind (subst IsAbsolute f.longest.parts w.1.0) some
 
-read_so : (t : List ℕ) (ws : List Place) (name : List ℕ) (end : StandingEnd) → IsAbsoluteWire name → (f : EndFound t ws name end) → (end.pointers ≡ 255 → ⊥) → IsRead t (labels_in name) f.before end.place
+read_so : (t : List ℕ) (ws : List RememberedLabel) (name : List ℕ) (end : WrittenSuffix) → IsAbsoluteWire name → (f : SuffixFound t ws name end) → (end.pointers ≡ 255 → ⊥) → IsRead t (labels_in name) f.before end.place
 read_so t ws name end w f few =
     pointed_read t (labels_in name) f.before f.behind end.place end.pointers w.1 f.longest.parts (before_relative t ws name end w f) f.through (omega (arith, few, f.through.few))
 
-pub pointed_so : (t : List ℕ) (ws : List Place) (name : List ℕ) (end : StandingEnd) (t' : List ℕ) → IsAbsoluteWire name → EndFound t ws name end → (end.pointers ≡ 255 → ⊥) → t' ≡ t ++ (take end.begin name ++ pointer_to end.place) → PointerWritten t ws name end.begin t'
-pointed_so t ws name end t' w f few all = record {
+-- The beginning and the pointer are what is to be written.
+pub planned : (t : List ℕ) (ws : List RememberedLabel) (name : List ℕ) (end : WrittenSuffix) → IsAbsoluteWire name → SuffixFound t ws name end → (end.pointers ≡ 255 → ⊥) → WritesPointer t ws name end.begin end.place
+planned t ws name end w f few = record {
   labels = f.before;
-  octets = wire f.before ++ pointer_to end.place;
-  compresses = pointer f.longest (read_so t ws name end w f few);
-  all = all ∙ ap (λ o. t ++ (o ++ pointer_to end.place)) f.octets;
+  compresses = subst (λ o. Compresses t ws (labels_in name) f.before (o ++ pointer_to end.place)) (sym f.octets) (pointer f.longest (read_so t ws name end w f few));
   spelled = ap labels_in f.octets ∙ labels_in_wire f.before;
   wire_form = subst IsWire (sym f.octets) (IsWire_wire f.before (relative_labels f.before (before_relative t ws name end w f)));
-  inside = omega (arith, f.inside);
-  size = omega (arith, length-append (wire f.before) (pointer_to end.place), before_size t ws name end f, f.inside);
+  inside = f.inside;
+  low = f.low;
 }
 
-pub not_pointed : (t : List ℕ) (ws : List Place) (name : List ℕ) (end : StandingEnd) → IsAbsoluteWire name → EndFound t ws name end → end.pointers ≡ 255 → Compresses t ws (labels_in name) (labels_in name) (wire (labels_in name))
+pub pointed_so : (t : List ℕ) (ws : List RememberedLabel) (name : List ℕ) (begin offset : ℕ) (t' : List ℕ) → WritesPointer t ws name begin offset → t' ≡ t ++ (take begin name ++ pointer_to offset) → PointerWritten t ws name begin t'
+pointed_so t ws name begin offset t' p all =
+    let few : begin ≤ length name = omega (arith, p.inside) in
+    let taken : length (take begin name) ≡ begin = grind (arith, common_steps) in
+    record {
+      labels = p.labels;
+      octets = take begin name ++ pointer_to offset;
+      compresses = p.compresses;
+      all = all;
+      spelled = p.spelled;
+      wire_form = p.wire_form;
+      inside = few;
+      size = omega (arith, length-append (take begin name) (pointer_to offset), taken, p.inside);
+    }
+
+pub not_pointed : (t : List ℕ) (ws : List RememberedLabel) (name : List ℕ) (end : WrittenSuffix) → IsAbsoluteWire name → SuffixFound t ws name end → end.pointers ≡ 255 → Compresses t ws (labels_in name) (labels_in name) (wire (labels_in name))
 not_pointed t ws name end w f many =
     unread f.longest (pointed_unread t (labels_in name) f.before f.behind end.place end.pointers (before_relative t ws name end w f) f.through many)
 
-pub exceeds_pointed : (t : List ℕ) (ws : List Place) (name : List ℕ) (end : StandingEnd) (cap : ℕ) → IsAbsoluteWire name → EndFound t ws name end → (end.pointers ≡ 255 → ⊥) → cap < length t + length (take end.begin name ++ pointer_to end.place) → Exceeds (MayWrite t ws (labels_in name)) t cap
-exceeds_pointed t ws name end cap w f few full = record {
-  octets = wire f.before ++ pointer_to end.place;
-  allowed = (f.before, pointer f.longest (read_so t ws name end w f few));
-  full = omega (arith, full, ap (λ o. length (o ++ pointer_to end.place)) f.octets);
+pub exceeds_pointed : (t : List ℕ) (ws : List RememberedLabel) (name : List ℕ) (begin offset cap : ℕ) → WritesPointer t ws name begin offset → cap < length t + length (take begin name ++ pointer_to offset) → Exceeds (MayWrite t ws (labels_in name)) t cap
+exceeds_pointed t ws name begin offset cap p full = record {
+  octets = take begin name ++ pointer_to offset;
+  allowed = (p.labels, p.compresses);
+  full = full;
 }
 
-pub exceeds_flat : (t : List ℕ) (ws : List Place) (name : List ℕ) (cap : ℕ) → IsAbsoluteWire name → Compresses t ws (labels_in name) (labels_in name) (wire (labels_in name)) → cap < length t + length name → Exceeds (MayWrite t ws (labels_in name)) t cap
+pub exceeds_flat : (t : List ℕ) (ws : List RememberedLabel) (name : List ℕ) (cap : ℕ) → IsAbsoluteWire name → Compresses t ws (labels_in name) (labels_in name) (wire (labels_in name)) → cap < length t + length name → Exceeds (MayWrite t ws (labels_in name)) t cap
 exceeds_flat t ws name cap w x full = record { octets = wire (labels_in name); allowed = (labels_in name, x); full = omega (arith, full, ap length w.0) }
 
-pub adds_pointer : (t : List ℕ) (ws ws' : List Place) (name : List ℕ) (at : ℕ) (t' : List ℕ) → (x : PointerWritten t ws name at t') → ws' ≡ take 128 (ws ++ places_from (length t) (length t') (labels_in (take at name))) → Adds t ws (labels_in name) t' ws'
+pub adds_pointer : (t : List ℕ) (ws ws' : List RememberedLabel) (name : List ℕ) (at : ℕ) (t' : List ℕ) → (x : PointerWritten t ws name at t') → ws' ≡ take 128 (ws ++ remembered_from (length t) (length t') (labels_in (take at name))) → Adds t ws (labels_in name) t' ws'
 adds_pointer t ws ws' name at t' x e = record {
   labels = x.labels;
   octets = x.octets;
   compresses = x.compresses;
   all = x.all;
-  places = e ∙ (ap (λ n. take 128 (ws ++ places_from (length t) n (labels_in (take at name)))) (ap length x.all ∙ length-append t x.octets) ∙ ap (λ l. take 128 (ws ++ places_from (length t) (length t + length x.octets) l)) x.spelled);
+  places = e ∙ (ap (λ n. take 128 (ws ++ remembered_from (length t) n (labels_in (take at name)))) (ap length x.all ∙ length-append t x.octets) ∙ ap (λ l. take 128 (ws ++ remembered_from (length t) (length t + length x.octets) l)) x.spelled);
 }
 
-pub adds_flat : (t : List ℕ) (ws ws' : List Place) (name t' : List ℕ) → IsAbsoluteWire name → Compresses t ws (labels_in name) (labels_in name) (wire (labels_in name)) → t' ≡ t ++ name → ws' ≡ take 128 (ws ++ places_from (length t) (length t') (labels_in name)) → Adds t ws (labels_in name) t' ws'
+pub adds_flat : (t : List ℕ) (ws ws' : List RememberedLabel) (name t' : List ℕ) → IsAbsoluteWire name → Compresses t ws (labels_in name) (labels_in name) (wire (labels_in name)) → t' ≡ t ++ name → ws' ≡ take 128 (ws ++ remembered_from (length t) (length t') (labels_in name)) → Adds t ws (labels_in name) t' ws'
 adds_flat t ws ws' name t' w x all e =
     let whole : t' ≡ t ++ wire (labels_in name) = all ∙ ap (λ o. t ++ o) (sym w.0) in
     record {
@@ -72,5 +81,5 @@ adds_flat t ws ws' name t' w x all e =
       octets = wire (labels_in name);
       compresses = x;
       all = whole;
-      places = e ∙ ap (λ n. take 128 (ws ++ places_from (length t) n (labels_in name))) (ap length whole ∙ length-append t (wire (labels_in name)));
+      places = e ∙ ap (λ n. take 128 (ws ++ remembered_from (length t) n (labels_in name))) (ap length whole ∙ length-append t (wire (labels_in name)));
     }

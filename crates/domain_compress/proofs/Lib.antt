@@ -1,10 +1,11 @@
-pub mod Along
+pub mod ComparedInMessage
 pub mod Pointing
 pub mod Searching
 pub mod Remembering
 pub mod Composing
 pub mod Marking
-pub mod Bettering
-pub mod Once
-mod Knowing
+pub mod LongerSuffix
+pub mod OneResult
+mod LabelHashes
 pub mod Standing
+mod Planning

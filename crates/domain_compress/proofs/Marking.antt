@@ -1,57 +1,39 @@
 -- What a few octets at a place tell of the name there.
-use Rattle.std.proofs.Common.{◌≡◌, ℕ, ◌+◌, ◌-◌, ◌*◌, ◌%◌, ◌<◌, inl, inr, List, [], ◌∷◌, ◌++◌, length, sym, ap, subst, ◌∙◌, arith, slice_index, get_or-drop, drop, slice_range, slice_set, get_or-set_same, get_or-set_other}
+use Rattle.std.proofs.Common.{◌≡◌, ℕ, ◌+◌, ◌-◌, ◌*◌, ◌/◌, ◌%◌, ◌^◌, ◌<◌, inl, inr, List, [], ◌∷◌, ◌++◌, fold, length, refl, sym, ap, subst, ◌∙◌, arith, slice_index, take, drop, drop-drop, slice_range, slice_set, get_or-set_same, get_or-set_other}
+use Rattle.std.proofs.Math.Seq.{take-append_seam}
 use Rattle.std.proofs.lemmas.Grind.{common_steps}
 use Rattle.std.proofs.lemmas.Bool.{cases_lt}
 use Rattle.std.specs.Char.{to_ascii_lowercase}
 use Rattle.domain_label.specs.Wire.{wire, labels_in, IsAbsolute, IsAbsoluteWire}
-use Rattle.domain_label.specs.Low.{low}
-use Rattle.domain_flat.proofs.Seams.{Meets, meets_drop, read_at}
+use Rattle.domain_label.specs.Lowercase.{lowercase}
+use Rattle.domain_flat.proofs.LabelBounds.{Meets, meets_drop, read_at}
 use Rattle.domain_reading.specs.Grammar.{LabelAt, Reads}
 use Rattle.domain_reading.specs.Grammar.Reads.{root, label, pointer}
 use Rattle.domain_rdata.specs.ReadBack.{StandsAt}
-use Rattle.domain_compress.specs.Ends.{first_label, hash_of, label_hash, first_hash, slot_of, IsMarked}
+use Rattle.domain_compress.specs.Ends.{first_label, hash_step, label_hash, first_hash, slot_of, IsMarked}
 use Rattle.domain_compress.specs.Hashes.{hash_at, HasHash}
 use Rattle.domain_compress.specs.Pointed.{nothing_behind}
-use Rattle.domain_compress.proofs.Along.{same_first, same_length}
+use Rattle.domain_compress.proofs.ComparedInMessage.{same_first, same_length}
 
 low_kind : (c : ℕ) → to_ascii_lowercase c % 32 ≡ c % 32
 low_kind c = grind (arith, common_steps)
 
-low_at : (l : List ℕ) (i : ℕ) → i < length l → slice_index (low l) i ≡ to_ascii_lowercase (slice_index l i)
-low_at l i inside = grind (arith, common_steps)
-
-same_octet : (a b : List ℕ) (i : ℕ) → low a ≡ low b → i < length a → slice_index a i % 32 ≡ slice_index b i % 32
-same_octet a b i e inside =
-    let lowered : to_ascii_lowercase (slice_index a i) ≡ to_ascii_lowercase (slice_index b i) = sym (low_at a i inside) ∙ (ap (λ l. slice_index l i) e ∙ low_at b i (omega (arith, inside, same_length a b e))) in
-    sym (low_kind (slice_index a i)) ∙ (ap (λ c. c % 32) lowered ∙ low_kind (slice_index b i))
-
 -- Labels that are equal without case have one hash.
-pub same_hash : (a b : List ℕ) → 0 < length a → low a ≡ low b → label_hash a ≡ label_hash b
-same_hash a b some e =
-    let size = same_length a b e in
-    let first = same_octet a b 0 e some in
-    let last : slice_index a (length a - 1) % 32 ≡ slice_index b (length b - 1) % 32 = same_octet a b (length a - 1) e (omega (arith, some)) ∙ ap (λ n. slice_index b (n - 1) % 32) size in
-    ap (λ n. n * 67 + slice_index a 0 % 32 * 29 + slice_index a (length a - 1) % 32 * 7) size ∙ (ap (λ c. length b * 67 + c * 29 + slice_index a (length a - 1) % 32 * 7) first ∙ ap (λ c. length b * 67 + slice_index b 0 % 32 * 29 + c * 7) last)
+same_fold : (a b : List ℕ) (h : ℕ) → lowercase a ≡ lowercase b → fold hash_step h a ≡ fold hash_step h b
+same_fold [] [] h e = refl
+same_fold [] (y ∷ b) h e = absurd (omega (arith, ap length e))
+same_fold (x ∷ a) [] h e = absurd (omega (arith, ap length e))
+same_fold (x ∷ a) (y ∷ b) h e =
+    let kind : x % 32 ≡ y % 32 = sym (low_kind x) ∙ (ap (λ o. slice_index o 0 % 32) e ∙ low_kind y) in
+    ap (λ c. fold hash_step ((h * 8 % 2 ^ 64 + c) % 2 ^ 64) a) kind ∙ same_fold a b (hash_step h y) (ap (drop 1) e)
 
-label_octet : (m l : List ℕ) (p : ℕ) → LabelAt m p l → slice_index m (p + 1) ≡ slice_index l 0
-label_octet m l p x =
-    let some = x.nonempty in
-    let inside = x.inside in
-    let all = ap (λ o. slice_index o 0) x.octets in
-    grind (arith, common_steps)
-
-label_last : (m l : List ℕ) (p : ℕ) → LabelAt m p l → slice_index m (p + length l) ≡ slice_index l (length l - 1)
-label_last m l p x =
-    let some = x.nonempty in
-    let inside = x.inside in
-    let all : slice_index (slice_range m (p + 1) (p + 1 + length l)) (length l - 1) ≡ slice_index l (length l - 1) = ap (λ o. slice_index o (length l - 1)) x.octets in
-    let there : p + 1 + (length l - 1) ≡ p + length l = omega (arith, some) in
-    let read : slice_index (slice_range m (p + 1) (p + 1 + length l)) (length l - 1) ≡ slice_index m (p + 1 + (length l - 1)) = grind (arith, common_steps) in
-    ap (slice_index m) (sym there) ∙ (sym read ∙ all)
+pub same_hash : (a b : List ℕ) → lowercase a ≡ lowercase b → label_hash a ≡ label_hash b
+same_hash a b e =
+    let sums : fold hash_step (length a) a ≡ fold hash_step (length b) b = ap (λ n. fold hash_step n a) (same_length a b e) ∙ same_fold a b (length b) e in
+    ap (λ n. n * 11400714819323198485 % 2 ^ 64 / 2 ^ 48) sums
 
 label_hash_at : (m l : List ℕ) (p : ℕ) → LabelAt m p l → hash_at m p ≡ label_hash l
-label_hash_at m l p x =
-    ap (λ n. hash_of n (slice_index m (p + 1)) (slice_index m (p + n))) x.head ∙ (ap (λ c. hash_of (length l) c (slice_index m (p + length l))) (label_octet m l p x) ∙ ap (hash_of (length l) (slice_index l 0)) (label_last m l p x))
+label_hash_at m l p x = ap (λ n. label_hash (slice_range m (p + 1) (p + 1 + n))) x.head ∙ ap label_hash x.octets
 
 -- A label stands at the place itself, or a pointer.
 pub record Glance (m : List ℕ) (p : ℕ) (l : List ℕ) : Type 0 where
@@ -71,32 +53,27 @@ pub seen_inside : (m : List ℕ) (p : ℕ) (ls : List (List ℕ)) → 0 < length
 seen_inside m p ls some s = (seen m p ls some s).inside
 
 pub seen_all_inside : (m : List ℕ) (p : ℕ) (ls : List (List ℕ)) → slice_index m p < 64 → 0 < length (first_label ls) → StandsAt m p ls → p + slice_index m p < length m
-seen_all_inside m p ls low some s = (seen m p ls some s).all_inside low
+seen_all_inside m p ls lowercase some s = (seen m p ls some s).all_inside lowercase
 
 pub seen_marked : (marks m : List ℕ) (p h : ℕ) (ls : List (List ℕ)) → slice_index m p < 64 → h ≡ hash_at m p → 0 < length (first_label ls) → IsMarked marks ls → StandsAt m p ls → slice_index marks (slot_of h) ≡ 1
-seen_marked marks m p h ls low e some marked s =
+seen_marked marks m p h ls lowercase e some marked s =
     let g = seen m p ls some s in
-    let size : 0 < length (first_label s.0) = omega (arith, some, same_length _ _ (same_first s.0 ls s.2)) in
-    ap (λ k. slice_index marks (slot_of k)) (e ∙ (g.hash low ∙ same_hash _ _ size (same_first s.0 ls s.2))) ∙ marked
+    ap (λ k. slice_index marks (slot_of k)) (e ∙ (g.hash lowercase ∙ same_hash _ _ (same_first s.0 ls s.2))) ∙ marked
 
 -- An end with a marked label doesn't stand where the hash isn't marked.
 pub not_hashed : (marks m : List ℕ) (p h : ℕ) (ls : List (List ℕ)) → HasHash m p h → (slice_index marks (slot_of h) ≡ 1 → ⊥) → 0 < length (first_label ls) → IsMarked marks ls → StandsAt m p ls → ⊥
 not_hashed marks m p h ls hashed none some marked s = none (seen_marked marks m p h ls hashed.0 hashed.2 some marked s)
 
-name_last : (name : List ℕ) (at : ℕ) (before ls : List (List ℕ)) (y : List ℕ) → 0 < length y → Meets name at before (y ∷ ls) → slice_index name (at + length y) ≡ slice_index y (length y - 1)
-name_last name at before ls y some m =
-    let there : slice_index (drop at name) (length y) ≡ slice_index name (at + length y) = get_or-drop at name (length y) 0 in
-    let read : slice_index (length y ∷ (y ++ wire ls)) (length y) ≡ slice_index y (length y - 1) = grind (arith, common_steps) in
-    sym there ∙ (ap (λ o. slice_index o (length y)) (meets_drop name at before (y ∷ ls) m) ∙ read)
+name_label : (name : List ℕ) (at : ℕ) (before ls : List (List ℕ)) (y : List ℕ) → Meets name at before (y ∷ ls) → slice_range name (at + 1) (at + 1 + length y) ≡ y
+name_label name at before ls y m =
+    let size : at + 1 + length y - (at + 1) ≡ length y = omega arith in
+    let tail : drop (at + 1) name ≡ y ++ wire ls = sym (drop-drop 1 at name) ∙ ap (drop 1) (meets_drop name at before (y ∷ ls) m) in
+    ap (λ i. take i (drop (at + 1) name)) size ∙ (ap (take (length y)) tail ∙ take-append_seam y (wire ls))
 
-pub label_kind : (name : List ℕ) (at size : ℕ) (before behind : List (List ℕ)) → Meets name at before behind → IsAbsolute behind → (slice_index name at ≡ 0 → ⊥) → size ≡ slice_index name at → hash_of (slice_index name at) (slice_index name (at + 1)) (slice_index name (at + size)) ≡ first_hash behind
-label_kind name at size before [] m a some e = absurd a
-label_kind name at size before ([] ∷ ls) m a some e = absurd (some (read_at name at before [] ls m))
-label_kind name at size before ((c ∷ l) ∷ ls) m a some e =
-    let second : slice_index name (at + 1) ≡ c = sym (get_or-drop at name 1 0) ∙ ap (λ o. slice_index o 1) (meets_drop name at before ((c ∷ l) ∷ ls) m) in
-    let head = read_at name at before (c ∷ l) ls m in
-    let last : slice_index name (at + size) ≡ slice_index (c ∷ l) (length (c ∷ l) - 1) = ap (λ n. slice_index name (at + n)) (e ∙ head) ∙ name_last name at before ls (c ∷ l) (omega arith) m in
-    ap (λ n. hash_of n (slice_index name (at + 1)) (slice_index name (at + size))) head ∙ (ap (λ d. hash_of (length (c ∷ l)) d (slice_index name (at + size))) second ∙ ap (hash_of (length (c ∷ l)) c) last)
+pub label_kind : (name : List ℕ) (at : ℕ) (before behind : List (List ℕ)) → Meets name at before behind → IsAbsolute behind → label_hash (slice_range name (at + 1) (at + 1 + slice_index name at)) ≡ first_hash behind
+label_kind name at before [] m a = absurd a
+label_kind name at before (y ∷ ls) m a =
+    ap (λ n. label_hash (slice_range name (at + 1) (at + 1 + n))) (read_at name at before y ls m) ∙ ap label_hash (name_label name at before ls y m)
 
 pub marked_here : (marks : List ℕ) (k : ℕ) → k < length marks → slice_index (slice_set marks k 1) k ≡ 1
 marked_here marks k inside = get_or-set_same marks k 1 0 inside

@@ -2,8 +2,8 @@
 use Rattle.std.proofs.Common.{◌≡◌, ℕ, suc, ◌+◌, ◌<◌, List, [], ◌∷◌, ◌++◌, length, sym, ap, subst, ◌∙◌, arith}
 use Rattle.std.proofs.lemmas.List.{map-append}
 use Rattle.domain_label.specs.Wire.{wire, IsRelative, IsAbsoluteName}
-use Rattle.domain_label.specs.Low.{low, low_all}
-use Rattle.domain_label.proofs.Lowered.{low_size}
+use Rattle.domain_label.specs.Lowercase.{lowercase, lowercase_labels}
+use Rattle.domain_label.proofs.CanonicalForm.{lowercase_size}
 use Rattle.domain_reading.specs.Grammar.{Flat, Reads}
 use Rattle.domain_reading.specs.Grammar.Reads.{root, label, pointer}
 use Rattle.domain_reading.proofs.Reading.{reads_once, reads_more}
@@ -28,8 +28,8 @@ through_pointer t a b p k rel s =
 
 pub pointed_read : (t : List ℕ) (ls a b : List (List ℕ)) (p k : ℕ) → IsAbsoluteName ls → ls ≡ a ++ b → IsRelative a → StandsThrough t p b k → k < 255 → IsRead t ls a p
 pointed_read t ls a b p k name parts rel s few =
-    let same : low_all (a ++ s.labels) ≡ low_all ls = map-append low a s.labels ∙ (ap (λ x. low_all a ++ x) s.same ∙ (sym (map-append low a b) ∙ ap low_all (sym parts))) in
-    let size : length (wire (a ++ s.labels)) ≡ length (wire ls) = sym (low_size (a ++ s.labels)) ∙ (ap (λ x. length (wire x)) same ∙ low_size ls) in
+    let same : lowercase_labels (a ++ s.labels) ≡ lowercase_labels ls = map-append lowercase a s.labels ∙ (ap (λ x. lowercase_labels a ++ x) s.same ∙ (sym (map-append lowercase a b) ∙ ap lowercase_labels (sym parts))) in
+    let size : length (wire (a ++ s.labels)) ≡ length (wire ls) = sym (lowercase_size (a ++ s.labels)) ∙ (ap (λ x. length (wire x)) same ∙ lowercase_size ls) in
     (a ++ s.labels, record { pointers = suc k; reads = through_pointer t a b p k rel s; few_pointers = omega (arith, few); short = omega (arith, size, name.1) }, same)
 
 -- One pointer too many.

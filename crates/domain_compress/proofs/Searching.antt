@@ -5,9 +5,9 @@ use Rattle.std.proofs.lemmas.Bool.{cases_lt}
 use Rattle.std.proofs.Math.Seq.{drop-append_seam}
 use Rattle.domain_label.specs.Wire.{wire, labels_in, IsAbsolute, IsAbsoluteWire}
 use Rattle.domain_label.proofs.WireLaws.{labels_in_wire, wire_absolute, absolute_wire}
-use Rattle.domain_flat.proofs.Seams.{Meets, meets_start, meets_take, meets_drop, meets_labels, meets_next, read_at}
+use Rattle.domain_flat.proofs.LabelBounds.{Meets, meets_start, meets_take, meets_drop, meets_labels, meets_next, read_at}
 use Rattle.domain_compress.specs.Ends.{first_label}
-use Rattle.domain_compress.specs.Written.{StandsThrough, EndAt}
+use Rattle.domain_compress.specs.Written.{StandsThrough, SuffixAt}
 
 -- Up to the place at, each end of the name has the property.
 pub record Passed (P : List (List ℕ) → Type 0) (name : List ℕ) (at : ℕ) : Type 0 where
@@ -143,7 +143,7 @@ more_left name at before ((c ∷ l) ∷ []) m a some = absurd a.1
 more_left name at before ((c ∷ l) ∷ r ∷ rest) m a some = (omega arith, omega (arith, meets_length name at before ((c ∷ l) ∷ r ∷ rest) m, length-append l (wire (r ∷ rest))))
 
 -- An end of the name that stands at a place.
-pub end_stands : {P : List (List ℕ) → Type 0} (t name : List ℕ) (p at k upto : ℕ) → IsAbsoluteWire name → (s : Passed P name at) → at < upto → (slice_index name at ≡ 0 → ⊥) → StandsThrough t p (labels_in (drop at name)) k → EndAt t p name upto at k
+pub end_stands : {P : List (List ℕ) → Type 0} (t name : List ℕ) (p at k upto : ℕ) → IsAbsoluteWire name → (s : Passed P name at) → at < upto → (slice_index name at ≡ 0 → ⊥) → StandsThrough t p (labels_in (drop at name)) k → SuffixAt t p name upto at k
 end_stands t name p at k upto w s lt some through =
     let more = more_left name at s.before s.behind s.meets s.absolute some in
     let Q : List (List ℕ) → Type 0 = λ b. StandsThrough t p b k in

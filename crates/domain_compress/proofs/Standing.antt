@@ -10,29 +10,29 @@ use Rattle.domain_label.specs.Wire.{wire, IsAbsolute, IsRelative, IsAbsoluteName
 use Rattle.domain_reading.specs.Grammar.{Flat, Reads, Names}
 use Rattle.domain_reading.specs.Grammar.Reads.{root, label, pointer}
 use Rattle.domain_reading.specs.Touched.{ReadsBehind}
-use Rattle.domain_reading.proofs.Plain.{plain_names}
+use Rattle.domain_reading.proofs.UncompressedIsRead.{plain_names}
 use Rattle.domain_reading.proofs.Touching.{behind_more, behind_kept, behind_from, names_kept, names_behind, labels_behind, pointer_behind, reads_inside, touches_flat}
 use Rattle.domain_rdata.specs.ReadBack.{StandsAt}
-use Rattle.domain_compress.specs.Compressing.{Place, pointer_to, FirstPlace, LongestEnd, Compresses, Adds, places_from, places_within}
+use Rattle.domain_compress.specs.Compressing.{RememberedLabel, pointer_to, FirstRemembered, LongestSuffix, Compresses, Adds, remembered_from, remembered_within}
 use Rattle.domain_compress.specs.Compressing.Compresses.{pointer as pointed, flat, unread}
 use Rattle.domain_compress.specs.Pointed.{flat_plain, pointer_behind as pointer_plain, begins_relative, compressed_reads_back}
-use Rattle.domain_compress.specs.Standing.{PlaceStands, PlacesStand}
-use Rattle.domain_compress.proofs.Once.{stands_more}
+use Rattle.domain_compress.specs.Standing.{RememberedStands, AllRememberedStand}
+use Rattle.domain_compress.proofs.OneResult.{stands_more}
 
 -- ---- more octets, fewer octets, other octets before n
 
-place_more : (n : ℕ) (t u : List ℕ) (w : Place) → PlaceStands n t w → PlaceStands n (t ++ u) w
+place_more : (n : ℕ) (t u : List ℕ) (w : RememberedLabel) → RememberedStands n t w → RememberedStands n (t ++ u) w
 place_more n t u w x = record {
   labels = x.labels;
   reads = subst (λ o. ReadsBehind n o w.at x.labels) (sym (take-append-le w.end t u x.inside)) x.reads;
   inside = omega (arith, x.inside, length-append t u);
 }
 
-pub places_more : (n : ℕ) (t u : List ℕ) (ws : List Place) → PlacesStand n t ws → PlacesStand n (t ++ u) ws
-places_more n t u [] a = All-nil (PlaceStands n (t ++ u))
-places_more n t u (w ∷ ws) a = All-cons (PlaceStands n (t ++ u)) w ws (place_more n t u w (All-head (PlaceStands n t) w ws a)) (places_more n t u ws (All-tail (PlaceStands n t) w ws a))
+pub remembered_more : (n : ℕ) (t u : List ℕ) (ws : List RememberedLabel) → AllRememberedStand n t ws → AllRememberedStand n (t ++ u) ws
+remembered_more n t u [] a = All-nil (RememberedStands n (t ++ u))
+remembered_more n t u (w ∷ ws) a = All-cons (RememberedStands n (t ++ u)) w ws (place_more n t u w (All-head (RememberedStands n t) w ws a)) (remembered_more n t u ws (All-tail (RememberedStands n t) w ws a))
 
-place_cut : (n e : ℕ) (t : List ℕ) (w : Place) → w.end ≤ e → PlaceStands n t w → PlaceStands n (take e t) w
+place_cut : (n e : ℕ) (t : List ℕ) (w : RememberedLabel) → w.end ≤ e → RememberedStands n t w → RememberedStands n (take e t) w
 place_cut n e t w le x =
     record {
       labels = x.labels;
@@ -40,13 +40,13 @@ place_cut n e t w le x =
       inside = let h = x.inside in grind (arith, common_steps);
     }
 
-pub places_cut : (n e : ℕ) (t : List ℕ) (ws : List Place) → PlacesStand n t ws → PlacesStand n (take e t) (places_within e ws)
-places_cut n e t [] a = All-nil (PlaceStands n (take e t))
-places_cut n e t (w ∷ ws) a =
-    let here = All-head (PlaceStands n t) w ws a in
-    let rest = places_cut n e t ws (All-tail (PlaceStands n t) w ws a) in
-    elim (nat_le w.end e) as (λ b. nat_le w.end e ≡ b → All (PlaceStands n (take e t)) (if b then w ∷ places_within e ws else places_within e ws)) [
-      | true ↦ λ test. All-cons (PlaceStands n (take e t)) w (places_within e ws) (place_cut n e t w (grind (arith, nat_tests)) here) rest
+pub remembered_cut : (n e : ℕ) (t : List ℕ) (ws : List RememberedLabel) → AllRememberedStand n t ws → AllRememberedStand n (take e t) (remembered_within e ws)
+remembered_cut n e t [] a = All-nil (RememberedStands n (take e t))
+remembered_cut n e t (w ∷ ws) a =
+    let here = All-head (RememberedStands n t) w ws a in
+    let rest = remembered_cut n e t ws (All-tail (RememberedStands n t) w ws a) in
+    elim (nat_le w.end e) as (λ b. nat_le w.end e ≡ b → All (RememberedStands n (take e t)) (if b then w ∷ remembered_within e ws else remembered_within e ws)) [
+      | true ↦ λ test. All-cons (RememberedStands n (take e t)) w (remembered_within e ws) (place_cut n e t w (grind (arith, nat_tests)) here) rest
       | false ↦ λ test. rest
     ] refl
 
@@ -61,7 +61,7 @@ cut_drop n e m = elim (cases_lt e n) [
       ap (λ k. drop n (take k m)) (sym whole) ∙ drop-take n (e - n) m
 ]
 
-place_kept : (n : ℕ) (t o : List ℕ) (w : Place) → drop n o ≡ drop n t → length o ≡ length t → PlaceStands n t w → PlaceStands n o w
+place_kept : (n : ℕ) (t o : List ℕ) (w : RememberedLabel) → drop n o ≡ drop n t → length o ≡ length t → RememberedStands n t w → RememberedStands n o w
 place_kept n t o w same size x =
     record {
       labels = x.labels;
@@ -69,9 +69,9 @@ place_kept n t o w same size x =
       inside = omega (arith, x.inside, size);
     }
 
-pub places_kept : (n : ℕ) (t o : List ℕ) (ws : List Place) → drop n o ≡ drop n t → length o ≡ length t → PlacesStand n t ws → PlacesStand n o ws
-places_kept n t o [] same size a = All-nil (PlaceStands n o)
-places_kept n t o (w ∷ ws) same size a = All-cons (PlaceStands n o) w ws (place_kept n t o w same size (All-head (PlaceStands n t) w ws a)) (places_kept n t o ws same size (All-tail (PlaceStands n t) w ws a))
+pub remembered_kept : (n : ℕ) (t o : List ℕ) (ws : List RememberedLabel) → drop n o ≡ drop n t → length o ≡ length t → AllRememberedStand n t ws → AllRememberedStand n o ws
+remembered_kept n t o [] same size a = All-nil (RememberedStands n o)
+remembered_kept n t o (w ∷ ws) same size a = All-cons (RememberedStands n o) w ws (place_kept n t o w same size (All-head (RememberedStands n t) w ws a)) (remembered_kept n t o ws same size (All-tail (RememberedStands n t) w ws a))
 
 pub stands_kept : (n : ℕ) (t o : List ℕ) (p : ℕ) (c ls : List (List ℕ)) → ReadsBehind n t p c → drop n o ≡ drop n t → StandsAt t p ls → StandsAt o p ls
 stands_kept n t o p c ls x same s = (s.0, names_kept o x same s.1, s.2)
@@ -79,27 +79,27 @@ stands_kept n t o p c ls x same s = (s.0, names_kept o x same s.1, s.2)
 -- ---- a name more
 
 -- what a place of them reads
-first_stands : (n : ℕ) (t : List ℕ) (b : List (List ℕ)) (p : ℕ) (ws : List Place) → PlacesStand n t ws → FirstPlace t ws b p → (c : List (List ℕ)) × ReadsBehind n t p c
+first_stands : (n : ℕ) (t : List ℕ) (b : List (List ℕ)) (p : ℕ) (ws : List RememberedLabel) → AllRememberedStand n t ws → FirstRemembered t ws b p → (c : List (List ℕ)) × ReadsBehind n t p c
 first_stands n t b p [] a first = absurd first
 first_stands n t b p (w ∷ ws) a first = elim first [
   | inl here ↦
-      let x = All-head (PlaceStands n t) w ws a in
+      let x = All-head (RememberedStands n t) w ws a in
       (x.labels, subst (λ q. ReadsBehind n t q x.labels) (sym here.1) (subst (λ o. ReadsBehind n o w.at x.labels) (take-append-drop w.end t) (behind_more (drop w.end t) x.reads)))
-  | inr later ↦ first_stands n t b p ws (All-tail (PlaceStands n t) w ws a) later.1
+  | inr later ↦ first_stands n t b p ws (All-tail (RememberedStands n t) w ws a) later.1
 ]
 
-at_end : (n : ℕ) (m : List ℕ) (p : ℕ) (c : List (List ℕ)) → ReadsBehind n m p c → PlaceStands n m (record { at = p; end = length m })
+at_end : (n : ℕ) (m : List ℕ) (p : ℕ) (c : List (List ℕ)) → ReadsBehind n m p c → RememberedStands n m (record { at = p; end = length m })
 at_end n m p c x = record {
   labels = c;
   reads = subst (λ o. ReadsBehind n o p c) (sym (take_all (length m) m (omega arith))) x;
   inside = omega arith;
 }
 
-one_more : (n : ℕ) (m : List ℕ) (p : ℕ) (l : List ℕ) (ls c : List (List ℕ)) → ReadsBehind n m p c → PlacesStand n m (places_from (p + 1 + length l) (length m) ls) → PlacesStand n m (places_from p (length m) (l ∷ ls))
+one_more : (n : ℕ) (m : List ℕ) (p : ℕ) (l : List ℕ) (ls c : List (List ℕ)) → ReadsBehind n m p c → AllRememberedStand n m (remembered_from (p + 1 + length l) (length m) ls) → AllRememberedStand n m (remembered_from p (length m) (l ∷ ls))
 one_more n m p l ls c x rest =
-    let P = PlaceStands n m in
-    let ws = places_from (p + 1 + length l) (length m) ls in
-    let here : Place = record { at = p; end = length m } in
+    let P = RememberedStands n m in
+    let ws = remembered_from (p + 1 + length l) (length m) ls in
+    let here : RememberedLabel = record { at = p; end = length m } in
     elim (nat_lt 0 (length l)) as (λ b. All P (if b then (if nat_lt p 16384 then here ∷ ws else []) else [])) [
       | true ↦ elim (nat_lt p 16384) as (λ b. All P (if b then here ∷ ws else [])) [
         | true ↦ All-cons P here ws (at_end n m p c x) rest
@@ -108,13 +108,13 @@ one_more n m p l ls c x rest =
       | false ↦ All-nil P
     ]
 
-labels_stand : (n : ℕ) (m : List ℕ) (a : List (List ℕ)) (p r : ℕ) (c : List (List ℕ)) → n ≤ p → Flat m p a r → ReadsBehind n m r c → PlacesStand n m (places_from p (length m) a)
-labels_stand n m [] p r c le f x = All-nil (PlaceStands n m)
+labels_stand : (n : ℕ) (m : List ℕ) (a : List (List ℕ)) (p r : ℕ) (c : List (List ℕ)) → n ≤ p → Flat m p a r → ReadsBehind n m r c → AllRememberedStand n m (remembered_from p (length m) a)
+labels_stand n m [] p r c le f x = All-nil (RememberedStands n m)
 labels_stand n m (l ∷ a) p r c le f x =
     one_more n m p l a ((l ∷ a) ++ c) (labels_behind (l ∷ a) p le f x) (labels_stand n m a (p + 1 + length l) r c (omega (arith, le)) f.1 x)
 
-flat_stands : (n : ℕ) {m : List ℕ} {p k : ℕ} {ls : List (List ℕ)} → (r : Reads m p k ls) → k ≡ 0 → n ≤ p → PlacesStand n m (places_from p (length m) ls)
-flat_stands n {m} (root x) e le = All-nil (PlaceStands n m)
+flat_stands : (n : ℕ) {m : List ℕ} {p k : ℕ} {ls : List (List ℕ)} → (r : Reads m p k ls) → k ≡ 0 → n ≤ p → AllRememberedStand n m (remembered_from p (length m) ls)
+flat_stands n {m} (root x) e le = All-nil (RememberedStands n m)
 flat_stands n {m} {p} (label {k = k} {l = l} {rest = ls} x r) e le =
     let here : ReadsBehind n m p (l ∷ ls) = record { pointers = k; reads = label x r; behind = λ i h. omega (arith, le, touches_flat (label x r) e i h) } in
     one_more n m p l ls (l ∷ ls) here (flat_stands n r e (omega (arith, le)))
@@ -122,7 +122,7 @@ flat_stands n (pointer x lt r) e le = absurd (omega (arith, e))
 
 -- what is written for a name, and the places of its labels
 pub record NewStands (n : ℕ) (t octets : List ℕ) (labels : List (List ℕ)) : Type 0 where
-  pub places : PlacesStand n (t ++ octets) (places_from (length t) (length (t ++ octets)) labels)
+  pub places : AllRememberedStand n (t ++ octets) (remembered_from (length t) (length (t ++ octets)) labels)
   pub read : List (List ℕ)
   pub reads : ReadsBehind n (t ++ octets) (length t) read
 
@@ -135,7 +135,7 @@ new_flat n t ls name le =
       reads = behind_from n (names_behind names) le;
     }
 
-new_pointed : (n : ℕ) (t : List ℕ) (ws : List Place) (ls a b : List (List ℕ)) (p : ℕ) → IsAbsoluteName ls → n ≤ length t → PlacesStand n t ws → LongestEnd t ws ls a b p → NewStands n t (wire a ++ pointer_to p) a
+new_pointed : (n : ℕ) (t : List ℕ) (ws : List RememberedLabel) (ls a b : List (List ℕ)) (p : ℕ) → IsAbsoluteName ls → n ≤ length t → AllRememberedStand n t ws → LongestSuffix t ws ls a b p → NewStands n t (wire a ++ pointer_to p) a
 new_pointed n t ws ls a b p name le stand found =
     let rel : IsRelative a = begins_relative a b (subst IsAbsolute found.parts name.0) (omega (arith, found.more)) in
     let end = first_stands n t b p ws stand found.place in
@@ -148,30 +148,30 @@ new_pointed n t ws ls a b p name le stand found =
       reads = labels_behind a (length t) le flat at;
     }
 
-new_stands : (n : ℕ) (t : List ℕ) (ws : List Place) (ls labels : List (List ℕ)) (s : List ℕ) → IsAbsoluteName ls → n ≤ length t → PlacesStand n t ws → Compresses t ws ls labels s → NewStands n t s labels
+new_stands : (n : ℕ) (t : List ℕ) (ws : List RememberedLabel) (ls labels : List (List ℕ)) (s : List ℕ) → IsAbsoluteName ls → n ≤ length t → AllRememberedStand n t ws → Compresses t ws ls labels s → NewStands n t s labels
 new_stands n t ws ls labels s name le stand (pointed {a} {b} {p} found read) = new_pointed n t ws ls a b p name le stand found
 new_stands n t ws ls labels s name le stand (flat none) = new_flat n t ls name le
 new_stands n t ws ls labels s name le stand (unread found not) = new_flat n t ls name le
 
 -- A name that was written is read from n on, and so are those at the places of its labels, where those at the
 -- places before are.
-pub added : (n : ℕ) (t u : List ℕ) (ws vs : List Place) (ls : List (List ℕ)) → IsAbsoluteName ls → n ≤ length t → PlacesStand n t ws → Adds t ws ls u vs → PlacesStand n u vs × ((c : List (List ℕ)) × ReadsBehind n u (length t) c)
+pub added : (n : ℕ) (t u : List ℕ) (ws vs : List RememberedLabel) (ls : List (List ℕ)) → IsAbsoluteName ls → n ≤ length t → AllRememberedStand n t ws → Adds t ws ls u vs → AllRememberedStand n u vs × ((c : List (List ℕ)) × ReadsBehind n u (length t) c)
 added n t u ws vs ls name le stand x =
     let m = t ++ x.octets in
-    let P = PlaceStands n m in
+    let P = RememberedStands n m in
     let new = new_stands n t ws ls x.labels x.octets name le stand x.compresses in
-    let both : All P (ws ++ places_from (length t) (length m) x.labels) = All-append P ws (places_from (length t) (length m) x.labels) (places_more n t x.octets ws stand) new.places in
-    let all : All P (take 128 (ws ++ places_from (length t) (length t + length x.octets) x.labels)) = subst (λ e. All P (take 128 (ws ++ places_from (length t) e x.labels))) (length-append t x.octets) (All-take P 128 (ws ++ places_from (length t) (length m) x.labels) both) in
+    let both : All P (ws ++ remembered_from (length t) (length m) x.labels) = All-append P ws (remembered_from (length t) (length m) x.labels) (remembered_more n t x.octets ws stand) new.places in
+    let all : All P (take 128 (ws ++ remembered_from (length t) (length t + length x.octets) x.labels)) = subst (λ e. All P (take 128 (ws ++ remembered_from (length t) e x.labels))) (length-append t x.octets) (All-take P 128 (ws ++ remembered_from (length t) (length m) x.labels) both) in
     let same : All P vs = subst (λ vs. All P vs) (sym x.places) all in
-    (subst (λ o. PlacesStand n o vs) (sym x.all) same, (new.read, subst (λ o. ReadsBehind n o (length t) new.read) (sym x.all) new.reads))
+    (subst (λ o. AllRememberedStand n o vs) (sym x.all) same, (new.read, subst (λ o. ReadsBehind n o (length t) new.read) (sym x.all) new.reads))
 
 -- So a name that was written is read at its place behind more octets, and whatever is written before n.
-pub added_stays : (n : ℕ) (t u v o : List ℕ) (ws vs : List Place) (ls : List (List ℕ)) → IsAbsoluteName ls → n ≤ length t → PlacesStand n t ws → Adds t ws ls u vs → drop n o ≡ drop n (u ++ v) → StandsAt o (length t) ls
+pub added_stays : (n : ℕ) (t u v o : List ℕ) (ws vs : List RememberedLabel) (ls : List (List ℕ)) → IsAbsoluteName ls → n ≤ length t → AllRememberedStand n t ws → Adds t ws ls u vs → drop n o ≡ drop n (u ++ v) → StandsAt o (length t) ls
 added_stays n t u v o ws vs ls name le stand x same =
     let new = (added n t u ws vs ls name le stand x).1 in
     let P : List ℕ → Type 0 = λ m. StandsAt m (length t) ls in
     let there : StandsAt u (length t) ls = subst P (sym x.all) (compressed_reads_back t ws ls x.labels x.octets name x.compresses).stands in
     stands_kept n (u ++ v) o (length t) new.0 ls (behind_more v new.1) same (stands_more u v (length t) ls there)
 
-pub no_places : (n : ℕ) (t : List ℕ) → PlacesStand n t []
-no_places n t = All-nil (PlaceStands n t)
+pub no_remembered : (n : ℕ) (t : List ℕ) → AllRememberedStand n t []
+no_remembered n t = All-nil (RememberedStands n t)

@@ -1,13 +1,13 @@
 -- What contracts see of a composer that compresses.
 use Rattle.std.specs.Prelude.{List}
 use Rattle.domain_compress.specs.declared.compress.CompressComposer.{CompressComposer}
-use Rattle.domain_compress.specs.Compressing.{Place}
-use Rattle.domain_compress.specs.Written.{places}
+use Rattle.domain_compress.specs.Compressing.{RememberedLabel}
+use Rattle.domain_compress.specs.Written.{all_remembered}
 
 -- the target
 abbrev pub target_of : {T E : Type 0} {g : _} {h : _} {i : _} {j : _} {k : _} → CompressComposer T E g h i j k → T
 target_of c = c.target
 
 -- the places that it remembers
-abbrev pub written_places : {T E : Type 0} {g : _} {h : _} {i : _} {j : _} {k : _} → CompressComposer T E g h i j k → List Place
-written_places c = places c.written.items
+abbrev pub remembered_labels : {T E : Type 0} {g : _} {h : _} {i : _} {j : _} {k : _} → CompressComposer T E g h i j k → List RememberedLabel
+remembered_labels c = all_remembered c.written.items

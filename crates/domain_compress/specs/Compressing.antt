@@ -4,7 +4,7 @@ use Rattle.domain_label.specs.Wire.{wire}
 use Rattle.domain_rdata.specs.ReadBack.{StandsAt}
 
 -- A place at which a label was written, and the end of the name that it was written for.
-pub record Place : Type 0 where
+pub record RememberedLabel : Type 0 where
   pub at : ℕ
   pub end : ℕ
 
@@ -13,56 +13,56 @@ abbrev pub pointer_to : ℕ → List ℕ
 pointer_to p = (192 + p / 256) ∷ p % 256 ∷ []
 
 -- A name that equals b without case stands at none of the places.
-abbrev pub NoPlace : List ℕ → List Place → List (List ℕ) → Type 0
-NoPlace t [] b = ⊤
-NoPlace t (w ∷ ws) b = (StandsAt t w.at b → ⊥) × NoPlace t ws b
+abbrev pub NoneRemembered : List ℕ → List RememberedLabel → List (List ℕ) → Type 0
+NoneRemembered t [] b = ⊤
+NoneRemembered t (w ∷ ws) b = (StandsAt t w.at b → ⊥) × NoneRemembered t ws b
 
 -- Such a name stands at p, the first such one of the places.
-abbrev pub FirstPlace : List ℕ → List Place → List (List ℕ) → ℕ → Type 0
-FirstPlace t [] b p = ⊥
-FirstPlace t (w ∷ ws) b p = (StandsAt t w.at b × (p ≡ w.at)) ⊎ ((StandsAt t w.at b → ⊥) × FirstPlace t ws b p)
+abbrev pub FirstRemembered : List ℕ → List RememberedLabel → List (List ℕ) → ℕ → Type 0
+FirstRemembered t [] b p = ⊥
+FirstRemembered t (w ∷ ws) b p = (StandsAt t w.at b × (p ≡ w.at)) ⊎ ((StandsAt t w.at b → ⊥) × FirstRemembered t ws b p)
 
 -- ls is a and then b, which isn't the root alone. b is the longest end of ls that stands at one of the places,
 -- and p is the first of these.
-pub record LongestEnd (t : List ℕ) (ws : List Place) (ls a b : List (List ℕ)) (p : ℕ) : Type 0 where
+pub record LongestSuffix (t : List ℕ) (ws : List RememberedLabel) (ls a b : List (List ℕ)) (p : ℕ) : Type 0 where
   pub parts : ls ≡ a ++ b
   pub more : 1 < length b
-  pub place : FirstPlace t ws b p
-  pub longest : (xs ys : List (List ℕ)) → ls ≡ xs ++ ys → length xs < length a → NoPlace t ws ys
+  pub place : FirstRemembered t ws b p
+  pub longest : (xs ys : List (List ℕ)) → ls ≡ xs ++ ys → length xs < length a → NoneRemembered t ws ys
 
 -- No end of ls but the root stands at any of the places.
-abbrev pub NoEnd : List ℕ → List Place → List (List ℕ) → Type 0
-NoEnd t ws ls = (xs ys : List (List ℕ)) → ls ≡ xs ++ ys → 1 < length ys → NoPlace t ws ys
+abbrev pub NoSuffix : List ℕ → List RememberedLabel → List (List ℕ) → Type 0
+NoSuffix t ws ls = (xs ys : List (List ℕ)) → ls ≡ xs ++ ys → 1 < length ys → NoneRemembered t ws ys
 
 -- Behind t, a and a pointer to p are read as a name that equals ls without case.
 abbrev pub IsRead : List ℕ → List (List ℕ) → List (List ℕ) → ℕ → Type 0
 IsRead t ls a p = StandsAt (t ++ (wire a ++ pointer_to p)) (length t) ls
 
 -- What is written behind t for the name ls: the labels, and all octets.
-pub data Compresses (t : List ℕ) (ws : List Place) (ls : List (List ℕ)) : List (List ℕ) → List ℕ → Type 0 where
-  pointer : {a b : List (List ℕ)} {p : ℕ} → LongestEnd t ws ls a b p → IsRead t ls a p → Compresses t ws ls a (wire a ++ pointer_to p)
-  flat : NoEnd t ws ls → Compresses t ws ls ls (wire ls)
-  unread : {a b : List (List ℕ)} {p : ℕ} → LongestEnd t ws ls a b p → (IsRead t ls a p → ⊥) → Compresses t ws ls ls (wire ls)
+pub data Compresses (t : List ℕ) (ws : List RememberedLabel) (ls : List (List ℕ)) : List (List ℕ) → List ℕ → Type 0 where
+  pointer : {a b : List (List ℕ)} {p : ℕ} → LongestSuffix t ws ls a b p → IsRead t ls a p → Compresses t ws ls a (wire a ++ pointer_to p)
+  flat : NoSuffix t ws ls → Compresses t ws ls ls (wire ls)
+  unread : {a b : List (List ℕ)} {p : ℕ} → LongestSuffix t ws ls a b p → (IsRead t ls a p → ⊥) → Compresses t ws ls ls (wire ls)
 
 -- The places of these labels, the root left out, from the place p on; a pointer leads to places below 16,384
 -- only.
-abbrev pub places_from : ℕ → ℕ → List (List ℕ) → List Place
-places_from p end [] = []
-places_from p end (l ∷ ls) =
-    if nat_lt 0 (length l) then (if nat_lt p 16384 then record { at = p; end = end } ∷ places_from (p + 1 + length l) end ls else []) else []
+abbrev pub remembered_from : ℕ → ℕ → List (List ℕ) → List RememberedLabel
+remembered_from p end [] = []
+remembered_from p end (l ∷ ls) =
+    if nat_lt 0 (length l) then (if nat_lt p 16384 then record { at = p; end = end } ∷ remembered_from (p + 1 + length l) end ls else []) else []
 
 -- The places ws, and those of the labels that were written behind t, up to 128 in all.
-abbrev pub more_places : List Place → List ℕ → List (List ℕ) → List ℕ → List Place
-more_places ws t labels s = take 128 (ws ++ places_from (length t) (length t + length s) labels)
+abbrev pub more_remembered : List RememberedLabel → List ℕ → List (List ℕ) → List ℕ → List RememberedLabel
+more_remembered ws t labels s = take 128 (ws ++ remembered_from (length t) (length t + length s) labels)
 
 -- The places of names that end within the first n octets.
-abbrev pub places_within : ℕ → List Place → List Place
-places_within n = filter (λ w. nat_le w.end n)
+abbrev pub remembered_within : ℕ → List RememberedLabel → List RememberedLabel
+remembered_within n = filter (λ w. nat_le w.end n)
 
 -- The octets t and the places ws become t' and ws': the name ls was written.
-pub record Adds (t : List ℕ) (ws : List Place) (ls : List (List ℕ)) (t' : List ℕ) (ws' : List Place) : Type 0 where
+pub record Adds (t : List ℕ) (ws : List RememberedLabel) (ls : List (List ℕ)) (t' : List ℕ) (ws' : List RememberedLabel) : Type 0 where
   pub labels : List (List ℕ)
   pub octets : List ℕ
   pub compresses : Compresses t ws ls labels octets
   pub all : t' ≡ t ++ octets
-  pub places : ws' ≡ more_places ws t labels octets
+  pub places : ws' ≡ more_remembered ws t labels octets

@@ -1,5 +1,5 @@
 -- The ends of a name by their first labels.
-use Rattle.std.specs.Prelude.{◌≡◌, ℕ, ◌+◌, ◌-◌, ◌*◌, ◌%◌, ◌<◌, List, [], ◌∷◌, ◌++◌, length, slice_index}
+use Rattle.std.specs.Prelude.{◌≡◌, ℕ, ◌+◌, ◌*◌, ◌/◌, ◌%◌, ◌^◌, ◌<◌, List, [], ◌∷◌, ◌++◌, fold, length, slice_index}
 use Rattle.domain_label.specs.Wire.{labels_in}
 
 -- The first label; none where there is no label.
@@ -7,13 +7,12 @@ abbrev pub first_label : List (List ℕ) → List ℕ
 first_label [] = []
 first_label (l ∷ ls) = l
 
--- A number below 65,536 that labels share which are equal without case: of how many octets they have, of the
--- first and of the last.
-abbrev pub hash_of : ℕ → ℕ → ℕ → ℕ
-hash_of n c d = n * 67 + c % 32 * 29 + d % 32 * 7
+-- A number below 65,536 that labels share which are equal without case: of how many octets they have, and of each.
+abbrev pub hash_step : ℕ → ℕ → ℕ
+hash_step h c = (h * 8 % 2 ^ 64 + c % 32) % 2 ^ 64
 
 abbrev pub label_hash : List ℕ → ℕ
-label_hash l = hash_of (length l) (slice_index l 0) (slice_index l (length l - 1))
+label_hash l = fold hash_step (length l) l * 11400714819323198485 % 2 ^ 64 / 2 ^ 48
 
 abbrev pub first_hash : List (List ℕ) → ℕ
 first_hash ls = label_hash (first_label ls)

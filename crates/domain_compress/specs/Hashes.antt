@@ -1,12 +1,12 @@
 -- What is remembered of the label at a place.
-use Rattle.std.specs.Prelude.{◌≡◌, ℕ, ◌+◌, ◌<◌, List, length, slice_index, Bool, true}
+use Rattle.std.specs.Prelude.{◌≡◌, ℕ, ◌+◌, ◌<◌, List, length, slice_index, slice_range, Bool, true}
 use Rattle.std.specs.List.{All}
 use Rattle.domain_compress.specs.declared.written.Written.{Written}
-use Rattle.domain_compress.specs.Ends.{hash_of}
+use Rattle.domain_compress.specs.Ends.{label_hash}
 
 -- The hash of the label whose first octet stands at p.
 abbrev pub hash_at : List ℕ → ℕ → ℕ
-hash_at t p = hash_of (slice_index t p) (slice_index t (p + 1)) (slice_index t (p + slice_index t p))
+hash_at t p = label_hash (slice_range t (p + 1) (p + 1 + slice_index t p))
 
 -- A label stands at p within t, and has that hash.
 abbrev pub HasHash : List ℕ → ℕ → ℕ → Type 0

@@ -7,3 +7,4 @@ pub mod Composers
 pub mod Beginnings
 pub mod MayWrite
 pub mod Standing
+pub mod Planned

@@ -1,12 +1,12 @@
 -- What a composer that compresses may write.
 use Rattle.std.specs.Prelude.{ℕ, List}
 use Rattle.domain_rdata.specs.ReadBack.{Appended}
-use Rattle.domain_compress.specs.Compressing.{Place, Compresses, Adds}
+use Rattle.domain_compress.specs.Compressing.{RememberedLabel, Compresses, Adds}
 
 -- The octets that may be written behind t for the name ls.
-abbrev pub MayWrite : List ℕ → List Place → List (List ℕ) → List ℕ → Type 0
+abbrev pub MayWrite : List ℕ → List RememberedLabel → List (List ℕ) → List ℕ → Type 0
 MayWrite t ws ls s = (labels : List (List ℕ)) × Compresses t ws ls labels s
 
 -- So they are appended where a name was written.
-pub adds_appended : (t : List ℕ) (ws ws' : List Place) (ls : List (List ℕ)) (t' : List ℕ) → Adds t ws ls t' ws' → Appended (MayWrite t ws ls) t t'
+pub adds_appended : (t : List ℕ) (ws ws' : List RememberedLabel) (ls : List (List ℕ)) (t' : List ℕ) → Adds t ws ls t' ws' → Appended (MayWrite t ws ls) t t'
 adds_appended t ws ws' ls t' x = record { octets = x.octets; allowed = (x.labels, x.compresses); all = x.all }

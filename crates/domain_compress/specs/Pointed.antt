@@ -3,12 +3,12 @@ use Rattle.std.proofs.Common.{◌≡◌, ℕ, ◌+◌, ◌-◌, ◌/◌, ◌%◌
 use Rattle.std.proofs.lemmas.Grind.{common_steps}
 use Rattle.std.proofs.Math.Seq.{take-append_seam, drop-append-add}
 use Rattle.domain_label.specs.Wire.{wire, IsAbsolute, IsRelative, IsAbsoluteName}
-use Rattle.domain_reading.specs.Grammar.{LabelAt, PointerAt, Flat, Front}
+use Rattle.domain_reading.specs.Grammar.{LabelAt, PointerAt, Flat, Encoding}
 use Rattle.domain_reading.specs.Grammar.Stop.{pointer as stop_pointer}
 use Rattle.domain_label.proofs.WireLaws.{length-wire_append}
 use Rattle.domain_rdata.specs.ReadBack.{ReadsBack}
 use Rattle.domain_rdata.specs.FlatNames.{wire_reads_back}
-use Rattle.domain_compress.specs.Compressing.{Place, pointer_to, LongestEnd, IsRead, Compresses}
+use Rattle.domain_compress.specs.Compressing.{RememberedLabel, pointer_to, LongestSuffix, IsRead, Compresses}
 use Rattle.domain_compress.specs.Compressing.Compresses.{pointer, flat, unread}
 
 label_slice : (t l u : List ℕ) (n : ℕ) → slice_range (t ++ n ∷ (l ++ u)) (length t + 1) (length t + 1 + length l) ≡ l
@@ -36,12 +36,13 @@ flat_behind t l u a some few tail =
     let here = subst (λ xs. LabelAt (t ++ (length l ∷ xs)) (length t) l) (sym (append_assoc l (wire a) u)) (label_plain t l (wire a ++ u) some few) in
     (here, subst (λ r. Flat m (length t + 1 + length l) a r) end moved)
 
--- Labels stand where their wire form does.
+-- Labels stand where their wire format does.
 pub flat_plain : (a : List (List ℕ)) (t u : List ℕ) → IsRelative a → Flat (t ++ (wire a ++ u)) (length t) a (length t + length (wire a))
 flat_plain [] t u r = omega arith
 flat_plain ([] ∷ a) t u r = absurd r
 flat_plain ((c ∷ l) ∷ a) t u r = flat_behind t (c ∷ l) u a (omega arith) r.0 (flat_plain a (t ++ length (c ∷ l) ∷ c ∷ l) u r.1)
 
+-- A list that has no label has none after another.
 pub nothing_behind : (a b : List (List ℕ)) → a ++ b ≡ [] → 0 < length b → ⊥
 nothing_behind a b h some =
     let e : length (a ++ b) ≡ 0 = ap length h in
@@ -76,13 +77,13 @@ end_size [] h = absurd (omega arith)
 end_size (l ∷ []) h = absurd (omega arith)
 end_size (l ∷ m ∷ b) h = omega (arith, length-append l (wire (m ∷ b)))
 
-pointed : (t : List ℕ) (ws : List Place) (ls a b : List (List ℕ)) (p : ℕ) → IsAbsoluteName ls → LongestEnd t ws ls a b p → IsRead t ls a p → ReadsBack t ls (wire a ++ pointer_to p)
+pointed : (t : List ℕ) (ws : List RememberedLabel) (ls a b : List (List ℕ)) (p : ℕ) → IsAbsoluteName ls → LongestSuffix t ws ls a b p → IsRead t ls a p → ReadsBack t ls (wire a ++ pointer_to p)
 pointed t ws ls a b p name found read =
     let some : 0 < length b = omega (arith, found.more) in
     let rel : IsRelative a = begins_relative a b (subst IsAbsolute found.parts name.0) some in
     let s = wire a ++ pointer_to p in
     let behind = pointer_behind t a p in
-    let front : Front (t ++ s) (length t) a (stop_pointer p) (length t + length s) = record { stop = length t + length (wire a); flat = flat_plain a t (pointer_to p) rel; ends = (behind, omega (arith, length-append (wire a) (pointer_to p))) } in
+    let front : Encoding (t ++ s) (length t) a (stop_pointer p) (length t + length s) = record { stop = length t + length (wire a); flat = flat_plain a t (pointer_to p) rel; ends = (behind, omega (arith, length-append (wire a) (pointer_to p))) } in
     record {
       short = omega (arith, length-append (wire a) (pointer_to p), ap (λ xs. length (wire xs)) found.parts, length-wire_append a b, end_size b found.more);
       stands = read;
@@ -90,7 +91,7 @@ pointed t ws ls a b p name found read =
     }
 
 -- What is written is read back.
-pub compressed_reads_back : (t : List ℕ) (ws : List Place) (ls w : List (List ℕ)) (s : List ℕ) → IsAbsoluteName ls → Compresses t ws ls w s → ReadsBack t ls s
+pub compressed_reads_back : (t : List ℕ) (ws : List RememberedLabel) (ls w : List (List ℕ)) (s : List ℕ) → IsAbsoluteName ls → Compresses t ws ls w s → ReadsBack t ls s
 compressed_reads_back t ws ls w s name (pointer {a} {b} {p} found read) = pointed t ws ls a b p name found read
 compressed_reads_back t ws ls w s name (flat none) = wire_reads_back t ls name
 compressed_reads_back t ws ls w s name (unread found unreadable) = wire_reads_back t ls name

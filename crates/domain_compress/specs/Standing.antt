@@ -2,14 +2,14 @@
 use Rattle.std.specs.Prelude.{ℕ, ◌≤◌, List, length, take}
 use Rattle.std.specs.List.{All}
 use Rattle.domain_reading.specs.Touched.{ReadsBehind}
-use Rattle.domain_compress.specs.Compressing.{Place}
+use Rattle.domain_compress.specs.Compressing.{RememberedLabel}
 
 -- Labels are read at the place w, from octets between n and the end of the name that was written there.
-pub record PlaceStands (n : ℕ) (t : List ℕ) (w : Place) : Type 0 where
+pub record RememberedStands (n : ℕ) (t : List ℕ) (w : RememberedLabel) : Type 0 where
   pub labels : List (List ℕ)
   pub reads : ReadsBehind n (take w.end t) w.at labels
   pub inside : w.end ≤ length t
 
 -- So they are at each of the places.
-abbrev pub PlacesStand : ℕ → List ℕ → List Place → Type 0
-PlacesStand n t ws = All (PlaceStands n t) ws
+abbrev pub AllRememberedStand : ℕ → List ℕ → List RememberedLabel → Type 0
+AllRememberedStand n t ws = All (RememberedStands n t) ws

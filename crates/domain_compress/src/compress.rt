@@ -4,10 +4,10 @@ ghost use Rattle.std.proofs.lemmas.Bool.{true≢false, false≢true};
 ghost use Rattle.std.proofs.Props.{props};
 ghost use Rattle.domain_label.specs.Wire.{labels_in, IsAbsoluteWire};
 ghost use Rattle.domain_rdata.specs.ReadBack.{Appended, Exceeds};
-ghost use Rattle.domain_compress.specs.Compressing.{Adds, Place, places_within};
+ghost use Rattle.domain_compress.specs.Compressing.{Adds, RememberedLabel, remembered_within};
 ghost use Rattle.domain_compress.specs.Hashes.{IsKnown};
 ghost use Rattle.domain_compress.specs.MayWrite.{MayWrite, adds_appended};
-ghost use Rattle.domain_compress.specs.Written.{places};
+ghost use Rattle.domain_compress.specs.Written.{all_remembered};
 
 use crate::append::append_beginning;
 use crate::remember::{forget, remember};
@@ -38,12 +38,12 @@ pub struct CompressComposer<T: Composer> {
 }
 
 impl<T: Composer> CompressComposer<T> {
-    ghost use Rattle.domain_compress.specs.Composers.{written_places, target_of};
+    ghost use Rattle.domain_compress.specs.Composers.{remembered_labels, target_of};
 
     /// A composer of messages that begin with what the target holds. No place in that is remembered.
     pub fn new(target: T) -> Self
         ensures target { target_of result ≡ target }
-        ensures places { written_places result ≡ [] }
+        ensures places { remembered_labels result ≡ [] }
     {
         CompressComposer {
             target,
@@ -85,14 +85,14 @@ impl<T: Composer> OctetsMut for CompressComposer<T> {
 }
 
 impl<T: Composer> Truncate for CompressComposer<T> {
-    ghost use Rattle.domain_compress.specs.Composers.{written_places};
+    ghost use Rattle.domain_compress.specs.Composers.{remembered_labels};
 
     /// Keeps the first `len` octets, all where `len` is larger, and forgets the places of names that ended past
     /// them.
     fn truncate(&mut self, len: usize)
         ensures octets { T.octets self.new.target ≡ take len (T.octets self.old.target) }
         ensures capacity { T.capacity self.new.target ≡ T.capacity self.old.target }
-        ensures places { written_places self.new ≡ places_within len (written_places self.old) }
+        ensures places { remembered_labels self.new ≡ remembered_within len (remembered_labels self.old) }
     {
         // While octets go away under the places, no hash counts.
         self.hashed = false;
@@ -102,7 +102,7 @@ impl<T: Composer> Truncate for CompressComposer<T> {
 }
 
 impl<T: Composer> OctetsBuilder for CompressComposer<T> {
-    ghost use Rattle.domain_compress.specs.Composers.{written_places};
+    ghost use Rattle.domain_compress.specs.Composers.{remembered_labels};
 
     type AppendError = T::AppendError;
 
@@ -111,11 +111,11 @@ impl<T: Composer> OctetsBuilder for CompressComposer<T> {
     /// Appends all of the octets, or none, as the target does. The places stay.
     fn append_slice(&mut self, slice: &[u8]) -> Result<(), T::AppendError>
         ensures ok { OnOk result (T.octets self.new.target ≡ T.octets self.old.target ++ slice.now) }
-        ensures err { OnErr result (T.octets self.new.target ≡ T.octets self.old.target) }
+        ensures unchanged { OnErr result (T.octets self.new.target ≡ T.octets self.old.target) }
         ensures full { OnErr result (T.capacity self.new.target < length (T.octets self.old.target) + length slice.now) }
         ensures capacity { T.capacity self.old.target ≤ T.capacity self.new.target }
         ensures within { IfSome T.limit (λ n. length (T.octets self.new.target) ≤ n) }
-        ensures places { written_places self.new ≡ written_places self.old }
+        ensures places { remembered_labels self.new ≡ remembered_labels self.old }
     {
         self.target.append_slice(slice)
     }
@@ -128,32 +128,32 @@ impl<T: Composer> OctetsBuilder for CompressComposer<T> {
 }
 
 impl<T: Composer> Composer for CompressComposer<T> {
-    ghost use Rattle.domain_compress.specs.Composers.{written_places};
+    ghost use Rattle.domain_compress.specs.Composers.{remembered_labels};
     ghost use Rattle.domain_compress.specs.Pointed.{compressed_reads_back};
 
-    ghost may_append = { λ c ls s. MayWrite (T.octets c.target) (places c.written.items) ls s };
+    ghost may_append = { λ c ls s. MayWrite (T.octets c.target) (all_remembered c.written.items) ls s };
 
     ghost compresses = { true };
 
-    ghost Memory = { List Place };
+    ghost Memory = { List RememberedLabel };
 
-    ghost memory = { written_places };
+    ghost memory = { remembered_labels };
 
-    ghost appends = { λ c ls d. Adds (T.octets c.target) (written_places c) ls (T.octets d.target) (written_places d) };
+    ghost appends = { λ c ls d. Adds (T.octets c.target) (remembered_labels c) ls (T.octets d.target) (remembered_labels d) };
 
     /// Appends the labels before the longest end of the name that stands at a place that is remembered, and a
-    /// pointer to the first such place; or the wire form. The places of the labels that were written are
+    /// pointer to the first such place; or the wire format. The places of the labels that were written are
     /// remembered.
     ///
     /// It is refused only where these octets exceed the spare capacity of the target. Octets and places are
     /// then as before.
     fn append_flat_name(&mut self, name: &[u8]) -> Result<(), T::AppendError>
         requires { IsAbsoluteWire name.now }
-        ensures appends { OnOk result (Adds (T.octets self.old.target) (written_places self.old) (labels_in name.now) (T.octets self.new.target) (written_places self.new)) }
-        ensures ok { OnOk result (Appended (MayWrite (T.octets self.old.target) (written_places self.old) (labels_in name.now)) (T.octets self.old.target) (T.octets self.new.target)) }
-        ensures err { OnErr result (T.octets self.new.target ≡ T.octets self.old.target) }
-        ensures kept { OnErr result (written_places self.new ≡ written_places self.old) }
-        ensures full { OnErr result (Exceeds (MayWrite (T.octets self.old.target) (written_places self.old) (labels_in name.now)) (T.octets self.old.target) (T.capacity self.old.target)) }
+        ensures appends { OnOk result (Adds (T.octets self.old.target) (remembered_labels self.old) (labels_in name.now) (T.octets self.new.target) (remembered_labels self.new)) }
+        ensures ok { OnOk result (Appended (MayWrite (T.octets self.old.target) (remembered_labels self.old) (labels_in name.now)) (T.octets self.old.target) (T.octets self.new.target)) }
+        ensures unchanged { OnErr result (T.octets self.new.target ≡ T.octets self.old.target) }
+        ensures memory_unchanged { OnErr result (remembered_labels self.new ≡ remembered_labels self.old) }
+        ensures full { OnErr result (Exceeds (MayWrite (T.octets self.old.target) (remembered_labels self.old) (labels_in name.now)) (T.octets self.old.target) (T.capacity self.old.target)) }
         ensures capacity { T.capacity self.old.target ≤ T.capacity self.new.target }
     {
         let start = self.target.as_slice().len();
@@ -192,9 +192,9 @@ impl<T: Composer> Composer for CompressComposer<T> {
         true
     }
 
-    ghost appended = { λ c d ls. adds_appended (T.octets c.target) (written_places c) (written_places d) ls (T.octets d.target) };
+    ghost appended = { λ c d ls. adds_appended (T.octets c.target) (remembered_labels c) (remembered_labels d) ls (T.octets d.target) };
 
-    ghost reads_back = { λ c ls s name w. compressed_reads_back (T.octets c.target) (places c.written.items) ls w.0 s name w.1 };
+    ghost reads_back = { λ c ls s name w. compressed_reads_back (T.octets c.target) (all_remembered c.written.items) ls w.0 s name w.1 };
 
     ghost flat = { λ c ls s h w. absurd (true≢false h) };
 }

@@ -5,6 +5,7 @@ mod append;
 pub mod compress;
 pub mod laws;
 mod marks;
+pub mod plan;
 mod remember;
 mod search;
 mod written;

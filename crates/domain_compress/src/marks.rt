@@ -2,14 +2,21 @@
 ghost use Rattle.std.specs.Prelude.{◌≡◌, ◌<◌, ℕ, List, length, slice_index, nat_eq, IsTrue, true};
 ghost use Rattle.domain_label.specs.Wire.{IsAbsoluteWire};
 ghost use Rattle.domain_rdata.specs.ReadBack.{StandsAt};
-ghost use Rattle.domain_compress.specs.Ends.{first_label, hash_of, slot_of, IsMarked, AreMarked};
+ghost use Rattle.domain_compress.specs.Ends.{first_label, label_hash, slot_of, IsMarked, AreMarked};
 ghost use Rattle.domain_compress.specs.Hashes.{HasHash};
 
-/// The hash of a label, by its length, its first octet and its last, without case.
-fn hash(len: u8, first: u8, last: u8) -> u16
-    ensures { result ≡ hash_of len first last }
+/// Spreads what was counted over the highest bits: 2 ^ 64 by the golden ratio.
+const SPREAD: u64 = 11400714819323198485;
+
+/// The hash of a label, by its length and each octet, without case.
+fn hash(label: &[u8]) -> u16
+    ensures { result ≡ label_hash label.now }
 {
-    u16::from(len) * 67 + u16::from(first % 32) * 29 + u16::from(last % 32) * 7
+    let mut sum = label.len() as u64;
+    for octet in label {
+        sum = sum.wrapping_mul(8).wrapping_add(u64::from(*octet % 32));
+    }
+    (sum.wrapping_mul(SPREAD) / 281474976710656) as u16
 }
 
 /// Where a hash is marked.
@@ -33,10 +40,10 @@ pub(crate) fn mark_firsts(marks: &mut [u8; 256], name: &[u8])
 {
     let mut begin = 0;
     'ends: while name[begin] != 0 {
-        let size = usize::from(name[begin]);
-        let hash = hash(name[begin], name[begin + 1], name[begin + size]);
-        marks[slot(hash)] = 1;
-        begin = begin + 1 + size;
+        let start = begin + 1;
+        let end = start + usize::from(name[begin]);
+        marks[slot(hash(&name[start..end]))] = 1;
+        begin = end;
     }
 }
 
@@ -49,11 +56,12 @@ pub(crate) fn hash_there(octets: &[u8], place: usize) -> (bool, u16)
         return (false, 0);
     }
     let len = octets[place];
-    let last = place + usize::from(len);
-    if len >= 64 || last + 1 >= octets.len() {
+    let start = place + 1;
+    let end = start + usize::from(len);
+    if len >= 64 || end >= octets.len() {
         return (false, 0);
     }
-    (true, hash(len, octets[place + 1], octets[last]))
+    (true, hash(&octets[start..end]))
 }
 
 /// Whether a name whose first label has a marked hash may stand at the place. Where a pointer stands it may.
@@ -68,9 +76,10 @@ pub(crate) fn may_stand(octets: &[u8], place: usize, marks: &[u8; 256]) -> bool
     if len >= 64 {
         return true;
     }
-    let last = place + usize::from(len);
-    if last >= octets.len() {
+    let start = place + 1;
+    let end = start + usize::from(len);
+    if end > octets.len() {
         return false;
     }
-    is_marked(marks, hash(len, octets[place + 1], octets[last]))
+    is_marked(marks, hash(&octets[start..end]))
 }

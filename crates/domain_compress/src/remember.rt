@@ -1,9 +1,9 @@
 //! Remembering where labels were written.
 ghost use Rattle.std.specs.Prelude.{◌≡◌, ◌++◌, ◌+◌, ◌≤◌, take};
 ghost use Rattle.domain_label.specs.Wire.{labels_in, IsWire};
-ghost use Rattle.domain_compress.specs.Compressing.{places_from, places_within};
+ghost use Rattle.domain_compress.specs.Compressing.{remembered_from, remembered_within};
 ghost use Rattle.domain_compress.specs.Hashes.{IsKnown};
-ghost use Rattle.domain_compress.specs.Written.{places};
+ghost use Rattle.domain_compress.specs.Written.{all_remembered};
 
 use crate::marks::hash_there;
 use crate::written::Written;
@@ -25,7 +25,7 @@ pub(crate) fn remember(
     requires labels { IsWire labels.now }
     requires end { end ≤ start + 255 }
     ensures known { IsKnown hashed octets.now written.old.items → IsKnown result octets.now written.new.items }
-    ensures places { places written.new.items ≡ take 128 (places written.old.items ++ places_from start end (labels_in labels.now)) }
+    ensures places { all_remembered written.new.items ≡ take 128 (all_remembered written.old.items ++ remembered_from start end (labels_in labels.now)) }
 {
     if written.remaining_capacity() == 0 {
         return hashed;
@@ -63,7 +63,7 @@ pub(crate) fn remember(
 /// are those of the labels in the octets.
 pub(crate) fn forget(written: &mut ArrayVec<Written, 128>, octets: &[u8], len: usize) -> bool
     ensures known { IsKnown result octets.now written.new.items }
-    ensures places { places written.new.items ≡ places_within len (places written.old.items) }
+    ensures places { all_remembered written.new.items ≡ remembered_within len (all_remembered written.old.items) }
 {
     let _room = written.remaining_capacity();
     let mut kept = ArrayVec::new();

@@ -2,13 +2,12 @@
 ghost use Rattle.std.specs.Prelude.{◌≡◌, ◌<◌, IfSome, IsNone};
 ghost use Rattle.domain_label.specs.Wire.{labels_in, IsAbsoluteWire};
 ghost use Rattle.domain_rdata.specs.ReadBack.{StandsAt};
-ghost use Rattle.domain_compress.specs.Compressing.{NoEnd};
-ghost use Rattle.domain_compress.specs.Ends.{AreMarked};
+ghost use Rattle.domain_compress.specs.Compressing.{NoSuffix};
 ghost use Rattle.domain_compress.specs.Hashes.{IsKnown};
-ghost use Rattle.domain_compress.specs.Written.{places, StandsThrough, EndAt, NoEndAt, EndFound, Improves, begin_or_length};
+ghost use Rattle.domain_compress.specs.Written.{all_remembered, StandsThrough, SuffixAt, NoSuffixAt, SuffixFound, Improves, begin_or_length};
 
 use crate::marks::{is_marked, mark_firsts, may_stand};
-use crate::written::{StandingEnd, Written};
+use crate::written::{Written, WrittenSuffix};
 use domain_label::same::same_octets;
 use domain_reading::head::{Head, read_head};
 use domain_reading::heads::Heads;
@@ -80,10 +79,10 @@ fn pointers_at_with<L: Ledger>(octets: &[u8], place: usize, name: &[u8], blank: 
 
 /// The first end of the name that is read at the place, without case, of those that begin before `upto`; and
 /// through how many pointers. The root alone is no end.
-fn end_at(octets: &[u8], place: usize, name: &[u8], upto: usize) -> Option<(usize, u8)>
+fn suffix_at(octets: &[u8], place: usize, name: &[u8], upto: usize) -> Option<(usize, u8)>
     requires { IsAbsoluteWire name.now }
-    ensures none { IsNone result → NoEndAt octets.now place name.now upto }
-    ensures some { IfSome result (λ r. EndAt octets.now place name.now upto r.0 r.1) }
+    ensures none { IsNone result → NoSuffixAt octets.now place name.now upto }
+    ensures some { IfSome result (λ r. SuffixAt octets.now place name.now upto r.0 r.1) }
 {
     let mut begin = 0;
     'ends: while begin < upto {
@@ -99,7 +98,7 @@ fn end_at(octets: &[u8], place: usize, name: &[u8], upto: usize) -> Option<(usiz
 }
 
 /// Where the end begins; where there is none, how long the name is.
-fn begin_or_len(end: Option<StandingEnd>, name: &[u8]) -> usize
+fn begin_or_len(end: Option<WrittenSuffix>, name: &[u8]) -> usize
     ensures { result ≡ begin_or_length end name.now }
 {
     match end {
@@ -109,23 +108,18 @@ fn begin_or_len(end: Option<StandingEnd>, name: &[u8]) -> usize
 }
 
 /// The longer one of the longest end that was found so far and the one that is read at a further place.
-fn better_end(
+fn better_suffix(
     octets: &[u8],
     written: Written,
     name: &[u8],
-    marks: &[u8; 256],
-    best: Option<StandingEnd>,
-) -> Option<StandingEnd>
-    requires wire { IsAbsoluteWire name.now }
-    requires marked { AreMarked marks.now name.now }
+    best: Option<WrittenSuffix>,
+) -> Option<WrittenSuffix>
+    requires { IsAbsoluteWire name.now }
     ensures { Improves octets.now written name.now best result }
 {
     let place = usize::from(written.place);
-    if !may_stand(octets, place, marks) {
-        return best;
-    }
-    match end_at(octets, place, name, begin_or_len(best, name)) {
-        Some((begin, pointers)) => Some(StandingEnd {
+    match suffix_at(octets, place, name, begin_or_len(best, name)) {
+        Some((begin, pointers)) => Some(WrittenSuffix {
             begin,
             place: written.place,
             pointers,
@@ -139,16 +133,16 @@ fn better_end(
 ///
 /// It goes over the places once. What stands at most of them begins with a label of another hash than any end
 /// of the name: where the hashes count, the octets aren't read there.
-pub(crate) fn longest_end(
+pub(crate) fn longest_suffix(
     octets: &[u8],
     written: &[Written],
     name: &[u8],
     hashed: bool,
-) -> Option<StandingEnd>
+) -> Option<WrittenSuffix>
     requires wire { IsAbsoluteWire name.now }
     requires known { IsKnown hashed octets.now written.now }
-    ensures none { IsNone result → NoEnd octets.now (places written.now) (labels_in name.now) }
-    ensures some { IfSome result (λ end. EndFound octets.now (places written.now) name.now end) }
+    ensures none { IsNone result → NoSuffix octets.now (all_remembered written.now) (labels_in name.now) }
+    ensures some { IfSome result (λ end. SuffixFound octets.now (all_remembered written.now) name.now end) }
 {
     let mut marks = [0u8; 256];
     mark_firsts(&mut marks, name);
@@ -156,10 +150,14 @@ pub(crate) fn longest_end(
     let mut rest = written;
     'places: while let Some((first, more)) = rest.split_first() {
         rest = more;
-        if hashed && !is_marked(&marks, first.hash) {
+        if hashed {
+            if !is_marked(&marks, first.hash) {
+                continue;
+            }
+        } else if !may_stand(octets, usize::from(first.place), &marks) {
             continue;
         }
-        best = better_end(octets, *first, name, &marks, best);
+        best = better_suffix(octets, *first, name, best);
         if let Some(end) = best {
             if end.begin == 0 {
                 return Some(end);

@@ -22,7 +22,7 @@ impl Default for Written {
 
 /// An end of a name that stands at a place of the octets.
 #[derive(Clone, Copy)]
-pub(crate) struct StandingEnd {
+pub(crate) struct WrittenSuffix {
     /// Where it begins in the octets of the name.
     pub(crate) begin: usize,
     /// The place.

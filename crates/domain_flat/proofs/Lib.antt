@@ -1,6 +1,6 @@
-pub mod Passing
-pub mod Seams
+pub mod LabelsFromLeft
+pub mod LabelBounds
 pub mod Starts
-pub mod Cuts
+pub mod Splits
 pub mod OneFault
 pub mod NotBoth

@@ -6,23 +6,23 @@ use Rattle.domain_label.specs.declared.split.SplitLabelError.{SplitLabelError}
 use Rattle.domain_label.specs.declared.split.SplitLabelError.TheVariants.{Pointer, BadType, ShortInput}
 use Rattle.domain_label.proofs.WireLaws.{length-wire_append}
 use Rattle.domain_wire.specs.Refusals.{Refusal}
-use Rattle.domain_flat.specs.Flat.{Passed, NameAt}
+use Rattle.domain_flat.specs.Flat.{LabelsBefore, NameAt}
 use Rattle.domain_flat.specs.Faults.{AbsoluteFault, AbsoluteFaultAt, RelativeFault, RelativeFaultAt, StartFault, StartFaultAt}
 use Rattle.domain_flat.specs.declared.error.NameErrorKind.{NameErrorKind}
 use Rattle.domain_flat.specs.declared.error.NameErrorKind.TheVariants as absolute
 use Rattle.domain_flat.specs.declared.error.RelativeNameErrorKind.{RelativeNameErrorKind}
 use Rattle.domain_flat.specs.declared.error.RelativeNameErrorKind.TheVariants as relative
 use Rattle.domain_flat.proofs.OneFault.{none_is_short}
-use Rattle.domain_flat.proofs.Passing.{fault_not_absolute, end_not_absolute, root_ends, fault_not_relative, root_not_relative, absolute_once}
+use Rattle.domain_flat.proofs.LabelsFromLeft.{fault_not_absolute, end_not_absolute, root_ends, fault_not_relative, root_not_relative, absolute_once}
 
 -- ---- absolute names
 
-goes_on : (o : List ℕ) (fs : List (List ℕ)) (rest : List ℕ) (ls : List (List ℕ)) (k : NameErrorKind) → Passed o fs rest → IsAbsolute ls → o ≡ wire ls ++ [] → AbsoluteFaultAt fs rest k → ⊥
+goes_on : (o : List ℕ) (fs : List (List ℕ)) (rest : List ℕ) (ls : List (List ℕ)) (k : NameErrorKind) → LabelsBefore o fs rest → IsAbsolute ls → o ≡ wire ls ++ [] → AbsoluteFaultAt fs rest k → ⊥
 goes_on o fs rest ls (absolute.BadLabel t) p a e f = fault_not_absolute o fs rest (BadType t) ls [] p f a e
 goes_on o fs rest ls absolute.CompressedName p a e f = fault_not_absolute o fs rest (Pointer f.0) ls [] p f.1 a e
 goes_on o fs rest ls absolute.ShortInput p a e f = fault_not_absolute o fs rest ShortInput ls [] p f.0 a e
 goes_on o fs rest ls absolute.RelativeName p a e f = end_not_absolute o fs rest ls [] p (ap length f.1) a e
-goes_on o fs rest ls absolute.TrailingData p a e f = let d = root_ends o fs (f.0 ∷ f.1) ls [] (subst (λ x. Passed o fs x) f.2 p) a e in absurd (cc d.1)
+goes_on o fs rest ls absolute.TrailingData p a e f = let d = root_ends o fs (f.0 ∷ f.1) ls [] (subst (λ x. LabelsBefore o fs x) f.2 p) a e in absurd (cc d.1)
 goes_on o fs rest ls absolute.LongName p a e f = f
 
 all_octets : (o : List ℕ) → wire (labels_in o) ≡ o → o ≡ wire (labels_in o) ++ []
@@ -38,7 +38,7 @@ absolute_not_both o absolute.TrailingData n f = goes_on o f.1.0 f.1.1 (labels_in
 
 -- ---- relative names
 
-goes_on_relative : (o : List ℕ) (fs : List (List ℕ)) (rest : List ℕ) (ls : List (List ℕ)) (k : RelativeNameErrorKind) → Passed o fs rest → IsRelative ls → o ≡ wire ls → RelativeFaultAt rest k → ⊥
+goes_on_relative : (o : List ℕ) (fs : List (List ℕ)) (rest : List ℕ) (ls : List (List ℕ)) (k : RelativeNameErrorKind) → LabelsBefore o fs rest → IsRelative ls → o ≡ wire ls → RelativeFaultAt rest k → ⊥
 goes_on_relative o fs rest ls (relative.BadLabel t) p a e f = fault_not_relative o fs rest (BadType t) ls p f (none_is_short rest (BadType t) f (λ z. cc)) a e
 goes_on_relative o fs rest ls relative.CompressedName p a e f = fault_not_relative o fs rest (Pointer f.0) ls p f.1 (none_is_short rest (Pointer f.0) f.1 (λ z. cc)) a e
 goes_on_relative o fs rest ls relative.ShortInput p a e f = fault_not_relative o fs rest ShortInput ls p f.0 f.1 a e
@@ -54,10 +54,10 @@ relative_not_both o relative.AbsoluteName n f = goes_on_relative o f.1.0 f.1.1 (
 
 -- ---- the name at a place
 
-goes_on_here : (o : List ℕ) (fs : List (List ℕ)) (rest : List ℕ) (ls : List (List ℕ)) (tail : List ℕ) (r : Refusal) → Passed o fs rest → IsAbsolute ls → length (wire ls) ≤ 255 → o ≡ wire ls ++ tail → StartFaultAt fs rest r → ⊥
+goes_on_here : (o : List ℕ) (fs : List (List ℕ)) (rest : List ℕ) (ls : List (List ℕ)) (tail : List ℕ) (r : Refusal) → LabelsBefore o fs rest → IsAbsolute ls → length (wire ls) ≤ 255 → o ≡ wire ls ++ tail → StartFaultAt fs rest r → ⊥
 goes_on_here o fs rest ls tail r p a short e (inl f) = fault_not_absolute o fs rest f.0 ls tail p f.1 a e
 goes_on_here o fs rest ls tail r p a short e (inr f) =
-    let d = root_ends o fs f.0 ls tail (subst (λ x. Passed o fs x) f.1 p) a e in
+    let d = root_ends o fs f.0 ls tail (subst (λ x. LabelsBefore o fs x) f.1 p) a e in
     omega (arith, f.2, short, ap (λ x. length (wire x)) d.0, length-wire_append fs Root)
 
 pub start_not_both : (m : List ℕ) (p e : ℕ) (ls : List (List ℕ)) (r : Refusal) → NameAt m p ls e → StartFault (drop p m) r → ⊥

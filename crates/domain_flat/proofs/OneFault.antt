@@ -4,13 +4,13 @@ use Rattle.std.specs.Prelude.{⊤}
 use Rattle.std.proofs.lemmas.List.{nil_from_length}
 use Rattle.domain_label.specs.Wire.{wire, IsLabel, IsRelative}
 use Rattle.domain_label.specs.Splitting.{SplitFault}
-use Rattle.domain_label.specs.Told.{split_refusal}
+use Rattle.domain_label.specs.ErrorText.{split_refusal}
 use Rattle.domain_wire.specs.Refusals.{Refusal, form}
 use Rattle.domain_label.specs.declared.split.SplitLabelError.{SplitLabelError}
 use Rattle.domain_label.specs.declared.split.SplitLabelError.TheVariants.{Pointer, BadType, ShortInput}
 use Rattle.domain_label.proofs.SplitLaws.{same_front, split_once, split_not_label}
-use Rattle.domain_flat.specs.Flat.{Passed}
-use Rattle.domain_flat.specs.Told.{name_fault, relative_name_fault}
+use Rattle.domain_flat.specs.Flat.{LabelsBefore}
+use Rattle.domain_flat.specs.ErrorText.{name_fault, relative_name_fault}
 use Rattle.domain_flat.specs.Faults.{AbsoluteFault, AbsoluteFaultAt, RelativeFault, RelativeFaultAt, StartFault}
 use Rattle.domain_flat.specs.declared.error.NameErrorKind.{NameErrorKind}
 use Rattle.domain_flat.specs.declared.error.NameErrorKind.TheVariants as absolute
@@ -84,7 +84,7 @@ one_stuck missing fs gs r s j k (second_longer l more some h at) f g = absurd (l
 record Walked {K : Type 0} (told : SplitLabelError → K) (at_end at_root : K) (missing : List (List ℕ) → Type 0) (o : List ℕ) (k : K) : Type 0 where
   labels : List (List ℕ)
   rest : List ℕ
-  passed : Passed o labels rest
+  passed : LabelsBefore o labels rest
   stuck : Stuck told at_end at_root (missing labels) rest k
 
 one_walked : {K : Type 0} {told : SplitLabelError → K} {at_end at_root : K} {missing : List (List ℕ) → Type 0} {o : List ℕ} {j k : K} → Walked told at_end at_root missing o j → Walked told at_end at_root missing o k → j ≡ k
@@ -116,7 +116,7 @@ absolute_at fs r absolute.RelativeName f = by_end f.1 f.0 refl
 absolute_at fs r absolute.TrailingData f = by_root (f.0 ∷ f.1) f.2 refl
 absolute_at fs r absolute.ShortInput f = by_label ShortInput f.0 (λ n. ⊎_elim (λ a. a) (λ some. absurd (some n)) f.1) refl
 
-absolute_walked : (o : List ℕ) (k : NameErrorKind) → ((fs : List (List ℕ)) × (r : List ℕ) × Passed o fs r × AbsoluteFaultAt fs r k) → Walked name_fault absolute.RelativeName absolute.TrailingData (λ fs. fs ≡ []) o k
+absolute_walked : (o : List ℕ) (k : NameErrorKind) → ((fs : List (List ℕ)) × (r : List ℕ) × LabelsBefore o fs r × AbsoluteFaultAt fs r k) → Walked name_fault absolute.RelativeName absolute.TrailingData (λ fs. fs ≡ []) o k
 absolute_walked o k f = record { labels = f.0; rest = f.1; passed = f.2; stuck = absolute_at f.0 f.1 k f.3 }
 
 why_absolute : (o : List ℕ) (k : NameErrorKind) → AbsoluteFault o k → Why 255 absolute.LongName name_fault absolute.RelativeName absolute.TrailingData (λ fs. fs ≡ []) o k
@@ -139,7 +139,7 @@ relative_at r relative.ShortInput f = by_label ShortInput f.0 f.1 refl
 relative_at r relative.LongName f = absurd f
 relative_at r relative.AbsoluteName f = by_root f.0 f.1 refl
 
-relative_walked : (o : List ℕ) (k : RelativeNameErrorKind) → ((fs : List (List ℕ)) × (r : List ℕ) × Passed o fs r × RelativeFaultAt r k) → Walked relative_name_fault relative.AbsoluteName relative.AbsoluteName (λ _. ⊥) o k
+relative_walked : (o : List ℕ) (k : RelativeNameErrorKind) → ((fs : List (List ℕ)) × (r : List ℕ) × LabelsBefore o fs r × RelativeFaultAt r k) → Walked relative_name_fault relative.AbsoluteName relative.AbsoluteName (λ _. ⊥) o k
 relative_walked o k f = record { labels = f.0; rest = f.1; passed = f.2; stuck = relative_at f.1 k f.3 }
 
 why_relative : (o : List ℕ) (k : RelativeNameErrorKind) → RelativeFault o k → Why 254 relative.LongName relative_name_fault relative.AbsoluteName relative.AbsoluteName (λ _. ⊥) o k

@@ -1,11 +1,11 @@
--- The places at which the labels of a wire form begin.
+-- The places at which the labels of a wire format begin.
 use Rattle.std.proofs.Common.{◌≡◌, ℕ, suc, ◌+◌, ◌-◌, ◌≤◌, ◌<◌, List, [], ◌∷◌, ◌++◌, length, take, drop, refl, sym, ◌∙◌, ap, subst, arith, length-append, slice_index_or}
 use Rattle.std.proofs.lemmas.List.{take_more}
 use Rattle.domain_label.specs.Wire.{wire, labels_in, AreLabels, IsWire}
 use Rattle.domain_label.proofs.WireLaws.{wire_append, labels_in_wire}
 use Rattle.domain_flat.specs.Flat.{HasLast}
 use Rattle.domain_flat.specs.Starts.{label_starts}
-use Rattle.domain_flat.proofs.Seams.{Meets, IsSeam, meets_take, meets_next, meets_length, read_at, last_of}
+use Rattle.domain_flat.proofs.LabelBounds.{Meets, IsSeam, meets_take, meets_next, meets_length, read_at, last_of}
 
 pub length-starts : (p : ℕ) (ls : List (List ℕ)) → length (label_starts p ls) ≡ length ls
 length-starts p [] = refl

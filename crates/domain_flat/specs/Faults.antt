@@ -2,11 +2,11 @@
 use Rattle.std.specs.Prelude.{◌≡◌, ◌≢◌, ℕ, ◌<◌, ◌≤◌, ◌⊎◌, List, [], ◌∷◌, length, codes}
 use Rattle.domain_label.specs.Wire.{wire}
 use Rattle.domain_label.specs.Splitting.{SplitFault}
-use Rattle.domain_label.specs.Told.{split_refusal}
+use Rattle.domain_label.specs.ErrorText.{split_refusal}
 use Rattle.domain_label.specs.declared.split.SplitLabelError.{SplitLabelError}
 use Rattle.domain_wire.specs.Refusals.{Refusal, form}
 use Rattle.domain_label.specs.declared.split.SplitLabelError.TheVariants.{Pointer, BadType, ShortInput as MissingOctets}
-use Rattle.domain_flat.specs.Flat.{Passed}
+use Rattle.domain_flat.specs.Flat.{LabelsBefore}
 use Rattle.domain_flat.specs.declared.error.NameErrorKind.{NameErrorKind}
 use Rattle.domain_flat.specs.declared.error.NameErrorKind.TheVariants as absolute
 use Rattle.domain_flat.specs.declared.error.RelativeNameErrorKind.{RelativeNameErrorKind}
@@ -24,7 +24,7 @@ AbsoluteFaultAt fs rest absolute.LongName = ⊥
 -- The octets o are no absolute name, and why.
 abbrev pub AbsoluteFault : List ℕ → NameErrorKind → Type 0
 AbsoluteFault o absolute.LongName = 255 < length o
-AbsoluteFault o kind = (length o ≤ 255) × ((fs : List (List ℕ)) × (rest : List ℕ) × Passed o fs rest × AbsoluteFaultAt fs rest kind)
+AbsoluteFault o kind = (length o ≤ 255) × ((fs : List (List ℕ)) × (rest : List ℕ) × LabelsBefore o fs rest × AbsoluteFaultAt fs rest kind)
 
 -- Behind the labels fs no relative name can go on with the octets rest.
 abbrev pub RelativeFaultAt : List ℕ → RelativeNameErrorKind → Type 0
@@ -37,7 +37,7 @@ RelativeFaultAt rest relative.AbsoluteName = (more : List ℕ) × (rest ≡ 0 �
 -- The octets o are no relative name, and why.
 abbrev pub RelativeFault : List ℕ → RelativeNameErrorKind → Type 0
 RelativeFault o relative.LongName = 254 < length o
-RelativeFault o kind = (length o ≤ 254) × ((fs : List (List ℕ)) × (rest : List ℕ) × Passed o fs rest × RelativeFaultAt rest kind)
+RelativeFault o kind = (length o ≤ 254) × ((fs : List (List ℕ)) × (rest : List ℕ) × LabelsBefore o fs rest × RelativeFaultAt rest kind)
 
 -- Behind the labels fs no name can go on with the octets rest: no label begins there, or a root that
 -- makes more than 255 octets. It is told so.
@@ -48,4 +48,4 @@ StartFaultAt fs rest r =
 
 -- No absolute name stands at the beginning of the octets o, whatever follows, and why.
 abbrev pub StartFault : List ℕ → Refusal → Type 0
-StartFault o r = (fs : List (List ℕ)) × (rest : List ℕ) × Passed o fs rest × StartFaultAt fs rest r
+StartFault o r = (fs : List (List ℕ)) × (rest : List ℕ) × LabelsBefore o fs rest × StartFaultAt fs rest r

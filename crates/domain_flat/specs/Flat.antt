@@ -3,7 +3,7 @@ use Rattle.std.specs.Prelude.{◌≡◌, ℕ, ◌+◌, List, [], ◌∷◌, ◌+
 use Rattle.domain_label.specs.Wire.{wire, labels_in, IsLabel, IsRelative, IsAbsoluteName, IsWire}
 
 -- The labels fs, none of them empty, stand at the beginning of o, and rest is behind them.
-pub record Passed (o : List ℕ) (fs : List (List ℕ)) (rest : List ℕ) : Type 0 where
+pub record LabelsBefore (o : List ℕ) (fs : List (List ℕ)) (rest : List ℕ) : Type 0 where
   pub labels : IsRelative fs
   pub parts : o ≡ wire fs ++ rest
 
@@ -14,34 +14,34 @@ pub record NameAt (m : List ℕ) (p : ℕ) (ls : List (List ℕ)) (e : ℕ) : Ty
   pub octets : drop p m ≡ wire ls ++ behind
   pub end : e ≡ p + length (wire ls)
 
--- The wire form o is a label l, and then the wire form r.
+-- The wire format o is a label l, and then the wire format r.
 pub record HasFirst (o l r : List ℕ) : Type 0 where
   pub label : IsLabel l
   pub rest : IsWire r
   pub parts : labels_in o ≡ l ∷ labels_in r
 
--- The wire form o is the wire form r, and then a label l.
+-- The wire format o is the wire format r, and then a label l.
 pub record HasLast (o r l : List ℕ) : Type 0 where
   pub label : IsLabel l
   pub rest : IsWire r
   pub parts : labels_in o ≡ labels_in r ++ l ∷ []
 
 -- The list ls is cut into xs, which has p octets on the wire, and ys.
-pub record IsCutAt (ls : List (List ℕ)) (p : ℕ) (xs ys : List (List ℕ)) : Type 0 where
+pub record SplitsAt (ls : List (List ℕ)) (p : ℕ) (xs ys : List (List ℕ)) : Type 0 where
   pub parts : ls ≡ xs ++ ys
   pub place : length (wire xs) ≡ p
 
--- A label of ls begins at the place p of the wire form.
+-- A label of ls begins at the place p of the wire format.
 abbrev pub IsLabelStart : List (List ℕ) → ℕ → Type 0
-IsLabelStart ls p = (xs : List (List ℕ)) × (y : List ℕ) × (ys : List (List ℕ)) × IsCutAt ls p xs (y ∷ ys)
+IsLabelStart ls p = (xs : List (List ℕ)) × (y : List ℕ) × (ys : List (List ℕ)) × SplitsAt ls p xs (y ∷ ys)
 
 -- A label begins there, or the list ends there.
 abbrev pub IsLabelEnd : List (List ℕ) → ℕ → Type 0
-IsLabelEnd ls p = (xs : List (List ℕ)) × (ys : List (List ℕ)) × IsCutAt ls p xs ys
+IsLabelEnd ls p = (xs : List (List ℕ)) × (ys : List (List ℕ)) × SplitsAt ls p xs ys
 
 -- part is what stands in ls from the place p to the place q.
 abbrev pub IsPartOf : List (List ℕ) → ℕ → ℕ → List (List ℕ) → Type 0
-IsPartOf ls p q part = (before : List (List ℕ)) × (behind : List (List ℕ)) × IsCutAt ls p before (part ++ behind) × (p + length (wire part) ≡ q)
+IsPartOf ls p q part = (before : List (List ℕ)) × (behind : List (List ℕ)) × SplitsAt ls p before (part ++ behind) × (p + length (wire part) ≡ q)
 
 -- The list and all that is left of it behind its first labels, as long as a label is left.
 abbrev pub suffix_lists : List (List ℕ) → List (List (List ℕ))

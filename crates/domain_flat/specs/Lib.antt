@@ -1,5 +1,5 @@
 pub mod Flat
 pub mod Starts
 pub mod Faults
-pub mod Told
-pub mod Views
+pub mod ErrorText
+pub mod FlatLabels

@@ -30,7 +30,7 @@ pub struct NameError {
 }
 
 impl NameError {
-    ghost use Rattle.domain_flat.specs.Views.{name_error_kind};
+    ghost use Rattle.domain_flat.specs.FlatLabels.{name_error_kind};
 
     /// An error of this kind.
     pub(crate) fn new(kind: NameErrorKind) -> NameError
@@ -48,8 +48,8 @@ impl NameError {
 }
 
 impl fmt::Display for NameError {
-    ghost use Rattle.domain_flat.specs.Told.{name_error_shown};
-    ghost use Rattle.domain_flat.specs.Views.{name_error_kind};
+    ghost use Rattle.domain_flat.specs.ErrorText.{name_error_shown};
+    ghost use Rattle.domain_flat.specs.FlatLabels.{name_error_kind};
 
     ghost output = { λ e. Some (name_error_shown (name_error_kind e)) };
 
@@ -68,7 +68,7 @@ impl fmt::Display for NameError {
 impl Error for NameError {}
 
 impl From<LabelTypeError> for NameError {
-    ghost use Rattle.domain_flat.specs.Views.{name_error_kind};
+    ghost use Rattle.domain_flat.specs.FlatLabels.{name_error_kind};
     ghost use Rattle.domain_flat.specs.declared.error.NameErrorKind.TheVariants.{BadLabel};
 
     ghost from_gives = { λ label_type e. name_error_kind e ≡ BadLabel label_type };
@@ -79,8 +79,8 @@ impl From<LabelTypeError> for NameError {
 }
 
 impl From<SplitLabelError> for NameError {
-    ghost use Rattle.domain_flat.specs.Views.{name_error_kind};
-    ghost use Rattle.domain_flat.specs.Told.{name_fault};
+    ghost use Rattle.domain_flat.specs.FlatLabels.{name_error_kind};
+    ghost use Rattle.domain_flat.specs.ErrorText.{name_fault};
 
     ghost from_gives = { λ split e. name_error_kind e ≡ name_fault split };
 
@@ -95,8 +95,8 @@ impl From<SplitLabelError> for NameError {
 
 impl From<NameError> for FormError {
     ghost use Rattle.domain_wire.specs.Refusals.{form_text};
-    ghost use Rattle.domain_flat.specs.Views.{name_error_kind};
-    ghost use Rattle.domain_flat.specs.Told.{name_error_text};
+    ghost use Rattle.domain_flat.specs.FlatLabels.{name_error_kind};
+    ghost use Rattle.domain_flat.specs.ErrorText.{name_error_text};
 
     ghost from_gives = { λ name form. form_text form ≡ name_error_text (name_error_kind name) };
 
@@ -114,8 +114,8 @@ impl From<NameError> for FormError {
 
 impl From<NameError> for ParseError {
     ghost use Rattle.domain_wire.specs.Refusals.{refusal};
-    ghost use Rattle.domain_flat.specs.Views.{name_error_kind};
-    ghost use Rattle.domain_flat.specs.Told.{name_refusal};
+    ghost use Rattle.domain_flat.specs.FlatLabels.{name_error_kind};
+    ghost use Rattle.domain_flat.specs.ErrorText.{name_refusal};
 
     ghost from_gives = { λ name e. refusal e ≡ name_refusal (name_error_kind name) };
 
@@ -149,7 +149,7 @@ pub struct RelativeNameError {
 }
 
 impl RelativeNameError {
-    ghost use Rattle.domain_flat.specs.Views.{relative_name_error_kind};
+    ghost use Rattle.domain_flat.specs.FlatLabels.{relative_name_error_kind};
 
     /// Why the octets are no name.
     pub fn kind(&self) -> RelativeNameErrorKind
@@ -160,8 +160,8 @@ impl RelativeNameError {
 }
 
 impl fmt::Display for RelativeNameError {
-    ghost use Rattle.domain_flat.specs.Told.{relative_name_error_shown};
-    ghost use Rattle.domain_flat.specs.Views.{relative_name_error_kind};
+    ghost use Rattle.domain_flat.specs.ErrorText.{relative_name_error_shown};
+    ghost use Rattle.domain_flat.specs.FlatLabels.{relative_name_error_kind};
 
     ghost output = { λ e. Some (relative_name_error_shown (relative_name_error_kind e)) };
 
@@ -179,7 +179,7 @@ impl fmt::Display for RelativeNameError {
 impl Error for RelativeNameError {}
 
 impl From<RelativeNameErrorKind> for RelativeNameError {
-    ghost use Rattle.domain_flat.specs.Views.{relative_name_error_kind};
+    ghost use Rattle.domain_flat.specs.FlatLabels.{relative_name_error_kind};
 
     ghost from_gives = { λ kind e. relative_name_error_kind e ≡ kind };
 
@@ -189,7 +189,7 @@ impl From<RelativeNameErrorKind> for RelativeNameError {
 }
 
 impl From<LabelTypeError> for RelativeNameError {
-    ghost use Rattle.domain_flat.specs.Views.{relative_name_error_kind};
+    ghost use Rattle.domain_flat.specs.FlatLabels.{relative_name_error_kind};
     ghost use Rattle.domain_flat.specs.declared.error.RelativeNameErrorKind.TheVariants.{BadLabel};
 
     ghost from_gives = { λ label_type e. relative_name_error_kind e ≡ BadLabel label_type };
@@ -200,8 +200,8 @@ impl From<LabelTypeError> for RelativeNameError {
 }
 
 impl From<SplitLabelError> for RelativeNameError {
-    ghost use Rattle.domain_flat.specs.Views.{relative_name_error_kind};
-    ghost use Rattle.domain_flat.specs.Told.{relative_name_fault};
+    ghost use Rattle.domain_flat.specs.FlatLabels.{relative_name_error_kind};
+    ghost use Rattle.domain_flat.specs.ErrorText.{relative_name_fault};
 
     ghost from_gives = { λ split e. relative_name_error_kind e ≡ relative_name_fault split };
 

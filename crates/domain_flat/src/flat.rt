@@ -2,10 +2,10 @@
 ghost use Rattle.std.specs.Prelude.{◌≡◌, ◌≢◌, ◌≤◌, ◌<◌, ◌+◌, ◌∷◌, [], ◌++◌, ◌⊎◌, ◌↔◌, ℕ, List, length, IfOk, IfErr, IsOk, OnOk};
 ghost use Rattle.domain_label.specs.Splitting.{SplitFault};
 ghost use Rattle.domain_label.specs.Wire.{wire, IsAbsoluteName, IsRelativeName, IsAbsoluteWire, IsRelativeWire};
-ghost use Rattle.domain_flat.specs.Flat.{Passed};
+ghost use Rattle.domain_flat.specs.Flat.{LabelsBefore};
 ghost use Rattle.domain_flat.specs.Faults.{AbsoluteFault, RelativeFault, StartFault};
 ghost use Rattle.domain_wire.specs.Refusals.{refusal};
-ghost use Rattle.domain_flat.specs.Views.{name_error_kind, relative_name_error_kind};
+ghost use Rattle.domain_flat.specs.FlatLabels.{name_error_kind, relative_name_error_kind};
 
 use crate::error::{NameError, NameErrorKind, RelativeNameError, RelativeNameErrorKind};
 use domain_label::{Label, SplitLabelError};
@@ -19,8 +19,8 @@ const MAX_RELATIVE_LEN: usize = 254;
 
 /// The octets behind the labels that aren't the root: none, or from the root on.
 fn pass_labels(octets: &[u8]) -> Result<&[u8], SplitLabelError>
-    ensures ok { IfOk result (λ rest. ((fs : List (List ℕ)) × Passed octets.now fs rest.now) × ((rest.now ≡ []) ⊎ ((more : List ℕ) × (rest.now ≡ 0 ∷ more)))) }
-    ensures err { IfErr result (λ e. (fs : List (List ℕ)) × (rest : List ℕ) × Passed octets.now fs rest × SplitFault rest e × (rest ≢ [])) }
+    ensures ok { IfOk result (λ rest. ((fs : List (List ℕ)) × LabelsBefore octets.now fs rest.now) × ((rest.now ≡ []) ⊎ ((more : List ℕ) × (rest.now ≡ 0 ∷ more)))) }
+    ensures err { IfErr result (λ e. (fs : List (List ℕ)) × (rest : List ℕ) × LabelsBefore octets.now fs rest × SplitFault rest e × (rest ≢ [])) }
 {
     let mut rest = octets;
     while !rest.is_empty() {
@@ -33,7 +33,7 @@ fn pass_labels(octets: &[u8]) -> Result<&[u8], SplitLabelError>
     Ok(rest)
 }
 
-/// Tests that the octets are the wire form of an absolute name (RFC 1035, 3.1).
+/// Tests that the octets are the wire format of an absolute name (RFC 1035, 3.1).
 ///
 /// `LongName` where they are more than 255; else the first fault from the left.
 pub fn check_absolute(octets: &[u8]) -> Result<(), NameError>
@@ -52,7 +52,7 @@ pub fn check_absolute(octets: &[u8]) -> Result<(), NameError>
     }
 }
 
-/// Tests that the octets are the wire form of a relative name.
+/// Tests that the octets are the wire format of a relative name.
 ///
 /// `LongName` where they are more than 254; else the first fault from the left.
 pub fn check_relative(octets: &[u8]) -> Result<(), RelativeNameError>

@@ -31,7 +31,7 @@ pub struct NameIter<'a> {
 }
 
 impl<'a> NameIter<'a> {
-    ghost use Rattle.domain_flat.specs.Views.{flat_labels_left};
+    ghost use Rattle.domain_flat.specs.FlatLabels.{flat_labels_left};
 
     /// The labels of these octets.
     #[inline(always)]
@@ -65,7 +65,7 @@ impl<'a> NameIter<'a> {
         count > 0
     }
 
-    /// The wire form of the labels that are left.
+    /// The wire format of the labels that are left.
     pub fn as_slice(&self) -> &'a [u8]
         ensures labels { labels_in result.now ≡ flat_labels_left self.now }
         ensures wire { wire (labels_in result.now) ≡ result.now }
@@ -74,7 +74,7 @@ impl<'a> NameIter<'a> {
     }
 }
 
-/// The octets of the first label of a wire form, and the wire form behind it.
+/// The octets of the first label of a wire format, and the wire format behind it.
 pub fn first_label(octets: &[u8]) -> Option<(&[u8], &[u8])>
     requires { IsWire octets.now }
     ensures { MatchOption result (octets.now ≡ []) (λ parts. HasFirst octets.now parts.0.now parts.1.now) }
@@ -85,7 +85,7 @@ pub fn first_label(octets: &[u8]) -> Option<(&[u8], &[u8])>
     Some(rest.split_at(*len as usize))
 }
 
-/// Writes where the labels of a wire form begin, and tells how many there are. `None` where the octets are more
+/// Writes where the labels of a wire format begin, and tells how many there are. `None` where the octets are more
 /// than 255 or the labels more than the table has room for.
 fn find_starts(octets: &[u8], starts: &mut [u8; MAX_LABELS]) -> Option<u8>
     requires { IsWire octets.now }
@@ -117,7 +117,7 @@ fn split_around(octets: &[u8], place: usize) -> (&[u8], &[u8])
     (&octets[..place], &octets[place + 1..])
 }
 
-/// The wire form before the last label of a wire form, and the octets of that label.
+/// The wire format before the last label of a wire format, and the octets of that label.
 pub fn last_label(octets: &[u8]) -> Option<(&[u8], &[u8])>
     requires { IsWire octets.now }
     ensures { MatchOption result (octets.now ≡ []) (λ parts. HasLast octets.now parts.0.now parts.1.now) }
@@ -137,8 +137,8 @@ pub fn last_label(octets: &[u8]) -> Option<(&[u8], &[u8])>
 
 impl<'a> Iterator for NameIter<'a> {
     ghost use Rattle.std.specs.Iterator.{YieldsFirstBy, item_count};
-    ghost use Rattle.domain_label.specs.Views.{label_octets};
-    ghost use Rattle.domain_flat.specs.Views.{flat_labels_left};
+    ghost use Rattle.domain_label.specs.Labels.{label_octets};
+    ghost use Rattle.domain_flat.specs.FlatLabels.{flat_labels_left};
 
     type Item = Label<'a>;
 
@@ -156,8 +156,8 @@ impl<'a> Iterator for NameIter<'a> {
 
 impl<'a> DoubleEndedIterator for NameIter<'a> {
     ghost use Rattle.std.specs.Iterator.{YieldsLastBy};
-    ghost use Rattle.domain_label.specs.Views.{label_octets};
-    ghost use Rattle.domain_flat.specs.Views.{flat_labels_left};
+    ghost use Rattle.domain_label.specs.Labels.{label_octets};
+    ghost use Rattle.domain_flat.specs.FlatLabels.{flat_labels_left};
 
     ghost next_back_gives = { YieldsLastBy label_octets flat_labels_left };
 
@@ -177,7 +177,7 @@ impl<'a> DoubleEndedIterator for NameIter<'a> {
 }
 
 impl<'a> LabelIterator<'a> for NameIter<'a> {
-    ghost use Rattle.domain_flat.specs.Views.{flat_labels_left};
+    ghost use Rattle.domain_flat.specs.FlatLabels.{flat_labels_left};
 
     ghost left = { flat_labels_left };
 

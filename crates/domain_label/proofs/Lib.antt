@@ -1,12 +1,12 @@
 mod LabelReading
-mod LowLemmas
-pub mod Lowered
+mod LowercaseLemmas
+pub mod CanonicalForm
 mod OwnedLemmas
 mod OwnedMemory
-pub mod Parts
+pub mod ComparedOctets
 pub mod ReadOnce
 pub mod Scanning
-pub mod Shapes
+pub mod LabelOctets
 pub mod SplitLaws
 mod WalkLemmas
 pub mod WireLaws

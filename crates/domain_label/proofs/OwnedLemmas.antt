@@ -5,7 +5,7 @@ use Rattle.std.proofs.lemmas.Bool.{lt-ltb, lt-leb, cases_lt}
 use Rattle.std.proofs.Math.Seq.{take-append_seam}
 use Rattle.std.proofs.lemmas.List.{take-map, length-take-le, take_all, drop_all, nil_from_length, append-nil}
 use Rattle.std.proofs.lemmas.Str.Ascii.{lowercase_is}
-use Rattle.domain_label.specs.Low.{low}
+use Rattle.domain_label.specs.Lowercase.{lowercase}
 
 -- the label that octets begin with, where their length octet may be any number
 abbrev front : List ℕ → List ℕ
@@ -29,15 +29,15 @@ long-low len h =
     ]
 
 -- a length octet has no case, so all octets can be lowered at once
-pub front-low : (o : List ℕ) → front (low o) ≡ low (front o)
+pub front-low : (o : List ℕ) → front (lowercase o) ≡ lowercase (front o)
 front-low [] = refl
 front-low (len ∷ o) =
     elim (cases_lt 63 len) [
-      | inl long ↦ front-long (to_ascii_lowercase len) (low o) (long-low len long) ∙ rw (front-long len o long) refl
+      | inl long ↦ front-long (to_ascii_lowercase len) (lowercase o) (long-low len long) ∙ rw (front-long len o long) refl
       | inr short ↦
           let small : len < 64 = omega (arith, short) in
           let same : to_ascii_lowercase len ≡ len = (lowercase_is len).1 (omega (arith, short)) in
-          rw same (front-short len (low o) small ∙ (take-map to_ascii_lowercase len o ∙ rw (front-short len o small) refl))
+          rw same (front-short len (lowercase o) small ∙ (take-map to_ascii_lowercase len o ∙ rw (front-short len o small) refl))
     ]
 
 -- as many octets as the first len of o, in their place, are then the first len

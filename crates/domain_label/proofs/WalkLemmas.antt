@@ -120,27 +120,27 @@ drop-past s p h = none (drop p s) (length-drop p s) where
   none (x ∷ o) e = absurd (omega (arith, e, h))
 
 -- the places of the heads that a walk reads among the first n
-abbrev places_past : ℕ → Step → (ℕ → List ℕ) → List ℕ
-places_past p (past_label l next) from = p ∷ from next
-places_past p at_root from = p ∷ []
-places_past p (at_pointer place) from = p ∷ from place
-places_past p at_end from = []
+abbrev remembered_past : ℕ → Step → (ℕ → List ℕ) → List ℕ
+remembered_past p (past_label l next) from = p ∷ from next
+remembered_past p at_root from = p ∷ []
+remembered_past p (at_pointer place) from = p ∷ from place
+remembered_past p at_end from = []
 
 abbrev places : List ℕ → ℕ → ℕ → List ℕ
 places s p zero = []
-places s p (suc n) = places_past p (step_at s p) (λ q. places s q n)
+places s p (suc n) = remembered_past p (step_at s p) (λ q. places s q n)
 
 -- a walk that ends reads no more heads than these, however many it may
 more-past : (s : List ℕ) (p n k : ℕ) (t : Step)
     → ((q : ℕ) → WalkEnds s q n → length (places s q n) ≤ k → slice_walk s q k ≡ slice_walk s q n)
-    → WherePast t (λ q. WalkEnds s q n) → length (places_past p t (λ q. places s q n)) ≤ suc k
+    → WherePast t (λ q. WalkEnds s q n) → length (remembered_past p t (λ q. places s q n)) ≤ suc k
     → labels_past t (λ q. slice_walk s q k) ≡ labels_past t (λ q. slice_walk s q n)
 more-past s p n k (past_label l next) more w h = ap (λ ls. l ∷ ls) (more next w (omega (arith, h)))
 more-past s p n k at_root more w h = refl
 more-past s p n k (at_pointer place) more w h = more place w (omega (arith, h))
 more-past s p n k at_end more w h = refl
 
-none-past : (s : List ℕ) (p n : ℕ) (t : Step) → length (places_past p t (λ q. places s q n)) ≤ 0 → [] ≡ labels_past t (λ q. slice_walk s q n)
+none-past : (s : List ℕ) (p n : ℕ) (t : Step) → length (remembered_past p t (λ q. places s q n)) ≤ 0 → [] ≡ labels_past t (λ q. slice_walk s q n)
 none-past s p n (past_label l next) h = absurd (omega (arith, h))
 none-past s p n at_root h = absurd (omega (arith, h))
 none-past s p n (at_pointer place) h = absurd (omega (arith, h))
@@ -155,7 +155,7 @@ walk-more s (suc n) (suc k) p w h = more-past s p n k (step_at s p) (λ q. walk-
 same-past : (s : List ℕ) (p n k : ℕ) (t : Step)
     → ((q : ℕ) → WalkEnds s q n → WalkEnds s q k → places s q n ≡ places s q k)
     → WherePast t (λ q. WalkEnds s q n) → WherePast t (λ q. WalkEnds s q k)
-    → places_past p t (λ q. places s q n) ≡ places_past p t (λ q. places s q k)
+    → remembered_past p t (λ q. places s q n) ≡ remembered_past p t (λ q. places s q k)
 same-past s p n k (past_label l next) same w v = ap (λ ps. p ∷ ps) (same next w v)
 same-past s p n k at_root same w v = refl
 same-past s p n k (at_pointer place) same w v = ap (λ ps. p ∷ ps) (same place w v)
@@ -169,8 +169,8 @@ same-places s (suc n) (suc k) p w v = same-past s p n k (step_at s p) (λ q. sam
 -- a walk that reads fewer heads never comes to the place p
 apart-past : (s : List ℕ) (p q m most : ℕ) (t : Step) → (p == q) ≡ false
     → ((r : ℕ) → WalkEnds s r m → length (places s r m) < most → AllByRecursion (λ y. (p == y) ≡ false) (places s r m))
-    → WherePast t (λ r. WalkEnds s r m) → length (places_past q t (λ r. places s r m)) < most
-    → AllByRecursion (λ y. (p == y) ≡ false) (places_past q t (λ r. places s r m))
+    → WherePast t (λ r. WalkEnds s r m) → length (remembered_past q t (λ r. places s r m)) < most
+    → AllByRecursion (λ y. (p == y) ≡ false) (remembered_past q t (λ r. places s r m))
 apart-past s p q m most (past_label l next) e apart w h = (e, apart next w (omega (arith, h)))
 apart-past s p q m most at_root e apart w h = (e, tt)
 apart-past s p q m most (at_pointer place) e apart w h = (e, apart place w (omega (arith, h)))
@@ -192,9 +192,9 @@ apart s p n (suc m) q v w h =
 
 -- so no place is read twice
 distinct-past : (s : List ℕ) (p n : ℕ) (t : Step) → WalkEnds s p (suc n)
-    → length (places_past p t (λ q. places s q n)) ≡ length (places s p (suc n))
+    → length (remembered_past p t (λ q. places s q n)) ≡ length (places s p (suc n))
     → ((q : ℕ) → WalkEnds s q n → IsDistinct ◌==◌ (places s q n))
-    → WherePast t (λ q. WalkEnds s q n) → IsDistinct ◌==◌ (places_past p t (λ q. places s q n))
+    → WherePast t (λ q. WalkEnds s q n) → IsDistinct ◌==◌ (remembered_past p t (λ q. places s q n))
 unfolding IsDistinct
 distinct-past s p n (past_label l next) v e distinct w = (apart s p (suc n) n next v w (omega (arith, e)), distinct next w)
 distinct-past s p n at_root v e distinct w = (tt, tt)
@@ -220,7 +220,7 @@ below-one s p q rest h below any =
 
 below-past : (s : List ℕ) (p n q : ℕ) (t : Step) → (t ≢ at_end → p < length s)
     → ((r : ℕ) → list_any (λ x. q == x) (places s r n) ≡ true → q < length s)
-    → list_any (λ x. q == x) (places_past p t (λ r. places s r n)) ≡ true → q < length s
+    → list_any (λ x. q == x) (remembered_past p t (λ r. places s r n)) ≡ true → q < length s
 below-past s p n q (past_label l next) here below any = below-one s p q (places s next n) (here (λ e. cc)) (below next) any
 below-past s p n q at_root here below any = below-one s p q [] (here (λ e. cc)) (λ none. cc) any
 below-past s p n q (at_pointer place) here below any = below-one s p q (places s place n) (here (λ e. cc)) (below place) any

@@ -1,4 +1,4 @@
--- Laws of wire forms and of the lists that they spell.
+-- Laws of wire formats and of the lists that they spell.
 use Rattle.std.specs.Prelude.{◌≡◌, ℕ, zero, suc, ◌+◌, ◌≤◌, List, [], ◌∷◌, ◌++◌, length, refl}
 use Rattle.std.specs.Coded.{×_prop, Unit-prop, le_prop, Coded-set, coded_list, coded_ℕ}
 use Rattle.std.proofs.Common.{arith, ap, subst, sym, ◌∙◌, append_assoc, length-append}
@@ -16,7 +16,7 @@ cut_wire (suc n) (l ∷ ls) h = rw (take-append_seam l (wire ls), drop-append_se
 pub labels_in_wire : (ls : List (List ℕ)) → labels_in (wire ls) ≡ ls
 labels_in_wire ls = cut_wire (length (wire ls)) ls (le_refl (length (wire ls)))
 
--- octets are the wire form of one list only
+-- octets are the wire format of one list only
 pub wire_once : (xs ys : List (List ℕ)) → wire xs ≡ wire ys → xs ≡ ys
 wire_once xs ys e = sym (labels_in_wire xs) ∙ (ap labels_in e ∙ labels_in_wire ys)
 

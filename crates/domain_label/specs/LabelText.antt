@@ -2,7 +2,7 @@
 use Rattle.std.specs.Prelude.{◌≡◌, ◌≢◌, ℕ, ◌<◌, ◌⊎◌, Bool, true, false, ◌&&◌, ◌==◌, List, [], ◌∷◌, ◌++◌, length, Result, Ok, Err, if◌then◌else◌}
 use Rattle.std.specs.Char.{IsAsciiControl}
 use Rattle.domain_label.specs.Spelling.{spelling, HasSpelling, IsBroken, JustOne, bad_symbol, octet_of}
-use Rattle.domain_label.specs.Views.{owned_octets}
+use Rattle.domain_label.specs.Labels.{owned_octets}
 use Rattle.domain_label.specs.Wire.{IsLabel}
 use Rattle.domain_label.specs.declared.owned.OwnedLabel.{OwnedLabel}
 use Rattle.domain_label.specs.declared.label_text.LabelFromStrError.{LabelFromStrError}
@@ -14,6 +14,7 @@ use Rattle.domain_label.specs.declared.symbol.Symbol.{Symbol}
 use Rattle.domain_label.specs.declared.symbol.Symbol.TheVariants.{Char, SimpleEscape, DecimalEscape}
 use Rattle.domain_label.specs.declared.symbol.SymbolCharsError.{SymbolCharsError}
 
+-- which fault an error of a label names
 abbrev pub label_error_kind : LabelFromStrError → LabelFromStrErrorKind
 label_error_kind e = e.kind
 
@@ -31,6 +32,7 @@ IsLabelSymbol s = HasSpelling s ⊎ IsControlEscape s
 abbrev pub IsBrokenInLabel : List ℕ → SymbolCharsError → Type 0
 IsBrokenInLabel cs e = IsBroken cs e × ((c : ℕ) (rest : List ℕ) → cs ≡ 92 ∷ c ∷ rest → IsAsciiControl c → ⊥)
 
+-- an octet, or that a symbol has none
 abbrev pub octet_or_bad : Result ℕ BadSymbol → Result ℕ LabelFromStrErrorKind
 octet_or_bad (Ok c) = Ok c
 octet_or_bad (Err e) = Err (kind.BadSymbol e)

@@ -1,12 +1,12 @@
 pub mod Wire
-pub mod Low
-pub mod Facts
+pub mod Lowercase
+pub mod SameHash
 pub mod Text
 pub mod Splitting
 pub mod SliceWalk
 pub mod Hex
-pub mod Told
-pub mod Views
+pub mod ErrorText
+pub mod Labels
 pub mod Lending
 pub mod Spelling
 pub mod Scanning

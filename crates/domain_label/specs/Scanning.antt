@@ -10,9 +10,11 @@ use Rattle.domain_label.specs.Spelling.{spelling, HasSpelling, IsBroken, IsDigit
 use Rattle.domain_label.specs.LabelText.{IsLabelSymbol, IsBrokenInLabel, BeginsWithOctet, NoOctet}
 use Rattle.domain_label.specs.declared.label_text.LabelFromStrErrorKind.{LabelFromStrErrorKind}
 
+-- whether the text is read to its end
 abbrev pub is_done : {I : Type 0} → Symbols I → Bool
 is_done s = s.done
 
+-- the source of characters
 abbrev pub chars_of : {I : Type 0} → Symbols I → I
 chars_of s = s.chars
 
@@ -42,6 +44,7 @@ GivesDigit steps cs (Err ShortInput) left = cs ≡ []
 GivesDigit steps cs (Err BadEscape) left = (c : ℕ) × (rest : List ℕ) × (cs ≡ c ∷ rest) × IsNoDigit c
 GivesDigit steps cs (Ok d) left = IsDigit d × ((rest : List ℕ) × (cs ≡ d ∷ rest) × AlwaysYields steps (λ c. c) left rest)
 
+-- the source of symbols
 abbrev pub symbols_of : {I : Type 0} → WholeSymbols I → I
 symbols_of s = s.symbols
 

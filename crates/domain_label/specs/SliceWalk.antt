@@ -29,6 +29,7 @@ step_of p (head ∷ rest) =
     if nat_lt head 64 then label_step p head rest else
     (if nat_lt head 192 then at_end else pointer_step p head rest)
 
+-- the step from the offset p of the slice
 abbrev pub step_at : List ℕ → ℕ → Step
 step_at s p = step_of p (drop p s)
 

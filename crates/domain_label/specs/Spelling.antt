@@ -7,9 +7,11 @@ use Rattle.domain_label.specs.declared.symbol.SymbolCharsError.{SymbolCharsError
 use Rattle.domain_label.specs.declared.symbol.SymbolCharsError.TheVariants.{ShortInput, BadEscape}
 use Rattle.domain_label.specs.declared.symbol.BadSymbol.{BadSymbol}
 
+-- From 0 to 9.
 abbrev pub IsDigit : ℕ → Type 0
 IsDigit c = (48 ≤ c) × (c ≤ 57)
 
+-- Anything else.
 abbrev pub IsNoDigit : ℕ → Type 0
 IsNoDigit c = (c < 48) ⊎ (57 < c)
 
@@ -17,6 +19,7 @@ IsNoDigit c = (c < 48) ⊎ (57 < c)
 abbrev pub IsPrintable : ℕ → Type 0
 IsPrintable c = (32 ≤ c) × (c ≤ 126)
 
+-- Anything else.
 abbrev pub IsNotPrintable : ℕ → Type 0
 IsNotPrintable c = (c < 32) ⊎ (126 < c)
 
@@ -64,6 +67,7 @@ JustOne {A} P = (a : A) × P a × ((b : A) → P b → b ≡ a)
 abbrev pub IsReadOnce : List ℕ → Type 0
 IsReadOnce cs = JustOne (Reads cs)
 
+-- the one value of the error
 abbrev pub bad_symbol : BadSymbol
 bad_symbol = record {}
 

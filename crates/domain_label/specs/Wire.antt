@@ -38,6 +38,7 @@ IsAbsoluteName ls = IsAbsolute ls × (length (wire ls) ≤ 255)
 abbrev pub IsRelativeName : List (List ℕ) → Type 0
 IsRelativeName ls = IsRelative ls × (length (wire ls) ≤ 254)
 
+-- The list of an absolute or a relative name.
 abbrev pub IsName : List (List ℕ) → Type 0
 IsName ls = IsAbsoluteName ls ⊎ IsRelativeName ls
 
@@ -47,7 +48,7 @@ cut zero o = []
 cut (suc n) [] = []
 cut (suc n) (len ∷ o) = take len o ∷ cut n (drop len o)
 
--- The labels that o spells, where it is a wire form: `labels_in (wire ls) ≡ ls`.
+-- The labels that o spells, where it is a wire format: `labels_in (wire ls) ≡ ls`.
 abbrev pub labels_in : List ℕ → List (List ℕ)
 labels_in o = cut (length o) o
 
@@ -56,13 +57,14 @@ abbrev pub AreLabels : List (List ℕ) → Type 0
 AreLabels [] = ⊤
 AreLabels (l ∷ ls) = IsLabel l × AreLabels ls
 
--- o is the wire form of the labels that it spells, and of no other list.
+-- o is the wire format of the labels that it spells, and of no other list.
 abbrev pub IsWire : List ℕ → Type 0
 IsWire o = (wire (labels_in o) ≡ o) × AreLabels (labels_in o)
 
--- o is the wire form of an absolute name, and of a relative one.
+-- o is the wire format of an absolute name, and of a relative one.
 abbrev pub IsAbsoluteWire : List ℕ → Type 0
 IsAbsoluteWire o = (wire (labels_in o) ≡ o) × IsAbsoluteName (labels_in o)
 
+-- o is the wire format of a relative name.
 abbrev pub IsRelativeWire : List ℕ → Type 0
 IsRelativeWire o = (wire (labels_in o) ≡ o) × IsRelativeName (labels_in o)

@@ -1,8 +1,8 @@
 //! Appending labels to what octets are appended to.
 ghost use Rattle.std.specs.Prelude.{◌≡◌, ◌≤◌, ◌<◌, ◌+◌, ◌++◌, length, OnOk, OnErr, IfSome};
-ghost use Rattle.domain_label.specs.Low.{low};
+ghost use Rattle.domain_label.specs.Lowercase.{lowercase};
 ghost use Rattle.domain_label.specs.Wire.{wire_label};
-ghost use Rattle.domain_label.specs.Views.{label_octets, owned_octets};
+ghost use Rattle.domain_label.specs.Labels.{label_octets, owned_octets};
 
 use crate::label::Label;
 use crate::owned::OwnedLabel;
@@ -11,21 +11,21 @@ use octseq::OctetsBuilder;
 impl<'a> Label<'a> {
     /// The same label without ASCII case, in octets of its own (RFC 4034, 6.2).
     pub fn to_canonical(&self) -> OwnedLabel
-        ensures { owned_octets result ≡ low (label_octets self.now) }
+        ensures { owned_octets result ≡ lowercase (label_octets self.now) }
     {
         let mut label = OwnedLabel::from_label(*self);
         label.make_canonical();
         label
     }
 
-    /// How many octets the wire form has: the length octet and the octets.
+    /// How many octets the wire format has: the length octet and the octets.
     pub fn compose_len(&self) -> u16
         ensures { result ≡ length (wire_label (label_octets self.now)) }
     {
         self.len() as u16 + 1
     }
 
-    /// Appends the wire form: the length octet and the octets (RFC 1035, 3.1).
+    /// Appends the wire format: the length octet and the octets (RFC 1035, 3.1).
     ///
     /// It is refused only where these octets exceed the target's spare capacity. A refused call
     /// leaves the target's octets as they were.
@@ -34,7 +34,7 @@ impl<'a> Label<'a> {
         target: &mut Target,
     ) -> Result<(), Target::AppendError>
         ensures ok { OnOk result (Target.octets target.new ≡ Target.octets target.old ++ wire_label (label_octets self.now)) }
-        ensures err { OnErr result (Target.octets target.new ≡ Target.octets target.old) }
+        ensures unchanged { OnErr result (Target.octets target.new ≡ Target.octets target.old) }
         ensures full { OnErr result (Target.capacity target.old < length (Target.octets target.old) + (1 + length (label_octets self.now))) }
         ensures capacity { Target.capacity target.old ≤ Target.capacity target.new }
         ensures within { IfSome Target.limit (λ n. length (Target.octets target.new) ≤ n) }
@@ -50,13 +50,13 @@ impl<'a> Label<'a> {
         Ok(())
     }
 
-    /// Appends the wire form with A to Z as a to z (RFC 4034, 6.2), else as `compose`.
+    /// Appends the wire format with A to Z as a to z (RFC 4034, 6.2), else as `compose`.
     pub fn compose_canonical<Target: OctetsBuilder>(
         &self,
         target: &mut Target,
     ) -> Result<(), Target::AppendError>
-        ensures ok { OnOk result (Target.octets target.new ≡ Target.octets target.old ++ wire_label (low (label_octets self.now))) }
-        ensures err { OnErr result (Target.octets target.new ≡ Target.octets target.old) }
+        ensures ok { OnOk result (Target.octets target.new ≡ Target.octets target.old ++ wire_label (lowercase (label_octets self.now))) }
+        ensures unchanged { OnErr result (Target.octets target.new ≡ Target.octets target.old) }
         ensures full { OnErr result (Target.capacity target.old < length (Target.octets target.old) + (1 + length (label_octets self.now))) }
         ensures capacity { Target.capacity target.old ≤ Target.capacity target.new }
         ensures within { IfSome Target.limit (λ n. length (Target.octets target.new) ≤ n) }
@@ -72,7 +72,7 @@ fn append_wire<Target: OctetsBuilder>(
     target: &mut Target,
 ) -> Result<(), Target::AppendError>
     ensures ok { OnOk result (Target.octets target.new ≡ Target.octets target.old ++ wire_label (owned_octets label.now)) }
-    ensures err { OnErr result (Target.octets target.new ≡ Target.octets target.old) }
+    ensures unchanged { OnErr result (Target.octets target.new ≡ Target.octets target.old) }
     ensures full { OnErr result (Target.capacity target.old < length (Target.octets target.old) + (1 + length (owned_octets label.now))) }
     ensures capacity { Target.capacity target.old ≤ Target.capacity target.new }
     ensures within { IfSome Target.limit (λ n. length (Target.octets target.new) ≤ n) }

@@ -3,7 +3,7 @@ ghost use Rattle.std.specs.Prelude.{◌≡◌, ◌≤◌, ◌<◌, ◌+◌, ◌�
 ghost use Rattle.std.specs.Iterator.Adapters.{copied_source};
 ghost use Rattle.std.specs.Slice.Iter.{iter_rest};
 ghost use Rattle.domain_label.specs.Wire.{IsLabel};
-ghost use Rattle.domain_label.specs.Text.{spell};
+ghost use Rattle.domain_label.specs.Text.{escaped};
 
 use crate::presentation::{ascii_text, push_label};
 use crate::split::{LabelTypeError, SplitLabelError};
@@ -30,7 +30,7 @@ impl Error for LongLabelError {}
 /// A label: at most 63 octets, of any values (RFC 1035, 3.1). The empty label is the root label.
 ///
 /// It is one part of a name, and lends the octets in which it lies; it is Copy. The iterators over names
-/// give labels, and `from_slice` makes one of octets, `split_from` of the beginning of a wire form. An
+/// give labels, and `from_slice` makes one of octets, `split_from` of the beginning of a wire format. An
 /// [`OwnedLabel`](crate::OwnedLabel) keeps the octets itself. Two are equal, ordered and hashed without
 /// ASCII case (RFC 4343; RFC 4034, 6.1).
 #[derive(Clone, Copy)]
@@ -41,7 +41,7 @@ pub struct Label<'a> {
 
 impl<'a> Label<'a> {
     ghost use Rattle.domain_label.specs.Splitting.{BeginsWithLabel, SplitFault};
-    ghost use Rattle.domain_label.specs.Views.{label_octets};
+    ghost use Rattle.domain_label.specs.Labels.{label_octets};
 
     /// The most octets that a label has.
     pub const MAX_LEN: usize = 63;
@@ -158,7 +158,7 @@ impl<'a> Label<'a> {
 
 /// The octets one after another.
 impl<'a> IntoIterator for Label<'a> {
-    ghost use Rattle.domain_label.specs.Views.{label_octets};
+    ghost use Rattle.domain_label.specs.Labels.{label_octets};
 
     type Item = u8;
 
@@ -174,9 +174,9 @@ impl<'a> IntoIterator for Label<'a> {
 /// Space, dot and backslash take a backslash, octets that aren't printed are a backslash and three
 /// decimal digits, each other octet stands for itself (RFC 1035, 5.1).
 impl<'a> fmt::Display for Label<'a> {
-    ghost use Rattle.domain_label.specs.Views.{label_octets};
+    ghost use Rattle.domain_label.specs.Labels.{label_octets};
 
-    ghost output = { λ label. Some (spell (label_octets label)) };
+    ghost output = { λ label. Some (escaped (label_octets label)) };
 
     fn fmt<W: fmt::Write>(&self, f: &mut fmt::Formatter<W>) -> fmt::Result {
         let mut text = ArrayVec::<u8, 252>::new();

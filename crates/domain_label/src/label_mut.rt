@@ -1,6 +1,6 @@
 //! A label whose octets can be written in place.
 ghost use Rattle.std.specs.Prelude.{◌≡◌, ◌≤◌, ◌<◌, ◌↔◌, IfOk, IfErr, IsErr, length, take, drop};
-ghost use Rattle.domain_label.specs.Low.{low};
+ghost use Rattle.domain_label.specs.Lowercase.{lowercase};
 ghost use Rattle.domain_label.specs.Wire.{IsLabel};
 
 use crate::label::{Label, LongLabelError};
@@ -15,7 +15,7 @@ pub struct LabelMut<'a> {
 
 impl<'a> LabelMut<'a> {
     ghost use Rattle.domain_label.specs.Splitting.{BeginsWithLabel, SplitFault};
-    ghost use Rattle.domain_label.specs.Views.{label_octets, label_mut_octets};
+    ghost use Rattle.domain_label.specs.Labels.{label_octets, label_mut_octets};
 
     /// The label of these octets, in place.
     ///
@@ -73,7 +73,7 @@ impl<'a> LabelMut<'a> {
     /// Makes A to Z a to z, in place (RFC 4034, 6.2).
     pub fn make_canonical(&mut self)
         ensures same_reference { self.new.octets.ghost_name ≡ self.old.octets.ghost_name }
-        ensures octets { label_mut_octets self.new ≡ low (label_mut_octets self.old) }
+        ensures octets { label_mut_octets self.new ≡ lowercase (label_mut_octets self.old) }
     {
         self.octets.make_ascii_lowercase();
     }

@@ -41,7 +41,7 @@ impl LabelFromStrError {
 
 impl fmt::Display for LabelFromStrError {
     ghost use Rattle.domain_label.specs.LabelText.{label_error_kind};
-    ghost use Rattle.domain_label.specs.Told.{label_from_str_text};
+    ghost use Rattle.domain_label.specs.ErrorText.{label_from_str_text};
 
     ghost output = { λ e. Some (label_from_str_text (label_error_kind e)) };
 

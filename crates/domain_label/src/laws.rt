@@ -4,14 +4,14 @@ ghost use Rattle.domain_label.specs.LabelText.{OneLabel};
 ghost use Rattle.domain_label.specs.Lending.{with_octets};
 ghost use Rattle.domain_label.specs.Spelling.{IsReadOnce};
 ghost use Rattle.domain_label.specs.Splitting.{BeginsWithLabel, SplitFault};
-ghost use Rattle.domain_label.specs.Views.{owned_octets};
+ghost use Rattle.domain_label.specs.Labels.{owned_octets};
 ghost use Rattle.domain_label.specs.Wire.{wire, labels_in, IsAbsolute, IsRelative};
 ghost use Rattle.domain_label.specs.declared.split.SplitLabelError.{SplitLabelError};
 
 use crate::owned::OwnedLabel;
 
-/// What the definitions of wire forms say together: octets spell the list that they are the wire form
-/// of, so they are the wire form of one list only; and no list is absolute and relative.
+/// What the definitions of wire formats say together: octets spell the list that they are the wire format
+/// of, so they are the wire format of one list only; and no list is absolute and relative.
 pub fn wire_laws()
     ensures spelled { (ls : List (List ℕ)) → labels_in (wire ls) ≡ ls }
     ensures once { (xs ys : List (List ℕ)) → wire xs ≡ wire ys → xs ≡ ys }

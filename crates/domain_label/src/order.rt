@@ -1,12 +1,12 @@
-//! Labels without ASCII case: equality, order and hashing, and the orders of wire forms.
+//! Labels without ASCII case: equality, order and hashing, and the orders of wire formats.
 ghost use Rattle.std.specs.Prelude.{◌≡◌};
 ghost use Rattle.std.specs.Cmp.{partial_order_from_own_ties};
 ghost use Rattle.std.specs.Cmp.Rules.{comparing};
 ghost use Rattle.std.specs.Ordering.{on, as_partial_cmp};
 ghost use Rattle.std.proofs.Common.{rules};
-ghost use Rattle.domain_label.specs.Facts.{feeds_alike};
-ghost use Rattle.domain_label.specs.Low.{low_eq, low_cmp, feed_label, label_composed_order, label_lowercase_composed_order};
-ghost use Rattle.domain_label.specs.Views.{label_octets};
+ghost use Rattle.domain_label.specs.SameHash.{same_label_hash_input};
+ghost use Rattle.domain_label.specs.Lowercase.{eq_ignoring_case, cmp_ignoring_case, label_hash_input, label_composed_order, label_lowercase_composed_order};
+ghost use Rattle.domain_label.specs.Labels.{label_octets};
 
 use crate::label::Label;
 use crate::same::same_octets;
@@ -15,7 +15,7 @@ use std::hash::{Hash, Hasher};
 
 /// Labels are equal where their octets are the same without ASCII case (RFC 4343).
 impl<'a> PartialEq for Label<'a> {
-    ghost eq = { on label_octets low_eq };
+    ghost eq = { on label_octets eq_ignoring_case };
 
     ghost laws = { Prim.search (comparing, rules) };
 
@@ -31,7 +31,7 @@ impl<'a> Eq for Label<'a> {
 /// Labels are ordered as their octets from the left without ASCII case, and one that begins another
 /// is less (RFC 4034, 6.1).
 impl<'a> Ord for Label<'a> {
-    ghost cmp = { on label_octets low_cmp };
+    ghost cmp = { on label_octets cmp_ignoring_case };
 
     ghost total = { Prim.search (comparing, rules) };
 
@@ -40,12 +40,12 @@ impl<'a> Ord for Label<'a> {
     ghost matches_eq = { Prim.search (comparing, rules) };
 
     fn cmp(&self, other: &Label<'a>) -> Ordering {
-        low_order(self.as_slice(), other.as_slice())
+        order_ignoring_case(self.as_slice(), other.as_slice())
     }
 }
 
 impl<'a> PartialOrd for Label<'a> {
-    ghost partial_cmp = { as_partial_cmp (on label_octets low_cmp) };
+    ghost partial_cmp = { as_partial_cmp (on label_octets cmp_ignoring_case) };
 
     ghost laws = { partial_order_from_own_ties (Prim.search (comparing, rules)) (Prim.search (comparing, rules)) };
 
@@ -56,9 +56,9 @@ impl<'a> PartialOrd for Label<'a> {
 
 /// The length and each octet without ASCII case as one `u8`, so that equal labels feed alike.
 impl<'a> Hash for Label<'a> {
-    ghost hash_input = { λ label. feed_label (label_octets label) };
+    ghost hash_input = { λ label. label_hash_input (label_octets label) };
 
-    ghost respects_eq = { λ x y. feeds_alike.fed (label_octets x) (label_octets y) };
+    ghost respects_eq = { λ x y. same_label_hash_input.fed (label_octets x) (label_octets y) };
 
     fn hash<H: Hasher>(&self, state: &mut H) {
         state.write_u8(self.len() as u8);
@@ -69,7 +69,7 @@ impl<'a> Hash for Label<'a> {
 }
 
 impl<'a> Label<'a> {
-    /// The order of the labels' wire forms as octets: the shorter first, then by the octets.
+    /// The order of the labels' wire formats as octets: the shorter first, then by the octets.
     pub fn composed_cmp(&self, other: &Label) -> Ordering
         ensures { result ≡ label_composed_order (label_octets self.now) (label_octets other.now) }
     {
@@ -80,7 +80,7 @@ impl<'a> Label<'a> {
         self.as_slice().cmp(other.as_slice())
     }
 
-    /// The order of the labels' wire forms without ASCII case: the shorter first, then by the lowered
+    /// The order of the labels' wire formats without ASCII case: the shorter first, then by the lowered
     /// octets.
     pub fn lowercase_composed_cmp(&self, other: &Label) -> Ordering
         ensures { result ≡ label_lowercase_composed_order (label_octets self.now) (label_octets other.now) }
@@ -94,8 +94,8 @@ impl<'a> Label<'a> {
 }
 
 /// Octets in order, without ASCII case.
-pub fn low_order(a: &[u8], b: &[u8]) -> Ordering
-    ensures { result ≡ low_cmp a.now b.now }
+pub fn order_ignoring_case(a: &[u8], b: &[u8]) -> Ordering
+    ensures { result ≡ cmp_ignoring_case a.now b.now }
 {
     let mut a = a;
     let mut b = b;

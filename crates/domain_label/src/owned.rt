@@ -6,9 +6,9 @@ ghost use Rattle.std.specs.Cmp.Rules.{comparing};
 ghost use Rattle.std.specs.Iterator.{AlwaysYields, IsFinite};
 ghost use Rattle.std.specs.Ordering.{on, as_partial_cmp};
 ghost use Rattle.std.proofs.Common.{rules};
-ghost use Rattle.domain_label.specs.Facts.{feeds_alike};
-ghost use Rattle.domain_label.specs.Low.{low, low_eq, low_cmp, feed_label};
-ghost use Rattle.domain_label.specs.Text.{spell};
+ghost use Rattle.domain_label.specs.SameHash.{same_label_hash_input};
+ghost use Rattle.domain_label.specs.Lowercase.{lowercase, eq_ignoring_case, cmp_ignoring_case, label_hash_input};
+ghost use Rattle.domain_label.specs.Text.{escaped};
 ghost use Rattle.domain_label.specs.Wire.{wire_label};
 
 use crate::label::Label;
@@ -20,7 +20,7 @@ use std::fmt;
 use std::hash::{Hash, Hasher};
 use std::str::FromStr;
 
-/// A label that owns its octets, in its wire form.
+/// A label that owns its octets, in its wire format.
 #[derive(Clone, Copy)]
 pub struct OwnedLabel {
     /// The length octet, and behind it the label's octets. What is left behind those means nothing.
@@ -31,7 +31,7 @@ pub struct OwnedLabel {
 impl OwnedLabel {
     ghost use Rattle.domain_label.specs.LabelText.{ReadsLabel};
     ghost use Rattle.domain_label.specs.Lending.{LendsLabel, LendsOctets};
-    ghost use Rattle.domain_label.specs.Views.{label_octets, label_mut_octets, owned_octets};
+    ghost use Rattle.domain_label.specs.Labels.{label_octets, label_mut_octets, owned_octets};
 
     /// The octets of a label, as they are.
     pub fn from_label(label: Label) -> OwnedLabel
@@ -77,7 +77,7 @@ impl OwnedLabel {
 
     /// Makes A to Z a to z, in place (RFC 4034, 6.2).
     pub fn make_canonical(&mut self)
-        ensures { owned_octets self.new ≡ low (owned_octets self.old) }
+        ensures { owned_octets self.new ≡ lowercase (owned_octets self.old) }
     {
         // A length octet is below A, so it stays.
         self.wire.make_ascii_lowercase();
@@ -109,7 +109,7 @@ impl OwnedLabel {
         &mut self.wire[1..len + 1]
     }
 
-    /// The wire form: the length octet and the octets (RFC 1035, 3.1).
+    /// The wire format: the length octet and the octets (RFC 1035, 3.1).
     pub fn as_wire_slice(&self) -> &[u8]
         ensures { result.now ≡ wire_label (owned_octets self.now) }
     {
@@ -122,7 +122,7 @@ impl OwnedLabel {
 }
 
 impl<'a> From<Label<'a>> for OwnedLabel {
-    ghost use Rattle.domain_label.specs.Views.{label_octets, owned_octets};
+    ghost use Rattle.domain_label.specs.Labels.{label_octets, owned_octets};
 
     ghost from_gives = { λ label owned. owned_octets owned ≡ label_octets label };
 
@@ -147,9 +147,9 @@ impl FromStr for OwnedLabel {
 
 /// As the labels.
 impl PartialEq for OwnedLabel {
-    ghost use Rattle.domain_label.specs.Views.{owned_octets};
+    ghost use Rattle.domain_label.specs.Labels.{owned_octets};
 
-    ghost eq = { on owned_octets low_eq };
+    ghost eq = { on owned_octets eq_ignoring_case };
 
     ghost laws = { Prim.search (comparing, rules) };
 
@@ -164,9 +164,9 @@ impl Eq for OwnedLabel {
 
 /// As the labels.
 impl Ord for OwnedLabel {
-    ghost use Rattle.domain_label.specs.Views.{owned_octets};
+    ghost use Rattle.domain_label.specs.Labels.{owned_octets};
 
-    ghost cmp = { on owned_octets low_cmp };
+    ghost cmp = { on owned_octets cmp_ignoring_case };
 
     ghost total = { Prim.search (comparing, rules) };
 
@@ -180,9 +180,9 @@ impl Ord for OwnedLabel {
 }
 
 impl PartialOrd for OwnedLabel {
-    ghost use Rattle.domain_label.specs.Views.{owned_octets};
+    ghost use Rattle.domain_label.specs.Labels.{owned_octets};
 
-    ghost partial_cmp = { as_partial_cmp (on owned_octets low_cmp) };
+    ghost partial_cmp = { as_partial_cmp (on owned_octets cmp_ignoring_case) };
 
     ghost laws = { partial_order_from_own_ties (Prim.search (comparing, rules)) (Prim.search (comparing, rules)) };
 
@@ -193,11 +193,11 @@ impl PartialOrd for OwnedLabel {
 
 /// As the label.
 impl Hash for OwnedLabel {
-    ghost use Rattle.domain_label.specs.Views.{owned_octets};
+    ghost use Rattle.domain_label.specs.Labels.{owned_octets};
 
-    ghost hash_input = { λ label. feed_label (owned_octets label) };
+    ghost hash_input = { λ label. label_hash_input (owned_octets label) };
 
-    ghost respects_eq = { λ x y. feeds_alike.fed (owned_octets x) (owned_octets y) };
+    ghost respects_eq = { λ x y. same_label_hash_input.fed (owned_octets x) (owned_octets y) };
 
     fn hash<H: Hasher>(&self, state: &mut H) {
         self.as_label().hash(state);
@@ -206,9 +206,9 @@ impl Hash for OwnedLabel {
 
 /// As the label.
 impl fmt::Display for OwnedLabel {
-    ghost use Rattle.domain_label.specs.Views.{owned_octets};
+    ghost use Rattle.domain_label.specs.Labels.{owned_octets};
 
-    ghost output = { λ label. Some (spell (owned_octets label)) };
+    ghost output = { λ label. Some (escaped (owned_octets label)) };
 
     fn fmt<W: fmt::Write>(&self, f: &mut fmt::Formatter<W>) -> fmt::Result {
         write!(f, "{}", self.as_label())

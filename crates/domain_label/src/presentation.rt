@@ -1,17 +1,17 @@
 //! Labels spelled in a buffer, so that they are written at once (RFC 1035, 5.1).
 ghost use Rattle.std.specs.Prelude.{◌≡◌, ◌≤◌, ◌+◌, ◌*◌, ◌++◌, length};
 ghost use Rattle.std.specs.Str.{IsAscii};
-ghost use Rattle.domain_label.specs.Text.{spell, spell_octet};
+ghost use Rattle.domain_label.specs.Text.{escaped, escaped_octet};
 
 use arrayvec::ArrayVec;
 use std::str::from_utf8;
 
 /// Appends one octet of a label as it is spelled.
 #[inline(always)]
-fn push_spelled<const N: usize>(octet: u8, text: &mut ArrayVec<u8, N>)
+fn push_escaped<const N: usize>(octet: u8, text: &mut ArrayVec<u8, N>)
     requires room { length text.old.items + 4 ≤ N }
     requires ascii { IsAscii text.old.items }
-    ensures spelled { text.new.items ≡ text.old.items ++ spell_octet octet }
+    ensures spelled { text.new.items ≡ text.old.items ++ escaped_octet octet }
     ensures ascii { IsAscii text.new.items }
     ensures size { length text.new.items ≤ length text.old.items + 4 }
 {
@@ -34,12 +34,12 @@ fn push_spelled<const N: usize>(octet: u8, text: &mut ArrayVec<u8, N>)
 pub fn push_label<const N: usize>(octets: &[u8], text: &mut ArrayVec<u8, N>)
     requires room { length text.old.items + 4 * length octets.now ≤ N }
     requires ascii { IsAscii text.old.items }
-    ensures spelled { text.new.items ≡ text.old.items ++ spell octets.now }
+    ensures spelled { text.new.items ≡ text.old.items ++ escaped octets.now }
     ensures ascii { IsAscii text.new.items }
     ensures size { length text.new.items ≤ length text.old.items + 4 * length octets.now }
 {
     for octet in octets {
-        push_spelled(*octet, text);
+        push_escaped(*octet, text);
     }
 }
 

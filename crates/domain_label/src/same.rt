@@ -1,7 +1,7 @@
 //! Octets compared without ASCII case, many at a time. A length octet is below `A`, so it is its own lower
-//! case, and wire forms are compared so without going over their labels.
+//! case, and wire formats are compared so without going over their labels.
 ghost use Rattle.std.specs.Prelude.{◌≡◌, ◌≤◌, ◌+◌, IsTrue, ◌↔◌, length};
-ghost use Rattle.domain_label.specs.Low.{low};
+ghost use Rattle.domain_label.specs.Lowercase.{lowercase};
 
 /// How many octets are compared at a time where there are many.
 const PART: usize = 16;
@@ -11,7 +11,7 @@ const PART: usize = 16;
 #[inline(always)]
 fn same_each(a: &[u8], b: &[u8]) -> bool
     requires { length a.now ≡ length b.now }
-    ensures { IsTrue result ↔ (low a.now ≡ low b.now) }
+    ensures { IsTrue result ↔ (lowercase a.now ≡ lowercase b.now) }
 {
     let mut same = true;
     for i in 0..a.len() {
@@ -27,7 +27,7 @@ fn same_ends(a: &[u8], b: &[u8], size: usize) -> bool
     requires sized { length a.now ≡ length b.now }
     requires long { size ≤ length a.now }
     requires short { length a.now ≤ size + size }
-    ensures { IsTrue result ↔ (low a.now ≡ low b.now) }
+    ensures { IsTrue result ↔ (lowercase a.now ≡ lowercase b.now) }
 {
     let last = a.len() - size;
     let mut same = same_each(&a[last..], &b[last..]);
@@ -40,7 +40,7 @@ fn same_ends(a: &[u8], b: &[u8], size: usize) -> bool
 fn same_parts(a: &[u8], b: &[u8]) -> bool
     requires sized { length a.now ≡ length b.now }
     requires long { 16 ≤ length a.now }
-    ensures { IsTrue result ↔ (low a.now ≡ low b.now) }
+    ensures { IsTrue result ↔ (lowercase a.now ≡ lowercase b.now) }
 {
     let last = a.len() - PART;
     if !same_each(&a[last..], &b[last..]) {
@@ -61,7 +61,7 @@ fn same_parts(a: &[u8], b: &[u8]) -> bool
 /// Most labels are short: they are compared without a loop and without a call.
 #[inline(always)]
 pub fn same_octets(a: &[u8], b: &[u8]) -> bool
-    ensures { IsTrue result ↔ (low a.now ≡ low b.now) }
+    ensures { IsTrue result ↔ (lowercase a.now ≡ lowercase b.now) }
 {
     if a.len() != b.len() {
         return false;

@@ -3,7 +3,7 @@ ghost use Rattle.std.specs.Prelude.{◌≡◌, ℕ, length, drop, IfOk, IfErr};
 ghost use Rattle.std.specs.Iterator.{YieldsFirstBy, item_count};
 ghost use Rattle.domain_label.specs.SliceWalk.{slice_walk, WalkEnds};
 ghost use Rattle.domain_label.specs.Splitting.{BeginsWithLabel, SplitFault};
-ghost use Rattle.domain_label.specs.Views.{label_octets, walk_left};
+ghost use Rattle.domain_label.specs.Labels.{label_octets, walk_left};
 
 use crate::label::Label;
 use crate::split::SplitLabelError;

@@ -1,7 +1,7 @@
 //! Why octets begin with no label.
 ghost use Rattle.std.specs.Prelude.{◌≡◌, Some, codes};
 
-use crate::hex::hex_digit;
+use crate::hex::hex_character;
 use domain_wire::ParseError;
 use std::error::Error;
 use std::fmt;
@@ -17,7 +17,7 @@ pub enum LabelTypeError {
 }
 
 impl fmt::Display for LabelTypeError {
-    ghost use Rattle.domain_label.specs.Told.{label_type_text};
+    ghost use Rattle.domain_label.specs.ErrorText.{label_type_text};
 
     ghost output = { λ e. Some (label_type_text e) };
 
@@ -25,8 +25,8 @@ impl fmt::Display for LabelTypeError {
         match self {
             LabelTypeError::Undefined => write!(f, "undefined label type"),
             LabelTypeError::Extended(value) => {
-                let high = hex_digit(*value / 16);
-                let low = hex_digit(*value % 16);
+                let high = hex_character(*value / 16);
+                let low = hex_character(*value % 16);
                 write!(f, "unknown extended label 0x{high}{low}")
             }
         }
@@ -47,7 +47,7 @@ pub enum SplitLabelError {
 }
 
 impl fmt::Display for SplitLabelError {
-    ghost use Rattle.domain_label.specs.Told.{split_text};
+    ghost use Rattle.domain_label.specs.ErrorText.{split_text};
 
     ghost output = { λ e. Some (split_text e) };
 
@@ -74,7 +74,7 @@ impl From<LabelTypeError> for SplitLabelError {
 
 impl From<SplitLabelError> for ParseError {
     ghost use Rattle.domain_wire.specs.Refusals.{refusal};
-    ghost use Rattle.domain_label.specs.Told.{split_refusal};
+    ghost use Rattle.domain_label.specs.ErrorText.{split_refusal};
 
     ghost from_gives = { λ split e. refusal e ≡ split_refusal split };
 

@@ -47,7 +47,7 @@ pub enum SymbolCharsError {
 }
 
 impl fmt::Display for SymbolCharsError {
-    ghost use Rattle.domain_label.specs.Told.{symbol_chars_text};
+    ghost use Rattle.domain_label.specs.ErrorText.{symbol_chars_text};
 
     ghost output = { λ e. Some (symbol_chars_text e) };
 

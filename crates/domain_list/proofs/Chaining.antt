@@ -3,7 +3,7 @@ use Rattle.std.proofs.Common.{◌≡◌, ℕ, ◌+◌, ◌≤◌, List, [], ◌�
 use Rattle.domain_label.specs.Wire.{wire, Root, IsAbsolute, IsRelative, IsRelativeName}
 use Rattle.domain_label.proofs.WireLaws.{length-wire_append, relative_then_absolute, relative_then_relative}
 use Rattle.domain_list.specs.Chains.{before_root}
-use Rattle.domain_list.specs.Facts.{before_absolute, before_relative}
+use Rattle.domain_list.specs.NameLaws.{before_absolute, before_relative}
 
 pub before_chain_absolute : (ls rs : List (List ℕ)) → IsRelative ls → IsAbsolute rs → before_root (ls ++ rs) + 1 ≡ length (wire ls) + length (wire rs)
 before_chain_absolute ls rs l r = omega (arith, before_absolute (ls ++ rs) (relative_then_absolute ls rs l r), length-wire_append ls rs)

@@ -4,7 +4,7 @@ use Rattle.std.specs.Bool.{Decides}
 use Rattle.std.specs.Cmp.{unsigned_Decides}
 use Rattle.std.specs.Cmp.Lexicographic.{pointwise}
 use Rattle.std.proofs.lemmas.Slice.Eq.{slice_eq-Decides}
-use Rattle.domain_label.specs.Low.{low_all}
+use Rattle.domain_label.specs.Lowercase.{lowercase_labels}
 use Rattle.domain_list.specs.Ends.{StartsWith}
 
 -- the second list begins with the first
@@ -15,7 +15,7 @@ begins (y ∷ ys) (x ∷ xs) = pointwise ◌==◌ y x && begins ys xs
 
 -- the labels of the second begin with those of the first, without case
 abbrev pub starts : List (List ℕ) → List (List ℕ) → Bool
-starts ys xs = begins (low_all ys) (low_all xs)
+starts ys xs = begins (lowercase_labels ys) (lowercase_labels xs)
 
 both : (s t : Bool) → (s && t) ≡ true → (s ≡ true) × (t ≡ true)
 both true t h = (refl, h)
@@ -49,4 +49,4 @@ begins_Decides (y ∷ ys) (x ∷ xs) = (
 )
 
 pub starts_Decides : (ys xs : List (List ℕ)) → Decides (starts ys xs) (StartsWith xs ys)
-starts_Decides ys xs = begins_Decides (low_all ys) (low_all xs)
+starts_Decides ys xs = begins_Decides (lowercase_labels ys) (lowercase_labels xs)

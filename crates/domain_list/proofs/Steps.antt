@@ -6,13 +6,13 @@ use Rattle.std.specs.declared.cmp.Ordering.{Ordering}
 use Rattle.std.specs.declared.cmp.Ordering.TheVariants.{Less, Equal, Greater}
 use Rattle.std.specs.Cmp.Lexicographic.{slice_cmp}
 use Rattle.std.specs.FinSet.{nat_cmp-IsAntisymmetric}
-use Rattle.domain_label.specs.Low.{low, low_all, label_composed_order}
+use Rattle.domain_label.specs.Lowercase.{lowercase, lowercase_labels, label_composed_order}
 use Rattle.domain_label.specs.Wire.{wire}
 use Rattle.domain_list.specs.Order.{from_right, composed_order}
 
 -- the last label comes first from the right
-pub from_right_last : (xs : List (List ℕ)) (x : List ℕ) → from_right (xs ++ x ∷ []) ≡ low x ∷ from_right xs
-from_right_last xs x = ap reverse (map-append low xs (x ∷ [])) ∙ reverse-append (low_all xs) (low x ∷ [])
+pub from_right_last : (xs : List (List ℕ)) (x : List ℕ) → from_right (xs ++ x ∷ []) ≡ lowercase x ∷ from_right xs
+from_right_last xs x = ap reverse (map-append lowercase xs (x ∷ [])) ∙ reverse-append (lowercase_labels xs) (lowercase x ∷ [])
 
 then_twice : (p q r : Ordering) → ordering_then p (ordering_then q r) ≡ ordering_then (ordering_then p q) r
 then_twice Less q r = refl

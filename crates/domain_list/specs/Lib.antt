@@ -1,12 +1,12 @@
-pub mod Dotted
+pub mod FinalDot
 pub mod Order
-pub mod Feed
+pub mod HashInput
 pub mod Count
 pub mod Ends
-pub mod Apex
+pub mod Ancestors
 pub mod Chains
-pub mod Facts
+pub mod NameLaws
 pub mod ChainParts
 pub mod Joined
-pub mod Alike
+pub mod EqualSuffixes
 pub mod Moving

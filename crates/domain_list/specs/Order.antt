@@ -4,26 +4,26 @@ use Rattle.std.specs.Cmp.Lexicographic.{slice_cmp}
 use Rattle.std.specs.Ordering.{on, nat_cmp, eq_by_cmp}
 use Rattle.std.specs.declared.cmp.Ordering.{Ordering}
 use Rattle.std.specs.declared.cmp.Ordering.TheVariants.{Less, Equal, Greater}
-use Rattle.domain_label.specs.Low.{low_all, low_cmp}
-use Rattle.domain_label.specs.Views.{label_octets}
+use Rattle.domain_label.specs.Lowercase.{lowercase_labels, cmp_ignoring_case}
+use Rattle.domain_label.specs.Labels.{label_octets}
 use Rattle.domain_label.specs.declared.label.Label.{Label}
 use Rattle.domain_label.specs.Wire.{wire}
 
 -- the labels from the right, without case
 abbrev pub from_right : List (List ℕ) → List (List ℕ)
-from_right ls = reverse (low_all ls)
+from_right ls = reverse (lowercase_labels ls)
 
 -- Labels are compared from the right, as lists of octets without case; a list that begins another
 -- is less (RFC 4034, 6.1).
-abbrev pub order : List (List ℕ) → List (List ℕ) → Ordering
-order = on from_right (slice_cmp (slice_cmp nat_cmp))
+abbrev pub canonical_order : List (List ℕ) → List (List ℕ) → Ordering
+canonical_order = on from_right (slice_cmp (slice_cmp nat_cmp))
 
 -- The order of two names of which these labels are the last in which they differ.
 abbrev pub last_order : Option Label → Option Label → Ordering
 last_order None None = Equal
 last_order None (Some y) = Less
 last_order (Some x) None = Greater
-last_order (Some x) (Some y) = low_cmp (label_octets x) (label_octets y)
+last_order (Some x) (Some y) = cmp_ignoring_case (label_octets x) (label_octets y)
 
 -- The order of the octets on the wire.
 abbrev pub composed_order : List (List ℕ) → List (List ℕ) → Ordering
@@ -31,7 +31,7 @@ composed_order = on wire (slice_cmp nat_cmp)
 
 -- The order of the octets on the wire without case.
 abbrev pub lowercase_composed_order : List (List ℕ) → List (List ℕ) → Ordering
-lowercase_composed_order = on low_all composed_order
+lowercase_composed_order = on lowercase_labels composed_order
 
 -- The names that the order does not tell apart: those whose labels are the same without case.
 abbrev pub same_name : List (List ℕ) → List (List ℕ) → Bool

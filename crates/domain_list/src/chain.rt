@@ -1,10 +1,10 @@
 //! Two names, one after the other.
 ghost use Rattle.std.specs.Prelude.{◌≡◌, ◌≤◌, ◌<◌, ◌++◌, Some, IfOk, IsErr, ◌↔◌, codes};
 ghost use Rattle.std.specs.Iterator.{YieldsFirstBy, YieldsLastBy, item_count};
-ghost use Rattle.domain_label.specs.Views.{label_octets};
+ghost use Rattle.domain_label.specs.Labels.{label_octets};
 ghost use Rattle.domain_label.specs.Wire.{IsRelative};
 ghost use Rattle.domain_list.specs.Chains.{IsChain, before_root};
-ghost use Rattle.domain_list.specs.Facts.{IsChain_prop, chain_name, chain_absolute, chain_relative};
+ghost use Rattle.domain_list.specs.NameLaws.{IsChain_prop, chain_name, chain_absolute, chain_relative};
 
 use crate::labels::{
     Absolute, AbsoluteLabels, LabelIterator, NameLabels, Relative, RelativeLabels, ToLabelIter,

@@ -1,22 +1,22 @@
 //! Comparing names. The calls of names stand on these functions; each is the one body for absolute and
 //! relative names of every kind. Where both names lie in one piece, their octets are compared as they lie.
 ghost use Rattle.std.specs.Prelude.{◌≡◌, ◌≢◌, ◌<◌, ◌∷◌, IsTrue, ◌↔◌, length, MatchBool};
-ghost use Rattle.domain_label.specs.Low.{low, low_all};
-ghost use Rattle.domain_label.specs.Views.{label_octets};
+ghost use Rattle.domain_label.specs.Lowercase.{lowercase, lowercase_labels};
+ghost use Rattle.domain_label.specs.Labels.{label_octets};
 ghost use Rattle.domain_label.specs.Wire.{wire, AreLabels};
-ghost use Rattle.domain_list.specs.Alike.{EndAlike};
-ghost use Rattle.domain_list.specs.Order.{order, last_order, same_name, composed_order, lowercase_composed_order};
+ghost use Rattle.domain_list.specs.EqualSuffixes.{SuffixesEqual};
+ghost use Rattle.domain_list.specs.Order.{canonical_order, last_order, same_name, composed_order, lowercase_composed_order};
 
-use crate::flat::known_alike;
+use crate::flat::known_equal_suffix_len;
 use crate::labels::{LabelIterator, ToLabelIter};
 use domain_label::Label;
-use domain_label::order::low_order;
+use domain_label::order::order_ignoring_case;
 use domain_label::same::same_octets;
 use std::cmp::Ordering;
 
 /// Whether the labels that are left are the same without ASCII case (RFC 4343).
 pub(crate) fn eq_labels<'a, A: LabelIterator<'a>, B: LabelIterator<'a>>(a: A, b: B) -> bool
-    ensures { IsTrue result ↔ (low_all (A.left a) ≡ low_all (B.left b)) }
+    ensures { IsTrue result ↔ (lowercase_labels (A.left a) ≡ lowercase_labels (B.left b)) }
 {
     let mut a = a;
     let mut b = b;
@@ -33,7 +33,7 @@ pub(crate) fn eq_labels<'a, A: LabelIterator<'a>, B: LabelIterator<'a>>(a: A, b:
     }
 }
 
-/// Whether the labels that are left, of `len` octets on the wire, have this wire form without ASCII case.
+/// Whether the labels that are left, of `len` octets on the wire, have this wire format without ASCII case.
 ///
 /// Each label is looked for at the front of what is left of the octets, so that no second iterator reads their
 /// length octets, and a label of another length is told by one comparison.
@@ -41,7 +41,7 @@ pub(crate) fn eq_labels<'a, A: LabelIterator<'a>, B: LabelIterator<'a>>(a: A, b:
 fn eq_flat<'a, I: LabelIterator<'a>>(labels: I, len: u16, flat: &[u8]) -> bool
     requires sized { len ≡ length (wire (I.left labels)) }
     requires labels { AreLabels (I.left labels) }
-    ensures { IsTrue result ↔ (low flat.now ≡ low (wire (I.left labels))) }
+    ensures { IsTrue result ↔ (lowercase flat.now ≡ lowercase (wire (I.left labels))) }
 {
     if usize::from(len) != flat.len() {
         return false;
@@ -63,7 +63,7 @@ fn eq_flat<'a, I: LabelIterator<'a>>(labels: I, len: u16, flat: &[u8]) -> bool
 
 /// Whether the labels of two names are the same without ASCII case (RFC 4343).
 pub fn eq_names<'a, A: ToLabelIter<'a>, B: ToLabelIter<'a>>(a: &'a A, b: &'a B) -> bool
-    ensures { IsTrue result ↔ (low_all (A.labels a.now) ≡ low_all (B.labels b.now)) }
+    ensures { IsTrue result ↔ (lowercase_labels (A.labels a.now) ≡ lowercase_labels (B.labels b.now)) }
 {
     match (a.as_flat_slice(), b.as_flat_slice()) {
         (Some(a), Some(b)) => return same_octets(a, b),
@@ -105,7 +105,7 @@ pub(crate) fn next_label<'a, I: LabelIterator<'a>>(labels: &mut I) -> Label<'a>
 
 /// Whether two labels differ, apart from ASCII case.
 fn differ(x: &Label<'_>, y: &Label<'_>) -> bool
-    ensures { MatchBool result (low (label_octets x.now) ≢ low (label_octets y.now)) (low (label_octets x.now) ≡ low (label_octets y.now)) }
+    ensures { MatchBool result (lowercase (label_octets x.now) ≢ lowercase (label_octets y.now)) (lowercase (label_octets x.now) ≡ lowercase (label_octets y.now)) }
 {
     x != y
 }
@@ -125,8 +125,8 @@ fn order_labels<'a, A: LabelIterator<'a>, B: LabelIterator<'a>>(
 ) -> Ordering
     requires a_sized { a_len ≡ length (wire (A.left a)) }
     requires b_sized { b_len ≡ length (wire (B.left b)) }
-    requires alike { EndAlike (A.left a) (B.left b) alike }
-    ensures { result ≡ order (A.left a) (B.left b) }
+    requires alike { SuffixesEqual (A.left a) (B.left b) alike }
+    ensures { result ≡ canonical_order (A.left a) (B.left b) }
 {
     let mut a = a;
     let mut b = b;
@@ -160,9 +160,9 @@ fn order_labels<'a, A: LabelIterator<'a>, B: LabelIterator<'a>>(
 /// The order of two names of any kinds, from the last labels on (RFC 4034, 6.1). Where both lie in one
 /// piece, the octets that they end with alike are passed over first.
 pub fn order_names<'a, A: ToLabelIter<'a>, B: ToLabelIter<'a>>(a: &'a A, b: &'a B) -> Ordering
-    ensures { result ≡ order (A.labels a.now) (B.labels b.now) }
+    ensures { result ≡ canonical_order (A.labels a.now) (B.labels b.now) }
 {
-    let alike = known_alike(a.as_flat_slice(), b.as_flat_slice());
+    let alike = known_equal_suffix_len(a.as_flat_slice(), b.as_flat_slice());
     order_labels(
         a.iter_labels(),
         a.compose_len(),
@@ -240,7 +240,7 @@ pub fn lowercase_composed_order_names<'a, A: ToLabelIter<'a>, B: ToLabelIter<'a>
     ensures { result ≡ lowercase_composed_order (A.labels a.now) (B.labels b.now) }
 {
     match (a.as_flat_slice(), b.as_flat_slice()) {
-        (Some(a), Some(b)) => return low_order(a, b),
+        (Some(a), Some(b)) => return order_ignoring_case(a, b),
         _ => return lowercase_composed_order_labels(a.iter_labels(), b.iter_labels()),
     }
 }

@@ -1,14 +1,14 @@
-//! Writing names in wire form, without compression (RFC 1035, 3.1).
+//! Writing names in wire format, without compression (RFC 1035, 3.1).
 ghost use Rattle.std.specs.Prelude.{◌≡◌, ◌≤◌, ◌<◌, ◌+◌, ◌++◌, length, take, IfSome, OnOk, OnErr};
-ghost use Rattle.domain_label.specs.Low.{low, low_all};
-ghost use Rattle.domain_label.specs.Views.{label_octets};
+ghost use Rattle.domain_label.specs.Lowercase.{lowercase, lowercase_labels};
+ghost use Rattle.domain_label.specs.Labels.{label_octets};
 ghost use Rattle.domain_label.specs.Wire.{wire, wire_label};
 
 use crate::labels::{LabelIterator, ToLabelIter};
 use domain_label::Label;
 use octseq::OctetsBuilder;
 
-/// Appends the wire form of the labels that are left, or nothing.
+/// Appends the wire format of the labels that are left, or nothing.
 ///
 /// The target's error where the octets don't fit, or where there was no memory for them; the target
 /// is then as before. Where they fit its spare capacity, there is none.
@@ -17,7 +17,7 @@ pub fn compose_labels<'a, I: LabelIterator<'a>, Target: OctetsBuilder>(
     target: &mut Target,
 ) -> Result<(), Target::AppendError>
     ensures ok { OnOk result (Target.octets target.new ≡ Target.octets target.old ++ wire (I.left labels)) }
-    ensures err { OnErr result (Target.octets target.new ≡ Target.octets target.old) }
+    ensures unchanged { OnErr result (Target.octets target.new ≡ Target.octets target.old) }
     ensures full { OnErr result (Target.capacity target.old < length (Target.octets target.old) + length (wire (I.left labels))) }
     ensures capacity { Target.capacity target.old ≤ Target.capacity target.new }
     ensures within { IfSome Target.limit (λ n. length (Target.octets target.new) ≤ n) }
@@ -36,7 +36,7 @@ pub fn compose_labels<'a, I: LabelIterator<'a>, Target: OctetsBuilder>(
     Ok(())
 }
 
-/// Puts the wire form of the labels that are left at the beginning of a buffer, and tells how many octets
+/// Puts the wire format of the labels that are left at the beginning of a buffer, and tells how many octets
 /// it has.
 #[inline(always)]
 fn put_labels<'a, I: LabelIterator<'a>>(labels: I, octets: &mut [u8; 255]) -> usize
@@ -52,7 +52,7 @@ fn put_labels<'a, I: LabelIterator<'a>>(labels: I, octets: &mut [u8; 255]) -> us
     len
 }
 
-/// Puts the wire form of a label behind so many octets of a buffer, and tells how many there are then.
+/// Puts the wire format of a label behind so many octets of a buffer, and tells how many there are then.
 #[inline(always)]
 fn put_label(label: Label, octets: &mut [u8; 255], len: usize) -> usize
     requires { len + length (wire_label (label_octets label)) ≤ 255 }
@@ -65,7 +65,7 @@ fn put_label(label: Label, octets: &mut [u8; 255], len: usize) -> usize
     end
 }
 
-/// Puts the wire form of a name of any kind at the beginning of a buffer, which has room for each name,
+/// Puts the wire format of a name of any kind at the beginning of a buffer, which has room for each name,
 /// and tells how many octets it has.
 #[inline(always)]
 pub fn put_name<'a, N: ToLabelIter<'a>>(name: &'a N, octets: &mut [u8; 255]) -> usize
@@ -82,10 +82,10 @@ pub fn put_name<'a, N: ToLabelIter<'a>>(name: &'a N, octets: &mut [u8; 255]) -> 
 
 /// Puts octets at the beginning of a buffer, A to Z as a to z, and tells how many there are.
 #[inline(always)]
-fn put_low(flat: &[u8], octets: &mut [u8; 255]) -> usize
+fn put_lowercase(flat: &[u8], octets: &mut [u8; 255]) -> usize
     requires { length flat.now ≤ 255 }
     ensures size { result ≡ length flat.now }
-    ensures low { take result octets.new ≡ low flat.now }
+    ensures low { take result octets.new ≡ lowercase flat.now }
 {
     for i in 0..flat.len() {
         octets[i] = flat[i].to_ascii_lowercase();
@@ -93,22 +93,22 @@ fn put_low(flat: &[u8], octets: &mut [u8; 255]) -> usize
     flat.len()
 }
 
-/// Puts the wire form of a name of any kind at the beginning of a buffer, A to Z as a to z, and tells how
+/// Puts the wire format of a name of any kind at the beginning of a buffer, A to Z as a to z, and tells how
 /// many octets it has.
 #[inline(always)]
-fn put_low_name<'a, N: ToLabelIter<'a>>(name: &'a N, octets: &mut [u8; 255]) -> usize
-    ensures wire { take result octets.new ≡ wire (low_all (N.labels name.now)) }
+fn put_lowercase_name<'a, N: ToLabelIter<'a>>(name: &'a N, octets: &mut [u8; 255]) -> usize
+    ensures wire { take result octets.new ≡ wire (lowercase_labels (N.labels name.now)) }
     ensures fits { result ≤ 255 }
 {
     if let Some(flat) = name.as_flat_slice() {
-        return put_low(flat, octets);
+        return put_lowercase(flat, octets);
     }
     let len = put_labels(name.iter_labels(), octets);
     octets.make_ascii_lowercase();
     len
 }
 
-/// Appends the wire form of a name of any kind at once, or nothing.
+/// Appends the wire format of a name of any kind at once, or nothing.
 ///
 /// The target's error where the octets don't fit, or where there was no memory for them; the target
 /// is then as before. Where they fit its spare capacity, there is none.
@@ -118,7 +118,7 @@ pub fn compose_name<'a, N: ToLabelIter<'a>, Target: OctetsBuilder>(
     target: &mut Target,
 ) -> Result<(), Target::AppendError>
     ensures ok { OnOk result (Target.octets target.new ≡ Target.octets target.old ++ wire (N.labels name.now)) }
-    ensures err { OnErr result (Target.octets target.new ≡ Target.octets target.old) }
+    ensures unchanged { OnErr result (Target.octets target.new ≡ Target.octets target.old) }
     ensures full { OnErr result (Target.capacity target.old < length (Target.octets target.old) + length (wire (N.labels name.now))) }
     ensures capacity { Target.capacity target.old ≤ Target.capacity target.new }
     ensures within { IfSome Target.limit (λ n. length (Target.octets target.new) ≤ n) }
@@ -132,7 +132,7 @@ pub fn compose_name<'a, N: ToLabelIter<'a>, Target: OctetsBuilder>(
     target.append_slice(&octets[..len])
 }
 
-/// Appends the wire form of a name of any kind without ASCII case (RFC 4034, 6.2) at once, or nothing.
+/// Appends the wire format of a name of any kind without ASCII case (RFC 4034, 6.2) at once, or nothing.
 ///
 /// The target's error where the octets don't fit, or where there was no memory for them; the target
 /// is then as before. Where they fit its spare capacity, there is none.
@@ -141,14 +141,14 @@ pub fn compose_canonical_name<'a, N: ToLabelIter<'a>, Target: OctetsBuilder>(
     name: &'a N,
     target: &mut Target,
 ) -> Result<(), Target::AppendError>
-    ensures ok { OnOk result (Target.octets target.new ≡ Target.octets target.old ++ wire (low_all (N.labels name.now))) }
-    ensures err { OnErr result (Target.octets target.new ≡ Target.octets target.old) }
-    ensures full { OnErr result (Target.capacity target.old < length (Target.octets target.old) + length (wire (low_all (N.labels name.now)))) }
+    ensures ok { OnOk result (Target.octets target.new ≡ Target.octets target.old ++ wire (lowercase_labels (N.labels name.now))) }
+    ensures unchanged { OnErr result (Target.octets target.new ≡ Target.octets target.old) }
+    ensures full { OnErr result (Target.capacity target.old < length (Target.octets target.old) + length (wire (lowercase_labels (N.labels name.now)))) }
     ensures capacity { Target.capacity target.old ≤ Target.capacity target.new }
     ensures within { IfSome Target.limit (λ n. length (Target.octets target.new) ≤ n) }
     ensures fixed { IfSome Target.limit (λ n. Target.capacity target.old ≡ n) }
 {
     let mut octets = [0; 255];
-    let len = put_low_name(name, &mut octets);
+    let len = put_lowercase_name(name, &mut octets);
     target.append_slice(&octets[..len])
 }

@@ -1,8 +1,8 @@
 //! Names as text with a final dot.
 ghost use Rattle.std.specs.Prelude.{◌≡◌, ◌≤◌, ◌+◌, ◌*◌, ◌++◌, [], length, Some};
 ghost use Rattle.std.specs.Str.{IsAscii};
-ghost use Rattle.domain_label.specs.Text.{with_dot, dotted};
-ghost use Rattle.domain_label.specs.Views.{label_octets};
+ghost use Rattle.domain_label.specs.Text.{with_dot, text_with_final_dot};
+ghost use Rattle.domain_label.specs.Labels.{label_octets};
 ghost use Rattle.domain_label.specs.Wire.{wire};
 
 use crate::labels::{AbsoluteLabels, LabelIterator};
@@ -26,12 +26,12 @@ fn push_with_dot(label: Label, text: &mut ArrayVec<u8, 1020>)
     text.push(b'.');
 }
 
-/// Appends the labels that are left with a dot behind each, and the root alone as a dot, to a buffer that
-/// has room for each name.
-fn push_dotted<'a, I: LabelIterator<'a>>(labels: I, text: &mut ArrayVec<u8, 1020>)
+/// Appends the labels that are left with a dot behind each, and the root alone as a dot (RFC 1035, 5.1), to a buffer
+/// that is empty and has room for each name.
+pub fn push_dotted<'a, I: LabelIterator<'a>>(labels: I, text: &mut ArrayVec<u8, 1020>)
     requires fits { length (wire (I.left labels)) ≤ 255 }
     requires empty { text.old.items ≡ [] }
-    ensures text { text.new.items ≡ dotted (I.left labels) }
+    ensures text { text.new.items ≡ text_with_final_dot (I.left labels) }
     ensures ascii { IsAscii text.new.items }
 {
     let mut labels = labels;
@@ -50,7 +50,7 @@ pub struct DisplayWithDot<'a, N> {
 }
 
 impl<'a, N> DisplayWithDot<'a, N> {
-    ghost use Rattle.domain_list.specs.Dotted.{dotted_name};
+    ghost use Rattle.domain_list.specs.FinalDot.{dotted_name};
 
     /// Shows this name.
     pub fn new(name: &'a N) -> DisplayWithDot<'a, N>
@@ -61,9 +61,9 @@ impl<'a, N> DisplayWithDot<'a, N> {
 }
 
 impl<'a, N: AbsoluteLabels<'a>> fmt::Display for DisplayWithDot<'a, N> {
-    ghost use Rattle.domain_list.specs.Dotted.{dotted_name};
+    ghost use Rattle.domain_list.specs.FinalDot.{dotted_name};
 
-    ghost output = { λ shown. Some (dotted (N.labels (dotted_name shown))) };
+    ghost output = { λ shown. Some (text_with_final_dot (N.labels (dotted_name shown))) };
 
     fn fmt<W: fmt::Write>(&self, f: &mut fmt::Formatter<W>) -> fmt::Result {
         let mut text = ArrayVec::<u8, 1020>::new();

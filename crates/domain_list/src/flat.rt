@@ -1,7 +1,7 @@
-//! How many octets two wire forms end with alike, found without going over their labels.
+//! How many octets two wire formats end with alike, found without going over their labels.
 ghost use Rattle.std.specs.Prelude.{◌≡◌, MatchBool, ⊤};
 ghost use Rattle.std.specs.Char.{to_ascii_lowercase};
-ghost use Rattle.domain_list.specs.Alike.{OctetsEndAlike, KnownAlike};
+ghost use Rattle.domain_list.specs.EqualSuffixes.{OctetSuffixesEqual, KnownSuffixesEqual};
 
 /// Whether two octets are the same without ASCII case.
 fn same_octet(x: u8, y: u8) -> bool
@@ -10,9 +10,9 @@ fn same_octet(x: u8, y: u8) -> bool
     x == y || x.to_ascii_lowercase() == y.to_ascii_lowercase()
 }
 
-/// How many of the last octets of two wire forms are the same without ASCII case.
-fn octets_alike(a: &[u8], b: &[u8]) -> usize
-    ensures { OctetsEndAlike a.now b.now result }
+/// How many of the last octets of two wire formats are the same without ASCII case.
+fn equal_suffix_len(a: &[u8], b: &[u8]) -> usize
+    ensures { OctetSuffixesEqual a.now b.now result }
 {
     let mut a_end = a.len();
     let mut b_end = b.len();
@@ -29,11 +29,11 @@ fn octets_alike(a: &[u8], b: &[u8]) -> usize
 }
 
 /// The same of two names, where both lie in one piece.
-pub(crate) fn known_alike(a: Option<&[u8]>, b: Option<&[u8]>) -> usize
-    ensures { KnownAlike a.entry b.entry result }
+pub(crate) fn known_equal_suffix_len(a: Option<&[u8]>, b: Option<&[u8]>) -> usize
+    ensures { KnownSuffixesEqual a.entry b.entry result }
 {
     match (a, b) {
-        (Some(a), Some(b)) => octets_alike(a, b),
+        (Some(a), Some(b)) => equal_suffix_len(a, b),
         _ => 0,
     }
 }

@@ -1,16 +1,16 @@
 //! What names feed a hasher.
 ghost use Rattle.std.specs.Prelude.{◌≡◌, fold};
-ghost use Rattle.domain_label.specs.Low.{low, low_all, as_writes};
+ghost use Rattle.domain_label.specs.Lowercase.{lowercase, lowercase_labels, as_writes};
 ghost use Rattle.domain_label.specs.Wire.{wire};
-ghost use Rattle.domain_list.specs.Feed.{feed};
+ghost use Rattle.domain_list.specs.HashInput.{name_hash_input};
 
 use crate::labels::{LabelIterator, ToLabelIter};
 use std::hash::{Hash, Hasher};
 
 /// Feeds the labels that are left: for each its length and then its octets without ASCII case, each
-/// as one `u8`. These are the octets of the lowered wire form.
+/// as one `u8`. These are the octets of the lowered wire format.
 fn hash_labels<'a, I: LabelIterator<'a>, H: Hasher>(labels: I, state: &mut H)
-    ensures { state.new ≡ fold H.write state.old (feed (I.left labels)) }
+    ensures { state.new ≡ fold H.write state.old (name_hash_input (I.left labels)) }
 {
     let mut labels = labels;
     while let Some(label) = labels.next() {
@@ -20,7 +20,7 @@ fn hash_labels<'a, I: LabelIterator<'a>, H: Hasher>(labels: I, state: &mut H)
 
 /// Feeds octets without ASCII case, each as one `u8`.
 fn hash_octets<H: Hasher>(octets: &[u8], state: &mut H)
-    ensures { state.new ≡ fold H.write state.old (as_writes (low octets.now)) }
+    ensures { state.new ≡ fold H.write state.old (as_writes (lowercase octets.now)) }
 {
     for octet in octets {
         state.write_u8(octet.to_ascii_lowercase());
@@ -28,10 +28,10 @@ fn hash_octets<H: Hasher>(octets: &[u8], state: &mut H)
 }
 
 /// Feeds the labels of a name of any kind: for each its length and then its octets without ASCII case,
-/// each as one `u8`. These are the octets of the lowered wire form.
+/// each as one `u8`. These are the octets of the lowered wire format.
 pub fn hash_name<'a, N: ToLabelIter<'a>, H: Hasher>(name: &'a N, state: &mut H)
-    ensures fed { state.new ≡ fold H.write state.old (feed (N.labels name.now)) }
-    ensures wire { feed (N.labels name.now) ≡ as_writes (wire (low_all (N.labels name.now))) }
+    ensures fed { state.new ≡ fold H.write state.old (name_hash_input (N.labels name.now)) }
+    ensures wire { name_hash_input (N.labels name.now) ≡ as_writes (wire (lowercase_labels (N.labels name.now))) }
 {
     match name.as_flat_slice() {
         Some(flat) => hash_octets(flat, state),

@@ -3,7 +3,7 @@ ghost use Rattle.std.specs.Prelude.{◌≡◌, ◌≤◌, ◌+◌, ◌*◌, ◌+
 ghost use Rattle.std.specs.Fmt.{IsPlainFormatter};
 ghost use Rattle.std.specs.Str.{IsAscii};
 ghost use Rattle.domain_label.specs.Text.{dot_before, text};
-ghost use Rattle.domain_label.specs.Views.{label_octets};
+ghost use Rattle.domain_label.specs.Labels.{label_octets};
 ghost use Rattle.domain_list.specs.Moving.{HasMoved};
 
 use crate::labels::LabelIterator;

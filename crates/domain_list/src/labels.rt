@@ -3,7 +3,7 @@ ghost use Rattle.std.specs.Prelude.{◌≡◌, ℕ, List, length, IfSome, IsSome
 ghost use Rattle.std.specs.declared.option.Option.{Option};
 ghost use Rattle.std.specs.Iterator.{IsFinite, YieldsFirstBy, YieldsLastBy};
 ghost use Rattle.domain_label.specs.declared.label.Label.{Label};
-ghost use Rattle.domain_label.specs.Views.{label_octets};
+ghost use Rattle.domain_label.specs.Labels.{label_octets};
 ghost use Rattle.domain_label.specs.Wire.{wire, IsAbsolute, IsAbsoluteName, IsRelativeName, IsName};
 ghost use Rattle.domain_list.specs.Ends.{StartsWith, EndsWith};
 
@@ -68,10 +68,10 @@ pub trait ToLabelIter<'a>: NameLabels {
     fn iter_labels(&'a self) -> Self::LabelIter
         ensures { Self.LabelIter.left result ≡ Self.labels self.now };
 
-    /// The names whose wire form can be lent in one piece.
+    /// The names whose wire format can be lent in one piece.
     ghost lies_flat: { Self → Type 0 };
 
-    /// The wire form of the name, where it lies in one piece.
+    /// The wire format of the name, where it lies in one piece.
     fn as_flat_slice(&'a self) -> Option<&'a [u8]>
         ensures wire { IfSome result (λ s. s.now ≡ wire (Self.labels self.now)) }
         ensures given { IsSome result ↔ lies_flat self.now };
@@ -91,11 +91,11 @@ pub trait ToLabelIter<'a>: NameLabels {
     /// ```rust
     /// pub fn is_in_zone<'a, N: AbsoluteLabels<'a>, A: AbsoluteLabels<'a>>(
     ///     name: &'a N,
-    ///     apex: &'a A,
+    ///     ancestor: &'a A,
     /// ) -> bool
-    ///     ensures { IsTrue result ↔ EndsWith (N.labels name.now) (A.labels apex.now) }
+    ///     ensures { IsTrue result ↔ EndsWith (N.labels name.now) (A.labels ancestor.now) }
     /// {
-    ///     name.ends_with(apex)
+    ///     name.ends_with(ancestor)
     /// }
     /// ```
     final fn ends_with<N: ToLabelIter<'a>>(&'a self, other: &'a N) -> bool

@@ -1,14 +1,14 @@
 //! Laws of the definitions, proved as the contracts of calls that do nothing.
 ghost use Rattle.std.specs.Cmp.{IsTotalOrder};
-ghost use Rattle.domain_list.specs.Apex.{TellsApart, KeepsTogether, ComesFirst};
-ghost use Rattle.domain_list.specs.Order.{order};
+ghost use Rattle.domain_list.specs.Ancestors.{TellsApart, DescendantsAreAdjacent, ParentIsFirst};
+ghost use Rattle.domain_list.specs.Order.{canonical_order};
 
 /// The order of names is total, and `Equal` exactly where names are the same without ASCII case.
 ///
-/// In a zone all names that end with its apex stand together, and the apex is the first of them.
+/// In a zone all names that end with its apex stand together, and the ancestor is the first of them.
 pub fn order_laws()
-    ensures total { IsTotalOrder order }
+    ensures total { IsTotalOrder canonical_order }
     ensures apart { TellsApart }
-    ensures together { KeepsTogether }
-    ensures first { ComesFirst }
+    ensures together { DescendantsAreAdjacent }
+    ensures first { ParentIsFirst }
 {}

@@ -1,12 +1,12 @@
 -- Calls of a builder in turn.
 use Rattle.std.proofs.Common.{Option, ◌≡◌, ℕ, ◌+◌, ◌<◌, ◌≤◌, ◌⊎◌, inl, inr, List, [], ◌∷◌, length, drop, get_or, drop-cons, add-one, length-drop, refl, sym, ap, ◌∙◌, subst, arith}
-use Rattle.domain_builder.specs.Built.{Built, LacksRoom, StopsAt}
+use Rattle.domain_builder.specs.BuilderState.{BuilderState, LacksRoom, StopsAt}
 use Rattle.domain_builder.specs.Inside.{Held}
-use Rattle.domain_builder.specs.declared.part.Fault.{Fault}
+use Rattle.domain_builder.specs.declared.name_symbol.TextFault.{TextFault}
 use Rattle.domain_name.specs.Calls.{Takes, PassesOver, AppliesAll}
 use Rattle.domain_name.specs.declared.calls.BuilderCall.{BuilderCall}
-use Rattle.domain_builder.specs.declared.part.Part.{Part}
-use Rattle.domain_builder.specs.Told.{MatchFromStr, presentation_fault, presentation_error_kind}
+use Rattle.domain_builder.specs.declared.name_symbol.NameSymbol.{NameSymbol}
+use Rattle.domain_builder.specs.TextErrors.{MatchFromStr, presentation_fault, presentation_error_kind}
 use Rattle.domain_builder.specs.declared.error.FromStrError.{FromStrError}
 use Rattle.domain_builder.specs.declared.error.FromStrError.TheVariants.{Presentation, ShortBuf}
 
@@ -24,7 +24,7 @@ pub same_count : (limit : Option ℕ) (b new : Held) (all : List BuilderCall) (m
 same_count limit b new all m n e h = subst (λ (z : ℕ). AppliesAll limit b all new z) e h
 
 -- a text that was refused
-pub refused_text : (room : ℕ) (b new : Built) (ps : List Part) (e : FromStrError) → MatchFromStr e (StopsAt b ps new) (LacksRoom room b ps new) → ((f : Fault) × StopsAt b ps new f) ⊎ LacksRoom room b ps new
+pub refused_text : (room : ℕ) (b new : BuilderState) (ps : List NameSymbol) (e : FromStrError) → MatchFromStr e (StopsAt b ps new) (LacksRoom room b ps new) → ((f : TextFault) × StopsAt b ps new f) ⊎ LacksRoom room b ps new
 refused_text room b new ps (Presentation q) h = inl (presentation_fault (presentation_error_kind q), h)
 refused_text room b new ps ShortBuf h = inr h
 

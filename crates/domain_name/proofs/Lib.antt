@@ -1,5 +1,5 @@
 mod Stripping
-pub mod Shapes
+pub mod NameFields
 pub mod Calling
 pub mod OneOutcomes
-pub mod Rooms
+pub mod BuilderCapacity

@@ -1,5 +1,5 @@
 -- What contracts see of builders of names.
-use Rattle.domain_builder.specs.Built.{Built}
+use Rattle.domain_builder.specs.BuilderState.{BuilderState}
 use Rattle.domain_builder.specs.Inside.{Held}
 use Rattle.domain_name.specs.declared.builder.NameBuilder.{NameBuilder}
 
@@ -7,5 +7,6 @@ use Rattle.domain_name.specs.declared.builder.NameBuilder.{NameBuilder}
 abbrev pub held : {B E : Type 0} → NameBuilder B E → Held
 held b = b.labels
 
-abbrev pub built : {B E : Type 0} → NameBuilder B E → Built
+-- the finished labels and the open one (RFC 1035, 3.1)
+abbrev pub built : {B E : Type 0} → NameBuilder B E → BuilderState
 built b = b.labels.built

@@ -5,13 +5,13 @@ use Rattle.std.specs.Str.{chars}
 use Rattle.domain_label.specs.Spelling.{JustOne, Reads}
 use Rattle.domain_label.specs.declared.symbol.Symbol.{Symbol}
 use Rattle.domain_label.specs.declared.symbol.SymbolCharsError.{SymbolCharsError}
-use Rattle.domain_builder.specs.Built.{Built, size, pushed, ended, labelled, named, refusal, after, Makes, StopsAt, LacksRoom}
+use Rattle.domain_builder.specs.BuilderState.{BuilderState, size, pushed, ended, labelled, named, symbol_fault, after, Makes, StopsAt, LacksRoom}
 use Rattle.domain_builder.specs.Inside.{Held, room}
-use Rattle.domain_builder.specs.Parts.{parts, symbol_part}
-use Rattle.domain_builder.specs.declared.part.Part.TheVariants.{Dot}
+use Rattle.domain_builder.specs.NameSymbols.{name_symbols, symbol_in_name}
+use Rattle.domain_builder.specs.declared.name_symbol.NameSymbol.TheVariants.{Dot}
 use Rattle.domain_name.specs.declared.calls.BuilderCall.{BuilderCall}
 use Rattle.domain_name.specs.declared.calls.BuilderCall.TheVariants.{Push, PushSymbol, AppendSlice, EndLabel, AppendLabel, AppendDecU8Label, AppendHexDigitLabel, AppendName, AppendChars}
-use Rattle.domain_builder.specs.declared.part.Fault.{Fault}
+use Rattle.domain_builder.specs.declared.name_symbol.TextFault.{TextFault}
 use Rattle.domain_name.specs.Names.{relative_labels}
 
 -- A label of so many octets and all of them are short enough.
@@ -23,32 +23,32 @@ abbrev pub Exceeds : ℕ → ℕ → ℕ → Type 0
 Exceeds room label whole = (63 < label) ⊎ ((254 < whole) ⊎ (room < whole))
 
 -- What an accepted call makes.
-abbrev pub Accepted : Built → BuilderCall → Built → Type 0
+abbrev pub Accepted : BuilderState → BuilderCall → BuilderState → Type 0
 Accepted b (Push c) new = (new ≡ pushed b (c ∷ [])) × Fits (length new.open_label) (size new)
-Accepted b (PushSymbol s) new = (refusal b (symbol_part s) ≡ None) × (new ≡ after b (symbol_part s))
+Accepted b (PushSymbol s) new = (symbol_fault b (symbol_in_name s) ≡ None) × (new ≡ after b (symbol_in_name s))
 Accepted b (AppendSlice s) new = (new ≡ pushed b s.now) × Fits (length new.open_label) (size new)
 Accepted b EndLabel new = new ≡ ended b
 Accepted b (AppendLabel s) new = (new ≡ labelled b s.now) × Fits (length s.now) (size new)
 Accepted b (AppendDecU8Label n) new = (new ≡ labelled b (decimal n)) × (size new ≤ 254)
 Accepted b (AppendHexDigitLabel n) new = (new ≡ labelled b (digit_glyph true (n % 16) ∷ [])) × (size new ≤ 254)
 Accepted b (AppendName n) new = (new ≡ named b (relative_labels n)) × (size new ≤ 254)
-Accepted b (AppendChars s) new = (items : List (Result Symbol SymbolCharsError)) → Reads (chars s.now) items → Makes b (parts items) new
+Accepted b (AppendChars s) new = (items : List (Result Symbol SymbolCharsError)) → Reads (chars s.now) items → Makes b (name_symbols items) new
 
 -- All of them are too many octets, or exceed the room.
 abbrev pub IsTooMuch : ℕ → ℕ → Type 0
 IsTooMuch room whole = (254 < whole) ⊎ (room < whole)
 
 -- Why a call is passed over. It changes nothing, but that symbols of a text that were taken stay.
-abbrev pub PassedOver : ℕ → Built → BuilderCall → Built → Type 0
+abbrev pub PassedOver : ℕ → BuilderState → BuilderCall → BuilderState → Type 0
 PassedOver room b (Push c) new = (new ≡ b) × Exceeds room (length (pushed b (c ∷ [])).open_label) (size (pushed b (c ∷ [])))
-PassedOver room b (PushSymbol s) new = (new ≡ b) × (((f : Fault) × (refusal b (symbol_part s) ≡ Some f)) ⊎ ((refusal b (symbol_part s) ≡ None) × (symbol_part s ≢ Dot) × (room < size (after b (symbol_part s)))))
+PassedOver room b (PushSymbol s) new = (new ≡ b) × (((f : TextFault) × (symbol_fault b (symbol_in_name s) ≡ Some f)) ⊎ ((symbol_fault b (symbol_in_name s) ≡ None) × (symbol_in_name s ≢ Dot) × (room < size (after b (symbol_in_name s)))))
 PassedOver room b (AppendSlice s) new = (new ≡ b) × Exceeds room (length (pushed b s.now).open_label) (size (pushed b s.now))
 PassedOver room b EndLabel new = ⊥
 PassedOver room b (AppendLabel s) new = (new ≡ b) × Exceeds room (length s.now) (size (labelled b s.now))
 PassedOver room b (AppendDecU8Label n) new = (new ≡ b) × IsTooMuch room (size (labelled b (decimal n)))
 PassedOver room b (AppendHexDigitLabel n) new = (new ≡ b) × IsTooMuch room (size (labelled b (digit_glyph true (n % 16) ∷ [])))
 PassedOver room b (AppendName n) new = (new ≡ b) × IsTooMuch room (size (named b (relative_labels n)))
-PassedOver room b (AppendChars s) new = (items : List (Result Symbol SymbolCharsError)) → Reads (chars s.now) items → ((f : Fault) × StopsAt b (parts items) new f) ⊎ LacksRoom room b (parts items) new
+PassedOver room b (AppendChars s) new = (items : List (Result Symbol SymbolCharsError)) → Reads (chars s.now) items → ((f : TextFault) × StopsAt b (name_symbols items) new f) ⊎ LacksRoom room b (name_symbols items) new
 
 -- A call is taken. No capacity is lost.
 abbrev pub Takes : Held → BuilderCall → Held → Type 0
@@ -69,7 +69,7 @@ AppliesAll limit b [] new n = (new ≡ b) × (n ≡ 0)
 AppliesAll limit b (call ∷ calls) new n = (m : Held) × ((Takes b call m × ((k : ℕ) × (n ≡ k + 1) × AppliesAll limit m calls new k)) ⊎ (PassesOver limit b call m × AppliesAll limit m calls new n))
 
 -- What calls in turn may make, and how many of them may be accepted.
-abbrev pub MayEnd : Option ℕ → Held → List BuilderCall → Built × ℕ → Type 0
+abbrev pub MayEnd : Option ℕ → Held → List BuilderCall → BuilderState × ℕ → Type 0
 MayEnd limit b calls end = (capacity : ℕ) × AppliesAll limit b calls (record { built = end.0; capacity = capacity }) end.1
 
 -- Calls in turn have one outcome.

@@ -1,7 +1,7 @@
 -- What contracts see of flat names.
 use Rattle.std.specs.Prelude.{◌≡◌, ◌++◌, ℕ, List}
 use Rattle.octseq.specs.declared.octets.Octets.{Ghosts}
-use Rattle.domain_label.specs.Low.{low_all}
+use Rattle.domain_label.specs.Lowercase.{lowercase_labels}
 use Rattle.domain_label.specs.Wire.{labels_in}
 use Rattle.domain_name.specs.declared.absolute.Name.{Name}
 use Rattle.domain_name.specs.declared.relative.RelativeName.{RelativeName}
@@ -10,6 +10,7 @@ use Rattle.domain_name.specs.declared.relative.RelativeName.{RelativeName}
 abbrev pub name_octets : {O : Type 0} {g : Ghosts O} → Name O g → List ℕ
 name_octets {g = g} n = g.octets n.octets
 
+-- the labels of an absolute name, the root among them
 abbrev pub name_labels : {O : Type 0} {g : Ghosts O} → Name O g → List (List ℕ)
 name_labels n = labels_in (name_octets n)
 
@@ -17,6 +18,7 @@ name_labels n = labels_in (name_octets n)
 abbrev pub relative_octets : {O : Type 0} {g : Ghosts O} → RelativeName O g → List ℕ
 relative_octets {g = g} n = g.octets n.octets
 
+-- the labels of a relative name
 abbrev pub relative_labels : {O : Type 0} {g : Ghosts O} → RelativeName O g → List (List ℕ)
 relative_labels n = labels_in (relative_octets n)
 
@@ -24,6 +26,7 @@ relative_labels n = labels_in (relative_octets n)
 abbrev pub name_holder : {O : Type 0} {g : Ghosts O} → Name O g → O
 name_holder n = n.octets
 
+-- the same of a relative name
 abbrev pub relative_holder : {O : Type 0} {g : Ghosts O} → RelativeName O g → O
 relative_holder n = n.octets
 
@@ -35,4 +38,4 @@ MayRefuse {S} refused octets_of octets = (source : S) × (octets_of source ≡ o
 pub record IsStripped (ls base rest : List (List ℕ)) : Type 0 where
   pub suffix : List (List ℕ)
   pub parts : ls ≡ rest ++ suffix
-  pub same : low_all suffix ≡ low_all base
+  pub same : lowercase_labels suffix ≡ lowercase_labels base

@@ -6,6 +6,7 @@ use Rattle.domain_name.specs.declared.absolute.Name.{Name}
 use Rattle.domain_name.specs.declared.suffixes.SuffixIter.{SuffixIter}
 use Rattle.domain_name.specs.Names.{name_labels}
 
+-- the labels of the name and of each of its suffixes, the longest first; none without a name
 abbrev pub suffix_lists_from : {O : Type 0} {g : Ghosts O} → Option (Name O g) → List (List (List ℕ))
 suffix_lists_from None = []
 suffix_lists_from (Some name) = suffix_lists (name_labels name)

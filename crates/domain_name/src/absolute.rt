@@ -1,15 +1,15 @@
 //! Absolute names.
 ghost use Rattle.std.specs.Prelude.{◌≡◌, ◌≤◌, ◌∷◌, [], ◌++◌, ◌↔◌, ℕ, List, Some, length, IsTrue, IsOk, IfOk, IfErr, IfSome, IsNone, OnOk, OnErr};
-ghost use Rattle.octseq.specs.Parsing.{message, place, left, MovesOver};
+ghost use Rattle.octseq.specs.Parsing.{message, position, left, MovesOver};
 ghost use Rattle.domain_wire.specs.Refusals.{refusal};
 ghost use Rattle.domain_label.specs.Wire.{wire, Root, IsAbsoluteName, IsAbsoluteWire};
-ghost use Rattle.domain_list.specs.Dotted.{dotted_name};
-ghost use Rattle.domain_label.specs.Low.{low_all};
-ghost use Rattle.domain_label.specs.Views.{label_octets};
+ghost use Rattle.domain_list.specs.FinalDot.{dotted_name};
+ghost use Rattle.domain_label.specs.Lowercase.{lowercase_labels};
+ghost use Rattle.domain_label.specs.Labels.{label_octets};
 ghost use Rattle.domain_label.proofs.WireLaws.{IsAbsoluteWire_prop};
 ghost use Rattle.domain_flat.specs.Faults.{AbsoluteFault, StartFault};
-ghost use Rattle.domain_flat.specs.Flat.{NameAt, IsCutAt, IsLabelStart, IsPartOf, suffix_lists};
-ghost use Rattle.domain_flat.specs.Views.{name_error_kind, flat_labels_left};
+ghost use Rattle.domain_flat.specs.Flat.{NameAt, SplitsAt, IsLabelStart, IsPartOf, suffix_lists};
+ghost use Rattle.domain_flat.specs.FlatLabels.{name_error_kind, flat_labels_left};
 ghost use Rattle.domain_list.specs.Ends.{EndsWith};
 
 use crate::relative::RelativeName;
@@ -32,7 +32,7 @@ use std::ops::Range;
 /// `&[u8]` lends them, and the name is then Copy; `Vec<u8>` has them in memory of its own; an
 /// `ArrayVec<u8, 255>` has room for each name without any memory.
 ///
-/// It is made of octets in wire form by `from_octets`, `from_slice` and `parse`, and of names of other
+/// It is made of octets in wire format by `from_octets`, `from_slice` and `parse`, and of names of other
 /// kinds by `to_name` and `flatten_into`. Two are equal, ordered and hashed by their labels without ASCII
 /// case (RFC 4343; RFC 4034, 6.1).
 pub struct Name<Octs: Octets> {
@@ -55,7 +55,7 @@ impl<Octs: Octets + Copy> Clone for Name<Octs> {
 impl<Octs: Octets + Drop> Name<Octs> {
     ghost use Rattle.domain_name.specs.Names.{name_octets, name_labels, name_holder};
 
-    /// The name whose wire form the octets are.
+    /// The name whose wire format the octets are.
     ///
     /// `LongName` where they are more than 255; else the first fault from the left: `CompressedName` at
     /// a pointer, `BadLabel` at another head that begins no label, `ShortInput` where there are no
@@ -63,7 +63,7 @@ impl<Octs: Octets + Drop> Name<Octs> {
     /// root, `TrailingData` where octets follow the root.
     pub fn from_octets(octets: Octs) -> Result<Name<Octs>, NameError>
         ensures ok { IfOk result (λ name. name_octets name ≡ Octs.octets octets) }
-        ensures kept { IfOk result (λ name. name_holder name ≡ octets) }
+        ensures holder { IfOk result (λ name. name_holder name ≡ octets) }
         ensures list { (ls : List (List ℕ)) → IsAbsoluteName ls → Octs.octets octets ≡ wire ls → IfOk result (λ name. name_labels name ≡ ls) }
         ensures accepts { IsOk result ↔ IsAbsoluteWire (Octs.octets octets) }
         ensures err { IfErr result (λ e. AbsoluteFault (Octs.octets octets) (name_error_kind e)) }
@@ -76,7 +76,7 @@ impl<Octs: Octets + Drop> Name<Octs> {
 impl<'a> Name<&'a [u8]> {
     ghost use Rattle.domain_name.specs.Names.{name_octets, name_labels};
 
-    /// The name whose wire form the octets are, with the errors of `from_octets`.
+    /// The name whose wire format the octets are, with the errors of `from_octets`.
     ///
     /// In `crates/examples/src/flat_names.rt`, where it is proved:
     ///
@@ -103,10 +103,10 @@ impl<'a> Name<&'a [u8]> {
     /// a pointer, "invalid label type" at another head that begins no label. Behind the root, "long
     /// domain name" where the name has more than 255 octets. A refused call leaves the parser.
     pub fn parse(parser: &mut Parser<'a>) -> Result<Name<&'a [u8]>, ParseError>
-        ensures ok { IfOk result (λ name. NameAt (message parser.old) (place parser.old) (name_labels name) (place parser.new)) }
+        ensures ok { IfOk result (λ name. NameAt (message parser.old) (position parser.old) (name_labels name) (position parser.new)) }
         ensures moves { IfOk result (λ name. MovesOver parser.old parser.new (length (name_octets name))) }
-        ensures list { (ls : List (List ℕ)) (e : ℕ) → NameAt (message parser.old) (place parser.old) ls e → IfOk result (λ name. name_labels name ≡ ls) }
-        ensures accepts { (ls : List (List ℕ)) (e : ℕ) → NameAt (message parser.old) (place parser.old) ls e → IsOk result }
+        ensures list { (ls : List (List ℕ)) (e : ℕ) → NameAt (message parser.old) (position parser.old) ls e → IfOk result (λ name. name_labels name ≡ ls) }
+        ensures accepts { (ls : List (List ℕ)) (e : ℕ) → NameAt (message parser.old) (position parser.old) ls e → IsOk result }
         ensures err { IfErr result (λ e. StartFault (left parser.old) (refusal e)) }
         ensures unchanged { OnErr result (parser.new ≡ parser.old) }
     {
@@ -162,7 +162,7 @@ impl<Octs: Octets> Name<Octs> {
     ghost use Rattle.domain_name.specs.Names.{name_octets, name_labels, name_holder, relative_labels};
     ghost use Rattle.domain_name.specs.Suffixes.{suffix_lists_left};
 
-    /// The name whose wire form the octets are known to be. They aren't tested again.
+    /// The name whose wire format the octets are known to be. They aren't tested again.
     #[inline(always)]
     pub fn from_wire(octets: Octs) -> Name<Octs>
         requires { IsAbsoluteWire (Octs.octets octets) }
@@ -189,7 +189,7 @@ impl<Octs: Octets> Name<Octs> {
     /// The same name over lent octets.
     pub fn for_ref(&self) -> Name<&Octs>
         ensures labels { name_labels result ≡ name_labels self.now }
-        ensures kept { (name_holder result).now ≡ name_holder self.now }
+        ensures holder { (name_holder result).now ≡ name_holder self.now }
     {
         Name {
             octets: &self.octets,
@@ -205,7 +205,7 @@ impl<Octs: Octets> Name<Octs> {
         }
     }
 
-    /// The wire form.
+    /// The wire format.
     pub fn as_slice(&self) -> &[u8]
         ensures value { result.now ≡ name_octets self.now }
         ensures wire { result.now ≡ wire (name_labels self.now) }
@@ -214,7 +214,7 @@ impl<Octs: Octets> Name<Octs> {
         self.octets.as_slice()
     }
 
-    /// How many octets the wire form has: from 1, for the root, to 255.
+    /// How many octets the wire format has: from 1, for the root, to 255.
     pub fn len(&self) -> usize
         ensures { result ≡ length (wire (name_labels self.now)) }
     {
@@ -277,14 +277,14 @@ impl<Octs: Octets> Name<Octs> {
         Label::root()
     }
 
-    /// Whether a label, the root label too, begins at this place of the wire form.
+    /// Whether a label, the root label too, begins at this place of the wire format.
     pub fn is_label_start(&self, place: usize) -> bool
         ensures { IsTrue result ↔ IsLabelStart (name_labels self.now) place }
     {
         place < self.len() && is_label_end(self.octets.as_slice(), place)
     }
 
-    /// The labels from one place of the wire form to another, where `is_label_start` is true at both and
+    /// The labels from one place of the wire format to another, where `is_label_start` is true at both and
     /// they are in order.
     pub fn slice(&self, range: Range<usize>) -> RelativeName<&[u8]>
         requires start { IsLabelStart (name_labels self.now) range.start }
@@ -305,7 +305,7 @@ impl<Octs: Octets> Name<Octs> {
         self.slice(range)
     }
 
-    /// The labels before a place of the wire form and those from it on, where `is_label_start` is true
+    /// The labels before a place of the wire format and those from it on, where `is_label_start` is true
     /// there.
     pub fn split(&self, mid: usize) -> (RelativeName<&[u8]>, Name<&[u8]>)
         requires { IsLabelStart (name_labels self.now) mid }
@@ -316,10 +316,10 @@ impl<Octs: Octets> Name<Octs> {
         (RelativeName::from_wire(before), Name { octets: behind })
     }
 
-    /// The labels from a place of the wire form on, where `is_label_start` is true there.
+    /// The labels from a place of the wire format on, where `is_label_start` is true there.
     pub fn slice_from(&self, begin: usize) -> Name<&[u8]>
         requires { IsLabelStart (name_labels self.now) begin }
-        ensures { (before : List (List ℕ)) × IsCutAt (name_labels self.now) begin before (name_labels result) }
+        ensures { (before : List (List ℕ)) × SplitsAt (name_labels self.now) begin before (name_labels result) }
     {
         let (_, behind) = self.split(begin);
         behind
@@ -328,7 +328,7 @@ impl<Octs: Octets> Name<Octs> {
     /// The same as `slice_from`.
     pub fn range_from(&self, begin: usize) -> Name<&[u8]>
         requires { IsLabelStart (name_labels self.now) begin }
-        ensures { (before : List (List ℕ)) × IsCutAt (name_labels self.now) begin before (name_labels result) }
+        ensures { (before : List (List ℕ)) × SplitsAt (name_labels self.now) begin before (name_labels result) }
     {
         self.slice_from(begin)
     }
@@ -369,7 +369,7 @@ impl<Octs: Truncate> Name<Octs> {
         self.truncate(len)
     }
 
-    /// The labels before a place of the wire form, where `is_label_start` is true there.
+    /// The labels before a place of the wire format, where `is_label_start` is true there.
     pub fn truncate(self, len: usize) -> RelativeName<Octs>
         requires { IsLabelStart (name_labels self) len }
         ensures parts { (behind : List (List ℕ)) × (name_labels self ≡ relative_labels result ++ behind) }
@@ -402,7 +402,7 @@ impl<Octs: OctetsMut> Name<Octs> {
 
     /// Makes A to Z of each label a to z, its canonical form (RFC 4034, 6.2).
     pub fn make_canonical(&mut self)
-        ensures { name_labels self.new ≡ low_all (name_labels self.old) }
+        ensures { name_labels self.new ≡ lowercase_labels (name_labels self.old) }
     {
         make_lowercase(&mut self.octets);
     }

@@ -8,11 +8,11 @@ ghost use Rattle.domain_label.specs.Spelling.{Reads};
 ghost use Rattle.domain_label.specs.declared.symbol.Symbol.{Symbol};
 ghost use Rattle.domain_label.specs.declared.symbol.SymbolCharsError.{SymbolCharsError};
 ghost use Rattle.domain_flat.specs.Faults.{RelativeFault};
-ghost use Rattle.domain_flat.specs.Views.{relative_name_error_kind};
-ghost use Rattle.domain_builder.specs.Built.{nothing, finished, closed, pushed, ended, labelled, named, shown, size};
+ghost use Rattle.domain_flat.specs.FlatLabels.{relative_name_error_kind};
+ghost use Rattle.domain_builder.specs.BuilderState.{empty_state, finished, closed, pushed, ended, labelled, named, encoded, size};
 ghost use Rattle.domain_builder.specs.Inside.{room};
-ghost use Rattle.domain_builder.specs.Parts.{parts, symbol_part, symbol_parts};
-ghost use Rattle.domain_builder.specs.Pushing.{NameThenLabel, LabelThenName, NameAlone, NameFits, OriginFits, TakesPart, TakesParts};
+ghost use Rattle.domain_builder.specs.NameSymbols.{name_symbols, symbol_in_name, symbols_in_name};
+ghost use Rattle.domain_builder.specs.Pushing.{NameThenLabel, LabelThenName, NameAlone, NameFits, OriginFits, TakesSymbol, TakesSymbols};
 ghost use Rattle.domain_builder.specs.declared.push_error.PushError.TheVariants as push;
 ghost use Rattle.domain_name.specs.Builders.{built, held};
 ghost use Rattle.domain_name.specs.Names.{name_labels, relative_labels};
@@ -43,7 +43,7 @@ impl<B: EmptyBuilder + OctetsMut> NameBuilder<B> {
     /// A builder of nothing, which takes no memory yet.
     #[inline(always)]
     pub fn new(alloc: Global) -> Self
-        ensures built { built result ≡ nothing }
+        ensures built { built result ≡ empty_state }
         ensures room { IfSome B.ROOM (λ n. (held result).capacity ≡ n) }
     {
         NameBuilder {
@@ -56,7 +56,7 @@ impl<B: EmptyBuilder + OctetsMut> NameBuilder<B> {
     /// Under a fixed room any number is taken, and the room stays what it is. Else it is `ShortBuf` where
     /// memory was refused.
     pub fn with_capacity(alloc: Global, capacity: usize) -> Result<Self, ShortBuf>
-        ensures built { IfOk result (λ builder. built builder ≡ nothing) }
+        ensures built { IfOk result (λ builder. built builder ≡ empty_state) }
         ensures room { IfSome B.ROOM (λ n. IfOk result (λ builder. (held builder).capacity ≡ n)) }
         ensures ok { IsSome B.ROOM → IsOk result }
         ensures none { capacity ≡ 0 → IsOk result }
@@ -72,7 +72,7 @@ impl NameBuilder<Vec<u8>> {
     /// A builder of nothing over a `Vec`, which takes no memory yet.
     #[inline(always)]
     pub fn new_vec(alloc: Global) -> Self
-        ensures { built result ≡ nothing }
+        ensures { built result ≡ empty_state }
     {
         NameBuilder::new(alloc)
     }
@@ -80,7 +80,7 @@ impl NameBuilder<Vec<u8>> {
     /// A builder of nothing over a `Vec` that has room for so many octets. `ShortBuf` only where memory was
     /// refused.
     pub fn vec_with_capacity(alloc: Global, capacity: usize) -> Result<Self, ShortBuf>
-        ensures built { IfOk result (λ builder. built builder ≡ nothing) }
+        ensures built { IfOk result (λ builder. built builder ≡ empty_state) }
         ensures none { capacity ≡ 0 → IsOk result }
         ensures capacity { IfOk result (λ builder. capacity ≤ (held builder).capacity) }
     {
@@ -110,7 +110,7 @@ impl<const N: usize> NameBuilder<ArrayVec<u8, N>> {
 }
 
 impl<const N: usize> Default for NameBuilder<ArrayVec<u8, N>> {
-    ghost is_default = { λ builder. built builder ≡ nothing };
+    ghost is_default = { λ builder. built builder ≡ empty_state };
 
     /// A builder of nothing.
     fn default() -> Self {
@@ -121,7 +121,7 @@ impl<const N: usize> Default for NameBuilder<ArrayVec<u8, N>> {
 }
 
 impl<B: OctetsBuilder + OctetsMut> Octets for NameBuilder<B> {
-    ghost octets = { λ builder. shown (built builder) };
+    ghost octets = { λ builder. encoded (built builder) };
 
     ghost capacity = { λ _. 0 };
 
@@ -131,7 +131,7 @@ impl<B: OctetsBuilder + OctetsMut> Octets for NameBuilder<B> {
 }
 
 impl<B: OctetsBuilder + OctetsMut + Drop> NameBuilder<B> {
-    /// A builder of the labels whose wire form the octets are, none of them open.
+    /// A builder of the labels whose wire format the octets are, none of them open.
     ///
     /// `LongName` where they are more than 254; else the first fault from the left: `CompressedName` at a
     /// pointer, `BadLabel` at another head that begins no label, `ShortInput` where they end inside a label,
@@ -150,7 +150,7 @@ impl<B: OctetsBuilder + OctetsMut + Drop> NameBuilder<B> {
 }
 
 impl<B: OctetsBuilder + OctetsMut> NameBuilder<B> {
-    /// A builder of the labels whose wire form the octets are known to be.
+    /// A builder of the labels whose wire format the octets are known to be.
     pub(crate) fn from_wire(builder: B) -> Self
         requires { IsRelativeWire (B.octets builder) }
         ensures built { built result ≡ finished (labels_in (B.octets builder)) }
@@ -161,10 +161,10 @@ impl<B: OctetsBuilder + OctetsMut> NameBuilder<B> {
         }
     }
 
-    /// The octets: the wire form of the finished labels, and behind it a 0 and the octets of the open label,
+    /// The octets: the wire format of the finished labels, and behind it a 0 and the octets of the open label,
     /// if any. They are never more than a fixed room of the builder beneath.
     pub fn as_slice(&self) -> &[u8]
-        ensures octets { result.now ≡ shown (built self.now) }
+        ensures octets { result.now ≡ encoded (built self.now) }
         ensures short { length result.now ≤ 254 }
         ensures within { IfSome B.limit (λ n. length result.now ≤ n) }
     {
@@ -184,7 +184,7 @@ impl<B: OctetsBuilder + OctetsMut> NameBuilder<B> {
 
     /// Whether there is no label, not even an open one.
     pub fn is_empty(&self) -> bool
-        ensures { IsTrue result ↔ (shown (built self.now) ≡ []) }
+        ensures { IsTrue result ↔ (encoded (built self.now) ≡ []) }
     {
         self.as_slice().is_empty()
     }
@@ -204,7 +204,7 @@ impl<B: OctetsBuilder + OctetsMut> NameBuilder<B> {
     #[inline(always)]
     pub fn push(&mut self, ch: u8) -> Result<(), PushError>
         ensures made { OnOk result (built self.new ≡ pushed (built self.old) (ch ∷ [])) }
-        ensures kept { OnErr result (built self.new ≡ built self.old) }
+        ensures unchanged { OnErr result (built self.new ≡ built self.old) }
         ensures answer { NameThenLabel (length (pushed (built self.old) (ch ∷ [])).open_label) (size (pushed (built self.old) (ch ∷ []))) (room B.limit (held self.new)) result }
         ensures grows { (held self.old).capacity ≤ (held self.new).capacity }
     {
@@ -218,7 +218,7 @@ impl<B: OctetsBuilder + OctetsMut> NameBuilder<B> {
     #[inline(always)]
     pub fn append_slice(&mut self, slice: &[u8]) -> Result<(), PushError>
         ensures made { OnOk result (built self.new ≡ pushed (built self.old) slice.now) }
-        ensures kept { OnErr result (built self.new ≡ built self.old) }
+        ensures unchanged { OnErr result (built self.new ≡ built self.old) }
         ensures answer { LabelThenName (length (pushed (built self.old) slice.now).open_label) (size (pushed (built self.old) slice.now)) (room B.limit (held self.new)) result }
         ensures grows { (held self.old).capacity ≤ (held self.new).capacity }
         ensures nothing { slice.now ≡ [] → IsOk result }
@@ -242,7 +242,7 @@ impl<B: OctetsBuilder + OctetsMut> NameBuilder<B> {
     #[inline(always)]
     pub fn append_label(&mut self, label: &[u8]) -> Result<(), PushError>
         ensures made { OnOk result (built self.new ≡ labelled (built self.old) label.now) }
-        ensures kept { OnErr result (built self.new ≡ built self.old) }
+        ensures unchanged { OnErr result (built self.new ≡ built self.old) }
         ensures answer { LabelThenName (length label.now) (size (labelled (built self.old) label.now)) (room B.limit (held self.new)) result }
         ensures grows { (held self.old).capacity ≤ (held self.new).capacity }
         ensures nothing { label.now ≡ [] → IsOk result }
@@ -255,7 +255,7 @@ impl<B: OctetsBuilder + OctetsMut> NameBuilder<B> {
     /// `LongName` where all would be more than 254 octets; else `ShortBuf`.
     pub fn append_dec_u8_label(&mut self, value: u8) -> Result<(), PushError>
         ensures made { OnOk result (built self.new ≡ labelled (built self.old) (decimal value)) }
-        ensures kept { OnErr result (built self.new ≡ built self.old) }
+        ensures unchanged { OnErr result (built self.new ≡ built self.old) }
         ensures answer { NameAlone (size (labelled (built self.old) (decimal value))) (room B.limit (held self.new)) result }
         ensures grows { (held self.old).capacity ≤ (held self.new).capacity }
     {
@@ -268,7 +268,7 @@ impl<B: OctetsBuilder + OctetsMut> NameBuilder<B> {
     /// `LongName` where all would be more than 254 octets; else `ShortBuf`.
     pub fn append_hex_digit_label(&mut self, nibble: u8) -> Result<(), PushError>
         ensures made { OnOk result (built self.new ≡ labelled (built self.old) (digit_glyph true (nibble % 16) ∷ [])) }
-        ensures kept { OnErr result (built self.new ≡ built self.old) }
+        ensures unchanged { OnErr result (built self.new ≡ built self.old) }
         ensures answer { NameAlone (size (labelled (built self.old) (digit_glyph true (nibble % 16) ∷ []))) (room B.limit (held self.new)) result }
         ensures grows { (held self.old).capacity ≤ (held self.new).capacity }
     {
@@ -283,7 +283,7 @@ impl<B: OctetsBuilder + OctetsMut> NameBuilder<B> {
         name: &'a N,
     ) -> Result<(), PushNameError>
         ensures made { OnOk result (built self.new ≡ named (built self.old) (N.labels name.now)) }
-        ensures kept { OnErr result (built self.new ≡ built self.old) }
+        ensures unchanged { OnErr result (built self.new ≡ built self.old) }
         ensures answer { NameFits (size (named (built self.old) (N.labels name.now))) (room B.limit (held self.new)) result }
         ensures grows { (held self.old).capacity ≤ (held self.new).capacity }
     {
@@ -293,7 +293,7 @@ impl<B: OctetsBuilder + OctetsMut> NameBuilder<B> {
     /// The same of a flat name.
     pub(crate) fn append_flat(&mut self, name: RelativeName<&[u8]>) -> Result<(), PushNameError>
         ensures made { OnOk result (built self.new ≡ named (built self.old) (relative_labels name.entry)) }
-        ensures kept { OnErr result (built self.new ≡ built self.old) }
+        ensures unchanged { OnErr result (built self.new ≡ built self.old) }
         ensures answer { NameFits (size (named (built self.old) (relative_labels name.entry))) (room B.limit (held self.new)) result }
         ensures grows { (held self.old).capacity ≤ (held self.new).capacity }
     {
@@ -307,7 +307,7 @@ impl<B: OctetsBuilder + OctetsMut> NameBuilder<B> {
     /// `\[` where none is open; `BadSymbol` at a character that stands for no octet; else the refusals of
     /// `push`.
     pub fn push_symbol(&mut self, symbol: Symbol) -> Result<(), FromStrError>
-        ensures takes { TakesPart (room B.limit (held self.new)) (built self.old) (symbol_part symbol) result (built self.new) }
+        ensures takes { TakesSymbol (room B.limit (held self.new)) (built self.old) (symbol_in_name symbol) result (built self.new) }
         ensures grows { (held self.old).capacity ≤ (held self.new).capacity }
     {
         self.labels.push_symbol(symbol)
@@ -323,7 +323,7 @@ impl<B: OctetsBuilder + OctetsMut> NameBuilder<B> {
         requires can { I.can_next symbols }
         requires ends { IsFinite (I.remaining symbols) }
         ensures takes { (ss : List Symbol) → AlwaysYields I.next_gives (λ x. x) symbols ss →
-            TakesParts (room B.limit (held self.new)) (built self.old) (symbol_parts ss) result (built self.new) }
+            TakesSymbols (room B.limit (held self.new)) (built self.old) (symbols_in_name ss) result (built self.new) }
         ensures grows { (held self.old).capacity ≤ (held self.new).capacity }
     {
         self.labels.append_symbols(symbols)
@@ -340,7 +340,7 @@ impl<B: OctetsBuilder + OctetsMut> NameBuilder<B> {
         requires can { I.can_next chars }
         requires ends { IsFinite (I.remaining chars) }
         ensures takes { (cs : List ℕ) (items : List (Result Symbol SymbolCharsError)) → AlwaysYields I.next_gives (λ c. c) chars cs → Reads cs items →
-            TakesParts (room B.limit (held self.new)) (built self.old) (parts items) result (built self.new) }
+            TakesSymbols (room B.limit (held self.new)) (built self.old) (name_symbols items) result (built self.new) }
         ensures grows { (held self.old).capacity ≤ (held self.new).capacity }
     {
         self.labels.append_chars(chars)
@@ -349,7 +349,7 @@ impl<B: OctetsBuilder + OctetsMut> NameBuilder<B> {
     /// Pushes the symbols of a text in turn, as `append_chars` does those of its characters.
     pub(crate) fn append_str(&mut self, text: &str) -> Result<(), FromStrError>
         ensures takes { (items : List (Result Symbol SymbolCharsError)) → Reads (chars text.now) items →
-            TakesParts (room B.limit (held self.new)) (built self.old) (parts items) result (built self.new) }
+            TakesSymbols (room B.limit (held self.new)) (built self.old) (name_symbols items) result (built self.new) }
         ensures grows { (held self.old).capacity ≤ (held self.new).capacity }
     {
         self.labels.append_str(text)

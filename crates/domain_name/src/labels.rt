@@ -1,7 +1,7 @@
 //! Absolute names as lists of labels, and as text.
 ghost use Rattle.std.specs.Prelude.{◌≡◌, Some, ⊤};
 ghost use Rattle.std.proofs.Common.{inl};
-ghost use Rattle.domain_label.specs.Text.{shown};
+ghost use Rattle.domain_label.specs.Text.{displayed};
 ghost use Rattle.domain_label.proofs.WireLaws.{absolute_list};
 ghost use Rattle.domain_name.specs.Names.{name_labels};
 
@@ -48,7 +48,7 @@ impl<'a, Octs: Octets> AbsoluteLabels<'a> for Name<Octs> {}
 
 /// The labels joined by dots, without a final dot, and the root as a dot (RFC 1035, 5.1).
 impl<Octs: Octets> fmt::Display for Name<Octs> {
-    ghost output = { λ name. Some (shown (name_labels name)) };
+    ghost output = { λ name. Some (displayed (name_labels name)) };
 
     fn fmt<W: fmt::Write>(&self, f: &mut fmt::Formatter<W>) -> fmt::Result {
         if self.is_root() {
@@ -71,7 +71,7 @@ impl<'a, Octs: Octets> IntoIterator for &'a Name<Octs> {
 
     type IntoIter = NameIter<'a>;
 
-    ghost use Rattle.domain_flat.specs.Views.{flat_labels_left};
+    ghost use Rattle.domain_flat.specs.FlatLabels.{flat_labels_left};
 
     ghost into_iter_gives = { λ name labels. flat_labels_left labels ≡ name_labels name.now };
 

@@ -1,6 +1,6 @@
 //! Laws of builders.
 ghost use Rattle.std.specs.Prelude.{ℕ, ◌≤◌, List, Option};
-ghost use Rattle.domain_builder.specs.Built.{size};
+ghost use Rattle.domain_builder.specs.BuilderState.{size};
 ghost use Rattle.domain_builder.specs.Inside.{Held, room};
 ghost use Rattle.domain_name.specs.Calls.{OneOutcome};
 ghost use Rattle.domain_name.specs.declared.calls.BuilderCall.{BuilderCall};

@@ -1,4 +1,4 @@
-//! Flat names: names whose wire form lies in one piece.
+//! Flat names: names whose wire format lies in one piece.
 #![tactic(auto)]
 
 pub mod absolute;

@@ -4,9 +4,9 @@ ghost use Rattle.std.proofs.Common.{rules};
 ghost use Rattle.std.specs.Cmp.{partial_order_from_agreeing_total, partial_equiv_from_equiv, on_equiv, on_total};
 ghost use Rattle.std.specs.Cmp.Rules.{comparing};
 ghost use Rattle.std.specs.Ordering.{on, as_partial_cmp};
-ghost use Rattle.domain_list.specs.Facts.{order_is_total, same_name_is_equivalence, same_feed};
-ghost use Rattle.domain_list.specs.Feed.{feed};
-ghost use Rattle.domain_list.specs.Order.{order, same_name};
+ghost use Rattle.domain_list.specs.NameLaws.{order_is_total, same_name_is_equivalence, same_hash_input};
+ghost use Rattle.domain_list.specs.HashInput.{name_hash_input};
+ghost use Rattle.domain_list.specs.Order.{canonical_order, same_name};
 
 use crate::absolute::Name;
 use domain_list::comparing::{order_names, same_names};
@@ -39,7 +39,7 @@ impl<Octs: Octets> Eq for Name<Octs> {
 impl<Octs: Octets> Ord for Name<Octs> {
     ghost use Rattle.domain_name.specs.Names.{name_labels};
 
-    ghost cmp = { on name_labels order };
+    ghost cmp = { on name_labels canonical_order };
 
     ghost total = { on_total name_labels order_is_total };
 
@@ -55,9 +55,9 @@ impl<Octs: Octets> Ord for Name<Octs> {
 impl<Octs: Octets> PartialOrd for Name<Octs> {
     ghost use Rattle.domain_name.specs.Names.{name_labels};
 
-    ghost partial_cmp = { as_partial_cmp (on name_labels order) };
+    ghost partial_cmp = { as_partial_cmp (on name_labels canonical_order) };
 
-    ghost laws = { partial_order_from_agreeing_total (on name_labels order) (on_total name_labels order_is_total) (λ a b. refl) (λ a b. refl) };
+    ghost laws = { partial_order_from_agreeing_total (on name_labels canonical_order) (on_total name_labels order_is_total) (λ a b. refl) (λ a b. refl) };
 
     fn partial_cmp(&self, other: &Name<Octs>) -> Option<Ordering> {
         Some(self.cmp(other))
@@ -68,7 +68,7 @@ impl<Octs: Octets> PartialOrd for Name<Octs> {
 impl<Octs: Octets> CanonicalOrd for Name<Octs> {
     ghost use Rattle.domain_name.specs.Names.{name_labels};
 
-    ghost canonical_order = { on name_labels order };
+    ghost value_order = { on name_labels canonical_order };
 
     ghost total = { on_total name_labels order_is_total };
 
@@ -81,9 +81,9 @@ impl<Octs: Octets> CanonicalOrd for Name<Octs> {
 impl<Octs: Octets> Hash for Name<Octs> {
     ghost use Rattle.domain_name.specs.Names.{name_labels};
 
-    ghost hash_input = { λ name. feed (name_labels name) };
+    ghost hash_input = { λ name. name_hash_input (name_labels name) };
 
-    ghost respects_eq = { λ a b. same_feed (name_labels a) (name_labels b) };
+    ghost respects_eq = { λ a b. same_hash_input (name_labels a) (name_labels b) };
 
     fn hash<H: Hasher>(&self, state: &mut H) {
         hash_name(self, state);

@@ -1,12 +1,12 @@
 //! Relative names.
 ghost use Rattle.std.specs.Prelude.{◌≡◌, ◌≤◌, ◌<◌, ◌-◌, ◌∷◌, [], ◌++◌, ◌↔◌, ℕ, List, length, IsTrue, IsOk, IfOk, IfErr, IsErr, IfSome, IsNone, OnOk, OnErr};
-ghost use Rattle.domain_label.specs.Low.{low_all};
+ghost use Rattle.domain_label.specs.Lowercase.{lowercase_labels};
 ghost use Rattle.domain_label.specs.Wire.{wire, Root, IsRelativeName, IsRelativeWire};
-ghost use Rattle.domain_label.specs.Views.{label_octets};
+ghost use Rattle.domain_label.specs.Labels.{label_octets};
 ghost use Rattle.domain_label.proofs.WireLaws.{IsRelativeWire_prop};
 ghost use Rattle.domain_flat.specs.Faults.{RelativeFault};
 ghost use Rattle.domain_flat.specs.Flat.{IsLabelEnd, IsPartOf};
-ghost use Rattle.domain_flat.specs.Views.{relative_name_error_kind, flat_labels_left};
+ghost use Rattle.domain_flat.specs.FlatLabels.{relative_name_error_kind, flat_labels_left};
 ghost use Rattle.domain_list.specs.ChainParts.{left_part, right_part};
 ghost use Rattle.domain_list.specs.Chains.{before_root};
 ghost use Rattle.domain_list.specs.Ends.{EndsWith};
@@ -27,7 +27,7 @@ use std::ops::Range;
 /// It is for the beginnings of names, as that of a host in its zone; it becomes whole by `chain` and
 /// `chain_root`. `Octs` says where its octets lie, as in a [`Name`](crate::Name).
 ///
-/// It is made of octets in wire form by `from_octets` and `from_slice`, of the parts of a `Name` by
+/// It is made of octets in wire format by `from_octets` and `from_slice`, of the parts of a `Name` by
 /// `split`, `slice`, `truncate` and `strip_suffix`, and of relative names of other kinds by
 /// `to_relative_name`.
 pub struct RelativeName<Octs: Octets> {
@@ -50,14 +50,14 @@ impl<Octs: Octets + Copy> Clone for RelativeName<Octs> {
 impl<Octs: Octets + Drop> RelativeName<Octs> {
     ghost use Rattle.domain_name.specs.Names.{relative_octets, relative_labels, relative_holder, name_labels};
 
-    /// The name whose wire form the octets are.
+    /// The name whose wire format the octets are.
     ///
     /// `LongName` where they are more than 254; else the first fault from the left: `CompressedName` at
     /// a pointer, `BadLabel` at another head that begins no label, `ShortInput` where they end inside a
     /// label, `AbsoluteName` at a root.
     pub fn from_octets(octets: Octs) -> Result<RelativeName<Octs>, RelativeNameError>
         ensures ok { IfOk result (λ name. relative_octets name ≡ Octs.octets octets) }
-        ensures kept { IfOk result (λ name. relative_holder name ≡ octets) }
+        ensures holder { IfOk result (λ name. relative_holder name ≡ octets) }
         ensures list { (ls : List (List ℕ)) → IsRelativeName ls → Octs.octets octets ≡ wire ls → IfOk result (λ name. relative_labels name ≡ ls) }
         ensures accepts { IsOk result ↔ IsRelativeWire (Octs.octets octets) }
         ensures err { IfErr result (λ e. RelativeFault (Octs.octets octets) (relative_name_error_kind e)) }
@@ -94,7 +94,7 @@ impl<Octs: Octets + Drop> RelativeName<Octs> {
 impl<'a> RelativeName<&'a [u8]> {
     ghost use Rattle.domain_name.specs.Names.{relative_octets, relative_labels};
 
-    /// The name whose wire form the octets are, with the errors of `from_octets`.
+    /// The name whose wire format the octets are, with the errors of `from_octets`.
     pub fn from_slice(octets: &'a [u8]) -> Result<RelativeName<&'a [u8]>, RelativeNameError>
         ensures ok { IfOk result (λ name. relative_octets name ≡ octets.now) }
         ensures list { (ls : List (List ℕ)) → IsRelativeName ls → octets.now ≡ wire ls → IfOk result (λ name. relative_labels name ≡ ls) }
@@ -155,7 +155,7 @@ impl RelativeName<&'static [u8]> {
 impl<Octs: Octets> RelativeName<Octs> {
     ghost use Rattle.domain_name.specs.Names.{relative_octets, relative_labels, relative_holder};
 
-    /// The name whose wire form the octets are known to be. They aren't tested again.
+    /// The name whose wire format the octets are known to be. They aren't tested again.
     #[inline(always)]
     pub fn from_wire(octets: Octs) -> RelativeName<Octs>
         requires { IsRelativeWire (Octs.octets octets) }
@@ -182,7 +182,7 @@ impl<Octs: Octets> RelativeName<Octs> {
     /// The same name over lent octets.
     pub fn for_ref(&self) -> RelativeName<&Octs>
         ensures labels { relative_labels result ≡ relative_labels self.now }
-        ensures kept { (relative_holder result).now ≡ relative_holder self.now }
+        ensures holder { (relative_holder result).now ≡ relative_holder self.now }
     {
         RelativeName {
             octets: &self.octets,
@@ -198,7 +198,7 @@ impl<Octs: Octets> RelativeName<Octs> {
         }
     }
 
-    /// The wire form.
+    /// The wire format.
     pub fn as_slice(&self) -> &[u8]
         ensures value { result.now ≡ relative_octets self.now }
         ensures wire { result.now ≡ wire (relative_labels self.now) }
@@ -207,7 +207,7 @@ impl<Octs: Octets> RelativeName<Octs> {
         self.octets.as_slice()
     }
 
-    /// How many octets the wire form has, at most 254.
+    /// How many octets the wire format has, at most 254.
     pub fn len(&self) -> usize
         ensures { result ≡ length (wire (relative_labels self.now)) }
     {
@@ -258,14 +258,14 @@ impl<Octs: Octets> RelativeName<Octs> {
         self.iter().next_back()
     }
 
-    /// Whether a label begins at this place of the wire form, or the name ends there.
+    /// Whether a label begins at this place of the wire format, or the name ends there.
     pub fn is_label_start(&self, place: usize) -> bool
         ensures { IsTrue result ↔ IsLabelEnd (relative_labels self.now) place }
     {
         is_label_end(self.octets.as_slice(), place)
     }
 
-    /// The labels from one place of the wire form to another, where `is_label_start` is true at both and
+    /// The labels from one place of the wire format to another, where `is_label_start` is true at both and
     /// they are in order.
     pub fn slice(&self, range: Range<usize>) -> RelativeName<&[u8]>
         requires start { IsLabelEnd (relative_labels self.now) range.start }
@@ -288,7 +288,7 @@ impl<Octs: Octets> RelativeName<Octs> {
         self.slice(range)
     }
 
-    /// The labels before a place of the wire form and those from it on, where `is_label_start` is true
+    /// The labels before a place of the wire format and those from it on, where `is_label_start` is true
     /// there.
     pub fn split(&self, mid: usize) -> (RelativeName<&[u8]>, RelativeName<&[u8]>)
         requires { IsLabelEnd (relative_labels self.now) mid }
@@ -327,7 +327,7 @@ impl<Octs: Octets> RelativeName<Octs> {
 impl<Octs: Truncate> RelativeName<Octs> {
     ghost use Rattle.domain_name.specs.Names.{relative_labels, IsStripped};
 
-    /// Keeps the labels before a place of the wire form where `is_label_start` is true.
+    /// Keeps the labels before a place of the wire format where `is_label_start` is true.
     pub fn truncate(&mut self, len: usize)
         requires { IsLabelEnd (relative_labels self.old) len }
         ensures parts { (behind : List (List ℕ)) × (relative_labels self.old ≡ relative_labels self.new ++ behind) }
@@ -345,7 +345,7 @@ impl<Octs: Truncate> RelativeName<Octs> {
     ) -> Result<(), StripSuffixError>
         ensures exact { IsOk result ↔ EndsWith (relative_labels self.old) (N.labels base.now) }
         ensures ok { OnOk result (IsStripped (relative_labels self.old) (N.labels base.now) (relative_labels self.new)) }
-        ensures err { OnErr result (self.new ≡ self.old) }
+        ensures unchanged { OnErr result (self.new ≡ self.old) }
     {
         let Some(place) = suffix_place(self.octets.as_slice(), base) else {
             return Err(StripSuffixError);
@@ -360,7 +360,7 @@ impl<Octs: OctetsMut> RelativeName<Octs> {
 
     /// Makes A to Z of each label a to z, its canonical form (RFC 4034, 6.2).
     pub fn make_canonical(&mut self)
-        ensures { relative_labels self.new ≡ low_all (relative_labels self.old) }
+        ensures { relative_labels self.new ≡ lowercase_labels (relative_labels self.old) }
     {
         make_lowercase(&mut self.octets);
     }

@@ -67,7 +67,7 @@ impl<'a, Octs: Octets> IntoIterator for &'a RelativeName<Octs> {
 
     type IntoIter = NameIter<'a>;
 
-    ghost use Rattle.domain_flat.specs.Views.{flat_labels_left};
+    ghost use Rattle.domain_flat.specs.FlatLabels.{flat_labels_left};
 
     ghost into_iter_gives = { λ name labels. flat_labels_left labels ≡ relative_labels name.now };
 

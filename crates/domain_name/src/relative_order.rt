@@ -4,9 +4,9 @@ ghost use Rattle.std.proofs.Common.{rules};
 ghost use Rattle.std.specs.Cmp.{partial_order_from_agreeing_total, partial_equiv_from_equiv, on_equiv, on_total};
 ghost use Rattle.std.specs.Cmp.Rules.{comparing};
 ghost use Rattle.std.specs.Ordering.{on, as_partial_cmp};
-ghost use Rattle.domain_list.specs.Facts.{order_is_total, same_name_is_equivalence, same_feed};
-ghost use Rattle.domain_list.specs.Feed.{feed};
-ghost use Rattle.domain_list.specs.Order.{order, same_name};
+ghost use Rattle.domain_list.specs.NameLaws.{order_is_total, same_name_is_equivalence, same_hash_input};
+ghost use Rattle.domain_list.specs.HashInput.{name_hash_input};
+ghost use Rattle.domain_list.specs.Order.{canonical_order, same_name};
 
 use crate::relative::RelativeName;
 use domain_list::comparing::{order_names, same_names};
@@ -38,7 +38,7 @@ impl<Octs: Octets> Eq for RelativeName<Octs> {
 impl<Octs: Octets> Ord for RelativeName<Octs> {
     ghost use Rattle.domain_name.specs.Names.{relative_labels};
 
-    ghost cmp = { on relative_labels order };
+    ghost cmp = { on relative_labels canonical_order };
 
     ghost total = { on_total relative_labels order_is_total };
 
@@ -54,9 +54,9 @@ impl<Octs: Octets> Ord for RelativeName<Octs> {
 impl<Octs: Octets> PartialOrd for RelativeName<Octs> {
     ghost use Rattle.domain_name.specs.Names.{relative_labels};
 
-    ghost partial_cmp = { as_partial_cmp (on relative_labels order) };
+    ghost partial_cmp = { as_partial_cmp (on relative_labels canonical_order) };
 
-    ghost laws = { partial_order_from_agreeing_total (on relative_labels order) (on_total relative_labels order_is_total) (λ a b. refl) (λ a b. refl) };
+    ghost laws = { partial_order_from_agreeing_total (on relative_labels canonical_order) (on_total relative_labels order_is_total) (λ a b. refl) (λ a b. refl) };
 
     fn partial_cmp(&self, other: &RelativeName<Octs>) -> Option<Ordering> {
         Some(self.cmp(other))
@@ -67,9 +67,9 @@ impl<Octs: Octets> PartialOrd for RelativeName<Octs> {
 impl<Octs: Octets> Hash for RelativeName<Octs> {
     ghost use Rattle.domain_name.specs.Names.{relative_labels};
 
-    ghost hash_input = { λ name. feed (relative_labels name) };
+    ghost hash_input = { λ name. name_hash_input (relative_labels name) };
 
-    ghost respects_eq = { λ a b. same_feed (relative_labels a) (relative_labels b) };
+    ghost respects_eq = { λ a b. same_hash_input (relative_labels a) (relative_labels b) };
 
     fn hash<H: Hasher>(&self, state: &mut H) {
         hash_name(self, state);

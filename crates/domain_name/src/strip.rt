@@ -24,7 +24,7 @@ impl fmt::Display for StripSuffixError {
 
 impl Error for StripSuffixError {}
 
-/// The place in a wire form where its last labels begin, which are those of another one without ASCII
+/// The place in a wire format where its last labels begin, which are those of another one without ASCII
 /// case. `None` where it doesn't end with them.
 fn place_of(octets: &[u8], suffix: &[u8]) -> Option<usize>
     requires whole { IsWire octets.now }
@@ -45,7 +45,7 @@ fn place_of(octets: &[u8], suffix: &[u8]) -> Option<usize>
     Some(place)
 }
 
-/// The place in a wire form where its last labels begin, which are those of `base` without ASCII
+/// The place in a wire format where its last labels begin, which are those of `base` without ASCII
 /// case. `None` where the name doesn't end with them.
 pub(crate) fn suffix_place<'a, N: ToLabelIter<'a>>(octets: &[u8], base: &'a N) -> Option<usize>
     requires { IsWire octets.now }

@@ -2,15 +2,15 @@
 ghost use Rattle.std.specs.Prelude.{◌≡◌, ◌++◌, ◌<◌, ◌≤◌, ◌+◌, ℕ, List, Option, Some, None, Result, length, IfOk, IfErr, IfSome, OnErr, MatchResult};
 ghost use Rattle.std.specs.Iterator.{AlwaysYields, IsFinite};
 ghost use Rattle.std.specs.Str.{chars};
-ghost use Rattle.octseq.specs.Room.{MayLackRoom};
+ghost use Rattle.octseq.specs.Capacity.{MayExceedCapacity};
 ghost use Rattle.domain_label.specs.Wire.{wire, Root};
 ghost use Rattle.domain_label.specs.declared.symbol.Symbol.{Symbol};
-ghost use Rattle.domain_builder.specs.Built.{finished};
-ghost use Rattle.domain_builder.specs.Parts.{symbol_parts};
+ghost use Rattle.domain_builder.specs.BuilderState.{finished};
+ghost use Rattle.domain_builder.specs.NameSymbols.{symbols_in_name};
 ghost use Rattle.domain_builder.specs.TextGrammar.{IsNameText, SpellsName, SpellsNoName, SpellsRelative, SpellsNoRelative};
 ghost use Rattle.domain_builder.specs.Reverse.{reverse_name};
-ghost use Rattle.domain_builder.specs.Told.{NoName, NoNameRead, NoRelativeRead, Lacks, RelativeLacks, Tells, RelativeTells};
-ghost use Rattle.domain_builder.specs.declared.part.Fault.{Fault};
+ghost use Rattle.domain_builder.specs.TextErrors.{NoName, NoNameRead, NoRelativeRead, Lacks, RelativeLacks, Tells, RelativeTells};
+ghost use Rattle.domain_builder.specs.declared.name_symbol.TextFault.{TextFault};
 ghost use Rattle.domain_builder.specs.declared.push_error.PushError.TheVariants.{ShortBuf};
 ghost use Rattle.domain_builder.specs.Inside.{room};
 ghost use Rattle.domain_name.specs.Builders.{built, held};
@@ -55,7 +55,7 @@ where
         ensures err { (cs : List ℕ) → AlwaysYields I.next_gives (λ c. c) chars cs → IfErr result (NoNameRead Octs.Builder.ROOM cs) }
         ensures accepts { (cs : List ℕ) (ls : List (List ℕ)) → AlwaysYields I.next_gives (λ c. c) chars cs → SpellsName cs ls →
             MatchResult result (λ name. name_labels name ≡ ls) (Lacks Octs.Builder.ROOM ls) }
-        ensures exact { (cs : List ℕ) (f : Fault) → AlwaysYields I.next_gives (λ c. c) chars cs → SpellsNoName cs f →
+        ensures exact { (cs : List ℕ) (f : TextFault) → AlwaysYields I.next_gives (λ c. c) chars cs → SpellsNoName cs f →
             MatchResult result (λ _. ⊥) (Tells f) }
     {
         match absolute_from_chars(alloc, chars) {
@@ -73,7 +73,7 @@ where
         requires can { I.can_next symbols }
         requires ends { IsFinite (I.remaining symbols) }
         ensures { (ss : List Symbol) → AlwaysYields I.next_gives (λ x. x) symbols ss →
-            MatchResult result (λ name. IsNameText (symbol_parts ss) (name_labels name)) (NoName Octs.Builder.ROOM (symbol_parts ss)) }
+            MatchResult result (λ name. IsNameText (symbols_in_name ss) (name_labels name)) (NoName Octs.Builder.ROOM (symbols_in_name ss)) }
     {
         match absolute_from_symbols(alloc, symbols) {
             Ok(octets) => Ok(Name::from_wire(octets)),
@@ -93,7 +93,7 @@ where
     /// `ShortBuf` only where the octets, which are appended once, don't fit, or memory was refused.
     pub fn reverse_from_addr(alloc: Global, addr: IpAddr) -> Result<Self, PushError>
         ensures ok { IfOk result (λ name. name_labels name ≡ reverse_name addr) }
-        ensures err { IfErr result (λ e. (e ≡ ShortBuf) × MayLackRoom Octs.Builder.ROOM (length (wire (reverse_name addr)))) }
+        ensures err { IfErr result (λ e. (e ≡ ShortBuf) × MayExceedCapacity Octs.Builder.ROOM (length (wire (reverse_name addr)))) }
     {
         match reverse_octets(alloc, addr) {
             Ok(octets) => Ok(Name::from_wire(octets)),
@@ -109,7 +109,7 @@ impl Name<Vec<u8>> {
         ensures ok { IfOk result (λ name. SpellsName (chars text.now) (name_labels name)) }
         ensures err { IfErr result (NoNameRead None (chars text.now)) }
         ensures accepts { (ls : List (List ℕ)) → SpellsName (chars text.now) ls → MatchResult result (λ name. name_labels name ≡ ls) (Lacks None ls) }
-        ensures exact { (f : Fault) → SpellsNoName (chars text.now) f → MatchResult result (λ _. ⊥) (Tells f) }
+        ensures exact { (f : TextFault) → SpellsNoName (chars text.now) f → MatchResult result (λ _. ⊥) (Tells f) }
     {
         match absolute_from_str(alloc, text) {
             Ok(octets) => Ok(Name::from_wire(octets)),
@@ -121,7 +121,7 @@ impl Name<Vec<u8>> {
 /// Reads an absolute name from text, as `from_chars` does. `ShortBuf` exactly where a name has more than
 /// `N` octets.
 impl<const N: usize> FromStr for Name<ArrayVec<u8, N>> {
-    ghost use Rattle.domain_builder.specs.Told.{ReadsName};
+    ghost use Rattle.domain_builder.specs.TextErrors.{ReadsName};
 
     type Err = FromStrError;
 
@@ -158,7 +158,7 @@ where
         ensures err { (cs : List ℕ) → AlwaysYields I.next_gives (λ c. c) chars cs → IfErr result (NoRelativeRead Octs.Builder.ROOM cs) }
         ensures accepts { (cs : List ℕ) (ls : List (List ℕ)) → AlwaysYields I.next_gives (λ c. c) chars cs → SpellsRelative cs ls →
             MatchResult result (λ name. relative_labels name ≡ ls) (RelativeLacks Octs.Builder.ROOM ls) }
-        ensures exact { (cs : List ℕ) (why : Option Fault) → AlwaysYields I.next_gives (λ c. c) chars cs → SpellsNoRelative cs why →
+        ensures exact { (cs : List ℕ) (why : Option TextFault) → AlwaysYields I.next_gives (λ c. c) chars cs → SpellsNoRelative cs why →
             MatchResult result (λ _. ⊥) (RelativeTells why) }
     {
         match relative_from_chars(alloc, chars) {
@@ -175,7 +175,7 @@ impl RelativeName<Vec<u8>> {
         ensures ok { IfOk result (λ name. SpellsRelative (chars text.now) (relative_labels name)) }
         ensures err { IfErr result (NoRelativeRead None (chars text.now)) }
         ensures accepts { (ls : List (List ℕ)) → SpellsRelative (chars text.now) ls → MatchResult result (λ name. relative_labels name ≡ ls) (RelativeLacks None ls) }
-        ensures exact { (why : Option Fault) → SpellsNoRelative (chars text.now) why → MatchResult result (λ _. ⊥) (RelativeTells why) }
+        ensures exact { (why : Option TextFault) → SpellsNoRelative (chars text.now) why → MatchResult result (λ _. ⊥) (RelativeTells why) }
     {
         match relative_from_str(alloc, text) {
             Ok(octets) => Ok(RelativeName::from_wire(octets)),
@@ -187,7 +187,7 @@ impl RelativeName<Vec<u8>> {
 /// Reads a relative name from text, as `from_chars` does. `ShortBuf` exactly where a name has more than `N`
 /// octets.
 impl<const N: usize> FromStr for RelativeName<ArrayVec<u8, N>> {
-    ghost use Rattle.domain_builder.specs.Told.{ReadsRelative};
+    ghost use Rattle.domain_builder.specs.TextErrors.{ReadsRelative};
 
     type Err = RelativeFromStrError;
 

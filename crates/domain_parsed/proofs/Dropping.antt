@@ -1,37 +1,37 @@
 -- A table without its first place, and the name without its first label.
 use Rattle.std.proofs.Common.{◌≡◌, ℕ, ◌+◌, ◌-◌, ◌≤◌, ◌<◌, List, ◌∷◌, length, Bool, false, slice_range, slice_index, refl, sym, ap, subst, arith, ◌∙◌}
 use Rattle.domain_label.specs.Wire.{wire, Root, IsAbsoluteName}
-use Rattle.domain_reading.specs.Places.{place_of, IsLabelPlace, AreLabelPlaces, label_at, placed_labels}
-use Rattle.domain_reading.proofs.Walking.{slice_length}
-use Rattle.domain_reading.proofs.Places.{taken, labels_taken, slice_taken, slice_size, length-labels}
+use Rattle.domain_reading.specs.Offsets.{entry_offset, IsLabelOffset, AreLabelOffsets, label_at, labels_at_entries}
+use Rattle.domain_reading.proofs.NameOrFault.{slice_length}
+use Rattle.domain_reading.proofs.LabelsOfTable.{taken, labels_taken, slice_taken, slice_size, length-labels}
 use Rattle.domain_parsed.proofs.Parents.{Rest, rest_of, flat_rest, flat_inside, many_labels}
 
 pub record Dropped (o : List ℕ) (base : ℕ) (places : List ℕ) (dropped count passed n : ℕ) (compressed : Bool) : Type 0 where
   pub place : ℕ
   pub label : List ℕ
-  pub is_place : place ≡ place_of base (slice_index places dropped)
+  pub is_place : place ≡ entry_offset base (slice_index places dropped)
   pub is_label : label ≡ label_at o place
-  pub here : IsLabelPlace o place
+  pub here : IsLabelOffset o place
   pub head : slice_index o place ≡ length label
-  pub labels : placed_labels o base (slice_range places dropped count) ≡ label ∷ placed_labels o base (slice_range places (dropped + 1) count)
-  pub rest : Rest label (placed_labels o base (slice_range places (dropped + 1) count)) n
+  pub labels : labels_at_entries o base (slice_range places dropped count) ≡ label ∷ labels_at_entries o base (slice_range places (dropped + 1) count)
+  pub rest : Rest label (labels_at_entries o base (slice_range places (dropped + 1) count)) n
   pub some : dropped + 1 < count
-  pub stand : AreLabelPlaces o base (slice_range places (dropped + 1) count)
-  pub flat : compressed ≡ false → slice_range o (base + (passed + (length label + 1))) (base + (passed + (length label + 1)) + (n - (length label + 1))) ≡ wire (placed_labels o base (slice_range places (dropped + 1) count))
+  pub stand : AreLabelOffsets o base (slice_range places (dropped + 1) count)
+  pub flat : compressed ≡ false → slice_range o (base + (passed + (length label + 1))) (base + (passed + (length label + 1)) + (n - (length label + 1))) ≡ wire (labels_at_entries o base (slice_range places (dropped + 1) count))
 
-pub drop_first : (o : List ℕ) (base : ℕ) (places : List ℕ) (dropped count passed n : ℕ) (compressed : Bool) → dropped < count → count ≤ length places → AreLabelPlaces o base (slice_range places dropped count) → IsAbsoluteName (placed_labels o base (slice_range places dropped count))
-    → n ≡ length (wire (placed_labels o base (slice_range places dropped count))) → (compressed ≡ false → slice_range o (base + passed) (base + passed + n) ≡ wire (placed_labels o base (slice_range places dropped count))) → (placed_labels o base (slice_range places dropped count) ≡ Root → ⊥)
+pub drop_first : (o : List ℕ) (base : ℕ) (places : List ℕ) (dropped count passed n : ℕ) (compressed : Bool) → dropped < count → count ≤ length places → AreLabelOffsets o base (slice_range places dropped count) → IsAbsoluteName (labels_at_entries o base (slice_range places dropped count))
+    → n ≡ length (wire (labels_at_entries o base (slice_range places dropped count))) → (compressed ≡ false → slice_range o (base + passed) (base + passed + n) ≡ wire (labels_at_entries o base (slice_range places dropped count))) → (labels_at_entries o base (slice_range places dropped count) ≡ Root → ⊥)
     → Dropped o base places dropped count passed n compressed
 drop_first o base places dropped count passed n compressed some few stand absolute sized flat more =
     let e = slice_index places dropped in
     let rest = slice_range places (dropped + 1) count in
-    let p = place_of base e in
+    let p = entry_offset base e in
     let l = label_at o p in
     let is = slice_taken places dropped count some few in
     let t = taken o base e (slice_range places dropped count) rest is stand in
-    let ls : placed_labels o base (slice_range places dropped count) ≡ l ∷ placed_labels o base rest = labels_taken o base e p (slice_range places dropped count) rest l is refl refl in
-    let r = rest_of l (placed_labels o base rest) n (subst (λ ls. IsAbsoluteName ls) ls absolute) (sized ∙ ap (λ ls. length (wire ls)) ls) (λ h. more (ls ∙ h)) in
-    let many = many_labels (placed_labels o base (slice_range places dropped count)) absolute.0 more in
+    let ls : labels_at_entries o base (slice_range places dropped count) ≡ l ∷ labels_at_entries o base rest = labels_taken o base e p (slice_range places dropped count) rest l is refl refl in
+    let r = rest_of l (labels_at_entries o base rest) n (subst (λ ls. IsAbsoluteName ls) ls absolute) (sized ∙ ap (λ ls. length (wire ls)) ls) (λ h. more (ls ∙ h)) in
+    let many = many_labels (labels_at_entries o base (slice_range places dropped count)) absolute.0 more in
     record {
       place = p;
       label = l;
@@ -43,5 +43,5 @@ drop_first o base places dropped count passed n compressed some few stand absolu
       rest = r;
       some = omega (arith, many, length-labels o base (slice_range places dropped count), slice_size places dropped count few);
       stand = t.stand;
-      flat = λ h. flat_rest o l (placed_labels o base rest) (base + passed) n _ _ (flat_inside o (base + passed) n _ absolute.0 sized (flat h)) r.fits (flat h ∙ ap (λ ls. wire ls) ls) (omega arith) (omega (arith, r.fits));
+      flat = λ h. flat_rest o l (labels_at_entries o base rest) (base + passed) n _ _ (flat_inside o (base + passed) n _ absolute.0 sized (flat h)) r.fits (flat h ∙ ap (λ ls. wire ls) ls) (omega arith) (omega (arith, r.fits));
     }

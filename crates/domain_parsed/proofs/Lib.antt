@@ -1,7 +1,7 @@
 pub mod Parents
 pub mod Parsing
 pub mod FlatNames
-pub mod Past
+pub mod NoNamePastEnd
 pub mod Dropping
 pub mod Splitting
-pub mod Shapes
+pub mod ParsedFields

@@ -6,7 +6,7 @@ use Rattle.std.proofs.lemmas.Bool.{false≢true}
 use Rattle.std.proofs.lemmas.Bool.Decides.{eqb_tells}
 use Rattle.std.specs.Bool.{IsTrue}
 use Rattle.domain_label.specs.Wire.{wire, Root, IsAbsolute, IsAbsoluteName}
-use Rattle.domain_reading.proofs.Naming.{slice_join, slice_one}
+use Rattle.domain_reading.proofs.LabelsAt.{slice_join, slice_one}
 
 pub flat_tail : (m l w : List ℕ) (p n : ℕ) → p + n ≤ length m → slice_range m p (p + n) ≡ length l ∷ (l ++ w) → (slice_index m p ≡ length l) × (slice_range m (p + 1 + length l) (p + n) ≡ w)
 flat_tail m l w p n inside e =

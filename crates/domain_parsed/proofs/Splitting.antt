@@ -1,8 +1,8 @@
 -- Where the first label of a name stands.
 use Rattle.std.proofs.Common.{◌≡◌, ℕ, ◌+◌, ◌≤◌, ◌<◌, List, [], ◌∷◌, ◌++◌, length, slice_index, slice_range, sym, ap, ◌∙◌, arith, append-nil}
 use Rattle.domain_label.specs.Wire.{wire, IsRelativeName}
-use Rattle.domain_reading.specs.Places.{IsLabelPlace, label_at}
-use Rattle.domain_reading.proofs.Naming.{slice_join, slice_one}
+use Rattle.domain_reading.specs.Offsets.{IsLabelOffset, label_at}
+use Rattle.domain_reading.proofs.LabelsAt.{slice_join, slice_one}
 
 -- a label with its length octet stands from its place on
 pub record Standing (m l : List ℕ) (start behind : ℕ) : Type 0 where
@@ -10,7 +10,7 @@ pub record Standing (m l : List ℕ) (start behind : ℕ) : Type 0 where
   pub inside : behind ≤ length m
   pub stands : slice_range m start behind ≡ wire (l ∷ [])
 
-pub standing : (m l : List ℕ) (p len : ℕ) → IsLabelPlace m p → slice_index m p ≡ length l → label_at m p ≡ l → len ≡ length l + 1 → Standing m l p (p + len)
+pub standing : (m l : List ℕ) (p len : ℕ) → IsLabelOffset m p → slice_index m p ≡ length l → label_at m p ≡ l → len ≡ length l + 1 → Standing m l p (p + len)
 standing m l p len is head octets e =
     let end : p + 1 + length l ≡ p + len = omega (arith, e) in
     let one = slice_one m p (omega (arith, is.1)) ∙ ap (λ o. o ∷ []) head in

@@ -6,10 +6,10 @@ use Rattle.domain_label.specs.Wire.{wire, IsRelativeName}
 use Rattle.domain_name.specs.declared.relative.RelativeName.{RelativeName}
 use Rattle.domain_name.specs.Names.{relative_labels}
 use Rattle.domain_parsed.specs.declared.parsed.ParsedName.{ParsedName}
-use Rattle.domain_parsed.specs.Views.{parsed_octets, parsed_labels, is_scattered}
+use Rattle.domain_parsed.specs.ParsedNames.{parsed_octets, parsed_labels, may_be_compressed}
 
 -- The name new is old without its first label, which stands in the octets where the range says.
-pub record PassesFirst {O : Type 0} {g : Ghosts O} (old : ParsedName O g) (range : Range ℕ) (new : ParsedName O g) : Type 0 where
+pub record DropsFirst {O : Type 0} {g : Ghosts O} (old : ParsedName O g) (range : Range ℕ) (new : ParsedName O g) : Type 0 where
   pub label : List ℕ
   pub labels : parsed_labels old ≡ label ∷ parsed_labels new
   pub relative : IsRelativeName (label ∷ [])
@@ -20,4 +20,4 @@ pub record PassesFirst {O : Type 0} {g : Ghosts O} (old : ParsedName O g) (range
 -- The name new is old without its first label, which is the result; without one nothing changed.
 abbrev pub SplitsFirst : {O : Type 0} {g : Ghosts O} {P : Type 0} {h : Ghosts P} → ParsedName O g → Option (RelativeName P h) → ParsedName O g → Type 0
 SplitsFirst old None new = new ≡ old
-SplitsFirst old (Some first) new = (label : List ℕ) × (relative_labels first ≡ label ∷ []) × (parsed_labels old ≡ label ∷ parsed_labels new) × (parsed_octets new ≡ parsed_octets old) × (is_scattered new ≡ is_scattered old)
+SplitsFirst old (Some first) new = (label : List ℕ) × (relative_labels first ≡ label ∷ []) × (parsed_labels old ≡ label ∷ parsed_labels new) × (parsed_octets new ≡ parsed_octets old) × (may_be_compressed new ≡ may_be_compressed old)

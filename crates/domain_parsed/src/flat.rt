@@ -1,8 +1,8 @@
 //! The labels of a flat name, found as those of a name in a message.
 ghost use Rattle.std.specs.Prelude.{◌≡◌, slice_range, false};
 ghost use Rattle.domain_label.specs.Wire.{IsAbsoluteWire, labels_in};
-ghost use Rattle.domain_reading.specs.Outcomes.{Holds};
-ghost use Rattle.domain_reading.specs.Places.{placed_labels};
+ghost use Rattle.domain_reading.specs.ParseResult.{Holds};
+ghost use Rattle.domain_reading.specs.Offsets.{labels_at_entries};
 
 use domain_reading::alone::read_name;
 use domain_reading::progress::Progress;
@@ -13,8 +13,8 @@ use domain_reading::standing::MAX_LABELS;
 pub(crate) fn read_flat(octets: &[u8], places: &mut [u16; MAX_LABELS]) -> Progress
     requires { IsAbsoluteWire octets.now }
     ensures held { Holds octets.now result places.new }
-    ensures labels { placed_labels octets.now result.base (slice_range places.new 0 result.count) ≡ labels_in octets.now }
-    ensures in_one_piece { result.compressed ≡ false }
+    ensures labels { labels_at_entries octets.now result.base (slice_range places.new 0 result.count) ≡ labels_in octets.now }
+    ensures contiguous { result.compressed ≡ false }
 {
     let mut progress = Progress::new(0);
     let Ok(()) = read_name(octets, &mut progress, places, 0) else {

@@ -2,8 +2,8 @@
 ghost use Rattle.std.specs.Prelude.{◌≡◌, length};
 ghost use Rattle.domain_label.specs.Wire.{wire};
 ghost use Rattle.domain_name.specs.Names.{name_labels};
-ghost use Rattle.domain_parsed.specs.Views.{parsed_labels};
-ghost use Rattle.octseq.specs.Room.{MayLackRoom};
+ghost use Rattle.domain_parsed.specs.ParsedNames.{parsed_labels};
+ghost use Rattle.octseq.specs.Capacity.{MayExceedCapacity};
 
 use crate::parsed::ParsedName;
 use domain_name::Name;
@@ -13,14 +13,14 @@ use std::alloc::Global;
 
 /// The labels are put together over new octets, wherever they stand in the message.
 ///
-/// `ShortBuf` where the wire form exceeds a fixed room of the octets, or where memory was refused.
+/// `ShortBuf` where the wire format exceeds a fixed room of the octets, or where memory was refused.
 impl<Octs: Octets + Drop, Target: FromBuilder + Drop> FlattenInto<Name<Target>> for ParsedName<Octs>
 where
     Target::Builder: EmptyBuilder + Drop,
 {
     ghost same = { λ name made. name_labels made ≡ parsed_labels name };
 
-    ghost may_refuse = { λ name. MayLackRoom Target.Builder.ROOM (length (wire (parsed_labels name))) };
+    ghost may_refuse = { λ name. MayExceedCapacity Target.Builder.ROOM (length (wire (parsed_labels name))) };
 
     fn try_flatten_into(self, alloc: Global) -> Result<Name<Target>, ShortBuf> {
         self.to_name(alloc)

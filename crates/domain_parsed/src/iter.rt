@@ -1,10 +1,10 @@
 //! The labels of a name in a message, from either end.
 ghost use Rattle.std.specs.Prelude.{◌≡◌, ◌+◌, ◌<◌, MatchOption};
-ghost use Rattle.domain_reading.specs.Places.{AreLabelPlaces, placed_labels};
+ghost use Rattle.domain_reading.specs.Offsets.{AreLabelOffsets, labels_at_entries};
 
 use domain_label::Label;
 use domain_reading::heads::Heads;
-use domain_reading::standing::{place_of, read_label};
+use domain_reading::standing::{entry_offset, read_label};
 use std::marker::{Brand, PhantomData};
 use std::sync::ledger::{Blank, Ledger};
 
@@ -18,19 +18,19 @@ pub struct ParsedNameIter<'a> {
     base: usize,
     places: &'a [u16],
     of: PhantomData<Label<'a>>,
-    ghost stand: { AreLabelPlaces octets.now base places.now },
+    ghost stand: { AreLabelOffsets octets.now base places.now },
 }
 
 impl<'a> ParsedNameIter<'a> {
     ghost use Rattle.std.specs.Iterator.{YieldsFirstBy, YieldsLastBy};
-    ghost use Rattle.domain_label.specs.Views.{label_octets};
-    ghost use Rattle.domain_parsed.specs.Views.{labels_left};
+    ghost use Rattle.domain_label.specs.Labels.{label_octets};
+    ghost use Rattle.domain_parsed.specs.ParsedNames.{labels_left};
 
     /// The labels that stand at the places of a table.
     #[inline(always)]
     pub(crate) fn new(octets: &'a [u8], base: usize, places: &'a [u16]) -> Self
-        requires { AreLabelPlaces octets.now base places.now }
-        ensures { labels_left result ≡ placed_labels octets.now base places.now }
+        requires { AreLabelOffsets octets.now base places.now }
+        ensures { labels_left result ≡ labels_at_entries octets.now base places.now }
     {
         ParsedNameIter {
             octets,
@@ -47,7 +47,7 @@ impl<'a> ParsedNameIter<'a> {
         ensures counted { MatchOption result (heads.new ≡ heads.old) (λ _. heads.new ≡ heads.old + 1) }
     {
         let (first, rest) = self.places.split_first()?;
-        let place = place_of(self.base, *first);
+        let place = entry_offset(self.base, *first);
         let label = read_label(self.octets, place, heads);
         self.places = rest;
         Some(label)
@@ -60,7 +60,7 @@ impl<'a> ParsedNameIter<'a> {
         ensures counted { MatchOption result (heads.new ≡ heads.old) (λ _. heads.new ≡ heads.old + 1) }
     {
         let (last, front) = self.places.split_last()?;
-        let place = place_of(self.base, *last);
+        let place = entry_offset(self.base, *last);
         let label = read_label(self.octets, place, heads);
         self.places = front;
         Some(label)
@@ -89,8 +89,8 @@ impl<'a> ParsedNameIter<'a> {
 
 impl<'a> Iterator for ParsedNameIter<'a> {
     ghost use Rattle.std.specs.Iterator.{YieldsFirstBy, item_count};
-    ghost use Rattle.domain_label.specs.Views.{label_octets};
-    ghost use Rattle.domain_parsed.specs.Views.{labels_left};
+    ghost use Rattle.domain_label.specs.Labels.{label_octets};
+    ghost use Rattle.domain_parsed.specs.ParsedNames.{labels_left};
 
     type Item = Label<'a>;
 
@@ -106,8 +106,8 @@ impl<'a> Iterator for ParsedNameIter<'a> {
 
 impl<'a> DoubleEndedIterator for ParsedNameIter<'a> {
     ghost use Rattle.std.specs.Iterator.{YieldsLastBy};
-    ghost use Rattle.domain_label.specs.Views.{label_octets};
-    ghost use Rattle.domain_parsed.specs.Views.{labels_left};
+    ghost use Rattle.domain_label.specs.Labels.{label_octets};
+    ghost use Rattle.domain_parsed.specs.ParsedNames.{labels_left};
 
     ghost next_back_gives = { YieldsLastBy label_octets labels_left };
 

@@ -2,7 +2,7 @@
 ghost use Rattle.std.specs.Prelude.{◌≡◌, Some, false};
 ghost use Rattle.std.proofs.Common.{inl};
 ghost use Rattle.domain_label.specs.Text.{text};
-ghost use Rattle.domain_parsed.specs.Views.{parsed_labels, is_scattered, labels_left};
+ghost use Rattle.domain_parsed.specs.ParsedNames.{parsed_labels, may_be_compressed, labels_left};
 
 use crate::iter::ParsedNameIter;
 use crate::parsed::ParsedName;
@@ -50,7 +50,7 @@ impl<'a, Octs: Octets> ToLabelIter<'a> for ParsedName<Octs> {
         self.iter()
     }
 
-    ghost lies_flat = { λ name. is_scattered name ≡ false };
+    ghost lies_flat = { λ name. may_be_compressed name ≡ false };
 
     fn as_flat_slice(&'a self) -> Option<&'a [u8]> {
         self.flat_octets()

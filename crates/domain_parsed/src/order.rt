@@ -4,9 +4,9 @@ ghost use Rattle.std.proofs.Common.{rules};
 ghost use Rattle.std.specs.Cmp.{partial_order_from_agreeing_total, partial_equiv_from_equiv, on_equiv, on_total};
 ghost use Rattle.std.specs.Cmp.Rules.{comparing};
 ghost use Rattle.std.specs.Ordering.{on, as_partial_cmp};
-ghost use Rattle.domain_list.specs.Facts.{order_is_total, same_name_is_equivalence, same_feed};
-ghost use Rattle.domain_list.specs.Feed.{feed};
-ghost use Rattle.domain_list.specs.Order.{order, same_name};
+ghost use Rattle.domain_list.specs.NameLaws.{order_is_total, same_name_is_equivalence, same_hash_input};
+ghost use Rattle.domain_list.specs.HashInput.{name_hash_input};
+ghost use Rattle.domain_list.specs.Order.{canonical_order, same_name};
 
 use crate::parsed::ParsedName;
 use domain_list::comparing::{order_names, same_names};
@@ -18,7 +18,7 @@ use std::hash::{Hash, Hasher};
 
 /// Names are equal where their labels are, without ASCII case (RFC 4343).
 impl<Octs: Octets> PartialEq for ParsedName<Octs> {
-    ghost use Rattle.domain_parsed.specs.Views.{parsed_labels};
+    ghost use Rattle.domain_parsed.specs.ParsedNames.{parsed_labels};
 
     ghost eq = { on parsed_labels same_name };
 
@@ -30,16 +30,16 @@ impl<Octs: Octets> PartialEq for ParsedName<Octs> {
 }
 
 impl<Octs: Octets> Eq for ParsedName<Octs> {
-    ghost use Rattle.domain_parsed.specs.Views.{parsed_labels};
+    ghost use Rattle.domain_parsed.specs.ParsedNames.{parsed_labels};
 
     ghost laws = { on_equiv parsed_labels same_name_is_equivalence };
 }
 
 /// The order of names (RFC 4034, 6.1).
 impl<Octs: Octets> Ord for ParsedName<Octs> {
-    ghost use Rattle.domain_parsed.specs.Views.{parsed_labels};
+    ghost use Rattle.domain_parsed.specs.ParsedNames.{parsed_labels};
 
-    ghost cmp = { on parsed_labels order };
+    ghost cmp = { on parsed_labels canonical_order };
 
     ghost total = { on_total parsed_labels order_is_total };
 
@@ -53,11 +53,11 @@ impl<Octs: Octets> Ord for ParsedName<Octs> {
 }
 
 impl<Octs: Octets> PartialOrd for ParsedName<Octs> {
-    ghost use Rattle.domain_parsed.specs.Views.{parsed_labels};
+    ghost use Rattle.domain_parsed.specs.ParsedNames.{parsed_labels};
 
-    ghost partial_cmp = { as_partial_cmp (on parsed_labels order) };
+    ghost partial_cmp = { as_partial_cmp (on parsed_labels canonical_order) };
 
-    ghost laws = { partial_order_from_agreeing_total (on parsed_labels order) (on_total parsed_labels order_is_total) (λ a b. refl) (λ a b. refl) };
+    ghost laws = { partial_order_from_agreeing_total (on parsed_labels canonical_order) (on_total parsed_labels order_is_total) (λ a b. refl) (λ a b. refl) };
 
     fn partial_cmp(&self, other: &ParsedName<Octs>) -> Option<Ordering> {
         Some(self.cmp(other))
@@ -66,9 +66,9 @@ impl<Octs: Octets> PartialOrd for ParsedName<Octs> {
 
 /// The canonical order of names is that of `Ord` (RFC 4034, 6.1).
 impl<Octs: Octets> CanonicalOrd for ParsedName<Octs> {
-    ghost use Rattle.domain_parsed.specs.Views.{parsed_labels};
+    ghost use Rattle.domain_parsed.specs.ParsedNames.{parsed_labels};
 
-    ghost canonical_order = { on parsed_labels order };
+    ghost value_order = { on parsed_labels canonical_order };
 
     ghost total = { on_total parsed_labels order_is_total };
 
@@ -79,11 +79,11 @@ impl<Octs: Octets> CanonicalOrd for ParsedName<Octs> {
 
 /// Feeds each label's length and its octets without ASCII case, so that equal names feed alike.
 impl<Octs: Octets> Hash for ParsedName<Octs> {
-    ghost use Rattle.domain_parsed.specs.Views.{parsed_labels};
+    ghost use Rattle.domain_parsed.specs.ParsedNames.{parsed_labels};
 
-    ghost hash_input = { λ name. feed (parsed_labels name) };
+    ghost hash_input = { λ name. name_hash_input (parsed_labels name) };
 
-    ghost respects_eq = { λ a b. same_feed (parsed_labels a) (parsed_labels b) };
+    ghost respects_eq = { λ a b. same_hash_input (parsed_labels a) (parsed_labels b) };
 
     fn hash<H: Hasher>(&self, state: &mut H) {
         hash_name(self, state);

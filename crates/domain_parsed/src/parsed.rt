@@ -2,9 +2,9 @@
 ghost use Rattle.std.specs.Prelude.{◌≡◌, ◌≤◌, ◌<◌, ◌+◌, ◌∷◌, ◌++◌, ◌↔◌, ℕ, List, [], length, slice_range, IfOk, IfErr, IfSome, IsSome, IsNone, OnOk, OnErr, IsOk, IsTrue, MatchBool, MatchResult, true, false, ⊤};
 ghost use Rattle.domain_label.specs.Wire.{wire, Root, IsAbsoluteName};
 ghost use Rattle.domain_label.proofs.WireLaws.{IsAbsoluteName_prop};
-ghost use Rattle.domain_reading.specs.Grammar.{Names, LiesInOnePiece};
-ghost use Rattle.domain_label.specs.Views.{label_octets};
-ghost use Rattle.domain_reading.specs.Places.{AreLabelPlaces, placed_labels};
+ghost use Rattle.domain_reading.specs.Grammar.{Names, IsContiguous};
+ghost use Rattle.domain_label.specs.Labels.{label_octets};
+ghost use Rattle.domain_reading.specs.Offsets.{AreLabelOffsets, labels_at_entries};
 
 use crate::flat::read_flat;
 use crate::iter::ParsedNameIter;
@@ -12,11 +12,11 @@ use crate::suffixes::ParsedSuffixIter;
 use arrayvec::ArrayVec;
 use domain_label::Label;
 use domain_name::{Name, RelativeName};
-use domain_reading::alone::{front_end, standing_label};
+use domain_reading::alone::{encoding_end, label_at_offset};
 use domain_reading::heads::Heads;
 use domain_reading::progress::Progress;
 use domain_reading::read::read_name_counted;
-use domain_reading::standing::{MAX_LABELS, place_of};
+use domain_reading::standing::{MAX_LABELS, entry_offset};
 use domain_wire::ParseError;
 use octseq::{Octets, OctetsFrom, Parser, ShortBuf};
 use std::alloc::{AllocError, Global};
@@ -53,11 +53,11 @@ pub struct ParsedName<Octs: Octets> {
     compressed: bool,
     ghost some: { dropped < count },
     ghost few: { count ≤ 128 },
-    ghost stand: { AreLabelPlaces (Octs.octets octets) base (slice_range places dropped count) },
-    ghost absolute: { IsAbsoluteName (placed_labels (Octs.octets octets) base (slice_range places dropped count)) } by { IsAbsoluteName_prop (placed_labels (Octs.octets octets) base (slice_range places dropped count)) },
-    ghost sized: { name_len ≡ length (wire (placed_labels (Octs.octets octets) base (slice_range places dropped count))) },
+    ghost stand: { AreLabelOffsets (Octs.octets octets) base (slice_range places dropped count) },
+    ghost absolute: { IsAbsoluteName (labels_at_entries (Octs.octets octets) base (slice_range places dropped count)) } by { IsAbsoluteName_prop (labels_at_entries (Octs.octets octets) base (slice_range places dropped count)) },
+    ghost sized: { name_len ≡ length (wire (labels_at_entries (Octs.octets octets) base (slice_range places dropped count))) },
     ghost short: { passed + name_len ≤ 255 },
-    ghost flat: { compressed ≡ false → slice_range (Octs.octets octets) (base + passed) (base + passed + name_len) ≡ wire (placed_labels (Octs.octets octets) base (slice_range places dropped count)) },
+    ghost flat: { compressed ≡ false → slice_range (Octs.octets octets) (base + passed) (base + passed + name_len) ≡ wire (labels_at_entries (Octs.octets octets) base (slice_range places dropped count)) },
 }
 
 impl<Octs: Octets + Copy> Copy for ParsedName<Octs> {}
@@ -73,11 +73,11 @@ impl<Octs: Octets + Copy> Clone for ParsedName<Octs> {
 }
 
 impl<'a> ParsedName<&'a [u8]> {
-    ghost use Rattle.domain_parsed.specs.Views.{parsed_octets, parsed_labels, is_scattered};
-    ghost use Rattle.octseq.specs.Parsing.{whole, message, place};
+    ghost use Rattle.domain_parsed.specs.ParsedNames.{parsed_octets, parsed_labels, may_be_compressed};
+    ghost use Rattle.octseq.specs.Parsing.{slice_of, message, position};
     ghost use Rattle.domain_reading.specs.Faults.{Skips};
     ghost use Rattle.domain_wire.specs.Refusals.{refusal};
-    ghost use Rattle.domain_reading.specs.Outcomes.{MovesBehindFront, TellsFault, SkipsFront, TellsSkipFault, LiesPlainly, CountsName, CountsFault};
+    ghost use Rattle.domain_reading.specs.ParseResult.{MovesPastName, IsErrorOfName, SkipsName, IsErrorOfSkip, StandsUncompressed, CountsName, CountsFault};
 
     /// Reads the name at the parser's place, and moves the parser behind the name's root or first pointer.
     ///
@@ -95,12 +95,12 @@ impl<'a> ParsedName<&'a [u8]> {
     ///
     /// ```rust
     /// pub fn question<'a>(parser: &mut Parser<'a>) -> Result<(ParsedName<&'a [u8]>, u16, u16), ParseError>
-    ///     ensures name { IfOk result (λ read. Names 255 (message parser.old) (place parser.old) (parsed_labels read.0)) }
-    ///     ensures behind { IfOk result (λ read. (e : ℕ) × EndsBefore (message parser.old) (place parser.old) e
+    ///     ensures name { IfOk result (λ read. Names 255 (message parser.old) (position parser.old) (parsed_labels read.0)) }
+    ///     ensures behind { IfOk result (λ read. (e : ℕ) × EncodingEnds (message parser.old) (position parser.old) e
     ///         × (read.1 ≡ from_be_bytes w16 (slice_range (message parser.old) e (e + 2)))
     ///         × (read.2 ≡ from_be_bytes w16 (slice_range (message parser.old) (e + 2) (e + 4)))
     ///         × MovesTo parser.old parser.new (e + 4)) }
-    ///     ensures err { OnErr result (parser.new ≡ parser.old) }
+    ///     ensures unchanged { OnErr result (parser.new ≡ parser.old) }
     /// {
     ///     let mut ahead = *parser;
     ///     let name = ParsedName::parse(&mut ahead)?;
@@ -112,13 +112,13 @@ impl<'a> ParsedName<&'a [u8]> {
     /// ```
     #[inline(always)]
     pub fn parse(parser: &mut Parser<'a>) -> Result<ParsedName<&'a [u8]>, ParseError>
-        ensures exact { IsOk result ↔ ((ls : List (List ℕ)) × Names 255 (message parser.old) (place parser.old) ls) }
-        ensures labels { IfOk result (λ name. Names 255 (message parser.old) (place parser.old) (parsed_labels name)) }
-        ensures octets { IfOk result (λ name. parsed_octets name ≡ whole parser.old) }
-        ensures scattered { IfOk result (λ name. (is_scattered name ≡ false) ↔ LiesInOnePiece (message parser.old) (place parser.old)) }
-        ensures moves { OnOk result (MovesBehindFront parser.old parser.new) }
-        ensures plain { (ls : List (List ℕ)) → LiesPlainly parser.old ls → MatchResult result (λ name. (parsed_labels name ≡ ls) × (is_scattered name ≡ false) × (place parser.new ≡ place parser.old + length (wire ls))) (λ _. ⊥) }
-        ensures refused { IfErr result (λ e. TellsFault 255 parser.old e) }
+        ensures exact { IsOk result ↔ ((ls : List (List ℕ)) × Names 255 (message parser.old) (position parser.old) ls) }
+        ensures labels { IfOk result (λ name. Names 255 (message parser.old) (position parser.old) (parsed_labels name)) }
+        ensures octets { IfOk result (λ name. parsed_octets name ≡ slice_of parser.old) }
+        ensures is_compressed { IfOk result (λ name. (may_be_compressed name ≡ false) ↔ IsContiguous (message parser.old) (position parser.old)) }
+        ensures moves { OnOk result (MovesPastName parser.old parser.new) }
+        ensures uncompressed { (ls : List (List ℕ)) → StandsUncompressed parser.old ls → MatchResult result (λ name. (parsed_labels name ≡ ls) × (may_be_compressed name ≡ false) × (position parser.new ≡ position parser.old + length (wire ls))) (λ _. ⊥) }
+        ensures err { IfErr result (λ e. IsErrorOfName 255 parser.old e) }
         ensures unchanged { OnErr result (parser.new ≡ parser.old) }
     {
         ParsedName::parse_with::<Brand>(parser, MAX_POINTERS, Blank::new(1))
@@ -127,13 +127,13 @@ impl<'a> ParsedName<&'a [u8]> {
     /// The same as `parse`.
     #[inline(always)]
     pub fn parse_ref(parser: &mut Parser<'a>) -> Result<ParsedName<&'a [u8]>, ParseError>
-        ensures exact { IsOk result ↔ ((ls : List (List ℕ)) × Names 255 (message parser.old) (place parser.old) ls) }
-        ensures labels { IfOk result (λ name. Names 255 (message parser.old) (place parser.old) (parsed_labels name)) }
-        ensures octets { IfOk result (λ name. parsed_octets name ≡ whole parser.old) }
-        ensures scattered { IfOk result (λ name. (is_scattered name ≡ false) ↔ LiesInOnePiece (message parser.old) (place parser.old)) }
-        ensures moves { OnOk result (MovesBehindFront parser.old parser.new) }
-        ensures plain { (ls : List (List ℕ)) → LiesPlainly parser.old ls → MatchResult result (λ name. (parsed_labels name ≡ ls) × (is_scattered name ≡ false) × (place parser.new ≡ place parser.old + length (wire ls))) (λ _. ⊥) }
-        ensures refused { IfErr result (λ e. TellsFault 255 parser.old e) }
+        ensures exact { IsOk result ↔ ((ls : List (List ℕ)) × Names 255 (message parser.old) (position parser.old) ls) }
+        ensures labels { IfOk result (λ name. Names 255 (message parser.old) (position parser.old) (parsed_labels name)) }
+        ensures octets { IfOk result (λ name. parsed_octets name ≡ slice_of parser.old) }
+        ensures is_compressed { IfOk result (λ name. (may_be_compressed name ≡ false) ↔ IsContiguous (message parser.old) (position parser.old)) }
+        ensures moves { OnOk result (MovesPastName parser.old parser.new) }
+        ensures uncompressed { (ls : List (List ℕ)) → StandsUncompressed parser.old ls → MatchResult result (λ name. (parsed_labels name ≡ ls) × (may_be_compressed name ≡ false) × (position parser.new ≡ position parser.old + length (wire ls))) (λ _. ⊥) }
+        ensures err { IfErr result (λ e. IsErrorOfName 255 parser.old e) }
         ensures unchanged { OnErr result (parser.new ≡ parser.old) }
     {
         ParsedName::parse(parser)
@@ -145,13 +145,13 @@ impl<'a> ParsedName<&'a [u8]> {
         parser: &mut Parser<'a>,
         limit: u8,
     ) -> Result<ParsedName<&'a [u8]>, ParseError>
-        ensures exact { IsOk result ↔ ((ls : List (List ℕ)) × Names limit (message parser.old) (place parser.old) ls) }
-        ensures labels { IfOk result (λ name. Names limit (message parser.old) (place parser.old) (parsed_labels name)) }
-        ensures octets { IfOk result (λ name. parsed_octets name ≡ whole parser.old) }
-        ensures scattered { IfOk result (λ name. (is_scattered name ≡ false) ↔ LiesInOnePiece (message parser.old) (place parser.old)) }
-        ensures moves { OnOk result (MovesBehindFront parser.old parser.new) }
-        ensures plain { (ls : List (List ℕ)) → LiesPlainly parser.old ls → MatchResult result (λ name. (parsed_labels name ≡ ls) × (is_scattered name ≡ false) × (place parser.new ≡ place parser.old + length (wire ls))) (λ _. ⊥) }
-        ensures refused { IfErr result (λ e. TellsFault limit parser.old e) }
+        ensures exact { IsOk result ↔ ((ls : List (List ℕ)) × Names limit (message parser.old) (position parser.old) ls) }
+        ensures labels { IfOk result (λ name. Names limit (message parser.old) (position parser.old) (parsed_labels name)) }
+        ensures octets { IfOk result (λ name. parsed_octets name ≡ slice_of parser.old) }
+        ensures is_compressed { IfOk result (λ name. (may_be_compressed name ≡ false) ↔ IsContiguous (message parser.old) (position parser.old)) }
+        ensures moves { OnOk result (MovesPastName parser.old parser.new) }
+        ensures uncompressed { (ls : List (List ℕ)) → StandsUncompressed parser.old ls → MatchResult result (λ name. (parsed_labels name ≡ ls) × (may_be_compressed name ≡ false) × (position parser.new ≡ position parser.old + length (wire ls))) (λ _. ⊥) }
+        ensures err { IfErr result (λ e. IsErrorOfName limit parser.old e) }
         ensures unchanged { OnErr result (parser.new ≡ parser.old) }
     {
         ParsedName::parse_with::<Brand>(parser, limit, Blank::new(1))
@@ -167,13 +167,13 @@ impl<'a> ParsedName<&'a [u8]> {
         requires ledger { blank.name ≡ L.name }
         requires parts { blank.parts ≡ L.parts }
         requires some { 0 < blank.parts }
-        ensures exact { IsOk result ↔ ((ls : List (List ℕ)) × Names limit (message parser.old) (place parser.old) ls) }
-        ensures labels { IfOk result (λ name. Names limit (message parser.old) (place parser.old) (parsed_labels name)) }
-        ensures octets { IfOk result (λ name. parsed_octets name ≡ whole parser.old) }
-        ensures scattered { IfOk result (λ name. (is_scattered name ≡ false) ↔ LiesInOnePiece (message parser.old) (place parser.old)) }
-        ensures moves { OnOk result (MovesBehindFront parser.old parser.new) }
-        ensures plain { (ls : List (List ℕ)) → LiesPlainly parser.old ls → MatchResult result (λ name. (parsed_labels name ≡ ls) × (is_scattered name ≡ false) × (place parser.new ≡ place parser.old + length (wire ls))) (λ _. ⊥) }
-        ensures refused { IfErr result (λ e. TellsFault limit parser.old e) }
+        ensures exact { IsOk result ↔ ((ls : List (List ℕ)) × Names limit (message parser.old) (position parser.old) ls) }
+        ensures labels { IfOk result (λ name. Names limit (message parser.old) (position parser.old) (parsed_labels name)) }
+        ensures octets { IfOk result (λ name. parsed_octets name ≡ slice_of parser.old) }
+        ensures is_compressed { IfOk result (λ name. (may_be_compressed name ≡ false) ↔ IsContiguous (message parser.old) (position parser.old)) }
+        ensures moves { OnOk result (MovesPastName parser.old parser.new) }
+        ensures uncompressed { (ls : List (List ℕ)) → StandsUncompressed parser.old ls → MatchResult result (λ name. (parsed_labels name ≡ ls) × (may_be_compressed name ≡ false) × (position parser.new ≡ position parser.old + length (wire ls))) (λ _. ⊥) }
+        ensures err { IfErr result (λ e. IsErrorOfName limit parser.old e) }
         ensures unchanged { OnErr result (parser.new ≡ parser.old) }
     {
         ParsedName::parse_counted(parser, limit, &mut Heads::<L>::new(blank))
@@ -187,21 +187,21 @@ impl<'a> ParsedName<&'a [u8]> {
         limit: u8,
         heads: &mut Heads<L>,
     ) -> Result<ParsedName<&'a [u8]>, ParseError>
-        ensures exact { IsOk result ↔ ((ls : List (List ℕ)) × Names limit (message parser.old) (place parser.old) ls) }
-        ensures labels { IfOk result (λ name. Names limit (message parser.old) (place parser.old) (parsed_labels name)) }
-        ensures octets { IfOk result (λ name. parsed_octets name ≡ whole parser.old) }
-        ensures scattered { IfOk result (λ name. (is_scattered name ≡ false) ↔ LiesInOnePiece (message parser.old) (place parser.old)) }
-        ensures moves { OnOk result (MovesBehindFront parser.old parser.new) }
-        ensures plain { (ls : List (List ℕ)) → LiesPlainly parser.old ls → MatchResult result (λ name. (parsed_labels name ≡ ls) × (is_scattered name ≡ false) × (place parser.new ≡ place parser.old + length (wire ls))) (λ _. ⊥) }
-        ensures refused { IfErr result (λ e. TellsFault limit parser.old e) }
+        ensures exact { IsOk result ↔ ((ls : List (List ℕ)) × Names limit (message parser.old) (position parser.old) ls) }
+        ensures labels { IfOk result (λ name. Names limit (message parser.old) (position parser.old) (parsed_labels name)) }
+        ensures octets { IfOk result (λ name. parsed_octets name ≡ slice_of parser.old) }
+        ensures is_compressed { IfOk result (λ name. (may_be_compressed name ≡ false) ↔ IsContiguous (message parser.old) (position parser.old)) }
+        ensures moves { OnOk result (MovesPastName parser.old parser.new) }
+        ensures uncompressed { (ls : List (List ℕ)) → StandsUncompressed parser.old ls → MatchResult result (λ name. (parsed_labels name ≡ ls) × (may_be_compressed name ≡ false) × (position parser.new ≡ position parser.old + length (wire ls))) (λ _. ⊥) }
+        ensures err { IfErr result (λ e. IsErrorOfName limit parser.old e) }
         ensures unchanged { OnErr result (parser.new ≡ parser.old) }
-        ensures counted { MatchResult result (λ name. CountsName limit (message parser.old) (place parser.old) (parsed_labels name) heads.old heads.new) (λ e. CountsFault limit (message parser.old) (place parser.old) (refusal e) heads.old heads.new) }
+        ensures counted { MatchResult result (λ name. CountsName limit (message parser.old) (position parser.old) (parsed_labels name) heads.old heads.new) (λ e. CountsFault limit (message parser.old) (position parser.old) (refusal e) heads.old heads.new) }
         ensures few_heads { heads.new ≤ heads.old + 128 + limit }
     {
         let mut places = [0; MAX_LABELS];
         let mut found = Progress::new(parser.pos());
         read_name_counted(parser.as_slice(), &mut found, &mut places, limit, heads)?;
-        let Ok(()) = parser.seek(found.place_behind()) else {
+        let Ok(()) = parser.seek(found.end_offset()) else {
             unreachable!();
         };
         Ok(ParsedName::of(parser.octets_ref(), &found, places))
@@ -219,9 +219,9 @@ impl<'a> ParsedName<&'a [u8]> {
     ///
     /// ```rust
     /// pub fn skip_question(parser: &mut Parser<'_>) -> Result<(), ParseError>
-    ///     ensures ok { OnOk result ((e : ℕ) × Skips (message parser.old) (place parser.old) e × (place parser.new ≡ e + 4)) }
-    ///     ensures err { OnErr result (((why : NameFault) × SkipFault (message parser.old) (place parser.old) why)
-    ///         ⊎ ((e : ℕ) × Skips (message parser.old) (place parser.old) e × (length (message parser.old) < e + 4))) }
+    ///     ensures ok { OnOk result ((e : ℕ) × Skips (message parser.old) (position parser.old) e × (position parser.new ≡ e + 4)) }
+    ///     ensures err { OnErr result (((why : NameFault) × SkipFault (message parser.old) (position parser.old) why)
+    ///         ⊎ ((e : ℕ) × Skips (message parser.old) (position parser.old) e × (length (message parser.old) < e + 4))) }
     /// {
     ///     ParsedName::skip(parser)?;
     ///     parser.advance(4)?;
@@ -230,12 +230,12 @@ impl<'a> ParsedName<&'a [u8]> {
     /// ```
     #[inline(always)]
     pub fn skip(parser: &mut Parser<'a>) -> Result<(), ParseError>
-        ensures exact { IsOk result ↔ ((e : ℕ) × Skips (message parser.old) (place parser.old) e) }
-        ensures moves { OnOk result (SkipsFront parser.old parser.new) }
-        ensures refused { IfErr result (λ e. TellsSkipFault parser.old e) }
+        ensures exact { IsOk result ↔ ((e : ℕ) × Skips (message parser.old) (position parser.old) e) }
+        ensures moves { OnOk result (SkipsName parser.old parser.new) }
+        ensures err { IfErr result (λ e. IsErrorOfSkip parser.old e) }
         ensures unchanged { OnErr result (parser.new ≡ parser.old) }
     {
-        let end = front_end(parser.as_slice(), parser.pos())?;
+        let end = encoding_end(parser.as_slice(), parser.pos())?;
         let Ok(()) = parser.seek(end) else {
             unreachable!();
         };
@@ -244,10 +244,10 @@ impl<'a> ParsedName<&'a [u8]> {
 }
 
 impl<Octs: Octets> ParsedName<Octs> {
-    ghost use Rattle.domain_parsed.specs.Views.{parsed_octets, parsed_labels, is_scattered, labels_left, suffixes, suffixes_left};
+    ghost use Rattle.domain_parsed.specs.ParsedNames.{parsed_octets, parsed_labels, may_be_compressed, labels_left, suffixes, suffixes_left};
     ghost use Rattle.domain_name.specs.Names.{relative_labels};
-    ghost use Rattle.domain_parsed.specs.Splitting.{SplitsFirst, PassesFirst};
-    ghost use Rattle.domain_reading.specs.Outcomes.{Holds};
+    ghost use Rattle.domain_parsed.specs.Splitting.{SplitsFirst, DropsFirst};
+    ghost use Rattle.domain_reading.specs.ParseResult.{Holds};
     ghost use Rattle.domain_parsed.specs.contracts.parsed.ParsedName.{the_row};
     ghost use Rattle.std.specs.Borrow.{follows_so, sem};
     ghost use mathlib.Core.Option.{none};
@@ -257,8 +257,8 @@ impl<Octs: Octets> ParsedName<Octs> {
     fn of(octets: Octs, found: &Progress, places: [u16; MAX_LABELS]) -> Self
         requires { Holds (Octs.octets octets) found.now places }
         ensures octets { parsed_octets result ≡ Octs.octets octets }
-        ensures labels { parsed_labels result ≡ placed_labels (Octs.octets octets) found.now.base (slice_range places 0 found.now.count) }
-        ensures scattered { is_scattered result ≡ found.now.compressed }
+        ensures labels { parsed_labels result ≡ labels_at_entries (Octs.octets octets) found.now.base (slice_range places 0 found.now.count) }
+        ensures is_compressed { may_be_compressed result ≡ found.now.compressed }
     {
         ParsedName {
             octets,
@@ -274,7 +274,7 @@ impl<Octs: Octets> ParsedName<Octs> {
 
     /// Whether a pointer may follow the first label. False means that the name lies in one piece.
     pub fn is_compressed(&self) -> bool
-        ensures { result ≡ is_scattered self.now }
+        ensures { result ≡ may_be_compressed self.now }
     {
         self.compressed
     }
@@ -290,7 +290,7 @@ impl<Octs: Octets> ParsedName<Octs> {
     pub fn ref_octets(&self) -> ParsedName<&Octs>
         ensures octets { parsed_octets result ≡ parsed_octets self.now }
         ensures labels { parsed_labels result ≡ parsed_labels self.now }
-        ensures scattered { is_scattered result ≡ is_scattered self.now }
+        ensures is_compressed { may_be_compressed result ≡ may_be_compressed self.now }
     {
         ParsedName {
             octets: &self.octets,
@@ -309,7 +309,7 @@ impl<Octs: Octets> ParsedName<Octs> {
     pub(crate) fn for_slice(&self) -> ParsedName<&[u8]>
         ensures octets { parsed_octets result ≡ parsed_octets self.now }
         ensures labels { parsed_labels result ≡ parsed_labels self.now }
-        ensures scattered { is_scattered result ≡ is_scattered self.now }
+        ensures is_compressed { may_be_compressed result ≡ may_be_compressed self.now }
     {
         ParsedName {
             octets: self.octets.as_slice(),
@@ -349,7 +349,7 @@ impl<Octs: Octets> ParsedName<Octs> {
     /// The name, then the name without its first label, and so on down to the root.
     #[inline(always)]
     pub fn iter_suffixes(&self) -> ParsedSuffixIter<'_>
-        ensures { suffixes_left result ≡ suffixes (parsed_octets self.now) (is_scattered self.now) (parsed_labels self.now) }
+        ensures { suffixes_left result ≡ suffixes (parsed_octets self.now) (may_be_compressed self.now) (parsed_labels self.now) }
     {
         ParsedSuffixIter::new(self.for_slice())
     }
@@ -389,9 +389,9 @@ impl<Octs: Octets> ParsedName<Octs> {
         ensures labels { MatchBool result ((l : List ℕ) × (parsed_labels self.old ≡ l ∷ parsed_labels self.new)) ((self.new ≡ self.old) × (parsed_labels self.old ≡ Root)) }
         ensures more { IsTrue result → 1 < length (parsed_labels self.old) }
         ensures octets { parsed_octets self.new ≡ parsed_octets self.old }
-        ensures scattered { is_scattered self.new ≡ is_scattered self.old }
+        ensures is_compressed { may_be_compressed self.new ≡ may_be_compressed self.old }
     {
-        self.pass_first().is_some()
+        self.drop_first_label().is_some()
     }
 
     /// Takes the first label off, and gives it as a relative name. `None` for the root, which stays as
@@ -403,7 +403,7 @@ impl<Octs: Octets> ParsedName<Octs> {
         ensures some { IfSome result (λ first. (l : List ℕ) × (rest : List (List ℕ)) × (relative_labels first ≡ l ∷ []) × (parsed_labels self.old ≡ l ∷ rest)) }
         ensures* after { sem 𝓛 (follows_so (the_row Octs.row Octs.Octets) (the_row Octs.row Octs.Octets) self.entry.ghost_name none (λ _ _. ⊤) (λ new. SplitsFirst self.old result new)) }
     {
-        let Range { start, end } = self.pass_first()?;
+        let Range { start, end } = self.drop_first_label()?;
         let Ok(first) = RelativeName::from_slice(&self.octets.as_slice()[start..end]) else {
             unreachable!();
         };
@@ -413,20 +413,20 @@ impl<Octs: Octets> ParsedName<Octs> {
     /// Leaves out the first label, and tells where it stands with its length octet. `None` for the
     /// root, which stays as it is.
     #[inline(always)]
-    fn pass_first(&mut self) -> Option<Range<usize>>
-        ensures some { IfSome result (λ range. PassesFirst self.old range self.new) }
+    fn drop_first_label(&mut self) -> Option<Range<usize>>
+        ensures some { IfSome result (λ range. DropsFirst self.old range self.new) }
         ensures none { IsNone result ↔ (parsed_labels self.old ≡ Root) }
-        ensures root { IsNone result → self.new ≡ self.old }
+        ensures unchanged { IsNone result → self.new ≡ self.old }
         ensures more { IsSome result → 1 < length (parsed_labels self.old) }
         ensures octets { parsed_octets self.new ≡ parsed_octets self.old }
-        ensures scattered { is_scattered self.new ≡ is_scattered self.old }
+        ensures is_compressed { may_be_compressed self.new ≡ may_be_compressed self.old }
     {
         if self.is_root() {
             return None;
         }
         let octets = self.octets.as_slice();
-        let start = place_of(self.base, self.places[usize::from(self.dropped)]);
-        let len = standing_label(octets, start).len() as u16 + 1;
+        let start = entry_offset(self.base, self.places[usize::from(self.dropped)]);
+        let len = label_at_offset(octets, start).len() as u16 + 1;
         self.dropped += 1;
         self.passed += len;
         self.name_len -= len;
@@ -444,7 +444,7 @@ impl<Octs: Octets> ParsedName<Octs> {
     /// The octets of a name that lies in one piece.
     pub(crate) fn flat_octets(&self) -> Option<&[u8]>
         ensures octets { IfSome result (λ octets. octets.now ≡ wire (parsed_labels self.now)) }
-        ensures none { IsNone result ↔ (is_scattered self.now ≡ true) }
+        ensures none { IsNone result ↔ (may_be_compressed self.now ≡ true) }
     {
         if self.compressed {
             return None;
@@ -457,13 +457,13 @@ impl<Octs: Octets> ParsedName<Octs> {
 }
 
 impl<'a, Octs: Octets> ParsedName<&'a Octs> {
-    ghost use Rattle.domain_parsed.specs.Views.{parsed_octets, parsed_labels, is_scattered};
+    ghost use Rattle.domain_parsed.specs.ParsedNames.{parsed_octets, parsed_labels, may_be_compressed};
 
     /// The same name over the octets as a slice.
     pub fn deref_octets(&self) -> ParsedName<&'a [u8]>
         ensures octets { parsed_octets result ≡ parsed_octets self.now }
         ensures labels { parsed_labels result ≡ parsed_labels self.now }
-        ensures scattered { is_scattered result ≡ is_scattered self.now }
+        ensures is_compressed { may_be_compressed result ≡ may_be_compressed self.now }
     {
         let octets: &'a Octs = self.octets;
         ParsedName {
@@ -482,9 +482,9 @@ impl<'a, Octs: Octets> ParsedName<&'a Octs> {
 /// A flat name is a name in a message that has no other octets.
 impl<Octs: Octets> From<Name<Octs>> for ParsedName<Octs> {
     ghost use Rattle.domain_name.specs.Names.{name_octets, name_labels};
-    ghost use Rattle.domain_parsed.specs.Views.{parsed_octets, parsed_labels, is_scattered};
+    ghost use Rattle.domain_parsed.specs.ParsedNames.{parsed_octets, parsed_labels, may_be_compressed};
 
-    ghost from_gives = { λ flat name. (parsed_octets name ≡ name_octets flat) × (parsed_labels name ≡ name_labels flat) × (is_scattered name ≡ false) };
+    ghost from_gives = { λ flat name. (parsed_octets name ≡ name_octets flat) × (parsed_labels name ≡ name_labels flat) × (may_be_compressed name ≡ false) };
 
     fn from(flat: Name<Octs>) -> ParsedName<Octs> {
         let mut places = [0; MAX_LABELS];
@@ -494,12 +494,12 @@ impl<Octs: Octets> From<Name<Octs>> for ParsedName<Octs> {
 }
 
 impl ParsedName<Vec<u8>> {
-    ghost use Rattle.domain_parsed.specs.Views.{seen};
+    ghost use Rattle.domain_parsed.specs.ParsedNames.{parsed_model};
 
     /// The same name over new octets, a copy of the whole message. `ShortBuf` only where memory was
     /// refused.
     pub fn clone(&self, alloc: Global) -> Result<ParsedName<Vec<u8>>, ShortBuf>
-        ensures { IfOk result (λ name. seen name ≡ seen self.now) }
+        ensures { IfOk result (λ name. parsed_model name ≡ parsed_model self.now) }
     {
         let octets = Vec::try_octets_from(alloc, self.octets.as_slice())?;
         Ok(ParsedName {
@@ -516,11 +516,11 @@ impl ParsedName<Vec<u8>> {
 }
 
 impl<const N: usize> ParsedName<ArrayVec<u8, N>> {
-    ghost use Rattle.domain_parsed.specs.Views.{seen};
+    ghost use Rattle.domain_parsed.specs.ParsedNames.{parsed_model};
 
     /// The same name over new octets, a copy of the whole message, which is never refused.
     pub fn clone(&self, alloc: Global) -> Result<ParsedName<ArrayVec<u8, N>>, ShortBuf>
-        ensures ok { IfOk result (λ name. seen name ≡ seen self.now) }
+        ensures ok { IfOk result (λ name. parsed_model name ≡ parsed_model self.now) }
         ensures made { IsOk result }
     {
         let octets = ArrayVec::try_octets_from(alloc, self.octets.as_slice())?;

@@ -12,12 +12,12 @@ pub struct ParsedSuffixIter<'a> {
 }
 
 impl<'a> ParsedSuffixIter<'a> {
-    ghost use Rattle.domain_parsed.specs.Views.{parsed_octets, parsed_labels, is_scattered, suffixes, suffixes_left};
+    ghost use Rattle.domain_parsed.specs.ParsedNames.{parsed_octets, parsed_labels, may_be_compressed, suffixes, suffixes_left};
 
     /// The suffixes of a name.
     #[inline(always)]
     pub(crate) fn new(name: ParsedName<&'a [u8]>) -> Self
-        ensures { suffixes_left result ≡ suffixes (parsed_octets name.entry) (is_scattered name.entry) (parsed_labels name.entry) }
+        ensures { suffixes_left result ≡ suffixes (parsed_octets name.entry) (may_be_compressed name.entry) (parsed_labels name.entry) }
     {
         ParsedSuffixIter { name, ended: false }
     }
@@ -25,11 +25,11 @@ impl<'a> ParsedSuffixIter<'a> {
 
 impl<'a> Iterator for ParsedSuffixIter<'a> {
     ghost use Rattle.std.specs.Iterator.{YieldsFirstBy, item_count};
-    ghost use Rattle.domain_parsed.specs.Views.{suffixes_left, seen};
+    ghost use Rattle.domain_parsed.specs.ParsedNames.{suffixes_left, parsed_model};
 
     type Item = ParsedName<&'a [u8]>;
 
-    ghost next_gives = { YieldsFirstBy seen suffixes_left };
+    ghost next_gives = { YieldsFirstBy parsed_model suffixes_left };
 
     ghost remaining = { item_count suffixes_left };
 

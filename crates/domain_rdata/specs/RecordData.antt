@@ -6,7 +6,7 @@ use Rattle.domain_rdata.specs.declared.record_data.ComposeRdataError.TheVariants
 use Rattle.domain_label.specs.Wire.{wire}
 use Rattle.domain_rdata.specs.ReadBack.{ReadsBack}
 
--- The octets of a name behind t: those of the wire form, and where names may be written shorter, any that
+-- The octets of a name behind t: those of the wire format, and where names may be written shorter, any that
 -- are read back as an equal name and are no more.
 pub record NameOctets (ls : List (List ℕ)) (compresses : Bool) (t s : List ℕ) : Type 0 where
   pub read : ReadsBack t ls s

@@ -4,6 +4,7 @@ use Rattle.std.proofs.Common.{arith, ap, sym, ◌∙◌}
 use Rattle.domain_wire.specs.Values.{IsReading}
 use Rattle.domain_rdata.specs.AnyData.{IsAllThatIsLeft, TooMuchIsLeft}
 
+-- At each offset either all that is left is the data, or it is too much, never both.
 pub all_that_is_left : IsReading IsAllThatIsLeft TooMuchIsLeft
 all_that_is_left = record {
   inside = λ m p seen e at. let i = at.inside in let b = at.behind in (omega arith, omega arith);

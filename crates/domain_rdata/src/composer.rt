@@ -9,7 +9,7 @@ use domain_list::AbsoluteLabels;
 use domain_list::composing::compose_labels;
 use octseq::{OctetsBuilder, OctetsMut};
 
-/// The wire form of a name, put together on the stack.
+/// The wire format of a name, put together on the stack.
 fn wire_octets<'a, N: AbsoluteLabels<'a>>(name: &'a N) -> ArrayVec<u8, 255>
     ensures { result.items ≡ wire (N.labels name.now) }
 {
@@ -20,13 +20,13 @@ fn wire_octets<'a, N: AbsoluteLabels<'a>>(name: &'a N) -> ArrayVec<u8, 255>
     octets
 }
 
-/// What a message is composed into. It may write a name shorter than its wire form, by a pointer to where
+/// What a message is composed into. It may write a name shorter than its wire format, by a pointer to where
 /// an equal name was written before (RFC 1035, 4.1.4).
 pub trait Composer: OctetsBuilder + OctetsMut {
     /// The octets that may be appended for the labels of an absolute name, given what was composed.
     ghost may_append: { Self → List (List ℕ) → List ℕ → Type 0 };
 
-    /// Whether names may be written shorter than their wire form. Where it is true they needn't be.
+    /// Whether names may be written shorter than their wire format. Where it is true they needn't be.
     ghost compresses: { Bool };
 
     /// What the composer remembers of the names that it wrote, where octets alone don't tell.
@@ -41,7 +41,7 @@ pub trait Composer: OctetsBuilder + OctetsMut {
     /// octets that may be appended came to its own. What else it tells is the composer's own affair.
     ghost appends: { Self → List (List ℕ) → Self → Type 0 };
 
-    /// Appends octets that may be appended for the name whose wire form is given, or nothing.
+    /// Appends octets that may be appended for the name whose wire format is given, or nothing.
     ///
     /// It is refused only where such octets exceed the spare capacity, and the octets, and what is
     /// remembered, are then as before.
@@ -49,12 +49,12 @@ pub trait Composer: OctetsBuilder + OctetsMut {
         requires { IsAbsoluteWire name.now }
         ensures ok { OnOk result (Appended (may_append self.old (labels_in name.now)) (Self.octets self.old) (Self.octets self.new)) }
         ensures appends { OnOk result (appends self.old (labels_in name.now) self.new) }
-        ensures err { OnErr result (Self.octets self.new ≡ Self.octets self.old) }
-        ensures kept { OnErr result (memory self.new ≡ memory self.old) }
+        ensures unchanged { OnErr result (Self.octets self.new ≡ Self.octets self.old) }
+        ensures memory_unchanged { OnErr result (memory self.new ≡ memory self.old) }
         ensures full { OnErr result (Exceeds (may_append self.old (labels_in name.now)) (Self.octets self.old) (Self.capacity self.old)) }
         ensures capacity { Self.capacity self.old ≤ Self.capacity self.new };
 
-    /// Whether names may be written shorter than their wire form.
+    /// Whether names may be written shorter than their wire format.
     fn can_compress(&self) -> bool
         ensures { result ≡ compresses };
 
@@ -68,8 +68,8 @@ pub trait Composer: OctetsBuilder + OctetsMut {
     ) -> Result<(), Self::AppendError>
         ensures ok { OnOk result (Appended (may_append self.old (N.labels name.now)) (Self.octets self.old) (Self.octets self.new)) }
         ensures appends { OnOk result (appends self.old (N.labels name.now) self.new) }
-        ensures err { OnErr result (Self.octets self.new ≡ Self.octets self.old) }
-        ensures kept { OnErr result (memory self.new ≡ memory self.old) }
+        ensures unchanged { OnErr result (Self.octets self.new ≡ Self.octets self.old) }
+        ensures memory_unchanged { OnErr result (memory self.new ≡ memory self.old) }
         ensures full { OnErr result (Exceeds (may_append self.old (N.labels name.now)) (Self.octets self.old) (Self.capacity self.old)) }
         ensures capacity { Self.capacity self.old ≤ Self.capacity self.new }
     {
@@ -85,7 +85,7 @@ pub trait Composer: OctetsBuilder + OctetsMut {
     /// What may be appended is read as an equal name.
     ghost reads_back: { (c : Self) (ls : List (List ℕ)) (s : List ℕ) → IsAbsoluteName ls → may_append c ls s → ReadsBack (Self.octets c) ls s };
 
-    /// Without compression it is the wire form.
+    /// Without compression it is the wire format.
     ghost flat: { (c : Self) (ls : List (List ℕ)) (s : List ℕ) → compresses ≡ false → may_append c ls s → s ≡ wire ls };
 }
 

@@ -1,6 +1,6 @@
 //! What record data is read and composed by (RFC 1035, 3.2.1).
 ghost use Rattle.std.specs.Prelude.{◌≡◌, ℕ, ◌++◌, ◌+◌, ◌<◌, ◌≤◌, List, length, take, drop, ◌↔◌, OnOk, OnErr, IfSome, IfOk, IfErr, IsNone, Bool, false, Some};
-ghost use Rattle.octseq.specs.Parsing.{message, place, MovesTo};
+ghost use Rattle.octseq.specs.Parsing.{message, position, MovesTo};
 ghost use Rattle.domain_wire.specs.Values.{IsReading};
 ghost use Rattle.domain_wire.specs.declared.error.ParseError.{ParseError};
 ghost use Rattle.std.specs.Int.{w16, to_be_bytes};
@@ -95,7 +95,7 @@ pub trait ComposeRecordData: RecordData {
         target: &mut Target,
     ) -> Result<(), Target::AppendError>
         ensures ok { OnOk result (Appended (composed self.now Target.compresses (Target.octets target.old)) (Target.octets target.old) (Target.octets target.new)) }
-        ensures err { OnErr result (Target.octets target.new ≡ Target.octets target.old) }
+        ensures unchanged { OnErr result (Target.octets target.new ≡ Target.octets target.old) }
         ensures full { OnErr result (Exceeds (composed self.now Target.compresses (Target.octets target.old)) (Target.octets target.old) (Target.capacity target.old)) }
         ensures capacity { Target.capacity target.old ≤ Target.capacity target.new };
 
@@ -108,7 +108,7 @@ pub trait ComposeRecordData: RecordData {
         target: &mut Target,
     ) -> Result<(), Target::AppendError>
         ensures ok { OnOk result (Target.octets target.new ≡ Target.octets target.old ++ canonical self.now) }
-        ensures err { OnErr result (Target.octets target.new ≡ Target.octets target.old) }
+        ensures unchanged { OnErr result (Target.octets target.new ≡ Target.octets target.old) }
         ensures full { OnErr result (Target.capacity target.old < length (Target.octets target.old) + length (canonical self.now)) }
         ensures capacity { Target.capacity target.old ≤ Target.capacity target.new };
 
@@ -121,7 +121,7 @@ pub trait ComposeRecordData: RecordData {
         target: &mut Target,
     ) -> Result<(), ComposeRdataError<Target::AppendError>>
         ensures ok { OnOk result (LengthAndData (composed self.now Target.compresses) (Target.octets target.old) (Target.octets target.new)) }
-        ensures err { OnErr result (Target.octets target.new ≡ Target.octets target.old) }
+        ensures unchanged { OnErr result (Target.octets target.new ≡ Target.octets target.old) }
         ensures why { IfErr result (λ e. ComposeRefused (composed self.now Target.compresses) (Target.octets target.old) (Target.capacity target.old) e) }
         ensures capacity { Target.capacity target.old ≤ Target.capacity target.new }
     {
@@ -143,7 +143,7 @@ pub trait ComposeRecordData: RecordData {
         target: &mut Target,
     ) -> Result<(), ComposeRdataError<Target::AppendError>>
         ensures ok { OnOk result (LengthAndCanonical (canonical self.now) (Target.octets target.old) (Target.octets target.new)) }
-        ensures err { OnErr result (Target.octets target.new ≡ Target.octets target.old) }
+        ensures unchanged { OnErr result (Target.octets target.new ≡ Target.octets target.old) }
         ensures why { IfErr result (λ e. CanonicalRefused (canonical self.now) (Target.octets target.old) (Target.capacity target.old) e) }
         ensures capacity { Target.capacity target.old ≤ Target.capacity target.new }
     {
@@ -187,7 +187,7 @@ fn compose_behind<Data: ComposeRecordData, Target: Composer>(
     len: u16,
 ) -> Result<usize, Target::AppendError>
     ensures ok { IfOk result (λ n. Behind (Data.composed rdata.now Target.compresses) (Target.octets target.old) len n (Target.octets target.new)) }
-    ensures err { OnErr result (Target.octets target.new ≡ Target.octets target.old) }
+    ensures unchanged { OnErr result (Target.octets target.new ≡ Target.octets target.old) }
     ensures full { OnErr result (ExceedsWithLength (Data.composed rdata.now Target.compresses) (Target.octets target.old) (Target.capacity target.old)) }
     ensures capacity { Target.capacity target.old ≤ Target.capacity target.new }
 {
@@ -212,7 +212,7 @@ fn compose_measured<Data: ComposeRecordData, Target: Composer>(
     target: &mut Target,
 ) -> Result<(), ComposeRdataError<Target::AppendError>>
     ensures ok { OnOk result (LengthAndData (Data.composed rdata.now Target.compresses) (Target.octets target.old) (Target.octets target.new)) }
-    ensures err { OnErr result (Target.octets target.new ≡ Target.octets target.old) }
+    ensures unchanged { OnErr result (Target.octets target.new ≡ Target.octets target.old) }
     ensures why { IfErr result (λ e. ComposeRefused (Data.composed rdata.now Target.compresses) (Target.octets target.old) (Target.capacity target.old) e) }
     ensures capacity { Target.capacity target.old ≤ Target.capacity target.new }
 {
@@ -249,7 +249,7 @@ fn compose_flat<Data: ComposeRecordData, Target: Composer>(
     target: &mut Target,
 ) -> Result<(), ComposeRdataError<Target::AppendError>>
     ensures ok { OnOk result (LengthAndData (Data.composed rdata.now Target.compresses) (Target.octets target.old) (Target.octets target.new)) }
-    ensures err { OnErr result (Target.octets target.new ≡ Target.octets target.old) }
+    ensures unchanged { OnErr result (Target.octets target.new ≡ Target.octets target.old) }
     ensures why { IfErr result (λ e. ComposeRefused (Data.composed rdata.now Target.compresses) (Target.octets target.old) (Target.capacity target.old) e) }
     ensures capacity { Target.capacity target.old ≤ Target.capacity target.new }
 {
@@ -312,33 +312,33 @@ pub trait ParseRecordData<'a>: RecordData + Sized {
     ghost View: { Type 0 };
 
     /// What contracts see of this data.
-    ghost seen: { Self → View };
+    ghost model: { Self → View };
 
     /// Whether records of the type with this number have such data.
     ghost reads_type: { ℕ → Bool };
 
     /// Data of this type that is seen so stands in the octets at the first place, and the second place
     /// is behind it.
-    ghost stands: { ℕ → List ℕ → ℕ → View → ℕ → Type 0 };
+    ghost encodes: { ℕ → List ℕ → ℕ → View → ℕ → Type 0 };
 
     /// No data of this type stands in the octets at the place, and the error tells why.
-    ghost fails: { ℕ → List ℕ → ℕ → ParseError → Type 0 };
+    ghost fails_with: { ℕ → List ℕ → ℕ → ParseError → Type 0 };
 
     /// Reads data from the place of the parser on, to its end, and moves the parser behind it.
     ///
     /// `None` exactly where records of this type have other data. `None` and a refusal leave the parser
     /// where it stood.
     fn parse_rdata(rtype: Rtype, parser: &mut Parser<'a>) -> Result<Option<Self>, ParseError>
-        ensures ok { IfOk result (λ read. IfSome read (λ it. stands (rtype_number rtype) (message parser.old) (place parser.old) (seen it) (place parser.new))) }
+        ensures ok { IfOk result (λ read. IfSome read (λ it. encodes (rtype_number rtype) (message parser.old) (position parser.old) (model it) (position parser.new))) }
         ensures of_type { IfOk result (λ read. IfSome read (λ it. Self.type_number it ≡ rtype_number rtype)) }
         ensures none { IfOk result (λ read. IsNone read ↔ (reads_type (rtype_number rtype) ≡ false)) }
         ensures passed { IfOk result (λ read. IsNone read → parser.new ≡ parser.old) }
-        ensures moves { OnOk result (MovesTo parser.old parser.new (place parser.new)) }
-        ensures refused { IfErr result (λ e. fails (rtype_number rtype) (message parser.old) (place parser.old) e) }
-        ensures err { OnErr result (parser.new ≡ parser.old) };
+        ensures moves { OnOk result (MovesTo parser.old parser.new (position parser.new)) }
+        ensures err { IfErr result (λ e. fails_with (rtype_number rtype) (message parser.old) (position parser.old) e) }
+        ensures unchanged { OnErr result (parser.new ≡ parser.old) };
 
     /// At each place stands one value or one fault is told, and never both.
-    ghost lawful: { (rtype : ℕ) → IsReading (stands rtype) (fails rtype) };
+    ghost lawful: { (rtype : ℕ) → IsReading (encodes rtype) (fails_with rtype) };
 }
 
 /// Record data that is read from a message whatever its type.
@@ -348,25 +348,25 @@ pub trait ParseAnyRecordData<'a>: RecordData + Sized {
     ghost View: { Type 0 };
 
     /// What contracts see of this data.
-    ghost seen: { Self → View };
+    ghost model: { Self → View };
 
     /// Data of this type that is seen so stands in the octets at the first place, and the second place
     /// is behind it.
-    ghost stands: { ℕ → List ℕ → ℕ → View → ℕ → Type 0 };
+    ghost encodes: { ℕ → List ℕ → ℕ → View → ℕ → Type 0 };
 
     /// No data of this type stands in the octets at the place, and the error tells why.
-    ghost fails: { ℕ → List ℕ → ℕ → ParseError → Type 0 };
+    ghost fails_with: { ℕ → List ℕ → ℕ → ParseError → Type 0 };
 
     /// Reads data from the place of the parser on, to its end, and moves the parser behind it.
     ///
     /// A refusal leaves the parser where it stood.
     fn parse_any_rdata(rtype: Rtype, parser: &mut Parser<'a>) -> Result<Self, ParseError>
-        ensures ok { IfOk result (λ it. stands (rtype_number rtype) (message parser.old) (place parser.old) (seen it) (place parser.new)) }
+        ensures ok { IfOk result (λ it. encodes (rtype_number rtype) (message parser.old) (position parser.old) (model it) (position parser.new)) }
         ensures of_type { IfOk result (λ it. Self.type_number it ≡ rtype_number rtype) }
-        ensures moves { OnOk result (MovesTo parser.old parser.new (place parser.new)) }
-        ensures refused { IfErr result (λ e. fails (rtype_number rtype) (message parser.old) (place parser.old) e) }
-        ensures err { OnErr result (parser.new ≡ parser.old) };
+        ensures moves { OnOk result (MovesTo parser.old parser.new (position parser.new)) }
+        ensures err { IfErr result (λ e. fails_with (rtype_number rtype) (message parser.old) (position parser.old) e) }
+        ensures unchanged { OnErr result (parser.new ≡ parser.old) };
 
     /// At each place stands one value or one fault is told, and never both.
-    ghost lawful: { (rtype : ℕ) → IsReading (stands rtype) (fails rtype) };
+    ghost lawful: { (rtype : ℕ) → IsReading (encodes rtype) (fails_with rtype) };
 }

@@ -17,7 +17,7 @@ use crate::long::LongRecordData;
 use crate::record_data::{ComposeRecordData, ParseAnyRecordData, ParseRecordData, RecordData};
 use crate::rtype::Rtype;
 use arrayvec::ArrayVec;
-use domain_label::hex::hex_digit;
+use domain_label::hex::hex_character;
 use domain_wire::{CanonicalOrd, ParseError};
 use octseq::{Octets, OctetsFrom, Parser, SameOctets, ShortBuf};
 use std::alloc::{AllocError, Global};
@@ -191,7 +191,7 @@ impl<'a> UnknownRecordData<&'a [u8]> {
         ensures moves { OnOk result (MovesTo parser.old parser.new (length (message parser.old))) }
         ensures long { IsErr result ↔ (65535 < length (left parser.old)) }
         ensures told { IfErr result (λ e. refusal e ≡ form (codes "record data too long")) }
-        ensures err { OnErr result (parser.new ≡ parser.old) }
+        ensures unchanged { OnErr result (parser.new ≡ parser.old) }
     {
         let read = UnknownRecordData::from_octets(rtype, parser.peek_all())?;
         let Ok(()) = parser.advance(parser.remaining()) else {
@@ -207,13 +207,13 @@ impl<'a> ParseRecordData<'a> for UnknownRecordData<&'a [u8]> {
 
     ghost View = { List ℕ };
 
-    ghost seen = { data_octets };
+    ghost model = { data_octets };
 
     ghost reads_type = { λ _. true };
 
-    ghost stands = { λ _. IsAllThatIsLeft };
+    ghost encodes = { λ _. IsAllThatIsLeft };
 
-    ghost fails = { λ _. TooMuchIsLeft };
+    ghost fails_with = { λ _. TooMuchIsLeft };
 
     fn parse_rdata(
         rtype: Rtype,
@@ -231,11 +231,11 @@ impl<'a> ParseAnyRecordData<'a> for UnknownRecordData<&'a [u8]> {
 
     ghost View = { List ℕ };
 
-    ghost seen = { data_octets };
+    ghost model = { data_octets };
 
-    ghost stands = { λ _. IsAllThatIsLeft };
+    ghost encodes = { λ _. IsAllThatIsLeft };
 
-    ghost fails = { λ _. TooMuchIsLeft };
+    ghost fails_with = { λ _. TooMuchIsLeft };
 
     fn parse_any_rdata(
         rtype: Rtype,
@@ -297,7 +297,7 @@ impl<Octs: Octets> PartialOrd for UnknownRecordData<Octs> {
 impl<Octs: Octets> CanonicalOrd for UnknownRecordData<Octs> {
     ghost use Rattle.domain_rdata.specs.Unknown.{data_octets};
 
-    ghost canonical_order = { on data_octets (slice_cmp nat_cmp) };
+    ghost value_order = { on data_octets (slice_cmp nat_cmp) };
 
     ghost total = { Prim.search (comparing, rules) };
 
@@ -352,8 +352,8 @@ impl fmt::Display for Spaced {
     ghost output = { λ it. Some (spaced_octet it.0) };
 
     fn fmt<W: fmt::Write>(&self, f: &mut fmt::Formatter<W>) -> fmt::Result {
-        let high = hex_digit(self.0 / 16);
-        let low = hex_digit(self.0 % 16);
+        let high = hex_character(self.0 / 16);
+        let low = hex_character(self.0 % 16);
         write!(f, " {high}{low}")
     }
 }

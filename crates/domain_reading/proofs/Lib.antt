@@ -1,10 +1,10 @@
 pub mod Reading
 pub mod Touching
-pub mod Walking
-pub mod Fronts
-pub mod Naming
-pub mod Places
-pub mod Going
-pub mod Done
+pub mod NameOrFault
+pub mod OneEncoding
+pub mod LabelsAt
+pub mod LabelsOfTable
+pub mod WhileReading
+pub mod AfterRoot
 pub mod Skipping
-pub mod Plain
+pub mod UncompressedIsRead

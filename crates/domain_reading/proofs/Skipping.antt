@@ -8,8 +8,8 @@ use Rattle.domain_reading.specs.Faults.{Skips, SkipFault, SkipFaultAt}
 use Rattle.domain_reading.specs.declared.fault.NameFault.{NameFault}
 use Rattle.domain_reading.specs.declared.fault.NameFault.TheVariants.{ShortInput, BadLabelType, TooManyPointers, LongName}
 use Rattle.domain_label.proofs.WireLaws.{length-wire_append}
-use Rattle.domain_reading.proofs.Walking.{head_at, is_root, is_label, is_pointer, is_cut, is_bad, slice_length, label_from_slice, pointer_at}
-use Rattle.domain_reading.proofs.Going.{flat_label}
+use Rattle.domain_reading.proofs.NameOrFault.{head_at, is_root, is_label, is_pointer, is_cut, is_bad, slice_length, label_from_slice, pointer_at}
+use Rattle.domain_reading.proofs.WhileReading.{flat_label}
 use Rattle.std.proofs.lemmas.Bool.{cases_lt}
 
 pub record Skipping (m : List ℕ) (p at len : ℕ) : Type 0 where

@@ -2,45 +2,45 @@
 use Rattle.std.specs.Prelude.{◌≡◌, ℕ, suc, ◌+◌, ◌≤◌, ◌<◌, ◌⊎◌, List, [], ◌∷◌, ◌++◌, length, slice_index, codes}
 use Rattle.domain_wire.specs.Refusals.{Refusal, short_input, form}
 use Rattle.domain_label.specs.Wire.{wire}
-use Rattle.domain_reading.specs.Grammar.{OctetAt, LabelAt, PointerAt, Flat, Front, Stop, root, pointer}
+use Rattle.domain_reading.specs.Grammar.{OctetAt, LabelAt, PointerAt, Flat, Encoding, Stop, root, pointer}
 use Rattle.domain_reading.specs.declared.fault.NameFault.{NameFault}
 use Rattle.domain_reading.specs.declared.fault.NameFault.TheVariants.{ShortInput, BadLabelType, TooManyPointers, LongName}
 
 -- How a fault is told.
-abbrev pub told : NameFault → Refusal
-told ShortInput = short_input
-told BadLabelType = form (codes "invalid label type")
-told TooManyPointers = form (codes "too many compression pointers")
-told LongName = form (codes "long domain name")
+abbrev pub error_of : NameFault → Refusal
+error_of ShortInput = short_input
+error_of BadLabelType = form (codes "invalid label type")
+error_of TooManyPointers = form (codes "too many compression pointers")
+error_of LongName = form (codes "long domain name")
 
 -- A walk from p has passed the labels fs and k pointers, of n that may be, and its next head stands at r.
-pub data Walk (n : ℕ) (m : List ℕ) (p : ℕ) : ℕ → List (List ℕ) → ℕ → Type 0 where
-  start : Walk n m p 0 [] p
-  past_label : {k r : ℕ} {fs : List (List ℕ)} {l : List ℕ} → Walk n m p k fs r → LabelAt m r l → length (wire fs) + 1 + length l ≤ 254 → Walk n m p k (fs ++ l ∷ []) (r + 1 + length l)
-  past_pointer : {k r q : ℕ} {fs : List (List ℕ)} → Walk n m p k fs r → PointerAt m r q → q < r → k < n → Walk n m p (suc k) fs q
+pub data Followed (n : ℕ) (m : List ℕ) (p : ℕ) : ℕ → List (List ℕ) → ℕ → Type 0 where
+  start : Followed n m p 0 [] p
+  past_label : {k r : ℕ} {fs : List (List ℕ)} {l : List ℕ} → Followed n m p k fs r → LabelAt m r l → length (wire fs) + 1 + length l ≤ 254 → Followed n m p k (fs ++ l ∷ []) (r + 1 + length l)
+  past_pointer : {k r q : ℕ} {fs : List (List ℕ)} → Followed n m p k fs r → PointerAt m r q → q < r → k < n → Followed n m p (suc k) fs q
 
 -- The head at r, the second octet of a pointer or an octet of a label is past the end.
-abbrev pub CutAt : List ℕ → ℕ → Type 0
-CutAt m r = (length m ≤ r) ⊎ ((length m ≤ r + 1) × (192 ≤ slice_index m r)) ⊎ ((slice_index m r < 64) × (length m < r + 1 + slice_index m r))
+abbrev pub EndsTooEarly : List ℕ → ℕ → Type 0
+EndsTooEarly m r = (length m ≤ r) ⊎ ((length m ≤ r + 1) × (192 ≤ slice_index m r)) ⊎ ((slice_index m r < 64) × (length m < r + 1 + slice_index m r))
 
 -- The head at r is neither that of a label nor that of a pointer.
 abbrev pub BadTypeAt : List ℕ → ℕ → Type 0
 BadTypeAt m r = (r < length m) × (64 ≤ slice_index m r) × (slice_index m r < 192)
 
 -- A walk that has passed the labels fs and k pointers, of n that may be, can't go on at r, and why.
-abbrev pub FaultAt : ℕ → List ℕ → ℕ → List (List ℕ) → ℕ → NameFault → Type 0
-FaultAt n m k fs r ShortInput = CutAt m r
-FaultAt n m k fs r BadLabelType = BadTypeAt m r
-FaultAt n m k fs r TooManyPointers = (q : ℕ) × PointerAt m r q × ((r ≤ q) ⊎ (k ≡ n))
-FaultAt n m k fs r LongName = (l : List ℕ) × LabelAt m r l × (254 < length (wire fs) + 1 + length l)
+abbrev pub StepFaultAt : ℕ → List ℕ → ℕ → List (List ℕ) → ℕ → NameFault → Type 0
+StepFaultAt n m k fs r ShortInput = EndsTooEarly m r
+StepFaultAt n m k fs r BadLabelType = BadTypeAt m r
+StepFaultAt n m k fs r TooManyPointers = (q : ℕ) × PointerAt m r q × ((r ≤ q) ⊎ (k ≡ n))
+StepFaultAt n m k fs r LongName = (l : List ℕ) × LabelAt m r l × (254 < length (wire fs) + 1 + length l)
 
 -- No name of at most n pointers can be read at p, and why: the walk from p can't go on.
-pub record Fault (n : ℕ) (m : List ℕ) (p : ℕ) (fault : NameFault) : Type 0 where
+pub record NameFaultAt (n : ℕ) (m : List ℕ) (p : ℕ) (fault : NameFault) : Type 0 where
   pub pointers : ℕ
   pub passed : List (List ℕ)
   pub stopped : ℕ
-  pub walk : Walk n m p pointers passed stopped
-  pub at : FaultAt n m pointers passed stopped fault
+  pub walk : Followed n m p pointers passed stopped
+  pub at : StepFaultAt n m pointers passed stopped fault
 
 -- How many octets of a name what ends its front has: the root has one.
 abbrev pub stop_len : Stop → ℕ
@@ -51,12 +51,12 @@ stop_len (pointer q) = 0
 pub record Skips (m : List ℕ) (p e : ℕ) : Type 0 where
   pub passed : List (List ℕ)
   pub stop : Stop
-  pub front : Front m p passed stop e
+  pub front : Encoding m p passed stop e
   pub short : length (wire passed) + stop_len stop ≤ 255
 
 -- The labels fs were passed over, but at r that can't go on, and why.
 abbrev pub SkipFaultAt : List ℕ → List (List ℕ) → ℕ → NameFault → Type 0
-SkipFaultAt m fs r ShortInput = CutAt m r
+SkipFaultAt m fs r ShortInput = EndsTooEarly m r
 SkipFaultAt m fs r BadLabelType = BadTypeAt m r
 SkipFaultAt m fs r TooManyPointers = ⊥
 SkipFaultAt m fs r LongName = (OctetAt m r 0 × (255 ≤ length (wire fs))) ⊎ ((l : List ℕ) × LabelAt m r l × (255 < length (wire fs) + 1 + length l))

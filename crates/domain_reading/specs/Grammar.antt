@@ -50,20 +50,20 @@ StopAt m r root e = OctetAt m r 0 × (e ≡ r + 1)
 StopAt m r (pointer q) e = PointerAt m r q × (e ≡ r + 2)
 
 -- The front of the name at p: the labels fs, then the first root or pointer c, and e is the place behind it.
-pub record Front (m : List ℕ) (p : ℕ) (fs : List (List ℕ)) (c : Stop) (e : ℕ) : Type 0 where
+pub record Encoding (m : List ℕ) (p : ℕ) (fs : List (List ℕ)) (c : Stop) (e : ℕ) : Type 0 where
   pub stop : ℕ
   pub flat : Flat m p fs stop
   pub ends : StopAt m stop c e
 
 -- The front of the name at p ends before e.
-abbrev pub EndsBefore : List ℕ → ℕ → ℕ → Type 0
-EndsBefore m p e = (fs : List (List ℕ)) × (c : Stop) × Front m p fs c e
+abbrev pub EncodingEnds : List ℕ → ℕ → ℕ → Type 0
+EncodingEnds m p e = (fs : List (List ℕ)) × (c : Stop) × Encoding m p fs c e
 
 -- The base of the name at p, where its pointers at the beginning lead to: no pointer leads back from there.
-pub data Base (m : List ℕ) : ℕ → ℕ → Type 0 where
-  here : {p : ℕ} → ((q : ℕ) → PointerAt m p q → p ≤ q) → Base m p p
-  past : {p q b : ℕ} → PointerAt m p q → q < p → Base m q b → Base m p b
+pub data FirstLabelAt (m : List ℕ) : ℕ → ℕ → Type 0 where
+  here : {p : ℕ} → ((q : ℕ) → PointerAt m p q → p ≤ q) → FirstLabelAt m p p
+  past : {p q b : ℕ} → PointerAt m p q → q < p → FirstLabelAt m q b → FirstLabelAt m p b
 
 -- From its base on the name lies in one piece: its front ends in the root.
-abbrev pub LiesInOnePiece : List ℕ → ℕ → Type 0
-LiesInOnePiece m p = (b : ℕ) × (fs : List (List ℕ)) × (e : ℕ) × Base m p b × Front m b fs root e
+abbrev pub IsContiguous : List ℕ → ℕ → Type 0
+IsContiguous m p = (b : ℕ) × (fs : List (List ℕ)) × (e : ℕ) × FirstLabelAt m p b × Encoding m b fs root e

@@ -1,7 +1,7 @@
 -- What stands at one place of a message.
 use Rattle.std.specs.Prelude.{◌≡◌, ℕ, ◌<◌, ◌^◌, List, length}
 use Rattle.domain_reading.specs.Grammar.{OctetAt, LabelAt, PointerAt}
-use Rattle.domain_reading.specs.Faults.{CutAt, BadTypeAt}
+use Rattle.domain_reading.specs.Faults.{EndsTooEarly, BadTypeAt}
 use Rattle.domain_reading.specs.declared.fault.NameFault.{NameFault}
 use Rattle.domain_reading.specs.declared.fault.NameFault.TheVariants.{ShortInput, BadLabelType, TooManyPointers, LongName}
 use Rattle.domain_reading.specs.declared.head.Head.{Head}
@@ -15,7 +15,7 @@ StandsAt m r (Pointer q) = PointerAt m r q × (q < 2 ^ 14)
 
 -- No head can be read at r, and why.
 abbrev pub BrokenAt : List ℕ → ℕ → NameFault → Type 0
-BrokenAt m r ShortInput = CutAt m r
+BrokenAt m r ShortInput = EndsTooEarly m r
 BrokenAt m r BadLabelType = BadTypeAt m r
 BrokenAt m r TooManyPointers = ⊥
 BrokenAt m r LongName = ⊥

@@ -1,8 +1,8 @@
 pub mod Grammar
 pub mod Faults
 pub mod Labels
-pub mod Places
+pub mod Offsets
 pub mod Heads
 pub mod Progress
-pub mod Outcomes
+pub mod ParseResult
 pub mod Touched

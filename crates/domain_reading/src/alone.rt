@@ -3,19 +3,19 @@
 //! A count of heads is kept in a ledger, and a type parameter stands for it. A caller that has no ledger
 //! picks one where it passes `Brand` to a function that is generic over ledgers, and only such a function
 //! can open the count. So each walk is two functions: the one that is called, which picks, and one over a
-//! ledger, which opens the count. That of `front_end` stands in `read`, since it is the walk itself; the
+//! ledger, which opens the count. That of `encoding_end` stands in `read`, since it is the walk itself; the
 //! others stand here.
 ghost use Rattle.std.specs.Prelude.{◌≡◌, ℕ, ◌+◌, ◌≤◌, ◌<◌, length, IfSome, IfOk, IfErr, OnOk};
-ghost use Rattle.domain_label.specs.Views.{label_octets};
-ghost use Rattle.domain_reading.specs.Faults.{Fault, Skips, SkipFault};
-ghost use Rattle.domain_reading.specs.Outcomes.{NameRead};
-ghost use Rattle.domain_reading.specs.Places.{IsLabelPlace, label_at};
+ghost use Rattle.domain_label.specs.Labels.{label_octets};
+ghost use Rattle.domain_reading.specs.Faults.{NameFaultAt, Skips, SkipFault};
+ghost use Rattle.domain_reading.specs.ParseResult.{NameRead};
+ghost use Rattle.domain_reading.specs.Offsets.{IsLabelOffset, label_at};
 ghost use Rattle.domain_reading.specs.Progress.{beginning};
 
 use crate::fault::NameFault;
 use crate::heads::Heads;
 use crate::progress::Progress;
-use crate::read::{front_end_with, read_name_counted};
+use crate::read::{encoding_end_with, read_name_counted};
 use crate::standing::{MAX_LABELS, read_label};
 use domain_label::Label;
 use std::marker::Brand;
@@ -35,7 +35,7 @@ pub fn read_name(
     requires { progress.old ≡ beginning progress.old.at }
     ensures name { OnOk result ((n : ℕ) × NameRead limit message.now progress.old.at progress.new places.new 0 n × (n ≤ 128 + limit)) }
     ensures inside { OnOk result (progress.new.at < length message.now) }
-    ensures fault { IfErr result (λ fault. (f : Fault limit message.now progress.old.at fault) × (length f.passed + f.pointers + 1 ≤ 128 + limit)) }
+    ensures fault { IfErr result (λ fault. (f : NameFaultAt limit message.now progress.old.at fault) × (length f.passed + f.pointers + 1 ≤ 128 + limit)) }
 {
     read_name_with::<Brand>(message, progress, places, limit, Blank::new(1))
 }
@@ -54,7 +54,7 @@ fn read_name_with<L: Ledger>(
     requires some { 0 < blank.parts }
     ensures name { OnOk result ((n : ℕ) × NameRead limit message.now progress.old.at progress.new places.new 0 n × (n ≤ 128 + limit)) }
     ensures inside { OnOk result (progress.new.at < length message.now) }
-    ensures fault { IfErr result (λ fault. (f : Fault limit message.now progress.old.at fault) × (length f.passed + f.pointers + 1 ≤ 128 + limit)) }
+    ensures fault { IfErr result (λ fault. (f : NameFaultAt limit message.now progress.old.at fault) × (length f.passed + f.pointers + 1 ≤ 128 + limit)) }
 {
     read_name_counted(
         message,
@@ -101,27 +101,27 @@ fn quick_end(message: &[u8], pos: usize) -> Option<usize>
 
 /// The place behind the front of the name at a place, wherever its pointer leads to.
 #[inline(always)]
-pub fn front_end(message: &[u8], pos: usize) -> Result<usize, NameFault>
+pub fn encoding_end(message: &[u8], pos: usize) -> Result<usize, NameFault>
     ensures skips { IfOk result (λ end. Skips message.now pos end) }
     ensures inside { IfOk result (λ end. end ≤ length message.now) }
     ensures fault { IfErr result (λ fault. SkipFault message.now pos fault) }
 {
     match quick_end(message, pos) {
         Some(end) => Ok(end),
-        None => front_end_with::<Brand>(message, pos, Blank::new(1)),
+        None => encoding_end_with::<Brand>(message, pos, Blank::new(1)),
     }
 }
 
 /// The label that stands at a place.
-pub fn standing_label<'a>(octets: &'a [u8], place: usize) -> Label<'a>
-    requires { IsLabelPlace octets.now place }
+pub fn label_at_offset<'a>(octets: &'a [u8], place: usize) -> Label<'a>
+    requires { IsLabelOffset octets.now place }
     ensures { label_octets result ≡ label_at octets.now place }
 {
-    standing_label_with::<Brand>(octets, place, Blank::new(1))
+    label_at_offset_with::<Brand>(octets, place, Blank::new(1))
 }
 
-fn standing_label_with<'a, L: Ledger>(octets: &'a [u8], place: usize, blank: Blank) -> Label<'a>
-    requires stands { IsLabelPlace octets.now place }
+fn label_at_offset_with<'a, L: Ledger>(octets: &'a [u8], place: usize, blank: Blank) -> Label<'a>
+    requires stands { IsLabelOffset octets.now place }
     requires ledger { blank.name ≡ L.name }
     requires parts { blank.parts ≡ L.parts }
     requires some { 0 < blank.parts }

@@ -18,9 +18,9 @@ pub enum NameFault {
 impl From<NameFault> for ParseError {
     ghost use Rattle.std.specs.Prelude.{◌≡◌};
     ghost use Rattle.domain_wire.specs.Refusals.{refusal};
-    ghost use Rattle.domain_reading.specs.Faults.{told};
+    ghost use Rattle.domain_reading.specs.Faults.{error_of};
 
-    ghost from_gives = { λ fault e. refusal e ≡ told fault };
+    ghost from_gives = { λ fault e. refusal e ≡ error_of fault };
 
     fn from(fault: NameFault) -> ParseError {
         match fault {

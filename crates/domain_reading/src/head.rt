@@ -20,7 +20,7 @@ pub enum Head {
 /// Reads the head at a place, and sees that its octets are there.
 ///
 /// It is the one function that counts, and the one here that takes a head from octets, but for `quick_end`, of which
-/// nothing is counted. What walks along names calls it: `read_name_counted`, `front_end_with`, `read_label`, and the
+/// nothing is counted. What walks along names calls it: `read_name_counted`, `encoding_end_with`, `read_label`, and the
 /// search of `domain_compress`.
 #[inline(always)]
 pub fn read_head<L: Ledger>(

@@ -1,8 +1,8 @@
 //! Laws of reading names.
 ghost use Rattle.std.specs.Prelude.{◌≡◌, ℕ, ◌+◌, ◌<◌, ◌≤◌, ◌⊎◌, List, ◌++◌, length, drop};
 ghost use Rattle.domain_label.specs.Wire.{wire, IsAbsoluteName};
-ghost use Rattle.domain_reading.specs.Grammar.{PointerAt, Reads, Names, Flat, Front, EndsBefore, Stop, root, Base};
-ghost use Rattle.domain_reading.specs.Faults.{Fault, Skips, SkipFault};
+ghost use Rattle.domain_reading.specs.Grammar.{PointerAt, Reads, Names, Flat, Encoding, EncodingEnds, Stop, root, FirstLabelAt};
+ghost use Rattle.domain_reading.specs.Faults.{NameFaultAt, Skips, SkipFault};
 ghost use Rattle.domain_reading.specs.Labels.{labels_at};
 ghost use Rattle.domain_reading.specs.Touched.{Touches, IsKept, ReadsBehind};
 ghost use Rattle.domain_reading.specs.declared.fault.NameFault.{NameFault};
@@ -19,15 +19,15 @@ pub fn reads_laws()
     ensures more { (m u : List ℕ) (p k : ℕ) (ls : List (List ℕ)) → Reads m p k ls → Reads (m ++ u) p k ls }
     ensures absolute { (n : ℕ) (m : List ℕ) (p : ℕ) (ls : List (List ℕ)) → Names n m p ls → IsAbsoluteName ls }
     ensures labels { (m : List ℕ) (p : ℕ) (ls : List (List ℕ)) → Names 255 m p ls → labels_at m p ≡ ls }
-    ensures some { (n : ℕ) (m : List ℕ) (p : ℕ) → ((ls : List (List ℕ)) × Names n m p ls) ⊎ ((e : NameFault) × Fault n m p e) }
-    ensures not_both { (n : ℕ) (m : List ℕ) (p : ℕ) (ls : List (List ℕ)) (e : NameFault) → Names n m p ls → Fault n m p e → ⊥ }
-    ensures one_fault { (n : ℕ) (m : List ℕ) (p : ℕ) (d e : NameFault) (f : Fault n m p d) (g : Fault n m p e) → (d ≡ e) × (f.pointers ≡ g.pointers) × (f.passed ≡ g.passed) }
-    ensures one_front { (m : List ℕ) (p : ℕ) (xs ys : List (List ℕ)) (c d : Stop) (e f : ℕ) → Front m p xs c e → Front m p ys d f → (xs ≡ ys) × (c ≡ d) × (e ≡ f) }
-    ensures one_base { (m : List ℕ) (p b c : ℕ) → Base m p b → Base m p c → b ≡ c }
+    ensures some { (n : ℕ) (m : List ℕ) (p : ℕ) → ((ls : List (List ℕ)) × Names n m p ls) ⊎ ((e : NameFault) × NameFaultAt n m p e) }
+    ensures not_both { (n : ℕ) (m : List ℕ) (p : ℕ) (ls : List (List ℕ)) (e : NameFault) → Names n m p ls → NameFaultAt n m p e → ⊥ }
+    ensures one_fault { (n : ℕ) (m : List ℕ) (p : ℕ) (d e : NameFault) (f : NameFaultAt n m p d) (g : NameFaultAt n m p e) → (d ≡ e) × (f.pointers ≡ g.pointers) × (f.passed ≡ g.passed) }
+    ensures one_front { (m : List ℕ) (p : ℕ) (xs ys : List (List ℕ)) (c d : Stop) (e f : ℕ) → Encoding m p xs c e → Encoding m p ys d f → (xs ≡ ys) × (c ≡ d) × (e ≡ f) }
+    ensures one_base { (m : List ℕ) (p b c : ℕ) → FirstLabelAt m p b → FirstLabelAt m p c → b ≡ c }
     ensures plain { (t u : List ℕ) (ls : List (List ℕ)) → IsAbsoluteName ls → Names 0 (t ++ wire ls ++ u) (length t) ls }
-    ensures plain_front { (t u : List ℕ) (ls : List (List ℕ)) → IsAbsoluteName ls → (fs : List (List ℕ)) × Front (t ++ wire ls ++ u) (length t) fs root (length t + length (wire ls)) }
+    ensures plain_front { (t u : List ℕ) (ls : List (List ℕ)) → IsAbsoluteName ls → (fs : List (List ℕ)) × Encoding (t ++ wire ls ++ u) (length t) fs root (length t + length (wire ls)) }
     ensures skips { (n : ℕ) (m : List ℕ) (p : ℕ) (ls : List (List ℕ)) → Names n m p ls → (e : ℕ) × Skips m p e }
-    ensures same_place { (m : List ℕ) (p e f : ℕ) → EndsBefore m p e → Skips m p f → e ≡ f }
+    ensures same_place { (m : List ℕ) (p e f : ℕ) → EncodingEnds m p e → Skips m p f → e ≡ f }
     ensures skips_or_not { (m : List ℕ) (p : ℕ) → ((e : ℕ) × Skips m p e) ⊎ ((d : NameFault) × SkipFault m p d) }
     ensures skips_not_both { (m : List ℕ) (p e : ℕ) (d : NameFault) → Skips m p e → SkipFault m p d → ⊥ }
     ensures one_skip_fault { (m : List ℕ) (p : ℕ) (d e : NameFault) → SkipFault m p d → SkipFault m p e → d ≡ e }

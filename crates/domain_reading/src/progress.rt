@@ -48,7 +48,7 @@ impl Progress {
 
     /// Takes the place of the next head, which is a label's, into the table.
     #[inline(always)]
-    pub fn note_place(&mut self, places: &mut [u16; MAX_LABELS])
+    pub fn note_offset(&mut self, places: &mut [u16; MAX_LABELS])
         requires few { self.old.count < 128 }
         requires low { self.old.compressed ≡ true → self.old.at < 2 ^ 15 }
         ensures moved { self.new ≡ noted self.old }
@@ -81,7 +81,7 @@ impl Progress {
         if len > Progress::MAX_LEN {
             return Err(NameFault::LongName);
         }
-        self.note_place(places);
+        self.note_offset(places);
         self.len = len;
         self.at = self.at + 1 + usize::from(octets);
         Ok(())
@@ -93,7 +93,7 @@ impl Progress {
         requires room { self.old.at + 2 < 2 ^ 64 }
         requires few { self.old.pointers ≤ limit }
         ensures moved { MatchResult result (λ _. self.new ≡ pointer_followed self.old target) (λ _. self.new ≡ self.old) }
-        ensures refused { MatchResult result (λ _. (target < self.old.at) × (self.old.pointers < limit)) (λ fault. (fault ≡ NameFault.TooManyPointers) × ((self.old.at ≤ target) ⊎ (self.old.pointers ≡ limit))) }
+        ensures err { MatchResult result (λ _. (target < self.old.at) × (self.old.pointers < limit)) (λ fault. (fault ≡ NameFault.TooManyPointers) × ((self.old.at ≤ target) ⊎ (self.old.pointers ≡ limit))) }
     {
         if target >= self.at || self.pointers >= limit {
             return Err(NameFault::TooManyPointers);
@@ -113,7 +113,7 @@ impl Progress {
 
     /// The place behind the first pointer, or behind the root where there was none.
     #[inline(always)]
-    pub fn place_behind(&self) -> usize
+    pub fn end_offset(&self) -> usize
         requires { self.now.at + 1 < 2 ^ 64 }
         ensures { result ≡ unwrap_or self.now.end (self.now.at + 1) }
     {

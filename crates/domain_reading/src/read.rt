@@ -3,8 +3,8 @@
 //! Reading counts the heads for its caller, passing over a name for itself. The module `alone` has what callers
 //! without a count call.
 ghost use Rattle.std.specs.Prelude.{◌≡◌, ◌+◌, ◌≤◌, ◌<◌, length, IfOk, IfErr, OnOk};
-ghost use Rattle.domain_reading.specs.Faults.{Fault, Skips, SkipFault};
-ghost use Rattle.domain_reading.specs.Outcomes.{NameRead};
+ghost use Rattle.domain_reading.specs.Faults.{NameFaultAt, Skips, SkipFault};
+ghost use Rattle.domain_reading.specs.ParseResult.{NameRead};
 ghost use Rattle.domain_reading.specs.Progress.{beginning};
 
 use crate::fault::NameFault;
@@ -31,13 +31,13 @@ pub fn read_name_counted<L: Ledger>(
     requires { progress.old ≡ beginning progress.old.at }
     ensures name { OnOk result (NameRead limit message.now progress.old.at progress.new places.new heads.old heads.new) }
     ensures inside { OnOk result (progress.new.at < length message.now) }
-    ensures fault { IfErr result (λ fault. (f : Fault limit message.now progress.old.at fault) × (heads.new ≡ heads.old + length f.passed + f.pointers + 1)) }
+    ensures fault { IfErr result (λ fault. (f : NameFaultAt limit message.now progress.old.at fault) × (heads.new ≡ heads.old + length f.passed + f.pointers + 1)) }
     ensures few_heads { heads.new ≤ heads.old + 128 + limit }
 {
     'heads: loop {
         match read_head(message, progress.at, heads)? {
             Head::Root => {
-                progress.note_place(places);
+                progress.note_offset(places);
                 return Ok(());
             }
             Head::Label(octets) => progress.pass_label(octets, places)?,
@@ -49,7 +49,7 @@ pub fn read_name_counted<L: Ledger>(
 /// The place behind the front of the name at a place, wherever its pointer leads to. No clause tells how
 /// many heads it reads, so the count is its own.
 #[inline(always)]
-pub(crate) fn front_end_with<L: Ledger>(
+pub(crate) fn encoding_end_with<L: Ledger>(
     message: &[u8],
     pos: usize,
     blank: Blank,

@@ -1,7 +1,7 @@
 //! Where the labels of a name stand.
 ghost use Rattle.std.specs.Prelude.{◌≡◌, ◌+◌, ◌<◌, ◌^◌};
-ghost use Rattle.domain_label.specs.Views.{label_octets};
-ghost use Rattle.domain_reading.specs.Places.{place_of, IsLabelPlace, label_at};
+ghost use Rattle.domain_label.specs.Labels.{label_octets};
+ghost use Rattle.domain_reading.specs.Offsets.{entry_offset, IsLabelOffset, label_at};
 
 use crate::head::{Head, read_head};
 use crate::heads::Heads;
@@ -16,9 +16,9 @@ pub const FAR: u16 = 32768;
 
 /// The place that an entry of a table tells.
 #[inline(always)]
-pub fn place_of(base: usize, entry: u16) -> usize
-    requires { place_of base entry < 2 ^ 64 }
-    ensures { result ≡ place_of base entry }
+pub fn entry_offset(base: usize, entry: u16) -> usize
+    requires { entry_offset base entry < 2 ^ 64 }
+    ensures { result ≡ entry_offset base entry }
 {
     if entry < FAR {
         base + usize::from(entry)
@@ -30,7 +30,7 @@ pub fn place_of(base: usize, entry: u16) -> usize
 /// The label that stands at a place, for one head.
 #[inline(always)]
 pub fn read_label<'a, L: Ledger>(octets: &'a [u8], place: usize, heads: &mut Heads<L>) -> Label<'a>
-    requires { IsLabelPlace octets.now place }
+    requires { IsLabelOffset octets.now place }
     ensures label { label_octets result ≡ label_at octets.now place }
     ensures counted { heads.new ≡ heads.old + 1 }
 {

@@ -8,7 +8,7 @@ ghost use Rattle.std.specs.Str.Parse.{ParsesUnsigned, ExplainsUnsignedError};
 ghost use Rattle.std.specs.Cmp.Rules.{comparing};
 ghost use Rattle.std.proofs.Common.{rules};
 ghost use Rattle.std.specs.Ordering.{nat_cmp, on};
-ghost use Rattle.octseq.specs.Parsing.{message, place, MovesTo};
+ghost use Rattle.octseq.specs.Parsing.{message, position, MovesTo};
 ghost use Rattle.domain_serial.specs.Serials.{distance, IsSerialOrder};
 ghost use Rattle.domain_wire.specs.Values.{FixedAt, ShortAt};
 
@@ -77,10 +77,10 @@ impl Serial {
     ///
     /// `ShortInput` where fewer than four octets are left. A refused call leaves the parser.
     pub fn parse(parser: &mut Parser<'_>) -> Result<Serial, ParseError>
-        ensures ok { IfOk result (λ serial. FixedAt 4 (from_be_bytes w32) (message parser.old) (place parser.old) serial.0 (place parser.new)) }
-        ensures moves { OnOk result (MovesTo parser.old parser.new (place parser.new)) }
-        ensures refused { IfErr result (λ e. ShortAt 4 (message parser.old) (place parser.old) e) }
-        ensures err { OnErr result (parser.new ≡ parser.old) }
+        ensures ok { IfOk result (λ serial. FixedAt 4 (from_be_bytes w32) (message parser.old) (position parser.old) serial.0 (position parser.new)) }
+        ensures moves { OnOk result (MovesTo parser.old parser.new (position parser.new)) }
+        ensures err { IfErr result (λ e. ShortAt 4 (message parser.old) (position parser.old) e) }
+        ensures unchanged { OnErr result (parser.new ≡ parser.old) }
     {
         Ok(Serial(u32::parse(parser)?))
     }
@@ -93,7 +93,7 @@ impl Serial {
         target: &mut Target,
     ) -> Result<(), Target::AppendError>
         ensures ok { OnOk result (Target.octets target.new ≡ Target.octets target.old ++ to_be_bytes w32 self.now.0) }
-        ensures err { OnErr result (Target.octets target.new ≡ Target.octets target.old) }
+        ensures unchanged { OnErr result (Target.octets target.new ≡ Target.octets target.old) }
         ensures full { OnErr result (Target.capacity target.old < length (Target.octets target.old) + 4) }
         ensures capacity { Target.capacity target.old ≤ Target.capacity target.new }
         ensures within { IfSome Target.limit (λ n. length (Target.octets target.new) ≤ n) }
@@ -149,7 +149,7 @@ impl fmt::Display for Serial {
 
 /// The canonical order is that of the numbers, not of serials.
 impl CanonicalOrd for Serial {
-    ghost canonical_order = { on (λ serial. serial.0) nat_cmp };
+    ghost value_order = { on (λ serial. serial.0) nat_cmp };
 
     ghost total = { Prim.search (comparing, rules) };
 

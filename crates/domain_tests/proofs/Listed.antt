@@ -2,7 +2,7 @@
 use Rattle.std.proofs.Common.{◌≡◌, ℕ, ◌+◌, ◌<◌, List, [], ◌∷◌, ◌++◌, length, map, take, refl, sym, ◌∙◌, ap, subst, arith, length-append, get_or}
 use Rattle.std.proofs.lemmas.List.{map-append, take_more}
 use Rattle.domain_label.specs.declared.label.Label.{Label}
-use Rattle.domain_label.specs.Views.{label_octets}
+use Rattle.domain_label.specs.Labels.{label_octets}
 use Rattle.domain_label.specs.Wire.{wire, IsLabel, IsAbsolute, IsRelative, IsAbsoluteName, IsRelativeName}
 use Rattle.domain_label.proofs.WireLaws.{length-wire_append, relative_then_relative, relative_then_absolute}
 

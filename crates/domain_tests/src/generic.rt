@@ -1,10 +1,10 @@
 //! Callers that are generic over builders, octets and names: the traits' clauses suffice for them.
 ghost use Rattle.std.specs.Prelude.{◌≡◌, ◌≤◌, ◌<◌, ◌+◌, ◌∷◌, ◌↔◌, ℕ, List, length, slice_set, IsOk, IsErr, IfOk, IfSome, IsTrue, MatchBool};
-ghost use Rattle.domain_label.specs.Low.{low_all};
-ghost use Rattle.domain_label.specs.Views.{label_octets};
+ghost use Rattle.domain_label.specs.Lowercase.{lowercase_labels};
+ghost use Rattle.domain_label.specs.Labels.{label_octets};
 ghost use Rattle.domain_label.specs.Wire.{wire};
 ghost use Rattle.domain_list.specs.Count.{rrsig_labels};
-ghost use Rattle.domain_parsed.specs.Views.{parsed_labels};
+ghost use Rattle.domain_parsed.specs.ParsedNames.{parsed_labels};
 
 use crate::names::{LOWER_WWW, SCATTERED, WWW, absolute, parsed};
 use arrayvec::ArrayVec;
@@ -79,14 +79,14 @@ fn all_same<'a, A: AbsoluteLabels<'a>, B: AbsoluteLabels<'a>, C: AbsoluteLabels<
     b: &'a B,
     c: &'a C,
 ) -> bool
-    ensures { IsTrue result ↔ ((low_all (A.labels a.now) ≡ low_all (B.labels b.now)) × (low_all (B.labels b.now) ≡ low_all (C.labels c.now))) }
+    ensures { IsTrue result ↔ ((lowercase_labels (A.labels a.now) ≡ lowercase_labels (B.labels b.now)) × (lowercase_labels (B.labels b.now) ≡ lowercase_labels (C.labels c.now))) }
 {
     a.name_eq(b) && b.name_eq(c)
 }
 
 /// What a name of any kind has for a signature: its canonical octets and its number of labels.
 fn signed<'a, N: AbsoluteLabels<'a>>(name: &'a N, alloc: Global) -> Result<(Vec<u8>, u8), ShortBuf>
-    ensures octets { IfOk result (λ both. both.0.items ≡ wire (low_all (N.labels name.now))) }
+    ensures octets { IfOk result (λ both. both.0.items ≡ wire (lowercase_labels (N.labels name.now))) }
     ensures count { IfOk result (λ both. both.1 ≡ rrsig_labels (N.labels name.now)) }
 {
     let mut octets = Vec::new(alloc);

@@ -1,4 +1,4 @@
-//! The engines that list a message and show a name's wire form, over readers and writers that fail, and with
+//! The engines that list a message and show a name's wire format, over readers and writers that fail, and with
 //! memory refused.
 
 use crate::engines::{CountingWriter, FailingReader, FailingWriter, KINDS};

@@ -3,7 +3,7 @@ ghost use Rattle.std.specs.Prelude.{◌≡◌, length, map, IfSome};
 ghost use Rattle.std.proofs.Common.{inl, inr};
 ghost use Rattle.std.specs.Coded.{×_prop, le_prop};
 ghost use Rattle.std.specs.Iterator.{YieldsFirstBy, YieldsLastBy, item_count};
-ghost use Rattle.domain_label.specs.Views.{label_octets};
+ghost use Rattle.domain_label.specs.Labels.{label_octets};
 ghost use Rattle.domain_label.specs.Wire.{wire, IsAbsoluteName, IsRelativeName};
 ghost use Rattle.domain_label.proofs.WireLaws.{IsAbsoluteName_prop, IsRelative_prop};
 

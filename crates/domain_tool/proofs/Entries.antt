@@ -3,14 +3,14 @@ use Rattle.std.proofs.Common.{◌≡◌, ℕ, ◌+◌, ◌<◌, ◌≤◌, inl, 
 use Rattle.std.specs.Int.{w16, w32, from_be_bytes}
 use Rattle.std.proofs.lemmas.List.{length-take-le}
 use Rattle.octseq.specs.declared.parse.Parser.{Parser}
-use Rattle.octseq.specs.Parsing.{message, place, next, MovesTo}
+use Rattle.octseq.specs.Parsing.{message, position, next, MovesTo}
 use Rattle.domain_wire.specs.declared.error.ParseError.{ParseError}
 use Rattle.domain_wire.specs.declared.error.ParseError.TheVariants.{ShortInput}
-use Rattle.domain_reading.specs.Grammar.{Names, EndsBefore}
-use Rattle.domain_reading.specs.Outcomes.{MovesBehindFront}
-use Rattle.domain_parsed.specs.Views.{parsed_labels}
-use Rattle.domain_tool.specs.declared.entry.RecordHead.{RecordHead}
-use Rattle.domain_tool.specs.Entries.{IsRecordHead}
+use Rattle.domain_reading.specs.Grammar.{Names, EncodingEnds}
+use Rattle.domain_reading.specs.ParseResult.{MovesPastName}
+use Rattle.domain_parsed.specs.ParsedNames.{parsed_labels}
+use Rattle.domain_tool.specs.declared.entry.RecordHeader.{RecordHeader}
+use Rattle.domain_tool.specs.Entries.{IsRecordHeader}
 use Rattle.domain_tool.specs.declared.section.Section.{Section}
 use Rattle.domain_tool.specs.declared.section.Section.TheVariants.{Question}
 use Rattle.domain_tool.specs.Lines.{IsLineOf, IsQuestion, section_word, NameTo, NoQuestion, NoRecord, number16, number32}
@@ -22,35 +22,35 @@ pub same_message : (old new : Parser) (n : ℕ) → MovesTo old new n → messag
 same_message old new n moved = ap (λ o. take new.end o.now) moved.octets ∙ ap (λ e. take e old.octets.now) moved.end
 
 -- the name that was read, and the place behind it
-pub name_to : (old new : Parser) (ls : List (List ℕ)) → Names 255 (message old) (place old) ls → MovesBehindFront old new → NameTo (message old) (place old) ls (place new)
+pub name_to : (old new : Parser) (ls : List (List ℕ)) → Names 255 (message old) (position old) ls → MovesPastName old new → NameTo (message old) (position old) ls (position new)
 name_to old new ls named moves = record {
   named = named;
-  front = subst (λ e. EndsBefore (message old) (place old) e) (sym moves.2.place) moves.1;
+  front = subst (λ e. EncodingEnds (message old) (position old) e) (sym moves.2.place) moves.1;
 }
 
-pub cut_question : (old behind : Parser) (ls : List (List ℕ)) (why : ParseError) → Names 255 (message old) (place old) ls → MovesBehindFront old behind → length (message behind) < place behind + 4 → why ≡ ShortInput → NoQuestion (message old) (place old) why
+pub cut_question : (old behind : Parser) (ls : List (List ℕ)) (why : ParseError) → Names 255 (message old) (position old) ls → MovesPastName old behind → length (message behind) < position behind + 4 → why ≡ ShortInput → NoQuestion (message old) (position old) why
 cut_question old behind ls why named moves short told =
-    cut ls (place behind) (name_to old behind ls named moves) (omega (arith, short, ap length (same_message old behind moves.0 moves.2))) told
+    cut ls (position behind) (name_to old behind ls named moves) (omega (arith, short, ap length (same_message old behind moves.0 moves.2))) told
 
-pub cut_record_head : (old behind : Parser) (ls : List (List ℕ)) (why : ParseError) → Names 255 (message old) (place old) ls → MovesBehindFront old behind → length (message behind) < place behind + 10 → why ≡ ShortInput → NoRecord (message old) (place old) why
+pub cut_record_head : (old behind : Parser) (ls : List (List ℕ)) (why : ParseError) → Names 255 (message old) (position old) ls → MovesPastName old behind → length (message behind) < position behind + 10 → why ≡ ShortInput → NoRecord (message old) (position old) why
 cut_record_head old behind ls why named moves short told =
-    cut_record ls (place behind) (name_to old behind ls named moves) (inl (omega (arith, short, ap length (same_message old behind moves.0 moves.2)))) told
+    cut_record ls (position behind) (name_to old behind ls named moves) (inl (omega (arith, short, ap length (same_message old behind moves.0 moves.2)))) told
 
 -- the number that a parser reads stands at its place
-pub read16 : (p : Parser) (m : List ℕ) (at n : ℕ) → message p ≡ m → place p ≡ at → n ≡ from_be_bytes w16 (next p 2) → n ≡ number16 m at
-read16 p m at n same there e = e ∙ (ap (λ x. number16 x (place p)) same ∙ ap (number16 m) there)
+pub read16 : (p : Parser) (m : List ℕ) (at n : ℕ) → message p ≡ m → position p ≡ at → n ≡ from_be_bytes w16 (next p 2) → n ≡ number16 m at
+read16 p m at n same there e = e ∙ (ap (λ x. number16 x (position p)) same ∙ ap (number16 m) there)
 
-pub read32 : (p : Parser) (m : List ℕ) (at n : ℕ) → message p ≡ m → place p ≡ at → n ≡ from_be_bytes w32 (next p 4) → n ≡ number32 m at
-read32 p m at n same there e = e ∙ (ap (λ x. number32 x (place p)) same ∙ ap (number32 m) there)
+pub read32 : (p : Parser) (m : List ℕ) (at n : ℕ) → message p ≡ m → position p ≡ at → n ≡ from_be_bytes w32 (next p 4) → n ≡ number32 m at
+read32 p m at n same there e = e ∙ (ap (λ x. number32 x (position p)) same ∙ ap (number32 m) there)
 
 -- the data behind a head is cut
-pub cut_data : (m : List ℕ) (p e : ℕ) (it : RecordHead) (why : ParseError) → IsRecordHead m p it e → length m < e + it.len → why ≡ ShortInput → NoRecord m p why
+pub cut_data : (m : List ℕ) (p e : ℕ) (it : RecordHeader) (why : ParseError) → IsRecordHeader m p it e → length m < e + it.len → why ≡ ShortInput → NoRecord m p why
 cut_data m p e it why head short told =
     let end = head.end in let len = head.len in
     cut_record (parsed_labels it.name) head.behind head.name (inr (omega (arith, short, end, len))) told
 
 -- a parser stands inside of its octets
-pub place_inside : (p : Parser) → place p ≤ length (message p)
+pub place_inside : (p : Parser) → position p ≤ length (message p)
 place_inside p =
     let e : length (message p) ≡ p.end = length-take-le p.end p.octets.now p.inside in
     omega (arith, e, p.ordered)

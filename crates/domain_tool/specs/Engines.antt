@@ -3,8 +3,8 @@ use Rattle.std.specs.Prelude.{ℕ, List, [], ◌∷◌, ◌++◌, Option, Result
 use Rattle.std.specs.Io.KnownBytes.{Appends}
 use Rattle.domain_wire.specs.declared.error.ParseError.{ParseError}
 use Rattle.domain_wire.specs.Refusals.{refusal, refusal_text}
-use Rattle.domain_builder.specs.Texts.{from_str_text}
-use Rattle.domain_label.specs.Text.{dotted}
+use Rattle.domain_builder.specs.ErrorText.{from_str_text}
+use Rattle.domain_label.specs.Text.{text_with_final_dot}
 use Rattle.domain_reading.specs.Grammar.{Names}
 pub use Rattle.domain_tool.specs.NameFaults.{NoNameAt, NoNameWithin}
 use Rattle.domain_tool.specs.declared.tool.ToolError.{ToolError}
@@ -13,7 +13,7 @@ use Rattle.domain_tool.specs.declared.tool.ToolError.TheVariants.{Parse, Text, R
 -- The name at p in m, through at most n pointers, was written, with a final dot and a newline, and nothing
 -- else.
 abbrev pub WritesNameWithin : ℕ → List ℕ → ℕ → Option (List ℕ) → Option (List ℕ) → Type 0
-WritesNameWithin n m p old new = (ls : List (List ℕ)) × Names n m p ls × Appends old new (dotted ls ++ 10 ∷ [])
+WritesNameWithin n m p old new = (ls : List (List ℕ)) × Names n m p ls × Appends old new (text_with_final_dot ls ++ 10 ∷ [])
 
 -- The same of 255 pointers.
 abbrev pub WritesNameAt : List ℕ → ℕ → Option (List ℕ) → Option (List ℕ) → Type 0

@@ -1,24 +1,25 @@
 -- What contracts see of an entry that was read: the line that it is shown as.
 use Rattle.std.specs.Prelude.{◌≡◌, ◌+◌, ◌≤◌, ℕ, List, length, ◌++◌, ◌∷◌}
 use Rattle.std.specs.Fmt.{decimal}
-use Rattle.domain_label.specs.Text.{dotted}
-use Rattle.domain_parsed.specs.Views.{parsed_labels}
+use Rattle.domain_label.specs.Text.{text_with_final_dot}
+use Rattle.domain_parsed.specs.ParsedNames.{parsed_labels}
 use Rattle.domain_rdata.specs.AnyData.{unknown_text}
 use Rattle.domain_rdata.specs.Rtypes.{rtype_number}
 use Rattle.domain_rdata.specs.Unknown.{data_octets}
 use Rattle.domain_tool.specs.Lines.{NameTo, number16, number32, section_word}
 use Rattle.domain_tool.specs.declared.entry.Question.{Question}
-use Rattle.domain_tool.specs.declared.entry.RecordHead.{RecordHead}
+use Rattle.domain_tool.specs.declared.entry.RecordHeader.{RecordHeader}
 use Rattle.domain_tool.specs.declared.entry.Record.{Record}
 use Rattle.domain_tool.specs.declared.entry.Entry.{Entry}
 use Rattle.domain_tool.specs.declared.entry.Entry.TheVariants.{Question as AsQuestion, Record as AsRecord}
 use Rattle.domain_tool.specs.declared.section.Section.TheVariants.{Question as Questions}
 
+-- the line of a question without its first word: name, type and class (RFC 1035, 4.1.2)
 abbrev pub question_line : Question → List ℕ
-question_line it = 32 ∷ dotted (parsed_labels it.name) ++ 32 ∷ decimal (rtype_number it.rtype) ++ 32 ∷ decimal it.class
+question_line it = 32 ∷ text_with_final_dot (parsed_labels it.name) ++ 32 ∷ decimal (rtype_number it.rtype) ++ 32 ∷ decimal it.class
 
 -- The name, type, class, time to live and length of a record stand from p to e (RFC 1035, 4.1.3).
-pub record IsRecordHead (m : List ℕ) (p : ℕ) (it : RecordHead) (e : ℕ) : Type 0 where
+pub record IsRecordHeader (m : List ℕ) (p : ℕ) (it : RecordHeader) (e : ℕ) : Type 0 where
   pub behind : ℕ
   pub name : NameTo m p (parsed_labels it.name) behind
   pub rtype : it.rtype ≡ number16 m behind
@@ -28,10 +29,12 @@ pub record IsRecordHead (m : List ℕ) (p : ℕ) (it : RecordHead) (e : ℕ) : T
   pub whole : behind + 10 ≤ length m
   pub end : e ≡ behind + 10
 
+-- the line of a resource record without its first word: name, type, class, TTL and RDATA (RFC 1035, 4.1.3)
 abbrev pub record_line : Record → List ℕ
-record_line it = 32 ∷ dotted (parsed_labels it.head.name) ++ 32 ∷ decimal it.head.rtype ++ 32 ∷ decimal it.head.class
+record_line it = 32 ∷ text_with_final_dot (parsed_labels it.head.name) ++ 32 ∷ decimal it.head.rtype ++ 32 ∷ decimal it.head.class
     ++ 32 ∷ decimal it.head.time_to_live ++ 32 ∷ unknown_text (data_octets it.data)
 
+-- the line of a question or a resource record: the word of its section, then the rest
 abbrev pub entry_line : Entry → List ℕ
 entry_line (AsQuestion it) = section_word Questions ++ question_line it
 entry_line (AsRecord section it) = section_word section ++ record_line it

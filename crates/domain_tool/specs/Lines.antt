@@ -4,8 +4,8 @@ use Rattle.std.specs.Fmt.{decimal}
 use Rattle.std.specs.Int.{w16, w32, from_be_bytes}
 use Rattle.domain_wire.specs.declared.error.ParseError.{ParseError}
 use Rattle.domain_wire.specs.declared.error.ParseError.TheVariants.{ShortInput}
-use Rattle.domain_label.specs.Text.{dotted}
-use Rattle.domain_reading.specs.Grammar.{Names, EndsBefore}
+use Rattle.domain_label.specs.Text.{text_with_final_dot}
+use Rattle.domain_reading.specs.Grammar.{Names, EncodingEnds}
 use Rattle.domain_rdata.specs.AnyData.{unknown_text}
 use Rattle.domain_tool.specs.NameFaults.{NoNameAt}
 use Rattle.domain_tool.specs.declared.section.Section.{Section}
@@ -15,6 +15,7 @@ use Rattle.domain_tool.specs.declared.section.Section.TheVariants.{Question, Ans
 abbrev pub number16 : List ℕ → ℕ → ℕ
 number16 m p = from_be_bytes w16 (slice_range m p (p + 2))
 
+-- the same in 32 bits, such as a TTL
 abbrev pub number32 : List ℕ → ℕ → ℕ
 number32 m p = from_be_bytes w32 (slice_range m p (p + 4))
 
@@ -28,11 +29,11 @@ section_word Additional = codes "additional"
 -- The name at p is ls, and e is the place behind it (RFC 1035, 4.1.4).
 pub record NameTo (m : List ℕ) (p : ℕ) (ls : List (List ℕ)) (e : ℕ) : Type 0 where
   pub named : Names 255 m p ls
-  pub front : EndsBefore m p e
+  pub front : EncodingEnds m p e
 
 -- What is shown of the name, the type and the class of an entry: the two numbers stand at q, behind the name.
 abbrev pub shown_entry : List ℕ → List (List ℕ) → ℕ → List ℕ
-shown_entry m ls q = 32 ∷ dotted ls ++ 32 ∷ decimal (number16 m q) ++ 32 ∷ decimal (number16 m (q + 2))
+shown_entry m ls q = 32 ∷ text_with_final_dot ls ++ 32 ∷ decimal (number16 m q) ++ 32 ∷ decimal (number16 m (q + 2))
 
 -- What is shown of the rest of a record, whose type stands at q: the time to live in 32 bits, and the data behind its length.
 abbrev pub shown_record : List ℕ → ℕ → List ℕ
@@ -73,6 +74,7 @@ IsEntry m Answer p line e = IsRecord m p line e
 IsEntry m Authority p line e = IsRecord m p line e
 IsEntry m Additional p line e = IsRecord m p line e
 
+-- No question or resource record of this section stands at p, and why.
 abbrev pub NoEntry : List ℕ → Section → ℕ → ParseError → Type 0
 NoEntry m Question p why = NoQuestion m p why
 NoEntry m Answer p why = NoRecord m p why

@@ -2,7 +2,7 @@
 use Rattle.std.specs.Prelude.{ℕ, List}
 use Rattle.domain_wire.specs.declared.error.ParseError.{ParseError}
 use Rattle.domain_wire.specs.Refusals.{refusal}
-use Rattle.domain_reading.specs.Outcomes.{HasNoName}
+use Rattle.domain_reading.specs.ParseResult.{HasNoName}
 
 -- No name of at most n pointers is at p in m, and the error tells the fault.
 abbrev pub NoNameWithin : ℕ → List ℕ → ℕ → ParseError → Type 0

@@ -5,7 +5,7 @@ use Rattle.std.specs.List.{flat_map}
 use Rattle.domain_label.specs.Hex.{hex_digit}
 use Rattle.domain_label.specs.Wire.{wire}
 use Rattle.domain_builder.specs.TextGrammar.{SpellsName, SpellsNoName}
-use Rattle.domain_builder.specs.Told.{MatchFromStr}
+use Rattle.domain_builder.specs.TextErrors.{MatchFromStr}
 use Rattle.domain_builder.specs.declared.error.FromStrError.{FromStrError}
 use Rattle.domain_tool.specs.declared.tool.ToolError.{ToolError}
 use Rattle.domain_tool.specs.declared.tool.ToolError.TheVariants.{Parse, Text, Read, Write, Memory}
@@ -14,10 +14,11 @@ use Rattle.domain_tool.specs.declared.tool.ToolError.TheVariants.{Parse, Text, R
 abbrev pub octet_digits : ℕ → List ℕ
 octet_digits n = hex_digit (n / 16) ∷ hex_digit (n % 16) ∷ []
 
+-- each octet in two lower case digits
 abbrev pub hexadecimal : List ℕ → List ℕ
 hexadecimal octets = flat_map octet_digits octets
 
--- The characters are the text of a name (RFC 1035, 5.1). Its wire form was written in hexadecimal
+-- The characters are the text of a name (RFC 1035, 5.1). Its wire format was written in hexadecimal
 -- digits, with a newline, and nothing else.
 abbrev pub WritesWireOf : List ℕ → Option (List ℕ) → Option (List ℕ) → Type 0
 WritesWireOf cs old new = (ls : List (List ℕ)) × SpellsName cs ls × Appends old new (hexadecimal (wire ls) ++ 10 ∷ [])

@@ -25,6 +25,7 @@ Asks words (At place pointers) = AsksAt words place pointers ⊎ AsksWithin word
 Asks words (TextOf text) = words ≡ codes "text" ∷ text.now ∷ []
 Asks words Lines = words ≡ codes "list" ∷ []
 
+-- The words ask for something that the program does.
 abbrev pub AsksSomething : List (List ℕ) → Type 0
 AsksSomething words = (asked : Asked) × Asks words asked
 

@@ -8,7 +8,7 @@ ghost use Rattle.domain_tool.specs.Numerals.{TellsPlace, TellsPointers};
 pub(crate) enum Asked<'a> {
     /// The name at a place of the message, through at most so many pointers.
     At(u32, u8),
-    /// The wire form of the name that a text spells.
+    /// The wire format of the name that a text spells.
     Text(&'a str),
     /// The lines of the message.
     List,
@@ -35,7 +35,7 @@ impl<'a> Asked<'a> {
         ensures none { IsNone result → (asked : Asked) → AsksPlainly (map (λ word. word.now) words.now) asked → ⊥ }
     {
         match words {
-            ["at", word] => match place_of(word) {
+            ["at", word] => match offset_of_word(word) {
                 Some(place) => Some(Asked::At(place, u8::MAX)),
                 None => None,
             },
@@ -53,7 +53,7 @@ fn limited(words: &[&str]) -> Option<(u32, u8)>
     ensures none { IsNone result → (place : ℕ) → (pointers : ℕ) → AsksWithin (map (λ word. word.now) words.now) place pointers → ⊥ }
 {
     match words {
-        ["at", word, "--pointers", limit] => match place_of(word) {
+        ["at", word, "--pointers", limit] => match offset_of_word(word) {
             Some(place) => match pointers_of(limit) {
                 Some(pointers) => Some((place, pointers)),
                 None => None,
@@ -65,7 +65,7 @@ fn limited(words: &[&str]) -> Option<(u32, u8)>
 }
 
 /// The place that a word tells: one to ten decimal digits, at most 4,294,967,295.
-fn place_of(word: &str) -> Option<u32>
+pub fn offset_of_word(word: &str) -> Option<u32>
     ensures some { IfSome result (λ place. TellsPlace word.now place) }
     ensures none { IsNone result → (place : ℕ) → TellsPlace word.now place → ⊥ }
 {

@@ -1,7 +1,7 @@
 //! Entries of a message (RFC 1035, 4.1).
 ghost use Rattle.std.specs.Prelude.{◌≡◌, ◌++◌, ◌∷◌, Some, IfOk, IfErr, OnOk};
 ghost use Rattle.std.specs.Fmt.{decimal};
-ghost use Rattle.octseq.specs.Parsing.{message, place, MovesTo};
+ghost use Rattle.octseq.specs.Parsing.{message, position, MovesTo};
 
 use crate::section::Section;
 use domain_list::dotted::DisplayWithDot;
@@ -25,9 +25,9 @@ impl<'a> Question<'a> {
 
     /// Reads a question, and moves the parser behind it.
     pub(crate) fn parse(parser: &mut Parser<'a>) -> Result<Question<'a>, ParseError>
-        ensures ok { IfOk result (λ it. IsQuestion (message parser.old) (place parser.old) (question_line it) (place parser.new)) }
-        ensures moves { OnOk result (MovesTo parser.old parser.new (place parser.new)) }
-        ensures refused { IfErr result (λ e. NoQuestion (message parser.old) (place parser.old) e) }
+        ensures ok { IfOk result (λ it. IsQuestion (message parser.old) (position parser.old) (question_line it) (position parser.new)) }
+        ensures moves { OnOk result (MovesTo parser.old parser.new (position parser.new)) }
+        ensures err { IfErr result (λ e. NoQuestion (message parser.old) (position parser.old) e) }
     {
         let name = match ParsedName::parse(parser) {
             Ok(name) => name,
@@ -65,7 +65,7 @@ impl<'a> fmt::Display for Question<'a> {
 
 /// What stands before the data of a record (RFC 1035, 4.1.3).
 #[derive(Clone, Copy)]
-struct RecordHead<'a> {
+struct RecordHeader<'a> {
     name: ParsedName<&'a [u8]>,
     rtype: u16,
     class: u16,
@@ -73,15 +73,15 @@ struct RecordHead<'a> {
     len: u16,
 }
 
-impl<'a> RecordHead<'a> {
-    ghost use Rattle.domain_tool.specs.Entries.{IsRecordHead};
+impl<'a> RecordHeader<'a> {
+    ghost use Rattle.domain_tool.specs.Entries.{IsRecordHeader};
     ghost use Rattle.domain_tool.specs.Lines.{NoRecord};
 
     /// Reads what stands before the data, and moves the parser to the data.
-    fn parse(parser: &mut Parser<'a>) -> Result<RecordHead<'a>, ParseError>
-        ensures ok { IfOk result (λ it. IsRecordHead (message parser.old) (place parser.old) it (place parser.new)) }
-        ensures moves { OnOk result (MovesTo parser.old parser.new (place parser.new)) }
-        ensures refused { IfErr result (λ e. NoRecord (message parser.old) (place parser.old) e) }
+    fn parse(parser: &mut Parser<'a>) -> Result<RecordHeader<'a>, ParseError>
+        ensures ok { IfOk result (λ it. IsRecordHeader (message parser.old) (position parser.old) it (position parser.new)) }
+        ensures moves { OnOk result (MovesTo parser.old parser.new (position parser.new)) }
+        ensures err { IfErr result (λ e. NoRecord (message parser.old) (position parser.old) e) }
     {
         let name = match ParsedName::parse(parser) {
             Ok(name) => name,
@@ -103,7 +103,7 @@ impl<'a> RecordHead<'a> {
             Ok(len) => len,
             Err(e) => return Err(ParseError::from(e)),
         };
-        Ok(RecordHead {
+        Ok(RecordHeader {
             name,
             rtype,
             class,
@@ -116,7 +116,7 @@ impl<'a> RecordHead<'a> {
 /// A record (RFC 1035, 4.1.3).
 #[derive(Clone, Copy)]
 pub(crate) struct Record<'a> {
-    head: RecordHead<'a>,
+    head: RecordHeader<'a>,
     data: UnknownRecordData<&'a [u8]>,
 }
 
@@ -126,11 +126,11 @@ impl<'a> Record<'a> {
 
     /// Reads a record, and moves the parser behind it.
     pub(crate) fn parse(parser: &mut Parser<'a>) -> Result<Record<'a>, ParseError>
-        ensures ok { IfOk result (λ it. IsRecord (message parser.old) (place parser.old) (record_line it) (place parser.new)) }
-        ensures moves { OnOk result (MovesTo parser.old parser.new (place parser.new)) }
-        ensures refused { IfErr result (λ e. NoRecord (message parser.old) (place parser.old) e) }
+        ensures ok { IfOk result (λ it. IsRecord (message parser.old) (position parser.old) (record_line it) (position parser.new)) }
+        ensures moves { OnOk result (MovesTo parser.old parser.new (position parser.new)) }
+        ensures err { IfErr result (λ e. NoRecord (message parser.old) (position parser.old) e) }
     {
-        let head = match RecordHead::parse(parser) {
+        let head = match RecordHeader::parse(parser) {
             Ok(head) => head,
             Err(e) => return Err(e),
         };
@@ -173,9 +173,9 @@ impl<'a> Entry<'a> {
 
     /// Reads an entry of this section, and moves the parser behind it.
     pub(crate) fn parse(section: Section, parser: &mut Parser<'a>) -> Result<Entry<'a>, ParseError>
-        ensures ok { IfOk result (λ it. IsLineOf (message parser.old) section (place parser.old) (entry_line it) (place parser.new)) }
-        ensures moves { OnOk result (MovesTo parser.old parser.new (place parser.new)) }
-        ensures refused { IfErr result (λ e. NoEntry (message parser.old) section (place parser.old) e) }
+        ensures ok { IfOk result (λ it. IsLineOf (message parser.old) section (position parser.old) (entry_line it) (position parser.new)) }
+        ensures moves { OnOk result (MovesTo parser.old parser.new (position parser.new)) }
+        ensures err { IfErr result (λ e. NoEntry (message parser.old) section (position parser.old) e) }
     {
         match section {
             Section::Question => match Question::parse(parser) {

@@ -9,3 +9,6 @@ mod list;
 pub mod section;
 mod text;
 pub mod tool;
+pub mod words;
+
+pub use asked::offset_of_word;

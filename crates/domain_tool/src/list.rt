@@ -1,7 +1,7 @@
 //! The engine that lists what a message holds.
 ghost use Rattle.std.specs.Prelude.{◌≡◌, ◌<◌, ◌≤◌, ℕ, List, length, replicate, OnOk, OnErr, IfOk, IfErr, IfSome};
 ghost use Rattle.std.specs.Io.KnownBytes.{Appends, Keeps, IsAtEnd, append_known};
-ghost use Rattle.octseq.specs.Parsing.{message, place, MovesTo};
+ghost use Rattle.octseq.specs.Parsing.{message, position, MovesTo};
 ghost use Rattle.domain_tool.specs.Engines.{IfRefused, OnAnswer, OnNoWork};
 ghost use Rattle.domain_tool.specs.Lines.{IsListing, NoEntry, StopsListing};
 ghost use Rattle.domain_tool.specs.Written.{WritesEntry, WritesEntries, WritesUpTo};
@@ -23,9 +23,9 @@ fn write_entry<W: Write>(
     lines: &mut Vec<u8>,
     output: &mut W,
 ) -> Result<(), ToolError>
-    ensures written { OnOk result (WritesEntry (message parser.old) section (place parser.old) (place parser.new) (append_known (W.contents output.old) lines.old.items) (append_known (W.contents output.new) lines.new.items)) }
-    ensures moves { OnOk result (MovesTo parser.old parser.new (place parser.new)) }
-    ensures refused { IfRefused result (λ e. NoEntry (message parser.old) section (place parser.old) e) }
+    ensures written { OnOk result (WritesEntry (message parser.old) section (position parser.old) (position parser.new) (append_known (W.contents output.old) lines.old.items) (append_known (W.contents output.new) lines.new.items)) }
+    ensures moves { OnOk result (MovesTo parser.old parser.new (position parser.new)) }
+    ensures refused { IfRefused result (λ e. NoEntry (message parser.old) section (position parser.old) e) }
     ensures nothing_written { IfRefused result (λ _. Keeps (append_known (W.contents output.old) lines.old.items) (append_known (W.contents output.new) lines.new.items)) }
     ensures err { IfErr result (λ e. (e ≡ ToolError.Read) → ⊥) }
 {
@@ -45,9 +45,9 @@ fn write_section<W: Write>(
     lines: &mut Vec<u8>,
     output: &mut W,
 ) -> Result<(), ToolError>
-    ensures written { OnOk result (WritesEntries (message parser.old) (replicate count section) (place parser.old) (place parser.new) (append_known (W.contents output.old) lines.old.items) (append_known (W.contents output.new) lines.new.items)) }
-    ensures moves { OnOk result (MovesTo parser.old parser.new (place parser.new)) }
-    ensures refused { IfRefused result (λ e. WritesUpTo (message parser.old) section count (place parser.old) (append_known (W.contents output.old) lines.old.items) (append_known (W.contents output.new) lines.new.items) e) }
+    ensures written { OnOk result (WritesEntries (message parser.old) (replicate count section) (position parser.old) (position parser.new) (append_known (W.contents output.old) lines.old.items) (append_known (W.contents output.new) lines.new.items)) }
+    ensures moves { OnOk result (MovesTo parser.old parser.new (position parser.new)) }
+    ensures refused { IfRefused result (λ e. WritesUpTo (message parser.old) section count (position parser.old) (append_known (W.contents output.old) lines.old.items) (append_known (W.contents output.new) lines.new.items) e) }
     ensures err { IfErr result (λ e. (e ≡ ToolError.Read) → ⊥) }
 {
     for _entry in 0..count {
@@ -72,7 +72,7 @@ impl Counts {
 
     /// Reads the header of a message, and moves the parser behind its 12 octets (RFC 1035, 4.1.1).
     fn parse(parser: &mut Parser<'_>) -> Result<Counts, ShortInput>
-        requires { place parser.old ≡ 0 }
+        requires { position parser.old ≡ 0 }
         ensures ok { IfOk result (λ counts. IsCounted (message parser.old) counts) }
         ensures moves { OnOk result (MovesTo parser.old parser.new 12) }
         ensures short { OnErr result (length (message parser.old) < 12) }

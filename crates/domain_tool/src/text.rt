@@ -1,32 +1,32 @@
-//! The engine that shows the wire form of a name in text.
+//! The engine that shows the wire format of a name in text.
 ghost use Rattle.std.specs.Prelude.{Some, OnOk, IfOk, IfErr, MatchResult};
 ghost use Rattle.std.specs.Io.KnownBytes.{Keeps};
 ghost use Rattle.std.specs.Str.{chars};
 ghost use Rattle.domain_builder.specs.TextGrammar.{SpellsName, SpellsNoName};
-ghost use Rattle.domain_builder.specs.Told.{Tells};
-ghost use Rattle.domain_builder.specs.declared.part.Fault.{Fault};
+ghost use Rattle.domain_builder.specs.TextErrors.{Tells};
+ghost use Rattle.domain_builder.specs.declared.name_symbol.TextFault.{TextFault};
 ghost use Rattle.domain_name.specs.Names.{name_labels};
 ghost use Rattle.domain_tool.specs.WireText.{octet_digits, hexadecimal, HasTextFault, IfTextRefused, RefusesText, WritesWireOf};
 
 use crate::tool::{ToolError, write_line};
 use arrayvec::ArrayVec;
 use domain_builder::FromStrError;
-use domain_label::hex::hex_digit;
+use domain_label::hex::hex_character;
 use domain_name::absolute::Name;
 use std::alloc::Global;
 use std::fmt;
 use std::io::Write;
 
 /// The name that a text spells. Each name has room.
-fn name_of(alloc: Global, text: &str) -> Result<Name<ArrayVec<u8, 255>>, FromStrError>
+fn name_from_text(alloc: Global, text: &str) -> Result<Name<ArrayVec<u8, 255>>, FromStrError>
     ensures ok { IfOk result (λ name. SpellsName (chars text.now) (name_labels name)) }
     ensures err { IfErr result (HasTextFault (chars text.now)) }
-    ensures exact { (f : Fault) → SpellsNoName (chars text.now) f → MatchResult result (λ _. ⊥) (Tells f) }
+    ensures exact { (f : TextFault) → SpellsNoName (chars text.now) f → MatchResult result (λ _. ⊥) (Tells f) }
 {
     Name::from_chars(alloc, text.chars())
 }
 
-/// Writes the wire form of the absolute name that a text spells, in lower case hexadecimal digits, and a
+/// Writes the wire format of the absolute name that a text spells, in lower case hexadecimal digits, and a
 /// newline.
 ///
 /// The text is read by `Name::from_chars` (RFC 1035, 5.1). `Text` where it is none of a name, with its
@@ -34,11 +34,11 @@ fn name_of(alloc: Global, text: &str) -> Result<Name<ArrayVec<u8, 255>>, FromStr
 /// written: no memory is needed.
 pub fn name_text<W: Write>(alloc: Global, text: &str, output: &mut W) -> Result<(), ToolError>
     ensures written { OnOk result (WritesWireOf (chars text.now) (W.contents output.old) (W.contents output.new)) }
-    ensures refused { IfTextRefused result (HasTextFault (chars text.now)) }
-    ensures exact { (f : Fault) → SpellsNoName (chars text.now) f → RefusesText result (Tells f) }
+    ensures err { IfTextRefused result (HasTextFault (chars text.now)) }
+    ensures exact { (f : TextFault) → SpellsNoName (chars text.now) f → RefusesText result (Tells f) }
     ensures nothing_written { IfTextRefused result (λ _. Keeps (W.contents output.old) (W.contents output.new)) }
 {
-    let name = match name_of(alloc, text) {
+    let name = match name_from_text(alloc, text) {
         Ok(name) => name,
         Err(e) => return Err(ToolError::Text(e)),
     };
@@ -74,8 +74,8 @@ impl fmt::Display for Digits {
     ghost output = { λ it. Some (octet_digits it.0) };
 
     fn fmt<W: fmt::Write>(&self, f: &mut fmt::Formatter<W>) -> fmt::Result {
-        let high = hex_digit(self.0 / 16);
-        let low = hex_digit(self.0 % 16);
+        let high = hex_character(self.0 / 16);
+        let low = hex_character(self.0 % 16);
         write!(f, "{high}{low}")
     }
 }

@@ -2,7 +2,7 @@
 ghost use Rattle.std.specs.Prelude.{◌≡◌, ◌≤◌, ◌∷◌, ◌++◌, ◌↔◌, [], map, ◌⊎◌, OnOk, IfOk, IfErr, IfSome};
 ghost use Rattle.std.specs.Io.KnownBytes.{Appends, Keeps, IsAtEnd};
 ghost use Rattle.domain_reading.specs.Grammar.{Names};
-ghost use Rattle.domain_parsed.specs.Views.{parsed_labels};
+ghost use Rattle.domain_parsed.specs.ParsedNames.{parsed_labels};
 ghost use Rattle.domain_tool.specs.Engines.{IfRefused, NoNameAt, NoNameWithin, OnAnswer, OnNoWork, WritesNameAt, WritesNameWithin};
 ghost use Rattle.domain_tool.specs.Words.{Asks, AsksSomething, Fails, OnFailure, OnRefusal, Refuses, Writes};
 ghost use Rattle.domain_tool.specs.declared.asked.Asked.{Asked};
@@ -57,7 +57,7 @@ impl fmt::Display for ToolError {
 impl Error for ToolError {}
 
 /// Reads the input to its end.
-pub(crate) fn read_all<R: Read>(alloc: Global, input: &mut R) -> Result<Vec<u8>, ToolError>
+pub fn read_all<R: Read>(alloc: Global, input: &mut R) -> Result<Vec<u8>, ToolError>
     ensures octets { IfOk result (λ octets. IfSome (R.remaining input.old) (λ m. octets.items ≡ m)) }
     ensures whole { OnOk result (IsAtEnd (R.remaining input.new)) }
     ensures err { IfErr result (λ e. (e ≡ ToolError.Read) ⊎ (e ≡ ToolError.Memory)) }
@@ -72,7 +72,7 @@ pub(crate) fn read_all<R: Read>(alloc: Global, input: &mut R) -> Result<Vec<u8>,
 
 /// The name at a place of a message, through at most so many pointers. A place past the end is
 /// `ShortInput`.
-fn parse_at(message: &[u8], place: u32, limit: u8) -> Result<ParsedName<&[u8]>, ParseError>
+pub fn parse_at(message: &[u8], place: u32, limit: u8) -> Result<ParsedName<&[u8]>, ParseError>
     ensures ok { IfOk result (λ name. Names limit message.now place (parsed_labels name)) }
     ensures err { IfErr result (λ e. NoNameWithin limit message.now place e) }
 {
@@ -85,7 +85,7 @@ fn parse_at(message: &[u8], place: u32, limit: u8) -> Result<ParsedName<&[u8]>, 
 
 /// Why a text wasn't written.
 #[derive(Clone, Copy)]
-pub(crate) enum WriteFault {
+pub enum WriteFault {
     Refused,
     Memory,
 }
@@ -114,7 +114,7 @@ impl From<WriteFault> for ToolError {
 
 /// Writes a text and a newline. They are put together on the stack and written by one call, without any
 /// memory; a longer line is written piece by piece.
-pub(crate) fn write_line<D: fmt::Display + Drop, W: Write>(
+pub fn write_line<D: fmt::Display + Drop, W: Write>(
     output: &mut W,
     text: D,
 ) -> Result<(), WriteFault>
@@ -140,7 +140,7 @@ pub fn name_at<R: Read, W: Write>(
 ) -> Result<(), ToolError>
     ensures whole { OnAnswer result (IsAtEnd (R.remaining input.new)) }
     ensures written { OnOk result (IfSome (R.remaining input.old) (λ m. WritesNameAt m place (W.contents output.old) (W.contents output.new))) }
-    ensures refused { IfRefused result (λ e. IfSome (R.remaining input.old) (λ m. NoNameAt m place e)) }
+    ensures err { IfRefused result (λ e. IfSome (R.remaining input.old) (λ m. NoNameAt m place e)) }
     ensures nothing_written { OnNoWork result (Keeps (W.contents output.old) (W.contents output.new)) }
 {
     name_at_with_limit(alloc, input, output, place, u8::MAX)
@@ -157,7 +157,7 @@ pub fn name_at_with_limit<R: Read, W: Write>(
 ) -> Result<(), ToolError>
     ensures whole { OnAnswer result (IsAtEnd (R.remaining input.new)) }
     ensures written { OnOk result (IfSome (R.remaining input.old) (λ m. WritesNameWithin limit m place (W.contents output.old) (W.contents output.new))) }
-    ensures refused { IfRefused result (λ e. IfSome (R.remaining input.old) (λ m. NoNameWithin limit m place e)) }
+    ensures err { IfRefused result (λ e. IfSome (R.remaining input.old) (λ m. NoNameWithin limit m place e)) }
     ensures nothing_written { OnNoWork result (Keeps (W.contents output.old) (W.contents output.new)) }
 {
     let octets = read_all(alloc, input)?;
@@ -179,7 +179,7 @@ fn carry_out<R: Read, W: Write>(
     output: &mut W,
 ) -> Result<(), ToolError>
     ensures done { OnOk result (Writes asked.entry (R.remaining input.old) (W.contents output.old) (W.contents output.new)) }
-    ensures refused { IfErr result (λ e. OnRefusal e (Refuses asked.entry (R.remaining input.old) (W.contents output.old) (W.contents output.new))) }
+    ensures err { IfErr result (λ e. OnRefusal e (Refuses asked.entry (R.remaining input.old) (W.contents output.old) (W.contents output.new))) }
     ensures failed { IfErr result (λ e. OnFailure e (Fails asked.entry e (W.contents output.old) (W.contents output.new))) }
 {
     let answer = match asked {
@@ -209,7 +209,7 @@ pub fn run<R: Read, W: Write, E: Write>(
 ) -> u8
     ensures status { result ≤ 3 }
     ensures done { result ≡ 0 → (asked : Asked) × Asks (map (λ word. word.now) words.now) asked × Writes asked (R.remaining input.old) (W.contents output.old) (W.contents output.new) }
-    ensures refused { result ≡ 1 → (asked : Asked) × Asks (map (λ word. word.now) words.now) asked × Refuses asked (R.remaining input.old) (W.contents output.old) (W.contents output.new) }
+    ensures err { result ≡ 1 → (asked : Asked) × Asks (map (λ word. word.now) words.now) asked × Refuses asked (R.remaining input.old) (W.contents output.old) (W.contents output.new) }
     ensures failed { result ≡ 3 → (asked : Asked) × Asks (map (λ word. word.now) words.now) asked × (e : ToolError) × Fails asked e (W.contents output.old) (W.contents output.new) }
     ensures usage { result ≡ 2 ↔ (AsksSomething (map (λ word. word.now) words.now) → ⊥) }
     ensures untouched { result ≡ 2 → (input.new ≡ input.old) × (output.new ≡ output.old) }

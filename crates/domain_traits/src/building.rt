@@ -1,4 +1,4 @@
-//! Wire forms and flat names made of names. The calls of names stand on these functions, which are
+//! Wire formats and flat names made of names. The calls of names stand on these functions, which are
 //! one body each for absolute and relative names of every kind.
 ghost use Rattle.std.specs.Prelude.{◌≡◌, ◌<◌, ℕ, List, length, IfOk, IsOkAnd, OnErr};
 ghost use Rattle.std.specs.Cow.{cow_slice_items, IsBorrowedSlice};
@@ -12,7 +12,7 @@ use octseq::{Octets, ShortBuf};
 use std::alloc::Global;
 use std::borrow::CowSlice;
 
-/// The wire form of a name: lent where it lies in one piece, else put together.
+/// The wire format of a name: lent where it lies in one piece, else put together.
 ///
 /// `ShortBuf` only where it doesn't lie in one piece, has octets, and memory was refused.
 pub(crate) fn lend_or_build<'a, N: ToLabelIter<'a>>(
@@ -35,22 +35,22 @@ pub(crate) fn lend_or_build<'a, N: ToLabelIter<'a>>(
     }
 }
 
-/// The absolute name whose wire form the octets are. They aren't tested again.
+/// The absolute name whose wire format the octets are. They aren't tested again.
 #[inline(always)]
 pub(crate) fn name_of<Octs: Octets + Drop>(octets: Octs) -> Name<Octs>
     requires { (ls : List (List ℕ)) × IsAbsoluteName ls × (Octs.octets octets ≡ wire ls) }
     ensures list { (ls : List (List ℕ)) → IsAbsoluteName ls → Octs.octets octets ≡ wire ls → name_labels result ≡ ls }
-    ensures kept { name_holder result ≡ octets }
+    ensures holder { name_holder result ≡ octets }
 {
     Name::from_wire(octets)
 }
 
-/// The relative name whose wire form the octets are. They aren't tested again.
+/// The relative name whose wire format the octets are. They aren't tested again.
 #[inline(always)]
 pub(crate) fn relative_name_of<Octs: Octets + Drop>(octets: Octs) -> RelativeName<Octs>
     requires { (ls : List (List ℕ)) × IsRelativeName ls × (Octs.octets octets ≡ wire ls) }
     ensures list { (ls : List (List ℕ)) → IsRelativeName ls → Octs.octets octets ≡ wire ls → relative_labels result ≡ ls }
-    ensures kept { relative_holder result ≡ octets }
+    ensures holder { relative_holder result ≡ octets }
 {
     RelativeName::from_wire(octets)
 }

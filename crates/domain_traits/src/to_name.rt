@@ -1,13 +1,13 @@
 //! The calls of absolute names.
 ghost use Rattle.std.specs.Prelude.{◌≡◌, ◌<◌, ◌≤◌, ◌+◌, ◌++◌, ◌↔◌, length, IsTrue, IfOk, IfSome, IsOkAnd, OnOk, OnErr};
 ghost use Rattle.std.specs.Cow.{IsBorrowedSlice};
-ghost use Rattle.domain_label.specs.Low.{low_all};
+ghost use Rattle.domain_label.specs.Lowercase.{lowercase_labels};
 ghost use Rattle.domain_label.specs.Wire.{wire};
 ghost use Rattle.domain_list.specs.Count.{rrsig_labels};
-ghost use Rattle.domain_list.specs.Dotted.{dotted_name};
-ghost use Rattle.domain_list.specs.Order.{order, composed_order, lowercase_composed_order};
+ghost use Rattle.domain_list.specs.FinalDot.{dotted_name};
+ghost use Rattle.domain_list.specs.Order.{canonical_order, composed_order, lowercase_composed_order};
 ghost use Rattle.domain_name.specs.Names.{name_labels, name_holder};
-ghost use Rattle.octseq.specs.Room.{MayLackRoom};
+ghost use Rattle.octseq.specs.Capacity.{MayExceedCapacity};
 
 use crate::building::{lend_or_build, name_of};
 use domain_list::comparing::{
@@ -30,7 +30,7 @@ use std::cmp::Ordering;
 pub trait ToName<'a>: AbsoluteLabels<'a> {
     /// The same name in one piece, over octets of the caller's choice.
     ///
-    /// `ShortBuf` where the wire form exceeds a fixed room of the octets, or where memory was refused.
+    /// `ShortBuf` where the wire format exceeds a fixed room of the octets, or where memory was refused.
     final fn try_to_name<Octs: FromBuilder + Drop>(
         &'a self,
         alloc: Global,
@@ -38,7 +38,7 @@ pub trait ToName<'a>: AbsoluteLabels<'a> {
     where
         Octs::Builder: EmptyBuilder + Drop,
         ensures ok { IfOk result (λ name. name_labels name ≡ Self.labels self.now) }
-        ensures err { OnErr result (MayLackRoom Octs.Builder.ROOM (length (wire (Self.labels self.now)))) }
+        ensures err { OnErr result (MayExceedCapacity Octs.Builder.ROOM (length (wire (Self.labels self.now)))) }
     {
         self.to_name(alloc)
     }
@@ -64,7 +64,7 @@ pub trait ToName<'a>: AbsoluteLabels<'a> {
     where
         Octs::Builder: EmptyBuilder + Drop,
         ensures ok { IfOk result (λ name. name_labels name ≡ Self.labels self.now) }
-        ensures err { OnErr result (MayLackRoom Octs.Builder.ROOM (length (wire (Self.labels self.now)))) }
+        ensures err { OnErr result (MayExceedCapacity Octs.Builder.ROOM (length (wire (Self.labels self.now)))) }
     {
         // The body stands here and not in the call above: a result that is handed on is copied once more.
         let mut target = Octs::Builder::with_capacity(alloc, self.compose_len() as usize)?;
@@ -84,8 +84,8 @@ pub trait ToName<'a>: AbsoluteLabels<'a> {
     ) -> Result<Name<Octs>, ShortBuf>
     where
         Octs::Builder: EmptyBuilder + Drop,
-        ensures ok { IfOk result (λ name. name_labels name ≡ low_all (Self.labels self.now)) }
-        ensures err { OnErr result (MayLackRoom Octs.Builder.ROOM (length (wire (Self.labels self.now)))) }
+        ensures ok { IfOk result (λ name. name_labels name ≡ lowercase_labels (Self.labels self.now)) }
+        ensures err { OnErr result (MayExceedCapacity Octs.Builder.ROOM (length (wire (Self.labels self.now)))) }
     {
         self.to_canonical_name(alloc)
     }
@@ -97,8 +97,8 @@ pub trait ToName<'a>: AbsoluteLabels<'a> {
     ) -> Result<Name<Octs>, ShortBuf>
     where
         Octs::Builder: EmptyBuilder + Drop,
-        ensures ok { IfOk result (λ name. name_labels name ≡ low_all (Self.labels self.now)) }
-        ensures err { OnErr result (MayLackRoom Octs.Builder.ROOM (length (wire (Self.labels self.now)))) }
+        ensures ok { IfOk result (λ name. name_labels name ≡ lowercase_labels (Self.labels self.now)) }
+        ensures err { OnErr result (MayExceedCapacity Octs.Builder.ROOM (length (wire (Self.labels self.now)))) }
     {
         // The body stands here and not in the call above: a result that is handed on is copied once more.
         let mut target = Octs::Builder::with_capacity(alloc, self.compose_len() as usize)?;
@@ -126,7 +126,7 @@ pub trait ToName<'a>: AbsoluteLabels<'a> {
         Ok(name_of(lend_or_build(self, alloc)?))
     }
 
-    /// Appends the wire form, without compression (RFC 1035, 3.1), or nothing.
+    /// Appends the wire format, without compression (RFC 1035, 3.1), or nothing.
     ///
     /// The target's error where the octets don't fit, or where there was no memory for them; the target
     /// is then as before. Where they fit its spare capacity, there is none.
@@ -151,7 +151,7 @@ pub trait ToName<'a>: AbsoluteLabels<'a> {
         target: &mut Target,
     ) -> Result<(), Target::AppendError>
         ensures ok { OnOk result (Target.octets target.new ≡ Target.octets target.old ++ wire (Self.labels self.now)) }
-        ensures err { OnErr result (Target.octets target.new ≡ Target.octets target.old) }
+        ensures unchanged { OnErr result (Target.octets target.new ≡ Target.octets target.old) }
         ensures full { OnErr result (Target.capacity target.old < length (Target.octets target.old) + length (wire (Self.labels self.now))) }
         ensures capacity { Target.capacity target.old ≤ Target.capacity target.new }
         ensures within { IfSome Target.limit (λ n. length (Target.octets target.new) ≤ n) }
@@ -160,16 +160,16 @@ pub trait ToName<'a>: AbsoluteLabels<'a> {
         compose_name(self, target)
     }
 
-    /// Appends the wire form with A to Z as a to z, the canonical form (RFC 4034, 6.2), or nothing.
+    /// Appends the wire format with A to Z as a to z, the canonical form (RFC 4034, 6.2), or nothing.
     ///
     /// The errors are those of `compose`.
     final fn compose_canonical<Target: OctetsBuilder>(
         &'a self,
         target: &mut Target,
     ) -> Result<(), Target::AppendError>
-        ensures ok { OnOk result (Target.octets target.new ≡ Target.octets target.old ++ wire (low_all (Self.labels self.now))) }
-        ensures err { OnErr result (Target.octets target.new ≡ Target.octets target.old) }
-        ensures full { OnErr result (Target.capacity target.old < length (Target.octets target.old) + length (wire (low_all (Self.labels self.now)))) }
+        ensures ok { OnOk result (Target.octets target.new ≡ Target.octets target.old ++ wire (lowercase_labels (Self.labels self.now))) }
+        ensures unchanged { OnErr result (Target.octets target.new ≡ Target.octets target.old) }
+        ensures full { OnErr result (Target.capacity target.old < length (Target.octets target.old) + length (wire (lowercase_labels (Self.labels self.now)))) }
         ensures capacity { Target.capacity target.old ≤ Target.capacity target.new }
         ensures within { IfSome Target.limit (λ n. length (Target.octets target.new) ≤ n) }
         ensures fixed { IfSome Target.limit (λ n. Target.capacity target.old ≡ n) }
@@ -183,13 +183,13 @@ pub trait ToName<'a>: AbsoluteLabels<'a> {
     ///
     /// ```rust
     /// pub fn is_owner(name: &ParsedName<&[u8]>, owner: &Name<Vec<u8>>) -> bool
-    ///     ensures { IsTrue result ↔ (low_all (parsed_labels name.now) ≡ low_all (name_labels owner.now)) }
+    ///     ensures { IsTrue result ↔ (lowercase_labels (parsed_labels name.now) ≡ lowercase_labels (name_labels owner.now)) }
     /// {
     ///     name.name_eq(owner)
     /// }
     /// ```
     final fn name_eq<N: AbsoluteLabels<'a>>(&'a self, other: &'a N) -> bool
-        ensures { IsTrue result ↔ (low_all (Self.labels self.now) ≡ low_all (N.labels other.now)) }
+        ensures { IsTrue result ↔ (lowercase_labels (Self.labels self.now) ≡ lowercase_labels (N.labels other.now)) }
     {
         eq_names(self, other)
     }
@@ -201,25 +201,25 @@ pub trait ToName<'a>: AbsoluteLabels<'a> {
     ///
     /// ```rust
     /// pub fn place_in_zone(name: &ParsedName<&[u8]>, other: &Name<Vec<u8>>) -> Ordering
-    ///     ensures { result ≡ order (parsed_labels name.now) (name_labels other.now) }
+    ///     ensures { result ≡ canonical_order (parsed_labels name.now) (name_labels other.now) }
     /// {
     ///     name.name_cmp(other)
     /// }
     /// ```
     final fn name_cmp<N: AbsoluteLabels<'a>>(&'a self, other: &'a N) -> Ordering
-        ensures { result ≡ order (Self.labels self.now) (N.labels other.now) }
+        ensures { result ≡ canonical_order (Self.labels self.now) (N.labels other.now) }
     {
         order_names(self, other)
     }
 
-    /// The order of the octets of the uncompressed wire forms.
+    /// The order of the octets of the uncompressed wire formats.
     final fn composed_cmp<N: AbsoluteLabels<'a>>(&'a self, other: &'a N) -> Ordering
         ensures { result ≡ composed_order (Self.labels self.now) (N.labels other.now) }
     {
         composed_order_names(self, other)
     }
 
-    /// The order of the octets of the uncompressed wire forms, without ASCII case.
+    /// The order of the octets of the uncompressed wire formats, without ASCII case.
     final fn lowercase_composed_cmp<N: AbsoluteLabels<'a>>(&'a self, other: &'a N) -> Ordering
         ensures { result ≡ lowercase_composed_order (Self.labels self.now) (N.labels other.now) }
     {

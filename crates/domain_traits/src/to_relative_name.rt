@@ -1,13 +1,13 @@
 //! The calls of relative names.
 ghost use Rattle.std.specs.Prelude.{◌≡◌, [], ◌<◌, ◌≤◌, ◌+◌, ◌++◌, ◌↔◌, length, IsTrue, IsErr, IfOk, IfSome, IsOkAnd, OnOk, OnErr};
 ghost use Rattle.std.specs.Cow.{IsBorrowedSlice};
-ghost use Rattle.domain_label.specs.Low.{low_all};
+ghost use Rattle.domain_label.specs.Lowercase.{lowercase_labels};
 ghost use Rattle.domain_label.specs.Wire.{wire, Root};
 ghost use Rattle.domain_list.specs.ChainParts.{left_part, right_part};
 ghost use Rattle.domain_list.specs.Chains.{before_root};
-ghost use Rattle.domain_list.specs.Order.{order};
+ghost use Rattle.domain_list.specs.Order.{canonical_order};
 ghost use Rattle.domain_name.specs.Names.{name_labels, relative_labels, relative_holder};
-ghost use Rattle.octseq.specs.Room.{MayLackRoom};
+ghost use Rattle.octseq.specs.Capacity.{MayExceedCapacity};
 
 use crate::building::{lend_or_build, relative_name_of};
 use domain_list::comparing::{eq_names, order_names};
@@ -27,7 +27,7 @@ use std::cmp::Ordering;
 pub trait ToRelativeName<'a>: RelativeLabels<'a> {
     /// The same name in one piece, over octets of the caller's choice.
     ///
-    /// `ShortBuf` where the wire form exceeds a fixed room of the octets, or where memory was refused.
+    /// `ShortBuf` where the wire format exceeds a fixed room of the octets, or where memory was refused.
     final fn try_to_relative_name<Octs: FromBuilder + Drop>(
         &'a self,
         alloc: Global,
@@ -35,7 +35,7 @@ pub trait ToRelativeName<'a>: RelativeLabels<'a> {
     where
         Octs::Builder: EmptyBuilder + Drop,
         ensures ok { IfOk result (λ name. relative_labels name ≡ Self.labels self.now) }
-        ensures err { OnErr result (MayLackRoom Octs.Builder.ROOM (length (wire (Self.labels self.now)))) }
+        ensures err { OnErr result (MayExceedCapacity Octs.Builder.ROOM (length (wire (Self.labels self.now)))) }
     {
         self.to_relative_name(alloc)
     }
@@ -48,7 +48,7 @@ pub trait ToRelativeName<'a>: RelativeLabels<'a> {
     where
         Octs::Builder: EmptyBuilder + Drop,
         ensures ok { IfOk result (λ name. relative_labels name ≡ Self.labels self.now) }
-        ensures err { OnErr result (MayLackRoom Octs.Builder.ROOM (length (wire (Self.labels self.now)))) }
+        ensures err { OnErr result (MayExceedCapacity Octs.Builder.ROOM (length (wire (Self.labels self.now)))) }
     {
         // The body stands here and not in the call above: a result that is handed on is copied once more.
         let mut target = Octs::Builder::with_capacity(alloc, self.compose_len() as usize)?;
@@ -67,8 +67,8 @@ pub trait ToRelativeName<'a>: RelativeLabels<'a> {
     ) -> Result<RelativeName<Octs>, ShortBuf>
     where
         Octs::Builder: EmptyBuilder + Drop,
-        ensures ok { IfOk result (λ name. relative_labels name ≡ low_all (Self.labels self.now)) }
-        ensures err { OnErr result (MayLackRoom Octs.Builder.ROOM (length (wire (Self.labels self.now)))) }
+        ensures ok { IfOk result (λ name. relative_labels name ≡ lowercase_labels (Self.labels self.now)) }
+        ensures err { OnErr result (MayExceedCapacity Octs.Builder.ROOM (length (wire (Self.labels self.now)))) }
     {
         self.to_canonical_relative_name(alloc)
     }
@@ -80,8 +80,8 @@ pub trait ToRelativeName<'a>: RelativeLabels<'a> {
     ) -> Result<RelativeName<Octs>, ShortBuf>
     where
         Octs::Builder: EmptyBuilder + Drop,
-        ensures ok { IfOk result (λ name. relative_labels name ≡ low_all (Self.labels self.now)) }
-        ensures err { OnErr result (MayLackRoom Octs.Builder.ROOM (length (wire (Self.labels self.now)))) }
+        ensures ok { IfOk result (λ name. relative_labels name ≡ lowercase_labels (Self.labels self.now)) }
+        ensures err { OnErr result (MayExceedCapacity Octs.Builder.ROOM (length (wire (Self.labels self.now)))) }
     {
         // The body stands here and not in the call above: a result that is handed on is copied once more.
         let mut target = Octs::Builder::with_capacity(alloc, self.compose_len() as usize)?;
@@ -112,7 +112,7 @@ pub trait ToRelativeName<'a>: RelativeLabels<'a> {
         Ok(relative_name_of(lend_or_build(self, alloc)?))
     }
 
-    /// Appends the wire form of the labels (RFC 1035, 3.1), without a root, or nothing.
+    /// Appends the wire format of the labels (RFC 1035, 3.1), without a root, or nothing.
     ///
     /// The target's error where the octets don't fit, or where there was no memory for them; the target
     /// is then as before. Where they fit its spare capacity, there is none.
@@ -121,7 +121,7 @@ pub trait ToRelativeName<'a>: RelativeLabels<'a> {
         target: &mut Target,
     ) -> Result<(), Target::AppendError>
         ensures ok { OnOk result (Target.octets target.new ≡ Target.octets target.old ++ wire (Self.labels self.now)) }
-        ensures err { OnErr result (Target.octets target.new ≡ Target.octets target.old) }
+        ensures unchanged { OnErr result (Target.octets target.new ≡ Target.octets target.old) }
         ensures full { OnErr result (Target.capacity target.old < length (Target.octets target.old) + length (wire (Self.labels self.now))) }
         ensures capacity { Target.capacity target.old ≤ Target.capacity target.new }
         ensures within { IfSome Target.limit (λ n. length (Target.octets target.new) ≤ n) }
@@ -130,16 +130,16 @@ pub trait ToRelativeName<'a>: RelativeLabels<'a> {
         compose_name(self, target)
     }
 
-    /// Appends the wire form of the labels with A to Z as a to z (RFC 4034, 6.2), or nothing.
+    /// Appends the wire format of the labels with A to Z as a to z (RFC 4034, 6.2), or nothing.
     ///
     /// The errors are those of `compose`.
     final fn compose_canonical<Target: OctetsBuilder>(
         &'a self,
         target: &mut Target,
     ) -> Result<(), Target::AppendError>
-        ensures ok { OnOk result (Target.octets target.new ≡ Target.octets target.old ++ wire (low_all (Self.labels self.now))) }
-        ensures err { OnErr result (Target.octets target.new ≡ Target.octets target.old) }
-        ensures full { OnErr result (Target.capacity target.old < length (Target.octets target.old) + length (wire (low_all (Self.labels self.now)))) }
+        ensures ok { OnOk result (Target.octets target.new ≡ Target.octets target.old ++ wire (lowercase_labels (Self.labels self.now))) }
+        ensures unchanged { OnErr result (Target.octets target.new ≡ Target.octets target.old) }
+        ensures full { OnErr result (Target.capacity target.old < length (Target.octets target.old) + length (wire (lowercase_labels (Self.labels self.now)))) }
         ensures capacity { Target.capacity target.old ≤ Target.capacity target.new }
         ensures within { IfSome Target.limit (λ n. length (Target.octets target.new) ≤ n) }
         ensures fixed { IfSome Target.limit (λ n. Target.capacity target.old ≡ n) }
@@ -183,7 +183,7 @@ pub trait ToRelativeName<'a>: RelativeLabels<'a> {
 
     /// Whether the labels are the same without ASCII case (RFC 4343).
     final fn name_eq<N: RelativeLabels<'a>>(&'a self, other: &'a N) -> bool
-        ensures { IsTrue result ↔ (low_all (Self.labels self.now) ≡ low_all (N.labels other.now)) }
+        ensures { IsTrue result ↔ (lowercase_labels (Self.labels self.now) ≡ lowercase_labels (N.labels other.now)) }
     {
         eq_names(self, other)
     }
@@ -191,7 +191,7 @@ pub trait ToRelativeName<'a>: RelativeLabels<'a> {
     /// The order of names, as if both had one origin (RFC 4034, 6.1). It is `Equal` exactly where
     /// `name_eq` is true.
     final fn name_cmp<N: RelativeLabels<'a>>(&'a self, other: &'a N) -> Ordering
-        ensures { result ≡ order (Self.labels self.now) (N.labels other.now) }
+        ensures { result ≡ canonical_order (Self.labels self.now) (N.labels other.now) }
     {
         order_names(self, other)
     }

@@ -1,15 +1,15 @@
 -- Reading a value that has all of the octets.
 use Rattle.std.specs.Prelude.{◌≡◌, ℕ, List, [], ◌∷◌, codes, Result, Ok, Err}
 use Rattle.octseq.specs.declared.parse.Parser.{Parser}
-use Rattle.octseq.specs.Parsing.{whole, message, place, left}
+use Rattle.octseq.specs.Parsing.{slice_of, message, position, left}
 use Rattle.domain_wire.specs.declared.error.FormError.{FormError}
 use Rattle.domain_wire.specs.Refusals.{form_text}
 
 -- a parser over all of the octets, at their start
 pub record BeginsAt (p : Parser) (octets : List ℕ) : Type 0 where
-  pub whole_octets : whole p ≡ octets
+  pub whole_octets : slice_of p ≡ octets
   pub to_the_end : message p ≡ octets
-  pub at_start : place p ≡ 0
+  pub at_start : position p ≡ 0
 
 -- a value is told where nothing was left, and else an error that `trailing data` becomes
 abbrev pub OnlyWhole : {T E : Type 0} → (FormError → E → Type 0) → T → List ℕ → Result T E → Type 0

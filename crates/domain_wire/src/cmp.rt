@@ -9,40 +9,40 @@ use std::cmp::Ordering;
 /// The order of values in their canonical form (RFC 4034, 6), which need not be that of `Ord`.
 pub trait CanonicalOrd: Sized {
     /// The canonical order of two values.
-    ghost canonical_order: { Self → Self → Ordering };
+    ghost value_order: { Self → Self → Ordering };
 
     /// The canonical order of the two.
     fn canonical_cmp(&self, other: &Self) -> Ordering
-        ensures { result ≡ canonical_order self.now other.now };
+        ensures { result ≡ value_order self.now other.now };
 
     /// Whether this one comes first.
     fn canonical_lt(&self, other: &Self) -> bool
-        ensures { result ≡ is_lt (canonical_order self.now other.now) }
+        ensures { result ≡ is_lt (value_order self.now other.now) }
     {
         self.canonical_cmp(other).is_lt()
     }
 
     /// Whether this one comes first, or none does.
     fn canonical_le(&self, other: &Self) -> bool
-        ensures { result ≡ is_le (canonical_order self.now other.now) }
+        ensures { result ≡ is_le (value_order self.now other.now) }
     {
         self.canonical_cmp(other).is_le()
     }
 
     /// Whether the other one comes first.
     fn canonical_gt(&self, other: &Self) -> bool
-        ensures { result ≡ is_gt (canonical_order self.now other.now) }
+        ensures { result ≡ is_gt (value_order self.now other.now) }
     {
         self.canonical_cmp(other).is_gt()
     }
 
     /// Whether the other one comes first, or none does.
     fn canonical_ge(&self, other: &Self) -> bool
-        ensures { result ≡ is_ge (canonical_order self.now other.now) }
+        ensures { result ≡ is_ge (value_order self.now other.now) }
     {
         self.canonical_cmp(other).is_ge()
     }
 
     /// The order is total: turned round with its sides, and handed on from two values to a third.
-    ghost total: { IsTotalOrder canonical_order };
+    ghost total: { IsTotalOrder value_order };
 }

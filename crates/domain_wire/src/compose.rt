@@ -25,7 +25,7 @@ pub trait Compose {
     /// they fit. A refused call leaves the octets of the target as they were.
     fn compose<Target: OctetsBuilder>(&self, target: &mut Target) -> Result<(), Target::AppendError>
         ensures ok { OnOk result (Target.octets target.new ≡ Target.octets target.old ++ composed_octets self.now) }
-        ensures err { OnErr result (Target.octets target.new ≡ Target.octets target.old) }
+        ensures unchanged { OnErr result (Target.octets target.new ≡ Target.octets target.old) }
         ensures full { OnErr result (Target.capacity target.old < length (Target.octets target.old) + length (composed_octets self.now)) }
         ensures capacity { Target.capacity target.old ≤ Target.capacity target.new }
         ensures within { IfSome Target.limit (λ n. length (Target.octets target.new) ≤ n) };

@@ -1,7 +1,7 @@
 //! Values, and how they are read from the wire.
 ghost use Rattle.std.specs.Prelude.{◌≡◌, ℕ, ℤ, List, IfOk, IfErr, OnOk, OnErr};
 ghost use Rattle.std.specs.Int.{w8, w16, w32, w64, from_be_bytes, cast_signed};
-ghost use Rattle.octseq.specs.Parsing.{message, place, MovesTo};
+ghost use Rattle.octseq.specs.Parsing.{message, position, MovesTo};
 ghost use Rattle.domain_wire.specs.FixedLength.{fixed_reading};
 ghost use Rattle.domain_wire.specs.Values.{IsReading, FixedAt, ShortAt};
 ghost use Rattle.domain_wire.specs.declared.error.ParseError.{ParseError};
@@ -30,35 +30,35 @@ pub trait Parse<'a>: Sized {
     ghost View: { Type 0 };
 
     /// What contracts see of this value.
-    ghost seen: { Self → View };
+    ghost model: { Self → View };
 
     /// A value that is seen so stands in the octets at the first place, and the second place is behind it.
-    ghost stands: { List ℕ → ℕ → View → ℕ → Type 0 };
+    ghost encodes: { List ℕ → ℕ → View → ℕ → Type 0 };
 
     /// No value stands in the octets at the place, and the error tells why.
-    ghost fails: { List ℕ → ℕ → ParseError → Type 0 };
+    ghost fails_with: { List ℕ → ℕ → ParseError → Type 0 };
 
     /// Reads a value from the place of the parser on, and moves the parser behind it.
     ///
     /// A refused call leaves the parser where it stood.
     fn parse(parser: &mut Parser<'a>) -> Result<Self, ParseError>
-        ensures ok { IfOk result (λ value. stands (message parser.old) (place parser.old) (seen value) (place parser.new)) }
-        ensures moves { OnOk result (MovesTo parser.old parser.new (place parser.new)) }
-        ensures refused { IfErr result (λ e. fails (message parser.old) (place parser.old) e) }
-        ensures err { OnErr result (parser.new ≡ parser.old) };
+        ensures ok { IfOk result (λ value. encodes (message parser.old) (position parser.old) (model value) (position parser.new)) }
+        ensures moves { OnOk result (MovesTo parser.old parser.new (position parser.new)) }
+        ensures err { IfErr result (λ e. fails_with (message parser.old) (position parser.old) e) }
+        ensures unchanged { OnErr result (parser.new ≡ parser.old) };
 
     /// At each place stands one value or one fault is told, and never both.
-    ghost lawful: { IsReading stands fails };
+    ghost lawful: { IsReading encodes fails_with };
 }
 
 impl<'a> Parse<'a> for i8 {
     ghost View = { ℤ };
 
-    ghost seen = { λ value. value };
+    ghost model = { λ value. value };
 
-    ghost stands = { FixedAt 1 (λ octets. cast_signed w8 (from_be_bytes w8 octets)) };
+    ghost encodes = { FixedAt 1 (λ octets. cast_signed w8 (from_be_bytes w8 octets)) };
 
-    ghost fails = { ShortAt 1 };
+    ghost fails_with = { ShortAt 1 };
 
     fn parse(parser: &mut Parser<'a>) -> Result<i8, ParseError> {
         Ok(parser.parse_i8()?)
@@ -70,11 +70,11 @@ impl<'a> Parse<'a> for i8 {
 impl<'a> Parse<'a> for u8 {
     ghost View = { ℕ };
 
-    ghost seen = { λ value. value };
+    ghost model = { λ value. value };
 
-    ghost stands = { FixedAt 1 (from_be_bytes w8) };
+    ghost encodes = { FixedAt 1 (from_be_bytes w8) };
 
-    ghost fails = { ShortAt 1 };
+    ghost fails_with = { ShortAt 1 };
 
     fn parse(parser: &mut Parser<'a>) -> Result<u8, ParseError> {
         Ok(parser.parse_u8()?)
@@ -86,11 +86,11 @@ impl<'a> Parse<'a> for u8 {
 impl<'a> Parse<'a> for i16 {
     ghost View = { ℤ };
 
-    ghost seen = { λ value. value };
+    ghost model = { λ value. value };
 
-    ghost stands = { FixedAt 2 (λ octets. cast_signed w16 (from_be_bytes w16 octets)) };
+    ghost encodes = { FixedAt 2 (λ octets. cast_signed w16 (from_be_bytes w16 octets)) };
 
-    ghost fails = { ShortAt 2 };
+    ghost fails_with = { ShortAt 2 };
 
     fn parse(parser: &mut Parser<'a>) -> Result<i16, ParseError> {
         Ok(parser.parse_i16_be()?)
@@ -102,11 +102,11 @@ impl<'a> Parse<'a> for i16 {
 impl<'a> Parse<'a> for u16 {
     ghost View = { ℕ };
 
-    ghost seen = { λ value. value };
+    ghost model = { λ value. value };
 
-    ghost stands = { FixedAt 2 (from_be_bytes w16) };
+    ghost encodes = { FixedAt 2 (from_be_bytes w16) };
 
-    ghost fails = { ShortAt 2 };
+    ghost fails_with = { ShortAt 2 };
 
     fn parse(parser: &mut Parser<'a>) -> Result<u16, ParseError> {
         Ok(parser.parse_u16_be()?)
@@ -118,11 +118,11 @@ impl<'a> Parse<'a> for u16 {
 impl<'a> Parse<'a> for i32 {
     ghost View = { ℤ };
 
-    ghost seen = { λ value. value };
+    ghost model = { λ value. value };
 
-    ghost stands = { FixedAt 4 (λ octets. cast_signed w32 (from_be_bytes w32 octets)) };
+    ghost encodes = { FixedAt 4 (λ octets. cast_signed w32 (from_be_bytes w32 octets)) };
 
-    ghost fails = { ShortAt 4 };
+    ghost fails_with = { ShortAt 4 };
 
     fn parse(parser: &mut Parser<'a>) -> Result<i32, ParseError> {
         Ok(parser.parse_i32_be()?)
@@ -134,11 +134,11 @@ impl<'a> Parse<'a> for i32 {
 impl<'a> Parse<'a> for u32 {
     ghost View = { ℕ };
 
-    ghost seen = { λ value. value };
+    ghost model = { λ value. value };
 
-    ghost stands = { FixedAt 4 (from_be_bytes w32) };
+    ghost encodes = { FixedAt 4 (from_be_bytes w32) };
 
-    ghost fails = { ShortAt 4 };
+    ghost fails_with = { ShortAt 4 };
 
     fn parse(parser: &mut Parser<'a>) -> Result<u32, ParseError> {
         Ok(parser.parse_u32_be()?)
@@ -150,11 +150,11 @@ impl<'a> Parse<'a> for u32 {
 impl<'a> Parse<'a> for i64 {
     ghost View = { ℤ };
 
-    ghost seen = { λ value. value };
+    ghost model = { λ value. value };
 
-    ghost stands = { FixedAt 8 (λ octets. cast_signed w64 (from_be_bytes w64 octets)) };
+    ghost encodes = { FixedAt 8 (λ octets. cast_signed w64 (from_be_bytes w64 octets)) };
 
-    ghost fails = { ShortAt 8 };
+    ghost fails_with = { ShortAt 8 };
 
     fn parse(parser: &mut Parser<'a>) -> Result<i64, ParseError> {
         Ok(parser.parse_i64_be()?)
@@ -166,11 +166,11 @@ impl<'a> Parse<'a> for i64 {
 impl<'a> Parse<'a> for u64 {
     ghost View = { ℕ };
 
-    ghost seen = { λ value. value };
+    ghost model = { λ value. value };
 
-    ghost stands = { FixedAt 8 (from_be_bytes w64) };
+    ghost encodes = { FixedAt 8 (from_be_bytes w64) };
 
-    ghost fails = { ShortAt 8 };
+    ghost fails_with = { ShortAt 8 };
 
     fn parse(parser: &mut Parser<'a>) -> Result<u64, ParseError> {
         Ok(parser.parse_u64_be()?)
@@ -182,11 +182,11 @@ impl<'a> Parse<'a> for u64 {
 impl<'a> Parse<'a> for Ipv4Addr {
     ghost View = { Ipv4Addr };
 
-    ghost seen = { λ value. value };
+    ghost model = { λ value. value };
 
-    ghost stands = { FixedAt 4 ipv4_of };
+    ghost encodes = { FixedAt 4 ipv4_of };
 
-    ghost fails = { ShortAt 4 };
+    ghost fails_with = { ShortAt 4 };
 
     fn parse(parser: &mut Parser<'a>) -> Result<Ipv4Addr, ParseError> {
         Ok(Ipv4Addr::from(<[u8; 4]>::parse(parser)?))
@@ -198,11 +198,11 @@ impl<'a> Parse<'a> for Ipv4Addr {
 impl<'a> Parse<'a> for Ipv6Addr {
     ghost View = { Ipv6Addr };
 
-    ghost seen = { λ value. value };
+    ghost model = { λ value. value };
 
-    ghost stands = { FixedAt 16 ipv6_of };
+    ghost encodes = { FixedAt 16 ipv6_of };
 
-    ghost fails = { ShortAt 16 };
+    ghost fails_with = { ShortAt 16 };
 
     fn parse(parser: &mut Parser<'a>) -> Result<Ipv6Addr, ParseError> {
         Ok(Ipv6Addr::from(<[u8; 16]>::parse(parser)?))
@@ -214,11 +214,11 @@ impl<'a> Parse<'a> for Ipv6Addr {
 impl<'a, const N: usize> Parse<'a> for [u8; N] {
     ghost View = { List ℕ };
 
-    ghost seen = { λ value. value };
+    ghost model = { λ value. value };
 
-    ghost stands = { FixedAt N (λ octets. octets) };
+    ghost encodes = { FixedAt N (λ octets. octets) };
 
-    ghost fails = { ShortAt N };
+    ghost fails_with = { ShortAt N };
 
     fn parse(parser: &mut Parser<'a>) -> Result<[u8; N], ParseError> {
         let mut octets = [0; N];

@@ -14,7 +14,7 @@ pub record StringAt (m : List ℕ) (p : ℕ) (s : List ℕ) (e : ℕ) : Type 0 w
   pub whole : e ≤ length m
 
 -- the length octet or one of the octets behind it is missing
-pub record CutAt (m : List ℕ) (p : ℕ) (why : ParseError) : Type 0 where
+pub record StringTooShort (m : List ℕ) (p : ℕ) (why : ParseError) : Type 0 where
   pub cut : length m < p + 1 + slice_index m p
   pub told : why ≡ ShortInput
 
@@ -24,12 +24,12 @@ one_string m p a b e f at other =
     let ends : p + 1 + length a ≡ p + 1 + length b = ap (λ n. p + 1 + n) same in
     (at.octets ∙ ap (slice_range m (p + 1)) ends ∙ sym other.octets, at.behind ∙ ends ∙ sym other.behind)
 
-no_cut : (m : List ℕ) (p : ℕ) (s : List ℕ) (e : ℕ) (why : ParseError) → StringAt m p s e → CutAt m p why → ⊥
+no_cut : (m : List ℕ) (p : ℕ) (s : List ℕ) (e : ℕ) (why : ParseError) → StringAt m p s e → StringTooShort m p why → ⊥
 no_cut m p s e why at short =
     let h = at.head in let b = at.behind in let w = at.whole in let c = short.cut in omega arith
 
 -- at each place stands one string, or one fault is told
-pub string_reading : IsReading StringAt CutAt
+pub string_reading : IsReading StringAt StringTooShort
 string_reading = record {
   inside = λ m p s e at. let b = at.behind in let w = at.whole in (omega arith, omega arith);
   one_value = one_string;

@@ -1,7 +1,7 @@
 -- What contracts see of a host, and of the iterator over its labels.
 use Rattle.std.specs.Prelude.{ℕ, List, [], ◌∷◌, ◌++◌, Option, None, Some}
 use Rattle.domain_label.specs.declared.label.Label.{Label}
-use Rattle.domain_label.specs.Views.{label_octets, owned_octets}
+use Rattle.domain_label.specs.Labels.{label_octets, owned_octets}
 use Rattle.domain_name.specs.Names.{name_labels}
 use Rattle.examples.specs.declared.hosts.Host.{Host}
 use Rattle.examples.specs.declared.host_labels.HostLabels.{HostLabels}

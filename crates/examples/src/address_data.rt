@@ -1,6 +1,6 @@
 //! Record data of a type of one's own: the address of a host (RFC 1035, 3.4.1).
 ghost use Rattle.std.specs.Prelude.{◌≡◌, ◌+◌, ◌<◌, ◌≤◌, length, nat_eq, slice_range, true, false, IfOk, IfSome, IsNone, ◌↔◌, OnErr};
-ghost use Rattle.octseq.specs.Parsing.{message, place};
+ghost use Rattle.octseq.specs.Parsing.{message, position};
 ghost use Rattle.domain_wire.specs.Addresses.{ipv4_octets, ipv4_of};
 ghost use Rattle.domain_wire.specs.FixedLength.{fixed_reading};
 ghost use Rattle.domain_wire.specs.Values.{FixedAt, ShortAt};
@@ -62,13 +62,13 @@ impl ComposeRecordData for AddressData {
 impl<'a> ParseRecordData<'a> for AddressData {
     ghost View = { Ipv4Addr };
 
-    ghost seen = { λ it. it.address };
+    ghost model = { λ it. it.address };
 
     ghost reads_type = { λ number. nat_eq number 1 };
 
-    ghost stands = { λ _. FixedAt 4 ipv4_of };
+    ghost encodes = { λ _. FixedAt 4 ipv4_of };
 
-    ghost fails = { λ _. ShortAt 4 };
+    ghost fails_with = { λ _. ShortAt 4 };
 
     fn parse_rdata(
         rtype: Rtype,
@@ -90,10 +90,10 @@ pub fn read_address<'a>(
     rtype: Rtype,
     parser: &mut Parser<'a>,
 ) -> Result<Option<Ipv4Addr>, ParseError>
-    ensures address { IfOk result (λ read. IfSome read (λ it. it ≡ ipv4_of (slice_range (message parser.old) (place parser.old) (place parser.old + 4)))) }
+    ensures address { IfOk result (λ read. IfSome read (λ it. it ≡ ipv4_of (slice_range (message parser.old) (position parser.old) (position parser.old + 4)))) }
     ensures none { IfOk result (λ read. IsNone read ↔ (nat_eq (rtype_number rtype) 1 ≡ false)) }
-    ensures short { OnErr result (length (message parser.old) < place parser.old + 4) }
-    ensures err { OnErr result (parser.new ≡ parser.old) }
+    ensures short { OnErr result (length (message parser.old) < position parser.old + 4) }
+    ensures unchanged { OnErr result (parser.new ≡ parser.old) }
 {
     match AddressData::parse_rdata(rtype, parser)? {
         Some(data) => Ok(Some(data.address)),

@@ -1,6 +1,6 @@
 //! A value of no fixed length that is read from a message.
 ghost use Rattle.std.specs.Prelude.{◌≡◌, ◌≤◌, ℕ, List, length};
-ghost use Rattle.examples.specs.CharacterStrings.{StringAt, CutAt, string_reading};
+ghost use Rattle.examples.specs.CharacterStrings.{StringAt, StringTooShort, string_reading};
 
 use domain::base::wire::{Parse, ParseError};
 use octseq::Parser;
@@ -25,11 +25,11 @@ impl<'a> CharacterString<'a> {
 impl<'a> Parse<'a> for CharacterString<'a> {
     ghost View = { List ℕ };
 
-    ghost seen = { λ string. string.octets.now };
+    ghost model = { λ string. string.octets.now };
 
-    ghost stands = { StringAt };
+    ghost encodes = { StringAt };
 
-    ghost fails = { CutAt };
+    ghost fails_with = { StringTooShort };
 
     fn parse(parser: &mut Parser<'a>) -> Result<CharacterString<'a>, ParseError> {
         let mut ahead = *parser;

@@ -1,7 +1,7 @@
 //! A text, the name that it spells, the name in a message, and the name in one piece again: its labels stay.
 ghost use Rattle.std.specs.Prelude.{◌≡◌, ℕ, List, IsOkAnd, IfOk};
 ghost use Rattle.std.specs.Str.{chars};
-ghost use Rattle.domain_label.specs.Text.{dotted};
+ghost use Rattle.domain_label.specs.Text.{text_with_final_dot};
 ghost use Rattle.domain_label.specs.Wire.{IsAbsoluteName};
 ghost use Rattle.domain_builder.specs.Laws.{AreBytes};
 ghost use Rattle.domain_builder.specs.TextGrammar.{SpellsName};
@@ -40,7 +40,7 @@ pub fn put_and_read(alloc: Global, name: &Name<ArrayVec<u8, 255>>) -> Name<Array
 /// gives that name back.
 pub fn through_a_message(alloc: Global, text: &str) -> Result<Name<ArrayVec<u8, 255>>, FromStrError>
     ensures spelled { IfOk result (λ name. SpellsName (chars text.now) (name_labels name)) }
-    ensures shown { (ls : List (List ℕ)) → IsAbsoluteName ls → AreBytes ls → chars text.now ≡ dotted ls → IsOkAnd result (λ name. name_labels name ≡ ls) }
+    ensures shown { (ls : List (List ℕ)) → IsAbsoluteName ls → AreBytes ls → chars text.now ≡ text_with_final_dot ls → IsOkAnd result (λ name. name_labels name ≡ ls) }
 {
     text_laws();
     match text.parse() {

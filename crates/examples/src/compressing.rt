@@ -15,7 +15,7 @@ pub fn append_at<'a, Target: Composer, N: AbsoluteLabels<'a>>(
     name: &'a N,
 ) -> Result<usize, Target::AppendError>
     ensures stands { IfOk result (λ place. StandsAt (Target.octets target.new) place (N.labels name.now)) }
-    ensures err { OnErr result (Target.octets target.new ≡ Target.octets target.old) }
+    ensures unchanged { OnErr result (Target.octets target.new ≡ Target.octets target.old) }
 {
     let place = target.as_slice().len();
     target.append_compressed_name(name)?;

@@ -1,7 +1,7 @@
 //! Data of a record with a name in it, which is flattened with its name.
 ghost use Rattle.std.specs.Prelude.{◌≡◌, IfOk};
 ghost use Rattle.domain_name.specs.Names.{name_labels};
-ghost use Rattle.domain_parsed.specs.Views.{parsed_labels};
+ghost use Rattle.domain_parsed.specs.ParsedNames.{parsed_labels};
 
 use domain::base::name::*;
 use octseq::ShortBuf;

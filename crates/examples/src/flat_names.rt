@@ -1,13 +1,13 @@
 //! Flat names and their parts.
 ghost use Rattle.std.specs.Prelude.{◌≡◌, ◌++◌, ◌∷◌, ◌+◌, ◌↔◌, ℕ, List, length, IfSome, IsSome};
 ghost use Rattle.domain_flat.specs.Flat.{IsLabelStart};
-ghost use Rattle.domain_label.specs.Views.{label_octets};
+ghost use Rattle.domain_label.specs.Labels.{label_octets};
 ghost use Rattle.domain_label.specs.Wire.{wire, IsAbsoluteWire};
 ghost use Rattle.domain_name.specs.Names.{name_labels, name_octets, relative_labels};
 
 use domain::base::name::*;
 
-/// A name that is kept as octets in wire form, as `\x07example\x03com\0`. `None` where the octets are no
+/// A name that is kept as octets in wire format, as `\x07example\x03com\0`. `None` where the octets are no
 /// such form.
 pub fn known_name(octets: &[u8]) -> Option<Name<&[u8]>>
     ensures some { IsSome result ↔ IsAbsoluteWire octets.now }

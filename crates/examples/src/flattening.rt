@@ -1,9 +1,9 @@
 //! Names of any kind in one piece, and as octets.
 ghost use Rattle.std.specs.Prelude.{◌≡◌, ◌++◌, ◌∷◌, [], IsOk, IfOk};
-ghost use Rattle.domain_label.specs.Low.{low_all};
+ghost use Rattle.domain_label.specs.Lowercase.{lowercase_labels};
 ghost use Rattle.domain_label.specs.Wire.{wire};
 ghost use Rattle.domain_name.specs.Names.{name_labels};
-ghost use Rattle.domain_parsed.specs.Views.{parsed_labels};
+ghost use Rattle.domain_parsed.specs.ParsedNames.{parsed_labels};
 
 use arrayvec::ArrayVec;
 use domain::base::name::*;
@@ -40,7 +40,7 @@ pub fn copy_name<'a, N: AbsoluteLabels<'a>>(
 
 /// A name of any kind as a key: in one piece, owned, and lowered.
 pub fn key<'a, N: AbsoluteLabels<'a>>(name: &'a N, alloc: Global) -> Result<Name<Vec<u8>>, ShortBuf>
-    ensures { IfOk result (λ made. name_labels made ≡ low_all (N.labels name.now)) }
+    ensures { IfOk result (λ made. name_labels made ≡ lowercase_labels (N.labels name.now)) }
 {
     name.to_canonical_name(alloc)
 }

@@ -1,7 +1,7 @@
 //! The labels of a host's name.
 ghost use Rattle.std.specs.Prelude.{◌≡◌, ◌∷◌};
 ghost use Rattle.std.specs.Iterator.{YieldsFirstBy, YieldsLastBy, item_count};
-ghost use Rattle.domain_label.specs.Views.{label_octets};
+ghost use Rattle.domain_label.specs.Labels.{label_octets};
 ghost use Rattle.examples.specs.Hosts.{left_of};
 
 use domain::base::name::*;

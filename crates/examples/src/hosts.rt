@@ -1,7 +1,7 @@
 //! A type of one's own with an iterator of its own: the hosts of a zone.
 ghost use Rattle.std.specs.Prelude.{◌≡◌, ◌<◌, ◌+◌, ◌∷◌, ◌⊎◌, ◌↔◌, List, ℕ, [], length, IsNone, IfSome, IsTrue};
 ghost use Rattle.std.proofs.Common.{inl};
-ghost use Rattle.domain_label.specs.Views.{owned_octets};
+ghost use Rattle.domain_label.specs.Labels.{owned_octets};
 ghost use Rattle.domain_label.specs.Wire.{wire, IsAbsoluteName};
 ghost use Rattle.domain_label.proofs.WireLaws.{IsAbsoluteName_prop};
 ghost use Rattle.domain_list.specs.Ends.{EndsWith};
@@ -74,8 +74,8 @@ impl<'a> ToLabelIter<'a> for Host {
 impl<'a> AbsoluteLabels<'a> for Host {}
 
 /// Whether a host is in a zone. The type has each call that absolute names have.
-pub fn is_host_in_zone(host: &Host, apex: &Name<Vec<u8>>) -> bool
-    ensures { IsTrue result ↔ EndsWith (owned_octets host.now.label ∷ name_labels host.now.zone) (name_labels apex.now) }
+pub fn is_host_in_zone(host: &Host, ancestor: &Name<Vec<u8>>) -> bool
+    ensures { IsTrue result ↔ EndsWith (owned_octets host.now.label ∷ name_labels host.now.zone) (name_labels ancestor.now) }
 {
-    is_in_zone(host, apex)
+    is_in_zone(host, ancestor)
 }

@@ -16,6 +16,7 @@ pub mod flat_names;
 pub mod flattening;
 pub mod host_labels;
 pub mod hosts;
+pub mod key_exchangers;
 pub mod labels;
 pub mod made_names;
 pub mod octets;

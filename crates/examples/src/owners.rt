@@ -2,7 +2,7 @@
 ghost use Rattle.std.specs.Prelude.{⊤};
 ghost use Rattle.std.proofs.Common.{inl};
 ghost use Rattle.domain_name.specs.Names.{name_labels};
-ghost use Rattle.domain_name.proofs.Shapes.{flat_absolute};
+ghost use Rattle.domain_name.proofs.NameFields.{flat_absolute};
 
 use domain::base::name::*;
 

@@ -1,14 +1,14 @@
 //! Reading names from messages, and going over their labels.
 ghost use Rattle.std.specs.Prelude.{◌≡◌, ◌<◌, ◌≤◌, ◌+◌, ◌++◌, ◌∷◌, ◌⊎◌, ◌↔◌, [], ℕ, List, length, slice_range, string_bytes, IfOk, IfSome, IsNone, OnOk, OnErr};
 ghost use Rattle.std.specs.Int.{w16, from_be_bytes};
-ghost use Rattle.domain_label.specs.Text.{dotted};
-ghost use Rattle.domain_label.specs.Views.{label_octets};
+ghost use Rattle.domain_label.specs.Text.{text_with_final_dot};
+ghost use Rattle.domain_label.specs.Labels.{label_octets};
 ghost use Rattle.domain_label.specs.Wire.{Root};
-ghost use Rattle.domain_parsed.specs.Views.{parsed_labels};
+ghost use Rattle.domain_parsed.specs.ParsedNames.{parsed_labels};
 ghost use Rattle.domain_reading.specs.Faults.{Skips, SkipFault};
-ghost use Rattle.domain_reading.specs.Grammar.{Names, EndsBefore};
+ghost use Rattle.domain_reading.specs.Grammar.{Names, EncodingEnds};
 ghost use Rattle.domain_reading.specs.declared.fault.NameFault.{NameFault};
-ghost use Rattle.octseq.specs.Parsing.{message, place, MovesTo};
+ghost use Rattle.octseq.specs.Parsing.{message, position, MovesTo};
 
 use domain::base::name::*;
 use domain::base::wire::{ParseError, parse_slice};
@@ -18,12 +18,12 @@ use std::sync::ledger::Ledger;
 
 /// The name at the parser's place, the type and the class behind it. A refused call leaves the parser.
 pub fn question<'a>(parser: &mut Parser<'a>) -> Result<(ParsedName<&'a [u8]>, u16, u16), ParseError>
-    ensures name { IfOk result (λ read. Names 255 (message parser.old) (place parser.old) (parsed_labels read.0)) }
-    ensures behind { IfOk result (λ read. (e : ℕ) × EndsBefore (message parser.old) (place parser.old) e
+    ensures name { IfOk result (λ read. Names 255 (message parser.old) (position parser.old) (parsed_labels read.0)) }
+    ensures behind { IfOk result (λ read. (e : ℕ) × EncodingEnds (message parser.old) (position parser.old) e
         × (read.1 ≡ from_be_bytes w16 (slice_range (message parser.old) e (e + 2)))
         × (read.2 ≡ from_be_bytes w16 (slice_range (message parser.old) (e + 2) (e + 4)))
         × MovesTo parser.old parser.new (e + 4)) }
-    ensures err { OnErr result (parser.new ≡ parser.old) }
+    ensures unchanged { OnErr result (parser.new ≡ parser.old) }
 {
     let mut ahead = *parser;
     let name = ParsedName::parse(&mut ahead)?;
@@ -42,9 +42,9 @@ pub fn whole_name(octets: &[u8]) -> Result<ParsedName<&[u8]>, ParseError>
 
 /// Passes over a question: the name, and the four octets of its type and class.
 pub fn skip_question(parser: &mut Parser<'_>) -> Result<(), ParseError>
-    ensures ok { OnOk result ((e : ℕ) × Skips (message parser.old) (place parser.old) e × (place parser.new ≡ e + 4)) }
-    ensures err { OnErr result (((why : NameFault) × SkipFault (message parser.old) (place parser.old) why)
-        ⊎ ((e : ℕ) × Skips (message parser.old) (place parser.old) e × (length (message parser.old) < e + 4))) }
+    ensures ok { OnOk result ((e : ℕ) × Skips (message parser.old) (position parser.old) e × (position parser.new ≡ e + 4)) }
+    ensures err { OnErr result (((why : NameFault) × SkipFault (message parser.old) (position parser.old) why)
+        ⊎ ((e : ℕ) × Skips (message parser.old) (position parser.old) e × (length (message parser.old) < e + 4))) }
 {
     ParsedName::skip(parser)?;
     parser.advance(4)?;
@@ -64,7 +64,7 @@ pub fn top_label<'a>(name: &'a ParsedName<&[u8]>) -> Option<Label<'a>>
 
 /// A name for people to read: each label with a dot behind it, and the root as a dot.
 pub fn shown(name: &ParsedName<&[u8]>, alloc: Global) -> Result<String, AllocError>
-    ensures { IfOk result (λ text. string_bytes text ≡ dotted (parsed_labels name.now)) }
+    ensures { IfOk result (λ text. string_bytes text ≡ text_with_final_dot (parsed_labels name.now)) }
 {
     let dotted = name.fmt_with_dot();
     format!(in alloc; "{dotted}")
@@ -76,7 +76,7 @@ pub fn plain_name<'a, L: Ledger>(
     parser: &mut Parser<'a>,
     heads: &mut Heads<L>,
 ) -> Result<ParsedName<&'a [u8]>, ParseError>
-    ensures name { IfOk result (λ name. Names 16 (message parser.old) (place parser.old) (parsed_labels name)) }
+    ensures name { IfOk result (λ name. Names 16 (message parser.old) (position parser.old) (parsed_labels name)) }
     ensures few { heads.new ≤ heads.old + 144 }
 {
     ParsedName::parse_counted(parser, 16, heads)

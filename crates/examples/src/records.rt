@@ -14,7 +14,7 @@ pub fn append_data(
     message: &mut Vec<u8>,
 ) -> Result<(), ComposeRdataError<ShortBuf>>
     ensures ok { OnOk result (message.new.items ≡ message.old.items ++ to_be_bytes w16 (length octets.now) ++ octets.now) }
-    ensures err { OnErr result (message.new.items ≡ message.old.items) }
+    ensures unchanged { OnErr result (message.new.items ≡ message.old.items) }
 {
     match UnknownRecordData::from_octets(rtype, octets) {
         Ok(data) => data.compose_len_rdata(message),

@@ -2,8 +2,8 @@
 ghost use Rattle.std.specs.Prelude.{◌≡◌, ◌⊎◌, ◌↔◌, IfOk, IfErr, IsTrue};
 ghost use Rattle.std.specs.Str.{chars};
 ghost use Rattle.domain_builder.specs.TextGrammar.{SpellsName, SpellsNoName};
-ghost use Rattle.domain_builder.specs.Told.{MatchFromStr};
-ghost use Rattle.domain_builder.specs.declared.part.Fault.TheVariants.{LongLabel, LongName};
+ghost use Rattle.domain_builder.specs.TextErrors.{MatchFromStr};
+ghost use Rattle.domain_builder.specs.declared.name_symbol.TextFault.TheVariants.{LongLabel, LongName};
 ghost use Rattle.domain_name.specs.Names.{name_labels};
 
 use arrayvec::ArrayVec;

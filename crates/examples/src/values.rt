@@ -3,7 +3,7 @@ ghost use Rattle.std.specs.Prelude.{◌≡◌, ◌+◌, ◌++◌, ◌<◌, ◌�
 ghost use Rattle.std.specs.Int.{w16, to_be_bytes, from_be_bytes};
 ghost use Rattle.domain_wire.specs.Refusals.{refusal, short_input};
 ghost use Rattle.domain_wire.specs.declared.error.ParseError.{ParseError};
-ghost use Rattle.octseq.specs.Parsing.{message, place, next, MovesOver, MovesTo};
+ghost use Rattle.octseq.specs.Parsing.{message, position, next, MovesOver, MovesTo};
 
 use domain::base::wire::{Compose, Parse, ParseError, compose_vec, parse_slice};
 use octseq::{OctetsBuilder, Parser, ShortBuf};
@@ -17,7 +17,7 @@ pub fn compose_two<A: Compose, B: Compose, Target: OctetsBuilder>(
 ) -> Result<(), Target::AppendError>
     ensures ok { OnOk result (Target.octets target.new
         ≡ Target.octets target.old ++ A.composed_octets first.now ++ B.composed_octets second.now) }
-    ensures err { OnErr result (Target.octets target.new ≡ Target.octets target.old) }
+    ensures unchanged { OnErr result (Target.octets target.new ≡ Target.octets target.old) }
 {
     let len = target.as_slice().len();
     first.compose(target)?;
@@ -35,14 +35,14 @@ pub fn parse_two<'a, A: Parse<'a> + Drop, B: Parse<'a> + Drop, E: From<ParseErro
     parser: &mut Parser<'a>,
 ) -> Result<(A, B), E>
     ensures ok { IfOk result (λ read. (between : ℕ)
-        × A.stands (message parser.old) (place parser.old) (A.seen read.0) between
-        × B.stands (message parser.old) between (B.seen read.1) (place parser.new)) }
-    ensures moves { OnOk result (MovesTo parser.old parser.new (place parser.new)) }
-    ensures refused { IfErr result (λ e. (told : ParseError) × E.from_gives told e
-        × (A.fails (message parser.old) (place parser.old) told
-        ⊎ ((seen : A.View) × (between : ℕ) × A.stands (message parser.old) (place parser.old) seen between
-        × B.fails (message parser.old) between told))) }
-    ensures err { OnErr result (parser.new ≡ parser.old) }
+        × A.encodes (message parser.old) (position parser.old) (A.model read.0) between
+        × B.encodes (message parser.old) between (B.model read.1) (position parser.new)) }
+    ensures moves { OnOk result (MovesTo parser.old parser.new (position parser.new)) }
+    ensures err { IfErr result (λ e. (told : ParseError) × E.from_gives told e
+        × (A.fails_with (message parser.old) (position parser.old) told
+        ⊎ ((seen : A.View) × (between : ℕ) × A.encodes (message parser.old) (position parser.old) seen between
+        × B.fails_with (message parser.old) between told))) }
+    ensures unchanged { OnErr result (parser.new ≡ parser.old) }
 {
     let mut ahead = *parser;
     let first = A::parse(&mut ahead)?;
@@ -54,9 +54,9 @@ pub fn parse_two<'a, A: Parse<'a> + Drop, B: Parse<'a> + Drop, E: From<ParseErro
 /// The type and the class of a question, which stand behind its name.
 pub fn type_and_class(parser: &mut Parser<'_>) -> Result<(u16, u16), ParseError>
     ensures rtype { IfOk result (λ read. read.0 ≡ from_be_bytes w16 (next parser.old 2)) }
-    ensures class { IfOk result (λ read. read.1 ≡ from_be_bytes w16 (slice_range (message parser.old) (place parser.old + 2) (place parser.old + 4))) }
+    ensures class { IfOk result (λ read. read.1 ≡ from_be_bytes w16 (slice_range (message parser.old) (position parser.old + 2) (position parser.old + 4))) }
     ensures moves { OnOk result (MovesOver parser.old parser.new 4) }
-    ensures err { OnErr result (parser.new ≡ parser.old) }
+    ensures unchanged { OnErr result (parser.new ≡ parser.old) }
 {
     parse_two(parser)
 }

@@ -1,6 +1,6 @@
 //! A type of one's own around a name of any kind, which is itself a name.
 ghost use Rattle.std.specs.Prelude.{◌≡◌, ◌↔◌, IsTrue};
-ghost use Rattle.domain_label.specs.Low.{low_all};
+ghost use Rattle.domain_label.specs.Lowercase.{lowercase_labels};
 
 use domain::base::name::*;
 
@@ -56,7 +56,7 @@ pub fn is_same<'a, N: AbsoluteLabels<'a>, M: AbsoluteLabels<'a>>(
     one: &'a Dated<N>,
     other: &'a Dated<M>,
 ) -> bool
-    ensures { IsTrue result ↔ (low_all (N.labels one.now.name) ≡ low_all (M.labels other.now.name)) }
+    ensures { IsTrue result ↔ (lowercase_labels (N.labels one.now.name) ≡ lowercase_labels (M.labels other.now.name)) }
 {
     one.name_eq(other)
 }

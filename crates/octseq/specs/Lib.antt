@@ -1,3 +1,3 @@
 pub mod Octets
 pub mod Parsing
-pub mod Room
+pub mod Capacity

@@ -3,16 +3,16 @@ use Rattle.std.specs.Prelude.{◌≡◌, ℕ, ◌+◌, ◌<◌, List, length, ta
 use Rattle.octseq.specs.declared.parse.Parser.{Parser}
 
 -- all octets of the slice
-abbrev pub whole : Parser → List ℕ
-whole p = p.octets.now
+abbrev pub slice_of : Parser → List ℕ
+slice_of p = p.octets.now
 
 -- the octets up to the parser's end: no others are ever read
 abbrev pub message : Parser → List ℕ
 message p = take p.end p.octets.now
 
 -- the place of the next octet, counted from the start of the slice
-abbrev pub place : Parser → ℕ
-place p = p.pos
+abbrev pub position : Parser → ℕ
+position p = p.pos
 
 -- the octets that are left
 abbrev pub left : Parser → List ℕ

@@ -39,13 +39,13 @@ pub struct Parser<'a> {
 }
 
 impl<'a> Parser<'a> {
-    ghost use Rattle.octseq.specs.Parsing.{whole, message, place, left, next, LacksOctets, MovesTo, MovesOver};
+    ghost use Rattle.octseq.specs.Parsing.{slice_of, message, position, left, next, LacksOctets, MovesTo, MovesOver};
 
     /// A parser over all of the octets, at their start.
     pub fn from_ref(octets: &'a [u8]) -> Parser<'a>
-        ensures whole { whole result ≡ octets.now }
+        ensures whole { slice_of result ≡ octets.now }
         ensures message { message result ≡ octets.now }
-        ensures place { place result ≡ 0 }
+        ensures place { position result ≡ 0 }
     {
         let end = octets.len();
         Parser {
@@ -61,9 +61,9 @@ impl<'a> Parser<'a> {
     pub fn with_range(octets: &'a [u8], range: Range<usize>) -> Parser<'a>
         requires ordered { range.start ≤ range.end }
         requires inside { range.end ≤ length octets.now }
-        ensures whole { whole result ≡ octets.now }
+        ensures whole { slice_of result ≡ octets.now }
         ensures message { message result ≡ take range.end octets.now }
-        ensures place { place result ≡ range.start }
+        ensures place { position result ≡ range.start }
     {
         Parser {
             octets,
@@ -74,7 +74,7 @@ impl<'a> Parser<'a> {
 
     /// The whole slice, octets past the end too.
     pub fn octets_ref(&self) -> &'a [u8]
-        ensures { result.now ≡ whole self.now }
+        ensures { result.now ≡ slice_of self.now }
     {
         self.octets
     }
@@ -88,7 +88,7 @@ impl<'a> Parser<'a> {
 
     /// The place of the next octet.
     pub fn pos(&self) -> usize
-        ensures place { result ≡ place self.now }
+        ensures place { result ≡ position self.now }
         ensures inside { result ≤ length (message self.now) }
     {
         self.pos
@@ -127,7 +127,7 @@ impl<'a> Parser<'a> {
     pub fn seek(&mut self, pos: usize) -> Result<(), ShortInput>
         ensures ok { OnOk result (MovesTo self.old self.new pos) }
         ensures short { IsErr result ↔ (length (message self.old) < pos) }
-        ensures err { OnErr result (self.new ≡ self.old) }
+        ensures unchanged { OnErr result (self.new ≡ self.old) }
     {
         if pos > self.end {
             return Err(ShortInput);
@@ -142,7 +142,7 @@ impl<'a> Parser<'a> {
     pub fn advance(&mut self, n: usize) -> Result<(), ShortInput>
         ensures ok { OnOk result (MovesOver self.old self.new n) }
         ensures short { IsErr result ↔ LacksOctets self.old n }
-        ensures err { OnErr result (self.new ≡ self.old) }
+        ensures unchanged { OnErr result (self.new ≡ self.old) }
     {
         if self.remaining() < n {
             return Err(ShortInput);
@@ -158,7 +158,7 @@ impl<'a> Parser<'a> {
         ensures ok { IfOk result (λ octets. octets.now ≡ next self.old n) }
         ensures moves { OnOk result (MovesOver self.old self.new n) }
         ensures short { IsErr result ↔ LacksOctets self.old n }
-        ensures err { OnErr result (self.new ≡ self.old) }
+        ensures unchanged { OnErr result (self.new ≡ self.old) }
     {
         let octets = self.peek(n)?;
         self.pos += octets.len();
@@ -169,12 +169,12 @@ impl<'a> Parser<'a> {
     ///
     /// Its places count from the start of the same slice. `ShortInput` where fewer are left.
     pub fn parse_parser(&mut self, n: usize) -> Result<Parser<'a>, ShortInput>
-        ensures whole { IfOk result (λ part. whole part ≡ whole self.old) }
-        ensures message { IfOk result (λ part. message part ≡ take (place self.old + n) (message self.old)) }
-        ensures place { IfOk result (λ part. place part ≡ place self.old) }
+        ensures whole { IfOk result (λ part. slice_of part ≡ slice_of self.old) }
+        ensures message { IfOk result (λ part. message part ≡ take (position self.old + n) (message self.old)) }
+        ensures place { IfOk result (λ part. position part ≡ position self.old) }
         ensures moves { OnOk result (MovesOver self.old self.new n) }
         ensures short { IsErr result ↔ LacksOctets self.old n }
-        ensures err { OnErr result (self.new ≡ self.old) }
+        ensures unchanged { OnErr result (self.new ≡ self.old) }
     {
         let mut part = *self;
         self.advance(n)?;
@@ -190,8 +190,8 @@ impl<'a> Parser<'a> {
         ensures ok { OnOk result (buf.new ≡ next self.old (length buf.old)) }
         ensures moves { OnOk result (MovesOver self.old self.new (length buf.old)) }
         ensures short { IsErr result ↔ LacksOctets self.old (length buf.old) }
-        ensures err { OnErr result (self.new ≡ self.old) }
-        ensures kept { OnErr result (buf.new ≡ buf.old) }
+        ensures unchanged { OnErr result (self.new ≡ self.old) }
+        ensures buffer_unchanged { OnErr result (buf.new ≡ buf.old) }
     {
         let octets = self.parse_octets(buf.len())?;
         buf.copy_from_slice(octets);
@@ -203,7 +203,7 @@ impl<'a> Parser<'a> {
         ensures ok { IfOk result (λ octets. octets ≡ next self.old N) }
         ensures moves { OnOk result (MovesOver self.old self.new N) }
         ensures short { IsErr result ↔ LacksOctets self.old N }
-        ensures err { OnErr result (self.new ≡ self.old) }
+        ensures unchanged { OnErr result (self.new ≡ self.old) }
     {
         let mut octets = [0; N];
         self.parse_buf(&mut octets)?;
@@ -215,7 +215,7 @@ impl<'a> Parser<'a> {
         ensures ok { IfOk result (λ n. n ≡ from_be_bytes w8 (next self.old 1)) }
         ensures moves { OnOk result (MovesOver self.old self.new 1) }
         ensures short { IsErr result ↔ LacksOctets self.old 1 }
-        ensures err { OnErr result (self.new ≡ self.old) }
+        ensures unchanged { OnErr result (self.new ≡ self.old) }
     {
         Ok(u8::from_be_bytes(self.parse_array()?))
     }
@@ -225,7 +225,7 @@ impl<'a> Parser<'a> {
         ensures ok { IfOk result (λ n. n ≡ cast_signed w8 (from_be_bytes w8 (next self.old 1))) }
         ensures moves { OnOk result (MovesOver self.old self.new 1) }
         ensures short { IsErr result ↔ LacksOctets self.old 1 }
-        ensures err { OnErr result (self.new ≡ self.old) }
+        ensures unchanged { OnErr result (self.new ≡ self.old) }
     {
         Ok(i8::from_be_bytes(self.parse_array()?))
     }
@@ -235,7 +235,7 @@ impl<'a> Parser<'a> {
         ensures ok { IfOk result (λ n. n ≡ from_be_bytes w16 (next self.old 2)) }
         ensures moves { OnOk result (MovesOver self.old self.new 2) }
         ensures short { IsErr result ↔ LacksOctets self.old 2 }
-        ensures err { OnErr result (self.new ≡ self.old) }
+        ensures unchanged { OnErr result (self.new ≡ self.old) }
     {
         Ok(u16::from_be_bytes(self.parse_array()?))
     }
@@ -246,7 +246,7 @@ impl<'a> Parser<'a> {
         ensures ok { IfOk result (λ n. n ≡ cast_signed w16 (from_be_bytes w16 (next self.old 2))) }
         ensures moves { OnOk result (MovesOver self.old self.new 2) }
         ensures short { IsErr result ↔ LacksOctets self.old 2 }
-        ensures err { OnErr result (self.new ≡ self.old) }
+        ensures unchanged { OnErr result (self.new ≡ self.old) }
     {
         Ok(i16::from_be_bytes(self.parse_array()?))
     }
@@ -256,7 +256,7 @@ impl<'a> Parser<'a> {
         ensures ok { IfOk result (λ n. n ≡ from_be_bytes w32 (next self.old 4)) }
         ensures moves { OnOk result (MovesOver self.old self.new 4) }
         ensures short { IsErr result ↔ LacksOctets self.old 4 }
-        ensures err { OnErr result (self.new ≡ self.old) }
+        ensures unchanged { OnErr result (self.new ≡ self.old) }
     {
         Ok(u32::from_be_bytes(self.parse_array()?))
     }
@@ -267,7 +267,7 @@ impl<'a> Parser<'a> {
         ensures ok { IfOk result (λ n. n ≡ cast_signed w32 (from_be_bytes w32 (next self.old 4))) }
         ensures moves { OnOk result (MovesOver self.old self.new 4) }
         ensures short { IsErr result ↔ LacksOctets self.old 4 }
-        ensures err { OnErr result (self.new ≡ self.old) }
+        ensures unchanged { OnErr result (self.new ≡ self.old) }
     {
         Ok(i32::from_be_bytes(self.parse_array()?))
     }
@@ -277,7 +277,7 @@ impl<'a> Parser<'a> {
         ensures ok { IfOk result (λ n. n ≡ from_be_bytes w64 (next self.old 8)) }
         ensures moves { OnOk result (MovesOver self.old self.new 8) }
         ensures short { IsErr result ↔ LacksOctets self.old 8 }
-        ensures err { OnErr result (self.new ≡ self.old) }
+        ensures unchanged { OnErr result (self.new ≡ self.old) }
     {
         Ok(u64::from_be_bytes(self.parse_array()?))
     }
@@ -288,7 +288,7 @@ impl<'a> Parser<'a> {
         ensures ok { IfOk result (λ n. n ≡ cast_signed w64 (from_be_bytes w64 (next self.old 8))) }
         ensures moves { OnOk result (MovesOver self.old self.new 8) }
         ensures short { IsErr result ↔ LacksOctets self.old 8 }
-        ensures err { OnErr result (self.new ≡ self.old) }
+        ensures unchanged { OnErr result (self.new ≡ self.old) }
     {
         Ok(i64::from_be_bytes(self.parse_array()?))
     }

@@ -1,17 +1,17 @@
 use Rattle.std.proofs.Common.{[], ◌∷◌, arith}
-use Rattle.domain_builder.specs.Built.{pushed}
+use Rattle.domain_builder.specs.BuilderState.{pushed}
 use Rattle.domain_builder.specs.Buffer.{buffer_view}
 use Rattle.domain_builder.proofs.Sizes.{take_ok, long_name, long_label}
 use Rattle.domain_builder.proofs.Buffering.{view_pushed, size_pushed, open_pushed}
 use Rattle.domain_builder.proofs.buffer.push.Goals as goal
 
-pub returns-then-ends-gt252-clause-refused : goal.returns-then-ends-gt252-clause-refused
-returns-then-ends-gt252-clause-refused c =
+pub returns-then-ends-gt252-clause-err : goal.returns-then-ends-gt252-clause-err
+returns-then-ends-gt252-clause-err c =
     let s = size_pushed c.args.octets.now c.args.ends.now.head c.args.ends.now.open_len c.args.c c.requires.inside in
     long_name (pushed (buffer_view c.args.octets.now c.args.ends.now.head c.args.ends.now.open_len) (c.args.c ∷ [])) (omega (arith, s, c.if-ends-gt252.true))
 
-pub returns-then-ends-ge63-clause-refused : goal.returns-then-ends-ge63-clause-refused
-returns-then-ends-ge63-clause-refused c =
+pub returns-then-ends-ge63-clause-err : goal.returns-then-ends-ge63-clause-err
+returns-then-ends-ge63-clause-err c =
     let s = size_pushed c.args.octets.now c.args.ends.now.head c.args.ends.now.open_len c.args.c c.requires.inside in
     let l = open_pushed c.args.octets.now c.args.ends.now.head c.args.ends.now.open_len c.args.c c.requires.inside in
     long_label (pushed (buffer_view c.args.octets.now c.args.ends.now.head c.args.ends.now.open_len) (c.args.c ∷ [])) (omega (arith, s, c.if-ends-gt252.false)) (omega (arith, l, c.if-ends-ge63.true))

@@ -1,6 +1,6 @@
 use Rattle.std.proofs.Common.{ℕ, List, ◌++◌, sym, subst, ap, ◌∙◌}
 use Rattle.domain_label.specs.Wire.{wire, Root}
-use Rattle.domain_builder.specs.Built.{closed}
+use Rattle.domain_builder.specs.BuilderState.{closed}
 use Rattle.domain_builder.specs.TextGrammar.{IsNameText}
 use Rattle.domain_builder.proofs.Buffering.{absolute_made, labels_made}
 use Rattle.domain_builder.proofs.text.absolute_octets.Goals as goal

@@ -1,16 +1,33 @@
-use Rattle.std.proofs.Common.{ℕ, List, refl, subst, sym, ◌∙◌}
-use Rattle.std.specs.Str.{chars}
-use Rattle.std.proofs.lemmas.Str.{Chars-gives, encodes-chars}
-use Rattle.domain_label.specs.Spelling.{Reads}
-use Rattle.domain_builder.specs.Plain.{IsPlainText}
-use Rattle.domain_builder.proofs.PlainTexts.{plain_reads, plain_name}
+use Rattle.std.proofs.Common.{◌≢◌, sym, ap, ◌∙◌}
+use Rattle.domain_label.proofs.Scanning.{given_some, given_none}
+use Rattle.domain_builder.specs.BuilderState.{symbol_fault, after}
+use Rattle.domain_builder.specs.NameSymbols.{name_symbol}
+use Rattle.domain_builder.specs.declared.name_symbol.NameSymbol.TheVariants.{Dot}
+use Rattle.domain_builder.proofs.Reading.{name_empty, name_dot, name_dot_first, name_first_refused, name_rest}
 use Rattle.domain_builder.proofs.text.read_name_text.Goals as goal
 
-pub returns-then-is_plain : goal.returns-then-is_plain
-returns-then-is_plain c = λ all r.
-    let p = subst IsPlainText c.as_bytes.ensures.value (c.if-is_plain.ensures.0 refl) in
-    let h = plain_reads c.args.text.now all p r in
-    plain_name c.args.text.now all c.read_plain.new.self c.read_plain.result p h (c.read_plain.ensures all (subst (λ (t : List ℕ). Reads t all) (sym c.as_bytes-then-is_plain.ensures.value) h))
+pub returns-in-None : goal.returns-in-None
+returns-in-None g c = λ all h. name_empty all (given_none g.I.Iterator.next_gives c.args.items c.next.new.self all h c.in-None.ensures.steps)
 
-pub returns : goal.returns
-returns c = λ all r. c.read_name.ensures all (c.new.ensures.items (chars c.args.text.now) all (Chars-gives (chars c.args.text.now) _ (encodes-chars _ c.utf8.text ∙ sym c.chars.ensures.rest)) r)
+pub returns-in-None-next : goal.returns-in-None-next
+returns-in-None-next g c = λ all h.
+    let n = given_some g.I.Iterator.next_gives c.args.items c.next.new.self c.in-Some.item all h c.in-Some.ensures.steps in
+    name_dot all n.0 c.in-Some.item c.args.buffer.now c.requires.empty n.1 (given_none g.I.Iterator.next_gives c.next.new.self _ n.0 n.2 c.in-None-next.ensures.steps) (sym c.name_symbol_of-first.ensures ∙ c.if-is_dot.ensures)
+
+pub returns-in-Some-next : goal.returns-in-Some-next
+returns-in-Some-next g c = λ all h.
+    let n = given_some g.I.Iterator.next_gives c.args.items c.next.new.self c.in-Some.item all h c.in-Some.ensures.steps in
+    let m = given_some g.I.Iterator.next_gives c.next.new.self _ _ n.0 n.2 c.in-Some-next.ensures.steps in
+    name_dot_first all n.0 m.0 c.in-Some.item _ n.1 m.1 (sym c.name_symbol_of-first.ensures ∙ c.if-is_dot.ensures)
+
+pub returns-in-Ok : goal.returns-in-Ok
+returns-in-Ok g c = λ all h.
+    let n = given_some g.I.Iterator.next_gives c.args.items c.next.new.self c.in-Some.item all h c.in-Some.ensures.steps in
+    let other : name_symbol c.in-Some.item ≢ Dot = λ e. c.if-is_dot.ensures (c.name_symbol_of-first.ensures ∙ e) in
+    name_rest all n.0 c.in-Some.item c.args.buffer.now c.push_name_symbol.new.self c.push_name_symbols.new.self c.push_name_symbols.result c.requires.empty n.1 other (ap (symbol_fault c.args.buffer.now) (sym c.name_symbol_of-first.ensures) ∙ c.in-Ok.ensures.taken) (c.in-Ok.ensures.made ∙ ap (after c.args.buffer.now) c.name_symbol_of-first.ensures) (c.push_name_symbols.ensures n.0 n.2)
+
+pub returns-in-Err : goal.returns-in-Err
+returns-in-Err g c = λ all h.
+    let n = given_some g.I.Iterator.next_gives c.args.items c.next.new.self c.in-Some.item all h c.in-Some.ensures.steps in
+    let other : name_symbol c.in-Some.item ≢ Dot = λ e. c.if-is_dot.ensures (c.name_symbol_of-first.ensures ∙ e) in
+    name_first_refused all n.0 c.in-Some.item c.args.buffer.now c.in-Err.fault c.requires.empty n.1 other (ap (symbol_fault c.args.buffer.now) (sym c.name_symbol_of-first.ensures) ∙ c.in-Err.ensures.err)

@@ -1,16 +1,6 @@
-use Rattle.std.proofs.Common.{ℕ, List, refl, subst, sym, ◌∙◌}
-use Rattle.std.specs.Str.{chars}
-use Rattle.std.proofs.lemmas.Str.{Chars-gives, encodes-chars}
-use Rattle.domain_label.specs.Spelling.{Reads}
-use Rattle.domain_builder.specs.Parts.{parts}
-use Rattle.domain_builder.specs.Plain.{IsPlainText}
-use Rattle.domain_builder.proofs.PlainTexts.{plain_reads}
+use Rattle.domain_builder.specs.NameSymbols.{name_symbols}
+use Rattle.domain_builder.proofs.Reading.{from_nothing}
 use Rattle.domain_builder.proofs.text.read_relative_text.Goals as goal
 
-pub returns-then-is_plain : goal.returns-then-is_plain
-returns-then-is_plain c = λ all r.
-    let h = plain_reads c.args.text.now all (subst IsPlainText c.as_bytes.ensures.value (c.if-is_plain.ensures.0 refl)) r in
-    c.refuse_final_dot.ensures (parts all) (c.read_plain-read.ensures all (subst (λ (t : List ℕ). Reads t all) (sym c.as_bytes-then-is_plain.ensures.value) h))
-
 pub returns : goal.returns
-returns c = λ all r. c.read_relative.ensures all (c.new.ensures.items (chars c.args.text.now) all (Chars-gives (chars c.args.text.now) _ (encodes-chars _ c.utf8.text ∙ sym c.chars.ensures.rest)) r)
+returns g c = λ all h. c.refuse_final_dot.ensures (name_symbols all) (from_nothing (name_symbols all) c.args.buffer.now c.push_name_symbols-read.new.self c.push_name_symbols-read.result c.requires.empty (c.push_name_symbols-read.ensures all h))

@@ -1,6 +1,6 @@
 use Rattle.std.proofs.Common.{ℕ, List, ◌++◌, sym, subst, ap, ◌∙◌}
 use Rattle.domain_label.specs.Wire.{wire}
-use Rattle.domain_builder.specs.Built.{closed}
+use Rattle.domain_builder.specs.BuilderState.{closed}
 use Rattle.domain_builder.specs.TextGrammar.{IsRelativeText}
 use Rattle.domain_builder.proofs.Buffering.{relative_made, labels_made}
 use Rattle.domain_builder.proofs.text.relative_array.Goals as goal

@@ -1,6 +1,6 @@
 use Rattle.domain_compress.specs.Pointed.{compressed_reads_back}
-use Rattle.domain_compress.proofs.Once.{compresses_once, stands_more, stands_cut}
-use Rattle.domain_compress.proofs.Standing.{stands_kept, added, added_stays, no_places, places_more, places_cut, places_kept}
+use Rattle.domain_compress.proofs.OneResult.{compresses_once, stands_more, stands_cut}
+use Rattle.domain_compress.proofs.Standing.{stands_kept, added, added_stays, no_remembered, remembered_more, remembered_cut, remembered_kept}
 use Rattle.domain_compress.proofs.laws.compress_laws.Goals as goal
 
 pub returns-clause-once : goal.returns-clause-once
@@ -18,20 +18,20 @@ returns-clause-cut c = stands_cut
 pub returns-clause-kept : goal.returns-clause-kept
 returns-clause-kept c = stands_kept
 
-pub returns-clause-places_more : goal.returns-clause-places_more
-returns-clause-places_more c = places_more
+pub returns-clause-remembered_more : goal.returns-clause-remembered_more
+returns-clause-remembered_more c = remembered_more
 
-pub returns-clause-places_cut : goal.returns-clause-places_cut
-returns-clause-places_cut c = places_cut
+pub returns-clause-remembered_cut : goal.returns-clause-remembered_cut
+returns-clause-remembered_cut c = remembered_cut
 
-pub returns-clause-places_kept : goal.returns-clause-places_kept
-returns-clause-places_kept c = places_kept
+pub returns-clause-remembered_kept : goal.returns-clause-remembered_kept
+returns-clause-remembered_kept c = remembered_kept
 
-pub returns-clause-places_added : goal.returns-clause-places_added
-returns-clause-places_added c = added
+pub returns-clause-remembered_added : goal.returns-clause-remembered_added
+returns-clause-remembered_added c = added
 
 pub returns-clause-stays : goal.returns-clause-stays
 returns-clause-stays c = added_stays
 
-pub returns-clause-places_none : goal.returns-clause-places_none
-returns-clause-places_none c = no_places
+pub returns-clause-remembered_none : goal.returns-clause-remembered_none
+returns-clause-remembered_none c = no_remembered

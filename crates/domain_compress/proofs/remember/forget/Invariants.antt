@@ -1,12 +1,12 @@
 use Rattle.std.proofs.Common.{◌≡◌, ◌≤◌, ◌+◌, ◌++◌, length}
-use Rattle.domain_compress.specs.Compressing.{places_within}
+use Rattle.domain_compress.specs.Compressing.{remembered_within}
 use Rattle.domain_compress.specs.Hashes.{IsKnown}
-use Rattle.domain_compress.specs.Written.{places}
+use Rattle.domain_compress.specs.Written.{all_remembered}
 use Rattle.domain_compress.proofs.remember.forget.Given as goal
 
 abbrev pub invariant-places : goal.invariant-places
 invariant-places l = record {
-  all : places_within l.len (places l.fn.written.items) ≡ places l.kept.items ++ places_within l.len (places l.rest);
+  all : remembered_within l.len (all_remembered l.fn.written.items) ≡ all_remembered l.kept.items ++ remembered_within l.len (all_remembered l.rest);
   known : IsKnown l.holds l.octets l.kept.items;
   few : length l.kept.items + length l.rest ≤ 128;
 }

@@ -1,14 +1,14 @@
 use Rattle.std.proofs.Common.{◌-◌, ◌≤◌, length}
 use Rattle.domain_compress.specs.Hashes.{IsKnown}
-use Rattle.domain_compress.specs.Written.{places}
+use Rattle.domain_compress.specs.Written.{all_remembered}
 use Rattle.domain_compress.proofs.Remembering.{Remembered}
 use Rattle.domain_compress.proofs.remember.remember.Given as goal
 
 abbrev pub invariant-labels : goal.invariant-labels
 invariant-labels l = record {
-  done : Remembered (places l.initial.written.items) (places l.written.items) l.labels l.start l.end l.at;
+  done : Remembered (all_remembered l.initial.written.items) (all_remembered l.written.items) l.labels l.start l.end l.at;
   known : IsKnown l.hashed l.octets l.initial.written.items → IsKnown l.holds l.octets l.written.items;
-  few : length (places l.written.items) ≤ 128;
+  few : length (all_remembered l.written.items) ≤ 128;
 }
 
 abbrev pub decreases-labels : goal.decreases-labels

@@ -1,6 +1,6 @@
 use Rattle.std.proofs.Common.{inl, inr, arith, refl}
 use Rattle.std.proofs.lemmas.Bool.{false≢true}
-use Rattle.domain_compress.proofs.Along.{along_start, ahead_along, along_label, along_pointer, along_all, not_broken, not_back, not_root, not_long, not_same, stands_so}
+use Rattle.domain_compress.proofs.ComparedInMessage.{along_start, ahead_along, along_label, along_pointer, along_all, not_broken, not_back, not_root, not_long, not_same, stands_so}
 use Rattle.domain_compress.proofs.search.pointers_at_with.Goals as goal
 
 pub heads-init : goal.heads-init

@@ -1,5 +1,5 @@
 use Rattle.std.proofs.Common.{◌+◌, ◌-◌, length}
-use Rattle.domain_compress.proofs.Along.{Along}
+use Rattle.domain_compress.proofs.ComparedInMessage.{Along}
 use Rattle.domain_compress.proofs.search.pointers_at_with.Given as goal
 
 abbrev pub invariant-heads : goal.invariant-heads

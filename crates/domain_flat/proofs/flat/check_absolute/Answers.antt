@@ -3,7 +3,7 @@ use Rattle.std.proofs.lemmas.List.{append-nil}
 use Rattle.domain_label.specs.Wire.{wire}
 use Rattle.domain_flat.specs.Faults.{AbsoluteFault}
 use Rattle.domain_flat.specs.declared.error.NameErrorKind.{NameErrorKind}
-use Rattle.domain_flat.proofs.Passing.{fault_not_absolute, end_not_absolute, more_not_absolute, stops_one, stops_more}
+use Rattle.domain_flat.proofs.LabelsFromLeft.{fault_not_absolute, end_not_absolute, more_not_absolute, stops_one, stops_more}
 use Rattle.domain_flat.proofs.flat.check_absolute.Goals as goal
 
 pub returns-in_err-pass_labels-clause-exact : goal.returns-in_err-pass_labels-clause-exact

@@ -1,5 +1,5 @@
 use Rattle.std.proofs.Common.{arith}
-use Rattle.domain_flat.proofs.Passing.{fault_not_relative, root_not_relative, stops_none}
+use Rattle.domain_flat.proofs.LabelsFromLeft.{fault_not_relative, root_not_relative, stops_none}
 use Rattle.domain_flat.proofs.flat.check_relative.Goals as goal
 
 pub returns-in_err-pass_labels-clause-exact : goal.returns-in_err-pass_labels-clause-exact

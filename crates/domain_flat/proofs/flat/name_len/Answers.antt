@@ -1,5 +1,5 @@
 use Rattle.std.proofs.Common.{◌≡◌, ◌≤◌, length, arith}
-use Rattle.domain_flat.proofs.Passing.{fault_not_absolute, end_not_absolute, name_of, name_not_long}
+use Rattle.domain_flat.proofs.LabelsFromLeft.{fault_not_absolute, end_not_absolute, name_of, name_not_long}
 use Rattle.domain_flat.proofs.flat.name_len.Goals as goal
 
 pub returns-in_err-rest-clause-exact : goal.returns-in_err-rest-clause-exact

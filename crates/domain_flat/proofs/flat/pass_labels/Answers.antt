@@ -1,6 +1,6 @@
 use Rattle.std.proofs.Common.{◌∷◌, [], ◌++◌, sym, ◌∙◌, true≢false}
-use Rattle.domain_label.specs.Views.{label_octets}
-use Rattle.domain_flat.proofs.Passing.{passed_more}
+use Rattle.domain_label.specs.Labels.{label_octets}
+use Rattle.domain_flat.proofs.LabelsFromLeft.{passed_more}
 use Rattle.domain_flat.proofs.flat.pass_labels.Goals as goal
 
 pub loop-rest-preserved : goal.loop-rest-preserved

@@ -1,6 +1,6 @@
 use Rattle.std.proofs.Common.{◌++◌, ◌∷◌, [], sym, ap, ◌∙◌, arith}
 use Rattle.std.proofs.lemmas.List.{take_more_set}
-use Rattle.domain_flat.proofs.Seams.{seam_next}
+use Rattle.domain_flat.proofs.LabelBounds.{seam_next}
 use Rattle.domain_flat.proofs.Starts.{starts_more}
 use Rattle.domain_flat.proofs.iter.find_starts.Goals as goal
 

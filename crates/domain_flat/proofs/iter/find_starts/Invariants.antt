@@ -1,7 +1,7 @@
 use Rattle.std.proofs.Common.{◌≡◌, ◌≤◌, ◌-◌, length, take}
 use Rattle.domain_label.specs.Wire.{labels_in}
 use Rattle.domain_flat.specs.Starts.{label_starts}
-use Rattle.domain_flat.proofs.Seams.{IsSeam}
+use Rattle.domain_flat.proofs.LabelBounds.{IsSeam}
 use Rattle.domain_flat.proofs.iter.find_starts.Given as goal
 
 abbrev pub invariant-loop-start : goal.invariant-loop-start

@@ -1,6 +1,6 @@
 use Rattle.std.proofs.Common.{arith}
 use Rattle.std.proofs.lemmas.Grind.{common_steps}
-use Rattle.domain_flat.proofs.Seams.{first_at}
+use Rattle.domain_flat.proofs.LabelBounds.{first_at}
 use Rattle.domain_flat.proofs.iter.first_label.Goals as goal
 
 pub returns : goal.returns

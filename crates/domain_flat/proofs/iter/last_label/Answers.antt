@@ -1,6 +1,6 @@
 use Rattle.std.proofs.Common.{rules, arith}
 use Rattle.std.proofs.lemmas.Grind.{common_steps}
-use Rattle.domain_flat.proofs.Seams.{seam_next, last_at}
+use Rattle.domain_flat.proofs.LabelBounds.{seam_next, last_at}
 use Rattle.domain_flat.proofs.iter.last_label.Goals as goal
 
 pub returns-then-next-octets : goal.returns-then-next-octets

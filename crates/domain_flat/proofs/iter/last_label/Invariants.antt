@@ -1,5 +1,5 @@
 use Rattle.std.proofs.Common.{◌<◌, ◌-◌, length}
-use Rattle.domain_flat.proofs.Seams.{IsSeam}
+use Rattle.domain_flat.proofs.LabelBounds.{IsSeam}
 use Rattle.domain_flat.proofs.iter.last_label.Given as goal
 
 abbrev pub invariant-loop-start : goal.invariant-loop-start

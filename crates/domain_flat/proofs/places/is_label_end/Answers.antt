@@ -1,6 +1,6 @@
 use Rattle.std.proofs.Common.{inl, inr}
-use Rattle.domain_flat.proofs.Seams.{seam_next}
-use Rattle.domain_flat.proofs.Cuts.{step_stays, walk_tells}
+use Rattle.domain_flat.proofs.LabelBounds.{seam_next}
+use Rattle.domain_flat.proofs.Splits.{step_stays, walk_tells}
 use Rattle.domain_flat.proofs.places.is_label_end.Goals.{then-loop-start-test+else-start-octets, else-loop-start-test}
 use Rattle.domain_flat.proofs.places.is_label_end.Goals as goal
 

@@ -1,5 +1,5 @@
 use Rattle.std.proofs.Common.{arith, refl}
-use Rattle.domain_label.proofs.Parts.{same_more, same_all}
+use Rattle.domain_label.proofs.ComparedOctets.{same_more, same_all}
 use Rattle.domain_label.proofs.same.same_each.Goals as goal
 
 pub loop-i-init : goal.loop-i-init

@@ -1,6 +1,6 @@
 use Rattle.std.proofs.Common.{◌≡◌, IsTrue, ◌↔◌, take}
-use Rattle.domain_label.specs.Low.{low}
+use Rattle.domain_label.specs.Lowercase.{lowercase}
 use Rattle.domain_label.proofs.same.same_each.Given as goal
 
 abbrev pub invariant-loop-i : goal.invariant-loop-i
-invariant-loop-i l = IsTrue l.same ↔ (low (take l.i l.a) ≡ low (take l.i l.b))
+invariant-loop-i l = IsTrue l.same ↔ (lowercase (take l.i l.a) ≡ lowercase (take l.i l.b))

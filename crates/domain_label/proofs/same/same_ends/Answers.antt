@@ -1,5 +1,5 @@
 use Rattle.std.proofs.Common.{◌-◌, length, arith}
-use Rattle.domain_label.proofs.Parts.{same_both}
+use Rattle.domain_label.proofs.ComparedOctets.{same_both}
 use Rattle.domain_label.proofs.same.same_ends.Goals as goal
 
 pub returns : goal.returns

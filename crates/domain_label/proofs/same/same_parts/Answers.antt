@@ -1,5 +1,5 @@
 use Rattle.std.proofs.Common.{◌-◌, length, arith, refl, sym, true≢false}
-use Rattle.domain_label.proofs.Parts.{low_part, low_further, low_covered, sliced_low}
+use Rattle.domain_label.proofs.ComparedOctets.{low_part, low_further, low_covered, sliced_low}
 use Rattle.domain_label.proofs.same.same_parts.Goals as goal
 
 pub returns-then-not-same_each : goal.returns-then-not-same_each

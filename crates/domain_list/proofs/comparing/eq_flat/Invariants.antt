@@ -1,5 +1,5 @@
 use Rattle.std.proofs.Common.{◌≡◌, ◌↔◌, length}
-use Rattle.domain_label.specs.Low.{low}
+use Rattle.domain_label.specs.Lowercase.{lowercase}
 use Rattle.domain_label.specs.Wire.{wire, AreLabels}
 use Rattle.domain_list.proofs.comparing.eq_flat.Given as goal
 
@@ -9,5 +9,5 @@ invariant-loop-label g l = record {
   ends : (goal.iterator-loop-label g).is_finite l.labels;
   size : length l.rest ≡ length (wire (g.I.LabelIterator.left l.labels));
   short : AreLabels (g.I.LabelIterator.left l.labels);
-  same : (low l.flat ≡ low (wire (g.I.LabelIterator.left l.fn.labels))) ↔ (low l.rest ≡ low (wire (g.I.LabelIterator.left l.labels)));
+  same : (lowercase l.flat ≡ lowercase (wire (g.I.LabelIterator.left l.fn.labels))) ↔ (lowercase l.rest ≡ lowercase (wire (g.I.LabelIterator.left l.labels)));
 }

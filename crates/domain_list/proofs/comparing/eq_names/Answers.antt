@@ -1,6 +1,6 @@
 use Rattle.std.proofs.Common.{length, refl, sym, ap, subst, ◌∙◌}
 use Rattle.domain_label.specs.Wire.{wire, AreLabels}
-use Rattle.domain_list.proofs.Alike.{name_labels_short}
+use Rattle.domain_list.proofs.EqualSuffixLabels.{name_labels_short}
 use Rattle.domain_list.proofs.Octetwise.{same_labels_of}
 use Rattle.domain_list.proofs.comparing.eq_names.Goals as goal
 

@@ -1,6 +1,6 @@
 use Rattle.std.proofs.Common.{rules}
-use Rattle.domain_label.specs.Views.{label_octets}
-use Rattle.domain_list.proofs.Put.{label_put}
+use Rattle.domain_label.specs.Labels.{label_octets}
+use Rattle.domain_list.proofs.BufferContents.{label_put}
 use Rattle.domain_list.proofs.composing.put_label.Goals as goal
 
 pub returns-clause-wire : goal.returns-clause-wire

@@ -1,5 +1,5 @@
 use Rattle.std.proofs.Common.{rules, ◌∙◌}
-use Rattle.domain_label.specs.Views.{label_octets}
+use Rattle.domain_label.specs.Labels.{label_octets}
 use Rattle.domain_list.proofs.Shown.{more_dotted, less_room, label_room, dotted_some, dotted_none}
 use Rattle.domain_list.proofs.dotted.push_dotted.Goals as goal
 

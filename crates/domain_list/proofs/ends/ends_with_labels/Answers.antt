@@ -1,8 +1,8 @@
 use Rattle.std.proofs.Common.{◌↔◌, ◌<◌, ◌≤◌, ◌++◌, [], ◌∷◌, length, arith, sym, ap, ◌∙◌, subst, append_assoc, length-append, true≢false}
 use Rattle.domain_label.specs.Wire.{wire}
-use Rattle.domain_label.specs.Views.{label_octets}
+use Rattle.domain_label.specs.Labels.{label_octets}
 use Rattle.domain_list.specs.Ends.{EndsWith}
-use Rattle.domain_list.proofs.Finishing.{passed_first, ends_level, front_size}
+use Rattle.domain_list.proofs.SuffixBySize.{passed_first, ends_level, front_size}
 use Rattle.domain_list.proofs.ends.ends_with_labels.Goals as goal
 
 pub labels-init : goal.labels-init

@@ -1,7 +1,7 @@
 use Rattle.std.proofs.Common.{◌≤◌, ◌-◌, length, arith, ap, subst, ◌∙◌}
 use Rattle.domain_label.specs.Wire.{AreLabels}
-use Rattle.domain_list.proofs.Alike.{name_labels_short, labels_behind}
-use Rattle.domain_label.proofs.Parts.{sliced_end}
+use Rattle.domain_list.proofs.EqualSuffixLabels.{name_labels_short, labels_behind}
+use Rattle.domain_label.proofs.ComparedOctets.{sliced_end}
 use Rattle.domain_list.proofs.Octetwise.{same_labels_of, last_of_wire, end_fits}
 use Rattle.domain_list.proofs.ends.is_end.Goals as goal
 

@@ -1,7 +1,7 @@
 use Rattle.std.proofs.Common.{◌≡◌, take}
 use Rattle.std.specs.List.{fold}
-use Rattle.domain_label.specs.Low.{low, as_writes}
+use Rattle.domain_label.specs.Lowercase.{lowercase, as_writes}
 use Rattle.domain_list.proofs.hashing.hash_octets.Given as goal
 
 abbrev pub invariant-loop-octet : goal.invariant-loop-octet
-invariant-loop-octet g l = l.state ≡ fold g.H.Hasher.write l.initial.state (as_writes (low (take l.octet-index l.octets)))
+invariant-loop-octet g l = l.state ≡ fold g.H.Hasher.write l.initial.state (as_writes (lowercase (take l.octet-index l.octets)))

@@ -1,5 +1,5 @@
-use Rattle.domain_list.specs.Facts.{order_is_total}
-use Rattle.domain_list.proofs.ApexLaws.{tells_apart, keeps_together, comes_first}
+use Rattle.domain_list.specs.NameLaws.{order_is_total}
+use Rattle.domain_list.proofs.AncestorLaws.{tells_apart, keeps_together, comes_first}
 use Rattle.domain_list.proofs.laws.order_laws.Goals as goal
 
 pub returns : goal.returns

@@ -1,7 +1,7 @@
 use Rattle.std.proofs.Common.{arith, sym, ap, ◌∙◌, ◌-◌, length, refl, true≢false}
-use Rattle.domain_label.specs.Low.{low}
+use Rattle.domain_label.specs.Lowercase.{lowercase}
 use Rattle.domain_label.specs.Wire.{labels_in}
-use Rattle.domain_label.proofs.Parts.{sliced_end}
+use Rattle.domain_label.proofs.ComparedOctets.{sliced_end}
 use Rattle.domain_name.proofs.Stripping.{octets_size, suffix_fits, suffix_begins, suffix_same, same_suffix}
 use Rattle.domain_name.proofs.strip.place_of.Goals as goal
 
@@ -19,7 +19,7 @@ returns-then-not-same_octets-clause-exact c =
     let s = c.args.suffix.now in
     let n = length o - length s in (
       λ h. absurd (true≢false (sym h)),
-      λ e. sym c.if-not-same_octets.true ∙ c.same_octets.ensures.1 (ap low (sliced_end o n (omega arith)) ∙ suffix_same o s n c.requires.whole c.requires.part e (omega (arith, c.if-octets-suffix.false))),
+      λ e. sym c.if-not-same_octets.true ∙ c.same_octets.ensures.1 (ap lowercase (sliced_end o n (omega arith)) ∙ suffix_same o s n c.requires.whole c.requires.part e (omega (arith, c.if-octets-suffix.false))),
     )
 
 pub returns-then-not-is_label_end-clause-exact : goal.returns-then-not-is_label_end-clause-exact
@@ -35,6 +35,6 @@ returns-clause-exact c =
     let o = c.args.octets.now in
     let s = c.args.suffix.now in
     let n = length o - length s in (
-      λ h. same_suffix o s n c.requires.whole c.requires.part (sym (ap low (sliced_end o n (omega arith))) ∙ c.same_octets.ensures.0 c.if-not-same_octets.false) (c.is_label_end.ensures.0 c.if-not-is_label_end.false),
+      λ h. same_suffix o s n c.requires.whole c.requires.part (sym (ap lowercase (sliced_end o n (omega arith))) ∙ c.same_octets.ensures.0 c.if-not-same_octets.false) (c.is_label_end.ensures.0 c.if-not-is_label_end.false),
       λ e. refl,
     )

@@ -11,5 +11,5 @@ returns-clause-held c = (flat_read _ c.requires (ap (λ w. w.at) c.new-progress.
 pub returns-clause-labels : goal.returns-clause-labels
 returns-clause-labels c = (flat_read _ c.requires (ap (λ w. w.at) c.new-progress.ensures) c.in-Ok.ensures.name.1).same
 
-pub returns-clause-in_one_piece : goal.returns-clause-in_one_piece
-returns-clause-in_one_piece c = (flat_read _ c.requires (ap (λ w. w.at) c.new-progress.ensures) c.in-Ok.ensures.name.1).piece
+pub returns-clause-contiguous : goal.returns-clause-contiguous
+returns-clause-contiguous c = (flat_read _ c.requires (ap (λ w. w.at) c.new-progress.ensures) c.in-Ok.ensures.name.1).piece

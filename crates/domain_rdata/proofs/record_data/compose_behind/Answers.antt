@@ -6,6 +6,6 @@ pub returns-in-Err-compose_rdata-clause-full : goal.returns-in-Err-compose_rdata
 returns-in-Err-compose_rdata-clause-full g c =
     refused_data _ _ _ _ _ _ c.in_default.ensures.ok (search rules) c.append_slice.ensures.capacity c.in-Err-compose_rdata.ensures.full
 
-pub returns-in-Err-compose_rdata-clause-err : goal.returns-in-Err-compose_rdata-clause-err
-returns-in-Err-compose_rdata-clause-err g c =
-    taken_back _ _ _ _ _ _ c.as_slice-start.ensures c.in_default.ensures.ok c.in-Err-compose_rdata.ensures.err c.truncate.ensures.octets
+pub returns-in-Err-compose_rdata-clause-unchanged : goal.returns-in-Err-compose_rdata-clause-unchanged
+returns-in-Err-compose_rdata-clause-unchanged g c =
+    taken_back _ _ _ _ _ _ c.as_slice-start.ensures c.in_default.ensures.ok c.in-Err-compose_rdata.ensures.unchanged c.truncate.ensures.octets

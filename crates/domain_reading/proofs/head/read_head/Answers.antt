@@ -1,7 +1,7 @@
 -- The octets of a whole label are a label.
 use Rattle.std.proofs.Common.{◌≡◌, ◌+◌, ◌≤◌, ◌<◌, length, slice_index, slice_range, arith}
 use Rattle.std.proofs.lemmas.Grind.{common_steps}
-use Rattle.domain_reading.proofs.Walking.{label_from_slice, slice_length}
+use Rattle.domain_reading.proofs.NameOrFault.{label_from_slice, slice_length}
 use Rattle.domain_reading.proofs.head.read_head.Goals as goal
 
 pub returns-else-message-at-clause-found : goal.returns-else-message-at-clause-found

@@ -1,9 +1,9 @@
 use Rattle.domain_reading.proofs.Reading.{reads_once, reads_more, names_absolute}
-use Rattle.domain_reading.proofs.Walking.{name_or_fault, names_or_fault, one_fault}
-use Rattle.domain_reading.proofs.Fronts.{front_once, base_once, names_skips, skips_not_both, one_skip_fault}
-use Rattle.domain_reading.proofs.Naming.{labels_named}
+use Rattle.domain_reading.proofs.NameOrFault.{name_or_fault, names_or_fault, one_fault}
+use Rattle.domain_reading.proofs.OneEncoding.{front_once, base_once, names_skips, skips_not_both, one_skip_fault}
+use Rattle.domain_reading.proofs.LabelsAt.{labels_named}
 use Rattle.domain_reading.proofs.Skipping.{skips_or_not}
-use Rattle.domain_reading.proofs.Plain.{plain_names, plain_front}
+use Rattle.domain_reading.proofs.UncompressedIsRead.{plain_names, plain_front}
 use Rattle.domain_reading.proofs.laws.reads_laws.Goals as goal
 
 pub returns : goal.returns

@@ -1,7 +1,7 @@
 use Rattle.std.proofs.Common.{rules}
 use Rattle.std.proofs.lemmas.Result.{err_from_is_err_and}
-use Rattle.domain_reading.proofs.Going.{goes_start, goes_label, goes_pointer, goes_fault, broken_fault, long_fault, follow_fault}
-use Rattle.domain_reading.proofs.Done.{name_read}
+use Rattle.domain_reading.proofs.WhileReading.{goes_start, goes_label, goes_pointer, goes_fault, broken_fault, long_fault, follow_fault}
+use Rattle.domain_reading.proofs.AfterRoot.{name_read}
 use Rattle.domain_reading.proofs.read.read_name_counted.Goals as goal
 
 pub heads-init : goal.heads-init
@@ -22,7 +22,7 @@ pub returns-in_err-follow-in-Pointer-clause-fault : goal.returns-in_err-follow-i
 returns-in_err-follow-in-Pointer-clause-fault g c =
     let p = err_from_is_err_and c.from_residual-in_err-follow-in-Pointer.result c.from_residual-in_err-follow-in-Pointer.ensures.1 in
     let found = rw c.in-Pointer.is at c.in_ok-read_head.ensures.found in
-    rw (p.1, p.2) (goes_fault _ _ _ c.heads.invariant (follow_fault _ found c.in_err-follow-in-Pointer.ensures.refused) c.read_head.ensures.counted)
+    rw (p.1, p.2) (goes_fault _ _ _ c.heads.invariant (follow_fault _ found c.in_err-follow-in-Pointer.ensures.err) c.read_head.ensures.counted)
 
 pub heads-preserved-in-Continue-branch-3 : goal.heads-preserved-in-Continue-branch-3
 heads-preserved-in-Continue-branch-3 g c =
@@ -32,8 +32,8 @@ heads-preserved-in-Continue-branch-3 g c =
 pub heads-preserved : goal.heads-preserved
 heads-preserved g c =
     let found = rw c.in-Pointer.is at c.in_ok-read_head.ensures.found in
-    goes_pointer _ _ _ c.heads.invariant found c.in_ok-follow-in-Pointer.ensures.refused c.in_ok-follow-in-Pointer.ensures.moved c.read_head.ensures.counted
+    goes_pointer _ _ _ c.heads.invariant found c.in_ok-follow-in-Pointer.ensures.err c.in_ok-follow-in-Pointer.ensures.moved c.read_head.ensures.counted
 
 pub returns-in-Root-clause-name : goal.returns-in-Root-clause-name
 returns-in-Root-clause-name g c =
-    rw (c.note_place.ensures.moved, c.note_place.ensures.table) (name_read _ _ _ c.heads.invariant (rw c.in-Root.is at c.in_ok-read_head.ensures.found) c.read_head.ensures.counted)
+    rw (c.note_offset.ensures.moved, c.note_offset.ensures.table) (name_read _ _ _ c.heads.invariant (rw c.in-Root.is at c.in_ok-read_head.ensures.found) c.read_head.ensures.counted)

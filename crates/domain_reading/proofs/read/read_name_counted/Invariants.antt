@@ -1,5 +1,5 @@
 use Rattle.std.proofs.Common.{◌+◌, ◌-◌}
-use Rattle.domain_reading.proofs.Going.{Goes}
+use Rattle.domain_reading.proofs.WhileReading.{Goes}
 use Rattle.domain_reading.proofs.read.read_name_counted.Given as goal
 
 abbrev pub invariant-heads : goal.invariant-heads

@@ -1,10 +1,10 @@
 use Rattle.std.proofs.Common.{replicate}
 use Rattle.std.specs.Io.KnownBytes.{append_known}
-use Rattle.octseq.specs.Parsing.{message, place, MovesTo}
+use Rattle.octseq.specs.Parsing.{message, position, MovesTo}
 use Rattle.domain_tool.specs.Written.{WritesEntries}
 use Rattle.domain_tool.proofs.list.write_section.Given as goal
 
 abbrev pub invariant-loop-entry : goal.invariant-loop-entry
 invariant-loop-entry g l =
-    WritesEntries (message l.initial.parser) (replicate l._entry l.section) (place l.initial.parser) (place l.parser) (append_known (g.W.Write.contents l.initial.output) l.initial.lines.items) (append_known (g.W.Write.contents l.output) l.lines.items)
-    × MovesTo l.initial.parser l.parser (place l.parser)
+    WritesEntries (message l.initial.parser) (replicate l._entry l.section) (position l.initial.parser) (position l.parser) (append_known (g.W.Write.contents l.initial.output) l.initial.lines.items) (append_known (g.W.Write.contents l.output) l.lines.items)
+    × MovesTo l.initial.parser l.parser (position l.parser)

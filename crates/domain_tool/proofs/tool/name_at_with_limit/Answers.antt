@@ -1,6 +1,6 @@
 use Rattle.std.proofs.Common.{◌≡◌, ℕ, List, ◌∷◌, [], ◌++◌, Option, Some, None, IfSome, refl, ◌∙◌, subst, rules}
 use Rattle.std.specs.Io.KnownBytes.{Appends, Keeps}
-use Rattle.domain_label.specs.Text.{dotted}
+use Rattle.domain_label.specs.Text.{text_with_final_dot}
 use Rattle.domain_reading.specs.Grammar.{Names}
 use Rattle.domain_wire.specs.declared.error.ParseError.{ParseError}
 use Rattle.domain_tool.specs.Engines.{NoNameWithin, WritesNameWithin}
@@ -15,12 +15,12 @@ of_input : (known : Option (List ℕ)) (read seen : List ℕ) (n p : ℕ) (e : P
 of_input None read seen n p e all same none = tt
 of_input (Some m) read seen n p e all same none = subst (λ o. NoNameWithin n o p e) (same ∙ all) none
 
-written_of_input : (known old new : Option (List ℕ)) (read seen : List ℕ) (n p : ℕ) (ls : List (List ℕ)) → IfSome known (λ m. read ≡ m) → seen ≡ read → Names n seen p ls → Appends old new (dotted ls ++ 10 ∷ []) → IfSome known (λ m. WritesNameWithin n m p old new)
+written_of_input : (known old new : Option (List ℕ)) (read seen : List ℕ) (n p : ℕ) (ls : List (List ℕ)) → IfSome known (λ m. read ≡ m) → seen ≡ read → Names n seen p ls → Appends old new (text_with_final_dot ls ++ 10 ∷ []) → IfSome known (λ m. WritesNameWithin n m p old new)
 written_of_input None old new read seen n p ls all same name written = tt
 written_of_input (Some m) old new read seen n p ls all same name written = (ls, subst (λ o. Names n o p ls) (same ∙ all) name, written)
 
-pub returns-in-Err-clause-refused : goal.returns-in-Err-clause-refused
-returns-in-Err-clause-refused g c =
+pub returns-in-Err-clause-err : goal.returns-in-Err-clause-err
+returns-in-Err-clause-err g c =
     of_input (g.R.Read.remaining c.args.input.now) _ c.as_slice.result.now c.args.limit c.args.place c.in-Err.e c.in_ok-octets.ensures.octets c.as_slice.ensures.value c.in-Err.ensures.err
 
 pub returns-in-Err-clause-nothing_written : goal.returns-in-Err-clause-nothing_written

@@ -1,5 +1,5 @@
 use Rattle.std.proofs.Common.{◌≤◌, length, arith, sym, ap, ◌∙◌}
-use Rattle.domain_parsed.proofs.Past.{past_end}
+use Rattle.domain_parsed.proofs.NoNamePastEnd.{past_end}
 use Rattle.domain_tool.proofs.tool.parse_at.Goals as goal
 
 pub returns-then-is_err-clause-err : goal.returns-then-is_err-clause-err

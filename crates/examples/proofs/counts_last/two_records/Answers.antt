@@ -1,7 +1,7 @@
 use Rattle.std.proofs.Common.{◌≡◌, ℕ, ◌≤◌, List, ◌++◌, length, drop, ◌+◌, sym, ap, subst, arith, ◌∙◌, append_assoc, length-append}
 use Rattle.domain_rdata.specs.ReadBack.{StandsAt}
-use Rattle.domain_compress.specs.Standing.{PlacesStand}
-use Rattle.domain_compress.specs.Composers.{written_places}
+use Rattle.domain_compress.specs.Standing.{AllRememberedStand}
+use Rattle.domain_compress.specs.Composers.{remembered_labels}
 use Rattle.examples.proofs.counts_last.two_records.Given as given
 use Rattle.examples.proofs.counts_last.two_records.Goals as goal
 
@@ -12,13 +12,13 @@ behind_header u t v w o a s b first name second stays =
     stays ∙ ap (drop 12) (all ∙ append_assoc u a (s ++ b))
 
 -- Behind the header of twelve octets no place is remembered yet.
-begun : (g : given.Over) (c : goal.After-into_target g) → (length c.append_slice.new.self.target.items ≡ 12) × PlacesStand 12 c.append_slice.new.self.target.items (written_places c.append_slice.new.self)
+begun : (g : given.Over) (c : goal.After-into_target g) → (length c.append_slice.new.self.target.items ≡ 12) × AllRememberedStand 12 c.append_slice.new.self.target.items (remembered_labels c.append_slice.new.self)
 begun g c =
     let started = c.in_ok-append_slice.ensures in
     let t = c.append_slice.new.self.target.items in
     let empty : length c.new-message.result.target.items ≡ 0 = ap (λ m. length m.items) c.new-message.ensures.target ∙ ap length c.new.ensures in
     let size : length t ≡ 12 = ap length started.ok ∙ length-append c.new-message.result.target.items _ ∙ ap (λ n. n + 12) empty in
-    (size, subst (PlacesStand 12 t) (sym (started.places ∙ c.new-message.ensures.places)) (c.compress_laws.ensures.places_none 12 t))
+    (size, subst (AllRememberedStand 12 t) (sym (started.places ∙ c.new-message.ensures.places)) (c.compress_laws.ensures.remembered_none 12 t))
 
 pub returns-clause-first : goal.returns-clause-first
 returns-clause-first g c =
@@ -43,8 +43,8 @@ returns-clause-second g c =
     let few : 12 ≤ length t = omega (arith, size) in
     let adds = c.in_ok-append_compressed_name.ensures.appends in
     let more = c.in_ok-append_slice-2.ensures in
-    let stand = (laws.places_added 12 t u _ _ _ (g.met.N.Absolute.absolute c.args.first.now) few start.1 adds).0 in
-    let kept : PlacesStand 12 v (written_places c.append_slice-2.new.self) = subst (λ m. PlacesStand 12 m (written_places c.append_slice-2.new.self)) (sym more.ok) (subst (PlacesStand 12 (u ++ _)) (sym more.places) (laws.places_more 12 u _ _ stand)) in
+    let stand = (laws.remembered_added 12 t u _ _ _ (g.met.N.Absolute.absolute c.args.first.now) few start.1 adds).0 in
+    let kept : AllRememberedStand 12 v (remembered_labels c.append_slice-2.new.self) = subst (λ m. AllRememberedStand 12 m (remembered_labels c.append_slice-2.new.self)) (sym more.ok) (subst (AllRememberedStand 12 (u ++ _)) (sym more.places) (laws.remembered_more 12 u _ _ stand)) in
     let longer = ap length adds.all in
     let longest = ap length more.ok ∙ length-append u _ in
     let enough : 12 ≤ length v = omega (arith, size, longer, longest, length-append t adds.octets) in

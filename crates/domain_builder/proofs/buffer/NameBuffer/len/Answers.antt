@@ -1,5 +1,5 @@
 use Rattle.std.proofs.Common.{sym, ap, ◌∙◌}
-use Rattle.domain_builder.specs.Built.{size}
+use Rattle.domain_builder.specs.BuilderState.{size}
 use Rattle.domain_builder.proofs.Buffering.{size_open}
 use Rattle.domain_builder.proofs.buffer.NameBuffer.len.Goals as goal
 

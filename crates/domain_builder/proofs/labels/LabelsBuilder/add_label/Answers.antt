@@ -3,8 +3,8 @@ use Rattle.domain_builder.specs.Inside.{Held}
 use Rattle.domain_builder.proofs.Building.{exceeds, label_closed, open_fits, size_labelled_fields}
 use Rattle.domain_builder.proofs.labels.LabelsBuilder.add_label.Goals as goal
 
-pub returns-in-Err-clause-refused : goal.returns-in-Err-clause-refused
-returns-in-Err-clause-refused g c =
+pub returns-in-Err-clause-err : goal.returns-in-Err-clause-err
+returns-in-Err-clause-err g c =
     let e = size_labelled_fields _ c.args.slice.now _ c.self.inside.head c.args.self.now.built refl (ap (λ (v : Held). v.built) c.self.view_is) c.self.invariant c.requires.some in
     (refl, exceeds g.B.OctetsBuilder.limit _ (g.B.Octets.capacity c.append_headed.new.builder) _ refl (g.met.B.OctetsBuilder.fixed c.append_headed.new.builder) (rw e c.in-Err.ensures.full))
 

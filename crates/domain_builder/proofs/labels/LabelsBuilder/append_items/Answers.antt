@@ -1,6 +1,6 @@
 use Rattle.std.proofs.Common.{sym, ap, ◌∙◌, arith}
 use Rattle.domain_label.proofs.Scanning.{given_some, given_none}
-use Rattle.domain_builder.specs.Built.{refusal, after}
+use Rattle.domain_builder.specs.BuilderState.{symbol_fault, after}
 use Rattle.domain_builder.proofs.Reading.{read_none, read_more, read_all}
 use Rattle.domain_builder.specs.Inside.{room}
 use Rattle.domain_builder.proofs.Pushes.{takes_stop}
@@ -19,15 +19,15 @@ loop-item-preserved g c =
       takes = λ all h.
           let now = c.loop-item.invariant.takes all h in
           let n = given_some g.I.Iterator.next_gives c.loop-item.item-iterator c.next.new.self c.in-Some.item now.0 now.1 c.in-Some.ensures.steps in
-          (n.0, n.2, read_more all now.0 n.0 c.in-Some.item c.args.self.now.built c.loop-item.self.built c.push_part.new.self.built now.2 n.1 (ap (refusal c.loop-item.self.built) (sym c.part_of.ensures) ∙ c.in-Ok.ensures.takes.0) (c.in-Ok.ensures.takes.1 ∙ ap (after c.loop-item.self.built) c.part_of.ensures));
-      capacity = omega (arith, c.loop-item.invariant.capacity, c.push_part.ensures.capacity);
+          (n.0, n.2, read_more all now.0 n.0 c.in-Some.item c.args.self.now.built c.loop-item.self.built c.push_name_symbol.new.self.built now.2 n.1 (ap (symbol_fault c.loop-item.self.built) (sym c.name_symbol_of.ensures) ∙ c.in-Ok.ensures.takes.0) (c.in-Ok.ensures.takes.1 ∙ ap (after c.loop-item.self.built) c.name_symbol_of.ensures));
+      capacity = omega (arith, c.loop-item.invariant.capacity, c.push_name_symbol.ensures.capacity);
     }
 
 pub returns-in-Err-clause-takes : goal.returns-in-Err-clause-takes
 returns-in-Err-clause-takes g c = λ all h.
     let now = c.loop-item.invariant.takes all h in
     let n = given_some g.I.Iterator.next_gives c.loop-item.item-iterator c.next.new.self c.in-Some.item now.0 now.1 c.in-Some.ensures.steps in
-    takes_stop all now.0 n.0 c.in-Some.item (room g.B.OctetsBuilder.limit c.push_part.new.self) c.args.self.now.built c.loop-item.self.built c.push_part.new.self.built c.part_of.result c.in-Err.e now.2 n.1 c.part_of.ensures c.in-Err.ensures.takes
+    takes_stop all now.0 n.0 c.in-Some.item (room g.B.OctetsBuilder.limit c.push_name_symbol.new.self) c.args.self.now.built c.loop-item.self.built c.push_name_symbol.new.self.built c.name_symbol_of.result c.in-Err.e now.2 n.1 c.name_symbol_of.ensures c.in-Err.ensures.takes
 
 pub returns-clause-takes : goal.returns-clause-takes
 returns-clause-takes g c = λ all h.

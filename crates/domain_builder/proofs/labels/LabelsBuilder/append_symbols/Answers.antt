@@ -1,9 +1,9 @@
 use Rattle.std.proofs.Common.{List, map, Ok, subst}
 use Rattle.domain_builder.specs.Inside.{room}
-use Rattle.domain_builder.specs.Pushing.{TakesParts}
-use Rattle.domain_builder.specs.declared.part.Part.{Part}
+use Rattle.domain_builder.specs.Pushing.{TakesSymbols}
+use Rattle.domain_builder.specs.declared.name_symbol.NameSymbol.{NameSymbol}
 use Rattle.domain_builder.proofs.Reading.{whole_parts_of}
 use Rattle.domain_builder.proofs.labels.LabelsBuilder.append_symbols.Goals as goal
 
 pub returns-clause-takes : goal.returns-clause-takes
-returns-clause-takes g c = λ ss h. subst (λ (z : List Part). TakesParts (room g.B.OctetsBuilder.limit c.append_items.new.self) c.args.self.now.built z c.append_items.result c.append_items.new.self.built) (whole_parts_of ss) (c.append_items.ensures.takes (map Ok ss) (c.new.ensures.items ss h))
+returns-clause-takes g c = λ ss h. subst (λ (z : List NameSymbol). TakesSymbols (room g.B.OctetsBuilder.limit c.append_items.new.self) c.args.self.now.built z c.append_items.result c.append_items.new.self.built) (whole_parts_of ss) (c.append_items.ensures.takes (map Ok ss) (c.new.ensures.items ss h))

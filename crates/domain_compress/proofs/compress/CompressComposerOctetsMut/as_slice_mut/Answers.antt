@@ -1,6 +1,6 @@
 use Rattle.std.proofs.Common.{refl, ap, false}
 use Rattle.domain_compress.specs.Hashes.{IsKnown}
-use Rattle.domain_compress.proofs.Knowing.{known_once}
+use Rattle.domain_compress.proofs.LabelHashes.{known_once}
 use Rattle.domain_compress.proofs.compress.CompressComposerOctetsMut.as_slice_mut.Goals as goal
 
 pub returns : goal.returns

@@ -1,8 +1,8 @@
 use Rattle.std.proofs.Common.{◌≡◌, ◌-◌, ◌≤◌, ◌++◌, ◌∷◌, [], length, slice_index_or, sym, ap, ◌∙◌, arith}
 use Rattle.std.proofs.lemmas.Grind.{common_steps}
 use Rattle.domain_label.specs.Wire.{labels_in}
-use Rattle.domain_label.specs.Views.{label_octets}
-use Rattle.domain_flat.specs.Views.{flat_labels_left}
+use Rattle.domain_label.specs.Labels.{label_octets}
+use Rattle.domain_flat.specs.FlatLabels.{flat_labels_left}
 use Rattle.domain_flat.proofs.Starts.{last_told, fewer}
 use Rattle.domain_flat.proofs.iter.NameIterDoubleEndedIterator.next_back.Goals as goal
 

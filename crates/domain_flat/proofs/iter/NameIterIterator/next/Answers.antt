@@ -1,5 +1,5 @@
 use Rattle.std.proofs.Common.{◌≡◌, ◌∷◌, length, ap, arith}
-use Rattle.domain_flat.specs.Views.{flat_labels_left}
+use Rattle.domain_flat.specs.FlatLabels.{flat_labels_left}
 use Rattle.domain_label.specs.Wire.{labels_in}
 use Rattle.domain_flat.proofs.iter.NameIterIterator.next.Goals as goal
 

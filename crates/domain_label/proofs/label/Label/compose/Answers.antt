@@ -7,6 +7,6 @@ taken_back : (old before mid seen left cut : List ℕ) → seen ≡ old → mid 
 taken_back old before mid seen left cut same e kept taken =
     taken ∙ (ap (λ o. take (length o) left) same ∙ (ap (take (length old)) (kept ∙ e) ∙ take-append_seam old before))
 
-pub returns-in-Err-clause-err : goal.returns-in-Err-clause-err
-returns-in-Err-clause-err g c =
-    taken_back _ _ _ _ _ _ c.as_slice-start.ensures c.in_ok-append_slice.ensures.ok c.in-Err.ensures.err c.truncate.ensures.octets
+pub returns-in-Err-clause-unchanged : goal.returns-in-Err-clause-unchanged
+returns-in-Err-clause-unchanged g c =
+    taken_back _ _ _ _ _ _ c.as_slice-start.ensures c.in_ok-append_slice.ensures.ok c.in-Err.ensures.unchanged c.truncate.ensures.octets

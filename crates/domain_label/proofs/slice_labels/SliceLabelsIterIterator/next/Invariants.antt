@@ -1,5 +1,5 @@
 use Rattle.std.proofs.Common.{◌≡◌}
-use Rattle.domain_label.specs.Views.{walk_left}
+use Rattle.domain_label.specs.Labels.{walk_left}
 use Rattle.domain_label.proofs.slice_labels.SliceLabelsIterIterator.next.Given as goal
 
 abbrev pub invariant-loop-self : goal.invariant-loop-self

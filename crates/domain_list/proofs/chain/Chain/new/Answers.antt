@@ -1,6 +1,6 @@
 use Rattle.std.proofs.Common.{◌≡◌, ◌+◌, ◌++◌, arith, sym, ◌∙◌, refl, true≢false}
 use Rattle.domain_list.specs.Chains.{before_root}
-use Rattle.domain_list.specs.Facts.{relative_else}
+use Rattle.domain_list.specs.NameLaws.{relative_else}
 use Rattle.domain_list.proofs.Chaining.{before_chain_absolute, before_chain_relative}
 use Rattle.domain_list.proofs.chain.Chain.new.Goals.{then-is_absolute, else-is_absolute}
 use Rattle.domain_list.proofs.chain.Chain.new.Goals as goal

@@ -1,8 +1,8 @@
 use Rattle.std.proofs.Common.{rules, ◌≡◌, ◌∙◌, subst}
 use Rattle.std.specs.Fmt.{HasWritten}
-use Rattle.domain_label.specs.Views.{label_octets}
+use Rattle.domain_label.specs.Labels.{label_octets}
 use Rattle.domain_list.specs.Joined.{joined_labels}
-use Rattle.domain_list.proofs.Moved.{moved_on, moved_label, moved_end, first_text}
+use Rattle.domain_list.proofs.TextThroughBuffer.{moved_on, moved_label, moved_end, first_text}
 use Rattle.domain_list.proofs.joined.JoinedLabelsDisplay.fmt.Goals as goal
 
 pub loop-label-preserved : goal.loop-label-preserved

@@ -1,7 +1,7 @@
 use Rattle.std.proofs.Common.{sym, ap, subst, ◌∙◌}
 use Rattle.domain_label.specs.Wire.{labels_in, IsAbsoluteWire}
 use Rattle.domain_label.proofs.WireLaws.{labels_in_wire, wire_absolute}
-use Rattle.domain_flat.proofs.Passing.{absolute_once, name_slice}
+use Rattle.domain_flat.proofs.LabelsFromLeft.{absolute_once, name_slice}
 use Rattle.domain_name.proofs.absolute.Name+ref+slice+u8.parse.Goals as goal
 
 pub invariant_of-result : goal.invariant_of-result

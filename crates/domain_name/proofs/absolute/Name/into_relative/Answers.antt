@@ -1,5 +1,5 @@
 use Rattle.std.proofs.Common.{arith}
-use Rattle.domain_flat.proofs.Cuts.{root_start, root_long, lacks_root}
+use Rattle.domain_flat.proofs.Splits.{root_start, root_long, lacks_root}
 use Rattle.domain_name.specs.Names.{name_labels}
 use Rattle.domain_name.proofs.absolute.Name.into_relative.Goals as goal
 

@@ -1,6 +1,6 @@
 use Rattle.std.proofs.Common.{arith}
 use Rattle.domain_label.proofs.WireLaws.{absolute_wire}
-use Rattle.domain_flat.proofs.Cuts.{start_end, end_start, start_before_end}
+use Rattle.domain_flat.proofs.Splits.{start_end, end_start, start_before_end}
 use Rattle.domain_name.proofs.absolute.Name.is_label_start.Goals as goal
 
 pub is_label_end-requires : goal.is_label_end-requires

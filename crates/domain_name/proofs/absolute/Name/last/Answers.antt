@@ -1,5 +1,5 @@
 use Rattle.std.proofs.Common.{◌≡◌, ◌∷◌, ◌++◌, [], ℕ, List, sym, subst}
-use Rattle.domain_flat.proofs.Cuts.{root_last}
+use Rattle.domain_flat.proofs.Splits.{root_last}
 use Rattle.domain_name.specs.Names.{name_labels}
 use Rattle.domain_name.proofs.absolute.Name.last.Goals as goal
 

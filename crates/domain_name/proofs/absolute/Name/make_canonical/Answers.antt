@@ -1,4 +1,4 @@
-use Rattle.domain_label.proofs.Lowered.{lowered_absolute}
+use Rattle.domain_label.proofs.CanonicalForm.{lowered_absolute}
 use Rattle.domain_name.proofs.absolute.Name.make_canonical.Goals as goal
 
 pub invariant_of-self : goal.invariant_of-self

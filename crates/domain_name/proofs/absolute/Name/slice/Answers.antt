@@ -1,5 +1,5 @@
 use Rattle.domain_label.proofs.WireLaws.{absolute_wire}
-use Rattle.domain_flat.proofs.Cuts.{absolute_part, start_inside}
+use Rattle.domain_flat.proofs.Splits.{absolute_part, start_inside}
 use Rattle.domain_name.proofs.absolute.Name.slice.Goals as goal
 
 pub slice_bounds-from_wire-end : goal.slice_bounds-from_wire-end

@@ -1,5 +1,5 @@
 use Rattle.domain_label.proofs.WireLaws.{absolute_wire}
-use Rattle.domain_flat.proofs.Cuts.{absolute_parts, start_inside}
+use Rattle.domain_flat.proofs.Splits.{absolute_parts, start_inside}
 use Rattle.domain_name.proofs.absolute.Name.split.Goals as goal
 
 pub split_at-requires : goal.split_at-requires

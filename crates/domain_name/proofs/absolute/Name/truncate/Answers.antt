@@ -1,6 +1,6 @@
 use Rattle.std.proofs.Common.{◌≡◌, ◌++◌, ℕ, List, length, take, sym, subst, ap, ◌∙◌}
 use Rattle.domain_label.specs.Wire.{wire, labels_in}
-use Rattle.domain_flat.proofs.Cuts.{absolute_parts}
+use Rattle.domain_flat.proofs.Splits.{absolute_parts}
 use Rattle.domain_name.specs.Names.{name_labels}
 use Rattle.domain_name.proofs.absolute.Name.truncate.Goals as goal
 

@@ -1,7 +1,7 @@
 use Rattle.std.proofs.Common.{ap, arith}
 use Rattle.domain_name.specs.Builders.{held}
 use Rattle.domain_name.specs.Names.{relative_holder}
-use Rattle.domain_name.proofs.Rooms.{no_less_room}
+use Rattle.domain_name.proofs.BuilderCapacity.{no_less_room}
 use Rattle.domain_name.proofs.relative.RelativeName.into_builder.Goals as goal
 
 pub returns-clause-room : goal.returns-clause-room

@@ -1,5 +1,5 @@
 use Rattle.domain_label.proofs.WireLaws.{relative_wire}
-use Rattle.domain_flat.proofs.Cuts.{relative_part, end_inside}
+use Rattle.domain_flat.proofs.Splits.{relative_part, end_inside}
 use Rattle.domain_name.proofs.relative.RelativeName.slice.Goals as goal
 
 pub slice_bounds-result-end : goal.slice_bounds-result-end

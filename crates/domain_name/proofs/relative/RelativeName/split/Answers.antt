@@ -1,5 +1,5 @@
 use Rattle.domain_label.proofs.WireLaws.{relative_wire}
-use Rattle.domain_flat.proofs.Cuts.{relative_parts, end_inside}
+use Rattle.domain_flat.proofs.Splits.{relative_parts, end_inside}
 use Rattle.domain_name.proofs.relative.RelativeName.split.Goals as goal
 
 pub split_at-requires : goal.split_at-requires

@@ -1,7 +1,7 @@
 use Rattle.std.proofs.Common.{◌≡◌, ◌++◌, ℕ, List, sym, subst}
 use Rattle.domain_label.specs.Wire.{labels_in}
 use Rattle.domain_name.specs.Names.{relative_labels}
-use Rattle.domain_flat.proofs.Cuts.{relative_parts}
+use Rattle.domain_flat.proofs.Splits.{relative_parts}
 use Rattle.domain_name.proofs.relative.RelativeName.truncate.Goals as goal
 
 pub invariant_of-self : goal.invariant_of-self

@@ -1,5 +1,5 @@
 use Rattle.std.proofs.Common.{arith, refl}
-use Rattle.domain_reading.proofs.Places.{labels_over, labels_taken, taken}
+use Rattle.domain_reading.proofs.LabelsOfTable.{labels_over, labels_taken, taken}
 use Rattle.domain_parsed.proofs.iter.ParsedNameIter.next_counted.Goals as goal
 
 pub returns-in_err-first-clause-first : goal.returns-in_err-first-clause-first
@@ -11,8 +11,8 @@ returns-in_err-first-clause-first g c =
 pub returns-in_err-first-clause-counted : goal.returns-in_err-first-clause-counted
 returns-in_err-first-clause-counted g c = rw c.from_residual.ensures refl
 
-pub place_of-place-requires : goal.place_of-place-requires
-place_of-place-requires g c =
+pub entry_offset-place-requires : goal.entry_offset-place-requires
+entry_offset-place-requires g c =
     let s = c.args.self.now in
     let t = taken s.octets.now s.base _ _ _ c.in_ok-first.ensures.cases.0 s.stand in
     omega (arith, t.here)
@@ -25,9 +25,9 @@ invariant_of-self g c =
 pub read_label-label-requires : goal.read_label-label-requires
 read_label-label-requires g c =
     let s = c.args.self.now in
-    rw c.place_of-place.ensures (taken s.octets.now s.base _ _ _ c.in_ok-first.ensures.cases.0 s.stand).here
+    rw c.entry_offset-place.ensures (taken s.octets.now s.base _ _ _ c.in_ok-first.ensures.cases.0 s.stand).here
 
 pub returns-clause-first : goal.returns-clause-first
 returns-clause-first g c =
     let s = c.args.self.now in
-    labels_taken s.octets.now s.base _ _ _ _ _ c.in_ok-first.ensures.cases.0 c.place_of-place.ensures c.read_label-label.ensures.label
+    labels_taken s.octets.now s.base _ _ _ _ _ c.in_ok-first.ensures.cases.0 c.entry_offset-place.ensures c.read_label-label.ensures.label

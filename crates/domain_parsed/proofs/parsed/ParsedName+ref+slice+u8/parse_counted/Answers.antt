@@ -1,5 +1,5 @@
 use Rattle.std.proofs.Common.{sym, ap, subst, ◌∙◌, rules, refl, Result, Ok, Err, OnErr}
-use Rattle.octseq.specs.Parsing.{message, place}
+use Rattle.octseq.specs.Parsing.{message, position}
 use Rattle.domain_reading.specs.Grammar.{Names}
 use Rattle.domain_parsed.proofs.Parsing.{ok_not_err, no_name, fault_counted, read_here, held, piece_tells, plainly_named, plainly_read, name_counted}
 use Rattle.domain_parsed.proofs.parsed.ParsedName+ref+slice+u8.parse_counted.Goals as goal
@@ -10,8 +10,8 @@ returns-in_err-read_name_counted-clause-exact g c =
     let none = no_name c.args.parser.now (search rules) here c.in_err-read_name_counted.ensures.fault.0 in
     (λ ok. absurd (ok_not_err c.from_residual.result c.from_residual.ensures.0 ok), λ x. absurd (none x.0 x.1))
 
-pub returns-in_err-read_name_counted-clause-plain : goal.returns-in_err-read_name_counted-clause-plain
-returns-in_err-read_name_counted-clause-plain g c = λ ls x.
+pub returns-in_err-read_name_counted-clause-uncompressed : goal.returns-in_err-read_name_counted-clause-uncompressed
+returns-in_err-read_name_counted-clause-uncompressed g c = λ ls x.
     let here = ap (λ w. w.at) c.new-found.ensures ∙ c.pos.ensures.place in
     absurd (no_name c.args.parser.now (search rules) here c.in_err-read_name_counted.ensures.fault.0 ls (plainly_named c.args.limit x))
 
@@ -39,21 +39,21 @@ returns-clause-labels g c =
     let here = ap (λ w. w.at) c.new-found.ensures ∙ c.pos.ensures.place in
     let r = read_here parser (search rules) here c.in_ok-read_name_counted.ensures.name in
     let h = held parser c.octets_ref.result.now (c.octets_ref.ensures ∙ ap (λ o. o.now) c.in-Ok.ensures.ok.octets) r in
-    subst (λ ls. Names c.args.limit (message parser) (place parser) ls) (sym (c.of.ensures.labels ∙ h.same)) r.name
+    subst (λ ls. Names c.args.limit (message parser) (position parser) ls) (sym (c.of.ensures.labels ∙ h.same)) r.name
 
-pub returns-clause-scattered : goal.returns-clause-scattered
-returns-clause-scattered g c =
+pub returns-clause-is_compressed : goal.returns-clause-is_compressed
+returns-clause-is_compressed g c =
     let here = ap (λ w. w.at) c.new-found.ensures ∙ c.pos.ensures.place in
-    rw c.of.ensures.scattered (piece_tells (read_here c.args.parser.now (search rules) here c.in_ok-read_name_counted.ensures.name))
+    rw c.of.ensures.is_compressed (piece_tells (read_here c.args.parser.now (search rules) here c.in_ok-read_name_counted.ensures.name))
 
-pub returns-clause-plain : goal.returns-clause-plain
-returns-clause-plain g c = λ ls x.
+pub returns-clause-uncompressed : goal.returns-clause-uncompressed
+returns-clause-uncompressed g c = λ ls x.
     let parser = c.args.parser.now in
     let here = ap (λ w. w.at) c.new-found.ensures ∙ c.pos.ensures.place in
     let r = read_here parser (search rules) here c.in_ok-read_name_counted.ensures.name in
     let h = held parser c.octets_ref.result.now (c.octets_ref.ensures ∙ ap (λ o. o.now) c.in-Ok.ensures.ok.octets) r in
     let p = plainly_read x r in
-    (c.of.ensures.labels ∙ (h.same ∙ p.0), c.of.ensures.scattered ∙ p.1, c.in-Ok.ensures.ok.place ∙ c.place_behind.ensures ∙ p.2)
+    (c.of.ensures.labels ∙ (h.same ∙ p.0), c.of.ensures.is_compressed ∙ p.1, c.in-Ok.ensures.ok.place ∙ c.end_offset.ensures ∙ p.2)
 
 pub returns-clause-counted : goal.returns-clause-counted
 returns-clause-counted g c =

@@ -1,5 +1,5 @@
 use Rattle.std.proofs.Common.{sym, ◌∙◌, arith}
-use Rattle.domain_reading.proofs.Places.{length-labels, slice_size}
+use Rattle.domain_reading.proofs.LabelsOfTable.{length-labels, slice_size}
 use Rattle.domain_parsed.proofs.parsed.ParsedName.label_count.Goals as goal
 
 pub returns : goal.returns

@@ -1,5 +1,5 @@
 use Rattle.std.proofs.Common.{rules, ◌≡◌, ◌∷◌, ◌++◌, [], arith}
-use Rattle.domain_label.specs.Views.{label_octets}
+use Rattle.domain_label.specs.Labels.{label_octets}
 use Rattle.domain_tests.proofs.Listed.{then_root}
 use Rattle.domain_tests.proofs.lists.AbsoluteList.new.Goals as goal
 

@@ -1,5 +1,5 @@
 use Rattle.std.proofs.Common.{◌≡◌, ◌≤◌, length, map, take}
-use Rattle.domain_label.specs.Views.{label_octets}
+use Rattle.domain_label.specs.Labels.{label_octets}
 use Rattle.domain_label.specs.Wire.{wire, IsRelative}
 use Rattle.domain_tests.proofs.lists.RelativeList.new.Given as goal
 

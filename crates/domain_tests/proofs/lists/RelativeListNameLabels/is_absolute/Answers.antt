@@ -1,5 +1,5 @@
 use Rattle.std.proofs.Common.{map, sym, true≢false}
-use Rattle.domain_label.specs.Views.{label_octets}
+use Rattle.domain_label.specs.Labels.{label_octets}
 use Rattle.domain_label.proofs.WireLaws.{not_both}
 use Rattle.domain_tests.proofs.lists.RelativeListNameLabels.is_absolute.Goals as goal
 

@@ -1,6 +1,6 @@
 use Rattle.std.proofs.Common.{arith}
 use Rattle.domain_list.proofs.Chaining.{root_fits}
-use Rattle.domain_traits.proofs.Made.{accepted}
+use Rattle.domain_traits.proofs.ListsOfNames.{accepted}
 use Rattle.domain_traits.proofs.to_relative_name.ToRelativeName.chain_root.Goals as goal
 
 pub unwrap-requires : goal.unwrap-requires

@@ -1,23 +1,23 @@
 use Rattle.std.proofs.Common.{rules, ◌++◌, ◌∙◌, ap}
-use Rattle.domain_label.specs.Low.{low_all}
+use Rattle.domain_label.specs.Lowercase.{lowercase_labels}
 use Rattle.domain_label.specs.Wire.{wire}
-use Rattle.domain_label.proofs.Lowered.{low_size}
-use Rattle.domain_traits.proofs.Made.{relative_lowered}
+use Rattle.domain_label.proofs.CanonicalForm.{lowercase_size}
+use Rattle.domain_traits.proofs.ListsOfNames.{relative_lowered}
 use Rattle.domain_traits.proofs.to_relative_name.ToRelativeName.to_canonical_relative_name.Goals as goal
 
 pub relative_name_of-requires : goal.relative_name_of-requires
 relative_name_of-requires g c =
-    let ls = low_all (g.Self.NameLabels.labels c.args.self.now) in
+    let ls = lowercase_labels (g.Self.NameLabels.labels c.args.self.now) in
     let name = relative_lowered _ (g.met.Self.Relative.relative c.args.self.now) in
     (ls, name, c.from_builder.ensures ∙ (c.in-Ok.ensures.ok ∙ ap (λ o. o ++ wire ls) c.in_ok-target.ensures.octets))
 
 pub returns-in-Ok-clause-ok : goal.returns-in-Ok-clause-ok
 returns-in-Ok-clause-ok g c =
-    let ls = low_all (g.Self.NameLabels.labels c.args.self.now) in
+    let ls = lowercase_labels (g.Self.NameLabels.labels c.args.self.now) in
     let name = relative_lowered _ (g.met.Self.Relative.relative c.args.self.now) in
     c.relative_name_of.ensures.list ls name (c.from_builder.ensures ∙ (c.in-Ok.ensures.ok ∙ ap (λ o. o ++ wire ls) c.in_ok-target.ensures.octets))
 
 pub returns-in-Err-clause-err : goal.returns-in-Err-clause-err
 returns-in-Err-clause-err g c =
-    let size = low_size (g.Self.NameLabels.labels c.args.self.now) in
+    let size = lowercase_size (g.Self.NameLabels.labels c.args.self.now) in
     search rules

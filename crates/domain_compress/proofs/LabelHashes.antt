@@ -1,0 +1,63 @@
+-- The hashes of the labels at the places.
+use Rattle.std.proofs.Common.{◌≡◌, ℕ, ◌+◌, ◌≤◌, length, List, [], ◌∷◌, ◌++◌, Option, Bool, true, false, ◌&&◌, nat_eq, refl, sym, ap, subst, ◌∙◌, arith, slice_index, slice_range, length-append}
+use Rattle.std.proofs.lemmas.Grind.{common_steps}
+use Rattle.std.proofs.lemmas.List.{get_or_append_left}
+use Rattle.std.proofs.lemmas.Bool.{false≢true}
+use Rattle.std.proofs.lemmas.List.Elements.{All-push, All-tail}
+use Rattle.std.proofs.Props.{props}
+use Rattle.std.specs.List.{All}
+use Rattle.domain_label.specs.Wire.{IsAbsoluteWire}
+use Rattle.domain_compress.specs.Compressing.{RememberedLabel}
+use Rattle.domain_compress.specs.declared.written.WrittenSuffix.{WrittenSuffix}
+use Rattle.domain_compress.specs.declared.written.Written.{Written}
+use Rattle.domain_compress.specs.Ends.{label_hash, slot_of, AreMarked}
+use Rattle.domain_compress.specs.Hashes.{hash_at, HasHash, IsHashed, IsKnown}
+use Rattle.domain_compress.specs.Written.{remembered, Longest}
+use Rattle.domain_compress.proofs.LongerSuffix.{kept_end}
+use Rattle.domain_compress.proofs.Marking.{not_hashed, end_some}
+
+slice_more : (t u : List ℕ) (a b : ℕ) → b ≤ length t → slice_range (t ++ u) a b ≡ slice_range t a b
+slice_more t u a b h = grind (arith, common_steps)
+
+-- A label stays where it stands behind more octets.
+hash_more : (t u : List ℕ) (p h : ℕ) → HasHash t p h → HasHash (t ++ u) p h
+hash_more t u p h x =
+    let head : slice_index (t ++ u) p ≡ slice_index t p = get_or_append_left t u 0 p (omega (arith, x.1)) in
+    let label : slice_range (t ++ u) (p + 1) (p + 1 + slice_index t p) ≡ slice_range t (p + 1) (p + 1 + slice_index t p) = slice_more t u (p + 1) (p + 1 + slice_index t p) (omega (arith, x.1)) in
+    let same : hash_at (t ++ u) p ≡ hash_at t p = ap (λ n. label_hash (slice_range (t ++ u) (p + 1) (p + 1 + n))) head ∙ ap label_hash label in
+    (omega (arith, head, x.0), omega (arith, head, x.1, length-append t u), x.2 ∙ sym same)
+
+pub known_more : (hashed : Bool) (t u : List ℕ) (ws : List Written) → IsKnown hashed t ws → IsKnown hashed (t ++ u) ws
+known_more hashed t u ws known = λ e k d lt. hash_more t u _ _ (known e k d lt)
+
+both_true : (a b : Bool) → (a && b) ≡ true → (a ≡ true) × (b ≡ true)
+both_true true b e = (refl, e)
+both_true false b e = absurd (false≢true e)
+
+-- One place more is remembered.
+pub known_push : (t : List ℕ) (hashed stands : Bool) (new old : List Written) (w : Written) → IsKnown hashed t old → (stands ≡ true → IsHashed t w) → new ≡ old ++ w ∷ [] → IsKnown (hashed && stands) t new
+known_push t hashed stands new old w known here e both =
+    let b = both_true hashed stands both in
+    subst (λ ws. All (IsHashed t) ws) (sym e) (All-push (IsHashed t) old w (known b.0) (here b.1))
+
+-- No end stands at a place whose hash isn't marked.
+pub skipped : (t name marks : List ℕ) (w : Written) (ws : List RememberedLabel) (best : Option WrittenSuffix) → IsAbsoluteWire name → AreMarked marks name → IsHashed t w → nat_eq (slice_index marks (slot_of w.hash)) 1 ≡ false → Longest t ws name best → Longest t (ws ++ remembered w ∷ []) name best
+skipped t name marks w ws best wire_form marked here none old =
+    kept_end t name (remembered w) ws best wire_form
+    (λ xs ys e more lt s. not_hashed marks t w.place w.hash ys here (λ one. absurd (false≢true (sym none ∙ ap (λ n. nat_eq n 1) one))) (end_some name xs ys wire_form e more) (marked xs ys e more) s)
+    old
+
+pub known_first : (t : List ℕ) (rest more : List Written) (w : Written) → rest ≡ w ∷ more → All (IsHashed t) rest → IsHashed t w
+known_first t rest more w e all = (subst (λ ws. All (IsHashed t) ws) e all) 0 w (omega arith)
+
+pub known_behind : (t : List ℕ) (hashed : Bool) (rest more : List Written) (w : Written) → rest ≡ w ∷ more → IsKnown hashed t rest → IsKnown hashed t more
+known_behind t hashed rest more w e known = λ h. All-tail (IsHashed t) w more (subst (λ ws. All (IsHashed t) ws) e (known h))
+
+-- What is known is known in one way.
+pub known_once : (hashed : Bool) (t : List ℕ) (ws : List Written) → (a b : IsKnown hashed t ws) → a ≡ b
+known_once hashed t ws = Prim.hlevel props
+
+pub known_still : (before after : Bool) (t t' o s : List ℕ) (ws vs : List Written) → t' ≡ t ++ s → o ≡ t' → IsKnown before t ws → (IsKnown before o ws → IsKnown after o vs) → IsKnown after t' vs
+known_still before after t t' o s ws vs all read known kept =
+    let whole : t ++ s ≡ o = sym all ∙ sym read in
+    subst (λ m. IsKnown after m vs) read (kept (subst (λ m. IsKnown before m ws) whole (known_more before t s ws known)))

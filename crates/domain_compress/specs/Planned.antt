@@ -1,0 +1,28 @@
+-- What is to be written for a name, where the places are a table of offsets.
+use Rattle.std.specs.Prelude.{◌≡◌, ℕ, ◌+◌, ◌≤◌, ◌<◌, List, ◌++◌, length, take, map}
+use Rattle.domain_label.specs.Wire.{wire, labels_in, IsWire}
+use Rattle.domain_compress.specs.Compressing.{RememberedLabel, pointer_to, Compresses}
+
+-- the places of a table, of which no end of a name is known
+abbrev pub place_in_table : ℕ → RememberedLabel
+place_in_table offset = record { at = offset; end = 0 }
+
+abbrev pub places_in_table : List ℕ → List RememberedLabel
+places_in_table = map place_in_table
+
+-- the table of the places
+abbrev pub offsets : List RememberedLabel → List ℕ
+offsets = map (λ w. w.at)
+
+-- Behind t the first octets of the name, up to begin, and a pointer to the offset are to be written for it.
+pub record WritesPointer (t : List ℕ) (ws : List RememberedLabel) (name : List ℕ) (begin offset : ℕ) : Type 0 where
+  pub labels : List (List ℕ)
+  pub compresses : Compresses t ws (labels_in name) labels (take begin name ++ pointer_to offset)
+  pub spelled : labels_in (take begin name) ≡ labels
+  pub wire_form : IsWire (take begin name)
+  pub inside : begin + 2 ≤ length name
+  pub low : offset < 16384
+
+-- It is to be written with no pointer.
+abbrev pub WritesFlat : List ℕ → List RememberedLabel → List ℕ → Type 0
+WritesFlat t ws name = Compresses t ws (labels_in name) (labels_in name) (wire (labels_in name))

@@ -1,0 +1,125 @@
+//! How a name is to be written: the labels before its longest end that stands somewhere, and a pointer to that.
+ghost use Rattle.std.specs.Prelude.{◌≡◌, ◌<◌, ◌≤◌, ◌+◌, ◌++◌, length, take, IfSome, IsNone};
+ghost use Rattle.std.specs.List.{All};
+ghost use Rattle.domain_label.specs.Wire.{labels_in, IsWire, IsAbsoluteWire};
+ghost use Rattle.domain_compress.specs.Compressing.{pointer_to, remembered_from};
+ghost use Rattle.domain_compress.specs.Hashes.{IsKnown};
+ghost use Rattle.domain_compress.specs.Planned.{places_in_table, offsets, WritesPointer, WritesFlat};
+ghost use Rattle.domain_compress.specs.Written.{all_remembered};
+
+use crate::remember::remember;
+use crate::search::longest_suffix;
+use crate::written::Written;
+use arrayvec::ArrayVec;
+
+/// The most pointers that lead along a name.
+const MAX_POINTERS: u8 = 255;
+
+/// The beginning of a name that is to be written, and where a pointer behind it leads to.
+#[derive(Clone, Copy, Debug)]
+pub struct Beginning {
+    /// How many octets of the name stand before the end that a pointer stands for.
+    pub begin: usize,
+    /// The offset that the pointer leads to.
+    pub offset: u16,
+}
+
+/// The beginning of the name before its longest end that stands where something was written, and the first such
+/// offset. `None` where no end stands at any, or one pointer too many would lead along the name.
+pub(crate) fn find_beginning(
+    octets: &[u8],
+    written: &[Written],
+    name: &[u8],
+    hashed: bool,
+) -> Option<Beginning>
+    requires wire { IsAbsoluteWire name.now }
+    requires known { IsKnown hashed octets.now written.now }
+    ensures some { IfSome result (λ b. WritesPointer octets.now (all_remembered written.now) name.now b.begin b.offset) }
+    ensures none { IsNone result → WritesFlat octets.now (all_remembered written.now) name.now }
+{
+    let Some(end) = longest_suffix(octets, written, name, hashed) else {
+        return None;
+    };
+    if end.pointers == MAX_POINTERS {
+        return None;
+    }
+    Some(Beginning {
+        begin: end.begin,
+        offset: end.place,
+    })
+}
+
+/// The first `begin` octets of a name, and a pointer to an offset behind them (RFC 1035, 4.1.4).
+pub fn pointed(name: &[u8], begin: usize, offset: u16) -> ArrayVec<u8, 255>
+    requires low { offset < 16384 }
+    requires inside { begin + 2 ≤ length name.now }
+    requires short { length name.now ≤ 255 }
+    ensures { result.items ≡ take begin name.now ++ pointer_to offset }
+{
+    let mut octets = ArrayVec::new();
+    let Ok(()) = octets.try_extend_from_slice(&name[..begin]) else {
+        unreachable!();
+    };
+    let Ok(()) = octets.try_extend_from_slice(&(49152 + offset).to_be_bytes()) else {
+        unreachable!();
+    };
+    octets
+}
+
+/// What stands at the offsets of a table, with no hash.
+fn written_at(table: &[u16]) -> ArrayVec<Written, 128>
+    requires few { length table.now ≤ 128 }
+    requires low { All (λ p. p < 16384) table.now }
+    ensures { all_remembered result.items ≡ places_in_table table.now }
+{
+    let mut written = ArrayVec::new();
+    for offset in table {
+        written.push(Written {
+            place: *offset,
+            end: 0,
+            hash: 0,
+        });
+    }
+    written
+}
+
+/// How a name is to be written behind octets, for callers that keep octets and offsets themselves: the beginning of
+/// the name before its longest end, other than the root, that is read without case at an offset of the table, and the
+/// first such offset.
+///
+/// `None` where no end is read at any, or more than 255 pointers would lead along the name: it is then to be written
+/// with no pointer. It needs no memory.
+pub fn plan(octets: &[u8], table: &[u16], name: &[u8]) -> Option<Beginning>
+    requires wire { IsAbsoluteWire name.now }
+    requires few { length table.now ≤ 128 }
+    requires low { All (λ p. p < 16384) table.now }
+    ensures some { IfSome result (λ b. WritesPointer octets.now (places_in_table table.now) name.now b.begin b.offset) }
+    ensures none { IsNone result → WritesFlat octets.now (places_in_table table.now) name.now }
+{
+    find_beginning(octets, written_at(table).as_slice(), name, false)
+}
+
+/// The offsets of a table.
+fn offsets_of(written: &[Written]) -> ArrayVec<u16, 128>
+    requires few { length written.now ≤ 128 }
+    ensures { result.items ≡ offsets (all_remembered written.now) }
+{
+    let mut table = ArrayVec::new();
+    for label in written {
+        table.push(label.place);
+    }
+    table
+}
+
+/// The table, and behind it the offsets of these labels, but for the root, that were written from `start` on: those
+/// below 16,384, to which a pointer can lead, and up to 128 in all.
+pub fn more_offsets(table: &[u16], labels: &[u8], start: usize) -> ArrayVec<u16, 128>
+    requires few { length table.now ≤ 128 }
+    requires low { All (λ p. p < 16384) table.now }
+    requires labels { IsWire labels.now }
+    ensures { result.items ≡ take 128 (table.now ++ offsets (remembered_from start start (labels_in labels.now))) }
+{
+    let mut written = written_at(table);
+    remember(&mut written, false, &[], labels, start, start);
+    offsets_of(written.as_slice())
+}

@@ -1,0 +1,20 @@
+-- What contracts see of errors, and of the iterator over flat labels.
+use Rattle.std.specs.Prelude.{ℕ, List}
+use Rattle.domain_label.specs.Wire.{labels_in}
+use Rattle.domain_flat.specs.declared.error.NameError.{NameError}
+use Rattle.domain_flat.specs.declared.error.NameErrorKind.{NameErrorKind}
+use Rattle.domain_flat.specs.declared.error.RelativeNameError.{RelativeNameError}
+use Rattle.domain_flat.specs.declared.error.RelativeNameErrorKind.{RelativeNameErrorKind}
+use Rattle.domain_flat.specs.declared.iter.NameIter.{NameIter}
+
+-- why octets are no absolute name
+abbrev pub name_error_kind : NameError → NameErrorKind
+name_error_kind e = e.kind
+
+-- why octets are no relative name
+abbrev pub relative_name_error_kind : RelativeNameError → RelativeNameErrorKind
+relative_name_error_kind e = e.kind
+
+-- the labels that an iterator has left
+abbrev pub flat_labels_left : NameIter → List (List ℕ)
+flat_labels_left it = labels_in it.octets.now

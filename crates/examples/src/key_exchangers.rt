@@ -1,0 +1,39 @@
+//! Record data of a type of one's own with a name in it: a host that exchanges keys (RFC 2230, 3).
+ghost use Rattle.std.specs.Prelude.{◌≡◌, IfOk, IfSome, OnErr};
+ghost use Rattle.std.specs.Int.{w16, from_be_bytes};
+ghost use Rattle.octseq.specs.Parsing.{message, position};
+ghost use Rattle.domain_wire.specs.Values.{FixedAt};
+ghost use Rattle.domain_parsed.specs.ParsedNames.{parsed_labels};
+ghost use Rattle.domain_data.specs.Data.{AllAt};
+ghost use Rattle.domain_data.specs.Names.{NameTo};
+ghost use Rattle.domain_data.specs.Sequences.{BothAt};
+
+use domain::base::name::*;
+use domain::base::rdata::*;
+use domain::base::wire::*;
+use domain_data::{FieldsData, Sequence, UncompressedNameField};
+use octseq::Parser;
+
+/// How much the host is preferred, and its name, which is never compressed (RFC 3597, 4).
+pub type Kx<N> = FieldsData<36, Sequence<u16, UncompressedNameField<N>>>;
+
+/// The data at the parser's position, where the record is of that type. It has to end where the parser ends.
+pub fn read_exchanger<'a>(
+    rtype: Rtype,
+    parser: &mut Parser<'a>,
+) -> Result<Option<Kx<ParsedName<&'a [u8]>>>, ParseError>
+    ensures ok { IfOk result (λ read. IfSome read (λ kx. AllAt (BothAt (FixedAt 2 (from_be_bytes w16)) NameTo) (message parser.old) (position parser.old) (kx.fields.first, parsed_labels kx.fields.rest.name) (position parser.new))) }
+    ensures unchanged { OnErr result (parser.new ≡ parser.old) }
+{
+    Kx::parse_rdata(rtype, parser)
+}
+
+/// Appends the data with its length in front to a message that is composed.
+pub fn write_exchanger<Target: Composer>(
+    kx: &Kx<ParsedName<&[u8]>>,
+    target: &mut Target,
+) -> Result<(), ComposeRdataError<Target::AppendError>>
+    ensures unchanged { OnErr result (Target.octets target.new ≡ Target.octets target.old) }
+{
+    kx.compose_len_rdata(target)
+}

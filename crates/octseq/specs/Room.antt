@@ -1,7 +1,0 @@
--- When octets that a new builder makes may be refused.
-use Rattle.std.specs.Prelude.{ℕ, ◌<◌, Option, None, Some}
-
--- They exceed a fixed room. Where none is fixed, memory may be refused, which no octets don't ask for.
-abbrev pub MayLackRoom : Option ℕ → ℕ → Type 0
-MayLackRoom None len = 0 < len
-MayLackRoom (Some room) len = room < len
