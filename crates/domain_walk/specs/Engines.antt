@@ -1,0 +1,34 @@
+-- What the program writes of a name that it follows.
+use Rattle.std.specs.Prelude.{◌≡◌, ℕ, ◌≤◌, List, [], ◌∷◌, ◌++◌, Option, Bool, true, false, codes}
+use Rattle.std.specs.Fmt.{decimal}
+use Rattle.std.specs.Io.KnownBytes.{Appends}
+use Rattle.domain_wire.specs.Refusals.{refusal_text}
+use Rattle.domain_label.specs.Text.{text_with_final_dot}
+use Rattle.domain_reading.specs.Grammar.{Names}
+use Rattle.domain_reading.specs.Faults.{NameFaultAt, error_of}
+use Rattle.domain_reading.specs.declared.fault.NameFault.{NameFault}
+use Rattle.domain_tool.specs.Numerals.{TellsPlace}
+use Rattle.domain_walk.specs.Following.{FollowedThrough}
+pub use Rattle.domain_walk.specs.Lines.{count_text}
+
+-- The last line: the name at p with its final dot, or the reason why there is none, and how many labels and pointers were read.
+abbrev pub IsLastLine : List ℕ → ℕ → Bool → ℕ → List ℕ → Type 0
+IsLastLine m p true count last = (ls : List (List ℕ)) × Names 255 m p ls × (last ≡ text_with_final_dot ls ++ count_text count)
+IsLastLine m p false count last = (f : NameFault) × NameFaultAt 255 m p f × (last ≡ refusal_text (error_of f) ++ count_text count)
+
+-- The name at p was followed and told line by line, of at most 383 labels and pointers, and the last line tells what it came to.
+pub record WritesFollowed (m : List ℕ) (p : ℕ) (found : Bool) (old new : Option (List ℕ)) : Type 0 where
+  pub lines : List ℕ
+  pub last : List ℕ
+  pub count : ℕ
+  pub few : count ≤ 383
+  pub followed : FollowedThrough m p lines count
+  pub ends : IsLastLine m p found count last
+  pub appends : Appends old new (lines ++ (last ++ 10 ∷ []))
+
+-- The one word is this offset in decimal digits.
+abbrev pub AsksOffset : List (List ℕ) → ℕ → Type 0
+AsksOffset words offset = (word : List ℕ) × (words ≡ word ∷ []) × TellsPlace word offset
+
+abbrev pub AsksForOffset : List (List ℕ) → Type 0
+AsksForOffset words = (offset : ℕ) × AsksOffset words offset

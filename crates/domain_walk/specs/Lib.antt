@@ -1,0 +1,4 @@
+pub mod Lines
+pub mod Following
+pub mod Engines
+pub mod LastLines

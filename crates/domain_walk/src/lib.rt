@@ -1,0 +1,6 @@
+//! Following a name in a message, label by label and pointer by pointer (RFC 1035, 4.1.4).
+#![tactic(auto)]
+
+pub mod engine;
+mod follow;
+mod step;
