@@ -1,0 +1,6 @@
+-- What contracts see of record data: its fields.
+use Rattle.std.specs.Prelude.{ℕ}
+use Rattle.domain_data.specs.declared.fields.FieldsData.{FieldsData}
+
+abbrev pub fields_of : {t : ℕ} {F : Type 0} → FieldsData t F → F
+fields_of it = it.fields

@@ -1,0 +1,285 @@
+//! Data with names in it.
+ghost use Rattle.std.specs.Prelude.{◌≡◌};
+
+use crate::fields::FieldsData;
+use crate::name_field::{NameField, UncompressedNameField};
+use crate::sequence::Sequence;
+
+/// The name that the owner stands for (RFC 1035, 3.3.1).
+pub type Cname<N> = FieldsData<5, NameField<N>>;
+
+/// A server of a zone (RFC 1035, 3.3.11).
+pub type Ns<N> = FieldsData<2, NameField<N>>;
+
+/// A name that is pointed to (RFC 1035, 3.3.12).
+pub type Ptr<N> = FieldsData<12, NameField<N>>;
+
+/// The name that the end of names below the owner is replaced by; never compressed (RFC 6672, 2.1 and 2.5).
+pub type Dname<N> = FieldsData<39, UncompressedNameField<N>>;
+
+/// A host that takes mail, and how much it is preferred: the lower the number, the more (RFC 1035, 3.3.9).
+pub type Mx<N> = FieldsData<15, Sequence<u16, NameField<N>>>;
+
+/// The priority, weight and port of a service and its host, whose name is never compressed (RFC 2782).
+pub type Srv<N> = FieldsData<
+    33,
+    Sequence<u16, Sequence<u16, Sequence<u16, UncompressedNameField<N>>>>,
+>;
+
+/// The numbers of an SOA: serial, refresh, retry, expire, minimum.
+type SoaNumbers = Sequence<u32, Sequence<u32, Sequence<u32, Sequence<u32, u32>>>>;
+
+/// The start of a zone (RFC 1035, 3.3.13).
+pub type Soa<N> = FieldsData<6, Sequence<NameField<N>, Sequence<NameField<N>, SoaNumbers>>>;
+
+impl<const TYPE: u16, N> FieldsData<TYPE, NameField<N>> {
+    ghost use Rattle.domain_data.specs.Views.{fields_of};
+
+    /// Data that is this name.
+    pub fn new(name: N) -> FieldsData<TYPE, NameField<N>>
+        ensures { (fields_of result).name ≡ name }
+    {
+        FieldsData {
+            fields: NameField { name },
+        }
+    }
+
+    /// The name.
+    pub fn name(&self) -> &N
+        ensures { result.now ≡ (fields_of self.now).name }
+    {
+        &self.fields.name
+    }
+}
+
+impl<N> FieldsData<5, NameField<N>> {
+    ghost use Rattle.domain_data.specs.Views.{fields_of};
+
+    /// The name that the owner stands for.
+    pub fn cname(&self) -> &N
+        ensures { result.now ≡ (fields_of self.now).name }
+    {
+        &self.fields.name
+    }
+}
+
+impl<N> FieldsData<2, NameField<N>> {
+    ghost use Rattle.domain_data.specs.Views.{fields_of};
+
+    /// The name of the server.
+    pub fn nsdname(&self) -> &N
+        ensures { result.now ≡ (fields_of self.now).name }
+    {
+        &self.fields.name
+    }
+}
+
+impl<N> FieldsData<12, NameField<N>> {
+    ghost use Rattle.domain_data.specs.Views.{fields_of};
+
+    /// The name that is pointed to.
+    pub fn ptrdname(&self) -> &N
+        ensures { result.now ≡ (fields_of self.now).name }
+    {
+        &self.fields.name
+    }
+}
+
+impl<N> FieldsData<39, UncompressedNameField<N>> {
+    ghost use Rattle.domain_data.specs.Views.{fields_of};
+
+    /// Data that is this name.
+    pub fn new(name: N) -> Dname<N>
+        ensures { (fields_of result).name ≡ name }
+    {
+        FieldsData {
+            fields: UncompressedNameField { name },
+        }
+    }
+
+    /// The name that replaces the owner's.
+    pub fn dname(&self) -> &N
+        ensures { result.now ≡ (fields_of self.now).name }
+    {
+        &self.fields.name
+    }
+}
+
+impl<N> FieldsData<15, Sequence<u16, NameField<N>>> {
+    ghost use Rattle.domain_data.specs.Views.{fields_of};
+
+    /// Data of these.
+    pub fn new(preference: u16, exchange: N) -> Mx<N>
+        ensures preference { (fields_of result).first ≡ preference }
+        ensures exchange { (fields_of result).rest.name ≡ exchange }
+    {
+        FieldsData {
+            fields: Sequence {
+                first: preference,
+                rest: NameField { name: exchange },
+            },
+        }
+    }
+
+    /// How much the host is preferred.
+    pub fn preference(&self) -> u16
+        ensures { result ≡ (fields_of self.now).first }
+    {
+        self.fields.first
+    }
+
+    /// The name of the host.
+    pub fn exchange(&self) -> &N
+        ensures { result.now ≡ (fields_of self.now).rest.name }
+    {
+        &self.fields.rest.name
+    }
+}
+
+impl<N> FieldsData<33, Sequence<u16, Sequence<u16, Sequence<u16, UncompressedNameField<N>>>>> {
+    ghost use Rattle.domain_data.specs.Views.{fields_of};
+
+    /// Data of these.
+    pub fn new(priority: u16, weight: u16, port: u16, target: N) -> Srv<N>
+        ensures priority { (fields_of result).first ≡ priority }
+        ensures weight { (fields_of result).rest.first ≡ weight }
+        ensures port { (fields_of result).rest.rest.first ≡ port }
+        ensures target { (fields_of result).rest.rest.rest.name ≡ target }
+    {
+        FieldsData {
+            fields: Sequence {
+                first: priority,
+                rest: Sequence {
+                    first: weight,
+                    rest: Sequence {
+                        first: port,
+                        rest: UncompressedNameField { name: target },
+                    },
+                },
+            },
+        }
+    }
+
+    /// How soon the host is asked: the lower the number, the sooner.
+    pub fn priority(&self) -> u16
+        ensures { result ≡ (fields_of self.now).first }
+    {
+        self.fields.first
+    }
+
+    /// How often the host is asked, of those with the same priority: the higher the number, the more.
+    pub fn weight(&self) -> u16
+        ensures { result ≡ (fields_of self.now).rest.first }
+    {
+        self.fields.rest.first
+    }
+
+    /// The port of the service.
+    pub fn port(&self) -> u16
+        ensures { result ≡ (fields_of self.now).rest.rest.first }
+    {
+        self.fields.rest.rest.first
+    }
+
+    /// The name of the host.
+    pub fn target(&self) -> &N
+        ensures { result.now ≡ (fields_of self.now).rest.rest.rest.name }
+    {
+        &self.fields.rest.rest.rest.name
+    }
+}
+
+impl<N> FieldsData<6, Sequence<NameField<N>, Sequence<NameField<N>, SoaNumbers>>> {
+    ghost use Rattle.domain_data.specs.Views.{fields_of};
+
+    /// Data of these.
+    pub fn new(
+        mname: N,
+        rname: N,
+        serial: u32,
+        refresh: u32,
+        retry: u32,
+        expire: u32,
+        minimum: u32,
+    ) -> Soa<N>
+        ensures mname { (fields_of result).first.name ≡ mname }
+        ensures rname { (fields_of result).rest.first.name ≡ rname }
+        ensures serial { (fields_of result).rest.rest.first ≡ serial }
+        ensures refresh { (fields_of result).rest.rest.rest.first ≡ refresh }
+        ensures retry { (fields_of result).rest.rest.rest.rest.first ≡ retry }
+        ensures expire { (fields_of result).rest.rest.rest.rest.rest.first ≡ expire }
+        ensures minimum { (fields_of result).rest.rest.rest.rest.rest.rest ≡ minimum }
+    {
+        let numbers = Sequence {
+            first: serial,
+            rest: Sequence {
+                first: refresh,
+                rest: Sequence {
+                    first: retry,
+                    rest: Sequence {
+                        first: expire,
+                        rest: minimum,
+                    },
+                },
+            },
+        };
+        FieldsData {
+            fields: Sequence {
+                first: NameField { name: mname },
+                rest: Sequence {
+                    first: NameField { name: rname },
+                    rest: numbers,
+                },
+            },
+        }
+    }
+
+    /// The name of the server that the zone comes from.
+    pub fn mname(&self) -> &N
+        ensures { result.now ≡ (fields_of self.now).first.name }
+    {
+        &self.fields.first.name
+    }
+
+    /// The mailbox of who is responsible, as a name.
+    pub fn rname(&self) -> &N
+        ensures { result.now ≡ (fields_of self.now).rest.first.name }
+    {
+        &self.fields.rest.first.name
+    }
+
+    /// The version of the zone.
+    pub fn serial(&self) -> u32
+        ensures { result ≡ (fields_of self.now).rest.rest.first }
+    {
+        self.fields.rest.rest.first
+    }
+
+    /// After how many seconds another server looks for a new version.
+    pub fn refresh(&self) -> u32
+        ensures { result ≡ (fields_of self.now).rest.rest.rest.first }
+    {
+        self.fields.rest.rest.rest.first
+    }
+
+    /// After how many seconds it tries again where that failed.
+    pub fn retry(&self) -> u32
+        ensures { result ≡ (fields_of self.now).rest.rest.rest.rest.first }
+    {
+        self.fields.rest.rest.rest.rest.first
+    }
+
+    /// After how many seconds without an answer it no longer answers for the zone.
+    pub fn expire(&self) -> u32
+        ensures { result ≡ (fields_of self.now).rest.rest.rest.rest.rest.first }
+    {
+        self.fields.rest.rest.rest.rest.rest.first
+    }
+
+    /// For how many seconds an answer that there is no such name or data may be kept (RFC 2308, 4).
+    pub fn minimum(&self) -> u32
+        ensures { result ≡ (fields_of self.now).rest.rest.rest.rest.rest.rest }
+    {
+        self.fields.rest.rest.rest.rest.rest.rest
+    }
+}

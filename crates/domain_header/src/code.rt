@@ -1,0 +1,171 @@
+//! What is asked for, and how it went: the two codes of four bits in a header.
+ghost use Rattle.std.specs.Prelude.{◌≡◌, ◌%◌, Some};
+ghost use Rattle.domain_header.specs.Mnemonics.{rows_of};
+ghost use Rattle.domain_header.specs.Tables.{opcode_rows, rcode_rows};
+
+use crate::mnemonic::{Mnemonic, mnemonic_word};
+use std::fmt;
+
+const OPCODES: [Mnemonic; 6] = [
+    Mnemonic {
+        number: 0,
+        word: "QUERY",
+    },
+    Mnemonic {
+        number: 1,
+        word: "IQUERY",
+    },
+    Mnemonic {
+        number: 2,
+        word: "STATUS",
+    },
+    Mnemonic {
+        number: 4,
+        word: "NOTIFY",
+    },
+    Mnemonic {
+        number: 5,
+        word: "UPDATE",
+    },
+    Mnemonic {
+        number: 6,
+        word: "DSO",
+    },
+];
+
+/// Returns the table of their mnemonics.
+fn opcodes() -> &'static [Mnemonic]
+    ensures { rows_of result.now ≡ opcode_rows }
+{
+    &OPCODES
+}
+
+const RCODES: [Mnemonic; 11] = [
+    Mnemonic {
+        number: 0,
+        word: "NOERROR",
+    },
+    Mnemonic {
+        number: 1,
+        word: "FORMERR",
+    },
+    Mnemonic {
+        number: 2,
+        word: "SERVFAIL",
+    },
+    Mnemonic {
+        number: 3,
+        word: "NXDOMAIN",
+    },
+    Mnemonic {
+        number: 4,
+        word: "NOTIMP",
+    },
+    Mnemonic {
+        number: 5,
+        word: "REFUSED",
+    },
+    Mnemonic {
+        number: 6,
+        word: "YXDOMAIN",
+    },
+    Mnemonic {
+        number: 7,
+        word: "YXRRSET",
+    },
+    Mnemonic {
+        number: 8,
+        word: "NXRRSET",
+    },
+    Mnemonic {
+        number: 9,
+        word: "NOTAUTH",
+    },
+    Mnemonic {
+        number: 10,
+        word: "NOTZONE",
+    },
+];
+
+/// Returns the table of their mnemonics.
+fn rcodes() -> &'static [Mnemonic]
+    ensures { rows_of result.now ≡ rcode_rows }
+{
+    &RCODES
+}
+
+/// The kind of query: a number of 4 bits (RFC 1035, 4.1.1).
+#[derive(Clone, Copy, Debug, PartialEq, Eq, PartialOrd, Ord, Hash)]
+pub struct Opcode(u8);
+
+impl Opcode {
+    ghost use Rattle.domain_header.specs.Values.{opcode_number};
+
+    /// The code of the lower four bits of this number.
+    pub fn from_int(number: u8) -> Opcode
+        ensures { opcode_number result ≡ number % 16 }
+    {
+        Opcode(number % 16)
+    }
+
+    /// The number.
+    pub fn to_int(self) -> u8
+        ensures { result ≡ opcode_number self }
+    {
+        self.0
+    }
+}
+
+/// Writes the mnemonic, or `OPCODE` and the number in decimal digits where there is none.
+impl fmt::Display for Opcode {
+    ghost use Rattle.domain_header.specs.Tables.{opcode_text};
+    ghost use Rattle.domain_header.specs.Values.{opcode_number};
+
+    ghost output = { λ value. Some (opcode_text (opcode_number value)) };
+
+    fn fmt<W: fmt::Write>(&self, f: &mut fmt::Formatter<W>) -> fmt::Result {
+        let number = self.0;
+        match mnemonic_word(opcodes(), u16::from(number)) {
+            Some(word) => write!(f, "{word}"),
+            None => write!(f, "OPCODE{number}"),
+        }
+    }
+}
+
+/// The response code: a number of 4 bits (RFC 1035, 4.1.1).
+#[derive(Clone, Copy, Debug, PartialEq, Eq, PartialOrd, Ord, Hash)]
+pub struct Rcode(u8);
+
+impl Rcode {
+    ghost use Rattle.domain_header.specs.Values.{rcode_number};
+
+    /// The code of the lower four bits of this number.
+    pub fn from_int(number: u8) -> Rcode
+        ensures { rcode_number result ≡ number % 16 }
+    {
+        Rcode(number % 16)
+    }
+
+    /// The number.
+    pub fn to_int(self) -> u8
+        ensures { result ≡ rcode_number self }
+    {
+        self.0
+    }
+}
+
+/// Writes the mnemonic, or `RCODE` and the number in decimal digits where there is none.
+impl fmt::Display for Rcode {
+    ghost use Rattle.domain_header.specs.Tables.{rcode_text};
+    ghost use Rattle.domain_header.specs.Values.{rcode_number};
+
+    ghost output = { λ value. Some (rcode_text (rcode_number value)) };
+
+    fn fmt<W: fmt::Write>(&self, f: &mut fmt::Formatter<W>) -> fmt::Result {
+        let number = self.0;
+        match mnemonic_word(rcodes(), u16::from(number)) {
+            Some(word) => write!(f, "{word}"),
+            None => write!(f, "RCODE{number}"),
+        }
+    }
+}

@@ -1,0 +1,4 @@
+pub mod Aliases
+pub mod ComposingRecords
+pub mod Names
+pub mod Sections

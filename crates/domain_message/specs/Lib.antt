@@ -1,0 +1,16 @@
+pub mod Aliases
+pub mod AliasLaws
+pub mod Composing
+pub mod Entries
+pub mod Facts
+pub mod Messages
+pub mod Models
+pub mod Readings
+pub mod ReadsBack
+pub mod RecordModel
+pub mod RecordParts
+pub mod Runs
+pub mod SectionOrder
+pub mod Sections
+pub mod Sole
+pub mod Views

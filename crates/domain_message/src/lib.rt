@@ -1,0 +1,18 @@
+//! Messages: a header, questions, and records in three sections (RFC 1035, 4.1).
+#![tactic(auto)]
+
+mod alias;
+pub mod message;
+pub mod question;
+pub mod record;
+pub mod resource_record;
+pub mod section;
+
+pub use domain_header::{
+    Class, Header, HeaderCounts, HeaderSection, Opcode, Rcode, ShortMessage, Ttl,
+};
+pub use message::Message;
+pub use question::Question;
+pub use record::{ParsedRecord, RecordHeader};
+pub use resource_record::Record;
+pub use section::{QuestionSection, RecordSection, Section};

@@ -1,0 +1,131 @@
+//! Questions.
+ghost use Rattle.std.specs.Prelude.{◌≡◌, ◌≤◌, OnOk, OnErr};
+ghost use Rattle.domain_header.specs.Values.{class_number};
+ghost use Rattle.domain_rdata.specs.ReadBack.{Appended, Exceeds};
+ghost use Rattle.domain_rdata.specs.Rtypes.{rtype_number};
+ghost use Rattle.domain_message.specs.Composing.{type_and_class, QuestionOctets};
+ghost use Rattle.domain_message.specs.Entries.{QuestionFields, QuestionAt, NoQuestion};
+ghost use Rattle.domain_message.specs.Readings.{question_reading};
+
+use domain_header::Class;
+use domain_header::numbers::number_of_16_bits;
+use domain_list::AbsoluteLabels;
+use domain_parsed::ParsedName;
+use domain_rdata::{Composer, Rtype};
+use domain_wire::ParseError;
+use domain_wire::parse::Parse;
+use octseq::{Octets, OctetsBuilder, Parser, Truncate};
+
+/// A question: a name, a type and a class (RFC 1035, 4.1.2).
+#[derive(Clone, Copy)]
+pub struct Question<N> {
+    qname: N,
+    qtype: Rtype,
+    qclass: Class,
+}
+
+impl<N> Question<N> {
+    ghost use Rattle.domain_message.specs.Views.{question_name, question_type, question_class};
+
+    /// Returns the question of this name, type and class.
+    pub fn new(qname: N, qtype: Rtype, qclass: Class) -> Question<N>
+        ensures name { question_name result ≡ qname }
+        ensures rtype { question_type result ≡ qtype }
+        ensures class { question_class result ≡ qclass }
+    {
+        Question {
+            qname,
+            qtype,
+            qclass,
+        }
+    }
+
+    /// The name.
+    pub fn qname(&self) -> &N
+        ensures { result.now ≡ question_name self.now }
+    {
+        &self.qname
+    }
+
+    /// The type.
+    pub fn qtype(&self) -> Rtype
+        ensures { result ≡ question_type self.now }
+    {
+        self.qtype
+    }
+
+    /// The class.
+    pub fn qclass(&self) -> Class
+        ensures { result ≡ question_class self.now }
+    {
+        self.qclass
+    }
+}
+
+/// The name, then the type and the class in two octets each.
+impl<'a> Parse<'a> for Question<ParsedName<&'a [u8]>> {
+    ghost use Rattle.domain_message.specs.Models.{question_fields};
+
+    ghost View = { QuestionFields };
+
+    ghost model = { question_fields };
+
+    ghost encodes = { QuestionAt };
+
+    ghost fails_with = { NoQuestion };
+
+    fn parse(parser: &mut Parser<'a>) -> Result<Question<ParsedName<&'a [u8]>>, ParseError> {
+        let mut ahead = *parser;
+        let qname = ParsedName::parse(&mut ahead)?;
+        let message = ahead.as_slice();
+        let name_end = ahead.pos();
+        if let Err(_) = ahead.advance(4) {
+            return Err(ParseError::ShortInput);
+        }
+        *parser = ahead;
+        Ok(Question {
+            qname,
+            qtype: Rtype::from_int(number_of_16_bits(message, name_end)),
+            qclass: Class::from_int(number_of_16_bits(message, name_end + 2)),
+        })
+    }
+
+    ghost lawful = { question_reading };
+}
+
+/// Type and class in four octets.
+fn type_and_class_octets(rtype: Rtype, class: Class) -> [u8; 4]
+    ensures { result ≡ type_and_class (rtype_number rtype) (class_number class) }
+{
+    let [a, b] = rtype.to_int().to_be_bytes();
+    let [c, d] = class.to_int().to_be_bytes();
+    [a, b, c, d]
+}
+
+impl<'a, N: AbsoluteLabels<'a>> Question<N> {
+    ghost use Rattle.domain_message.specs.Views.{question_name, question_type, question_class};
+
+    /// Appends the question, or nothing: the name, which the target may compress, then the type and the class.
+    ///
+    /// It is refused only if the question exceeds the spare capacity. The target's octets are then unchanged.
+    pub fn compose<Target: Composer>(
+        &'a self,
+        target: &mut Target,
+    ) -> Result<(), Target::AppendError>
+        ensures ok { OnOk result (Appended (QuestionOctets (N.labels (question_name self.now)) (rtype_number (question_type self.now)) (class_number (question_class self.now)) Target.compresses (Target.octets target.old)) (Target.octets target.old) (Target.octets target.new)) }
+        ensures unchanged { OnErr result (Target.octets target.new ≡ Target.octets target.old) }
+        ensures full { OnErr result (Exceeds (QuestionOctets (N.labels (question_name self.now)) (rtype_number (question_type self.now)) (class_number (question_class self.now)) Target.compresses (Target.octets target.old)) (Target.octets target.old) (Target.capacity target.old)) }
+        ensures capacity { Target.capacity target.old ≤ Target.capacity target.new }
+    {
+        let start = target.as_slice().len();
+        if let Err(e) = target.append_compressed_name(&self.qname) {
+            return Err(e);
+        }
+        let numbers = type_and_class_octets(self.qtype, self.qclass);
+        if let Err(e) = target.append_slice(&numbers) {
+            target.truncate(start);
+            return Err(e);
+        }
+        Ok(())
+    }
+}

@@ -1,0 +1,201 @@
+//! Record headers, and records that are read from a message.
+ghost use Rattle.std.specs.Prelude.{◌≡◌};
+ghost use Rattle.octseq.specs.Parsing.{message, position};
+ghost use Rattle.domain_parsed.specs.ParsedNames.{parsed_labels};
+ghost use Rattle.domain_rdata.specs.Rtypes.{rtype_number};
+ghost use Rattle.domain_message.specs.Entries.{HeaderFields, RecordHeaderAt, NoRecordHeader, RecordFields, RecordAt, NoRecord};
+ghost use Rattle.domain_message.specs.Readings.{record_header_reading, record_reading};
+ghost use Rattle.domain_header.specs.Values.{class_number, ttl_seconds};
+
+use domain_header::numbers::{number_of_16_bits, number_of_32_bits};
+use domain_header::{Class, Ttl};
+use domain_parsed::ParsedName;
+use domain_rdata::Rtype;
+use domain_wire::ParseError;
+use domain_wire::parse::Parse;
+use octseq::Parser;
+
+/// What a record has before its data: the owner's name, the type, the class, the TTL and the length of the data
+/// (RFC 1035, 4.1.3).
+#[derive(Clone, Copy)]
+pub struct RecordHeader<N> {
+    owner: N,
+    rtype: Rtype,
+    class: Class,
+    ttl: Ttl,
+    rdlen: u16,
+}
+
+impl<N> RecordHeader<N> {
+    ghost use Rattle.domain_message.specs.Views.{record_owner, record_type, record_class, record_ttl, record_len};
+
+    /// Returns the record header of these.
+    pub fn new(owner: N, rtype: Rtype, class: Class, ttl: Ttl, rdlen: u16) -> RecordHeader<N>
+        ensures owner { record_owner result ≡ owner }
+        ensures rtype { record_type result ≡ rtype }
+        ensures class { record_class result ≡ class }
+        ensures ttl { record_ttl result ≡ ttl }
+        ensures rdlen { record_len result ≡ rdlen }
+    {
+        RecordHeader {
+            owner,
+            rtype,
+            class,
+            ttl,
+            rdlen,
+        }
+    }
+
+    /// The owner's name.
+    pub fn owner(&self) -> &N
+        ensures { result.now ≡ record_owner self.now }
+    {
+        &self.owner
+    }
+
+    /// The type.
+    pub fn rtype(&self) -> Rtype
+        ensures { result ≡ record_type self.now }
+    {
+        self.rtype
+    }
+
+    /// The class.
+    pub fn class(&self) -> Class
+        ensures { result ≡ record_class self.now }
+    {
+        self.class
+    }
+
+    /// The TTL.
+    pub fn ttl(&self) -> Ttl
+        ensures { result ≡ record_ttl self.now }
+    {
+        self.ttl
+    }
+
+    /// How many octets the data has.
+    pub fn rdlen(&self) -> u16
+        ensures { result ≡ record_len self.now }
+    {
+        self.rdlen
+    }
+}
+
+/// The name, then ten octets: type, class, TTL and length.
+impl<'a> Parse<'a> for RecordHeader<ParsedName<&'a [u8]>> {
+    ghost use Rattle.domain_message.specs.Models.{header_fields};
+
+    ghost View = { HeaderFields };
+
+    ghost model = { header_fields };
+
+    ghost encodes = { RecordHeaderAt };
+
+    ghost fails_with = { NoRecordHeader };
+
+    fn parse(parser: &mut Parser<'a>) -> Result<RecordHeader<ParsedName<&'a [u8]>>, ParseError> {
+        let mut ahead = *parser;
+        let owner = ParsedName::parse(&mut ahead)?;
+        let message = ahead.as_slice();
+        let name_end = ahead.pos();
+        if let Err(_) = ahead.advance(10) {
+            return Err(ParseError::ShortInput);
+        }
+        *parser = ahead;
+        Ok(RecordHeader {
+            owner,
+            rtype: Rtype::from_int(number_of_16_bits(message, name_end)),
+            class: Class::from_int(number_of_16_bits(message, name_end + 2)),
+            ttl: Ttl::from_secs(number_of_32_bits(message, name_end + 4)),
+            rdlen: number_of_16_bits(message, name_end + 8),
+        })
+    }
+
+    ghost lawful = { record_header_reading };
+}
+
+/// A record in a message: its header, and where its data is (RFC 1035, 4.1.3).
+///
+/// The data isn't read yet. Names in it may point to any offset before them in the message.
+#[derive(Clone, Copy)]
+pub struct ParsedRecord<'a> {
+    header: RecordHeader<ParsedName<&'a [u8]>>,
+    data: Parser<'a>,
+}
+
+impl<'a> ParsedRecord<'a> {
+    ghost use Rattle.domain_message.specs.RecordModel.{record_fields};
+
+    /// The owner's name.
+    pub fn owner(&self) -> ParsedName<&'a [u8]>
+        ensures { parsed_labels result ≡ (record_fields self.now).header.owner }
+    {
+        *self.header.owner()
+    }
+
+    /// The type.
+    pub fn rtype(&self) -> Rtype
+        ensures { rtype_number result ≡ (record_fields self.now).header.rtype }
+    {
+        self.header.rtype()
+    }
+
+    /// The class.
+    pub fn class(&self) -> Class
+        ensures { class_number result ≡ (record_fields self.now).header.class }
+    {
+        self.header.class()
+    }
+
+    /// The TTL.
+    pub fn ttl(&self) -> Ttl
+        ensures { ttl_seconds result ≡ (record_fields self.now).header.ttl }
+    {
+        self.header.ttl()
+    }
+
+    /// How many octets the data has.
+    pub fn rdlen(&self) -> u16
+        ensures { result ≡ (record_fields self.now).header.rdlen }
+    {
+        self.header.rdlen()
+    }
+
+    /// Returns a parser at the start of the data, which ends with the data.
+    pub fn data(&self) -> Parser<'a>
+        ensures message { message result ≡ (record_fields self.now).octets }
+        ensures place { position result ≡ (record_fields self.now).start }
+    {
+        self.data
+    }
+}
+
+/// The record header, then as many octets of data as it says.
+impl<'a> Parse<'a> for ParsedRecord<'a> {
+    ghost use Rattle.domain_message.specs.RecordModel.{record_fields};
+
+    ghost View = { RecordFields };
+
+    ghost model = { record_fields };
+
+    ghost encodes = { RecordAt };
+
+    ghost fails_with = { NoRecord };
+
+    fn parse(parser: &mut Parser<'a>) -> Result<ParsedRecord<'a>, ParseError> {
+        let mut ahead = *parser;
+        let header = match RecordHeader::parse(&mut ahead) {
+            Ok(header) => header,
+            Err(e) => return Err(e),
+        };
+        let data = match ahead.parse_parser(usize::from(header.rdlen())) {
+            Ok(data) => data,
+            Err(_) => return Err(ParseError::ShortInput),
+        };
+        *parser = ahead;
+        Ok(ParsedRecord { header, data })
+    }
+
+    ghost lawful = { record_reading };
+}
