@@ -7,12 +7,20 @@ A file is: the number of cases (32 bits, little endian); then for each case a
 number (32 bits, little endian), the length (the same) and the octets. The
 number is the place of a name in the octets, or 0. The same files come out each
 time.
+
+`grow-L-P.msg` has names of L labels, of an octet each, along which P pointers
+lead; `mixed-N.stream`, `hosts-N.stream` and `middles-N.stream` have one case: N
+names, each behind the one before it, and N as the number.
 """
 
 import pathlib
 import random
 import struct
 import sys
+
+LABELS = [1, 4, 16, 64, 127]
+POINTERS = [0, 1, 16, 255]
+NAMES = [10, 30, 100, 300, 1000, 3000, 10000]
 
 
 def write(folder, name, cases):
@@ -28,6 +36,36 @@ def wire(parts):
 
 def pointer(target):
     return bytes([0xC0 | target >> 8, target & 255])
+
+
+def spread(labels, pointers, turn):
+    """A message with a name of so many labels and pointers, and the place of the name.
+
+    The pointers lead to the next label, or to the next pointer, or to the root; they stand before the labels and the
+    root in about equal numbers.
+    """
+    before = [0] * (labels + 1)
+    for k in range(pointers):
+        before[(2 * k + 1) * (labels + 1) // (2 * pointers)] += 1
+    pieces, run = [], b""
+    for i in range(labels):
+        if before[i]:
+            pieces += [run] * bool(run) + [b""] * (before[i] - 1)
+            run = b""
+        run += bytes([1, 97 + (i + turn) % 26])
+    if before[labels]:
+        pieces += [run] * bool(run) + [b""] * (before[labels] - 1)
+        run = b""
+    if before[0]:
+        pieces.insert(0, b"")
+    msg = bytearray(12)
+    place = len(msg)
+    msg += run + b"\0"
+    for piece in reversed(pieces):
+        here = len(msg)
+        msg += piece + pointer(place)
+        place = here
+    return place, bytes(msg)
 
 
 def word(rng, low, high):
@@ -112,6 +150,24 @@ def main():
             labels.append(b"".join(rng.choice([b"\\.", b"\\032", b"\\200", b"a", b"\\\\", b"Z"]) for _ in range(12)))
         escapes.append((0, b".".join(labels)))
     write(folder, "escaped.texts", escapes)
+
+    # how cost grows, by labels and pointers
+    for labels in LABELS:
+        for pointers in POINTERS:
+            write(folder, f"grow-{labels}-{pointers}.msg", [spread(labels, pointers, k) for k in range(16)])
+
+    # names of eight zones, and hosts of one zone in a row, to be composed into one message
+    zones = [wire(domain()) for _ in range(8)]
+    mixed_names = []
+    for _ in range(max(NAMES)):
+        front = [word(rng, 1, 8)] + ([word(rng, 2, 6)] if rng.random() < 0.5 else [])
+        mixed_names.append(wire(front)[:-1] + rng.choice(zones))
+    for count in NAMES:
+        write(folder, f"mixed-{count}.stream", [(count, b"".join(mixed_names[:count]))])
+        # labels whose last octets differ, and labels that differ in the middle alone
+        for kind, label in [("hosts", b"host%03d"), ("middles", b"h%03dx")]:
+            hosts = [wire([label % i, b"example", b"com"]) for i in range(count)]
+            write(folder, f"{kind}-{count}.stream", [(count, b"".join(hosts))])
 
 
 if __name__ == "__main__":

@@ -1,61 +1,119 @@
 #!/bin/sh
-# Measures the port beside the Rust crate, on the same inputs, and prints a table.
+# Measures the port beside the Rust crate and other libraries, on the same inputs, and prints tables.
 #
-#   bench/run.sh UPSTREAM WORK [WORD]
+#   bench/run.sh UPSTREAM WORK [--quick WORD | --once] [--page FILE]
 #
 # UPSTREAM  a folder with the Rust crates `domain` 0.12.3 and `octseq` 0.5, each unpacked in a folder of its
 #           name, as `cargo download` or https://crates.io/crates/domain gives them; nothing of them is here
-# WORK      a folder to build in; nothing is written beside this script
-# WORD      only operations whose name has this in it
+# WORK      a folder to build in, kept for the next run; nothing is written beside this script
+# --quick   one short run of the operations whose name has WORD in it (`parse,skip`: these), without other
+#           libraries
+# --once    nothing is measured: each operation is called once on both sides, and the results are compared
+# --page    writes the tables into this page, between its lines `<!-- measured -->` and `<!-- end -->`, and the
+#           plots beside it
 #
-# It needs `rt`, cargo and python3. The library is proved first, over what earlier checks of the repository kept.
+# It needs `rt`, cargo, python3 and cc. The library is proved first, over what checks of the repository and
+# earlier runs kept; then only what changed is built. Of other libraries those are measured that Debian's
+# packages libknot-dev, libldns-dev and librust-trust-dns-proto-dev have put on the machine.
 set -eu
 upstream=$(cd "${1:?the folder of the Rust crates}" && pwd)
 work=${2:?a folder to build in}
-word=${3:-}
+shift 2
+quick='' once='' page=''
+while [ $# -gt 0 ]; do
+    case $1 in
+    --quick) quick=${2:?a word of operations} && shift ;;
+    --once) once=--once ;;
+    --page) page=$(realpath "${2:?a page}") && shift ;;
+    *) echo "run.sh: $1?" >&2 && exit 2 ;;
+    esac
+    shift
+done
 here=$(cd "$(dirname "$0")" && pwd)
-mkdir -p "$work/port" "$work/rust" "$work/out"
+mkdir -p "$work/port/crates" "$work/rust" "$work/out"
 work=$(cd "$work" && pwd)
 
-# The port as a static library, in a copy of the repository.
-(cd "$here/.." && tar cf - crates crates.txt) | tar xf - -C "$work/port"
-mkdir -p "$work/port/crates/dnsspeed"
-# Its sources end in .in here, since the gate reads no Rattle outside of the crates that it proves.
-(cd "$here/port" && find . -name '*.in') | while read -r file; do
-    mkdir -p "$work/port/crates/dnsspeed/$(dirname "$file")"
-    cp "$here/port/$file" "$work/port/crates/dnsspeed/${file%.in}"
-done
-grep -q '^dnsspeed ' "$work/port/crates.txt" || echo 'dnsspeed staticlib: arrayvec octseq domain' >> "$work/port/crates.txt"
-(cd "$work/port/crates/dnsspeed" && rt lib >&2)
-lib=$work/port/crates/dnsspeed/out/libdnsspeed.a
+# The sources of the crates that the calls stand on, and what checks of the repository kept of them, as links.
+lay_out() {
+    to=$work/port/crates/$1
+    mkdir -p "$to/out"
+    for part in src specs proofs; do
+        rm -rf "${to:?}/$part"
+        [ ! -d "$here/../crates/$1/$part" ] || cp -a "$here/../crates/$1/$part" "$to/"
+    done
+    kept=$here/../crates/$1/out/rlib
+    if [ -d "$kept" ]; then
+        rm -rf "$to/out/rlib"
+        cp -al "$kept" "$to/out/" 2> /dev/null || cp -a "$kept" "$to/out/"
+    fi
+}
+
+# The port as a static library. Its sources end in .in here, since the gate reads no Rattle outside of the
+# crates that it proves.
+build_port() {
+    cp "$here/../HANDLES" "$work/port/"
+    grep -v -E '^(conformance|dnsnames|domain_tests|examples) *[a-z]*:' "$here/../crates.txt" > "$work/port/crates.txt"
+    sed -n 's/^\([a-z_0-9]*\).*:.*/\1/p' "$work/port/crates.txt" | while read -r crate; do
+        lay_out "$crate"
+    done
+    echo 'dnsspeed staticlib: arrayvec octseq domain' >> "$work/port/crates.txt"
+    to=$work/port/crates/dnsspeed
+    mkdir -p "$to"
+    rm -rf "${to:?}/src" "$to/specs" "$to/proofs"
+    (cd "$here/port" && find . -name '*.in') | while read -r file; do
+        mkdir -p "$to/$(dirname "$file")"
+        cp "$here/port/$file" "$to/${file%.in}"
+    done
+    (cd "$to" && rt lib >&2)
+    lib=$to/out/libdnsspeed.a
+}
 
 # The benchmark, with the Rust crates and that library.
-cp -r "$here/rust/." "$work/rust/"
-cat > "$work/rust/Cargo.toml" <<EOF
-[package]
-name = "bench"
-version = "0.1.0"
-edition = "2024"
-publish = false
+build_rust() {
+    cp -a "$here/rust/." "$work/rust/"
+    printf '[package]\nname = "bench"\nversion = "0.1.0"\nedition = "2024"\npublish = false\n
+[workspace]\n
+[dependencies]\ndomain = { path = "%s/domain" }\noctseq = { path = "%s/octseq" }\n
+[profile.release]\nopt-level = 3\nlto = "fat"\ncodegen-units = 1\n' "$upstream" "$upstream" > "$work/rust/Cargo.toml"
+    kit=$(dirname "$(rt doc)")
+    ops=$(nm "$lib" 2> /dev/null | sed -n 's/.* T dnsbench_//p' | xargs)
+    (cd "$work/rust" && PORT_LIB=$lib PORT_C=$kit/c PORT_OPS=$ops cargo build --release >&2)
+    bench=$work/rust/target/release/bench
+}
 
-[dependencies]
-domain = { path = "$upstream/domain" }
-octseq = { path = "$upstream/octseq" }
+# The libraries of others, where they are installed.
+build_peers() {
+    mkdir -p "$work/peers/trust/.cargo"
+    cc -O2 -o "$work/peers/knot" "$here/peers/knot.c" -lknot 2> /dev/null || echo 'no libknot here' >&2
+    cc -O2 -o "$work/peers/ldns" "$here/peers/ldns.c" -lldns 2> /dev/null || echo 'no ldns here' >&2
+    registry=$(dpkg -L librust-trust-dns-proto-dev 2> /dev/null | sed -n 's,/registry/.*,/registry,p' | head -1)
+    if [ -n "$registry" ]; then
+        cp -a "$here/peers/trust/." "$work/peers/trust/"
+        printf '[source.crates-io]\nreplace-with = "debian"\n[source.debian]\ndirectory = "%s"\n' "$registry" \
+            > "$work/peers/trust/.cargo/config.toml"
+        (cd "$work/peers/trust" && cargo build --offline --release >&2)
+    else
+        echo 'no trust-dns-proto here' >&2
+    fi
+}
 
-[profile.release]
-opt-level = 3
-lto = "fat"
-codegen-units = 1
-EOF
-kit=$(dirname "$(rt doc)")
-(
-    cd "$work/rust"
-    PORT_LIB=$lib PORT_C=$kit/c PORT_OPS=$(nm "$lib" 2>/dev/null | sed -n 's/.* T dnsbench_//p' | xargs) cargo build --release
-)
-
+build_port
+build_rust
 python3 "$here/inputs.py" "$work/inputs"
 rm -f "$work"/out/*.tsv
-for turn in 1 2 3; do
-    "$work/rust/target/release/bench" "$work/inputs" "$word" > "$work/out/$turn.tsv"
-done
-python3 "$here/table.py" "$work"/out/*.tsv
+if [ -n "$once" ]; then
+    exec "$bench" "$work/inputs" --once
+fi
+"$bench" "$work/inputs" --once >&2
+if [ -n "$quick" ]; then
+    "$bench" "$work/inputs" --turns 100 "$quick" > "$work/out/1.tsv"
+else
+    build_peers
+    for turn in 1 2 3; do
+        "$bench" "$work/inputs" --turns 200 > "$work/out/$turn.tsv"
+        for peer in knot ldns trust/target/release/trust; do
+            [ ! -x "$work/peers/$peer" ] || "$work/peers/$peer" "$work/inputs" >> "$work/out/$turn.tsv"
+        done
+    done
+fi
+python3 "$here/table.py" ${page:+--page "$page"} "$work"/out/*.tsv

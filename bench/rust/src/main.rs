@@ -1,13 +1,18 @@
-//! Measures `domain` 0.12.3 on the files of inputs.py.
+//! Measures `domain` 0.12.3 on the files of inputs.py, and what build.rs links beside it.
 //!
-//!     bench FOLDER [WORD]
+//!     bench FOLDER [--once] [--turns N] [WORD]
 //!
-//! prints `rust-domain TAB operation TAB file TAB nanoseconds TAB checksum` for each
-//! operation (whose name contains WORD). The time is that of one call, the
-//! best of several rounds over all cases of the file; several implementations
-//! take turns. The checksum is over
-//! the results of all cases of the file; another implementation of the same
-//! operation gives the same one.
+//! prints `PEER TAB operation TAB file TAB nanoseconds TAB checksum` for each
+//! operation (whose name contains WORD; `parse,check`: these operations). The
+//! time is that of one call, the best of several rounds over all cases of the
+//! file; several implementations take turns. The checksum is over the results of
+//! all cases of the file; another implementation of the same operation gives the
+//! same one.
+//!
+//! With `--once` nothing is measured: each operation is called once for each case,
+//! names that were composed with compression are compared octet by octet with
+//! what a plain search composes and read back, each difference is printed, and
+//! the status is 1 where there was one.
 //!
 //! Each operation is a function of slices and numbers that gives a number, so
 //! that an implementation behind `extern "C"` can stand beside it (see build.rs).
@@ -18,7 +23,7 @@ use octseq::parse::Parser;
 use std::fmt::Write;
 use std::hash::{Hash, Hasher};
 use std::hint::black_box;
-use std::path::Path;
+use std::path::{Path, PathBuf};
 use std::time::{Duration, Instant};
 
 const REFUSED: u64 = u64::MAX;
@@ -624,23 +629,48 @@ fn read(path: &Path) -> Vec<Case> {
 /// One implementation of an operation: all cases of a file, once.
 type Round<'a> = Box<dyn FnMut() -> u64 + 'a>;
 
+/// How an operation is measured.
+#[derive(Clone, Copy)]
+struct Weather {
+    /// The most turns of each implementation; none where results alone are compared.
+    turns: usize,
+    /// No turn begins later than this, but for the first five.
+    longest: Duration,
+}
+
 /// Prints the best time of one call in nanoseconds, and the sum over the
 /// results, of each implementation. They take turns, so that all meet the same
-/// weather on the machine.
-fn measure(op: &str, file: &str, calls: usize, mut peers: Vec<(&str, Round<'_>)>) {
+/// weather on the machine. Tells whether the sums are the same.
+fn measure(
+    op: &str,
+    file: &str,
+    calls: usize,
+    weather: Weather,
+    mut peers: Vec<(&str, Round<'_>)>,
+) -> bool {
     let mut all: Vec<(usize, f64, u64)> = peers
         .iter_mut()
-        .map(|(_, round)| {
-            let result = round();
-            let start = Instant::now();
-            black_box(round());
-            let once = start.elapsed().max(Duration::from_nanos(100));
-            // (slices are short, so that on a busy machine many are not cut in two)
-            let repeat = (Duration::from_millis(1).as_nanos() / once.as_nanos()).max(1);
-            (repeat as usize, f64::MAX, result)
-        })
+        .map(|(_, round)| (1, f64::MAX, round()))
         .collect();
-    for _ in 0..300 {
+    let same = all.iter().all(|(_, _, result)| *result == all[0].2);
+    if weather.turns == 0 {
+        if !same {
+            println!("different: {op} of {file}");
+        }
+        return same;
+    }
+    for ((_, round), (repeat, _, _)) in peers.iter_mut().zip(&mut all) {
+        let start = Instant::now();
+        black_box(round());
+        let once = start.elapsed().max(Duration::from_nanos(100));
+        // (slices are short, so that on a busy machine many are not cut in two)
+        *repeat = (Duration::from_millis(1).as_nanos() / once.as_nanos()).max(1) as usize;
+    }
+    let begun = Instant::now();
+    for turn in 0..weather.turns {
+        if turn >= 5 && begun.elapsed() > weather.longest {
+            break;
+        }
         for ((_, round), (repeat, best, _)) in peers.iter_mut().zip(&mut all) {
             let start = Instant::now();
             for _ in 0..*repeat {
@@ -653,6 +683,90 @@ fn measure(op: &str, file: &str, calls: usize, mut peers: Vec<(&str, Round<'_>)>
     for ((peer, _), (_, best, result)) in peers.iter().zip(&all) {
         println!("{peer}\t{op}\t{file}\t{best:.1}\t{result:016x}");
     }
+    same
+}
+
+//------------ Composing with compression ------------------------------------
+
+/// The wire forms of the names, one behind the other.
+fn split(stream: &[u8]) -> Vec<&[u8]> {
+    let mut parser = Parser::from_ref(stream);
+    let mut names = Vec::new();
+    while parser.remaining() > 0 {
+        let start = parser.pos();
+        Name::<&[u8]>::parse(&mut parser).unwrap();
+        names.push(&stream[start..parser.pos()]);
+    }
+    names
+}
+
+/// The places of a name's labels but the root.
+fn label_starts(name: &[u8]) -> Vec<usize> {
+    let mut starts = Vec::new();
+    let mut at = 0;
+    while name[at] != 0 {
+        starts.push(at);
+        at += 1 + name[at] as usize;
+    }
+    starts
+}
+
+/// The names composed into one message, each with a pointer to the first of at
+/// most 128 remembered places where its longest end is read: RFC 1035, 4.1.4.
+fn compressed(names: &[&[u8]]) -> Vec<u8> {
+    let mut message: Vec<u8> = Vec::new();
+    let mut places: Vec<usize> = Vec::new();
+    for name in names {
+        let starts = label_starts(name);
+        let found = starts.iter().find_map(|start| {
+            let end = Name::from_slice(&name[*start..]).unwrap();
+            let place = places.iter().find(|place| {
+                let (there, _) = parsed(&message, **place).unwrap();
+                there.name_eq(end)
+            })?;
+            Some((*start, *place))
+        });
+        let here = message.len();
+        let (written, pointer) = match found {
+            Some((start, place)) => (start, (0xc000 | place as u16).to_be_bytes().to_vec()),
+            None => (name.len(), Vec::new()),
+        };
+        message.extend(&name[..written]);
+        message.extend(pointer);
+        for start in starts.iter().filter(|start| **start < written) {
+            if places.len() < 128 && here + start < 16384 {
+                places.push(here + start);
+            }
+        }
+    }
+    message
+}
+
+/// Whether a peer composes the names as the plain search does, and whether the
+/// crate reads them back.
+fn composes(file: &str, stream: &[u8], peer: &Peer) -> bool {
+    let names = split(stream);
+    let wanted = compressed(&names);
+    let mut same = true;
+    for (op, compose) in peer.composing {
+        let mut message = vec![0; 2 * stream.len()];
+        let len = compose(stream, &mut message);
+        let message = message.get(..len as usize).unwrap_or_default();
+        let mut parser = Parser::from_ref(message);
+        let read = names.iter().all(|name| {
+            let name = Name::from_slice(name).unwrap();
+            ParsedName::parse(&mut parser).is_ok_and(|there| there.name_eq(name))
+        });
+        if !read || parser.remaining() > 0 {
+            println!("different: {op} of {file} is not read back");
+            same = false;
+        }
+        if message != wanted {
+            println!("different: {op} of {file}");
+            same = false;
+        }
+    }
+    same
 }
 
 fn add(sum: u64, result: u64) -> u64 {
@@ -665,6 +779,7 @@ type OnMessage = fn(&[u8], usize) -> u64;
 type OnName = fn(&[u8]) -> u64;
 type OnPair = fn(&[u8], &[u8]) -> u64;
 type OnMessageAndName = fn(&[u8], usize, &[u8]) -> u64;
+type Composing = fn(&[u8], &mut [u8]) -> u64;
 
 struct Peer {
     name: &'static str,
@@ -673,6 +788,8 @@ struct Peer {
     pairs: &'static [(&'static str, OnPair)],
     texts: &'static [(&'static str, OnName)],
     mixed: &'static [(&'static str, OnMessageAndName)],
+    streams: &'static [(&'static str, OnName)],
+    composing: &'static [(&'static str, Composing)],
 }
 
 const DOMAIN: Peer = Peer {
@@ -730,56 +847,105 @@ const DOMAIN: Peer = Peer {
         ("parse_cmp", parse_cmp),
         ("parse_ends", parse_ends),
     ],
+    streams: &[],
+    composing: &[],
 };
+
+/// What is measured as names get more labels and pointers.
+const GROWING: &[&str] = &["parse", "skip", "flatten", "parse_eq", "parse_cmp"];
 
 // `OTHERS`: the implementation behind `extern "C"`, if build.rs was given one.
 include!(concat!(env!("OUT_DIR"), "/others.rs"));
 
-fn main() {
-    let mut args = std::env::args_os().skip(1);
-    let folder = args.next().expect("usage: bench FOLDER [WORD]");
-    let folder = Path::new(&folder);
-    let word = args
-        .next()
-        .map(|word| word.into_string().unwrap())
-        .unwrap_or_default();
+/// What is wanted.
+struct Wanted {
+    folder: PathBuf,
+    once: bool,
+    turns: usize,
+    word: String,
+}
 
-    // (`parse,check`: these operations; `parse`: those whose name has that in it)
+fn arguments() -> Wanted {
+    let mut wanted = Wanted {
+        folder: PathBuf::new(),
+        once: false,
+        turns: 300,
+        word: String::new(),
+    };
+    let mut args = std::env::args().skip(1);
+    wanted.folder = args.next().expect("usage: bench FOLDER [..] [WORD]").into();
+    while let Some(arg) = args.next() {
+        match arg.as_str() {
+            "--once" => wanted.once = true,
+            "--turns" => wanted.turns = args.next().unwrap().parse().unwrap(),
+            word => wanted.word = word.to_string(),
+        }
+    }
+    wanted
+}
+
+/// The files of a kind, those with smaller numbers first.
+fn files(folder: &Path, begins: &str, ends: &str) -> Vec<String> {
+    let numbers = |name: &String| -> Vec<usize> {
+        name.split(['-', '.']).filter_map(|part| part.parse().ok()).collect()
+    };
+    let mut names: Vec<String> = std::fs::read_dir(folder)
+        .unwrap()
+        .map(|entry| entry.unwrap().file_name().into_string().unwrap())
+        .filter(|name| name.starts_with(begins) && name.ends_with(ends))
+        .collect();
+    names.sort_by_key(|name| (numbers(name), name.clone()));
+    names
+}
+
+fn main() {
+    let Wanted { folder, once, turns, word } = arguments();
     let wanted = |op: &str| match word.contains(',') {
         true => word.split(',').any(|word| word == op),
         false => op.contains(&word),
     };
+    let mut same = true;
+    let rows = Weather {
+        turns: if once { 0 } else { turns },
+        longest: Duration::from_secs(2),
+    };
+    let lines = Weather {
+        turns: rows.turns.min(60),
+        longest: Duration::from_millis(400),
+    };
 
     let peers: Vec<&Peer> = [&DOMAIN].into_iter().chain(OTHERS).collect();
     macro_rules! run {
-        ($kind:ident, $file:expr, $calls:expr, |$f:ident| $round:expr) => {
-            for (op, _) in DOMAIN.$kind.iter().filter(|(op, _)| wanted(op)) {
+        ($kind:ident, $from:expr, $file:expr, $calls:expr, $weather:expr, $wanted:expr, |$f:ident| $round:expr) => {
+            for (op, _) in $from.$kind.iter().filter(|(op, _)| $wanted(op)) {
                 let rounds = peers
                     .iter()
                     .filter_map(|peer| {
-                        let ($f, _) = peer
-                            .$kind
-                            .iter()
-                            .find(|(other, _)| other == op)
-                            .map(|(_, f)| (*f, ()))?;
+                        let (_, f) = peer.$kind.iter().find(|(other, _)| other == op)?;
+                        let $f = *f;
                         Some((peer.name, Box::new(move || $round) as Round<'_>))
                     })
                     .collect();
-                measure(op, $file, $calls, rounds);
+                same &= measure(op, $file, $calls, $weather, rounds);
             }
         };
     }
 
-    for file in [
+    let named = [
         "typical.msg",
         "pointer.msg",
         "deep.msg",
         "worst.msg",
         "short.msg",
         "long.msg",
-    ] {
+    ];
+    let growing = files(&folder, "grow-", ".msg");
+    for file in named.into_iter().chain(growing.iter().map(String::as_str)) {
+        let grows = file.starts_with("grow-");
+        let weather = if grows { lines } else { rows };
+        let wanted = |op: &str| wanted(op) && (!grows || GROWING.contains(&op));
         let cases = &read(&folder.join(file));
-        run!(messages, file, cases.len(), |f| cases
+        run!(messages, DOMAIN, file, cases.len(), weather, wanted, |f| cases
             .iter()
             .fold(0, |sum, case| add(
                 sum,
@@ -794,7 +960,7 @@ fn main() {
                 flat
             })
             .collect();
-        run!(mixed, file, cases.len(), |f| cases
+        run!(mixed, DOMAIN, file, cases.len(), weather, wanted, |f| cases
             .iter()
             .zip(flat)
             .fold(0, |sum, (case, flat)| add(
@@ -808,10 +974,10 @@ fn main() {
     }
     for file in ["typical.names", "deep.names"] {
         let cases = &read(&folder.join(file));
-        run!(names, file, cases.len(), |f| cases
+        run!(names, DOMAIN, file, cases.len(), rows, wanted, |f| cases
             .iter()
             .fold(0, |sum, case| add(sum, f(black_box(&case.octets)))));
-        run!(pairs, file, cases.len() / 2, |f| cases
+        run!(pairs, DOMAIN, file, cases.len() / 2, rows, wanted, |f| cases
             .chunks_exact(2)
             .fold(0, |sum, pair| add(
                 sum,
@@ -820,8 +986,25 @@ fn main() {
     }
     for file in ["typical.texts", "escaped.texts"] {
         let cases = &read(&folder.join(file));
-        run!(texts, file, cases.len(), |f| cases
+        run!(texts, DOMAIN, file, cases.len(), rows, wanted, |f| cases
             .iter()
             .fold(0, |sum, case| add(sum, f(black_box(&case.octets)))));
+    }
+    for file in &files(&folder, "", ".stream") {
+        let case = &read(&folder.join(file))[0];
+        for other in OTHERS {
+            run!(streams, other, file, case.place, rows, wanted, |f| f(
+                black_box(&case.octets)
+            ));
+            if once {
+                same &= composes(file, &case.octets, other);
+            }
+        }
+    }
+    if !same {
+        std::process::exit(1);
+    }
+    if once {
+        println!("the same results");
     }
 }
