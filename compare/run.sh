@@ -1,0 +1,14 @@
+#!/usr/bin/env bash
+# Builds the drivers of the libraries that are there, and prints the page of the comparison.
+#
+#   compare/run.sh WORK > docs/COMPARISON.md
+#
+# WORK is the folder to build in; compare/build.sh tells the variables. What is built, and what isn't and why, goes to
+# standard error. The last line has the counts of cases, of libraries, and of cases where this project differs from the
+# standard's text; status 1 where it does so and no page states it.
+set -euo pipefail
+here=$(cd "$(dirname "$0")" && pwd)
+work=${1:?a folder to build in}
+"$here/build.sh" "$work" >&2
+python=$(command -v /usr/bin/python3 || command -v python3)
+"$python" -B "$here/report.py" "$work"
