@@ -1,0 +1,274 @@
+/* What a call takes: this library beside libknot and ldns, where they are there (-DWITH_KNOT, -DWITH_LDNS).
+ *
+ * A line for each: operation, input, library, nanoseconds of one call. Libraries take turns of some 100 microseconds,
+ * so that all meet the same weather on the machine, and the best turn of each counts. */
+#define _POSIX_C_SOURCE 199309L
+#include "dnsnames.h"
+#include <stdio.h>
+#include <stdlib.h>
+#include <string.h>
+#include <time.h>
+#ifdef WITH_KNOT
+#include <libknot/libknot.h>
+#endif
+#ifdef WITH_LDNS
+#include <ldns/ldns.h>
+#endif
+
+struct input {
+    const char *title;
+    uint8_t message[600];
+    size_t message_len, offset;
+    uint8_t name[DNSNAMES_MAX_LEN], other[DNSNAMES_MAX_LEN]; /* without compression, and one that precedes it */
+    size_t len, other_len;
+    char text[DNSNAMES_MAX_TEXT + 1];
+};
+
+static struct input *in;
+static volatile size_t sink;
+
+static void fail(const char *what)
+{
+    fprintf(stderr, "bench: %s is refused\n", what);
+    exit(1);
+}
+
+static void ours_read(void)
+{
+    uint8_t name[DNSNAMES_MAX_LEN];
+    size_t length, end;
+    uint32_t compressed;
+
+    if (dnsnames_read(in->message, in->message_len, in->offset, 255, name, sizeof name, &length, &end, &compressed))
+        fail("read");
+    sink += length;
+}
+
+static void ours_compare(void)
+{
+    int32_t order;
+
+    if (dnsnames_compare(in->name, in->len, in->other, in->other_len, &order) || order != 1)
+        fail("compare");
+    sink += (size_t)order;
+}
+
+static void ours_to_text(void)
+{
+    uint8_t text[DNSNAMES_MAX_TEXT];
+    size_t length;
+
+    if (dnsnames_to_text(in->name, in->len, 1, text, sizeof text, &length))
+        fail("to_text");
+    sink += length;
+}
+
+static void ours_from_text(void)
+{
+    uint8_t name[DNSNAMES_MAX_LEN];
+    size_t length;
+
+    if (dnsnames_from_text((const uint8_t *)in->text, strlen(in->text), name, sizeof name, &length))
+        fail("from_text");
+    sink += length;
+}
+
+#ifdef WITH_KNOT
+static void knot_read(void)
+{
+    knot_dname_storage_t name;
+
+    if (knot_dname_wire_check(in->message + in->offset, in->message + in->message_len, in->message) <= 0)
+        fail("knot_dname_wire_check");
+    sink += (size_t)knot_dname_unpack(name, in->message + in->offset, sizeof name, in->message);
+}
+
+static void knot_compare(void)
+{
+    int order = knot_dname_cmp(in->name, in->other);
+
+    if (order <= 0)
+        fail("knot_dname_cmp");
+    sink += (size_t)order;
+}
+
+static void knot_to_text(void)
+{
+    char text[KNOT_DNAME_TXT_MAXLEN + 1];
+
+    if (knot_dname_to_str(text, in->name, sizeof text) == NULL)
+        fail("knot_dname_to_str");
+    sink += (size_t)text[0];
+}
+
+static void knot_from_text(void)
+{
+    knot_dname_storage_t name;
+
+    if (knot_dname_from_str(name, in->text, sizeof name) == NULL)
+        fail("knot_dname_from_str");
+    sink += name[0];
+}
+#endif
+
+#ifdef WITH_LDNS
+static ldns_rdf *ldns_name, *ldns_other;
+static ldns_buffer *ldns_text;
+
+static void ldns_read(void)
+{
+    ldns_rdf *name;
+    size_t pos = in->offset;
+
+    if (ldns_wire2dname(&name, in->message, in->message_len, &pos) != LDNS_STATUS_OK)
+        fail("ldns_wire2dname");
+    sink += ldns_rdf_size(name);
+    ldns_rdf_deep_free(name);
+}
+
+static void ldns_compare(void)
+{
+    int order = ldns_dname_compare(ldns_name, ldns_other);
+
+    if (order <= 0)
+        fail("ldns_dname_compare");
+    sink += (size_t)order;
+}
+
+static void ldns_to_text(void)
+{
+    ldns_buffer_clear(ldns_text);
+    if (ldns_rdf2buffer_str_dname(ldns_text, ldns_name) != LDNS_STATUS_OK)
+        fail("ldns_rdf2buffer_str_dname");
+    sink += ldns_buffer_position(ldns_text);
+}
+
+static void ldns_from_text(void)
+{
+    ldns_rdf *name;
+
+    if (ldns_str2rdf_dname(&name, in->text) != LDNS_STATUS_OK)
+        fail("ldns_str2rdf_dname");
+    sink += ldns_rdf_size(name);
+    ldns_rdf_deep_free(name);
+}
+
+static void prepare_ldns(void)
+{
+    ldns_name = ldns_dname_new_frm_data((uint16_t)in->len, in->name);
+    ldns_other = ldns_dname_new_frm_data((uint16_t)in->other_len, in->other);
+    if (ldns_text == NULL)
+        ldns_text = ldns_buffer_new(2048);
+}
+#endif
+
+struct call {
+    const char *operation, *library;
+    void (*run)(void);
+};
+
+static const struct call CALLS[] = {
+    {"read", "dnsnames", ours_read},
+    {"compare", "dnsnames", ours_compare},
+    {"to text", "dnsnames", ours_to_text},
+    {"from text", "dnsnames", ours_from_text},
+#ifdef WITH_KNOT
+    {"read", "libknot", knot_read},
+    {"compare", "libknot", knot_compare},
+    {"to text", "libknot", knot_to_text},
+    {"from text", "libknot", knot_from_text},
+#endif
+#ifdef WITH_LDNS
+    {"read", "ldns", ldns_read},
+    {"compare", "ldns", ldns_compare},
+    {"to text", "ldns", ldns_to_text},
+    {"from text", "ldns", ldns_from_text},
+#endif
+};
+enum { CALL_COUNT = sizeof CALLS / sizeof *CALLS, TURNS = 400 };
+
+static double now(void)
+{
+    struct timespec time;
+
+    clock_gettime(CLOCK_MONOTONIC, &time);
+    return 1e9 * (double)time.tv_sec + (double)time.tv_nsec;
+}
+
+static double turn(void (*run)(void), unsigned times)
+{
+    double begun = now();
+    unsigned i;
+
+    for (i = 0; i < times; i++)
+        run();
+    return (now() - begun) / times;
+}
+
+static void measure(void)
+{
+    double best[CALL_COUNT];
+    unsigned times[CALL_COUNT], i, k;
+
+    for (k = 0; k < CALL_COUNT; k++) {
+        turn(CALLS[k].run, 100);
+        best[k] = turn(CALLS[k].run, 1000);
+        times[k] = (unsigned)(1e5 / best[k]) + 1;
+    }
+    for (i = 0; i < TURNS; i++) {
+        for (k = 0; k < CALL_COUNT; k++) {
+            double took = turn(CALLS[k].run, times[k]);
+            if (took < best[k])
+                best[k] = took;
+        }
+    }
+    for (k = 0; k < CALL_COUNT; k++)
+        printf("%s\t%s\t%s\t%.1f\n", CALLS[k].operation, in->title, CALLS[k].library, best[k]);
+}
+
+/* The name at the message's offset in its other forms. */
+static void complete(struct input *input, const char *other)
+{
+    size_t end, text_len;
+    uint32_t compressed;
+
+    if (dnsnames_read(input->message, input->message_len, input->offset, 255, input->name, sizeof input->name,
+                      &input->len, &end, &compressed) ||
+        dnsnames_to_text(input->name, input->len, 1, (uint8_t *)input->text, DNSNAMES_MAX_TEXT, &text_len) ||
+        dnsnames_from_text((const uint8_t *)other, strlen(other), input->other, sizeof input->other,
+                           &input->other_len))
+        fail("the input");
+    input->text[text_len] = 0;
+}
+
+int main(void)
+{
+    static struct input typical = {.title = "typical"}, longest = {.title = "127 labels"};
+    static const uint8_t response[] = "\0\0\0\0\0\0\0\0\0\0\0\0\7example\3com\0\0\1\0\1\3www\300\014";
+    size_t i;
+
+    memcpy(typical.message, response, sizeof response - 1);
+    typical.message_len = sizeof response - 1;
+    typical.offset = 29;
+    complete(&typical, "mail.example.com.");
+    longest.offset = 12;
+    for (i = 0; i < 254; i += 2) {
+        longest.message[12 + i] = 1;
+        longest.message[12 + i + 1] = 'a' + i / 2 % 26;
+    }
+    longest.message_len = 12 + 255;
+    complete(&longest, "w.");
+    /* Its other differs in the first label alone. */
+    memcpy(longest.other, longest.name, longest.len);
+    longest.other_len = longest.len;
+    longest.other[1] = '0';
+
+    for (i = 0; i < 2; i++) {
+        in = i == 0 ? &typical : &longest;
+#ifdef WITH_LDNS
+        prepare_ldns();
+#endif
+        measure();
+    }
+    return 0;
+}

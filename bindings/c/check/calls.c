@@ -1,0 +1,588 @@
+/* The worked cases of each call, and every bad input. The answers are those of RFC 1035 and RFC 4034. */
+#include "check.h"
+#include "dnsnames.h"
+#include <string.h>
+
+#define OCTETS(text) ((const uint8_t *)(text))
+#define NAME(text) OCTETS(text), sizeof(text)         /* the root is the zero octet behind the text */
+#define SPELLED(text) OCTETS(text), sizeof(text) - 1
+
+/* F.ISI.ARPA at 20, FOO and a pointer to it at 40, a pointer to ARPA at 64, the root at 92 (RFC 1035, 4.1.4). */
+static const uint8_t STANDARD[93] = {
+    [20] = 1, 'F', 3, 'I', 'S', 'I', 4, 'A', 'R', 'P', 'A', 0,
+    [40] = 3, 'F', 'O', 'O', 0xc0, 20,
+    [64] = 0xc0, 26,
+    [92] = 0,
+};
+
+/* A response: www.example.com A IN, answered by a CNAME, an A record and an empty record of the root. */
+static const uint8_t RESPONSE[] =
+    "\x12\x34\x81\x80\0\1\0\2\0\0\0\1"
+    "\3www\7example\3com\0\0\1\0\1"
+    "\300\014\0\5\0\1\0\0\016\020\0\7\4host\300\020"
+    "\300\055\0\1\0\1\0\0\0\74\0\4\300\0\2\1"
+    "\0\0\51\20\0\0\0\0\0\0";
+enum { RESPONSE_LEN = sizeof RESPONSE, QUESTION = 12, CNAME = 33, ADDRESS = 52, EMPTY = 68 };
+
+static const uint8_t HOSTILE[] =
+    "\300\000"         /* 0: a pointer to itself */
+    "\300\004\300\002" /* 2 and 4: a ring of two */
+    "\1a\300\006"      /* 6: a label, and a pointer back to it: the name grows past 255 octets */
+    "\100\0"           /* 10: a head of an extended label type */
+    "\200\0"           /* 12: a head of a label type that isn't in use */
+    "\5abc";           /* 14: a label that ends past the message, which has the zero octet behind it */
+enum { HOSTILE_LEN = sizeof HOSTILE };
+
+static uint8_t buffer[1100];
+static size_t length, end, offset;
+static uint32_t flag;
+
+/* Before a call that is to be refused: what it must leave. */
+static void mark(void)
+{
+    memset(buffer, 0x5a, sizeof buffer);
+    length = end = offset = 77;
+    flag = 77;
+}
+
+static int is_marked(void)
+{
+    size_t i;
+
+    for (i = 0; i < sizeof buffer; i++)
+        if (buffer[i] != 0x5a)
+            return 0;
+    return length == 77 && end == 77 && offset == 77 && flag == 77;
+}
+
+#define REFUSES(status, call) \
+    do {                      \
+        mark();               \
+        CHECK((call) == (status)); \
+        CHECK(is_marked());   \
+    } while (0)
+
+/* The buffer begins with the octets, and what is behind them is as it was. */
+static int holds(const uint8_t *octets, size_t len)
+{
+    size_t i;
+
+    for (i = len; i < sizeof buffer; i++)
+        if (buffer[i] != 0x5a)
+            return 0;
+    return memcmp(buffer, octets, len) == 0;
+}
+
+static uint32_t read_in(const uint8_t *message, size_t len, size_t at, uint8_t limit, size_t capacity)
+{
+    return dnsnames_read(message, len, at, limit, buffer, capacity, &length, &end, &flag);
+}
+
+static void reads(const uint8_t *message, size_t len, size_t at, const uint8_t *name, size_t name_len, size_t behind,
+                  uint32_t is_compressed)
+{
+    size_t capacity;
+
+    for (capacity = 0; capacity < name_len; capacity++) {
+        mark();
+        CHECK(read_in(message, len, at, DNSNAMES_MAX_POINTERS, capacity) == DNSNAMES_NO_ROOM);
+        CHECK(length == name_len);
+        CHECK(holds(name, 0));
+    }
+    mark();
+    CHECK(read_in(message, len, at, DNSNAMES_MAX_POINTERS, name_len) == DNSNAMES_OK);
+    CHECK(length == name_len && end == behind && flag == is_compressed);
+    CHECK(holds(name, name_len));
+    end = 77;
+    CHECK(dnsnames_skip(message, len, at, &end) == DNSNAMES_OK && end == behind);
+}
+
+static void reading(void)
+{
+    reads(STANDARD, sizeof STANDARD, 20, NAME("\1F\3ISI\4ARPA"), 32, 0);
+    reads(STANDARD, sizeof STANDARD, 40, NAME("\3FOO\1F\3ISI\4ARPA"), 46, 1);
+    reads(STANDARD, sizeof STANDARD, 64, NAME("\4ARPA"), 66, 0); /* in one piece, behind a pointer */
+    reads(STANDARD, sizeof STANDARD, 92, NAME(""), 93, 0);
+    reads(RESPONSE, RESPONSE_LEN, QUESTION, NAME("\3www\7example\3com"), 29, 0);
+    reads(RESPONSE, RESPONSE_LEN, CNAME, NAME("\3www\7example\3com"), 35, 0);
+    reads(RESPONSE, RESPONSE_LEN, ADDRESS, NAME("\4host\7example\3com"), 54, 1);
+
+    /* As many pointers as are followed, and one fewer. */
+    mark();
+    CHECK(read_in(STANDARD, sizeof STANDARD, 40, 1, 255) == DNSNAMES_OK && length == 16);
+    REFUSES(DNSNAMES_TOO_MANY_POINTERS, read_in(STANDARD, sizeof STANDARD, 40, 0, 255));
+    CHECK(read_in(STANDARD, sizeof STANDARD, 20, 0, 255) == DNSNAMES_OK);
+    REFUSES(DNSNAMES_TOO_MANY_POINTERS, read_in(RESPONSE, RESPONSE_LEN, ADDRESS, 1, 255));
+
+    /* The end of the message at each octet of a name. */
+    {
+        size_t len;
+        for (len = 20; len < 32; len++)
+            REFUSES(DNSNAMES_SHORT_INPUT, read_in(STANDARD, len, 20, 255, 255));
+        for (len = 40; len < 46; len++) {
+            REFUSES(DNSNAMES_SHORT_INPUT, read_in(STANDARD, len, 40, 255, 255));
+            REFUSES(DNSNAMES_SHORT_INPUT, dnsnames_skip(STANDARD, len, 40, &end));
+        }
+    }
+}
+
+static void hostile(void)
+{
+    static const size_t rings[] = {0, 2, 4};
+    size_t i;
+
+    for (i = 0; i < sizeof rings / sizeof *rings; i++)
+        REFUSES(DNSNAMES_TOO_MANY_POINTERS, read_in(HOSTILE, HOSTILE_LEN, rings[i], 255, 255));
+    REFUSES(DNSNAMES_LONG_NAME, read_in(HOSTILE, HOSTILE_LEN, 6, 255, 255));
+    REFUSES(DNSNAMES_TOO_MANY_POINTERS, read_in(HOSTILE, HOSTILE_LEN, 6, 126, 255));
+    CHECK(dnsnames_skip(HOSTILE, HOSTILE_LEN, 6, &end) == DNSNAMES_OK && end == 10);
+    REFUSES(DNSNAMES_LABEL_TYPE, read_in(HOSTILE, HOSTILE_LEN, 10, 255, 255));
+    REFUSES(DNSNAMES_LABEL_TYPE, read_in(HOSTILE, HOSTILE_LEN, 12, 255, 255));
+    REFUSES(DNSNAMES_SHORT_INPUT, read_in(HOSTILE, HOSTILE_LEN, 14, 255, 255));
+    REFUSES(DNSNAMES_LABEL_TYPE, dnsnames_skip(HOSTILE, HOSTILE_LEN, 10, &end));
+    REFUSES(DNSNAMES_SHORT_INPUT, dnsnames_skip(HOSTILE, HOSTILE_LEN, 14, &end));
+
+    /* Past the end, wherever that is. */
+    REFUSES(DNSNAMES_SHORT_INPUT, read_in(HOSTILE, HOSTILE_LEN, HOSTILE_LEN, 255, 255));
+    REFUSES(DNSNAMES_SHORT_INPUT, read_in(HOSTILE, HOSTILE_LEN, HOSTILE_LEN + 1, 255, 255));
+    REFUSES(DNSNAMES_SHORT_INPUT, read_in(HOSTILE, HOSTILE_LEN, SIZE_MAX, 255, 255));
+    REFUSES(DNSNAMES_SHORT_INPUT, read_in(HOSTILE, HOSTILE_LEN, SIZE_MAX / 2 + 1, 255, 255));
+    REFUSES(DNSNAMES_SHORT_INPUT, read_in(HOSTILE, 0, 0, 255, 255));
+    REFUSES(DNSNAMES_SHORT_INPUT, dnsnames_skip(HOSTILE, HOSTILE_LEN, HOSTILE_LEN, &end));
+    REFUSES(DNSNAMES_SHORT_INPUT, dnsnames_skip(HOSTILE, HOSTILE_LEN, SIZE_MAX, &end));
+    REFUSES(DNSNAMES_SHORT_INPUT, dnsnames_skip(HOSTILE, 0, 0, &end));
+}
+
+/* Names of 255 and 256 octets, 128 labels, 255 and 256 pointers, a message of 65,535 octets. */
+static void limits(void)
+{
+    static uint8_t octets[65535];
+    size_t i;
+
+    for (i = 0; i < 300; i += 2) {
+        octets[i] = 1;
+        octets[i + 1] = 'a';
+    }
+    octets[254] = 0;
+    CHECK(dnsnames_check(octets, 255) == DNSNAMES_OK);
+    CHECK(dnsnames_check_relative(octets, 254) == DNSNAMES_OK);
+    CHECK(dnsnames_label_count(octets, 255, &length) == DNSNAMES_OK && length == 128);
+    reads(octets, sizeof octets, 0, octets, 255, 255, 0);
+    CHECK(dnsnames_check(octets, 256) == DNSNAMES_LONG_NAME);
+    octets[254] = 1;
+    octets[255] = 'a';
+    octets[256] = 0;
+    CHECK(dnsnames_check(octets, 257) == DNSNAMES_LONG_NAME);
+    CHECK(dnsnames_check_relative(octets, 256) == DNSNAMES_LONG_NAME);
+    REFUSES(DNSNAMES_LONG_NAME, read_in(octets, sizeof octets, 0, 255, 255));
+    REFUSES(DNSNAMES_LONG_NAME, dnsnames_skip(octets, sizeof octets, 0, &end));
+
+    /* A label of two octets in place of one: 256 octets, 255 of them before the root. */
+    memmove(octets + 3, octets + 2, 253);
+    octets[0] = 2;
+    octets[1] = octets[2] = 'a';
+    octets[255] = 0;
+    CHECK(dnsnames_check(octets, 256) == DNSNAMES_LONG_NAME);
+    CHECK(dnsnames_check_relative(octets, 255) == DNSNAMES_LONG_NAME);
+    REFUSES(DNSNAMES_LONG_NAME, read_in(octets, sizeof octets, 0, 255, 255));
+    REFUSES(DNSNAMES_LONG_NAME, dnsnames_skip(octets, sizeof octets, 0, &end));
+    /* No root is passed over where a pointer stands, so these 255 octets can be. */
+    octets[255] = 0xc0;
+    octets[256] = 0;
+    REFUSES(DNSNAMES_LONG_NAME, read_in(octets, sizeof octets, 0, 255, 255));
+    CHECK(dnsnames_skip(octets, sizeof octets, 0, &end) == DNSNAMES_OK && end == 257);
+
+    /* The root at 0, and pointers from 1 on, each to the one before it. */
+    memset(octets, 0, sizeof octets);
+    for (i = 1; i < 1000; i += 2) {
+        octets[i] = (uint8_t)(192 + (i < 3 ? 0 : i - 2) / 256);
+        octets[i + 1] = (uint8_t)(i < 3 ? 0 : i - 2);
+    }
+    mark();
+    CHECK(read_in(octets, sizeof octets, 1 + 2 * 254, 255, 255) == DNSNAMES_OK && length == 1);
+    REFUSES(DNSNAMES_TOO_MANY_POINTERS, read_in(octets, sizeof octets, 1 + 2 * 255, 255, 255));
+    REFUSES(DNSNAMES_TOO_MANY_POINTERS, read_in(octets, sizeof octets, 1 + 2 * 254, 254, 255));
+
+    /* The name a at 0, and a chain of pointers to it: a 256th would be written. */
+    {
+        const uint16_t after_254[] = {3 + 2 * 253}, after_255[] = {3 + 2 * 254};
+        uint16_t to = 77;
+        size_t begin = 77;
+        octets[0] = 1;
+        octets[1] = 'a';
+        octets[2] = 0;
+        for (i = 3; i < 600; i += 2) {
+            octets[i] = (uint8_t)(192 + (i < 5 ? 0 : i - 2) / 256);
+            octets[i + 1] = (uint8_t)(i < 5 ? 0 : i - 2);
+        }
+        CHECK(dnsnames_plan(octets, 600, after_255, 1, NAME("\1a"), &begin, &to) == DNSNAMES_FLAT);
+        CHECK(begin == 77 && to == 77);
+        CHECK(dnsnames_plan(octets, 600, after_254, 1, NAME("\1a"), &begin, &to) == DNSNAMES_OK);
+        CHECK(begin == 0 && to == after_254[0]);
+    }
+
+    /* The last octet of the longest message that TCP carries (RFC 1035, 4.2.2), and one past it. */
+    octets[65534] = 0;
+    reads(octets, sizeof octets, 65534, NAME(""), 65535, 0);
+    REFUSES(DNSNAMES_SHORT_INPUT, read_in(octets, sizeof octets, 65535, 255, 255));
+    octets[65533] = 0xff;
+    octets[65534] = 0xff; /* to 16,383 */
+    reads(octets, sizeof octets, 65533, NAME(""), 65535, 0);
+}
+
+static void checking(void)
+{
+    CHECK(dnsnames_check(NAME("")) == DNSNAMES_OK);
+    CHECK(dnsnames_check(NAME("\3www\7example\3com")) == DNSNAMES_OK);
+    CHECK(dnsnames_check(OCTETS(""), 0) == DNSNAMES_SHORT_INPUT);
+    CHECK(dnsnames_check(SPELLED("\3www\7example\3com")) == DNSNAMES_RELATIVE);
+    CHECK(dnsnames_check(SPELLED("\3ww")) == DNSNAMES_SHORT_INPUT);
+    CHECK(dnsnames_check(SPELLED("\3www\7exa")) == DNSNAMES_SHORT_INPUT);
+    CHECK(dnsnames_check(NAME("\3www\0")) == DNSNAMES_TRAILING_DATA);
+    CHECK(dnsnames_check(NAME("\0")) == DNSNAMES_TRAILING_DATA);
+    CHECK(dnsnames_check(NAME("\300")) == DNSNAMES_COMPRESSED);
+    CHECK(dnsnames_check(NAME("\3www\300")) == DNSNAMES_COMPRESSED);
+    CHECK(dnsnames_check(SPELLED("\300")) == DNSNAMES_SHORT_INPUT);
+    CHECK(dnsnames_check(SPELLED("\100")) == DNSNAMES_LABEL_TYPE);
+    CHECK(dnsnames_check(SPELLED("\277")) == DNSNAMES_LABEL_TYPE);
+
+    CHECK(dnsnames_check_relative(OCTETS(""), 0) == DNSNAMES_OK);
+    CHECK(dnsnames_check_relative(SPELLED("\3www\7example")) == DNSNAMES_OK);
+    CHECK(dnsnames_check_relative(NAME("\3www")) == DNSNAMES_ABSOLUTE);
+    CHECK(dnsnames_check_relative(NAME("")) == DNSNAMES_ABSOLUTE);
+    CHECK(dnsnames_check_relative(SPELLED("\3www\7exa")) == DNSNAMES_SHORT_INPUT);
+    CHECK(dnsnames_check_relative(SPELLED("\3www\300\0")) == DNSNAMES_COMPRESSED);
+    CHECK(dnsnames_check_relative(SPELLED("\3www\200")) == DNSNAMES_LABEL_TYPE);
+}
+
+static void spells(const uint8_t *text, size_t text_len, const uint8_t *name, size_t name_len)
+{
+    size_t capacity;
+
+    for (capacity = 0; capacity < name_len; capacity++) {
+        mark();
+        CHECK(dnsnames_from_text(text, text_len, buffer, capacity, &length) == DNSNAMES_NO_ROOM);
+        CHECK(length == name_len && holds(name, 0));
+    }
+    mark();
+    CHECK(dnsnames_from_text(text, text_len, buffer, name_len, &length) == DNSNAMES_OK);
+    CHECK(length == name_len && holds(name, name_len));
+}
+
+static void is_shown(const uint8_t *name, size_t name_len, uint32_t dot, const uint8_t *text, size_t text_len)
+{
+    size_t capacity;
+
+    for (capacity = 0; capacity < text_len; capacity++) {
+        mark();
+        CHECK(dnsnames_to_text(name, name_len, dot, buffer, capacity, &length) == DNSNAMES_NO_ROOM);
+        CHECK(length == text_len && holds(text, 0));
+    }
+    mark();
+    CHECK(dnsnames_to_text(name, name_len, dot, buffer, text_len, &length) == DNSNAMES_OK);
+    CHECK(length == text_len && holds(text, text_len));
+}
+
+static uint32_t from(const uint8_t *text, size_t text_len)
+{
+    return dnsnames_from_text(text, text_len, buffer, 255, &length);
+}
+
+#define SIXTEEN "0123456789abcdef"
+#define LABEL_OF_63 SIXTEEN SIXTEEN SIXTEEN "0123456789abcde"
+
+static void texts(void)
+{
+    spells(SPELLED("www.example.com"), NAME("\3www\7example\3com"));
+    spells(SPELLED("www.example.com."), NAME("\3www\7example\3com"));
+    spells(SPELLED("."), NAME(""));
+    spells(SPELLED("a\\.b.c"), NAME("\3a.b\1c"));
+    spells(SPELLED("\\007\\255\\000"), NAME("\3\7\377\0"));
+    spells(SPELLED("a\\[b"), NAME("\3a[b"));
+    spells(SPELLED("[x]"), NAME("\3[x]"));
+    spells(SPELLED("\\ \\\\ \""), NAME("\4 \\ \""));
+    spells(SPELLED(LABEL_OF_63), NAME("\77" LABEL_OF_63));
+
+    is_shown(NAME("\3www\7example\3com"), 1, SPELLED("www.example.com."));
+    is_shown(NAME("\3www\7example\3com"), 0, SPELLED("www.example.com"));
+    is_shown(NAME(""), 0, SPELLED("."));
+    is_shown(NAME(""), 1, SPELLED("."));
+    is_shown(NAME("\3a.b\1\7"), 1, SPELLED("a\\.b.\\007."));
+    is_shown(NAME("\4\\ \0\177"), 0, SPELLED("\\\\\\ \\000\\127"));
+    is_shown(NAME("\3*@\""), 0, SPELLED("*@\""));
+
+    REFUSES(DNSNAMES_SHORT_INPUT, from(OCTETS(""), 0));
+    REFUSES(DNSNAMES_SHORT_INPUT, from(SPELLED("a\\")));
+    REFUSES(DNSNAMES_SHORT_INPUT, from(SPELLED("a\\25")));
+    REFUSES(DNSNAMES_BAD_ESCAPE, from(SPELLED("a\\25x")));
+    REFUSES(DNSNAMES_BAD_ESCAPE, from(SPELLED("a\\256")));
+    REFUSES(DNSNAMES_BAD_ESCAPE, from(SPELLED("a\\\n")));
+    REFUSES(DNSNAMES_BAD_SYMBOL, from(SPELLED("a\nb")));
+    REFUSES(DNSNAMES_BAD_SYMBOL, from(SPELLED("b\303\274cher"))); /* UTF-8, and no octet of a name */
+    REFUSES(DNSNAMES_BAD_SYMBOL, from(SPELLED("a.\377")));        /* no UTF-8 */
+    REFUSES(DNSNAMES_BAD_SYMBOL, from(SPELLED("a.\355\240\200"))); /* a surrogate */
+    REFUSES(DNSNAMES_BAD_SYMBOL, from(NAME("a")));                 /* a zero octet */
+    /* That a text is no UTF-8 is told before any other fault. */
+    REFUSES(DNSNAMES_EMPTY_LABEL, from(SPELLED("..\303\274")));
+    REFUSES(DNSNAMES_BAD_SYMBOL, from(SPELLED("..\303")));
+    REFUSES(DNSNAMES_BAD_SYMBOL, from(SPELLED("..\355\240\200")));
+    REFUSES(DNSNAMES_BAD_SYMBOL, from(SPELLED("..\364\220\200\200")));
+    REFUSES(DNSNAMES_BAD_ESCAPE, from(SPELLED("\\\303\274")));
+    REFUSES(DNSNAMES_BINARY_LABEL, from(SPELLED("\\[x01]")));
+    REFUSES(DNSNAMES_BINARY_LABEL, from(SPELLED("a.\\[x01]")));
+    REFUSES(DNSNAMES_LONG_LABEL, from(SPELLED(LABEL_OF_63 "f")));
+    REFUSES(DNSNAMES_EMPTY_LABEL, from(SPELLED("a..b")));
+    REFUSES(DNSNAMES_EMPTY_LABEL, from(SPELLED("..")));
+    REFUSES(DNSNAMES_EMPTY_LABEL, from(SPELLED(".a")));
+    REFUSES(DNSNAMES_LONG_NAME,
+            from(SPELLED(LABEL_OF_63 "." LABEL_OF_63 "." LABEL_OF_63 "." LABEL_OF_63)));
+    REFUSES(DNSNAMES_LONG_NAME,
+            from(SPELLED(LABEL_OF_63 "." LABEL_OF_63 "." LABEL_OF_63 "." SIXTEEN SIXTEEN SIXTEEN "0123456789abcd")));
+    CHECK(from(SPELLED(LABEL_OF_63 "." LABEL_OF_63 "." LABEL_OF_63 "." SIXTEEN SIXTEEN SIXTEEN "0123456789abc")) ==
+          DNSNAMES_OK);
+    CHECK(length == 255);
+    REFUSES(DNSNAMES_NO_NAME, dnsnames_to_text(SPELLED("\3www"), 1, buffer, sizeof buffer, &length));
+    REFUSES(DNSNAMES_NO_NAME, dnsnames_to_text(OCTETS(""), 0, 0, buffer, sizeof buffer, &length));
+}
+
+/* RFC 4034, 6.1, in order. */
+static const char *const SORTED[] = {"example", "a.example", "yljkjljk.a.example", "Z.a.example", "zABC.a.EXAMPLE",
+                                     "z.example", "\\001.z.example", "*.z.example", "\\200.z.example"};
+enum { SORTED_LEN = sizeof SORTED / sizeof *SORTED };
+
+static void comparing(void)
+{
+    uint8_t names[SORTED_LEN][DNSNAMES_MAX_LEN];
+    size_t lens[SORTED_LEN], i, k;
+    int32_t order = 77;
+    uint64_t hash = 77, other = 77;
+
+    for (i = 0; i < SORTED_LEN; i++)
+        CHECK(dnsnames_from_text(OCTETS(SORTED[i]), strlen(SORTED[i]), names[i], sizeof names[i], &lens[i]) ==
+              DNSNAMES_OK);
+    for (i = 0; i < SORTED_LEN; i++) {
+        for (k = 0; k < SORTED_LEN; k++) {
+            CHECK(dnsnames_compare(names[i], lens[i], names[k], lens[k], &order) == DNSNAMES_OK);
+            CHECK(order == (i > k) - (i < k));
+            CHECK(dnsnames_eq(names[i], lens[i], names[k], lens[k], &flag) == DNSNAMES_OK && flag == (i == k));
+            CHECK(dnsnames_ends_with(names[i], lens[i], names[k], lens[k], &flag) == DNSNAMES_OK);
+            CHECK(flag == (i == k || k == 0 || (k == 1 && i > 1 && i < 5) || (k == 5 && i > 5)));
+        }
+    }
+    CHECK(dnsnames_eq(NAME("\3WWW\7Example"), NAME("\3www\7eXAMPLE"), &flag) == DNSNAMES_OK && flag == 1);
+    CHECK(dnsnames_eq(NAME("\1@"), NAME("\1`"), &flag) == DNSNAMES_OK && flag == 0);
+    CHECK(dnsnames_ends_with(NAME("\4wxyz"), NAME("\3xyz"), &flag) == DNSNAMES_OK && flag == 0);
+    CHECK(dnsnames_ends_with(NAME("\4wxyz"), NAME(""), &flag) == DNSNAMES_OK && flag == 1);
+    order = 77;
+    REFUSES(DNSNAMES_NO_NAME, dnsnames_eq(NAME("\3www"), SPELLED("\3www"), &flag));
+    REFUSES(DNSNAMES_NO_NAME, dnsnames_eq(OCTETS(""), 0, NAME(""), &flag));
+    REFUSES(DNSNAMES_NO_NAME, dnsnames_ends_with(NAME("\3www"), SPELLED("\3www"), &flag));
+    REFUSES(DNSNAMES_NO_NAME, dnsnames_ends_with(SPELLED("\3www"), NAME("\3www"), &flag));
+    CHECK(dnsnames_compare(SPELLED("\3www"), NAME(""), &order) == DNSNAMES_NO_NAME && order == 77);
+    CHECK(dnsnames_compare(NAME(""), OCTETS(""), 0, &order) == DNSNAMES_NO_NAME && order == 77);
+
+    CHECK(dnsnames_hash(NAME("\3WWW"), &hash) == DNSNAMES_OK && dnsnames_hash(NAME("\3www"), &other) == DNSNAMES_OK);
+    CHECK(hash == other);
+    CHECK(dnsnames_hash(NAME(""), &hash) == DNSNAMES_OK && hash == 0xaf63bd4c8601b7dfu); /* FNV-1a of a zero octet */
+    CHECK(dnsnames_hash(SPELLED("\3www"), &other) == DNSNAMES_NO_NAME);
+    CHECK(dnsnames_hash(NAME("\3WWW"), &hash) == DNSNAMES_OK && hash == other);
+
+    mark();
+    CHECK(dnsnames_lower(NAME("\3WWW\4A-@["), buffer, 10, &length) == DNSNAMES_OK && length == 10);
+    CHECK(holds(NAME("\3www\4a-@[")));
+    for (i = 0; i < 10; i++) {
+        mark();
+        CHECK(dnsnames_lower(NAME("\3WWW\4A-@["), buffer, i, &length) == DNSNAMES_NO_ROOM && length == 10);
+        CHECK(holds(OCTETS(""), 0));
+    }
+    REFUSES(DNSNAMES_NO_NAME, dnsnames_lower(SPELLED("\3WWW"), buffer, sizeof buffer, &length));
+}
+
+static void labels(void)
+{
+    static const size_t offsets[] = {0, 4, 12, 16};
+    size_t i;
+
+    CHECK(dnsnames_label_count(NAME("\3www\7example\3com"), &length) == DNSNAMES_OK && length == 4);
+    CHECK(dnsnames_label_count(NAME(""), &length) == DNSNAMES_OK && length == 1);
+    for (i = 0; i < 4; i++) {
+        CHECK(dnsnames_label(NAME("\3www\7example\3com"), i, &offset) == DNSNAMES_OK && offset == offsets[i]);
+        CHECK(dnsnames_label_back(NAME("\3www\7example\3com"), i, &offset) == DNSNAMES_OK && offset == offsets[3 - i]);
+    }
+    REFUSES(DNSNAMES_NO_LABEL, dnsnames_label(NAME("\3www\7example\3com"), 4, &offset));
+    REFUSES(DNSNAMES_NO_LABEL, dnsnames_label(NAME("\3www\7example\3com"), SIZE_MAX, &offset));
+    REFUSES(DNSNAMES_NO_LABEL, dnsnames_label_back(NAME("\3www\7example\3com"), 4, &offset));
+    REFUSES(DNSNAMES_NO_LABEL, dnsnames_label_back(NAME("\3www\7example\3com"), SIZE_MAX, &offset));
+    CHECK(dnsnames_parent(NAME("\3www\7example\3com"), &offset) == DNSNAMES_OK && offset == 4);
+    CHECK(dnsnames_parent(NAME("\3com"), &offset) == DNSNAMES_OK && offset == 4);
+    REFUSES(DNSNAMES_NO_LABEL, dnsnames_parent(NAME(""), &offset));
+    REFUSES(DNSNAMES_NO_NAME, dnsnames_label_count(SPELLED("\3www"), &length));
+    REFUSES(DNSNAMES_NO_NAME, dnsnames_label(SPELLED("\3www"), 0, &offset));
+    REFUSES(DNSNAMES_NO_NAME, dnsnames_label_back(SPELLED("\3www"), 0, &offset));
+    REFUSES(DNSNAMES_NO_NAME, dnsnames_parent(SPELLED("\3www"), &offset));
+    REFUSES(DNSNAMES_NO_NAME, dnsnames_label(OCTETS(""), 0, 0, &offset));
+}
+
+static void messages(void)
+{
+    uint16_t id = 77, flags = 77, counts[4] = {77, 77, 77, 77}, type = 77, class_ = 77;
+    uint32_t ttl = 77;
+    size_t data = 77, data_len = 77, len;
+
+    CHECK(dnsnames_header(RESPONSE, 11, &id, &flags, &counts[0], &counts[1], &counts[2], &counts[3]) ==
+          DNSNAMES_SHORT_INPUT);
+    CHECK(dnsnames_header(RESPONSE, 0, &id, &flags, &counts[0], &counts[1], &counts[2], &counts[3]) ==
+          DNSNAMES_SHORT_INPUT);
+    CHECK(id == 77 && flags == 77 && counts[0] == 77 && counts[1] == 77 && counts[2] == 77 && counts[3] == 77);
+    CHECK(dnsnames_header(RESPONSE, 12, &id, &flags, &counts[0], &counts[1], &counts[2], &counts[3]) == DNSNAMES_OK);
+    CHECK(id == 0x1234 && flags == 0x8180);
+    CHECK(counts[0] == 1 && counts[1] == 2 && counts[2] == 0 && counts[3] == 1);
+
+    for (len = QUESTION; len < CNAME; len++)
+        REFUSES(DNSNAMES_SHORT_INPUT, dnsnames_question(RESPONSE, len, QUESTION, &type, &class_, &end));
+    REFUSES(DNSNAMES_SHORT_INPUT, dnsnames_question(RESPONSE, RESPONSE_LEN, SIZE_MAX, &type, &class_, &end));
+    REFUSES(DNSNAMES_LABEL_TYPE, dnsnames_question(HOSTILE, HOSTILE_LEN, 10, &type, &class_, &end));
+    CHECK(type == 77 && class_ == 77);
+    CHECK(dnsnames_question(RESPONSE, CNAME, QUESTION, &type, &class_, &end) == DNSNAMES_OK);
+    CHECK(type == 1 && class_ == 1 && end == CNAME);
+
+    type = class_ = 77;
+    for (len = CNAME; len < ADDRESS; len++)
+        REFUSES(DNSNAMES_SHORT_INPUT,
+                dnsnames_record(RESPONSE, len, CNAME, &type, &class_, &ttl, &data, &data_len, &end));
+    REFUSES(DNSNAMES_SHORT_INPUT,
+            dnsnames_record(RESPONSE, RESPONSE_LEN, SIZE_MAX, &type, &class_, &ttl, &data, &data_len, &end));
+    CHECK(type == 77 && class_ == 77 && ttl == 77 && data == 77 && data_len == 77);
+    CHECK(dnsnames_record(RESPONSE, ADDRESS, CNAME, &type, &class_, &ttl, &data, &data_len, &end) == DNSNAMES_OK);
+    CHECK(type == 5 && class_ == 1 && ttl == 3600 && data == 45 && data_len == 7 && end == ADDRESS);
+    reads(RESPONSE, RESPONSE_LEN, data, NAME("\4host\7example\3com"), data + data_len, 1);
+    CHECK(dnsnames_record(RESPONSE, RESPONSE_LEN, ADDRESS, &type, &class_, &ttl, &data, &data_len, &end) ==
+          DNSNAMES_OK);
+    CHECK(type == 1 && ttl == 60 && data_len == 4 && end == EMPTY);
+    CHECK(memcmp(RESPONSE + data, "\300\0\2\1", 4) == 0);
+    CHECK(dnsnames_record(RESPONSE, RESPONSE_LEN, EMPTY, &type, &class_, &ttl, &data, &data_len, &end) ==
+          DNSNAMES_OK);
+    CHECK(type == 41 && class_ == 4096 && ttl == 0 && data == RESPONSE_LEN && data_len == 0 && end == RESPONSE_LEN);
+}
+
+static void planning(void)
+{
+    static const uint8_t octets[] = "\0\0\0\0\0\0\0\0\0\0\0\0\003www\007example\003com";
+    uint16_t table[DNSNAMES_MAX_TABLE + 1] = {12, 16, 24}, far[] = {16384}, to = 77;
+    size_t begin = 77;
+
+    CHECK(dnsnames_plan(octets, 29, table, 3, NAME("\4mail\7EXAMPLE\3com"), &begin, &to) == DNSNAMES_OK);
+    CHECK(begin == 5 && to == 16);
+    CHECK(dnsnames_plan(octets, 29, table, 3, NAME("\3www\7example\3com"), &begin, &to) == DNSNAMES_OK);
+    CHECK(begin == 0 && to == 12);
+    /* Of two offsets at which the end stands the first in the table. */
+    {
+        uint16_t twice[] = {24, 30, 16};
+        CHECK(dnsnames_plan(OCTETS("\0\0\0\0\0\0\0\0\0\0\0\0\3www\7example\3com\0\1a\3COM\0"), 37, twice, 3,
+                            NAME("\1b\3com"), &begin, &to) == DNSNAMES_OK && begin == 2 && to == 24);
+        twice[0] = 31;
+        twice[1] = 24;
+        CHECK(dnsnames_plan(OCTETS("\0\0\0\0\0\0\0\0\0\0\0\0\3www\7example\3com\0\1a\3COM\0"), 37, twice, 3,
+                            NAME("\1b\3com"), &begin, &to) == DNSNAMES_OK && begin == 2 && to == 31);
+    }
+    begin = to = 77;
+    CHECK(dnsnames_plan(octets, 29, table, 0, NAME("\3www\7example\3com"), &begin, &to) == DNSNAMES_FLAT);
+    CHECK(dnsnames_plan(octets, 0, table, 3, NAME("\3www\7example\3com"), &begin, &to) == DNSNAMES_FLAT);
+    CHECK(dnsnames_plan(octets, 29, table, 3, NAME("\3org"), &begin, &to) == DNSNAMES_FLAT);
+    CHECK(dnsnames_plan(octets, 29, table, 3, NAME(""), &begin, &to) == DNSNAMES_FLAT);
+    CHECK(dnsnames_plan(octets, 29, table, DNSNAMES_MAX_TABLE + 1, NAME("\3com"), &begin, &to) == DNSNAMES_NO_TABLE);
+    CHECK(dnsnames_plan(octets, 29, far, 1, NAME("\3com"), &begin, &to) == DNSNAMES_NO_TABLE);
+    CHECK(dnsnames_plan(octets, 29, table, 3, SPELLED("\3com"), &begin, &to) == DNSNAMES_NO_NAME);
+    CHECK(begin == 77 && to == 77);
+}
+
+static void appending(void)
+{
+    uint8_t octets[64] = {0};
+    uint16_t table[DNSNAMES_MAX_TABLE] = {0};
+    size_t octets_len = 12, table_len = 0;
+
+#define APPEND(capacity, name) \
+    dnsnames_append(octets, capacity, &octets_len, table, DNSNAMES_MAX_TABLE, &table_len, name)
+    CHECK(APPEND(28, NAME("\3www\7example\3com")) == DNSNAMES_NO_ROOM);
+    CHECK(APPEND(64, SPELLED("\3www")) == DNSNAMES_NO_NAME);
+    CHECK(octets_len == 12 && table_len == 0 && octets[12] == 0 && table[0] == 0);
+    CHECK(APPEND(29, NAME("\3www\7example\3com")) == DNSNAMES_OK);
+    CHECK(octets_len == 29 && memcmp(octets + 12, "\3www\7example\3com", 17) == 0);
+    CHECK(table_len == 3 && table[0] == 12 && table[1] == 16 && table[2] == 24);
+    CHECK(APPEND(35, NAME("\4mail\7EXAMPLE\3com")) == DNSNAMES_NO_ROOM && octets_len == 29 && octets[29] == 0);
+    CHECK(APPEND(36, NAME("\4mail\7EXAMPLE\3com")) == DNSNAMES_OK);
+    CHECK(octets_len == 36 && memcmp(octets + 29, "\4mail\300\020", 7) == 0);
+    CHECK(table_len == 4 && table[3] == 29);
+    CHECK(APPEND(37, NAME("\4MAIL\7example\3com")) == DNSNAMES_NO_ROOM && octets_len == 36 && octets[36] == 0);
+    CHECK(APPEND(38, NAME("\4MAIL\7example\3com")) == DNSNAMES_OK);
+    CHECK(octets_len == 38 && memcmp(octets + 36, "\300\035", 2) == 0 && table_len == 4);
+    CHECK(APPEND(38, NAME("")) == DNSNAMES_NO_ROOM && octets_len == 38);
+    octets[38] = 9;
+    CHECK(APPEND(39, NAME("")) == DNSNAMES_OK && octets_len == 39 && octets[38] == 0 && table_len == 4);
+    reads(octets, octets_len, 29, NAME("\4mail\7example\3com"), 36, 1);
+#undef APPEND
+
+    /* Lengths that don't fit together, tables that are none. */
+    table_len = DNSNAMES_MAX_TABLE + 1;
+    CHECK(dnsnames_append(octets, 64, &octets_len, table, DNSNAMES_MAX_TABLE, &table_len, NAME("\3com")) ==
+          DNSNAMES_BAD_LENGTH);
+    table_len = 4;
+    CHECK(dnsnames_append(octets, 64, &octets_len, table, 3, &table_len, NAME("\3com")) == DNSNAMES_BAD_LENGTH);
+    CHECK(dnsnames_append(octets, 38, &octets_len, table, 4, &table_len, NAME("\3com")) == DNSNAMES_BAD_LENGTH);
+    table[3] = 16384;
+    CHECK(dnsnames_append(octets, 64, &octets_len, table, 4, &table_len, NAME("\3com")) == DNSNAMES_NO_TABLE);
+    CHECK(octets_len == 39 && table_len == 4 && octets[39] == 0);
+    table[3] = 29;
+    /* A full table: the name is written, and its offsets are not kept. */
+    CHECK(dnsnames_append(octets, 64, &octets_len, table, 4, &table_len, NAME("\3net")) == DNSNAMES_OK);
+    CHECK(octets_len == 44 && table_len == 4);
+    table_len = 0;
+    CHECK(dnsnames_append(octets, 64, &octets_len, NULL, 0, &table_len, NAME("\3net")) == DNSNAMES_OK);
+    CHECK(octets_len == 49 && table_len == 0);
+}
+
+/* A pointer has fourteen bits: labels past offset 16,383 are not kept. */
+static void far_off(void)
+{
+    static uint8_t octets[17000];
+    uint16_t table[DNSNAMES_MAX_TABLE] = {0};
+    size_t octets_len = 16380, table_len = 0;
+
+    CHECK(dnsnames_append(octets, sizeof octets, &octets_len, table, DNSNAMES_MAX_TABLE, &table_len,
+                          NAME("\1a\1b\1c\1d")) == DNSNAMES_OK);
+    CHECK(octets_len == 16389 && table_len == 2 && table[0] == 16380 && table[1] == 16382);
+    CHECK(dnsnames_append(octets, sizeof octets, &octets_len, table, DNSNAMES_MAX_TABLE, &table_len,
+                          NAME("\1x\1b\1c\1d")) == DNSNAMES_OK);
+    CHECK(octets_len == 16393 && table_len == 2);
+    CHECK(memcmp(octets + 16389, "\1x\377\376", 4) == 0);
+}
+
+static void statuses(void)
+{
+    uint32_t i, k;
+
+    for (i = 0; i <= DNSNAMES_BAD_LENGTH; i++) {
+        CHECK(dnsnames_strerror(i) != NULL && dnsnames_strerror(i)[0] != 0);
+        for (k = 0; k < i; k++)
+            CHECK(strcmp(dnsnames_strerror(i), dnsnames_strerror(k)) != 0);
+    }
+    CHECK(dnsnames_strerror(UINT32_MAX) != NULL);
+}
+
+int main(void)
+{
+    reading();
+    hostile();
+    limits();
+    checking();
+    texts();
+    comparing();
+    labels();
+    messages();
+    planning();
+    appending();
+    far_off();
+    statuses();
+    return told("worked cases and refusals");
+}

@@ -1,0 +1,59 @@
+#!/bin/sh
+# Runs the examples on worked input, and compares what they print, errors last, and their status.
+set -u
+failed=0
+
+# is NAME STATUS WANTED COMMAND..
+is() {
+    name=$1 status=$2 wanted=$3
+    shift 3
+    got=$("$@" 2> out/errors)
+    code=$?
+    got=$got$(sed '1s/^/\n/' out/errors)
+    if [ "$code" -ne "$status" ] || [ "$got" != "$wanted" ]; then
+        echo "$name: status $code instead of $status, or this was printed:" >&2
+        echo "$got" >&2
+        failed=1
+    fi
+}
+
+response=out/response
+printf '\022\064\201\200\000\001\000\003\000\000\000\001\003www\007example\003com\000\000\001\000\001' > $response
+printf '\300\014\000\005\000\001\000\000\016\020\000\007\004host\300\020' >> $response
+printf '\300\055\000\001\000\001\000\000\000\074\000\004\300\000\002\001' >> $response
+printf '\300\020\000\017\000\001\000\000\000\074\000\004\000\012\300\014' >> $response
+printf '\000\000\051\020\000\000\000\000\000\000\000' >> $response
+is names 0 'question   www.example.com. 1
+answer     www.example.com. 5
+  data     host.example.com. 5 (compressed)
+answer     host.example.com. 1 (compressed)
+answer     example.com. 15
+  data     www.example.com. 15
+additional . 41' out/names $response
+is follow_cname 0 'www.example.com.
+host.example.com.' out/follow_cname $response
+
+# The text of the fault, as tell_hex gives it for octets that end too soon.
+short=$(echo 03 | out/tell_hex | sed 's/.*: //')
+head -c 60 $response > out/cut
+is 'names, of a cut message' 1 'question   www.example.com. 1
+answer     www.example.com. 5
+  data     host.example.com. 5 (compressed)
+record at offset 52: '"$short" out/names out/cut
+
+# Two aliases that lead to each other.
+printf '\000\000\201\200\000\001\000\002\000\000\000\000\001a\000\000\001\000\001' > out/ring
+printf '\300\014\000\005\000\001\000\000\000\000\000\003\001b\000\001b\000\000\005\000\001\000\000\000\000\000\002\300\014' >> out/ring
+is 'follow_cname, of a ring' 1 'a.
+b.
+a.
+the aliases lead in a ring' out/follow_cname out/ring
+
+printf '03777777 00\nc000\n0377\n\n0g\n' > out/lines
+out/tell_hex < out/lines > out/told
+grep -q '^www\.$' out/told && [ "$(grep -c '^refused' out/told)" -eq 4 ] || {
+    echo 'tell_hex printed:' >&2
+    cat out/told >&2
+    failed=1
+}
+exit "$failed"

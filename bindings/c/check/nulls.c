@@ -1,0 +1,185 @@
+/* Null pointers: with the length 0 one is the empty slice, else the answer is DNSNAMES_NULL, and nothing is written. */
+#include "check.h"
+#include "dnsnames.h"
+#include <string.h>
+
+static const uint8_t *const NONE = NULL;
+static const uint8_t NAME[] = "\3www"; /* 5 octets with the root */
+
+static uint8_t buffer[DNSNAMES_MAX_TEXT];
+static size_t length, end, other;
+static uint16_t number[6], table[DNSNAMES_MAX_TABLE];
+static uint32_t flag, ttl;
+static int32_t order;
+static uint64_t hash;
+
+/* What a refused call must leave. */
+static void mark(void)
+{
+    memset(buffer, 0x5a, sizeof buffer);
+    length = end = other = 77;
+    memset(number, 0x5a, sizeof number);
+    memset(table, 0x5a, sizeof table);
+    flag = ttl = 77;
+    order = 77;
+    hash = 77;
+}
+
+static int is_marked(void)
+{
+    size_t i;
+
+    for (i = 0; i < sizeof buffer; i++)
+        if (buffer[i] != 0x5a)
+            return 0;
+    for (i = 0; i < 6; i++)
+        if (number[i] != 0x5a5a)
+            return 0;
+    return length == 77 && end == 77 && other == 77 && table[0] == 0x5a5a && flag == 77 && ttl == 77 && order == 77 &&
+           hash == 77;
+}
+
+#define REFUSES(status, call)      \
+    do {                           \
+        mark();                    \
+        CHECK((call) == (status)); \
+        CHECK(is_marked());        \
+    } while (0)
+
+#define NULLED(call) REFUSES(DNSNAMES_NULL, call)
+
+/* With the length 0 a null pointer is an empty slice. */
+static void empty(void)
+{
+    REFUSES(DNSNAMES_SHORT_INPUT, dnsnames_read(NONE, 0, 0, 255, buffer, sizeof buffer, &length, &end, &flag));
+    REFUSES(DNSNAMES_SHORT_INPUT, dnsnames_skip(NONE, 0, 0, &end));
+    REFUSES(DNSNAMES_SHORT_INPUT, dnsnames_check(NONE, 0));
+    REFUSES(DNSNAMES_OK, dnsnames_check_relative(NONE, 0));
+    REFUSES(DNSNAMES_SHORT_INPUT, dnsnames_from_text(NONE, 0, buffer, sizeof buffer, &length));
+    REFUSES(DNSNAMES_NO_NAME, dnsnames_to_text(NONE, 0, 1, buffer, sizeof buffer, &length));
+    REFUSES(DNSNAMES_NO_NAME, dnsnames_lower(NONE, 0, buffer, sizeof buffer, &length));
+    REFUSES(DNSNAMES_NO_NAME, dnsnames_eq(NONE, 0, NAME, sizeof NAME, &flag));
+    REFUSES(DNSNAMES_NO_NAME, dnsnames_eq(NAME, sizeof NAME, NONE, 0, &flag));
+    REFUSES(DNSNAMES_NO_NAME, dnsnames_compare(NONE, 0, NAME, sizeof NAME, &order));
+    REFUSES(DNSNAMES_NO_NAME, dnsnames_compare(NAME, sizeof NAME, NONE, 0, &order));
+    REFUSES(DNSNAMES_NO_NAME, dnsnames_ends_with(NONE, 0, NAME, sizeof NAME, &flag));
+    REFUSES(DNSNAMES_NO_NAME, dnsnames_ends_with(NAME, sizeof NAME, NONE, 0, &flag));
+    REFUSES(DNSNAMES_NO_NAME, dnsnames_hash(NONE, 0, &hash));
+    REFUSES(DNSNAMES_NO_NAME, dnsnames_label_count(NONE, 0, &length));
+    REFUSES(DNSNAMES_NO_NAME, dnsnames_label(NONE, 0, 0, &length));
+    REFUSES(DNSNAMES_NO_NAME, dnsnames_label_back(NONE, 0, 0, &length));
+    REFUSES(DNSNAMES_NO_NAME, dnsnames_parent(NONE, 0, &length));
+    REFUSES(DNSNAMES_NO_NAME, dnsnames_plan(NONE, 0, NULL, 0, NONE, 0, &length, &number[0]));
+    REFUSES(DNSNAMES_FLAT, dnsnames_plan(NONE, 0, NULL, 0, NAME, sizeof NAME, &length, &number[0]));
+    REFUSES(DNSNAMES_SHORT_INPUT, dnsnames_header(NONE, 0, &number[0], &number[1], &number[2], &number[3], &number[4],
+                                                  &number[5]));
+    REFUSES(DNSNAMES_SHORT_INPUT, dnsnames_question(NONE, 0, 0, &number[0], &number[1], &end));
+    REFUSES(DNSNAMES_SHORT_INPUT,
+            dnsnames_record(NONE, 0, 0, &number[0], &number[1], &ttl, &length, &other, &end));
+}
+
+/* So is a buffer: the answer tells how many octets it needs. */
+static void no_buffer(void)
+{
+    size_t octets_len = 0, table_len = 0;
+
+    mark();
+    CHECK(dnsnames_read(NAME, sizeof NAME, 0, 255, NULL, 0, &length, &end, &flag) == DNSNAMES_NO_ROOM && length == 5);
+    CHECK(dnsnames_from_text(NAME + 1, 3, NULL, 0, &length) == DNSNAMES_NO_ROOM && length == 5);
+    CHECK(dnsnames_to_text(NAME, sizeof NAME, 1, NULL, 0, &length) == DNSNAMES_NO_ROOM && length == 4);
+    CHECK(dnsnames_lower(NAME, sizeof NAME, NULL, 0, &length) == DNSNAMES_NO_ROOM && length == 5);
+    CHECK(dnsnames_append(NULL, 0, &octets_len, NULL, 0, &table_len, NAME, sizeof NAME) != DNSNAMES_OK);
+    CHECK(octets_len == 0 && table_len == 0);
+}
+
+/* With another length it is refused. */
+static void slices(void)
+{
+    size_t octets_len = 0, table_len = 0;
+
+    NULLED(dnsnames_read(NONE, 1, 0, 255, buffer, sizeof buffer, &length, &end, &flag));
+    NULLED(dnsnames_read(NAME, sizeof NAME, 0, 255, NULL, 1, &length, &end, &flag));
+    NULLED(dnsnames_skip(NONE, 1, 0, &end));
+    NULLED(dnsnames_check(NONE, 1));
+    NULLED(dnsnames_check(NONE, SIZE_MAX));
+    NULLED(dnsnames_check_relative(NONE, 1));
+    NULLED(dnsnames_from_text(NONE, 1, buffer, sizeof buffer, &length));
+    NULLED(dnsnames_from_text(NAME + 1, 3, NULL, 1, &length));
+    NULLED(dnsnames_to_text(NONE, 1, 1, buffer, sizeof buffer, &length));
+    NULLED(dnsnames_to_text(NAME, sizeof NAME, 1, NULL, 1, &length));
+    NULLED(dnsnames_lower(NONE, 1, buffer, sizeof buffer, &length));
+    NULLED(dnsnames_lower(NAME, sizeof NAME, NULL, 1, &length));
+    NULLED(dnsnames_eq(NONE, 1, NAME, sizeof NAME, &flag));
+    NULLED(dnsnames_eq(NAME, sizeof NAME, NONE, 1, &flag));
+    NULLED(dnsnames_compare(NONE, 1, NAME, sizeof NAME, &order));
+    NULLED(dnsnames_compare(NAME, sizeof NAME, NONE, 1, &order));
+    NULLED(dnsnames_ends_with(NONE, 1, NAME, sizeof NAME, &flag));
+    NULLED(dnsnames_ends_with(NAME, sizeof NAME, NONE, 1, &flag));
+    NULLED(dnsnames_hash(NONE, 1, &hash));
+    NULLED(dnsnames_label_count(NONE, 1, &length));
+    NULLED(dnsnames_label(NONE, 1, 0, &length));
+    NULLED(dnsnames_label_back(NONE, 1, 0, &length));
+    NULLED(dnsnames_parent(NONE, 1, &length));
+    NULLED(dnsnames_plan(NONE, 1, table, 0, NAME, sizeof NAME, &length, &number[0]));
+    NULLED(dnsnames_plan(NAME, sizeof NAME, NULL, 1, NAME, sizeof NAME, &length, &number[0]));
+    NULLED(dnsnames_plan(NAME, sizeof NAME, table, 0, NONE, 1, &length, &number[0]));
+    NULLED(dnsnames_append(NULL, 1, &octets_len, table, 128, &table_len, NAME, sizeof NAME));
+    NULLED(dnsnames_append(buffer, sizeof buffer, &octets_len, NULL, 1, &table_len, NAME, sizeof NAME));
+    NULLED(dnsnames_append(buffer, sizeof buffer, &octets_len, table, 128, &table_len, NONE, 1));
+    CHECK(octets_len == 0 && table_len == 0);
+    NULLED(dnsnames_header(NONE, 12, &number[0], &number[1], &number[2], &number[3], &number[4], &number[5]));
+    NULLED(dnsnames_question(NONE, 1, 0, &number[0], &number[1], &end));
+    NULLED(dnsnames_record(NONE, 1, 0, &number[0], &number[1], &ttl, &length, &other, &end));
+}
+
+/* So is one where a result is to go. */
+static void results(void)
+{
+    static const uint8_t message[29] = {0};
+    uint16_t *to[6];
+    size_t octets_len = 0, table_len = 0, i, k;
+
+    NULLED(dnsnames_read(NAME, sizeof NAME, 0, 255, buffer, sizeof buffer, NULL, &end, &flag));
+    NULLED(dnsnames_read(NAME, sizeof NAME, 0, 255, buffer, sizeof buffer, &length, NULL, &flag));
+    NULLED(dnsnames_read(NAME, sizeof NAME, 0, 255, buffer, sizeof buffer, &length, &end, NULL));
+    NULLED(dnsnames_skip(NAME, sizeof NAME, 0, NULL));
+    NULLED(dnsnames_from_text(NAME + 1, 3, buffer, sizeof buffer, NULL));
+    NULLED(dnsnames_to_text(NAME, sizeof NAME, 1, buffer, sizeof buffer, NULL));
+    NULLED(dnsnames_lower(NAME, sizeof NAME, buffer, sizeof buffer, NULL));
+    NULLED(dnsnames_eq(NAME, sizeof NAME, NAME, sizeof NAME, NULL));
+    NULLED(dnsnames_compare(NAME, sizeof NAME, NAME, sizeof NAME, NULL));
+    NULLED(dnsnames_ends_with(NAME, sizeof NAME, NAME, sizeof NAME, NULL));
+    NULLED(dnsnames_hash(NAME, sizeof NAME, NULL));
+    NULLED(dnsnames_label_count(NAME, sizeof NAME, NULL));
+    NULLED(dnsnames_label(NAME, sizeof NAME, 0, NULL));
+    NULLED(dnsnames_label_back(NAME, sizeof NAME, 0, NULL));
+    NULLED(dnsnames_parent(NAME, sizeof NAME, NULL));
+    NULLED(dnsnames_plan(NAME, sizeof NAME, table, 0, NAME, sizeof NAME, NULL, &number[0]));
+    NULLED(dnsnames_plan(NAME, sizeof NAME, table, 0, NAME, sizeof NAME, &length, NULL));
+    NULLED(dnsnames_append(buffer, sizeof buffer, NULL, table, 128, &table_len, NAME, sizeof NAME));
+    NULLED(dnsnames_append(buffer, sizeof buffer, &octets_len, table, 128, NULL, NAME, sizeof NAME));
+    CHECK(octets_len == 0 && table_len == 0);
+    for (i = 0; i < 6; i++) {
+        for (k = 0; k < 6; k++)
+            to[k] = k == i ? NULL : &number[k];
+        NULLED(dnsnames_header(message, sizeof message, to[0], to[1], to[2], to[3], to[4], to[5]));
+    }
+    NULLED(dnsnames_question(message, sizeof message, 12, NULL, &number[1], &end));
+    NULLED(dnsnames_question(message, sizeof message, 12, &number[0], NULL, &end));
+    NULLED(dnsnames_question(message, sizeof message, 12, &number[0], &number[1], NULL));
+    NULLED(dnsnames_record(message, sizeof message, 12, NULL, &number[1], &ttl, &length, &other, &end));
+    NULLED(dnsnames_record(message, sizeof message, 12, &number[0], NULL, &ttl, &length, &other, &end));
+    NULLED(dnsnames_record(message, sizeof message, 12, &number[0], &number[1], NULL, &length, &other, &end));
+    NULLED(dnsnames_record(message, sizeof message, 12, &number[0], &number[1], &ttl, NULL, &other, &end));
+    NULLED(dnsnames_record(message, sizeof message, 12, &number[0], &number[1], &ttl, &length, NULL, &end));
+    NULLED(dnsnames_record(message, sizeof message, 12, &number[0], &number[1], &ttl, &length, &other, NULL));
+}
+
+int main(void)
+{
+    empty();
+    no_buffer();
+    slices();
+    results();
+    return told("calls with null pointers");
+}

@@ -1,0 +1,245 @@
+/* 10,000 random messages: the library and the second reader must answer every call alike, and write the same.
+ *
+ *     random [MESSAGES [SEED]]
+ *
+ * What a call reads ends where a page begins that can't be read, so that an octet too far ends the program. */
+#define _DEFAULT_SOURCE
+#include "check.h"
+#include "dnsnames.h"
+#include "second.h"
+#include <stdlib.h>
+#include <string.h>
+#include <sys/mman.h>
+#include <unistd.h>
+
+/* All that one call may write. Both sides begin with the same octets. */
+struct answer {
+    uint32_t status, flag, ttl;
+    int32_t order;
+    uint64_t hash;
+    size_t size[3];
+    uint16_t number[6];
+    uint16_t table[DNSNAMES_MAX_TABLE];
+    uint8_t buffer[1100];
+};
+
+static struct answer of_library, of_second;
+static struct answer *x; /* the side that is asked */
+
+static void same(const char *call)
+{
+    test(memcmp(&of_library, &of_second, sizeof of_library) == 0, __FILE__, __LINE__, call);
+    if (failures > 20)
+        exit(told("calls"));
+}
+
+/* Asks both sides. The arguments name results by x, and are the same when they are read a second time. */
+#define BOTH(call, ...)                                       \
+    do {                                                      \
+        memset(&of_library, 0x5a, sizeof of_library);         \
+        memset(&of_second, 0x5a, sizeof of_second);           \
+        x = &of_library;                                      \
+        x->status = dnsnames_##call(__VA_ARGS__);             \
+        x = &of_second;                                       \
+        x->status = second_##call(__VA_ARGS__);               \
+        same(#call);                                          \
+    } while (0)
+
+static uint64_t state = 88172645463325252u;
+
+/* Xorshift: the same messages on every machine. */
+static uint32_t random_below(uint32_t bound)
+{
+    state ^= state << 13;
+    state ^= state >> 7;
+    state ^= state << 17;
+    return (uint32_t)(state >> 32) % bound;
+}
+
+static uint8_t *fence;
+
+enum { FENCED = 4096 };
+
+static void raise_fence(void)
+{
+    size_t page = (size_t)sysconf(_SC_PAGESIZE);
+    size_t room = (FENCED + page - 1) / page * page;
+    uint8_t *memory = mmap(NULL, room + page, PROT_READ | PROT_WRITE, MAP_PRIVATE | MAP_ANONYMOUS, -1, 0);
+
+    if (memory == MAP_FAILED || mprotect(memory + room, page, PROT_NONE) != 0) {
+        perror("random");
+        exit(2);
+    }
+    fence = memory + room;
+}
+
+/* Octets that look like names: labels that share few letters, pointers that mostly lead back, heads of all types. */
+static size_t make_message(uint8_t *octets, size_t most)
+{
+    static const uint8_t letters[] = "aAbBzZ019-. \\[@\0\x7f\xff";
+    size_t len = random_below((uint32_t)most + 1), at = 0, k;
+    uint32_t longest = random_below(8) == 0 ? 63 : 1 + random_below(6);
+
+    while (at < len) {
+        uint32_t kind = random_below(20);
+        if (kind < 11) {
+            size_t label = 1 + random_below(longest);
+            octets[at++] = (uint8_t)label;
+            for (k = 0; k < label && at < len; k++)
+                octets[at++] = letters[random_below(random_below(4) == 0 ? sizeof letters - 1 : 6)];
+        } else if (kind < 15) {
+            size_t to = random_below(10) == 0 ? random_below(16384) : random_below((uint32_t)at + 2);
+            octets[at++] = (uint8_t)(192 + to / 256);
+            if (at < len)
+                octets[at++] = (uint8_t)to;
+        } else if (kind < 19) {
+            octets[at++] = 0;
+        } else {
+            octets[at++] = (uint8_t)random_below(256);
+        }
+    }
+    return len;
+}
+
+/* Labels with 250 to 260 octets in all, and what ends them: names about as long as one may be. */
+static size_t make_long(uint8_t *octets)
+{
+    size_t total = 250 + random_below(11), at = 0, label;
+
+    while (at < total) {
+        label = 1 + random_below(63);
+        if (total - at < 66)
+            label = total - at - 1 > 63 ? (total - at) / 2 : total - at - 1;
+        if (label == 0)
+            break;
+        octets[at] = (uint8_t)label;
+        memset(octets + at + 1, 'a' + (int)random_below(26), label);
+        at += 1 + label;
+    }
+    octets[at++] = random_below(3) == 0 ? 0xc0 : 0;
+    octets[at++] = 0;
+    return at;
+}
+
+static void ask_of_name(const uint8_t *name, size_t len, const uint8_t *other, size_t other_len)
+{
+    size_t index = random_below(6), text_capacity = random_below(60), capacity = random_below(30);
+    uint32_t dot = random_below(2);
+
+    BOTH(check, name, len);
+    BOTH(check_relative, name, len);
+    BOTH(to_text, name, len, dot, x->buffer, sizeof x->buffer, &x->size[0]);
+    BOTH(to_text, name, len, dot, x->buffer, text_capacity, &x->size[0]);
+    BOTH(lower, name, len, x->buffer, sizeof x->buffer, &x->size[0]);
+    BOTH(lower, name, len, x->buffer, capacity, &x->size[0]);
+    BOTH(hash, name, len, &x->hash);
+    BOTH(label_count, name, len, &x->size[0]);
+    BOTH(label, name, len, index, &x->size[0]);
+    BOTH(label_back, name, len, index, &x->size[0]);
+    BOTH(parent, name, len, &x->size[0]);
+    BOTH(eq, name, len, other, other_len, &x->flag);
+    BOTH(compare, name, len, other, other_len, &x->order);
+    BOTH(compare, other, other_len, name, len, &x->order);
+    BOTH(ends_with, name, len, other, other_len, &x->flag);
+    BOTH(ends_with, other, other_len, name, len, &x->flag);
+}
+
+static void ask_of_text(void)
+{
+    static const char letters[] = "aAbB.\\[ 0127z\xc3\xa4";
+    static uint8_t octets[600], long_text[DNSNAMES_MAX_TEXT];
+    uint8_t *text;
+    size_t text_len = random_below(6) == 0 ? random_below(400) : random_below(30), capacity = random_below(20), k;
+
+    text = fence - text_len;
+    for (k = 0; k < text_len; k++)
+        text[k] = (uint8_t)letters[random_below(text_len > 60 ? 5 : sizeof letters - 1)];
+    BOTH(from_text, text, text_len, x->buffer, sizeof x->buffer, &x->size[0]);
+    BOTH(from_text, text, text_len, x->buffer, capacity, &x->size[0]);
+
+    /* A text about as long as one may be: the labels, with dots in place of their lengths. */
+    text_len = make_long(octets) - 2;
+    memcpy(long_text, octets, text_len);
+    for (k = 0; k < text_len; k += 1 + octets[k])
+        long_text[k] = '.';
+    text = fence - (text_len - 1);
+    memcpy(text, long_text + 1, text_len - 1);
+    BOTH(from_text, text, text_len - 1, x->buffer, sizeof x->buffer, &x->size[0]);
+}
+
+/* Writes names behind each other, each compressed against those before it. Both sides keep octets and table. */
+static void ask_to_append(uint8_t names[][255], const size_t *lens, size_t count)
+{
+    static uint8_t octets[2][700];
+    uint16_t table[2][DNSNAMES_MAX_TABLE];
+    size_t len[2] = {12, 12}, table_len[2] = {0, 0}, i, k;
+    uint32_t status[2];
+    size_t capacity = random_below(4) == 0 ? 12 + random_below(100) : sizeof octets[0];
+
+    memset(octets, 0, sizeof octets);
+    memset(table, 0, sizeof table);
+    for (i = 0; i < count * 2; i++) {
+        k = random_below((uint32_t)count);
+        BOTH(plan, octets[0], len[0], table[0], table_len[0], names[k], lens[k], &x->size[0], &x->number[0]);
+        status[0] = dnsnames_append(octets[0], capacity, &len[0], table[0], DNSNAMES_MAX_TABLE, &table_len[0],
+                                    names[k], lens[k]);
+        status[1] = second_append(octets[1], capacity, &len[1], table[1], DNSNAMES_MAX_TABLE, &table_len[1],
+                                  names[k], lens[k]);
+        CHECK(status[0] == status[1] && len[0] == len[1] && table_len[0] == table_len[1]);
+        CHECK(memcmp(octets[0], octets[1], sizeof octets[0]) == 0);
+        CHECK(memcmp(table[0], table[1], sizeof table[0]) == 0);
+    }
+}
+
+static void ask_of_message(const uint8_t *message, size_t len)
+{
+    static uint8_t names[8][255];
+    size_t lens[8], count = 0, k;
+    uint32_t compressed;
+    size_t end;
+
+    for (k = 0; k < 24; k++) {
+        size_t offset = k < 2 ? len + k : k == 2 ? 0 : random_below((uint32_t)len + 1);
+        uint8_t limit = random_below(4) == 0 ? (uint8_t)random_below(4) : 255;
+        size_t capacity = random_below(20);
+        BOTH(read, message, len, offset, limit, x->buffer, sizeof x->buffer, &x->size[0], &x->size[1], &x->flag);
+        BOTH(read, message, len, offset, limit, x->buffer, capacity, &x->size[0], &x->size[1], &x->flag);
+        BOTH(skip, message, len, offset, &x->size[0]);
+        BOTH(question, message, len, offset, &x->number[0], &x->number[1], &x->size[0]);
+        BOTH(record, message, len, offset, &x->number[0], &x->number[1], &x->ttl, &x->size[0], &x->size[1],
+             &x->size[2]);
+        if (count < 8 && second_read(message, len, offset, 255, names[count], 255, &lens[count], &end,
+                                     &compressed) == DNSNAMES_OK)
+            count++;
+    }
+    BOTH(header, message, len, &x->number[0], &x->number[1], &x->number[2], &x->number[3], &x->number[4],
+         &x->number[5]);
+    if (len > 0) {
+        size_t from = random_below((uint32_t)len), size = random_below((uint32_t)(len - from) + 1);
+        ask_of_name(message + from, size, message, len);
+    }
+    for (k = 0; k + 1 < count; k++)
+        ask_of_name(names[k], lens[k], names[k + 1], lens[k + 1]);
+    if (count > 0)
+        ask_to_append(names, lens, count);
+}
+
+int main(int argc, char **argv)
+{
+    static uint8_t octets[FENCED];
+    unsigned long messages = argc > 1 ? strtoul(argv[1], NULL, 10) : 10000, i;
+
+    if (argc > 2)
+        state ^= strtoull(argv[2], NULL, 10);
+    raise_fence();
+    for (i = 0; i < messages; i++) {
+        size_t most = i % 50 == 0 ? FENCED - 1 : i % 4 == 0 ? 600 : 80;
+        size_t len = i % 8 == 3 ? make_long(octets) : make_message(octets, most);
+        uint8_t *message = fence - len;
+        memcpy(message, octets, len);
+        ask_of_message(message, len);
+        ask_of_text();
+    }
+    printf("%lu messages: ", messages);
+    return told("calls compared with the second reader");
+}

@@ -1,0 +1,615 @@
+#include "second.h"
+#include "dnsnames.h"
+#include <string.h>
+
+/* What stands at an offset (RFC 1035, 4.1.4). */
+enum kind { ROOT, LABEL, POINTER, BAD_TYPE, CUT };
+
+struct head {
+    enum kind kind;
+    size_t len;    /* of a label */
+    size_t target; /* of a pointer */
+};
+
+static struct head head_at(const uint8_t *octets, size_t octets_len, size_t offset)
+{
+    struct head head = {CUT, 0, 0};
+    uint8_t first;
+
+    if (offset >= octets_len)
+        return head;
+    first = octets[offset];
+    if (first == 0) {
+        head.kind = ROOT;
+    } else if (first < 64) {
+        head.len = first;
+        if (octets_len - offset - 1 >= first)
+            head.kind = LABEL;
+    } else if (first < 192) {
+        head.kind = BAD_TYPE;
+    } else if (octets_len - offset >= 2) {
+        head.kind = POINTER;
+        head.target = (size_t)(first & 63) << 8 | octets[offset + 1];
+    }
+    return head;
+}
+
+/* The name at an offset, uncompressed in 255 octets. */
+static uint32_t walk(const uint8_t *message, size_t message_len, size_t offset, unsigned limit, uint8_t *name,
+                     size_t *length, size_t *end, uint32_t *compressed)
+{
+    unsigned pointers = 0;
+    size_t len = 0, behind = 0;
+    uint32_t scattered = 0;
+
+    for (;;) {
+        struct head head = head_at(message, message_len, offset);
+        switch (head.kind) {
+        case CUT:
+            return DNSNAMES_SHORT_INPUT;
+        case BAD_TYPE:
+            return DNSNAMES_LABEL_TYPE;
+        case ROOT:
+            name[len] = 0;
+            *length = len + 1;
+            *end = pointers ? behind : offset + 1;
+            *compressed = scattered;
+            return DNSNAMES_OK;
+        case LABEL:
+            /* 255 octets at most, and the root is still to come (RFC 1035, 3.1). */
+            if (len + 1 + head.len + 1 > 255)
+                return DNSNAMES_LONG_NAME;
+            memcpy(name + len, message + offset, 1 + head.len);
+            len += 1 + head.len;
+            offset += 1 + head.len;
+            break;
+        case POINTER:
+            if (head.target >= offset || pointers == limit)
+                return DNSNAMES_TOO_MANY_POINTERS;
+            if (pointers == 0)
+                behind = offset + 2;
+            if (len > 0)
+                scattered = 1;
+            pointers++;
+            offset = head.target;
+            break;
+        }
+    }
+}
+
+/* Puts octets into a caller's buffer. */
+static uint32_t give(const uint8_t *octets, size_t len, uint8_t *buffer, size_t capacity, size_t *length)
+{
+    *length = len;
+    if (capacity < len)
+        return DNSNAMES_NO_ROOM;
+    if (len > 0)
+        memcpy(buffer, octets, len);
+    return DNSNAMES_OK;
+}
+
+uint32_t SECOND(read)(const uint8_t *message, size_t message_len, size_t offset, uint8_t limit, uint8_t *buffer,
+                      size_t capacity, size_t *length, size_t *end, uint32_t *compressed)
+{
+    uint8_t name[255];
+    size_t len, behind;
+    uint32_t through, status = walk(message, message_len, offset, limit, name, &len, &behind, &through);
+
+    if (status != DNSNAMES_OK)
+        return status;
+    status = give(name, len, buffer, capacity, length);
+    *end = behind;
+    *compressed = through;
+    return status;
+}
+
+uint32_t SECOND(skip)(const uint8_t *message, size_t message_len, size_t offset, size_t *end)
+{
+    size_t len = 0;
+
+    for (;;) {
+        struct head head = head_at(message, message_len, offset);
+        switch (head.kind) {
+        case CUT:
+            return DNSNAMES_SHORT_INPUT;
+        case BAD_TYPE:
+            return DNSNAMES_LABEL_TYPE;
+        case ROOT:
+            if (len + 1 > 255)
+                return DNSNAMES_LONG_NAME;
+            *end = offset + 1;
+            return DNSNAMES_OK;
+        case POINTER:
+            *end = offset + 2;
+            return DNSNAMES_OK;
+        case LABEL:
+            if (len + 1 + head.len > 255)
+                return DNSNAMES_LONG_NAME;
+            len += 1 + head.len;
+            offset += 1 + head.len;
+            break;
+        }
+    }
+}
+
+uint32_t SECOND(check)(const uint8_t *octets, size_t len)
+{
+    size_t offset = 0;
+
+    if (len > 255)
+        return DNSNAMES_LONG_NAME;
+    for (;;) {
+        struct head head = head_at(octets, len, offset);
+        switch (head.kind) {
+        case CUT:
+            return offset > 0 && offset == len ? DNSNAMES_RELATIVE : DNSNAMES_SHORT_INPUT;
+        case BAD_TYPE:
+            return DNSNAMES_LABEL_TYPE;
+        case POINTER:
+            return DNSNAMES_COMPRESSED;
+        case ROOT:
+            return offset + 1 == len ? DNSNAMES_OK : DNSNAMES_TRAILING_DATA;
+        case LABEL:
+            offset += 1 + head.len;
+            break;
+        }
+    }
+}
+
+uint32_t SECOND(check_relative)(const uint8_t *octets, size_t len)
+{
+    size_t offset = 0;
+
+    if (len > 254)
+        return DNSNAMES_LONG_NAME;
+    while (offset < len) {
+        struct head head = head_at(octets, len, offset);
+        switch (head.kind) {
+        case CUT:
+            return DNSNAMES_SHORT_INPUT;
+        case BAD_TYPE:
+            return DNSNAMES_LABEL_TYPE;
+        case POINTER:
+            return DNSNAMES_COMPRESSED;
+        case ROOT:
+            return DNSNAMES_ABSOLUTE;
+        case LABEL:
+            offset += 1 + head.len;
+            break;
+        }
+    }
+    return DNSNAMES_OK;
+}
+
+/* Whether octets are UTF-8 (RFC 3629, 4). */
+static int is_utf8(const uint8_t *text, size_t len)
+{
+    size_t i = 0;
+
+    while (i < len) {
+        uint8_t first = text[i];
+        uint8_t low = 0x80, high = 0xbf;
+        size_t more, k;
+        if (first < 0x80)
+            more = 0;
+        else if (first >= 0xc2 && first <= 0xdf)
+            more = 1;
+        else if (first >= 0xe0 && first <= 0xef)
+            more = 2;
+        else if (first >= 0xf0 && first <= 0xf4)
+            more = 3;
+        else
+            return 0;
+        if (len - i - 1 < more)
+            return 0;
+        if (first == 0xe0)
+            low = 0xa0;
+        else if (first == 0xed)
+            high = 0x9f;
+        else if (first == 0xf0)
+            low = 0x90;
+        else if (first == 0xf4)
+            high = 0x8f;
+        for (k = 1; k <= more; k++) {
+            if (text[i + k] < low || text[i + k] > high)
+                return 0;
+            low = 0x80;
+            high = 0xbf;
+        }
+        i += 1 + more;
+    }
+    return 1;
+}
+
+static int is_digit(uint8_t c)
+{
+    return c >= '0' && c <= '9';
+}
+
+/* The symbol at *at (RFC 1035, 5.1): a character, or an escape. */
+static uint32_t symbol(const uint8_t *text, size_t len, size_t *at, uint8_t *octet, int *escaped)
+{
+    uint8_t c = text[(*at)++];
+    unsigned value = 0;
+    int k;
+
+    *escaped = 0;
+    *octet = c;
+    if (c != '\\')
+        return c < 32 || c > 126 ? DNSNAMES_BAD_SYMBOL : DNSNAMES_OK;
+    if (*at == len)
+        return DNSNAMES_SHORT_INPUT;
+    if (!is_digit(text[*at])) {
+        *octet = text[(*at)++];
+        *escaped = 1;
+        return *octet < 32 || *octet > 126 ? DNSNAMES_BAD_ESCAPE : DNSNAMES_OK;
+    }
+    for (k = 0; k < 3; k++) {
+        if (*at == len)
+            return DNSNAMES_SHORT_INPUT;
+        if (!is_digit(text[*at]))
+            return DNSNAMES_BAD_ESCAPE;
+        value = value * 10 + (text[(*at)++] - '0');
+    }
+    *octet = (uint8_t)value;
+    *escaped = 2;
+    return value > 255 ? DNSNAMES_BAD_ESCAPE : DNSNAMES_OK;
+}
+
+uint32_t SECOND(from_text)(const uint8_t *text, size_t text_len, uint8_t *buffer, size_t capacity, size_t *length)
+{
+    uint8_t name[256];
+    /* head: where the open label's length stands; open: how many octets it has. */
+    size_t at = 0, head = 0, open = 0;
+
+    if (!is_utf8(text, text_len))
+        return DNSNAMES_BAD_SYMBOL;
+    if (text_len == 0)
+        return DNSNAMES_SHORT_INPUT;
+    if (text_len == 1 && text[0] == '.')
+        return give((const uint8_t *)"", 1, buffer, capacity, length);
+    while (at < text_len) {
+        uint8_t octet;
+        int escaped;
+        uint32_t status = symbol(text, text_len, &at, &octet, &escaped);
+        if (status != DNSNAMES_OK)
+            return status;
+        if (octet == '.' && !escaped) {
+            if (open == 0)
+                return DNSNAMES_EMPTY_LABEL;
+            name[head] = (uint8_t)open;
+            head += 1 + open;
+            open = 0;
+            continue;
+        }
+        if (octet == '[' && escaped == 1 && open == 0)
+            return DNSNAMES_BINARY_LABEL;
+        if (head + 1 + open + 1 > 254)
+            return DNSNAMES_LONG_NAME;
+        if (open + 1 > 63)
+            return DNSNAMES_LONG_LABEL;
+        name[head + 1 + open++] = octet;
+    }
+    if (open > 0) {
+        name[head] = (uint8_t)open;
+        head += 1 + open;
+    }
+    name[head] = 0;
+    return give(name, head + 1, buffer, capacity, length);
+}
+
+uint32_t SECOND(to_text)(const uint8_t *name, size_t len, uint32_t final_dot, uint8_t *buffer, size_t capacity,
+                         size_t *length)
+{
+    uint8_t text[1020];
+    size_t size = 0, at = 0, k;
+
+    if (SECOND(check)(name, len) != DNSNAMES_OK)
+        return DNSNAMES_NO_NAME;
+    if (len == 1)
+        return give((const uint8_t *)".", 1, buffer, capacity, length);
+    while (name[at] != 0) {
+        for (k = 0; k < name[at]; k++) {
+            uint8_t c = name[at + 1 + k];
+            if (c < 32 || c > 126) {
+                text[size++] = '\\';
+                text[size++] = (uint8_t)('0' + c / 100);
+                text[size++] = (uint8_t)('0' + c / 10 % 10);
+                text[size++] = (uint8_t)('0' + c % 10);
+                continue;
+            }
+            if (c == ' ' || c == '.' || c == '\\')
+                text[size++] = '\\';
+            text[size++] = c;
+        }
+        text[size++] = '.';
+        at += 1 + (size_t)name[at];
+    }
+    return give(text, final_dot ? size : size - 1, buffer, capacity, length);
+}
+
+static uint8_t low(uint8_t c)
+{
+    return c >= 'A' && c <= 'Z' ? (uint8_t)(c + 32) : c;
+}
+
+uint32_t SECOND(lower)(const uint8_t *name, size_t len, uint8_t *buffer, size_t capacity, size_t *length)
+{
+    uint8_t lowered[255];
+    size_t at = 0, k;
+
+    if (SECOND(check)(name, len) != DNSNAMES_OK)
+        return DNSNAMES_NO_NAME;
+    for (; name[at] != 0; at += 1 + (size_t)name[at]) {
+        lowered[at] = name[at];
+        for (k = 1; k <= name[at]; k++)
+            lowered[at + k] = low(name[at + k]);
+    }
+    lowered[at] = 0;
+    return give(lowered, len, buffer, capacity, length);
+}
+
+/* The offsets of a name's labels, the root's last; how many there are. */
+static size_t labels_of(const uint8_t *name, size_t *offsets)
+{
+    size_t count = 0, at = 0;
+
+    for (;;) {
+        offsets[count++] = at;
+        if (name[at] == 0)
+            return count;
+        at += 1 + (size_t)name[at];
+    }
+}
+
+/* Two labels as octets without case (RFC 4034, 6.1): the absence of an octet comes first. */
+static int order_labels(const uint8_t *left, const uint8_t *right)
+{
+    size_t k;
+
+    for (k = 1; k <= left[0] && k <= right[0]; k++)
+        if (low(left[k]) != low(right[k]))
+            return low(left[k]) < low(right[k]) ? -1 : 1;
+    return (left[0] > right[0]) - (left[0] < right[0]);
+}
+
+/* Two names by their labels from the root on (RFC 4034, 6.1). */
+static int order_names(const uint8_t *left, const uint8_t *right)
+{
+    size_t of_left[128], of_right[128], i = labels_of(left, of_left), j = labels_of(right, of_right);
+
+    while (i > 0 && j > 0) {
+        int order = order_labels(left + of_left[--i], right + of_right[--j]);
+        if (order != 0)
+            return order;
+    }
+    return (i > 0) - (j > 0);
+}
+
+static int are_names(const uint8_t *left, size_t left_len, const uint8_t *right, size_t right_len)
+{
+    return SECOND(check)(left, left_len) == DNSNAMES_OK && SECOND(check)(right, right_len) == DNSNAMES_OK;
+}
+
+uint32_t SECOND(eq)(const uint8_t *left, size_t left_len, const uint8_t *right, size_t right_len, uint32_t *equal)
+{
+    if (!are_names(left, left_len, right, right_len))
+        return DNSNAMES_NO_NAME;
+    *equal = order_names(left, right) == 0;
+    return DNSNAMES_OK;
+}
+
+uint32_t SECOND(compare)(const uint8_t *left, size_t left_len, const uint8_t *right, size_t right_len,
+                         int32_t *order)
+{
+    if (!are_names(left, left_len, right, right_len))
+        return DNSNAMES_NO_NAME;
+    *order = order_names(left, right);
+    return DNSNAMES_OK;
+}
+
+uint32_t SECOND(ends_with)(const uint8_t *name, size_t len, const uint8_t *suffix, size_t suffix_len,
+                           uint32_t *ends)
+{
+    size_t offsets[128], count, i;
+
+    if (!are_names(name, len, suffix, suffix_len))
+        return DNSNAMES_NO_NAME;
+    *ends = 0;
+    count = labels_of(name, offsets);
+    for (i = 0; i < count; i++)
+        if (order_names(name + offsets[i], suffix) == 0)
+            *ends = 1;
+    return DNSNAMES_OK;
+}
+
+uint32_t SECOND(hash)(const uint8_t *name, size_t len, uint64_t *hash)
+{
+    uint8_t lowered[255];
+    uint64_t h = 0xcbf29ce484222325u;
+    size_t size, i;
+
+    if (SECOND(lower)(name, len, lowered, sizeof lowered, &size) != DNSNAMES_OK)
+        return DNSNAMES_NO_NAME;
+    for (i = 0; i < size; i++)
+        h = (h ^ lowered[i]) * 0x100000001b3u;
+    *hash = h;
+    return DNSNAMES_OK;
+}
+
+uint32_t SECOND(label_count)(const uint8_t *name, size_t len, size_t *count)
+{
+    size_t offsets[128];
+
+    if (SECOND(check)(name, len) != DNSNAMES_OK)
+        return DNSNAMES_NO_NAME;
+    *count = labels_of(name, offsets);
+    return DNSNAMES_OK;
+}
+
+uint32_t SECOND(label)(const uint8_t *name, size_t len, size_t index, size_t *offset)
+{
+    size_t offsets[128];
+
+    if (SECOND(check)(name, len) != DNSNAMES_OK)
+        return DNSNAMES_NO_NAME;
+    if (index >= labels_of(name, offsets))
+        return DNSNAMES_NO_LABEL;
+    *offset = offsets[index];
+    return DNSNAMES_OK;
+}
+
+uint32_t SECOND(label_back)(const uint8_t *name, size_t len, size_t index, size_t *offset)
+{
+    size_t offsets[128], count;
+
+    if (SECOND(check)(name, len) != DNSNAMES_OK)
+        return DNSNAMES_NO_NAME;
+    count = labels_of(name, offsets);
+    if (index >= count)
+        return DNSNAMES_NO_LABEL;
+    *offset = offsets[count - 1 - index];
+    return DNSNAMES_OK;
+}
+
+uint32_t SECOND(parent)(const uint8_t *name, size_t len, size_t *offset)
+{
+    return SECOND(label)(name, len, 1, offset);
+}
+
+/* The first entry of the table at which a name equal to this one is read. */
+static int find(const uint8_t *octets, size_t octets_len, const uint16_t *table, size_t table_len,
+                const uint8_t *name, uint16_t *offset)
+{
+    size_t i, length, end;
+    uint32_t compressed;
+    uint8_t found[255];
+
+    for (i = 0; i < table_len; i++) {
+        if (walk(octets, octets_len, table[i], 255, found, &length, &end, &compressed) == DNSNAMES_OK &&
+            order_names(found, name) == 0) {
+            *offset = table[i];
+            return 1;
+        }
+    }
+    return 0;
+}
+
+/* Whether the pointer is a 256th where it is followed behind these octets. */
+static int is_one_too_many(const uint8_t *octets, size_t octets_len, uint16_t offset)
+{
+    size_t length, end;
+    uint32_t compressed;
+    uint8_t found[255];
+
+    return walk(octets, octets_len, offset, 254, found, &length, &end, &compressed) != DNSNAMES_OK;
+}
+
+uint32_t SECOND(plan)(const uint8_t *octets, size_t octets_len, const uint16_t *table, size_t table_len,
+                      const uint8_t *name, size_t len, size_t *begin, uint16_t *offset)
+{
+    size_t at;
+    uint16_t found;
+
+    if (table_len > 128)
+        return DNSNAMES_NO_TABLE;
+    for (at = 0; at < table_len; at++)
+        if (table[at] >= 16384)
+            return DNSNAMES_NO_TABLE;
+    if (SECOND(check)(name, len) != DNSNAMES_OK)
+        return DNSNAMES_NO_NAME;
+    for (at = 0; name[at] != 0; at += 1 + (size_t)name[at]) {
+        if (find(octets, octets_len, table, table_len, name + at, &found)) {
+            if (is_one_too_many(octets, octets_len, found))
+                return DNSNAMES_FLAT;
+            *begin = at;
+            *offset = found;
+            return DNSNAMES_OK;
+        }
+    }
+    return DNSNAMES_FLAT;
+}
+
+uint32_t SECOND(append)(uint8_t *octets, size_t capacity, size_t *octets_len, uint16_t *table,
+                        size_t table_capacity, size_t *table_len, const uint8_t *name, size_t len)
+{
+    size_t begin = len, old_len = *octets_len, new_len, at;
+    uint16_t offset = 0;
+    uint32_t status;
+
+    if (old_len > capacity || *table_len > table_capacity)
+        return DNSNAMES_BAD_LENGTH;
+    status = SECOND(plan)(octets, old_len, table, *table_len, name, len, &begin, &offset);
+    if (status != DNSNAMES_OK && status != DNSNAMES_FLAT)
+        return status;
+    new_len = old_len + begin + (status == DNSNAMES_OK ? 2 : 0);
+    if (new_len > capacity)
+        return DNSNAMES_NO_ROOM;
+    memcpy(octets + old_len, name, begin);
+    if (status == DNSNAMES_OK) {
+        octets[new_len - 2] = (uint8_t)(192 + offset / 256);
+        octets[new_len - 1] = (uint8_t)(offset % 256);
+    }
+    for (at = 0; at < begin && name[at] != 0; at += 1 + (size_t)name[at])
+        if (*table_len < 128 && *table_len < table_capacity && old_len + at < 16384)
+            table[(*table_len)++] = (uint16_t)(old_len + at);
+    *octets_len = new_len;
+    return DNSNAMES_OK;
+}
+
+static uint16_t number16(const uint8_t *octets)
+{
+    return (uint16_t)(octets[0] << 8 | octets[1]);
+}
+
+uint32_t SECOND(header)(const uint8_t *message, size_t message_len, uint16_t *id, uint16_t *flags,
+                        uint16_t *questions, uint16_t *answers, uint16_t *authority, uint16_t *additional)
+{
+    if (message_len < 12)
+        return DNSNAMES_SHORT_INPUT;
+    *id = number16(message);
+    *flags = number16(message + 2);
+    *questions = number16(message + 4);
+    *answers = number16(message + 6);
+    *authority = number16(message + 8);
+    *additional = number16(message + 10);
+    return DNSNAMES_OK;
+}
+
+uint32_t SECOND(question)(const uint8_t *message, size_t message_len, size_t offset, uint16_t *type,
+                          uint16_t *class_, size_t *end)
+{
+    size_t at;
+    uint32_t status = SECOND(skip)(message, message_len, offset, &at);
+
+    if (status != DNSNAMES_OK)
+        return status;
+    if (message_len - at < 4)
+        return DNSNAMES_SHORT_INPUT;
+    *type = number16(message + at);
+    *class_ = number16(message + at + 2);
+    *end = at + 4;
+    return DNSNAMES_OK;
+}
+
+uint32_t SECOND(record)(const uint8_t *message, size_t message_len, size_t offset, uint16_t *type, uint16_t *class_,
+                        uint32_t *ttl, size_t *data, size_t *data_len, size_t *end)
+{
+    size_t at, len;
+    uint32_t status = SECOND(skip)(message, message_len, offset, &at);
+
+    if (status != DNSNAMES_OK)
+        return status;
+    if (message_len - at < 10)
+        return DNSNAMES_SHORT_INPUT;
+    len = number16(message + at + 8);
+    if (message_len - at - 10 < len)
+        return DNSNAMES_SHORT_INPUT;
+    *type = number16(message + at);
+    *class_ = number16(message + at + 2);
+    *ttl = (uint32_t)number16(message + at + 4) << 16 | number16(message + at + 6);
+    *data = at + 10;
+    *data_len = len;
+    *end = at + 10 + len;
+    return DNSNAMES_OK;
+}

@@ -1,0 +1,47 @@
+/* A second reader of names, in plain C, written from RFC 1035 and RFC 4034 and not from the library.
+ *
+ * The checks give both the same input and compare their answers. It tests every index that it uses, and it is for
+ * checks alone: nothing of it is proved. Its calls have the arguments and the statuses of those in dnsnames.h, whose
+ * names begin with dnsnames_ in place of second_. */
+#ifndef SECOND_H
+#define SECOND_H
+
+#include <stddef.h>
+#include <stdint.h>
+
+/* With this macro defined as dnsnames_ the file second.c stands in for the library itself. */
+#ifndef SECOND
+#define SECOND(call) second_##call
+#endif
+
+uint32_t SECOND(read)(const uint8_t *message, size_t message_len, size_t offset, uint8_t limit, uint8_t *buffer,
+                      size_t capacity, size_t *length, size_t *end, uint32_t *compressed);
+uint32_t SECOND(skip)(const uint8_t *message, size_t message_len, size_t offset, size_t *end);
+uint32_t SECOND(check)(const uint8_t *octets, size_t len);
+uint32_t SECOND(check_relative)(const uint8_t *octets, size_t len);
+uint32_t SECOND(from_text)(const uint8_t *text, size_t text_len, uint8_t *buffer, size_t capacity, size_t *length);
+uint32_t SECOND(to_text)(const uint8_t *name, size_t len, uint32_t final_dot, uint8_t *buffer, size_t capacity,
+                         size_t *length);
+uint32_t SECOND(lower)(const uint8_t *name, size_t len, uint8_t *buffer, size_t capacity, size_t *length);
+uint32_t SECOND(eq)(const uint8_t *left, size_t left_len, const uint8_t *right, size_t right_len, uint32_t *equal);
+uint32_t SECOND(compare)(const uint8_t *left, size_t left_len, const uint8_t *right, size_t right_len,
+                         int32_t *order);
+uint32_t SECOND(ends_with)(const uint8_t *name, size_t len, const uint8_t *suffix, size_t suffix_len,
+                           uint32_t *ends);
+uint32_t SECOND(hash)(const uint8_t *name, size_t len, uint64_t *hash);
+uint32_t SECOND(label_count)(const uint8_t *name, size_t len, size_t *count);
+uint32_t SECOND(label)(const uint8_t *name, size_t len, size_t index, size_t *offset);
+uint32_t SECOND(label_back)(const uint8_t *name, size_t len, size_t index, size_t *offset);
+uint32_t SECOND(parent)(const uint8_t *name, size_t len, size_t *offset);
+uint32_t SECOND(plan)(const uint8_t *octets, size_t octets_len, const uint16_t *table, size_t table_len,
+                      const uint8_t *name, size_t len, size_t *begin, uint16_t *offset);
+uint32_t SECOND(append)(uint8_t *octets, size_t capacity, size_t *octets_len, uint16_t *table,
+                        size_t table_capacity, size_t *table_len, const uint8_t *name, size_t len);
+uint32_t SECOND(header)(const uint8_t *message, size_t message_len, uint16_t *id, uint16_t *flags,
+                        uint16_t *questions, uint16_t *answers, uint16_t *authority, uint16_t *additional);
+uint32_t SECOND(question)(const uint8_t *message, size_t message_len, size_t offset, uint16_t *type,
+                          uint16_t *class_, size_t *end);
+uint32_t SECOND(record)(const uint8_t *message, size_t message_len, size_t offset, uint16_t *type, uint16_t *class_,
+                        uint32_t *ttl, size_t *data, size_t *data_len, size_t *end);
+
+#endif

@@ -1,0 +1,473 @@
+/* Domain names and their wire format (RFC 1035, 3.1, 4.1 and 5.1), read and written by proved functions.
+ *
+ * An uncompressed name is the wire format of an absolute name with no pointer in it: its labels, each behind its
+ * length octet, the root label (one zero octet) last; at most DNSNAMES_MAX_LEN octets. `name, len` means one. Sizes,
+ * offsets and ends are counted in octets from 0; an end is the offset after the last octet.
+ *
+ * Every call answers a status, and gives its results through pointers. A refused call, whose status is not
+ * DNSNAMES_OK, leaves what the pointers lead to as it was; with DNSNAMES_NO_ROOM alone it tells in *length (and
+ * dnsnames_read in its other results) what an answer has, and leaves the buffer. No call allocates, keeps a pointer or
+ * has a state, so each may be made from any thread and at any time.
+ *
+ * What is proved of each call is what it says here, for all octets and all lengths: which results it gives, when it
+ * refuses and with which status, what it leaves, that it ends, and that it reads and writes within the lengths that it
+ * is passed. No proof can see what a pointer from C leads to. So the caller owes:
+ * - a pointer leads to as many octets (of a table: numbers) as the length or capacity beside it says, at most
+ *   PTRDIFF_MAX octets, aligned as its type wants, and a result's pointer to one value;
+ * - a buffer or a result overlaps nothing else that the call is passed, and nobody else writes what is passed or reads
+ *   the results while the call runs.
+ * Null is looked for by the guards below, which are plain C: a null pointer whose length or capacity is 0 stands for
+ * no octets, and one with a length, or a null result, is refused as DNSNAMES_NULL. They stand in this header, so a
+ * caller from another language, who calls the symbols of the library, owes pointers that aren't null, also at
+ * length 0. The same holds where DNSNAMES_NO_GUARDS is defined before this header is included.
+ */
+#ifndef DNSNAMES_H
+#define DNSNAMES_H
+
+#include <stddef.h>
+#include <stdint.h>
+
+#ifdef __cplusplus
+extern "C" {
+#endif
+
+/* The most octets of an uncompressed name: a buffer of this size has room for each. */
+#define DNSNAMES_MAX_LEN 255
+/* The most octets of a name's text, with no zero octet after it: a buffer of this size has room for each. */
+#define DNSNAMES_MAX_TEXT 1020
+/* The limit of pointers that allows all that a name can have. */
+#define DNSNAMES_MAX_POINTERS 255
+/* The most offsets that a table for compressing has. */
+#define DNSNAMES_MAX_TABLE 128
+
+enum {
+    DNSNAMES_OK = 0,
+    /* The octets or the text end too soon. */
+    DNSNAMES_SHORT_INPUT = 1,
+    /* A length octet is of a label type that is not in use (0x40 to 0xbf). */
+    DNSNAMES_LABEL_TYPE = 2,
+    /* A pointer does not lead back, or is one more than the limit. */
+    DNSNAMES_TOO_MANY_POINTERS = 3,
+    /* The name has more than 255 octets. */
+    DNSNAMES_LONG_NAME = 4,
+    /* Uncompressed octets: a pointer stands among the labels. */
+    DNSNAMES_COMPRESSED = 5,
+    /* Octets of an absolute name: they end after a label that is not the root. */
+    DNSNAMES_RELATIVE = 6,
+    /* Octets of an absolute name: more octets follow the root. */
+    DNSNAMES_TRAILING_DATA = 7,
+    /* The buffer is too small. It is as it was, and *length tells how many octets are needed. */
+    DNSNAMES_NO_ROOM = 8,
+    /* What is passed as an uncompressed name is none: dnsnames_check tells why. */
+    DNSNAMES_NO_NAME = 9,
+    /* The name has no such label. */
+    DNSNAMES_NO_LABEL = 10,
+    /* Text: an escape is broken. */
+    DNSNAMES_BAD_ESCAPE = 11,
+    /* Text: a character stands for no octet, or the text is not UTF-8. */
+    DNSNAMES_BAD_SYMBOL = 12,
+    /* Text: a label begins with \[. */
+    DNSNAMES_BINARY_LABEL = 13,
+    /* Text: a label has more than 63 octets. */
+    DNSNAMES_LONG_LABEL = 14,
+    /* Text: a label is empty. */
+    DNSNAMES_EMPTY_LABEL = 15,
+    /* Compressing: the table has more than 128 offsets, or one past 16,383. */
+    DNSNAMES_NO_TABLE = 16,
+    /* Compressing: the name is to be written uncompressed. */
+    DNSNAMES_FLAT = 17,
+    /* A pointer is null: that of a result, or one whose length or capacity is not 0. */
+    DNSNAMES_NULL = 18,
+    /* Octets of a relative name: a root label stands in them. */
+    DNSNAMES_ABSOLUTE = 19,
+    /* A length that is passed is larger than the capacity beside it. */
+    DNSNAMES_BAD_LENGTH = 20
+};
+
+/* ---- Names in messages ---- */
+
+/* Reads the name at an offset of a message (RFC 1035, 4.1.4), through at most `limit` pointers, each of which must
+ * lead back. The buffer gets the uncompressed name, *length its size, *end the offset after its root or first pointer.
+ * *compressed becomes 0 where all its octets lie one after the other, be it at the offset or where pointers at the
+ * offset lead to, and 1 where a pointer follows a label.
+ *
+ * SHORT_INPUT (also where the offset is at or past the end), LABEL_TYPE, TOO_MANY_POINTERS, LONG_NAME: the fault that
+ * a walk along the name meets first. NO_ROOM: *length, *end and *compressed are given, the buffer is as it was.
+ *
+ *     uint8_t name[DNSNAMES_MAX_LEN];
+ *     size_t len, end;
+ *     uint32_t compressed;
+ *     uint32_t status = dnsnames_read(message, message_len, 12, DNSNAMES_MAX_POINTERS, name, sizeof name, &len, &end,
+ *                                     &compressed);
+ *     if (status != DNSNAMES_OK)
+ *         fprintf(stderr, "%s\n", dnsnames_strerror(status));
+ */
+uint32_t dnsnames_read(const uint8_t *message, size_t message_len, size_t offset, uint8_t limit, uint8_t *buffer,
+                       size_t capacity, size_t *length, size_t *end, uint32_t *compressed);
+
+/* *end becomes the offset after the root or the first pointer of the name at an offset; the pointer is not followed,
+ * so it may lead anywhere. SHORT_INPUT, LABEL_TYPE, LONG_NAME. */
+uint32_t dnsnames_skip(const uint8_t *message, size_t message_len, size_t offset, size_t *end);
+
+/* ---- Octets and text ---- */
+
+/* Whether octets are an uncompressed name: OK. LONG_NAME where there are more than 255; otherwise the fault that a
+ * walk along them meets first: SHORT_INPUT, LABEL_TYPE, COMPRESSED, RELATIVE, TRAILING_DATA. */
+uint32_t dnsnames_check(const uint8_t *octets, size_t len);
+
+/* Whether octets are an uncompressed relative name, which is labels with no root label after them, or no label at all:
+ * OK. LONG_NAME where there are more than 254; otherwise the fault that a walk along them meets first: SHORT_INPUT,
+ * LABEL_TYPE, COMPRESSED, ABSOLUTE. */
+uint32_t dnsnames_check_relative(const uint8_t *octets, size_t len);
+
+/* Reads the text of an absolute name (RFC 1035, 5.1), which is UTF-8; a final dot may be left out. The buffer gets the
+ * uncompressed name, *length its size.
+ *
+ * SHORT_INPUT where the text is empty or ends inside an escape; LONG_NAME, BAD_ESCAPE, BAD_SYMBOL, BINARY_LABEL,
+ * LONG_LABEL, EMPTY_LABEL; NO_ROOM.
+ *
+ *     const char text[] = "www.example.com";
+ *     uint32_t status = dnsnames_from_text((const uint8_t *)text, strlen(text), name, sizeof name, &len);
+ */
+uint32_t dnsnames_from_text(const uint8_t *text, size_t text_len, uint8_t *buffer, size_t capacity, size_t *length);
+
+/* The text of an uncompressed name, which is ASCII: space, dot and backslash have a backslash before them, and what is
+ * not printed is a backslash and three digits. *length becomes its size; there is no zero octet after it. With
+ * final_dot 0 labels have dots between them, otherwise also after the last; either way the root alone is a dot.
+ * NO_NAME, NO_ROOM. */
+uint32_t dnsnames_to_text(const uint8_t *name, size_t len, uint32_t final_dot, uint8_t *buffer, size_t capacity,
+                          size_t *length);
+
+/* The canonical form of an uncompressed name: A to Z as a to z (RFC 4034, 6.2). *length becomes its size, which is
+ * len. NO_NAME, NO_ROOM. */
+uint32_t dnsnames_lower(const uint8_t *name, size_t len, uint8_t *buffer, size_t capacity, size_t *length);
+
+/* ---- Comparing ---- */
+
+/* *equal becomes 1 where two names are equal without ASCII case (RFC 4343, 3), otherwise 0. NO_NAME where one is no
+ * name. */
+uint32_t dnsnames_eq(const uint8_t *left, size_t left_len, const uint8_t *right, size_t right_len, uint32_t *equal);
+
+/* *order becomes -1, 0 or 1: the canonical order of two names (RFC 4034, 6.1). NO_NAME where one is no name. */
+uint32_t dnsnames_compare(const uint8_t *left, size_t left_len, const uint8_t *right, size_t right_len,
+                          int32_t *order);
+
+/* *ends becomes 1 where the labels of the suffix, compared without ASCII case, are the last ones of the name,
+ * otherwise 0. NO_NAME where one is none. */
+uint32_t dnsnames_ends_with(const uint8_t *name, size_t len, const uint8_t *suffix, size_t suffix_len, uint32_t *ends);
+
+/* *hash becomes FNV-1a over 64 bits of the canonical form: names that are equal have one hash. NO_NAME. */
+uint32_t dnsnames_hash(const uint8_t *name, size_t len, uint64_t *hash);
+
+/* ---- Labels ---- */
+
+/* *count becomes the number of labels, the root among them: 1 to 128. NO_NAME. */
+uint32_t dnsnames_label_count(const uint8_t *name, size_t len, size_t *count);
+
+/* *offset becomes that of the label that has `index` labels before it. name[*offset] is its length, and its octets
+ * follow; name + *offset is an uncompressed name itself, of len - *offset octets. NO_LABEL where the name has no more
+ * than `index` labels; NO_NAME. */
+uint32_t dnsnames_label(const uint8_t *name, size_t len, size_t index, size_t *offset);
+
+/* The same of the label that has `index` labels after it: the root has none after it. NO_LABEL, NO_NAME. */
+uint32_t dnsnames_label_back(const uint8_t *name, size_t len, size_t index, size_t *offset);
+
+/* *offset becomes that of the second label: name + *offset is the parent, an uncompressed name of len - *offset
+ * octets. NO_LABEL for the root, which has none; NO_NAME. */
+uint32_t dnsnames_parent(const uint8_t *name, size_t len, size_t *offset);
+
+/* ---- Writing names with compression (RFC 1035, 4.1.4) ---- */
+
+/* How a name is to be written after the octets of a message, whose first octet is the message's first. The table has
+ * offsets at which labels of names were written: at most DNSNAMES_MAX_TABLE, each below 16,384.
+ *
+ * OK: the first *begin octets of the name are to be written, and then the two octets of a pointer to *offset, which
+ * are 0xc0 + *offset / 256 and *offset % 256. The pointer stands for the longest end of the name, but the root, that
+ * is read without ASCII case at one of the offsets, and leads to the first such one. FLAT: no end is read at any of
+ * them, or more than 255 pointers would lead along the name; all of it is to be written. NO_TABLE, NO_NAME. */
+uint32_t dnsnames_plan(const uint8_t *octets, size_t octets_len, const uint16_t *table, size_t table_len,
+                       const uint8_t *name, size_t len, size_t *begin, uint16_t *offset);
+
+/* Writes a name after the first *octets_len octets of a message, as dnsnames_plan tells, and adds its size there to
+ * *octets_len. The offsets of the labels that were written, but of the root, are added to the table as long as they
+ * are below 16,384, and the table has fewer than DNSNAMES_MAX_TABLE and than its capacity; *table_len becomes how many
+ * it has. A message begins with *table_len 0.
+ *
+ * BAD_LENGTH where *octets_len or *table_len is larger than its capacity, NO_TABLE, NO_NAME, NO_ROOM where the octets
+ * don't fit: octets, table and both lengths are then as they were.
+ *
+ *     uint8_t message[512] = {0};
+ *     size_t message_len = 12;
+ *     uint16_t table[DNSNAMES_MAX_TABLE];
+ *     size_t table_len = 0;
+ *     status = dnsnames_append(message, sizeof message, &message_len, table, DNSNAMES_MAX_TABLE, &table_len, name,
+ *                              len);
+ */
+uint32_t dnsnames_append(uint8_t *octets, size_t capacity, size_t *octets_len, uint16_t *table, size_t table_capacity,
+                         size_t *table_len, const uint8_t *name, size_t len);
+
+/* ---- Messages (RFC 1035, 4.1) ---- */
+
+/* The twelve octets that a message begins with: its identifier, its sixteen bits of flags (QR is 0x8000, RCODE the low
+ * four), and how many questions and records it says to have. SHORT_INPUT where it has fewer octets. */
+uint32_t dnsnames_header(const uint8_t *message, size_t message_len, uint16_t *id, uint16_t *flags,
+                         uint16_t *questions, uint16_t *answers, uint16_t *authority, uint16_t *additional);
+
+/* The question at an offset: the name begins there (dnsnames_read reads it), and the type, the class and the offset
+ * after the question are given. SHORT_INPUT, LABEL_TYPE, LONG_NAME as dnsnames_skip has them; SHORT_INPUT also where
+ * fewer than four octets follow the name. The first question is at offset 12. */
+uint32_t dnsnames_question(const uint8_t *message, size_t message_len, size_t offset, uint16_t *type, uint16_t *class_,
+                           size_t *end);
+
+/* The record at an offset: the name begins there, and the type, the class, the time to live in seconds, the offset and
+ * the size of the data and the offset after the record are given. SHORT_INPUT, LABEL_TYPE, LONG_NAME as dnsnames_skip
+ * has them; SHORT_INPUT also where the ten octets after the name, or the data, end past the message. */
+uint32_t dnsnames_record(const uint8_t *message, size_t message_len, size_t offset, uint16_t *type, uint16_t *class_,
+                         uint32_t *ttl, size_t *data, size_t *data_len, size_t *end);
+
+/* ---- Statuses ---- */
+
+/* What a status means, in English: a text that stays. */
+static inline const char *dnsnames_strerror(uint32_t status)
+{
+    switch (status) {
+    case DNSNAMES_OK: return "no error";
+    case DNSNAMES_SHORT_INPUT: return "unexpected end of input";
+    case DNSNAMES_LABEL_TYPE: return "invalid label type";
+    case DNSNAMES_TOO_MANY_POINTERS: return "too many compression pointers";
+    case DNSNAMES_LONG_NAME: return "long domain name";
+    case DNSNAMES_COMPRESSED: return "compressed domain name";
+    case DNSNAMES_RELATIVE: return "relative domain name";
+    case DNSNAMES_TRAILING_DATA: return "trailing data";
+    case DNSNAMES_NO_ROOM: return "buffer too small";
+    case DNSNAMES_NO_NAME: return "not an uncompressed domain name";
+    case DNSNAMES_NO_LABEL: return "no such label";
+    case DNSNAMES_BAD_ESCAPE: return "invalid escape sequence";
+    case DNSNAMES_BAD_SYMBOL: return "invalid character";
+    case DNSNAMES_BINARY_LABEL: return "binary label";
+    case DNSNAMES_LONG_LABEL: return "long label";
+    case DNSNAMES_EMPTY_LABEL: return "empty label";
+    case DNSNAMES_NO_TABLE: return "invalid table of offsets";
+    case DNSNAMES_FLAT: return "to be written uncompressed";
+    case DNSNAMES_NULL: return "null pointer";
+    case DNSNAMES_ABSOLUTE: return "absolute domain name";
+    case DNSNAMES_BAD_LENGTH: return "length larger than its capacity";
+    default: return "unknown status";
+    }
+}
+
+/* ---- Guards against null ---- */
+
+#ifndef DNSNAMES_NO_GUARDS
+
+/* Null with a length, or null with none, for which the second pointer stands. */
+static inline int dnsnames_is_null(const void *pointer, size_t len)
+{
+    return pointer == NULL && len != 0;
+}
+static inline const uint8_t *dnsnames_octets(const uint8_t *octets)
+{
+    static const uint8_t none[1] = {0};
+    return octets == NULL ? none : octets;
+}
+
+static inline uint32_t dnsnames_guarded_read(const uint8_t *message, size_t message_len, size_t offset, uint8_t limit,
+                                             uint8_t *buffer, size_t capacity, size_t *length, size_t *end,
+                                             uint32_t *compressed)
+{
+    uint8_t none[1] = {0};
+    if (dnsnames_is_null(message, message_len) || dnsnames_is_null(buffer, capacity) || length == NULL || end == NULL
+        || compressed == NULL)
+        return DNSNAMES_NULL;
+    return dnsnames_read(dnsnames_octets(message), message_len, offset, limit, buffer == NULL ? none : buffer,
+                         capacity, length, end, compressed);
+}
+#define dnsnames_read dnsnames_guarded_read
+
+static inline uint32_t dnsnames_guarded_skip(const uint8_t *message, size_t message_len, size_t offset, size_t *end)
+{
+    if (dnsnames_is_null(message, message_len) || end == NULL)
+        return DNSNAMES_NULL;
+    return dnsnames_skip(dnsnames_octets(message), message_len, offset, end);
+}
+#define dnsnames_skip dnsnames_guarded_skip
+
+static inline uint32_t dnsnames_guarded_check(const uint8_t *octets, size_t len)
+{
+    if (dnsnames_is_null(octets, len))
+        return DNSNAMES_NULL;
+    return dnsnames_check(dnsnames_octets(octets), len);
+}
+#define dnsnames_check dnsnames_guarded_check
+
+static inline uint32_t dnsnames_guarded_check_relative(const uint8_t *octets, size_t len)
+{
+    if (dnsnames_is_null(octets, len))
+        return DNSNAMES_NULL;
+    return dnsnames_check_relative(dnsnames_octets(octets), len);
+}
+#define dnsnames_check_relative dnsnames_guarded_check_relative
+
+static inline uint32_t dnsnames_guarded_from_text(const uint8_t *text, size_t text_len, uint8_t *buffer,
+                                                  size_t capacity, size_t *length)
+{
+    uint8_t none[1] = {0};
+    if (dnsnames_is_null(text, text_len) || dnsnames_is_null(buffer, capacity) || length == NULL)
+        return DNSNAMES_NULL;
+    return dnsnames_from_text(dnsnames_octets(text), text_len, buffer == NULL ? none : buffer, capacity, length);
+}
+#define dnsnames_from_text dnsnames_guarded_from_text
+
+static inline uint32_t dnsnames_guarded_to_text(const uint8_t *name, size_t len, uint32_t final_dot, uint8_t *buffer,
+                                                size_t capacity, size_t *length)
+{
+    uint8_t none[1] = {0};
+    if (dnsnames_is_null(name, len) || dnsnames_is_null(buffer, capacity) || length == NULL)
+        return DNSNAMES_NULL;
+    return dnsnames_to_text(dnsnames_octets(name), len, final_dot, buffer == NULL ? none : buffer, capacity, length);
+}
+#define dnsnames_to_text dnsnames_guarded_to_text
+
+static inline uint32_t dnsnames_guarded_lower(const uint8_t *name, size_t len, uint8_t *buffer, size_t capacity,
+                                              size_t *length)
+{
+    uint8_t none[1] = {0};
+    if (dnsnames_is_null(name, len) || dnsnames_is_null(buffer, capacity) || length == NULL)
+        return DNSNAMES_NULL;
+    return dnsnames_lower(dnsnames_octets(name), len, buffer == NULL ? none : buffer, capacity, length);
+}
+#define dnsnames_lower dnsnames_guarded_lower
+
+static inline uint32_t dnsnames_guarded_eq(const uint8_t *left, size_t left_len, const uint8_t *right,
+                                           size_t right_len, uint32_t *equal)
+{
+    if (dnsnames_is_null(left, left_len) || dnsnames_is_null(right, right_len) || equal == NULL)
+        return DNSNAMES_NULL;
+    return dnsnames_eq(dnsnames_octets(left), left_len, dnsnames_octets(right), right_len, equal);
+}
+#define dnsnames_eq dnsnames_guarded_eq
+
+static inline uint32_t dnsnames_guarded_compare(const uint8_t *left, size_t left_len, const uint8_t *right,
+                                                size_t right_len, int32_t *order)
+{
+    if (dnsnames_is_null(left, left_len) || dnsnames_is_null(right, right_len) || order == NULL)
+        return DNSNAMES_NULL;
+    return dnsnames_compare(dnsnames_octets(left), left_len, dnsnames_octets(right), right_len, order);
+}
+#define dnsnames_compare dnsnames_guarded_compare
+
+static inline uint32_t dnsnames_guarded_ends_with(const uint8_t *name, size_t len, const uint8_t *suffix,
+                                                  size_t suffix_len, uint32_t *ends)
+{
+    if (dnsnames_is_null(name, len) || dnsnames_is_null(suffix, suffix_len) || ends == NULL)
+        return DNSNAMES_NULL;
+    return dnsnames_ends_with(dnsnames_octets(name), len, dnsnames_octets(suffix), suffix_len, ends);
+}
+#define dnsnames_ends_with dnsnames_guarded_ends_with
+
+static inline uint32_t dnsnames_guarded_hash(const uint8_t *name, size_t len, uint64_t *hash)
+{
+    if (dnsnames_is_null(name, len) || hash == NULL)
+        return DNSNAMES_NULL;
+    return dnsnames_hash(dnsnames_octets(name), len, hash);
+}
+#define dnsnames_hash dnsnames_guarded_hash
+
+static inline uint32_t dnsnames_guarded_label_count(const uint8_t *name, size_t len, size_t *count)
+{
+    if (dnsnames_is_null(name, len) || count == NULL)
+        return DNSNAMES_NULL;
+    return dnsnames_label_count(dnsnames_octets(name), len, count);
+}
+#define dnsnames_label_count dnsnames_guarded_label_count
+
+static inline uint32_t dnsnames_guarded_label(const uint8_t *name, size_t len, size_t index, size_t *offset)
+{
+    if (dnsnames_is_null(name, len) || offset == NULL)
+        return DNSNAMES_NULL;
+    return dnsnames_label(dnsnames_octets(name), len, index, offset);
+}
+#define dnsnames_label dnsnames_guarded_label
+
+static inline uint32_t dnsnames_guarded_label_back(const uint8_t *name, size_t len, size_t index, size_t *offset)
+{
+    if (dnsnames_is_null(name, len) || offset == NULL)
+        return DNSNAMES_NULL;
+    return dnsnames_label_back(dnsnames_octets(name), len, index, offset);
+}
+#define dnsnames_label_back dnsnames_guarded_label_back
+
+static inline uint32_t dnsnames_guarded_parent(const uint8_t *name, size_t len, size_t *offset)
+{
+    if (dnsnames_is_null(name, len) || offset == NULL)
+        return DNSNAMES_NULL;
+    return dnsnames_parent(dnsnames_octets(name), len, offset);
+}
+#define dnsnames_parent dnsnames_guarded_parent
+
+static inline uint32_t dnsnames_guarded_plan(const uint8_t *octets, size_t octets_len, const uint16_t *table,
+                                             size_t table_len, const uint8_t *name, size_t len, size_t *begin,
+                                             uint16_t *offset)
+{
+    static const uint16_t none[1] = {0};
+    if (dnsnames_is_null(octets, octets_len) || dnsnames_is_null(table, table_len) || dnsnames_is_null(name, len)
+        || begin == NULL || offset == NULL)
+        return DNSNAMES_NULL;
+    return dnsnames_plan(dnsnames_octets(octets), octets_len, table == NULL ? none : table, table_len,
+                         dnsnames_octets(name), len, begin, offset);
+}
+#define dnsnames_plan dnsnames_guarded_plan
+
+static inline uint32_t dnsnames_guarded_append(uint8_t *octets, size_t capacity, size_t *octets_len, uint16_t *table,
+                                               size_t table_capacity, size_t *table_len, const uint8_t *name,
+                                               size_t len)
+{
+    uint8_t none[1] = {0};
+    uint16_t no_offsets[1] = {0};
+    if (dnsnames_is_null(octets, capacity) || octets_len == NULL || dnsnames_is_null(table, table_capacity)
+        || table_len == NULL || dnsnames_is_null(name, len))
+        return DNSNAMES_NULL;
+    return dnsnames_append(octets == NULL ? none : octets, capacity, octets_len, table == NULL ? no_offsets : table,
+                           table_capacity, table_len, dnsnames_octets(name), len);
+}
+#define dnsnames_append dnsnames_guarded_append
+
+static inline uint32_t dnsnames_guarded_header(const uint8_t *message, size_t message_len, uint16_t *id,
+                                               uint16_t *flags, uint16_t *questions, uint16_t *answers,
+                                               uint16_t *authority, uint16_t *additional)
+{
+    if (dnsnames_is_null(message, message_len) || id == NULL || flags == NULL || questions == NULL || answers == NULL
+        || authority == NULL || additional == NULL)
+        return DNSNAMES_NULL;
+    return dnsnames_header(dnsnames_octets(message), message_len, id, flags, questions, answers, authority,
+                           additional);
+}
+#define dnsnames_header dnsnames_guarded_header
+
+static inline uint32_t dnsnames_guarded_question(const uint8_t *message, size_t message_len, size_t offset,
+                                                 uint16_t *type, uint16_t *class_, size_t *end)
+{
+    if (dnsnames_is_null(message, message_len) || type == NULL || class_ == NULL || end == NULL)
+        return DNSNAMES_NULL;
+    return dnsnames_question(dnsnames_octets(message), message_len, offset, type, class_, end);
+}
+#define dnsnames_question dnsnames_guarded_question
+
+static inline uint32_t dnsnames_guarded_record(const uint8_t *message, size_t message_len, size_t offset,
+                                               uint16_t *type, uint16_t *class_, uint32_t *ttl, size_t *data,
+                                               size_t *data_len, size_t *end)
+{
+    if (dnsnames_is_null(message, message_len) || type == NULL || class_ == NULL || ttl == NULL || data == NULL
+        || data_len == NULL || end == NULL)
+        return DNSNAMES_NULL;
+    return dnsnames_record(dnsnames_octets(message), message_len, offset, type, class_, ttl, data, data_len, end);
+}
+#define dnsnames_record dnsnames_guarded_record
+
+#endif /* DNSNAMES_NO_GUARDS */
+
+#ifdef __cplusplus
+}
+#endif
+
+#endif

@@ -1,0 +1,33 @@
+"""Domain names and DNS messages (RFC 1035), read by a library whose every function is proved.
+
+    >>> from dnsnames import Name
+    >>> Name("www.Example.com") == Name("WWW.example.com.")
+    True
+    >>> str(Name("www.example.com").parent())
+    'example.com.'
+
+What octets and texts spell is decided by the library; this package passes them on, and raises a fault of its own
+class where they are refused. The library is what the variable DNSNAMES_LIBRARY names, else `libdnsnames.so.0` where
+the system finds it. To turn a name into Unicode text or back (IDNA) is left to the caller: labels are octets here.
+"""
+
+from ._library import (
+    BadEscape, BadLabelType, BadSymbol, BinaryLabel, CompressedName, EmptyLabel, LongLabel, LongName, NameFault,
+    NoLabel, NoRoom, RelativeName, ShortInput, TooManyPointers, TrailingData,
+)
+from ._message import Composer, Header, Message, Question, Record
+from ._name import Name, Reading, read, skip
+
+for _public in (
+    BadEscape, BadLabelType, BadSymbol, BinaryLabel, CompressedName, EmptyLabel, LongLabel, LongName, NameFault,
+    NoLabel, NoRoom, RelativeName, ShortInput, TooManyPointers, TrailingData,
+    Composer, Header, Message, Question, Record, Name, Reading, read, skip,
+):
+    _public.__module__ = __name__
+del _public
+
+__all__ = [
+    "BadEscape", "BadLabelType", "BadSymbol", "BinaryLabel", "Composer", "CompressedName", "EmptyLabel", "Header",
+    "LongLabel", "LongName", "Message", "Name", "NameFault", "NoLabel", "NoRoom", "Question", "Reading", "Record",
+    "RelativeName", "ShortInput", "TooManyPointers", "TrailingData", "read", "skip",
+]

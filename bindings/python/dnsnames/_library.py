@@ -1,0 +1,186 @@
+"""The calls of the C library, and what its statuses are here."""
+
+from __future__ import annotations
+
+import ctypes
+import ctypes.util
+import os
+from typing import Optional, Union
+
+Octets = Union[bytes, bytearray, memoryview]
+
+MAX_LEN = 255
+MAX_TEXT = 1020
+MAX_POINTERS = 255
+MAX_TABLE = 128
+_MAX_SIZE = 2 ** (8 * ctypes.sizeof(ctypes.c_size_t)) - 1
+
+
+class NameFault(ValueError):
+    """Why octets or a text are no name, or a message is none. Each fault has a class of its own below this one.
+
+    `status` is the number that the library answered, and `offset` the offset at which the name, the question or the
+    record begins that was asked for; None where none was.
+    """
+
+    status: int = 0
+    text: str = ""
+
+    def __init__(self, offset: Optional[int] = None) -> None:
+        super().__init__(self.text if offset is None else f"{self.text} (asked for at offset {offset})")
+        self.offset = offset
+
+
+class ShortInput(NameFault):
+    """The octets or the text end too soon."""
+
+    status, text = 1, "unexpected end of input"
+
+
+class BadLabelType(NameFault):
+    """A label is of a type that isn't in use (RFC 1035, 4.1.4; RFC 6891, 5)."""
+
+    status, text = 2, "invalid label type"
+
+
+class TooManyPointers(NameFault):
+    """A pointer doesn't lead back, or is one more than the limit allows (RFC 1035, 4.1.4)."""
+
+    status, text = 3, "too many compression pointers"
+
+
+class LongName(NameFault):
+    """The name has more than 255 octets (RFC 1035, 3.1)."""
+
+    status, text = 4, "long domain name"
+
+
+class CompressedName(NameFault):
+    """A pointer stands where a name without compression is wanted."""
+
+    status, text = 5, "compressed domain name"
+
+
+class RelativeName(NameFault):
+    """The octets end behind a label that isn't the root."""
+
+    status, text = 6, "relative domain name"
+
+
+class TrailingData(NameFault):
+    """Octets follow the root."""
+
+    status, text = 7, "trailing data"
+
+
+class NoLabel(NameFault, IndexError):
+    """The name has no such label, or, for the root, no parent."""
+
+    status, text = 10, "no such label"
+
+
+class BadEscape(NameFault):
+    """The text has a broken escape (RFC 1035, 5.1)."""
+
+    status, text = 11, "invalid escape sequence"
+
+
+class BadSymbol(NameFault):
+    """A character of the text stands for no octet."""
+
+    status, text = 12, "invalid character"
+
+
+class BinaryLabel(NameFault):
+    """A label's text begins with `\\[` (RFC 6891, 5)."""
+
+    status, text = 13, "binary label"
+
+
+class LongLabel(NameFault):
+    """A label has more than 63 octets (RFC 1035, 3.1)."""
+
+    status, text = 14, "long label"
+
+
+class EmptyLabel(NameFault):
+    """A label of the text is empty."""
+
+    status, text = 15, "empty label"
+
+
+class NoRoom(NameFault):
+    """What is composed doesn't fit."""
+
+    status, text = 8, "buffer too small"
+
+
+FAULTS = {
+    fault.status: fault
+    for fault in (
+        ShortInput, BadLabelType, TooManyPointers, LongName, CompressedName, RelativeName, TrailingData, NoRoom,
+        NoLabel, BadEscape, BadSymbol, BinaryLabel, LongLabel, EmptyLabel,
+    )
+}
+
+_octets, _size, _buffer = ctypes.c_char_p, ctypes.c_size_t, ctypes.c_void_p
+_to_size = ctypes.POINTER(ctypes.c_size_t)
+_to_16 = ctypes.POINTER(ctypes.c_uint16)
+_to_32 = ctypes.POINTER(ctypes.c_uint32)
+
+# As dnsnames.h declares them. No call here passes a null pointer.
+_ARGUMENTS = {
+    "read": [_octets, _size, _size, ctypes.c_uint8, _buffer, _size, _to_size, _to_size, _to_32],
+    "skip": [_octets, _size, _size, _to_size],
+    "check": [_octets, _size],
+    "from_text": [_octets, _size, _buffer, _size, _to_size],
+    "to_text": [_octets, _size, ctypes.c_uint32, _buffer, _size, _to_size],
+    "lower": [_octets, _size, _buffer, _size, _to_size],
+    "eq": [_octets, _size, _octets, _size, _to_32],
+    "compare": [_octets, _size, _octets, _size, ctypes.POINTER(ctypes.c_int32)],
+    "ends_with": [_octets, _size, _octets, _size, _to_32],
+    "hash": [_octets, _size, ctypes.POINTER(ctypes.c_uint64)],
+    "label_count": [_octets, _size, _to_size],
+    "label": [_octets, _size, _size, _to_size],
+    "parent": [_octets, _size, _to_size],
+    "append": [_buffer, _size, _to_size, _to_16, _size, _to_size, _octets, _size],
+    "header": [_octets, _size, _to_16, _to_16, _to_16, _to_16, _to_16, _to_16],
+    "question": [_octets, _size, _size, _to_16, _to_16, _to_size],
+    "record": [_octets, _size, _size, _to_16, _to_16, _to_32, _to_size, _to_size, _to_size],
+}
+
+
+def _load() -> ctypes.CDLL:
+    path = os.environ.get("DNSNAMES_LIBRARY") or ctypes.util.find_library("dnsnames") or "libdnsnames.so.0"
+    try:
+        library = ctypes.CDLL(path)
+    except OSError as error:
+        raise ImportError(f"the library isn't there: {error}. DNSNAMES_LIBRARY names it") from error
+    for name, arguments in _ARGUMENTS.items():
+        call = getattr(library, "dnsnames_" + name)
+        call.argtypes, call.restype = arguments, ctypes.c_uint32
+    return library
+
+
+library = _load()
+
+
+def refuse(status: int, offset: Optional[int] = None) -> None:
+    """Raises the fault of a status that isn't 0."""
+    raise FAULTS[status](offset)
+
+
+def as_octets(value: Octets) -> bytes:
+    return value if isinstance(value, bytes) else memoryview(value).tobytes()
+
+
+def as_size(number: int) -> int:
+    """An offset or a count as the library takes it. One past all that is is as good as any other such one."""
+    if number < 0:
+        raise ValueError("offsets and counts are not negative")
+    return min(number, _MAX_SIZE)
+
+
+# What a caller lends to a call.
+Buffer = ctypes.c_char * MAX_LEN
+Text = ctypes.c_char * MAX_TEXT

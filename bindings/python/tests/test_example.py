@@ -1,0 +1,31 @@
+"""The example."""
+
+import os
+import pathlib
+import subprocess
+import sys
+import unittest
+
+FOLDER = pathlib.Path(__file__).parents[1]
+
+
+class ZoneTree(unittest.TestCase):
+    def test_tree(self):
+        names = "z.example\nyljkjljk.a.example\nexample\nZ.a.example\nzABC.a.EXAMPLE\n*.z.example\n\\200.z.example\n"
+        run = self.run_with(names)
+        self.assertEqual(run.stdout.split("\n"), [
+            "example.", "  a", "    yljkjljk", "    Z", "    zABC", "  z", "    *", "    \\200", "",
+        ])
+        self.assertEqual((run.returncode, run.stderr), (0, ""))
+
+    def test_refusals(self):
+        run = self.run_with("a..b\nexample.org\na.example\n")
+        self.assertEqual(run.stdout, "example.\n  a\n")
+        self.assertEqual(run.stderr, "a..b: empty label\nexample.org: not in example.\n")
+        self.assertEqual(run.returncode, 1)
+
+    def run_with(self, names):
+        return subprocess.run(
+            [sys.executable, FOLDER / "examples" / "zone_tree.py", "example"], input=names, capture_output=True,
+            text=True, env={**os.environ, "PYTHONPATH": str(FOLDER)}, check=False,
+        )

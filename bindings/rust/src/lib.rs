@@ -1,0 +1,39 @@
+//! Domain names and DNS messages (RFC 1035), read by a library whose every function is proved.
+//!
+//! ```
+//! use dnsnames::{Message, Name, MAX_LEN};
+//!
+//! let mut buffer = [0; MAX_LEN];
+//! let name = Name::from_text("www.Example.com", &mut buffer)?;
+//! assert_eq!(name.as_slice(), b"\x03www\x07Example\x03com\x00");
+//! assert_eq!(name.parent().map(|name| name.to_string()).as_deref(), Some("Example.com"));
+//! # Ok::<(), dnsnames::Fault>(())
+//! ```
+//!
+//! What octets and texts spell is decided by the library. What is here passes slices on; it isn't proved. Nothing is
+//! allocated: what a call makes goes into a buffer of the caller's.
+#![no_std]
+
+mod fault;
+mod message;
+mod name;
+#[rustfmt::skip]
+mod sys;
+
+pub use fault::Fault;
+pub use message::{Composer, Header, Message, Question, Questions, Record, Records, Section};
+pub use name::{check_relative, read, skip, Name, Read};
+
+/// The most octets of a name: a buffer of this size has room for each.
+pub const MAX_LEN: usize = 255;
+/// The most octets of a name's text.
+pub const MAX_TEXT: usize = 1020;
+/// The limit on pointers that allows all that a name can have.
+pub const MAX_POINTERS: u8 = 255;
+
+/// The most offsets of labels that are kept for compressing.
+const MAX_TABLE: usize = 128;
+
+#[cfg(doctest)]
+#[doc = include_str!("../README.md")]
+struct TheReadme;

@@ -1,0 +1,267 @@
+//! Messages.
+
+use crate::fault::Fault;
+use crate::name::{read, Name, Read};
+use crate::sys::*;
+use crate::{MAX_POINTERS, MAX_TABLE};
+
+/// A message's first 12 octets (RFC 1035, 4.1.1).
+#[derive(Clone, Copy, Debug, PartialEq, Eq, Default)]
+pub struct Header {
+    pub id: u16,
+    /// The sixteen bits of flags: QR is 0x8000, RCODE the low four.
+    pub flags: u16,
+    pub questions: u16,
+    pub answers: u16,
+    pub authority: u16,
+    pub additional: u16,
+}
+
+/// A question (RFC 1035, 4.1.2). Its name is read at its offset.
+#[derive(Clone, Copy, Debug, PartialEq, Eq)]
+pub struct Question {
+    pub offset: usize,
+    pub qtype: u16,
+    pub class: u16,
+    pub end: usize,
+}
+
+/// A section of records.
+#[derive(Clone, Copy, Debug, PartialEq, Eq, Hash)]
+pub enum Section {
+    Answer,
+    Authority,
+    Additional,
+}
+
+/// A resource record (RFC 1035, 4.1.3). Its name is read at its offset, and a name in its data at `data_offset`.
+#[derive(Clone, Copy, Debug, PartialEq, Eq)]
+pub struct Record<'a> {
+    pub section: Section,
+    pub offset: usize,
+    pub rtype: u16,
+    pub class: u16,
+    /// In seconds.
+    pub ttl: u32,
+    pub data_offset: usize,
+    pub data: &'a [u8],
+    pub end: usize,
+}
+
+/// The octets of a DNS message (RFC 1035, 4.1). They are read when they are asked for.
+///
+/// ```
+/// use dnsnames::{Message, MAX_LEN};
+///
+/// let octets = b"\x12\x34\x81\x80\0\x01\0\x01\0\0\0\0\x01a\0\0\x01\0\x01\xc0\x0c\0\x05\0\x01\0\0\0\x3c\0\x02\xc0\x0c";
+/// let message = Message::new(octets);
+/// let mut buffer = [0; MAX_LEN];
+/// for record in message.records()? {
+///     let record = record?;
+///     assert_eq!(message.name(record.offset, &mut buffer)?.name.to_string(), "a");
+///     assert_eq!((record.rtype, record.ttl, record.data), (5, 60, &b"\xc0\x0c"[..]));
+/// }
+/// # Ok::<(), dnsnames::Fault>(())
+/// ```
+#[derive(Clone, Copy, Debug)]
+pub struct Message<'a> {
+    octets: &'a [u8],
+}
+
+impl<'a> Message<'a> {
+    pub fn new(octets: &'a [u8]) -> Message<'a> {
+        Message { octets }
+    }
+
+    pub fn as_slice(&self) -> &'a [u8] {
+        self.octets
+    }
+
+    /// `ShortInput` where there are fewer than 12 octets.
+    pub fn header(&self) -> Result<Header, Fault> {
+        let mut header = Header::default();
+        // SAFETY: as in `read`.
+        let status = unsafe {
+            dnsnames_header(
+                self.octets.as_ptr(),
+                self.octets.len(),
+                &mut header.id,
+                &mut header.flags,
+                &mut header.questions,
+                &mut header.answers,
+                &mut header.authority,
+                &mut header.additional,
+            )
+        };
+        Fault::check(status, None)?;
+        Ok(header)
+    }
+
+    /// The name at an offset, as [`read`] reads it through any number of pointers.
+    pub fn name<'b>(&self, offset: usize, buffer: &'b mut [u8]) -> Result<Read<'b>, Fault> {
+        read(self.octets, offset, MAX_POINTERS, buffer)
+    }
+
+    /// The question at an offset: `ShortInput`, `BadLabelType`, `LongName`. The name's pointer isn't followed.
+    pub fn question(&self, offset: usize) -> Result<Question, Fault> {
+        let mut question = Question { offset, qtype: 0, class: 0, end: 0 };
+        // SAFETY: as in `read`.
+        let status = unsafe {
+            dnsnames_question(
+                self.octets.as_ptr(),
+                self.octets.len(),
+                offset,
+                &mut question.qtype,
+                &mut question.class,
+                &mut question.end,
+            )
+        };
+        Fault::check(status, None)?;
+        Ok(question)
+    }
+
+    /// The record at an offset, of this section: `ShortInput`, `BadLabelType`, `LongName`. The name's pointer isn't
+    /// followed.
+    pub fn record(&self, section: Section, offset: usize) -> Result<Record<'a>, Fault> {
+        let (mut rtype, mut class, mut ttl, mut data, mut data_len, mut end) = (0, 0, 0, 0, 0, 0);
+        // SAFETY: as in `read`.
+        let status = unsafe {
+            dnsnames_record(
+                self.octets.as_ptr(),
+                self.octets.len(),
+                offset,
+                &mut rtype,
+                &mut class,
+                &mut ttl,
+                &mut data,
+                &mut data_len,
+                &mut end,
+            )
+        };
+        Fault::check(status, None)?;
+        let octets = &self.octets[data..][..data_len];
+        Ok(Record { section, offset, rtype, class, ttl, data_offset: data, data: octets, end })
+    }
+
+    /// The questions that the header counts, up to the first that can't be read, whose fault ends them.
+    pub fn questions(&self) -> Result<Questions<'a>, Fault> {
+        Ok(Questions { message: *self, offset: 12, left: self.header()?.questions })
+    }
+
+    /// The records of all sections, up to the first that can't be read, whose fault ends them. A question's fault comes
+    /// at once.
+    pub fn records(&self) -> Result<Records<'a>, Fault> {
+        let header = self.header()?;
+        let mut offset = 12;
+        for question in self.questions()? {
+            offset = question?.end;
+        }
+        Ok(Records { message: *self, offset, left: [header.answers, header.authority, header.additional] })
+    }
+}
+
+/// The questions of a message.
+#[derive(Clone, Debug)]
+pub struct Questions<'a> {
+    message: Message<'a>,
+    offset: usize,
+    left: u16,
+}
+
+impl Iterator for Questions<'_> {
+    type Item = Result<Question, Fault>;
+
+    fn next(&mut self) -> Option<Result<Question, Fault>> {
+        self.left = self.left.checked_sub(1)?;
+        let question = self.message.question(self.offset);
+        match question {
+            Ok(question) => self.offset = question.end,
+            Err(_) => self.left = 0,
+        }
+        Some(question)
+    }
+}
+
+/// The records of a message.
+#[derive(Clone, Debug)]
+pub struct Records<'a> {
+    message: Message<'a>,
+    offset: usize,
+    left: [u16; 3],
+}
+
+impl<'a> Iterator for Records<'a> {
+    type Item = Result<Record<'a>, Fault>;
+
+    fn next(&mut self) -> Option<Result<Record<'a>, Fault>> {
+        let sections = [Section::Answer, Section::Authority, Section::Additional];
+        let (left, section) = self.left.iter_mut().zip(sections).find(|(left, _)| **left > 0)?;
+        *left -= 1;
+        let record = self.message.record(section, self.offset);
+        match record {
+            Ok(record) => self.offset = record.end,
+            Err(_) => self.left = [0; 3],
+        }
+        Some(record)
+    }
+}
+
+/// Octets of a caller to which names are appended with compression (RFC 1035, 4.1.4).
+///
+/// ```
+/// use dnsnames::{Composer, Name};
+///
+/// let mut octets = [0; 64];
+/// let mut composer = Composer::new(&mut octets);
+/// composer.append(Name::from_slice(b"\x07example\x03com\x00")?)?;
+/// composer.append(Name::from_slice(b"\x03www\x07EXAMPLE\x03com\x00")?)?;
+/// assert_eq!(&composer.as_slice()[13..], b"\x03www\xc0\x00");
+/// # Ok::<(), dnsnames::Fault>(())
+/// ```
+#[derive(Debug)]
+pub struct Composer<'a> {
+    octets: &'a mut [u8],
+    len: usize,
+    table: [u16; MAX_TABLE],
+    table_len: usize,
+}
+
+impl<'a> Composer<'a> {
+    /// Composes into these octets, from their beginning on, which is the message's.
+    pub fn new(octets: &'a mut [u8]) -> Composer<'a> {
+        Composer { octets, len: 0, table: [0; MAX_TABLE], table_len: 0 }
+    }
+
+    /// Appends a name: a pointer stands for it, or for its longest end, where that was appended before. `NoRoom` where
+    /// the octets don't fit, and nothing is changed then.
+    pub fn append(&mut self, name: Name<'_>) -> Result<(), Fault> {
+        let octets = name.as_slice();
+        // SAFETY: as in `read`.
+        let status = unsafe {
+            dnsnames_append(
+                self.octets.as_mut_ptr(),
+                self.octets.len(),
+                &mut self.len,
+                self.table.as_mut_ptr(),
+                MAX_TABLE,
+                &mut self.table_len,
+                octets.as_ptr(),
+                octets.len(),
+            )
+        };
+        Fault::check(status, None)
+    }
+
+    /// Appends octets as they are. `NoRoom`, and nothing is changed then.
+    pub fn append_octets(&mut self, octets: &[u8]) -> Result<(), Fault> {
+        let room = self.octets[self.len..].get_mut(..octets.len());
+        room.ok_or(Fault::NoRoom(Some(octets.len())))?.copy_from_slice(octets);
+        self.len += octets.len();
+        Ok(())
+    }
+
+    /// What was composed.
+    pub fn as_slice(&self) -> &[u8] {
+        &self.octets[..self.len]
+    }
+}

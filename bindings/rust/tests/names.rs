@@ -1,0 +1,223 @@
+//! The worked cases of RFC 1035 and RFC 4034, every fault, and that the crate declares what dnsnames.h does.
+
+use dnsnames::*;
+use std::collections::HashSet;
+
+/// RFC 1035, 4.1.4: F.ISI.ARPA at 20, FOO.F.ISI.ARPA at 40, ARPA at 64, the root at 92.
+fn standard() -> Vec<u8> {
+    let mut octets = vec![0; 93];
+    octets[20..32].copy_from_slice(b"\x01F\x03ISI\x04ARPA\x00");
+    octets[40..46].copy_from_slice(b"\x03FOO\xc0\x14");
+    octets[64..66].copy_from_slice(b"\xc0\x1a");
+    octets
+}
+
+const RESPONSE: &[u8] = b"\x12\x34\x81\x80\0\x01\0\x02\0\0\0\x01\x03www\x07example\x03com\0\0\x01\0\x01\
+    \xc0\x0c\0\x05\0\x01\0\0\x0e\x10\0\x07\x04host\xc0\x10\xc0\x2d\0\x01\0\x01\0\0\0\x3c\0\x04\xc0\0\x02\x01\
+    \0\0\x29\x10\0\0\0\0\0\0\0";
+
+fn name<'b>(text: &str, buffer: &'b mut [u8; MAX_LEN]) -> Name<'b> {
+    Name::from_text(text, buffer).unwrap()
+}
+
+#[test]
+fn the_standards_message() {
+    let (message, mut buffer) = (standard(), [0; MAX_LEN]);
+    for (offset, text, end, compressed) in
+        [(20, "F.ISI.ARPA", 32, false), (40, "FOO.F.ISI.ARPA", 46, true), (64, "ARPA", 66, false), (92, ".", 93, false)]
+    {
+        let found = read(&message, offset, MAX_POINTERS, &mut buffer).unwrap();
+        assert_eq!((found.name.to_string().as_str(), found.end, found.compressed), (text, end, compressed));
+        assert_eq!(skip(&message, offset), Ok(end));
+    }
+    assert_eq!(read(&message, 40, 0, &mut buffer), Err(Fault::TooManyPointers));
+    assert_eq!(read(&message, 40, 1, &mut buffer[..15]), Err(Fault::NoRoom(Some(16))));
+    assert_eq!(read(&message, 40, 1, &mut []), Err(Fault::NoRoom(Some(16))));
+    assert!(read(&message, 40, 1, &mut buffer[..16]).is_ok());
+}
+
+#[test]
+fn faults_of_messages() {
+    let mut buffer = [0; MAX_LEN];
+    for (octets, offset, fault) in [
+        (&b""[..], 0, Fault::ShortInput),
+        (b"\0", 1, Fault::ShortInput),
+        (b"\0", usize::MAX, Fault::ShortInput),
+        (b"\x03ww", 0, Fault::ShortInput),
+        (b"\x40", 0, Fault::BadLabelType),
+        (b"\xbf", 0, Fault::BadLabelType),
+        (b"\xc0\0", 0, Fault::TooManyPointers),
+        (b"\x01a\xc0\0", 0, Fault::LongName),
+    ] {
+        assert_eq!(read(octets, offset, MAX_POINTERS, &mut buffer), Err(fault));
+    }
+    let mut longest = vec![0; 65535];
+    longest[65533..].copy_from_slice(b"\xff\xff");
+    assert_eq!(read(&longest, 65533, MAX_POINTERS, &mut buffer).unwrap().end, 65535);
+}
+
+#[test]
+fn faults_of_octets() {
+    for (octets, fault) in [
+        (&b""[..], Fault::ShortInput),
+        (b"\x03ww", Fault::ShortInput),
+        (b"\x03www", Fault::RelativeName),
+        (b"\0\0", Fault::TrailingData),
+        (b"\xc0\0", Fault::CompressedName),
+        (b"\x41\0", Fault::BadLabelType),
+        (&[0; 256], Fault::LongName),
+    ] {
+        assert_eq!(Name::from_slice(octets), Err(fault));
+        assert_eq!(Name::try_from(octets), Err(fault));
+    }
+    assert_eq!(check_relative(b"\x03www"), Ok(()));
+    assert_eq!(check_relative(b""), Ok(()));
+    assert_eq!(check_relative(b"\x03www\0"), Err(Fault::AbsoluteName));
+}
+
+#[test]
+fn texts() {
+    let mut buffer = [0; MAX_LEN];
+    assert_eq!(name("a\\.b.\\007", &mut buffer).as_slice(), b"\x03a.b\x01\x07\0");
+    assert_eq!(format!("{:#}", name("a\\.b.\\007", &mut buffer)), "a\\.b.\\007.");
+    assert_eq!(format!("{:>6}|{:?}", name("a", &mut buffer), Name::ROOT), "     a|Name(.)");
+    for (text, fault) in [
+        ("", Fault::ShortInput),
+        ("a\\", Fault::ShortInput),
+        ("a\\25x", Fault::BadEscape),
+        ("ü", Fault::BadSymbol),
+        ("\\[x", Fault::BinaryLabel),
+        ("a..b", Fault::EmptyLabel),
+        (&"a".repeat(64), Fault::LongLabel),
+        (&"a.".repeat(128), Fault::LongName),
+    ] {
+        assert_eq!(Name::from_text(text, &mut buffer), Err(fault));
+    }
+    assert_eq!(Name::from_text("a.", &mut buffer[..2]), Err(Fault::NoRoom(Some(3))));
+    assert_eq!(name("www", &mut buffer).to_text(true, &mut [0; 3]), Err(Fault::NoRoom(Some(4))));
+    let fault: &dyn std::error::Error = &Fault::EmptyLabel;
+    assert_eq!(fault.to_string(), "empty label");
+}
+
+/// RFC 4034, 6.1.
+#[test]
+fn canonical_order() {
+    let sorted = [
+        "example",
+        "a.example",
+        "yljkjljk.a.example",
+        "Z.a.example",
+        "zABC.a.EXAMPLE",
+        "z.example",
+        "\\001.z.example",
+        "*.z.example",
+        "\\200.z.example",
+    ];
+    let mut buffers = [[0; MAX_LEN]; 9];
+    let names: Vec<Name> = buffers.iter_mut().zip(sorted).map(|(buffer, text)| name(text, buffer)).collect();
+    let mut others = names.clone();
+    others.reverse();
+    others.sort();
+    assert_eq!(others, names);
+    assert!(names.is_sorted_by(|left, right| left < right));
+}
+
+#[test]
+fn equality_and_hash() {
+    let mut buffers = [[0; MAX_LEN]; 3];
+    let [one, two, three] = &mut buffers;
+    let names = [name("www.Example.com", one), name("WWW.example.COM", two), name("com", three)];
+    assert_eq!(names[0], names[1]);
+    assert_eq!(names.into_iter().collect::<HashSet<_>>().len(), 2);
+    assert!(names[0].ends_with(names[2]) && !names[2].ends_with(names[0]) && names[2].ends_with(Name::ROOT));
+    assert_eq!(names[1].to_lowercase(&mut [0; MAX_LEN]).unwrap().as_slice(), b"\x03www\x07example\x03com\0");
+}
+
+#[test]
+fn labels() {
+    let name = Name::from_slice(b"\x03www\x07example\x03com\0").unwrap();
+    assert_eq!(name.label_count(), 4);
+    assert!(name.labels().eq([&b"www"[..], b"example", b"com", b""]));
+    assert_eq!(
+        (name.label(0), name.label_back(0), name.label_back(3)),
+        (Some(&b"www"[..]), Some(&b""[..]), name.label(0))
+    );
+    assert_eq!((name.label(4), name.label(usize::MAX), name.label_back(4)), (None, None, None));
+    assert_eq!(name.parent().unwrap().parent().unwrap().to_string(), "com");
+    assert_eq!(Name::ROOT.parent(), None);
+}
+
+#[test]
+fn entries() {
+    let message = Message::new(RESPONSE);
+    let header = Header { id: 0x1234, flags: 0x8180, questions: 1, answers: 2, authority: 0, additional: 1 };
+    assert_eq!(message.header(), Ok(header));
+    let questions: Vec<_> = message.questions().unwrap().collect();
+    assert_eq!(questions, [Ok(Question { offset: 12, qtype: 1, class: 1, end: 33 })]);
+    let records: Vec<Record> = message.records().unwrap().map(Result::unwrap).collect();
+    assert_eq!(records.iter().map(|record| record.rtype).collect::<Vec<_>>(), [5, 1, 41]);
+    assert_eq!((records[0].ttl, records[1].data, records[2].section), (3600, &[192, 0, 2, 1][..], Section::Additional));
+    let mut buffer = [0; MAX_LEN];
+    assert_eq!(message.name(records[0].data_offset, &mut buffer).unwrap().name.to_string(), "host.example.com");
+    for len in 0..RESPONSE.len() {
+        let cut = Message::new(&RESPONSE[..len]);
+        let read = cut.records().and_then(|mut records| records.try_for_each(|record| record.map(|_| ())));
+        assert_eq!(read, Err(Fault::ShortInput));
+    }
+}
+
+#[test]
+fn composing() {
+    let mut octets = [0; 40];
+    let mut composer = Composer::new(&mut octets);
+    let mut buffer = [0; MAX_LEN];
+    composer.append_octets(&[0; 12]).unwrap();
+    composer.append(name("www.example.com", &mut buffer)).unwrap();
+    composer.append(name("mail.EXAMPLE.com", &mut buffer)).unwrap();
+    assert_eq!(&composer.as_slice()[29..], b"\x04mail\xc0\x10");
+    assert_eq!(composer.append(name("example.org", &mut buffer)), Err(Fault::NoRoom(None)));
+    assert_eq!(composer.append_octets(&[0; 5]), Err(Fault::NoRoom(Some(5))));
+    assert_eq!(composer.as_slice().len(), 36);
+    assert_eq!(Composer::new(&mut []).append(Name::ROOT), Err(Fault::NoRoom(None)));
+}
+
+/// Each call as Rust declares it has the arguments that dnsnames.h declares.
+#[test]
+fn declarations() {
+    let folder = std::path::Path::new(env!("CARGO_MANIFEST_DIR"));
+    let Ok(header) = std::fs::read_to_string(folder.join("../c/dnsnames.h")) else {
+        return; // the crate stands alone
+    };
+    let header = header.split_whitespace().collect::<Vec<_>>().join(" ");
+    let source = std::fs::read_to_string(folder.join("src/sys.rs")).unwrap();
+    let mut compared = 0;
+    for line in source.lines().filter_map(|line| line.trim().strip_prefix("pub fn ")) {
+        let (call, rest) = line.split_once('(').unwrap();
+        let arguments = rest.strip_suffix(") -> u32;").unwrap();
+        let wanted: Vec<String> = arguments.split(", ").map(as_c).collect();
+        let declaration = format!("uint32_t {call}({});", wanted.join(", "));
+        assert!(header.contains(&declaration), "{declaration}");
+        compared += 1;
+    }
+    assert_eq!(compared, 19);
+}
+
+fn as_c(argument: &str) -> String {
+    let (name, kind) = argument.split_once(": ").unwrap();
+    let (pointer, kind) = match kind.split_once(' ') {
+        Some(("*const", kind)) => ("const ", kind),
+        Some(("*mut", kind)) => ("", kind),
+        _ => ("value", kind),
+    };
+    let kind = match kind {
+        "usize" => "size_t".to_string(),
+        "i32" => "int32_t".to_string(),
+        kind => kind.replace('u', "uint") + "_t",
+    };
+    let name = name.trim_start_matches("r#");
+    if pointer == "value" {
+        format!("{kind} {name}")
+    } else {
+        format!("{pointer}{kind} *{name}")
+    }
+}

@@ -1,0 +1,304 @@
+// Domain names and DNS messages (RFC 1035) in JavaScript, read by the proved module dnsnames_c.wasm.
+//
+//     import { load } from "./dnsnames.mjs";
+//     const dns = await load(await (await fetch("dnsnames_c.wasm")).arrayBuffer());
+//     dns.readName(message, 12).text          // "www.example.com."
+//
+// Octets go in as Uint8Array and come back as new ones. A refusal throws NameFault. What octets and texts spell is
+// decided by the module; this file passes them on, and isn't proved.
+
+const MAX_LEN = 255;
+const MAX_TEXT = 1020;
+const MAX_TABLE = 128;
+
+// What a status is called, what it means, and where the standard has it.
+const FAULTS = new Map([
+    [1, ["ShortInput", "unexpected end of input", "RFC 1035, 3.1 and 4.1.4"]],
+    [2, ["BadLabelType", "invalid label type", "RFC 1035, 4.1.4; RFC 6891, 5"]],
+    [3, ["TooManyPointers", "too many compression pointers", "RFC 1035, 4.1.4"]],
+    [4, ["LongName", "long domain name", "RFC 1035, 2.3.4 and 3.1"]],
+    [5, ["CompressedName", "compressed domain name", "RFC 1035, 4.1.4"]],
+    [6, ["RelativeName", "relative domain name", "RFC 1035, 3.1"]],
+    [7, ["TrailingData", "trailing data", "RFC 1035, 3.1"]],
+    [8, ["NoRoom", "buffer too small", ""]],
+    [9, ["NoName", "not an uncompressed domain name", "RFC 1035, 3.1"]],
+    [10, ["NoLabel", "no such label", ""]],
+    [11, ["BadEscape", "invalid escape sequence", "RFC 1035, 5.1"]],
+    [12, ["BadSymbol", "invalid character", "RFC 1035, 5.1"]],
+    [13, ["BinaryLabel", "binary label", "RFC 6891, 5"]],
+    [14, ["LongLabel", "long label", "RFC 1035, 2.3.4 and 3.1"]],
+    [15, ["EmptyLabel", "empty label", "RFC 1035, 3.1"]],
+    [16, ["NoTable", "invalid table of offsets", ""]],
+    [19, ["AbsoluteName", "absolute domain name", "RFC 1035, 3.1"]],
+    [20, ["BadLength", "length larger than its capacity", ""]],
+]);
+
+/** Why something is refused: `fault` is its name, `status` the module's number, `section` the standard's. */
+export class NameFault extends Error {
+    constructor(status, offset) {
+        const [fault, text, section] = FAULTS.get(status) ?? ["Unknown", `status ${status}`, ""];
+        super(text);
+        this.name = "NameFault";
+        this.status = status;
+        this.fault = fault;
+        this.section = section;
+        this.offset = offset;
+    }
+}
+
+/** The module of these octets (an ArrayBuffer or Uint8Array), made ready. */
+export async function load(octets) {
+    const { instance } = await WebAssembly.instantiate(octets, {});
+    return new DnsNames(instance.exports);
+}
+
+/** The calls of one module. Each copies what it is given into the module's memory, and the results out of it. */
+class DnsNames {
+    #exports;
+    #next = 0;
+
+    constructor(exports) {
+        this.#exports = exports;
+    }
+
+    /** The name at an offset of a message, through at most `limit` pointers: its octets without compression, its text
+     *  and labels, the offset after it, and whether a pointer follows a label. */
+    readName(message, offset = 12, limit = 255) {
+        if (!Number.isInteger(limit) || limit < 0 || limit > 255) throw new RangeError("the limit is from 0 to 255");
+        const [slice, room] = this.#begin(message, MAX_LEN);
+        const [length, end, compressed] = this.#results(3);
+        this.#call("read", offset, ...slice, toSize(offset), limit, ...room, length, end, compressed);
+        const found = {
+            octets: this.#octets(room, length), end: this.#size(end),
+            compressed: this.#view().getUint32(Number(compressed), true) === 1,
+        };
+        return { ...found, text: this.toText(found.octets), labels: labelsOf(found.octets) };
+    }
+
+    /** The offset after the root or first pointer of the name at an offset. */
+    skipName(message, offset = 12) {
+        const [slice] = this.#begin(message);
+        const [end] = this.#results(1);
+        this.#call("skip", offset, ...slice, toSize(offset), end);
+        return this.#size(end);
+    }
+
+    /** Throws where octets are no name without compression. */
+    checkName(octets) {
+        const [slice] = this.#begin(octets);
+        this.#call("check", undefined, ...slice);
+    }
+
+    /** Throws where octets are no labels without a root. */
+    checkRelativeName(octets) {
+        const [slice] = this.#begin(octets);
+        this.#call("check_relative", undefined, ...slice);
+    }
+
+    /** The octets of the name that a text spells. */
+    fromText(text) {
+        // A lone surrogate is no character; as an octet that is no UTF-8 it is refused as one.
+        const octets = isWellFormed(text) ? new TextEncoder().encode(text) : Uint8Array.of(0xff);
+        return this.#made("from_text", octets, [], MAX_LEN);
+    }
+
+    /** The text of a name. */
+    toText(name, { finalDot = true } = {}) {
+        return new TextDecoder().decode(this.#made("to_text", name, [finalDot ? 1 : 0], MAX_TEXT));
+    }
+
+    /** The canonical form of a name (RFC 4034, 6.2). */
+    lower(name) {
+        return this.#made("lower", name, [], MAX_LEN);
+    }
+
+    /** Whether two names are equal without ASCII case. */
+    equal(left, right) {
+        return this.#ofTwo("eq", left, right) === 1;
+    }
+
+    /** The canonical order of two names (RFC 4034, 6.1): -1, 0 or 1, as `sort` takes it. */
+    compare(left, right) {
+        return this.#ofTwo("compare", left, right) | 0;
+    }
+
+    /** Whether a name ends with all labels of another. */
+    endsWith(name, suffix) {
+        return this.#ofTwo("ends_with", name, suffix) === 1;
+    }
+
+    /** 64 bits, as a BigInt, that are the same for equal names. */
+    hash(name) {
+        const [slice] = this.#begin(name);
+        const [hash] = this.#results(1);
+        this.#call("hash", undefined, ...slice, hash);
+        return this.#view().getBigUint64(Number(hash), true);
+    }
+
+    /** The octets of a name's labels, the root's last. */
+    labels(name) {
+        this.checkName(name);
+        return labelsOf(name);
+    }
+
+    /** The name without its first label. */
+    parent(name) {
+        const [slice] = this.#begin(name);
+        const [offset] = this.#results(1);
+        this.#call("parent", undefined, ...slice, offset);
+        return name.slice(this.#size(offset));
+    }
+
+    /** The first 12 octets of a message (RFC 1035, 4.1.1). */
+    header(message) {
+        const [slice] = this.#begin(message);
+        const fields = this.#results(6);
+        this.#call("header", 0, ...slice, ...fields);
+        const [id, flags, questions, answers, authority, additional] = fields.map((field) => this.#number16(field));
+        return { id, flags, questions, answers, authority, additional };
+    }
+
+    /** The question at an offset, without its name. */
+    question(message, offset = 12) {
+        const [slice] = this.#begin(message);
+        const [type, class_, end] = this.#results(3);
+        this.#call("question", offset, ...slice, toSize(offset), type, class_, end);
+        return { offset, type: this.#number16(type), class: this.#number16(class_), end: this.#size(end) };
+    }
+
+    /** The record at an offset, without its name: `data` are its octets, and `dataOffset` where they begin. */
+    record(message, offset) {
+        const [slice] = this.#begin(message);
+        const [type, class_, ttl, data, dataLen, end] = this.#results(6);
+        this.#call("record", offset, ...slice, toSize(offset), type, class_, ttl, data, dataLen, end);
+        const dataOffset = this.#size(data);
+        return {
+            offset, type: this.#number16(type), class: this.#number16(class_),
+            ttl: this.#view().getUint32(Number(ttl), true), dataOffset,
+            data: message.slice(dataOffset, dataOffset + this.#size(dataLen)), end: this.#size(end),
+        };
+    }
+
+    /** The questions and records of a message in turn, each with its `section`. */
+    *entries(message) {
+        const header = this.header(message);
+        let offset = 12;
+        for (const section of ["questions", "answers", "authority", "additional"]) {
+            for (let i = 0; i < header[section]; i++) {
+                const entry = section === "questions" ? this.question(message, offset) : this.record(message, offset);
+                yield { section, ...entry };
+                offset = entry.end;
+            }
+        }
+    }
+
+    /** A writer of names with compression into at most so many octets. */
+    composer(capacity = 65535) {
+        const octets = new Uint8Array(capacity), table = new Uint16Array(MAX_TABLE);
+        let length = 0, tableLength = 0;
+        return {
+            /** Appends a name; throws NoRoom, and changes nothing then. */
+            append: (name) => {
+                [length, tableLength] = this.#append(octets, length, table, tableLength, name);
+            },
+            /** What was composed. */
+            octets: () => octets.slice(0, length),
+        };
+    }
+
+    #append(octets, length, table, tableLength, name) {
+        const [slice, buffer, offsets] = this.#begin(name, octets.length, 2 * MAX_TABLE);
+        const [at, tableAt] = this.#results(2);
+        const memory = new Uint8Array(this.#exports.memory.buffer);
+        memory.set(octets.subarray(0, length), Number(buffer[0]));
+        new Uint16Array(memory.buffer, Number(offsets[0]), MAX_TABLE).set(table);
+        this.#view().setBigUint64(Number(at), BigInt(length), true);
+        this.#view().setBigUint64(Number(tableAt), BigInt(tableLength), true);
+        this.#call("append", undefined, ...buffer, at, offsets[0], BigInt(MAX_TABLE), tableAt, ...slice);
+        octets.set(this.#octets(buffer, at));
+        table.set(new Uint16Array(memory.buffer, Number(offsets[0]), MAX_TABLE));
+        return [this.#size(at), this.#size(tableAt)];
+    }
+
+    // What a call puts into a buffer.
+    #made(call, octets, more, capacity) {
+        const [slice, room] = this.#begin(octets, capacity);
+        const [length] = this.#results(1);
+        this.#call(call, undefined, ...slice, ...more, ...room, length);
+        return this.#octets(room, length);
+    }
+
+    #ofTwo(call, left, right) {
+        const [one, other] = this.#begin(left, right);
+        const [answer] = this.#results(1);
+        this.#call(call, undefined, ...one, ...other, answer);
+        return this.#view().getUint32(Number(answer), true);
+    }
+
+    // Lays octets, and rooms of so many, into the module's memory behind what is its own; a pair of address and length
+    // for each.
+    #begin(...parts) {
+        const starts = [];
+        let next = (Number(this.#exports.__heap_base.value) + 15) & ~15;
+        for (const part of parts) {
+            if (typeof part !== "number" && !(part instanceof Uint8Array)) throw new TypeError("octets are a Uint8Array");
+            starts.push(next);
+            next = (next + (typeof part === "number" ? part : part.length) + 31) & ~15;
+        }
+        this.#next = next;
+        this.#grow(next + 128);
+        const memory = new Uint8Array(this.#exports.memory.buffer);
+        return parts.map((part, i) => {
+            if (typeof part === "number") return [BigInt(starts[i]), BigInt(part)];
+            memory.set(part, starts[i]);
+            return [BigInt(starts[i]), BigInt(part.length)];
+        });
+    }
+
+    #grow(size) {
+        const missing = size - this.#exports.memory.buffer.byteLength;
+        if (missing > 0) this.#exports.memory.grow(BigInt(Math.ceil(missing / 65536)));
+    }
+
+    // Addresses for so many results, of 8 octets each.
+    #results(count) {
+        return Array.from({ length: count }, (_, i) => BigInt(this.#next + 8 * i));
+    }
+
+    #call(call, offset, ...values) {
+        const status = this.#exports["dnsnames_" + call](...values) >>> 0;
+        if (status !== 0) throw new NameFault(status, offset);
+    }
+
+    #view() {
+        return new DataView(this.#exports.memory.buffer);
+    }
+
+    #size(address) {
+        return Number(this.#view().getBigUint64(Number(address), true));
+    }
+
+    #number16(address) {
+        return this.#view().getUint16(Number(address), true);
+    }
+
+    #octets([start], length) {
+        return new Uint8Array(this.#exports.memory.buffer, Number(start), this.#size(length)).slice();
+    }
+}
+
+// The labels of octets that are a name.
+function labelsOf(octets) {
+    const labels = [];
+    for (let at = 0; at < octets.length; at += 1 + octets[at]) labels.push(octets.slice(at + 1, at + 1 + octets[at]));
+    return labels;
+}
+
+function isWellFormed(text) {
+    return !/[\ud800-\udbff](?![\udc00-\udfff])|(?<![\ud800-\udbff])[\udc00-\udfff]/.test(text);
+}
+
+function toSize(number) {
+    if (!Number.isSafeInteger(number) || number < 0) throw new RangeError("an offset is a whole number, not negative");
+    return BigInt(number);
+}
