@@ -2,5 +2,6 @@
 use Rattle.std.specs.Prelude.{ℕ}
 use Rattle.domain_data.specs.declared.fields.FieldsData.{FieldsData}
 
+-- the fields of data of the type t (RFC 1035, 3.3)
 abbrev pub fields_of : {t : ℕ} {F : Type 0} → FieldsData t F → F
 fields_of it = it.fields

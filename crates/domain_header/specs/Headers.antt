@@ -6,33 +6,39 @@ use Rattle.domain_header.specs.declared.flags.Header.{Header}
 use Rattle.domain_header.specs.declared.counts.HeaderCounts.{HeaderCounts}
 use Rattle.domain_header.specs.declared.header.HeaderSection.{HeaderSection}
 
--- the identifier, and the third and the fourth octet
+-- the identifier (RFC 1035, 4.1.1)
 abbrev pub header_id : Header → ℕ
 header_id h = h.id
 
+-- the third octet: QR, opcode, AA, TC and RD
 abbrev pub header_high : Header → ℕ
 header_high h = h.high
 
+-- the fourth octet: RA, Z, AD, CD and response code
 abbrev pub header_low : Header → ℕ
 header_low h = h.low
 
--- the four counts
+-- how many questions the header counts
 abbrev pub question_count : HeaderCounts → ℕ
 question_count c = c.qdcount
 
+-- how many records of the answer section the header counts
 abbrev pub answer_count : HeaderCounts → ℕ
 answer_count c = c.ancount
 
+-- how many records of the authority section it counts
 abbrev pub authority_count : HeaderCounts → ℕ
 authority_count c = c.nscount
 
+-- how many records of the additional section it counts
 abbrev pub additional_count : HeaderCounts → ℕ
 additional_count c = c.arcount
 
--- both parts
+-- the identifier and flags of a header section
 abbrev pub section_header : HeaderSection → Header
 section_header s = s.header
 
+-- the counts of a header section
 abbrev pub section_counts : HeaderSection → HeaderCounts
 section_counts s = s.counts
 

@@ -24,8 +24,10 @@ text_of rows word n = unwrap_or (word_of rows n) (word ++ decimal n)
 abbrev pub class_text : ℕ → List ℕ
 class_text n = text_of class_rows (codes "CLASS") n
 
+-- `OPCODE` and the number where there is no mnemonic
 abbrev pub opcode_text : ℕ → List ℕ
 opcode_text n = text_of opcode_rows (codes "OPCODE") n
 
+-- `RCODE` and the number where there is no mnemonic
 abbrev pub rcode_text : ℕ → List ℕ
 rcode_text n = text_of rcode_rows (codes "RCODE") n

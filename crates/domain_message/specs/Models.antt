@@ -8,6 +8,7 @@ use Rattle.domain_message.specs.Entries.{QuestionFields, HeaderFields}
 use Rattle.domain_message.specs.declared.question.Question.{Question}
 use Rattle.domain_message.specs.declared.record.RecordHeader.{RecordHeader}
 
+-- what a question says (RFC 1035, 4.1.2)
 abbrev pub question_fields : {O : Type 0} {g : Ghosts O} → Question (ParsedName O g) → QuestionFields
 question_fields q = record {
   name = parsed_labels q.qname;
@@ -15,6 +16,7 @@ question_fields q = record {
   class = class_number q.qclass;
 }
 
+-- what a record says before its data (RFC 1035, 4.1.3)
 abbrev pub header_fields : {O : Type 0} {g : Ghosts O} → RecordHeader (ParsedName O g) → HeaderFields
 header_fields h = record {
   owner = parsed_labels h.owner;

@@ -4,6 +4,7 @@ use Rattle.domain_message.specs.Entries.{RecordFields}
 use Rattle.domain_message.specs.Models.{header_fields}
 use Rattle.domain_message.specs.declared.record.ParsedRecord.{ParsedRecord}
 
+-- what a record says, and where its data is (RFC 1035, 4.1.3)
 abbrev pub record_fields : ParsedRecord → RecordFields
 record_fields r = record {
   header = header_fields r.header;

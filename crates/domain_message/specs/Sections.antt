@@ -40,32 +40,40 @@ Takes seen At Fails m p c None q d = (entries_left c ≡ 0) × (q ≡ p) × (d �
 Takes seen At Fails m p c (Some (Ok x)) q d = (n : ℕ) × (c ≡ Ok (n + 1)) × (d ≡ Ok n) × At m p (seen x) q
 Takes seen At Fails m p c (Some (Err e)) q d = (n : ℕ) × (c ≡ Ok (n + 1)) × (d ≡ Err e) × (q ≡ p) × Fails m p e
 
--- the octets, the offset in them, and what is left
+-- the octets that an iterator over questions reads
 abbrev pub questions_message : QuestionSection → List ℕ
 questions_message s = message s.parser
 
+-- the offset of the next question
 abbrev pub questions_offset : QuestionSection → ℕ
 questions_offset s = position s.parser
 
+-- how many questions are left, or the error that ended them
 abbrev pub questions_left : QuestionSection → Result ℕ ParseError
 questions_left s = s.count
 
+-- the octets that an iterator over records reads
 abbrev pub records_message : RecordSection → List ℕ
 records_message s = message s.parser
 
+-- the offset of the next record
 abbrev pub records_offset : RecordSection → ℕ
 records_offset s = position s.parser
 
+-- how many records are left, or the error that ended them
 abbrev pub records_left : RecordSection → Result ℕ ParseError
 records_left s = s.count
 
+-- the section that the records are of
 abbrev pub records_section : RecordSection → Section
 records_section s = s.section
 
+-- A call of `next` returned the next question, or the error that it is missing, or nothing: none was left.
 abbrev pub GivesQuestion : {O : Type 0} {g : Ghosts O} → QuestionSection → Option (Result (Question (ParsedName O g)) ParseError) → QuestionSection → Type 0
 GivesQuestion s r t = (questions_message t ≡ questions_message s)
     × Takes question_fields QuestionAt NoQuestion (questions_message s) (questions_offset s) (questions_left s) r (questions_offset t) (questions_left t)
 
+-- A call of `next` returned the next record, or the error that it is missing, or nothing: none was left.
 abbrev pub GivesRecord : RecordSection → Option (Result ParsedRecord ParseError) → RecordSection → Type 0
 GivesRecord s r t = (records_message t ≡ records_message s) × (records_section t ≡ records_section s)
     × Takes record_fields RecordAt NoRecord (records_message s) (records_offset s) (records_left s) r (records_offset t) (records_left t)
@@ -100,10 +108,11 @@ QuestionsTo m e = (qs : List QuestionFields) × (length qs ≡ number16 m 4) × 
 abbrev pub RecordsTo : List ℕ → Section → ℕ → ℕ → Type 0
 RecordsTo m s p e = (rs : List RecordFields) × (length rs ≡ counted m s) × Run RecordAt m p rs e
 
--- All entries to the end of the answers, and to the end of the authority section, are there, and end before e.
+-- All entries to the end of the answers are there, and end before e.
 abbrev pub AnswersTo : List ℕ → ℕ → Type 0
 AnswersTo m e = (p : ℕ) × QuestionsTo m p × RecordsTo m Answer p e
 
+-- All entries to the end of the authority section are there, and end before e.
 abbrev pub AuthorityTo : List ℕ → ℕ → Type 0
 AuthorityTo m e = (p : ℕ) × AnswersTo m p × RecordsTo m Authority p e
 
@@ -114,8 +123,10 @@ NoQuestions m why = Misses QuestionAt NoQuestion m 12 (Ok (number16 m 4)) why
 abbrev pub NoRecords : List ℕ → Section → ℕ → ParseError → Type 0
 NoRecords m s p why = Misses RecordAt NoRecord m p (Ok (counted m s)) why
 
+-- An entry to the end of the answers is missing, and why.
 abbrev pub NoAnswers : List ℕ → ParseError → Type 0
 NoAnswers m why = NoQuestions m why ⊎ ((e : ℕ) × QuestionsTo m e × NoRecords m Answer e why)
 
+-- An entry to the end of the authority section is missing, and why.
 abbrev pub NoAuthority : List ℕ → ParseError → Type 0
 NoAuthority m why = NoAnswers m why ⊎ ((e : ℕ) × AnswersTo m e × NoRecords m Authority e why)

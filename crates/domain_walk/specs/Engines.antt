@@ -30,5 +30,6 @@ pub record WritesFollowed (m : List ℕ) (p : ℕ) (found : Bool) (old new : Opt
 abbrev pub AsksOffset : List (List ℕ) → ℕ → Type 0
 AsksOffset words offset = (word : List ℕ) × (words ≡ word ∷ []) × TellsPlace word offset
 
+-- The one word is an offset in decimal digits.
 abbrev pub AsksForOffset : List (List ℕ) → Type 0
 AsksForOffset words = (offset : ℕ) × AsksOffset words offset

@@ -7,8 +7,10 @@ use Rattle.domain_walk.specs.Lines.{count_text}
 use Rattle.domain_walk.specs.declared.engine.NameLine.{NameLine}
 use Rattle.domain_walk.specs.declared.engine.RefusedLine.{RefusedLine}
 
+-- the name with its final dot, and how many labels and pointers were read
 abbrev pub name_line_text : NameLine → List ℕ
 name_line_text it = text_with_final_dot (parsed_labels it.name.now) ++ count_text it.count
 
+-- why there is no name, and how many labels and pointers were read
 abbrev pub refused_line_text : RefusedLine → List ℕ
 refused_line_text it = refusal_text (refusal it.why) ++ count_text it.count

@@ -50,6 +50,7 @@ one_too_many_line r q = decimal r ++ (codes ": pointer to " ++ (decimal q ++ cod
 abbrev pub refused_line : ℕ → ℕ → List ℕ
 refused_line r q = cond (nat_lt q r) (one_too_many_line r q) (not_backwards_line r q)
 
+-- the line of what is at an offset: a label, a pointer, or why neither can be read
 abbrev pub step_line : Step → List ℕ
 step_line (Root r) = root_line r
 step_line (Label r l) = label_line r (label_octets l)
