@@ -2,9 +2,9 @@
 """Puts the lines of several runs of the benchmark side by side: table.py [--page PAGE] FILE..
 
 Prints tables in Markdown: nanoseconds of one call, the best of all runs, and the port's time as a part of the
-Rust crate's. With --page they stand between the page's lines `<!-- measured -->` and `<!-- end -->`, and two
-plots beside it. Where the two have other results for the same operation and file, the line ends in DIFFERENT and
-the status is 1.
+Rust crate's. With --page PAGE.md how many rows are ahead and behind stands between that page's lines
+`<!-- measured -->` and `<!-- end -->`; beside it the tables are written as page-rows.md, and two plots. Where the
+two have other results for the same operation and file, the line ends in DIFFERENT and the status is 1.
 """
 
 import collections
@@ -27,7 +27,7 @@ GROUPS = {
     "Reading a name in a message": {
         "parse": "Reading a name",
         "kept": "Reading it by a call that isn't inlined",
-        "skip": "Passing over a name",
+        "skip": "Skipping a name",
         "labels": "Reading it, and its labels from the front",
         "labels_back": "Reading it, and its labels from the back",
         "parents": "Reading it, and its suffixes",
@@ -41,12 +41,12 @@ GROUPS = {
         "parse_show": "Reading it, and showing it",
     },
     "Comparing a name in a message": {
-        "parse_eq": "Reading it, and `name_eq` with a flat name",
-        "parse_cmp": "Reading it, and `name_cmp` with a flat name",
-        "parse_ends": "Reading it, and `ends_with` a flat name",
+        "parse_eq": "Reading it, and `name_eq` with a `Name`",
+        "parse_cmp": "Reading it, and `name_cmp` with a `Name`",
+        "parse_ends": "Reading it, and `ends_with` a `Name`",
         "parse_hash": "Reading it, and hashing it",
     },
-    "Flat names": {
+    "Uncompressed names": {
         "check": "`Name::from_slice`",
         "name_parse": "`Name::parse`",
         "check_labels": "With `from_slice` its labels from the front",
@@ -62,7 +62,7 @@ GROUPS = {
         "check_show_fixed": "The same into an array of 1,024",
         "check_display": "With it showing, without",
     },
-    "Two flat names": {
+    "Two uncompressed names": {
         "check_eq": "With `from_slice` of both `name_eq`",
         "check_cmp": "With it `name_cmp`",
         "check_composed": "With it `composed_cmp`",
@@ -82,7 +82,7 @@ GROUPS = {
 }
 GROWING = {
     "parse": "reading",
-    "skip": "passing over",
+    "skip": "skipping",
     "flatten": "reading and composing",
     "parse_eq": "reading and equality",
     "parse_cmp": "reading and order",
@@ -92,6 +92,11 @@ STREAMS = {
     "hosts": "`host000.example.com` and on",
     "middles": "`h000x.example.com` and on",
 }
+ROWS_HEAD = """# Measured rows
+
+What `bench/table.py` wrote of the last run; [{page}]({page}) says how it was measured and what it
+means. Times are nanoseconds of one call, the part is the port's time as a part of the crate's.
+"""
 COLOURS = ["#1b6ca8", "#c0392b", "#27864a", "#8e44ad", "#b9770e", "#444444", "#16a0a0"]
 
 
@@ -141,19 +146,24 @@ def parts(rows):
     return found
 
 
-def parts_table(found):
+def summary(found):
+    """How many rows are ahead, even and behind."""
     behind = [row for row in found if row.part > 1.05]
     far = sum(row.part > 1.5 for row in found)
     ahead = sum(row.part < 0.95 for row in found)
-    yield (
+    return (
         f"{len(found)} rows: {ahead} ahead by more than 5 in 100, {len(found) - ahead - len(behind)} even, "
         f"{len(behind)} behind by more than 5 in 100, {far} of them by more than 50."
     )
+
+
+def parts_table(found):
     group = None
     for row in found:
         if row.group != group:
+            if group:
+                yield ""
             group = row.group
-            yield ""
             yield f"| {group} | input | domain 0.12.3 | port | part | |"
             yield "|---|---|--:|--:|--:|---|"
         yield f"| {row.label} | {row.input} | {time(row.theirs)} | {time(row.ours)} | {row.part:.2f} | {row.mark()} |"
@@ -360,15 +370,16 @@ def main():
     rows = read(args)
     found = parts(rows)
     tables = [list(table) for table in (parts_table(found), peers_table(rows), growth_table(rows), streams_table(rows))]
-    body = "\n\n".join("\n".join(table) for table in tables if len(table) > 2 or table is tables[0]) + "\n"
-    print(body)
+    body = "\n\n".join("\n".join(table) for table in tables if len(table) > 2) + "\n"
+    print(f"{summary(found)}\n\n{body}")
     if page:
         name = page.stem.lower()
         (page.parent / f"{name}-parts.svg").write_text(plot_parts(found))
         (page.parent / f"{name}-growth.svg").write_text(plot_growth(rows))
         front, rest = page.read_text().split("<!-- measured -->\n", 1)
         _, back = rest.split("<!-- end -->\n", 1)
-        page.write_text(f"{front}<!-- measured -->\n\n{body}\n<!-- end -->\n{back}")
+        page.write_text(f"{front}<!-- measured -->\n\n{summary(found)}\n\n<!-- end -->\n{back}")
+        (page.parent / f"{name}-rows.md").write_text(f"{ROWS_HEAD.format(page=page.name)}\n{body}")
     return 0 if all(row.same for row in found) else 1
 
 
