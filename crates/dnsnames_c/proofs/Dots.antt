@@ -5,7 +5,7 @@ use Rattle.std.proofs.Math.Seq.{take-append_seam}
 use Rattle.domain_label.specs.Text.{escaped, escaped_octet, with_dot, dot_before, or_dot, text_with_final_dot, text, displayed}
 use Rattle.domain_label.specs.Wire.{IsAbsolute}
 
--- Dots behind labels and dots before them differ by the first and the last.
+-- Dots after labels and dots before them differ by the first and the last.
 dots_move : (ls : List (List ℕ)) → IsAbsolute ls → 46 ∷ flat_map with_dot ls ≡ flat_map dot_before ls ++ 46 ∷ []
 dots_move [] h = absurd h
 dots_move ([] ∷ ls) h = ap (λ ls. 46 ∷ flat_map with_dot ls) h ∙ sym (ap (λ ls. flat_map dot_before ls ++ 46 ∷ []) h)

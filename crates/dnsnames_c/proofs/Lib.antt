@@ -1,5 +1,5 @@
 pub mod Hashing
-pub mod Placing
+pub mod LabelOffsets
 pub mod Dots
 pub mod Writing
-pub mod Pieces
+pub mod CompressedFlag

@@ -1,4 +1,4 @@
--- The numbers that calls answer. The header dnsnames.h names them.
+-- The numbers that calls return. The header dnsnames.h names them.
 use Rattle.std.specs.Prelude.{ℕ, ℤ, pos, negsuc, Bool, true, false}
 use Rattle.std.specs.declared.cmp.Ordering.{Ordering}
 use Rattle.std.specs.declared.cmp.Ordering.TheVariants.{Less, Equal, Greater}

@@ -208,7 +208,9 @@ impl<'a> ParsedName<&'a [u8]> {
         Ok(ParsedName::of(parser.octets_ref(), &found, places))
     }
 
-    /// The same as `parse_with_limit`, for callers that tell faults apart: a refusal is the fault itself.
+    /// The same as `parse_with_limit`, with the `NameFault` itself as the error, for callers that tell the four apart.
+    ///
+    /// The parser is unchanged on an error.
     #[inline(always)]
     pub fn parse_or_fault(
         parser: &mut Parser<'a>,
