@@ -12,7 +12,8 @@ use crate::suffixes::ParsedSuffixIter;
 use arrayvec::ArrayVec;
 use domain_label::Label;
 use domain_name::{Name, RelativeName};
-use domain_reading::alone::{encoding_end, label_at_offset};
+use domain_reading::alone::{encoding_end, label_at_offset, read_name};
+use domain_reading::fault::NameFault;
 use domain_reading::heads::Heads;
 use domain_reading::progress::Progress;
 use domain_reading::read::read_name_counted;
@@ -75,7 +76,7 @@ impl<Octs: Octets + Copy> Clone for ParsedName<Octs> {
 impl<'a> ParsedName<&'a [u8]> {
     ghost use Rattle.domain_parsed.specs.ParsedNames.{parsed_octets, parsed_labels, may_be_compressed};
     ghost use Rattle.octseq.specs.Parsing.{slice_of, message, position};
-    ghost use Rattle.domain_reading.specs.Faults.{Skips};
+    ghost use Rattle.domain_reading.specs.Faults.{NameFaultAt, Skips};
     ghost use Rattle.domain_wire.specs.Refusals.{refusal};
     ghost use Rattle.domain_reading.specs.ParseResult.{MovesPastName, IsErrorOfName, SkipsName, IsErrorOfSkip, StandsUncompressed, CountsName, CountsFault};
 
@@ -201,6 +202,30 @@ impl<'a> ParsedName<&'a [u8]> {
         let mut places = [0; MAX_LABELS];
         let mut found = Progress::new(parser.pos());
         read_name_counted(parser.as_slice(), &mut found, &mut places, limit, heads)?;
+        let Ok(()) = parser.seek(found.end_offset()) else {
+            unreachable!();
+        };
+        Ok(ParsedName::of(parser.octets_ref(), &found, places))
+    }
+
+    /// The same as `parse_with_limit`, with the `NameFault` itself as the error, for callers that tell the four apart.
+    ///
+    /// The parser is unchanged on an error.
+    #[inline(always)]
+    pub fn parse_or_fault(
+        parser: &mut Parser<'a>,
+        limit: u8,
+    ) -> Result<ParsedName<&'a [u8]>, NameFault>
+        ensures labels { IfOk result (λ name. Names limit (message parser.old) (position parser.old) (parsed_labels name)) }
+        ensures octets { IfOk result (λ name. parsed_octets name ≡ slice_of parser.old) }
+        ensures is_compressed { IfOk result (λ name. (may_be_compressed name ≡ false) ↔ IsContiguous (message parser.old) (position parser.old)) }
+        ensures moves { OnOk result (MovesPastName parser.old parser.new) }
+        ensures err { IfErr result (λ fault. NameFaultAt limit (message parser.old) (position parser.old) fault) }
+        ensures unchanged { OnErr result (parser.new ≡ parser.old) }
+    {
+        let mut places = [0; MAX_LABELS];
+        let mut found = Progress::new(parser.pos());
+        read_name(parser.as_slice(), &mut found, &mut places, limit)?;
         let Ok(()) = parser.seek(found.end_offset()) else {
             unreachable!();
         };

@@ -1,0 +1,5 @@
+pub mod Hashing
+pub mod LabelOffsets
+pub mod Dots
+pub mod Writing
+pub mod CompressedFlag

@@ -1,0 +1,24 @@
+//! Writing octets into a caller's buffer.
+ghost use Rattle.std.specs.Prelude.{◌≡◌, ◌<◌, ◌≤◌, ◌+◌, ℕ, length, MatchBool};
+ghost use Rattle.dnsnames_c.specs.Answers.{PutsAt, Gives};
+
+/// Puts the octets into the buffer from an offset on, or nothing where they don't fit.
+pub(crate) fn put(octets: &[u8], buffer: &mut [u8], offset: usize) -> bool
+    requires { offset ≤ length buffer.old }
+    ensures { MatchBool result ((offset + length octets.now ≤ length buffer.old) × PutsAt offset octets.now buffer.old buffer.new) ((length buffer.old < offset + length octets.now) × (buffer.new ≡ buffer.old)) }
+{
+    let len = octets.len();
+    if buffer.len() - offset < len {
+        return false;
+    }
+    buffer[offset..offset + len].copy_from_slice(octets);
+    true
+}
+
+/// Puts the octets at the beginning of the buffer, and tells how many there are: 0. Where they don't fit: 8.
+pub(crate) fn give(octets: &[u8], buffer: &mut [u8], length: &mut usize) -> u32
+    ensures { Gives octets.now result buffer.old buffer.new length.new }
+{
+    *length = octets.len();
+    if put(octets, buffer, 0) { 0 } else { 8 }
+}

@@ -1,0 +1,111 @@
+//! Names in messages.
+ghost use Rattle.std.specs.Prelude.{◌≡◌, ◌≤◌, ◌↔◌, ℕ, List, length, take, IfOk, IfErr, false};
+ghost use Rattle.domain_label.specs.Wire.{wire};
+ghost use Rattle.domain_reading.specs.Grammar.{Names, EncodingEnds, IsContiguous};
+ghost use Rattle.domain_reading.specs.Faults.{NameFaultAt};
+ghost use Rattle.dnsnames_c.specs.Answers.{ReadsName, SkipsName};
+ghost use Rattle.dnsnames_c.specs.Status.{fault_number, bit_number};
+
+use crate::put::give;
+use domain_list::composing::put_name;
+use domain_parsed::ParsedName;
+use domain_reading::alone::encoding_end;
+use domain_reading::fault::NameFault;
+use octseq::Parser;
+
+/// The number of a fault.
+pub(crate) fn number_of(fault: NameFault) -> u32
+    ensures { result ≡ fault_number fault }
+{
+    match fault {
+        NameFault::ShortInput => 1,
+        NameFault::BadLabelType => 2,
+        NameFault::TooManyPointers => 3,
+        NameFault::LongName => 4,
+    }
+}
+
+/// 1 for true, 0 for false.
+fn number_of_bit(bit: bool) -> u32
+    ensures { result ≡ bit_number bit }
+{
+    if bit { 1 } else { 0 }
+}
+
+/// A name that was read: how many octets it has, the offset after it, and whether a pointer follows a label.
+#[derive(Clone, Copy)]
+struct Found {
+    len: usize,
+    end: usize,
+    compressed: bool,
+}
+
+/// Puts the name at the offset at the beginning of a buffer.
+fn read_into(
+    message: &[u8],
+    offset: usize,
+    limit: u8,
+    octets: &mut [u8; 255],
+) -> Result<Found, NameFault>
+    ensures name { IfOk result (λ found. (ls : List (List ℕ)) × Names limit message.now offset ls × EncodingEnds message.now offset found.end × (take found.len octets.new ≡ wire ls)) }
+    ensures compressed { IfOk result (λ found. (found.compressed ≡ false) ↔ IsContiguous message.now offset) }
+    ensures fits { IfOk result (λ found. found.len ≤ 255) }
+    ensures fault { IfErr result (λ fault. NameFaultAt limit message.now offset fault) }
+{
+    let mut parser = Parser::from_ref(message);
+    if parser.seek(offset).is_err() {
+        return Err(NameFault::ShortInput);
+    }
+    match ParsedName::parse_or_fault(&mut parser, limit) {
+        Ok(name) => Ok(Found {
+            len: put_name(&name, octets),
+            end: parser.pos(),
+            compressed: name.is_compressed(),
+        }),
+        Err(fault) => Err(fault),
+    }
+}
+
+/// Reads the name at an offset of a message, through at most `limit` pointers, into the buffer with no pointer in it
+/// (RFC 1035, 4.1.4). `length` becomes its size, `end` the offset after its root or first pointer, and `compressed` 0
+/// where all its octets lie one after the other, at the offset or where pointers there lead to, otherwise 1.
+///
+/// 1 where the message ends in it, 2 at a length octet of a type that is not in use, 3 at a pointer that doesn't lead
+/// back or is one too many, 4 where it has more than 255 octets: nothing is changed. 8 where it doesn't fit into the
+/// buffer, which then stays; the rest is given.
+#[unsafe(no_mangle)]
+pub extern "C" fn dnsnames_read(
+    message: &[u8],
+    offset: usize,
+    limit: u8,
+    buffer: &mut [u8],
+    length: &mut usize,
+    end: &mut usize,
+    compressed: &mut u32,
+) -> u32
+    ensures { ReadsName limit message.now offset result buffer.old buffer.new length.old length.new end.old end.new compressed.old compressed.new }
+{
+    let mut octets = [0; 255];
+    let found = match read_into(message, offset, limit, &mut octets) {
+        Ok(found) => found,
+        Err(fault) => return number_of(fault),
+    };
+    *end = found.end;
+    *compressed = number_of_bit(found.compressed);
+    give(&octets[..found.len], buffer, length)
+}
+
+/// The offset after the root or first pointer of the name at an offset of a message; the pointer is not followed. The
+/// faults are those of `dnsnames_read` but 3, and change nothing.
+#[unsafe(no_mangle)]
+pub extern "C" fn dnsnames_skip(message: &[u8], offset: usize, end: &mut usize) -> u32
+    ensures { SkipsName message.now offset result end.old end.new }
+{
+    match encoding_end(message, offset) {
+        Ok(after) => {
+            *end = after;
+            0
+        }
+        Err(fault) => number_of(fault),
+    }
+}
