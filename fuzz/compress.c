@@ -1,4 +1,4 @@
-/* Writing with compression, and round trips: dnsnames_append. The input is a capacity (or that the writing begins shortly
+/* Writing with compression, and round trips: dnsnames_append, dnsnames_plan. The input is a capacity (or that the writing begins shortly
  * before the offsets that no pointer leads to) and a message, of which all names that follow one another are written. */
 #include "harness.h"
 
@@ -40,7 +40,24 @@ struct message {
     size_t capacity, len, old_len, table_len, old_table_len;
     uint16_t table[DNSNAMES_MAX_TABLE];
     uint8_t octets[CAPACITY + 1], old[CAPACITY + 1];
+    /* Where the first names begin, those that are a pointer alone, too: a table in which a name can stand often. */
+    size_t begin_count;
+    uint16_t begins[DNSNAMES_MAX_TABLE];
 };
+
+/* dnsnames_plan with the table of names' beginnings, to which the next one is then added. */
+static void check_plan(struct message *message, const struct name *name)
+{
+    size_t want_offset = 0, begin = 7;
+    uint16_t offset = 7;
+    int want = plan(message->octets, message->len, message->begins, message->begin_count, name, &want_offset);
+    uint32_t status = dnsnames_plan(message->octets, message->len, message->begins, message->begin_count, name->wire, name->len,
+                                    &begin, &offset);
+    MUST(status == (want < 0 ? DNSNAMES_FLAT : DNSNAMES_OK));
+    MUST(want < 0 ? begin == 7 && offset == 7 : begin == (size_t)want && offset == want_offset);
+    if (message->begin_count < DNSNAMES_MAX_TABLE && message->len < FAR)
+        message->begins[message->begin_count++] = (uint16_t)message->len;
+}
 
 /* The table has the labels that were written, as long as there is room for them and a pointer can lead there. `last` is
  * the size of what ends the name: a root or a pointer. */
@@ -102,7 +119,7 @@ int LLVMFuzzerTestOneInput(const uint8_t *data, size_t size)
     bool begins_far = data[0] >= 96 && data[0] < 128;
     message.capacity = begins_far ? CAPACITY : data[0] < 128 ? 2048 : data[0] * 2u;
     message.len = begins_far ? FAR + 96u - data[0] : 12;
-    message.table_len = 0;
+    message.table_len = message.begin_count = 0;
     memset(message.octets, 0, message.capacity + 1);
     struct name name;
     for (size_t at = 1, end = 0; at < size; at = end) {
@@ -110,6 +127,7 @@ int LLVMFuzzerTestOneInput(const uint8_t *data, size_t size)
         if (!reader_name(data, size, at, 255, &name, &end, &compressed))
             break;
         MUST(comes_back(&name));
+        check_plan(&message, &name);
         if (!append(&message, &name))
             break;
     }
