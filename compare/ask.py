@@ -23,7 +23,7 @@ class Library:
 def libraries(work):
     """All libraries of the comparison; those that weren't built say why."""
     res = [
-        Library("this", "this project, by its library for C", ""),
+        Library("this", "this project, by its library for C (libdnsnames_c.a)", ""),
         Library("domain", "the Rust crate `domain`, names and wire layer", ""),
         Library("knot", "libknot", "libknot-dev"),
         Library("ldns", "ldns", "libldns-dev"),
@@ -42,7 +42,7 @@ def libraries(work):
             version = ask(library, ["version"])[0]
             library.version = version[3:] if version.startswith("ok ") else version
         else:
-            library.missing = missing.read_text().strip() if missing.exists() else "not built: run compare/build.sh"
+            library.missing = missing.read_text().strip() if missing.exists() else "run compare/build.sh"
     return res
 
 

@@ -114,8 +114,8 @@ package_version() {
 library=${DNSNAMES_LIB:-$top/crates/dnsnames_c/out/libdnsnames_c.a}
 header=${DNSNAMES_HEADER:-$top/bindings/c}
 if [ -e "$library" ] && [ -e "$header/dnsnames.h" ]; then
-    commit=$(git -C "$top" rev-parse --short HEAD 2> /dev/null || echo unknown)
-    build this "see WORK/log/this" cc -O2 "${warnings[@]}" -DDNSNAMES_VERSION="\"$commit\"" -I "$header" \
+    version="$(sed -n 's/^VERSION = //p' "$top/bindings/c/Makefile"), SHA-256 $(sha256sum "$library" | cut -c 1-12).."
+    build this "see WORK/log/this" cc -O2 "${warnings[@]}" -DDNSNAMES_VERSION="\"$version\"" -I "$header" \
         -o "$work/drivers/this" "$source/this.c" "$library"
 else
     miss this "its library for C isn't there: run ./library"

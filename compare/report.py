@@ -1,7 +1,7 @@
 #!/usr/bin/python3 -B
-"""Asks all drivers all cases, and prints the page of the comparison: report.py WORK [RANDOM]
+"""Asks all drivers all cases, and makes the two pages of the comparison: report.py WORK [FOLDER]
 
-WORK is the folder of compare/build.sh, RANDOM the number of random messages (100,000)."""
+WORK is the folder of compare/build.sh. The pages are written into FOLDER; with no FOLDER they are printed."""
 
 import datetime
 import platform
@@ -9,10 +9,16 @@ import subprocess
 import sys
 import textwrap
 from collections import Counter
+from pathlib import Path
 
 import corpus
 from ask import DIED, HUNG, ask, libraries
 from corpus import ACCEPT, REFUSE, RULES, UNSAID
+
+PAGE, CASES = "COMPARISON.md", "COMPARISON-CASES.md"
+RANDOM_MESSAGES = 100_000
+MOST_FAILURES = 40  # a driver that died or hung at so many cases isn't asked the rest
+CHAIN = 1100  # the longest row of pointers that is tried
 
 # Where this project's own pages say that it refuses what the standard's text allows.
 STATED = {
@@ -22,6 +28,18 @@ STATED = {
                  "(RFC 2673, historic)",
 }
 YES, OTHER, NO, NONE, UNASKED = "yes", "other", "no", "-", "?"
+# The groups of cases: where a name stands, the tables' titles, and what a table's cells say.
+WHERE = {"read": "in a message", "text": "text to wire", "show": "wire to text", "order": "in order"}
+TITLES = {"read": "Names in messages", "text": "Text to wire format", "show": "Wire format to text", "order": "Canonical order"}
+LEGENDS = {
+    "read": "yes: accepted, with the labels of the case and the offset after the name, where it has any; other: accepted with "
+            "others; no: refused. The message of each case ends where memory that can't be read begins, so that a library in C "
+            "which reads past its end dies.",
+    "text": "yes: accepted, as the name of the case; other: as another name; no: refused. The text is given as one word, "
+            "without an origin.",
+    "show": "yes: a text that RFC 1035, 5.1 reads as the same labels, with or without a dot at its end; other: another text.",
+    "order": "yes: sorted as RFC 4034, 6.1 has it. libknot was given the names in lower case, as it wants them.",
+}
 
 
 def shown(labels):
@@ -52,10 +70,26 @@ def outcome(case, answer):
 
 
 def is_right(case, cell):
-    """Whether a cell is what the standard's text says; None where it says nothing, or there is no such call."""
-    if case.expect == UNSAID or cell == NONE:
+    """Whether a cell is what the standard's text says; None where it says nothing, or the call wasn't asked."""
+    if case.expect == UNSAID or cell in (NONE, UNASKED):
         return None
     return cell == (YES if case.expect == ACCEPT else NO)
+
+
+def standard(case):
+    """What the standard says of a case, as a part of a sentence."""
+    says = {ACCEPT: "accepts" if case.group in ("read", "text") else "wants it so", REFUSE: "refuses", UNSAID: "doesn't say"}
+    return f"the standard {says[case.expect]} (RFC {RULES[case.rule][0].replace(' ', ', ')})"
+
+
+def verb(group, cell, many):
+    """What a library, or many, do with a case."""
+    s = "" if many else "s"
+    return {YES: {"show": f"show{s} a text of it", "order": f"sort{s} so"}.get(group, f"accept{s}"),
+            OTHER: {"read": f"read{s} other labels or another end", "text": f"read{s} another name",
+                    "show": f"show{s} a text of another name", "order": f"sort{s} otherwise"}[group],
+            NO: f"refuse{s}", DIED: "died", HUNG: "gave no answer in 5 seconds",
+            NONE: "have no such call" if many else "has no such call", UNASKED: "weren't asked" if many else "wasn't asked"}[cell]
 
 
 def code(case):
@@ -81,43 +115,49 @@ def package(name):
 
 
 class Report:
-    def __init__(self, work, random_count):
+    def __init__(self, work):
         self.all = libraries(work)
         self.libraries = [library for library in self.all if library.driver]
+        self.keys = [library.key for library in self.libraries]
         self.cases = list(corpus.cases())
         self.cells = {}
         self.answers = {}
         for library in self.libraries:
-            answers = ask(library, [case.line for case in self.cases], failures=1000)
+            answers = ask(library, [case.line for case in self.cases], failures=MOST_FAILURES)
             for case, answer in zip(self.cases, answers):
                 self.answers[case.group, case.name, library.key] = answer
                 self.cells[case.group, case.name, library.key] = outcome(case, answer)
-        self.random = list(corpus.random_messages(random_count))
-
-    def row(self, case):
-        return {library.key: self.cells[case.group, case.name, library.key] for library in self.libraries}
+        self.chains = {library.key: longest_chain(library) for library in self.libraries}
+        self.random = RandomMessages(self.libraries)
+        self.pages = {PAGE: [], CASES: []}
+        self.page = self.pages[PAGE]
 
     def say(self, *lines):
-        for line in lines:
-            print(line)
+        self.page.extend(lines)
+
+    def row(self, case):
+        return {key: self.cells[case.group, case.name, key] for key in self.keys}
+
+    def has(self, key, group):
+        return any(self.row(case)[key] != NONE for case in self.cases if case.group == group)
 
     # What is said of a case.
 
-    def standard(self, case):
-        return f"{case.expect}, {RULES[case.rule][0]} [{list(RULES).index(case.rule) + 1}]"
-
     def sentence(self, cases):
         """Who does what with cases that all libraries answer alike."""
-        row, group = self.row(cases[0]), cases[0].group
-        words = {YES: {"show": "shown as a text of it", "order": "sorted so"}.get(group, "accepted"),
-                 OTHER: {"read": "accepted with other labels or another end", "text": "accepted as another name",
-                         "show": "shown as a text that reads otherwise", "order": "sorted otherwise"}[group],
-                 NO: "refused", DIED: "the driver died", HUNG: "no answer in 5 s", UNASKED: "not asked"}
-        parts = [[key for key in row if row[key] == cell] for cell in words]
-        parts = sorted((keys for keys in parts if keys), key=len)
-        said = [f"{words[row[keys[0]]]} by {', '.join(keys)}" for keys in parts[:-1]]
-        said.append(f"{words[row[parts[-1][0]]]} by the others")
-        return f"- {' / '.join(code(case) for case in cases)}: {'; '.join(said)}. The standard: {self.standard(cases[0])}."
+        row, case = self.row(cases[0]), cases[0]
+        # Those that do what most do, or what the standard says, aren't named.
+        unnamed = Counter(row.values()).most_common(1)[0][0] if case.expect == UNSAID else YES if case.expect == ACCEPT else NO
+        parts = []
+        for cell in (YES, OTHER, NO, DIED, HUNG, UNASKED):
+            keys = [key for key in row if row[key] == cell]
+            if keys and cell != unnamed:
+                parts.append(f"{', '.join(keys)} {verb(case.group, cell, len(keys) > 1)}")
+        if case.expect == UNSAID:
+            said = f"{standard(case)}; {'; '.join(parts)}, the others {verb(case.group, unnamed, True)}"
+        else:
+            said = f"{standard(case)}, and {'; '.join(parts)}"
+        return wrapped(f"- {' / '.join(map(code, cases))}: {said}.")
 
     def majority(self, case):
         """What more than half of the other libraries that have the call do, and how many those are."""
@@ -130,34 +170,36 @@ class Report:
         wrong = [case for case in self.cases if is_right(case, self.row(case).get("this", NONE)) is False]
         return [case for case in wrong if case.name not in STATED], [case for case in wrong if case.name in STATED]
 
-    # The parts of the page.
+    # The page.
 
     def head(self):
         self.say("# Beside other libraries", "", filled(
             "What DNS libraries accept as a name in a message and as a name's text, how they order names, and what the "
-            "standard says of it. `compare/run.sh WORK` builds a driver for each library that is there, asks all of them the "
-            "same cases (`compare/corpus.py`, which takes what is expected from the standard's text alone), and prints this "
-            f"page: here on {datetime.date.today().isoformat()}, {platform.system()} {platform.machine()}. Nothing is said "
-            "of a library but what that run saw of the version below. What hostile messages cost in each is "
-            "measured by `compare/cost`."), "")
+            "standard says of it. `compare/run.sh WORK docs` builds a driver for each library that is there, asks all of them "
+            f"the same {len(self.cases)} cases (`compare/corpus.py`, which takes what is expected from the standard's text "
+            f"alone), and writes this page and [the table of all cases]({CASES}): here on {datetime.date.today().isoformat()}, "
+            f"{platform.system()} {platform.machine()}. Nothing is said of a library but what that run saw of the version "
+            "below. What hostile messages cost in each: [COST.md](COST.md)."), "")
 
     def differences(self):
         self.say("## Where this project differs", "")
-        if "this" not in {library.key for library in self.libraries}:
+        if "this" not in self.keys:
             self.say("Its library for C wasn't built, so this run doesn't say.", "")
             return
         lines = []
         for case in self.cases:
             cell, (most, count, among) = self.row(case)["this"], self.majority(case)
             if most not in (None, cell):
-                where = {"read": "in a message", "text": "as text", "show": "to text", "order": "in order"}[case.group]
-                lines.append(wrapped(f"- {code(case)} ({where}): here '{cell}', in {count} of {among} others '{most}'. "
-                                     f"The standard: {self.standard(case)}."))
-        self.say("From most of the others, in " + (f"{len(lines)} cases:" if lines else "no case."), "", *lines, "")
+                lines.append(wrapped(f"- {code(case)} ({WHERE[case.group]}): here '{cell}', in {count} of {among} others "
+                                     f"'{most}'; {standard(case)}."))
+        self.say("From most of the others, in " + (f"{len(lines)} cases:" if lines else "no case."), "")
+        if lines:
+            self.say(*lines, "")
         wrong, stated = self.wrong()
-        self.say("From the standard's text, in " + (f"{len(wrong)} cases:" if wrong else "no case")
-                 + (", but for those that its pages state:" if stated and not wrong else ""), "")
-        self.say(*(wrapped(f"- {code(case)}: {STATED.get(case.name, 'no page states it')}") for case in wrong + stated), "")
+        self.say(f"From the standard's text, in {len(wrong + stated)} cases" + (":" if wrong + stated else "."), "")
+        if wrong + stated:
+            self.say(*(wrapped(f"- {code(case)} ({WHERE[case.group]}): {STATED.get(case.name, 'no page states it')}; "
+                               f"{standard(case)}.") for case in wrong + stated), "")
 
     def list_libraries(self):
         self.say("## The libraries", "", "| Column | Library | Version | Debian package |", "|---|---|---|---|")
@@ -166,12 +208,39 @@ class Report:
             self.say(f"| {library.key} | {library.name} | {version} | {package(library.package)} |")
         self.say("")
 
-    def list_rules(self):
-        self.say("## What the standard says", "", "By the numbers in the tables, in other words than its own:", "")
-        for number, (section, text) in enumerate(RULES.values(), 1):
-            rfc, part = section.split(" ")
-            self.say(wrapped(f"{number}. RFC {rfc}, {part}: {text}"))
+    def counts(self):
+        """For each library, in how many cases it differs from the standard's text."""
+        told = {group: [case for case in self.cases if case.group == group and case.expect != UNSAID] for group in WHERE}
+        self.say("## How often each differs from the standard's text", "", filled(
+            "Of the cases of which it says something. The random messages are held against a reader of twenty lines "
+            f"([its rules]({CASES}#random-messages)); the last column is how many pointers in a row a library follows, of up "
+            f"to {CHAIN:,}."), "",
+            "| | " + " | ".join(f"{WHERE[group]}, {len(cases)}" for group, cases in told.items())
+            + f" | random messages, {RANDOM_MESSAGES:,} | pointers |", "|---|" + "--:|" * (len(told) + 2))
+        for key in self.keys:
+            cells = []
+            for group, cases in told.items():
+                found = [self.row(case)[key] for case in cases]
+                failed = sum(cell in (DIED, HUNG, UNASKED) for cell in found)
+                wrong = sum(is_right(case, cell) is False for case, cell in zip(cases, found))
+                cells.append("-" if not self.has(key, group) else f"{wrong}" + (f" ({failed} died or hung)" if failed else ""))
+            chain = self.chains[key]
+            self.say(f"| {key} | " + " | ".join(cells) + f" | {self.random.wrong(key):,} | {'all' if chain is None else chain} |")
         self.say("")
+
+    def sentences(self):
+        self.say("## Where they differ", "", filled(
+            "Those that aren't named do what the standard says. cares, libc and both of Go's give names as text, which their "
+            "drivers take apart into labels. The call of cares that makes a name of a text makes a query of it, and that of "
+            "gonet knows no escapes: neither claims to read texts of zone files."), "")
+        for group, title in TITLES.items():
+            alike = {}
+            for _, cases in self.rows(group):
+                if len(set(self.row(cases[0]).values()) - {NONE}) > 1:
+                    alike.setdefault((cases[0].rule, cases[0].expect, *self.row(cases[0]).values()), []).append(cases[0])
+            self.say(f"{title}:", "", *map(self.sentence, alike.values()), "")
+
+    # The page of all cases.
 
     def rows(self, group):
         """The cases of a table, those of a name that is cut, which all have the same answers, in one row."""
@@ -185,85 +254,25 @@ class Report:
         return rows
 
     def table(self, group):
-        keys = [library.key for library in self.libraries
-                if any(self.row(case)[library.key] != NONE for case in self.cases if case.group == group)]
-        self.say("| Case | Standard | " + " | ".join(keys) + " |", "|---|---|" + "---|" * len(keys))
+        keys = [key for key in self.keys if self.has(key, group)]
+        self.say(f"## {TITLES[group]}", "", filled(LEGENDS[group]), "",
+                 "| Case | Standard | " + " | ".join(keys) + " |", "|---|---|" + "---|" * len(keys))
         for kind, cases in self.rows(group):
             row, case = self.row(cases[0]), cases[0]
             name = code(case) if len(cases) == 1 else f"{kind}, {len(cases)} cases"
             cells = [f"**{row[key]}**" if is_right(case, row[key]) is False else row[key] for key in keys]
-            self.say(f"| {name} | {self.standard(case)} | " + " | ".join(cells) + " |")
+            says = f"{case.expect}, {RULES[case.rule][0]} [{list(RULES).index(case.rule) + 1}]"
+            self.say(f"| {name} | {says} | " + " | ".join(cells) + " |")
         self.say("")
-        lacking = [library.key for library in self.libraries if library.key not in keys]
+        lacking = [key for key in self.keys if key not in keys]
         if lacking:
             self.say(f"No such call: {', '.join(lacking)}.", "")
-
-    def sentences(self, group):
-        alike = {}
-        for _, cases in self.rows(group):
-            if len(set(self.row(cases[0]).values()) - {NONE}) > 1:
-                alike.setdefault((cases[0].rule, *self.row(cases[0]).values()), []).append(cases[0])
-        if alike:
-            self.say("Where they differ:", "", *(wrapped(self.sentence(cases)) for cases in alike.values()), "")
-        else:
-            self.say("They differ in no case.", "")
-
-    def chains(self):
-        """The most pointers in a row that each library follows."""
-        tried = 1100
-        messages = [corpus.pointers_in_a_row(count) for count in range(1, tried + 1)]
-        said = []
-        for library in self.libraries:
-            answers = ask(library, [f"read {message.hex()} {offset}" for message, offset in messages])
-            count = next((i for i, answer in enumerate(answers) if not (answer or "").startswith("ok")), None)
-            said.append(f"{library.key} {'all' if count is None else count}")
-        self.say(wrapped(f"The most pointers in a row that each follows, of up to {tried:,}: {', '.join(said)}."), "")
-
-    def agreement(self):
-        """How often each library does with random messages what `standard_name` does, and what each other does."""
-        lines = [f"read {message.hex()} {offset}" for message, offset in self.random]
-        wanted = []
-        for message, offset in self.random:
-            found = corpus.standard_name(message, offset)
-            wanted.append(f"ok {shown(found[0])} {found[1]}" if found else "no")
-        answers = {library.key: ask(library, lines) for library in self.libraries}
-        accepted = sum(word != "no" for word in wanted)
-        self.say("## Random messages", "", filled(
-            f"{len(lines):,} messages of 1 to 40 octets, each made of one of {len(corpus.ALPHABETS)} small alphabets, with an "
-            "offset in each. They are held against a reader of some twenty lines (`standard_name` in `compare/corpus.py`), "
-            "written from RFC 1035, 3.1 and 4.1.4, which takes 'prior' for an offset before the pointer's own, and doesn't ask "
-            f"whether a name began there. It accepts {accepted:,} of them."), "",
-            "| Library | as that reader | only it accepts | only the reader accepts | other labels or end | died or hung |",
-            "|---|--:|--:|--:|--:|--:|")
-        examples = []
-        for key, got in answers.items():
-            kinds = {"accepted": [], "refused": [], "read otherwise": [], "died or hung at": []}
-            for line, answer, want in zip(lines, got, wanted):
-                if answer in (DIED, HUNG, None):
-                    kinds["died or hung at"].append(line)
-                elif answer != want:
-                    kinds["accepted" if want == "no" else "refused" if answer == "no" else "read otherwise"].append(line)
-            counts = [len(found) for found in kinds.values()]
-            self.say(f"| {key} | {len(lines) - sum(counts):,} | " + " | ".join(f"{count:,}" for count in counts) + " |")
-            shortest = {kind: min(found, key=len).split(" ") for kind, found in kinds.items() if found}
-            if shortest:
-                examples.append(wrapped(f"- {key}: " + "; ".join(
-                    f"{kind} `{message}` at {offset}" for kind, (_, message, offset) in shortest.items())))
-        self.say("", "The shortest message of each kind:", "", *examples, "")
-        self.say("How many of the messages two libraries answer alike:", "",
-                 "| | " + " | ".join(answers) + " |", "|---|" + "--:|" * len(answers))
-        for left in answers:
-            cells = [f"{sum(a == b for a, b in zip(answers[left], answers[right])):,}" if left != right else ""
-                     for right in answers]
-            self.say(f"| {left} | " + " | ".join(cells) + " |")
-        self.say("")
 
     def texts_read_here(self):
         """Which texts that the other libraries wrote of a name this project reads otherwise, or not at all."""
         this = next((library for library in self.libraries if library.key == "this"), None)
-        shown_texts = [(library.key, case, self.answers["show", case.name, library.key].split(" ")[1])
-                       for library in self.libraries if library.key != "this" for case in self.cases
-                       if case.group == "show" and self.row(case)[library.key] == YES]
+        shown_texts = [(key, case, self.answers["show", case.name, key].split(" ")[1]) for key in self.keys if key != "this"
+                       for case in self.cases if case.group == "show" and self.row(case)[key] == YES]
         if this is None:
             return
         answers = ask(this, [f"text {text}" for _, _, text in shown_texts])
@@ -273,46 +282,116 @@ class Report:
         self.say(filled(f"Of the {len(shown_texts)} texts that the other libraries wrote so, this project reads all as the "
                         "same name" + (f", but for {', '.join(other)}." if other else ".")), "")
 
-    def print(self):
+    def list_rules(self):
+        self.say("## What the standard says", "", "By the numbers in the tables, in other words than its own:", "")
+        for number, (section, text) in enumerate(RULES.values(), 1):
+            self.say(wrapped(f"{number}. RFC {section.replace(' ', ', ')}: {text}"))
+
+    def all_cases(self):
+        self.page = self.pages[CASES]
+        self.say("# Every case of the comparison", "", filled(
+            f"What [{PAGE}]({PAGE}) sums up, as `compare/run.sh WORK docs` wrote it on {datetime.date.today().isoformat()}. "
+            "Bold is what the standard's text contradicts. Where it says nothing ('unsaid'), 'yes' is the name that one would "
+            "read. died, hung: what the driver did at this case, in 5 seconds; ?: not asked, after "
+            f"{MOST_FAILURES} such cases; -: no such call."), "")
+        for group in TITLES:
+            self.table(group)
+            if group == "show":
+                self.texts_read_here()
+        self.random.tell(self.say)
+        self.list_rules()
+
+    def make(self):
         self.head()
         self.differences()
         self.list_libraries()
-        self.say("## Names in messages", "", filled(
-            "yes: accepted, with the labels of the case and the offset after the name, where it has any; other: accepted with "
-            "others; no: refused; died, hung: what the driver did at this case; -: no such call. Bold is what the standard's "
-            "text contradicts. Where it says nothing ('unsaid'), 'yes' is a name of the labels that one would read. libc, "
-            "cares and both of Go's give a name as text, which their drivers take apart into labels. The message of each "
-            "case ends where memory that can't be read begins, so that a library in C which reads past "
-            "its end dies."), "")
-        self.table("read")
-        self.sentences("read")
-        self.chains()
-        self.agreement()
-        self.say("## Text to wire format", "", filled(
-            "The text is given as one word, without an origin. Some of these calls don't claim to read texts of zone files: "
-            "that of cares makes a query, and that of gonet knows no escapes."), "")
-        self.table("text")
-        self.sentences("text")
-        self.say("## Wire format to text", "", filled(
-            "yes: a text that RFC 1035, 5.1 reads as the same labels, with or without a dot at its end; other: another text."),
-            "")
-        self.table("show")
-        self.sentences("show")
-        self.texts_read_here()
-        self.say("## Canonical order", "", filled(
-            "yes: sorted as RFC 4034, 6.1 has it. libknot was given the names in lower case, as it wants them."), "")
-        self.table("order")
-        self.sentences("order")
-        self.list_rules()
+        self.counts()
+        self.sentences()
+        self.all_cases()
+
+    def last_line(self):
         wrong, stated = self.wrong()
-        here = f"differs from the standard's text in {len(wrong)}" + (f", and in {len(stated)} as it states" if stated else "")
-        if "this" not in {library.key for library in self.libraries}:
-            here = "wasn't asked, since its library isn't built"
-        self.say(f"{len(self.cases)} cases and {len(self.random):,} random messages, {len(self.libraries)} libraries; "
-                 f"this project {here}")
-        return not wrong
+        here = f"{len(wrong + stated)} cases" + (f", {len(stated)} of them as its pages state" if stated else "")
+        here = f"this project differs from the standard's text in {here}"
+        if "this" not in self.keys:
+            here = "this project wasn't asked, since its library isn't built"
+        return f"{len(self.cases)} cases and {RANDOM_MESSAGES:,} random messages, {len(self.libraries)} libraries; {here}"
+
+
+def longest_chain(library):
+    """The most pointers in a row that a library follows; None if it follows all that are tried."""
+    messages = [corpus.pointers_in_a_row(count) for count in range(1, CHAIN + 1)]
+    answers = ask(library, [f"read {message.hex()} {offset}" for message, offset in messages])
+    return next((i for i, answer in enumerate(answers) if not (answer or "").startswith("ok")), None)
+
+
+class RandomMessages:
+    """How often each library does with random messages what `standard_name` does, and what each other does."""
+
+    def __init__(self, all_libraries):
+        messages = list(corpus.random_messages(RANDOM_MESSAGES))
+        self.lines = [f"read {message.hex()} {offset}" for message, offset in messages]
+        found = [corpus.standard_name(message, offset) for message, offset in messages]
+        self.wanted = [f"ok {shown(pair[0])} {pair[1]}" if pair else "no" for pair in found]
+        self.answers = {library.key: ask(library, self.lines) for library in all_libraries}
+
+    def wrong(self, key):
+        return sum(answer != want for answer, want in zip(self.answers[key], self.wanted))
+
+    def kinds(self, key):
+        """The lines where a library differs from `standard_name`, by how."""
+        kinds = {"accepted": [], "refused": [], "read otherwise": [], "died or hung at": []}
+        for line, answer, want in zip(self.lines, self.answers[key], self.wanted):
+            if answer in (DIED, HUNG, None):
+                kinds["died or hung at"].append(line)
+            elif answer != want:
+                kinds["accepted" if want == "no" else "refused" if answer == "no" else "read otherwise"].append(line)
+        return kinds
+
+    def tell(self, say):
+        accepted = sum(word != "no" for word in self.wanted)
+        say("## Random messages", "", filled(
+            f"{len(self.lines):,} messages of 1 to 40 octets, each made of one of {len(corpus.ALPHABETS)} small alphabets, with "
+            "an offset in each. They are held against a reader of some twenty lines (`standard_name` in `compare/corpus.py`), "
+            "written from RFC 1035, 3.1 and 4.1.4, which takes 'prior' for an offset before the pointer's own, and doesn't ask "
+            f"whether a name began there. It accepts {accepted:,} of them."), "",
+            "| Library | as that reader | only it accepts | only the reader accepts | other labels or end | died or hung |",
+            "|---|--:|--:|--:|--:|--:|")
+        examples = []
+        for key in self.answers:
+            kinds = self.kinds(key)
+            counts = [len(found) for found in kinds.values()]
+            say(f"| {key} | {len(self.lines) - sum(counts):,} | " + " | ".join(f"{count:,}" for count in counts) + " |")
+            shortest = {kind: min(found, key=len).split(" ") for kind, found in kinds.items() if found}
+            if shortest:
+                examples.append(wrapped(f"- {key}: " + "; ".join(
+                    f"{kind} `{message}` at {offset}" for kind, (_, message, offset) in shortest.items())))
+        say("", "The shortest message of each kind:", "", *examples, "")
+        self.tell_pairs(say)
+
+    def tell_pairs(self, say):
+        say("How many of the messages two libraries answer alike:", "",
+            "| | " + " | ".join(self.answers) + " |", "|---|" + "--:|" * len(self.answers))
+        for left in self.answers:
+            cells = [f"{sum(a == b for a, b in zip(self.answers[left], self.answers[right])):,}" if left != right else ""
+                     for right in self.answers]
+            say(f"| {left} | " + " | ".join(cells) + " |")
+        say("")
+
+
+def main():
+    corpus.check()
+    report = Report(sys.argv[1])
+    report.make()
+    for name, lines in report.pages.items():
+        text = "\n".join(lines).rstrip("\n") + "\n"
+        if len(sys.argv) > 2:
+            Path(sys.argv[2], name).write_text(text, encoding="utf-8")
+        else:
+            print(text)
+    print(report.last_line())
+    return 1 if report.wrong()[0] else 0
 
 
 if __name__ == "__main__":
-    corpus.check()
-    sys.exit(0 if Report(sys.argv[1], int(sys.argv[2]) if len(sys.argv) > 2 else 100_000).print() else 1)
+    sys.exit(main())

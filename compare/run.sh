@@ -1,7 +1,8 @@
 #!/usr/bin/env bash
-# Builds the drivers of the libraries that are there, and prints the page of the comparison.
+# Builds the drivers of the libraries that are there, asks all of them all cases, and writes the two pages of it.
 #
-#   compare/run.sh WORK > docs/COMPARISON.md
+#   compare/run.sh WORK FOLDER    writes FOLDER/COMPARISON.md and FOLDER/COMPARISON-CASES.md (docs has the last ones)
+#   compare/run.sh WORK           prints both
 #
 # WORK is the folder to build in; compare/build.sh tells the variables. What is built, and what isn't and why, goes to
 # standard error. The last line has the counts of cases, of libraries, and of cases where this project differs from the
@@ -11,4 +12,4 @@ here=$(cd "$(dirname "$0")" && pwd)
 work=${1:?a folder to build in}
 "$here/build.sh" "$work" >&2
 python=$(command -v /usr/bin/python3 || command -v python3)
-"$python" -B "$here/report.py" "$work"
+"$python" -B "$here/report.py" "$@"

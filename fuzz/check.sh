@@ -1,36 +1,52 @@
 #!/usr/bin/env bash
-# Runs the kept inputs once through the harnesses, in seconds: fuzz/check.sh. It ends in 'N passed, N failed'; where clang,
-# its runtime or the library is missing it says so, and no input is run. Status 1 where an input failed.
+# Runs the kept inputs once through the harnesses, in seconds: fuzz/check.sh. The last line is 'fuzz: N passed, N failed'.
+# Where clang, its runtime or the library for C isn't there, that line says so, and no input is run. Status 1 where an
+# input failed, or where the harnesses can't be built though all of that is there. fuzz/build.sh tells the variables.
 set -u
 here=$(cd "$(dirname "$0")" && pwd)
+library=${DNSNAMES_LIB:-$(dirname "$here")/crates/dnsnames_c/out/libdnsnames_c.a}
 work=$(mktemp -d)
 trap 'rm -rf "$work"' EXIT
-if ! command -v clang > /dev/null; then
-    echo "fuzz: 0 passed, 0 failed; not run, since clang isn't there (apt-get install clang libclang-rt-14-dev)"
+
+not_run() {
+    echo "fuzz: 0 passed, 0 failed; not run, since $1"
     exit 0
-fi
-if ! "$here/build.sh" "$work" 2> "$work/log"; then
-    head -n 5 "$work/log" >&2
-    echo "fuzz: 0 passed, 0 failed; not run, since the harnesses couldn't be built"
-    exit 0
-fi
-passed=0 failed=0
-for folder in "$here"/corpus/*; do
-    harness=$work/$(basename "$folder")
-    inputs=("$folder"/*)
-    # All at once; where that stops, each by itself.
-    if "$harness" "${inputs[@]}" > "$work/log" 2>&1; then
+}
+
+has_runtime() {
+    echo 'int LLVMFuzzerTestOneInput(const char *data, unsigned long size) { return data == 0 && size > 0; }' |
+        clang -fsanitize=fuzzer -x c -o "$work/probe" - 2> /dev/null
+}
+
+# Runs all inputs of a harness at once; where that stops, each by itself.
+run_harness() {
+    local harness=$1 input inputs=("$here/corpus/$1"/*)
+    if "$work/$harness" "${inputs[@]}" > "$work/log" 2>&1; then
         passed=$((passed + ${#inputs[@]}))
-        continue
+        return
     fi
     for input in "${inputs[@]}"; do
-        if "$harness" "$input" > "$work/log" 2>&1; then
+        if "$work/$harness" "$input" > "$work/log" 2>&1; then
             passed=$((passed + 1))
         else
             failed=$((failed + 1))
             echo "fuzz: $input: $(grep -m 1 'not so' "$work/log" || tail -n 1 "$work/log")" >&2
         fi
     done
-done
+}
+
+command -v clang > /dev/null || not_run "clang isn't there (apt-get install clang libclang-rt-14-dev)"
+has_runtime || not_run "clang has no runtime for fuzzing (apt-get install libclang-rt-14-dev)"
+[ -e "$library" ] || not_run "the library for C isn't built (./library)"
+passed=0 failed=0
+if "$here/build.sh" "$work" 2> "$work/log"; then
+    for folder in "$here"/corpus/*; do
+        run_harness "$(basename "$folder")"
+    done
+else
+    head -n 5 "$work/log" >&2
+    echo "fuzz: the harnesses can't be built" >&2
+    failed=1
+fi
 echo "fuzz: $passed passed, $failed failed"
 [ "$failed" -eq 0 ]

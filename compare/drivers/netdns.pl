@@ -67,7 +67,11 @@ sub time_file {
 }
 
 my %calls = (
-    version => sub { "ok $Net::DNS::VERSION" },
+    version => sub {
+        # With one of these, where it is installed, it makes labels of other octets than those of ASCII.
+        my ($idn) = grep { $INC{ s{::}{/}r . '.pm' } } qw(Net::LibIDN2 Net::LibIDN);
+        return "ok $Net::DNS::VERSION" . ( $idn ? ", with $idn" : '' );
+    },
     read    => sub {
         my ( $message, $offset ) = ( octets(shift), shift );
         my ( $name, $end ) = Net::DNS::DomainName->decode( \$message, $offset );

@@ -49,7 +49,7 @@ stop_whole m r e (pointer q) at = let inside = at.0.inside in let end = at.1 in 
 pub name_whole : {m : List ℕ} {p e : ℕ} {ls : List (List ℕ)} → NameTo m p ls e → e ≤ length m
 name_whole {m} {e = e} at = stop_whole m at.front.2.stop e at.front.1 at.front.2.ends
 
--- at each offset one name is read, or one error is told
+-- at each offset one name is read, or one error is returned
 pub name_reading : IsReading NameTo NoName
 name_reading = record {
   inside = λ m p ls e at. (name_inside m p ls e at, name_whole at);

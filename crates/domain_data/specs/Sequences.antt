@@ -6,7 +6,7 @@ use Rattle.domain_rdata.specs.ReadBack.{Appended, Exceeds}
 use Rattle.domain_data.specs.FieldLaws.{known_once, none_known}
 use Rattle.domain_data.specs.Reading.{IsReadingOf}
 
--- The octets that may be appended behind t: those of one field, and then those of the next.
+-- The octets that may be appended after t: those of one field, and then those of the next.
 pub record BothComposed (First Rest : List ℕ → List ℕ → Type 0) (t s : List ℕ) : Type 0 where
   pub first : List ℕ
   pub rest : List ℕ
@@ -14,7 +14,7 @@ pub record BothComposed (First Rest : List ℕ → List ℕ → Type 0) (t s : L
   pub rest_allowed : Rest (t ++ first) rest
   pub all : s ≡ first ++ rest
 
--- A length of two fields, where both are known and a length of 16 bits tells them.
+-- A length of two fields, where both are known and their sum fits 16 bits.
 abbrev pub both_len : Option ℕ → Option ℕ → Option ℕ
 both_len None _ = None
 both_len (Some a) None = None

@@ -34,7 +34,7 @@ pub trait DataField {
 
     /// Appends the field, or nothing.
     ///
-    /// It is refused only where octets that may be appended exceed the spare capacity of the target,
+    /// Fails only where octets that may be appended exceed the spare capacity of the target,
     /// and leaves its octets then.
     fn compose_field<Target: Composer>(
         &self,
@@ -47,7 +47,7 @@ pub trait DataField {
 
     /// Appends the canonical form of the field, or nothing.
     ///
-    /// It is refused only where its octets exceed the spare capacity of the target, and leaves its
+    /// Fails only where its octets exceed the spare capacity of the target, and leaves its
     /// octets then.
     fn compose_canonical_field<Target: Composer>(
         &self,

@@ -44,7 +44,7 @@ pub trait ReadField<'a, E: FieldError>: Sized {
     /// A value that is seen so is in the octets at the first offset, and the second offset is its end.
     ghost encodes: { List ℕ → ℕ → View → ℕ → Type 0 };
 
-    /// No value is at the offset, and the error tells why.
+    /// No value is at the offset, and the error says why.
     ghost fails_with: { List ℕ → ℕ → E → Type 0 };
 
     /// Reads a value at the parser's position, and moves the parser to its end. An error leaves the parser.
@@ -54,7 +54,7 @@ pub trait ReadField<'a, E: FieldError>: Sized {
         ensures err { IfErr result (λ e. fails_with (message parser.old) (position parser.old) e) }
         ensures unchanged { OnErr result (parser.new ≡ parser.old) };
 
-    /// At each offset one value is read, or one error is told, and never both.
+    /// At each offset one value is read, or one error is returned, and never both.
     ghost lawful: { IsReadingOf E.said encodes fails_with };
 }
 

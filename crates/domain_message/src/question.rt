@@ -107,7 +107,7 @@ impl<'a, N: AbsoluteLabels<'a>> Question<N> {
 
     /// Appends the question, or nothing: the name, which the target may compress, then the type and the class.
     ///
-    /// It is refused only if the question exceeds the spare capacity. The target's octets are then unchanged.
+    /// Fails only if the question exceeds the spare capacity. The target's octets are then unchanged.
     pub fn compose<Target: Composer>(
         &'a self,
         target: &mut Target,

@@ -155,7 +155,7 @@ impl<'a> RecordSection<'a> {
     ghost use Rattle.domain_message.specs.SectionOrder.{section_after};
     ghost use Rattle.domain_message.specs.declared.section.Section.{Section};
 
-    /// The records of a section that begins where the parser stands.
+    /// The records of a section that begins at the parser's position.
     fn at(parser: Parser<'a>, section: Section) -> RecordSection<'a>
         requires { 12 ≤ length (message parser) }
         ensures { Begins (message parser.entry) section (position parser.entry) result }

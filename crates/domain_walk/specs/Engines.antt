@@ -11,12 +11,14 @@ use Rattle.domain_tool.specs.Numerals.{TellsPlace}
 use Rattle.domain_walk.specs.Following.{FollowedThrough}
 pub use Rattle.domain_walk.specs.Lines.{count_text}
 
--- The last line: the name at p with its final dot, or the reason why there is none, and how many labels and pointers were read.
+-- The last line: the name at p with its final dot, or the reason why there is none, and how many labels and pointers
+-- were read.
 abbrev pub IsLastLine : List ℕ → ℕ → Bool → ℕ → List ℕ → Type 0
 IsLastLine m p true count last = (ls : List (List ℕ)) × Names 255 m p ls × (last ≡ text_with_final_dot ls ++ count_text count)
 IsLastLine m p false count last = (f : NameFault) × NameFaultAt 255 m p f × (last ≡ refusal_text (error_of f) ++ count_text count)
 
--- The name at p was followed and told line by line, of at most 383 labels and pointers, and the last line tells what it came to.
+-- A line was written for each label and pointer read from p on, at most 383, and a last line with the name or the
+-- reason why there is none.
 pub record WritesFollowed (m : List ℕ) (p : ℕ) (found : Bool) (old new : Option (List ℕ)) : Type 0 where
   pub lines : List ℕ
   pub last : List ℕ

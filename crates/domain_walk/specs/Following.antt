@@ -26,7 +26,7 @@ fault_line n m k fs r BadLabelType x = bad_type_line r (slice_index m r)
 fault_line n m k fs r TooManyPointers x = refused_line r x.0
 fault_line n m k fs r LongName x = long_line r x.0
 
--- The name at p was followed to its root or to a fault: the lines that tell so, and how many labels and pointers were
+-- The name at p was followed to its root or to an error: the lines that say so, and how many labels and pointers were
 -- read, the last of them among them.
 pub data FollowedThrough (m : List ℕ) (p : ℕ) (lines : List ℕ) (count : ℕ) : Type 0 where
   to_root : {k r : ℕ} {fs : List (List ℕ)} (w : Followed 255 m p k fs r) → OctetAt m r 0 → lines ≡ walk_lines w ++ (root_line r ++ 10 ∷ []) → count ≡ length fs + k + 1 → FollowedThrough m p lines count

@@ -1,4 +1,4 @@
--- The line that tells what is at an offset of a message.
+-- The line of what is at an offset of a message.
 use Rattle.std.specs.Prelude.{ℕ, List, [], ◌∷◌, ◌++◌, length, codes, cond, ◌==◌, nat_lt}
 use Rattle.std.specs.Fmt.{decimal}
 use Rattle.domain_label.specs.Text.{escaped}

@@ -47,7 +47,7 @@ fn refused_pointer<'a>(offset: usize, target: usize) -> Step<'a>
     }
 }
 
-/// The label at an offset, behind its length octet.
+/// The label at an offset, after its length octet.
 fn label_at(message: &[u8], offset: usize, len: u8) -> Label<'_>
     requires { (l : List ℕ) × (length l ≡ len) × LabelAt message.now offset l }
     ensures label { LabelAt message.now offset (label_octets result) }
