@@ -3,10 +3,11 @@ use Rattle.std.specs.Prelude.{◌≡◌, ℕ, ◌+◌, ◌≤◌, ◌<◌, List,
 use Rattle.domain_label.specs.Wire.{wire, labels_in, IsWire}
 use Rattle.domain_compress.specs.Compressing.{RememberedLabel, pointer_to, Compresses}
 
--- the places of a table, of which no end of a name is known
+-- an offset of a table: where the name ends that it was written for isn't known
 abbrev pub place_in_table : ℕ → RememberedLabel
 place_in_table offset = record { at = offset; end = 0 }
 
+-- the offsets of a table, as remembered labels
 abbrev pub places_in_table : List ℕ → List RememberedLabel
 places_in_table = map place_in_table
 
