@@ -18,7 +18,7 @@ use Rattle.domain_tool.specs.declared.section.Section.TheVariants.{Question as Q
 abbrev pub question_line : Question → List ℕ
 question_line it = 32 ∷ text_with_final_dot (parsed_labels it.name) ++ 32 ∷ decimal (rtype_number it.rtype) ++ 32 ∷ decimal it.class
 
--- The name, type, class, time to live and length of a record stand from p to e (RFC 1035, 4.1.3).
+-- The name, type, class, TTL and length of a record are at p and end before e (RFC 1035, 4.1.3).
 pub record IsRecordHeader (m : List ℕ) (p : ℕ) (it : RecordHeader) (e : ℕ) : Type 0 where
   pub behind : ℕ
   pub name : NameTo m p (parsed_labels it.name) behind

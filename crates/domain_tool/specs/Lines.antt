@@ -1,4 +1,4 @@
--- The lines of a message (RFC 1035, 4.1): one for each entry, in the order in which they stand there.
+-- The lines of a message (RFC 1035, 4.1): one for each entry, in the order in which they are there.
 use Rattle.std.specs.Prelude.{◌≡◌, ℕ, ◌+◌, ◌<◌, ◌≤◌, ◌⊎◌, List, [], ◌∷◌, ◌++◌, length, replicate, slice_range, codes}
 use Rattle.std.specs.Fmt.{decimal}
 use Rattle.std.specs.Int.{w16, w32, from_be_bytes}
@@ -11,7 +11,7 @@ use Rattle.domain_tool.specs.NameFaults.{NoNameAt}
 use Rattle.domain_tool.specs.declared.section.Section.{Section}
 use Rattle.domain_tool.specs.declared.section.Section.TheVariants.{Question, Answer, Authority, Additional}
 
--- the numbers that stand at a place in 16 and in 32 bits
+-- the numbers that are at an offset in 16 and in 32 bits
 abbrev pub number16 : List ℕ → ℕ → ℕ
 number16 m p = from_be_bytes w16 (slice_range m p (p + 2))
 
@@ -26,20 +26,20 @@ section_word Answer = codes "answer"
 section_word Authority = codes "authority"
 section_word Additional = codes "additional"
 
--- The name at p is ls, and e is the place behind it (RFC 1035, 4.1.4).
+-- The name at p is ls, and e is the offset after it (RFC 1035, 4.1.4).
 pub record NameTo (m : List ℕ) (p : ℕ) (ls : List (List ℕ)) (e : ℕ) : Type 0 where
   pub named : Names 255 m p ls
   pub front : EncodingEnds m p e
 
--- What is shown of the name, the type and the class of an entry: the two numbers stand at q, behind the name.
+-- What is shown of the name, the type and the class of an entry: the two numbers are at q, after the name.
 abbrev pub shown_entry : List ℕ → List (List ℕ) → ℕ → List ℕ
 shown_entry m ls q = 32 ∷ text_with_final_dot ls ++ 32 ∷ decimal (number16 m q) ++ 32 ∷ decimal (number16 m (q + 2))
 
--- What is shown of the rest of a record, whose type stands at q: the time to live in 32 bits, and the data behind its length.
+-- What is shown of the rest of a record, whose type is at q: the TTL in 32 bits, and the data after its length.
 abbrev pub shown_record : List ℕ → ℕ → List ℕ
 shown_record m q = 32 ∷ decimal (number32 m (q + 4)) ++ 32 ∷ unknown_text (slice_range m (q + 10) (q + 10 + number16 m (q + 8)))
 
--- A question stands from p to e (RFC 1035, 4.1.2).
+-- A question is at p and ends before e (RFC 1035, 4.1.2).
 pub record IsQuestion (m : List ℕ) (p : ℕ) (line : List ℕ) (e : ℕ) : Type 0 where
   pub labels : List (List ℕ)
   pub behind : ℕ
@@ -48,7 +48,7 @@ pub record IsQuestion (m : List ℕ) (p : ℕ) (line : List ℕ) (e : ℕ) : Typ
   pub end : e ≡ behind + 4
   pub shown : line ≡ shown_entry m labels behind
 
--- A record stands from p to e (RFC 1035, 4.1.3).
+-- A record is at p and ends before e (RFC 1035, 4.1.3).
 pub record IsRecord (m : List ℕ) (p : ℕ) (line : List ℕ) (e : ℕ) : Type 0 where
   pub labels : List (List ℕ)
   pub behind : ℕ
@@ -57,50 +57,51 @@ pub record IsRecord (m : List ℕ) (p : ℕ) (line : List ℕ) (e : ℕ) : Type 
   pub end : e ≡ behind + 10 + number16 m (behind + 8)
   pub shown : line ≡ shown_entry m labels behind ++ shown_record m behind
 
--- No question stands at p, and why: no name is there, or the message ends before the question does.
+-- No question is at p, and why: no name is there, or the message ends before the question does.
 pub data NoQuestion (m : List ℕ) (p : ℕ) (why : ParseError) : Type 0 where
   no_name : NoNameAt m p why → NoQuestion m p why
   cut : (ls : List (List ℕ)) (q : ℕ) → NameTo m p ls q → length m < q + 4 → why ≡ ShortInput → NoQuestion m p why
 
--- No record stands at p, and why.
+-- No record is at p, and why.
 pub data NoRecord (m : List ℕ) (p : ℕ) (why : ParseError) : Type 0 where
   no_name : NoNameAt m p why → NoRecord m p why
   cut : (ls : List (List ℕ)) (q : ℕ) → NameTo m p ls q → (length m < q + 10) ⊎ (length m < q + 10 + number16 m (q + 8)) → why ≡ ShortInput → NoRecord m p why
 
--- An entry of a section stands from p to e, and is shown so.
+-- An entry of a section is at p and ends before e, and is shown so.
 abbrev pub IsEntry : List ℕ → Section → ℕ → List ℕ → ℕ → Type 0
 IsEntry m Question p line e = IsQuestion m p line e
 IsEntry m Answer p line e = IsRecord m p line e
 IsEntry m Authority p line e = IsRecord m p line e
 IsEntry m Additional p line e = IsRecord m p line e
 
--- No question or resource record of this section stands at p, and why.
+-- No question or resource record of this section is at p, and why.
 abbrev pub NoEntry : List ℕ → Section → ℕ → ParseError → Type 0
 NoEntry m Question p why = NoQuestion m p why
 NoEntry m Answer p why = NoRecord m p why
 NoEntry m Authority p why = NoRecord m p why
 NoEntry m Additional p why = NoRecord m p why
 
--- An entry of a section stands from p to e, and this is its line: the word of the section, and what is shown of the entry.
+-- An entry of a section is at p and ends before e, and this is its line: the word of the section, and what is shown
+-- of the entry.
 abbrev pub IsLineOf : List ℕ → Section → ℕ → List ℕ → ℕ → Type 0
 IsLineOf m s p line e = (shown : List ℕ) × IsEntry m s p shown e × (line ≡ section_word s ++ shown)
 
--- Entries of these sections stand from p to e, one behind the other, and these are their lines.
+-- Entries of these sections are at p and end before e, one after the other, and these are their lines.
 unfoldable pub Lists : List ℕ → List Section → ℕ → List ℕ → ℕ → Type 0
 Lists m [] p text e = (text ≡ []) × (e ≡ p)
 Lists m (s ∷ ss) p text e = (line : List ℕ) × (q : ℕ) × (rest : List ℕ) × IsLineOf m s p line q
     × (text ≡ (line ++ 10 ∷ []) ++ rest) × Lists m ss q rest e
 
--- The entries that the four counts of the header tell (RFC 1035, 4.1.1).
+-- The entries that the header counts (RFC 1035, 4.1.1).
 abbrev pub counted_entries : List ℕ → List Section
 counted_entries m = replicate (number16 m 4) Question
     ++ (replicate (number16 m 6) Answer ++ (replicate (number16 m 8) Authority ++ replicate (number16 m 10) Additional))
 
--- The header is there, and so are all entries that it counts, from the place behind it on. These are their lines.
+-- The header is there, and so are all entries that it counts, from the offset after it on. These are their lines.
 abbrev pub IsListing : List ℕ → List ℕ → Type 0
 IsListing m text = (12 ≤ length m) × (e : ℕ) × Lists m (counted_entries m) 12 text e
 
--- An entry that the header counts isn't there. The lines are those of the entries before it, and the error tells why.
+-- An entry that the header counts isn't there. The lines are those of the entries before it, and the error says why.
 pub record StopsAtEntry (m : List ℕ) (text : List ℕ) (why : ParseError) : Type 0 where
   pub header : 12 ≤ length m
   pub before : List Section

@@ -1,10 +1,10 @@
--- Why no name stands at a place.
+-- Why no name is at an offset.
 use Rattle.std.specs.Prelude.{ℕ, List}
 use Rattle.domain_wire.specs.declared.error.ParseError.{ParseError}
 use Rattle.domain_wire.specs.Refusals.{refusal}
 use Rattle.domain_reading.specs.ParseResult.{HasNoName}
 
--- No name of at most n pointers is at p in m, and the error tells the fault.
+-- No name of at most n pointers is at p in m, and the error says why.
 abbrev pub NoNameWithin : ℕ → List ℕ → ℕ → ParseError → Type 0
 NoNameWithin n m p e = HasNoName n m p (refusal e)
 

@@ -1,4 +1,4 @@
--- Numbers that a word tells.
+-- Numbers that a word is.
 use Rattle.std.specs.Prelude.{◌≡◌, ℕ, ◌^◌, ◌<◌, ◌≤◌, List, length}
 use Rattle.std.specs.Str.Parse.{IsNumeral, digits_value}
 
@@ -9,7 +9,7 @@ pub record TellsNumber (digits bits : ℕ) (word : List ℕ) (n : ℕ) : Type 0 
   pub number : n ≡ digits_value 10 word
   pub small : n < 2 ^ bits
 
--- A place: at most ten digits, and at most 4,294,967,295.
+-- An offset: at most ten digits, and at most 4,294,967,295.
 abbrev pub TellsPlace : List ℕ → ℕ → Type 0
 TellsPlace word place = TellsNumber 10 32 word place
 

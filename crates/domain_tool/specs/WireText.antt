@@ -1,4 +1,4 @@
--- What `name_text` writes, and when it refuses.
+-- What `name_text` writes, and when it fails.
 use Rattle.std.specs.Prelude.{ℕ, ◌/◌, ◌%◌, List, [], ◌∷◌, ◌++◌, Option, Result, Ok, Err, ⊤}
 use Rattle.std.specs.Io.KnownBytes.{Appends}
 use Rattle.std.specs.List.{flat_map}
@@ -23,11 +23,11 @@ hexadecimal octets = flat_map octet_digits octets
 abbrev pub WritesWireOf : List ℕ → Option (List ℕ) → Option (List ℕ) → Type 0
 WritesWireOf cs old new = (ls : List (List ℕ)) × SpellsName cs ls × Appends old new (hexadecimal (wire ls) ++ 10 ∷ [])
 
--- The characters are the text of no name, and the error tells their first fault.
+-- The characters are the text of no name, and the error is their first.
 abbrev pub HasTextFault : List ℕ → FromStrError → Type 0
 HasTextFault cs e = MatchFromStr e (SpellsNoName cs) ⊥
 
--- The text was refused, and P holds of the reason; or the output couldn't be written. Nothing else fails.
+-- The text is none of a name, and P holds of the reason; or the output couldn't be written. Nothing else fails.
 abbrev pub IfTextRefused : Result (Unit {0}) ToolError → (FromStrError → Type 0) → Type 0
 IfTextRefused (Ok done) P = ⊤
 IfTextRefused (Err (Parse e)) P = ⊥
@@ -36,7 +36,7 @@ IfTextRefused (Err Read) P = ⊥
 IfTextRefused (Err Write) P = ⊤
 IfTextRefused (Err Memory) P = ⊥
 
--- The text was refused for this reason.
+-- The text is none of a name, for this reason.
 abbrev pub RefusesText : Result (Unit {0}) ToolError → (FromStrError → Type 0) → Type 0
 RefusesText (Ok done) P = ⊥
 RefusesText (Err (Parse e)) P = ⊥

@@ -1,15 +1,15 @@
--- Words that ask for the name at a place.
+-- Words that ask for the name at an offset.
 use Rattle.std.specs.Prelude.{◌≡◌, ℕ, List, [], ◌∷◌, codes}
 use Rattle.domain_tool.specs.Numerals.{TellsPlace, TellsPointers}
 
--- The words are `at` and a place, for a name through at most 255 pointers.
+-- The words are `at` and an offset, for a name through at most 255 pointers.
 pub record AsksAt (words : List (List ℕ)) (place pointers : ℕ) : Type 0 where
   pub word : List ℕ
   pub two : words ≡ codes "at" ∷ word ∷ []
   pub tells : TellsPlace word place
   pub most : pointers ≡ 255
 
--- The words are `at` and a place, and `--pointers` and how many pointers the name may have at most.
+-- The words are `at` and an offset, and `--pointers` and how many pointers the name may have at most.
 pub record AsksWithin (words : List (List ℕ)) (place pointers : ℕ) : Type 0 where
   pub word : List ℕ
   pub limit : List ℕ

@@ -1,4 +1,4 @@
--- What the words behind the program's name ask for, and what is done for them.
+-- What the words after the program's name ask for, and what is done for them.
 use Rattle.std.specs.Prelude.{◌≡◌, ℕ, ◌⊎◌, List, [], ◌∷◌, Option, IfSome, codes, ⊤}
 use Rattle.std.specs.Io.KnownBytes.{Appends, Keeps}
 use Rattle.std.specs.Str.{chars}
@@ -13,13 +13,13 @@ use Rattle.domain_tool.specs.declared.asked.Asked.TheVariants.{At, Text as TextO
 use Rattle.domain_tool.specs.declared.tool.ToolError.{ToolError}
 use Rattle.domain_tool.specs.declared.tool.ToolError.TheVariants.{Parse, Text, Read, Write, Memory}
 
--- The words are `at` and a place, `text` and any word, or `list`.
+-- The words are `at` and an offset, `text` and any word, or `list`.
 abbrev pub AsksPlainly : List (List ℕ) → Asked → Type 0
 AsksPlainly words (At place pointers) = AsksAt words place pointers
 AsksPlainly words (TextOf text) = words ≡ codes "text" ∷ text.now ∷ []
 AsksPlainly words Lines = words ≡ codes "list" ∷ []
 
--- They are one of these, or limit the pointers of the name at a place.
+-- They are one of these, or limit the pointers of the name at an offset.
 abbrev pub Asks : List (List ℕ) → Asked → Type 0
 Asks words (At place pointers) = AsksAt words place pointers ⊎ AsksWithin words place pointers
 Asks words (TextOf text) = words ≡ codes "text" ∷ text.now ∷ []
@@ -42,7 +42,7 @@ Refuses (At place pointers) input old new = IfSome input (λ m. (e : ParseError)
 Refuses (TextOf text) input old new = ((e : FromStrError) × HasTextFault (chars text.now) e) × Keeps old new
 Refuses Lines input old new = IfSome input (λ m. (text : List ℕ) × (e : ParseError) × StopsListing m text e × Appends old new text)
 
--- Reading, writing or memory failed, as the error tells. Where reading did, nothing was written. The text of a name
+-- Reading, writing or memory failed, as the error says. Where reading did, nothing was written. The text of a name
 -- asks for neither input nor memory, so there writing did.
 abbrev pub Fails : Asked → ToolError → Option (List ℕ) → Option (List ℕ) → Type 0
 Fails asked (Parse e) old new = ⊥
@@ -55,7 +55,7 @@ Fails (At place pointers) Memory old new = ⊤
 Fails Lines Memory old new = ⊤
 Fails (TextOf text) Memory old new = ⊥
 
--- On an error that tells what failed.
+-- On an error that says what failed.
 abbrev pub OnFailure : ToolError → Type 0 → Type 0
 OnFailure (Parse e) P = ⊤
 OnFailure (Text e) P = ⊤
@@ -63,7 +63,7 @@ OnFailure Read P = P
 OnFailure Write P = P
 OnFailure Memory P = P
 
--- On an error that tells what is wrong with what was asked for.
+-- On an error that says what is wrong with what was asked for.
 abbrev pub OnRefusal : ToolError → Type 0 → Type 0
 OnRefusal (Parse e) P = P
 OnRefusal (Text e) P = P

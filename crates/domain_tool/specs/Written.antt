@@ -5,11 +5,11 @@ use Rattle.domain_wire.specs.declared.error.ParseError.{ParseError}
 use Rattle.domain_tool.specs.declared.section.Section.{Section}
 use Rattle.domain_tool.specs.Lines.{IsLineOf, Lists, NoEntry}
 
--- The entry of this section that stands from p to e was written as its line.
+-- The entry of this section that is at p and ends before e was written as its line.
 abbrev pub WritesEntry : List ℕ → Section → ℕ → ℕ → Option (List ℕ) → Option (List ℕ) → Type 0
 WritesEntry m s p e old new = (line : List ℕ) × IsLineOf m s p line e × Appends old new (line ++ 10 ∷ [])
 
--- The entries of these sections that stand from p to e were written as their lines.
+-- The entries of these sections that are at p and end before e were written as their lines.
 abbrev pub WritesEntries : List ℕ → List Section → ℕ → ℕ → Option (List ℕ) → Option (List ℕ) → Type 0
 WritesEntries m ss p e old new = (text : List ℕ) × Lists m ss p text e × Appends old new text
 

@@ -1,4 +1,4 @@
-//! What the words behind the program's name ask for.
+//! What the words after the program's name ask for.
 ghost use Rattle.std.specs.Prelude.{◌≡◌, ℕ, map, slice_index, ◌↔◌, IsTrue, IsNone, IfSome};
 ghost use Rattle.domain_tool.specs.WordParts.{AsksWithin};
 ghost use Rattle.domain_tool.specs.Numerals.{TellsPlace, TellsPointers};
@@ -6,9 +6,9 @@ ghost use Rattle.domain_tool.specs.Numerals.{TellsPlace, TellsPointers};
 /// What words ask for.
 #[derive(Clone, Copy)]
 pub(crate) enum Asked<'a> {
-    /// The name at a place of the message, through at most so many pointers.
+    /// The name at an offset of the message, of at most this many pointers.
     At(u32, u8),
-    /// The wire format of the name that a text spells.
+    /// The wire format of the name that a text is.
     Text(&'a str),
     /// The lines of the message.
     List,
@@ -46,7 +46,7 @@ impl<'a> Asked<'a> {
     }
 }
 
-/// The place of the name that words ask for, and how many pointers it may have at most, where they tell
+/// The offset of the name that words ask for, and how many pointers it may have at most, where they say
 /// both.
 fn limited(words: &[&str]) -> Option<(u32, u8)>
     ensures some { IfSome result (λ asked. AsksWithin (map (λ word. word.now) words.now) asked.0 asked.1) }
@@ -64,7 +64,7 @@ fn limited(words: &[&str]) -> Option<(u32, u8)>
     }
 }
 
-/// The place that a word tells: one to ten decimal digits, at most 4,294,967,295.
+/// The offset that a word is: one to ten decimal digits, at most 4,294,967,295.
 pub fn offset_of_word(word: &str) -> Option<u32>
     ensures some { IfSome result (λ place. TellsPlace word.now place) }
     ensures none { IsNone result → (place : ℕ) → TellsPlace word.now place → ⊥ }
@@ -76,7 +76,7 @@ pub fn offset_of_word(word: &str) -> Option<u32>
     word.parse().ok()
 }
 
-/// The number of pointers that a word tells: one to three decimal digits, at most 255.
+/// The number of pointers that a word is: one to three decimal digits, at most 255.
 fn pointers_of(word: &str) -> Option<u8>
     ensures some { IfSome result (λ pointers. TellsPointers word.now pointers) }
     ensures none { IsNone result → (pointers : ℕ) → TellsPointers word.now pointers → ⊥ }

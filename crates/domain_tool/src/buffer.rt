@@ -9,7 +9,7 @@ use std::io::Write;
 /// How many octets of lines are written at once, or more.
 const ENOUGH: usize = 8192;
 
-/// Puts a text and a newline behind lines that aren't written yet, and writes all where they are enough.
+/// Puts a text and a newline after lines that aren't written yet, and writes all where they are enough.
 pub(crate) fn put_line<D: Display + Drop, W: Write>(
     lines: &mut Vec<u8>,
     output: &mut W,

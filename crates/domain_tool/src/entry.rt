@@ -23,7 +23,7 @@ impl<'a> Question<'a> {
     ghost use Rattle.domain_tool.specs.Entries.{question_line};
     ghost use Rattle.domain_tool.specs.Lines.{IsQuestion, NoQuestion};
 
-    /// Reads a question, and moves the parser behind it.
+    /// Reads a question, and moves the parser past it.
     pub(crate) fn parse(parser: &mut Parser<'a>) -> Result<Question<'a>, ParseError>
         ensures ok { IfOk result (λ it. IsQuestion (message parser.old) (position parser.old) (question_line it) (position parser.new)) }
         ensures moves { OnOk result (MovesTo parser.old parser.new (position parser.new)) }
@@ -63,7 +63,7 @@ impl<'a> fmt::Display for Question<'a> {
     }
 }
 
-/// What stands before the data of a record (RFC 1035, 4.1.3).
+/// What comes before the data of a record (RFC 1035, 4.1.3).
 #[derive(Clone, Copy)]
 struct RecordHeader<'a> {
     name: ParsedName<&'a [u8]>,
@@ -77,7 +77,7 @@ impl<'a> RecordHeader<'a> {
     ghost use Rattle.domain_tool.specs.Entries.{IsRecordHeader};
     ghost use Rattle.domain_tool.specs.Lines.{NoRecord};
 
-    /// Reads what stands before the data, and moves the parser to the data.
+    /// Reads what comes before the data, and moves the parser to the data.
     fn parse(parser: &mut Parser<'a>) -> Result<RecordHeader<'a>, ParseError>
         ensures ok { IfOk result (λ it. IsRecordHeader (message parser.old) (position parser.old) it (position parser.new)) }
         ensures moves { OnOk result (MovesTo parser.old parser.new (position parser.new)) }
@@ -124,7 +124,7 @@ impl<'a> Record<'a> {
     ghost use Rattle.domain_tool.specs.Entries.{record_line};
     ghost use Rattle.domain_tool.specs.Lines.{IsRecord, NoRecord};
 
-    /// Reads a record, and moves the parser behind it.
+    /// Reads a record, and moves the parser past it.
     pub(crate) fn parse(parser: &mut Parser<'a>) -> Result<Record<'a>, ParseError>
         ensures ok { IfOk result (λ it. IsRecord (message parser.old) (position parser.old) (record_line it) (position parser.new)) }
         ensures moves { OnOk result (MovesTo parser.old parser.new (position parser.new)) }
@@ -145,7 +145,7 @@ impl<'a> Record<'a> {
     }
 }
 
-/// The name with a final dot, the type, the class, the time to live and the data, a space before each.
+/// The name with a final dot, the type, the class, the TTL and the data, a space before each.
 impl<'a> fmt::Display for Record<'a> {
     ghost use Rattle.domain_tool.specs.Entries.{record_line};
 
@@ -171,7 +171,7 @@ impl<'a> Entry<'a> {
     ghost use Rattle.domain_tool.specs.Entries.{entry_line};
     ghost use Rattle.domain_tool.specs.Lines.{IsLineOf, NoEntry};
 
-    /// Reads an entry of this section, and moves the parser behind it.
+    /// Reads an entry of this section, and moves the parser past it.
     pub(crate) fn parse(section: Section, parser: &mut Parser<'a>) -> Result<Entry<'a>, ParseError>
         ensures ok { IfOk result (λ it. IsLineOf (message parser.old) section (position parser.old) (entry_line it) (position parser.new)) }
         ensures moves { OnOk result (MovesTo parser.old parser.new (position parser.new)) }

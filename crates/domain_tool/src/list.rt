@@ -15,8 +15,8 @@ use octseq::{Parser, ShortInput};
 use std::alloc::Global;
 use std::io::{Read, Write};
 
-/// Writes the line of the entry at the parser's place behind the lines that aren't written yet, and moves
-/// the parser behind it.
+/// Writes the line of the entry at the parser's position after the lines that aren't written yet, and moves
+/// the parser after it.
 fn write_entry<W: Write>(
     section: Section,
     parser: &mut Parser<'_>,
@@ -37,7 +37,7 @@ fn write_entry<W: Write>(
     Ok(())
 }
 
-/// Writes the lines of so many entries of a section, and moves the parser behind them.
+/// Writes the lines of this many entries of a section, and moves the parser past them.
 fn write_section<W: Write>(
     section: Section,
     count: u16,
@@ -70,7 +70,7 @@ struct Counts {
 impl Counts {
     ghost use Rattle.domain_tool.specs.Counted.{IsCounted};
 
-    /// Reads the header of a message, and moves the parser behind its 12 octets (RFC 1035, 4.1.1).
+    /// Reads the header of a message, and moves the parser past its 12 octets (RFC 1035, 4.1.1).
     fn parse(parser: &mut Parser<'_>) -> Result<Counts, ShortInput>
         requires { position parser.old ≡ 0 }
         ensures ok { IfOk result (λ counts. IsCounted (message parser.old) counts) }
@@ -87,7 +87,7 @@ impl Counts {
     }
 }
 
-/// Writes the lines of the message behind the lines that aren't written yet.
+/// Writes the lines of the message after the lines that aren't written yet.
 fn list_message<W: Write>(
     message: &[u8],
     lines: &mut Vec<u8>,
@@ -134,10 +134,10 @@ fn list_message<W: Write>(
 
 /// Reads the input to its end, and writes a line for each question and record of the message.
 ///
-/// The counts of the header say how many entries each section has (RFC 1035, 4.1.1); octets behind the
+/// The counts of the header say how many entries each section has (RFC 1035, 4.1.1); octets after the
 /// last one are ignored. A line has the word of the section (`question`, `answer`, `authority`,
-/// `additional`), the name with a final dot, type and class, and for a record its time to live and its
-/// data in the generic text of RFC 3597. `Parse` where the header or an entry isn't there, with the fault
+/// `additional`), the name with a final dot, type and class, and for a record its TTL and its
+/// data in the generic text of RFC 3597. `Parse` where the header or an entry isn't there, with the error
 /// of its name, else `ShortInput`; the lines of the entries before it are written then. `Read` where the
 /// input couldn't be read; nothing is written then.
 pub fn list<R: Read, W: Write>(

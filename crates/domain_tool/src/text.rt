@@ -17,7 +17,7 @@ use std::alloc::Global;
 use std::fmt;
 use std::io::Write;
 
-/// The name that a text spells. Each name has room.
+/// The name that a text is. Each name fits.
 fn name_from_text(alloc: Global, text: &str) -> Result<Name<ArrayVec<u8, 255>>, FromStrError>
     ensures ok { IfOk result (λ name. SpellsName (chars text.now) (name_labels name)) }
     ensures err { IfErr result (HasTextFault (chars text.now)) }
@@ -26,11 +26,11 @@ fn name_from_text(alloc: Global, text: &str) -> Result<Name<ArrayVec<u8, 255>>, 
     Name::from_chars(alloc, text.chars())
 }
 
-/// Writes the wire format of the absolute name that a text spells, in lower case hexadecimal digits, and a
+/// Writes the wire format of the absolute name that a text is, in lower case hexadecimal digits, and a
 /// newline.
 ///
 /// The text is read by `Name::from_chars` (RFC 1035, 5.1). `Text` where it is none of a name, with its
-/// first fault; nothing is written then. Else the only error is `Write`, where the output couldn't be
+/// first error; nothing is written then. Else the only error is `Write`, where the output couldn't be
 /// written: no memory is needed.
 pub fn name_text<W: Write>(alloc: Global, text: &str, output: &mut W) -> Result<(), ToolError>
     ensures written { OnOk result (WritesWireOf (chars text.now) (W.contents output.old) (W.contents output.new)) }

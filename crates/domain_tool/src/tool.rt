@@ -70,7 +70,7 @@ pub fn read_all<R: Read>(alloc: Global, input: &mut R) -> Result<Vec<u8>, ToolEr
     }
 }
 
-/// The name at a place of a message, through at most so many pointers. A place past the end is
+/// The name at an offset of a message, of at most this many pointers. An offset past the end is
 /// `ShortInput`.
 pub fn parse_at(message: &[u8], place: u32, limit: u8) -> Result<ParsedName<&[u8]>, ParseError>
     ensures ok { IfOk result (λ name. Names limit message.now place (parsed_labels name)) }
@@ -127,11 +127,11 @@ pub fn write_line<D: fmt::Display + Drop, W: Write>(
     Ok(())
 }
 
-/// Reads the input to its end, and writes the name at the place, with a final dot and a
+/// Reads the input to its end, and writes the name at the offset, with a final dot and a
 /// newline.
 ///
-/// The name may have compression pointers (RFC 1035, 4.1.4). `Parse` where none is there, with the fault
-/// of `ParsedName::parse`; nothing is written then. A place past the input is `ShortInput`.
+/// The name may have compression pointers (RFC 1035, 4.1.4). `Parse` where none is there, with the error
+/// of `ParsedName::parse`; nothing is written then. An offset past the input is `ShortInput`.
 pub fn name_at<R: Read, W: Write>(
     alloc: Global,
     input: &mut R,
@@ -171,7 +171,7 @@ pub fn name_at_with_limit<R: Read, W: Write>(
 
 const USAGE: &str = "usage: dnsnames at PLACE [--pointers N] | dnsnames text NAME | dnsnames list";
 
-/// Does what is asked for, and flushes the output. Where this fails, `Write` is told, whatever came before.
+/// Does what is asked for, and flushes the output. Where this fails, `Write` is returned, whatever came before.
 fn carry_out<R: Read, W: Write>(
     alloc: Global,
     asked: Asked<'_>,
@@ -194,7 +194,7 @@ fn carry_out<R: Read, W: Write>(
 }
 
 /// Carries out the words that follow the program's name, and flushes the output. The answer is the status
-/// to end with: 0 where it is done, 1 where the input or the text is refused, 2 for other words, 3 where
+/// to end with: 0 where it is done, 1 where there is no such name or message, 2 for other words, 3 where
 /// reading, writing or memory failed. The reason is written to `errors`; that this fails changes no status.
 /// Where flushing fails, `writing failed` is the reason, whatever came before.
 ///

@@ -1,4 +1,4 @@
-//! The words behind a program's name.
+//! The words after a program's name.
 
 use std::alloc::Global;
 use std::env::{self, Env, FillError};
@@ -30,7 +30,7 @@ impl<E: Env> Env for Words<E> {
     }
 }
 
-/// The words behind the program's name. `OutOfMemory` where there was no memory, another kind where a word is no text.
+/// The words after the program's name. `OutOfMemory` where there was no memory, another kind where a word is no text.
 pub fn arguments<E: Env + Drop>(alloc: Global, env: E) -> Result<Vec<String>, ErrorKind> {
     match env::args(&(Words { env }, alloc)) {
         Ok(arguments) => match arguments.collect(alloc) {
