@@ -33,8 +33,8 @@ WHERE = {"read": "in a message", "text": "text to wire", "show": "wire to text",
 TITLES = {"read": "Names in messages", "text": "Text to wire format", "show": "Wire format to text", "order": "Canonical order"}
 LEGENDS = {
     "read": "yes: accepted, with the labels of the case and the offset after the name, where it has any; other: accepted with "
-            "others; no: refused. The message of each case ends where memory that can't be read begins, so that a library in C "
-            "which reads past its end dies.",
+            "others; no: refused. The message of each case ends where memory that can't be read begins, so that a "
+            "library in C which reads past its end dies.",
     "text": "yes: accepted, as the name of the case; other: as another name; no: refused. The text is given as one word, "
             "without an origin.",
     "show": "yes: a text that RFC 1035, 5.1 reads as the same labels, with or without a dot at its end; other: another text.",
@@ -174,11 +174,12 @@ class Report:
 
     def head(self):
         self.say("# Beside other libraries", "", filled(
-            "What DNS libraries accept as a name in a message and as a name's text, how they order names, and what the "
-            "standard says of it. `compare/run.sh WORK docs` builds a driver for each library that is there, asks all of them "
-            f"the same {len(self.cases)} cases (`compare/corpus.py`, which takes what is expected from the standard's text "
-            f"alone), and writes this page and [the table of all cases]({CASES}): here on {datetime.date.today().isoformat()}, "
-            f"{platform.system()} {platform.machine()}. Nothing is said of a library but what that run saw of the version "
+            "What DNS libraries accept as a name in a message and as a name's text, how they order names, and what "
+            "the standard says of it. `compare/run.sh WORK docs` builds a driver for each library that is there, asks "
+            f"all of them the same {len(self.cases)} cases (`compare/corpus.py`, which takes what is expected from "
+            f"the standard's text alone), and writes this page and [the table of all cases]({CASES}): here on "
+            f"{datetime.date.today().isoformat()}, {platform.system()} {platform.machine()}. Nothing is said of a "
+            "library but what that run saw of the version "
             "below. What hostile messages cost in each: [COST.md](COST.md)."), "")
 
     def differences(self):
@@ -213,7 +214,8 @@ class Report:
         told = {group: [case for case in self.cases if case.group == group and case.expect != UNSAID] for group in WHERE}
         self.say("## How often each differs from the standard's text", "", filled(
             "Of the cases of which it says something. The random messages are held against a reader of twenty lines "
-            f"([its rules]({CASES}#random-messages)); the last column is how many pointers in a row a library follows, of up "
+            f"([its rules]({CASES}#random-messages)); the last column is how many pointers in a row a library "
+            "follows, of up "
             f"to {CHAIN:,}."), "",
             "| | " + " | ".join(f"{WHERE[group]}, {len(cases)}" for group, cases in told.items())
             + f" | random messages, {RANDOM_MESSAGES:,} | pointers |", "|---|" + "--:|" * (len(told) + 2))
@@ -230,8 +232,9 @@ class Report:
 
     def sentences(self):
         self.say("## Where they differ", "", filled(
-            "Those that aren't named do what the standard says. cares, libc and both of Go's give names as text, which their "
-            "drivers take apart into labels. The call of cares that makes a name of a text makes a query of it, and that of "
+            "Those that aren't named do what the standard says. cares, libc and both of Go's give names as text, "
+            "which their drivers take apart into labels. The call of cares that makes a name of a text makes a query "
+            "of it, and that of "
             "gonet knows no escapes: neither claims to read texts of zone files."), "")
         for group, title in TITLES.items():
             alike = {}
@@ -290,9 +293,10 @@ class Report:
     def all_cases(self):
         self.page = self.pages[CASES]
         self.say("# Every case of the comparison", "", filled(
-            f"What [{PAGE}]({PAGE}) sums up, as `compare/run.sh WORK docs` wrote it on {datetime.date.today().isoformat()}. "
-            "Bold is what the standard's text contradicts. Where it says nothing ('unsaid'), 'yes' is the name that one would "
-            "read. died, hung: what the driver did at this case, in 5 seconds; ?: not asked, after "
+            f"What [{PAGE}]({PAGE}) sums up, as `compare/run.sh WORK docs` wrote it on "
+            f"{datetime.date.today().isoformat()}. "
+            "Bold is what the standard's text contradicts. Where it says nothing ('unsaid'), 'yes' is the name that "
+            "one would read. died, hung: what the driver did at this case, in 5 seconds; ?: not asked, after "
             f"{MOST_FAILURES} such cases; -: no such call."), "")
         for group in TITLES:
             self.table(group)
@@ -351,11 +355,13 @@ class RandomMessages:
     def tell(self, say):
         accepted = sum(word != "no" for word in self.wanted)
         say("## Random messages", "", filled(
-            f"{len(self.lines):,} messages of 1 to 40 octets, each made of one of {len(corpus.ALPHABETS)} small alphabets, with "
-            "an offset in each. They are held against a reader of some twenty lines (`standard_name` in `compare/corpus.py`), "
-            "written from RFC 1035, 3.1 and 4.1.4, which takes 'prior' for an offset before the pointer's own, and doesn't ask "
+            f"{len(self.lines):,} messages of 1 to 40 octets, each made of one of {len(corpus.ALPHABETS)} small "
+            "alphabets, with an offset in each. They are held against a reader of some twenty lines (`standard_name` "
+            "in `compare/corpus.py`), written from RFC 1035, 3.1 and 4.1.4, which takes 'prior' for an offset before "
+            "the pointer's own, and doesn't ask "
             f"whether a name began there. It accepts {accepted:,} of them."), "",
-            "| Library | as that reader | only it accepts | only the reader accepts | other labels or end | died or hung |",
+            "| Library | as that reader | only it accepts | only the reader accepts | other labels or end | died or "
+            "hung |",
             "|---|--:|--:|--:|--:|--:|")
         examples = []
         for key in self.answers:
