@@ -50,9 +50,11 @@ class Driver:
     """A running driver that is fed lines, and whose answers come with a limit of time for each."""
 
     def __init__(self, path, lines):
-        self.process = subprocess.Popen([path], stdin=subprocess.PIPE, stdout=subprocess.PIPE, stderr=subprocess.DEVNULL)
+        pipe, null = subprocess.PIPE, subprocess.DEVNULL
+        self.process = subprocess.Popen([path], stdin=pipe, stdout=pipe, stderr=null)
         self.rest = b""
-        threading.Thread(target=self.feed, args=("".join(line + "\n" for line in lines).encode(),), daemon=True).start()
+        data = "".join(line + "\n" for line in lines).encode()
+        threading.Thread(target=self.feed, args=(data,), daemon=True).start()
 
     def feed(self, data):
         try:
@@ -80,8 +82,8 @@ class Driver:
 
 
 def ask(library, lines, seconds=5, failures=20):
-    """The answer to each line. A driver that dies, or takes longer than so many seconds for one answer, is started again
-    behind that line; after so many such failures what is left has no answer (None)."""
+    """The answer to each line. A driver that dies, or takes longer than so many seconds for one answer, is started
+    again behind that line; after so many such failures what is left has no answer (None)."""
     answers = []
     while len(answers) < len(lines) and failures > 0:
         driver = Driver(library.driver, lines[len(answers):])

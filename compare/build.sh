@@ -6,7 +6,8 @@
 # WORK            the folder to build in; nothing is written beside this script
 # DNSNAMES_LIB    this project's library for C (crates/dnsnames_c/out/libdnsnames_c.a, which ./library makes)
 # DNSNAMES_HEADER the folder of its header (bindings/c)
-# DOMAIN_SOURCE   a folder with the Rust crates `domain` and `octseq`, each in a folder of its name; nothing of them is here
+# DOMAIN_SOURCE   a folder with the Rust crates `domain` and `octseq`, each in a folder of its name; nothing of them is
+#                 here
 # CARGO           (cargo of the path)
 #
 # The rest comes from Debian's packages alone. WORK/drivers gets one executable for each library; WORK/missing one file
@@ -124,7 +125,8 @@ fi
 if [ -z "${DOMAIN_SOURCE:-}" ]; then
     miss domain "no source given by the variable DOMAIN_SOURCE"
 else
-    in_rust domain "see WORK/log/domain" "$(sed -n 's/^version = "\(.*\)"/\1/p' "$DOMAIN_SOURCE/domain/Cargo.toml" | head -n 1)" \
+    version=$(sed -n 's/^version = "\(.*\)"/\1/p' "$DOMAIN_SOURCE/domain/Cargo.toml" | head -n 1)
+    in_rust domain "see WORK/log/domain" "$version" \
         "domain = { path = \"$DOMAIN_SOURCE/domain\" }
 octseq = { path = \"$DOMAIN_SOURCE/octseq\" }"
 fi
@@ -142,7 +144,8 @@ else
     mkdir -p "$work/rust/trust/.cargo"
     printf '[source.crates-io]\nreplace-with = "debian"\n[source.debian]\ndirectory = "%s"\n' "$registry" \
         > "$work/rust/trust/.cargo/config.toml"
-    in_rust trust "see WORK/log/trust" "${trust##*-}" 'trust-dns-proto = { version = "0.22", default-features = false }'
+    in_rust trust "see WORK/log/trust" "${trust##*-}" \
+        'trust-dns-proto = { version = "0.22", default-features = false }'
 fi
 
 in_go gonet golang-golang-x-net-dev "$(package_version golang-golang-x-net-dev)"

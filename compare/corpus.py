@@ -1,8 +1,8 @@
 """The cases of the comparison, each with what the standard's text says of it; nothing here is taken from a library.
 
-A case asks one line of a driver (compare/drivers/line.h tells the protocol). Its expectation is ACCEPT, REFUSE or UNSAID;
-with ACCEPT and UNSAID go the labels, and for a message the offset after the name, that an acceptance has to give. UNSAID
-is where the text decides nothing, which `rule` then says.
+A case asks one line of a driver (compare/drivers/line.h tells the protocol). Its expectation is ACCEPT, REFUSE or
+UNSAID; with ACCEPT and UNSAID go the labels, and for a message the offset after the name, that an acceptance has to
+give. UNSAID is where the text decides nothing, which `rule` then says.
 
 Left out: offsets past the end of a message, which several libraries take as addresses, so that they are a caller's
 fault; and how a zone file is split into words (quotes, parentheses, comments, `@`), which isn't a name's affair.
@@ -16,14 +16,14 @@ ACCEPT, REFUSE, UNSAID = "accept", "refuse", "unsaid"
 
 # What the standard says, in short: the section, and its words in others.
 RULES = {
-    "size": ("1035 3.1", "labels, each a length octet of at most 63 and so many octets, up to the empty label of the root; "
-                         "a name has 255 octets or less, length octets included"),
+    "size": ("1035 3.1", "labels, each a length octet of at most 63 and so many octets, up to the empty label of the "
+                         "root; a name has 255 octets or less, length octets included"),
     "limits": ("1035 2.3.4", "labels have 63 octets or less, names 255 octets or less"),
     "pointers": ("1035 4.1.4", "a name, or its last labels, may be a pointer to a prior occurrence; all programs must "
                                "understand pointers, and how many may follow each other isn't limited"),
     "prior": ("1035 4.1.4", "a pointer leads to a prior occurrence of the name"),
-    "inside": ("1035 4.1.4", "who writes a pointer has to lead it to a name that occurred before; that a reader, who can't "
-                             "know where names began, has to refuse other octets that read as one isn't said"),
+    "inside": ("1035 4.1.4", "who writes a pointer has to lead it to a name that occurred before; that a reader, who "
+                             "can't know where names began, has to refuse other octets that read as one isn't said"),
     "types": ("1035 4.1.4", "length octets that begin with the bits 01 and 10 are reserved (01 also by RFC 6891, 5)"),
     "octets": ("2181 11", "any octets whatever can be in a label"),
     "case": ("4343 4", "the case of letters is to be preserved (also RFC 1035, 2.3.3)"),
@@ -31,8 +31,8 @@ RULES = {
     "broken": ("1035 5.1", "after a backslash come three digits that make an octet, or a character that is no digit; "
                            "there is no other rule"),
     "dots": ("1035 5.1", "labels are separated by dots; a name with a dot at its end is absolute"),
-    "relative": ("1035 5.1", "a name without a dot at its end is relative to an origin; none is given here, and accepted "
-                             "counts a name of its labels and the root"),
+    "relative": ("1035 5.1", "a name without a dot at its end is relative to an origin; none is given here, and "
+                             "accepted counts a name of its labels and the root"),
     "characters": ("1035 5.1", "nothing is said of such a character in a name where no backslash is before it"),
     "empty": ("1034 3.1", "the empty label is the root's alone"),
     "nothing": ("1034 3.1", "nothing is said of a text without any character"),
@@ -101,8 +101,8 @@ def lengths():
         yield read(f"name of {size} octets by a pointer", message, len(before), expect, rule, labels, len(message))
     for count in [127, 128]:
         labels = [b"x"] * count
-        yield read(f"{count} labels of one octet", HEADER + wire(*labels), 12, ACCEPT if count < 128 else REFUSE, "size",
-                   labels, 12 + 2 * count + 1)
+        yield read(f"{count} labels of one octet", HEADER + wire(*labels), 12, ACCEPT if count < 128 else REFUSE,
+                   "size", labels, 12 + 2 * count + 1)
     labels = [b"x" * 63, b"com"]
     yield read("label of 63 octets", HEADER + wire(*labels), 12, ACCEPT, "limits", labels, 12 + 69)
     yield read("label of 64 octets", HEADER + wire(b"x" * 64, b"com"), 12, REFUSE, "limits")
@@ -146,9 +146,10 @@ def pointers():
     yield behind_name("label, pointer to that label", front(b"a") + pointer(29), 29, REFUSE, "prior")
     yield behind_name("forward pointer to a name", pointer(31) + wire(b"com"), 29, REFUSE, "prior")
     yield behind_name("forward pointer to the root", pointer(31) + b"\0", 29, REFUSE, "prior")
-    yield behind_name("label, forward pointer to a name", front(b"a") + pointer(33) + wire(b"com"), 29, REFUSE, "prior")
-    yield behind_name("back, then forward to a name", pointer(35) + wire(b"a")[:2] + pointer(29) + wire(b"com"), 31, REFUSE,
+    yield behind_name("label, forward pointer to a name", front(b"a") + pointer(33) + wire(b"com"), 29, REFUSE,
                       "prior")
+    yield behind_name("back, then forward to a name", pointer(35) + wire(b"a")[:2] + pointer(29) + wire(b"com"), 31,
+                      REFUSE, "prior")
     yield behind_name("pointer to its own second octet", b"\xc0\x1e\0", 29, REFUSE, "prior")
     yield behind_name("pointer to the offset after the message", pointer(31), 29, REFUSE, "prior")
     yield behind_name("pointer past the message", pointer(0x3FFF), 29, REFUSE, "prior")
@@ -156,8 +157,8 @@ def pointers():
     yield behind_name("label, pointer cut after one octet", front(b"a") + b"\xc0", 29, REFUSE, "size")
 
     inside = front(b"\3inn\0")
-    yield read("pointer into a label that reads as a name", HEADER + inside + b"\0" + pointer(13), 19, UNSAID, "inside",
-               [b"inn"], 21)
+    yield read("pointer into a label that reads as a name", HEADER + inside + b"\0" + pointer(13), 19, UNSAID,
+               "inside", [b"inn"], 21)
     yield read("pointer into a label of its own name", HEADER + inside + pointer(13), 12, UNSAID, "inside",
                [b"\3inn\0", b"inn"], 20)
     message = HEADER + wire(*WWW) + pointer(12) + b"0123456789ab\0" + pointer(30)
@@ -175,8 +176,8 @@ def label_types():
     for head in [0x40, 0x41, 0x7F, 0x80, 0xBF]:
         yield read(f"length octet 0x{head:02X}", HEADER + bytes([head]) + bytes(255), 12, REFUSE, "types")
     for head in [0x41, 0x80]:
-        yield read(f"length octet 0x{head:02X} after a label", HEADER + front(b"a") + bytes([head]) + bytes(255), 12, REFUSE,
-                   "types")
+        yield read(f"length octet 0x{head:02X} after a label", HEADER + front(b"a") + bytes([head]) + bytes(255), 12,
+                   REFUSE, "types")
         message = HEADER + bytes([head]) + bytes(255)
         yield read(f"length octet 0x{head:02X} by a pointer", message + pointer(12), len(message), REFUSE, "types")
 
@@ -248,12 +249,13 @@ def texts():
     for count in [127, 128]:
         labels = [b"x"] * count
         yield text(f"{count} labels", dotted(labels), ACCEPT if count < 128 else REFUSE, "limits", labels)
-    for value, label in [(rb"\000", b"\0"), (rb"\065", b"A"), (rb"\255", b"\xff"), (rb"a\.b", b"a.b"), (rb"a\046b", b"a.b"),
-                         (rb"a\\b", b"a\\b"), (rb"\a", b"a"), (rb"a\ b", b"a b"), (rb"\@", b"@"), (rb"\"x", b'"x'),
-                         (rb"\[x", b"[x"), (rb"a\[x", b"a[x"), (rb"\091x", b"[x")]:
+    for value, label in [(rb"\000", b"\0"), (rb"\065", b"A"), (rb"\255", b"\xff"), (rb"a\.b", b"a.b"),
+                         (rb"a\046b", b"a.b"), (rb"a\\b", b"a\\b"), (rb"\a", b"a"), (rb"a\ b", b"a b"),
+                         (rb"\@", b"@"), (rb"\"x", b'"x'), (rb"\[x", b"[x"), (rb"a\[x", b"a[x"), (rb"\091x", b"[x")]:
         yield text(value.decode() + ".com.", value + b".com.", ACCEPT, "escapes", [label, b"com"])
     yield text("[x.com.", b"[x.com.", ACCEPT, "dots", [b"[x", b"com"])
-    for value in [rb"\256.com.", rb"\999.com.", rb"\12.com.", rb"\1a.com.", rb"\12a.com.", "com.\\", "com.\\1", "com.\\12"]:
+    for value in [rb"\256.com.", rb"\999.com.", rb"\12.com.", rb"\1a.com.", rb"\12a.com.", "com.\\", "com.\\1",
+                  "com.\\12"]:
         value = value.encode() if isinstance(value, str) else value
         yield text(value.decode(), value, REFUSE, "broken")
     yield text("a b.com.", b"a b.com.", UNSAID, "characters", [b"a b", b"com"])
@@ -263,12 +265,15 @@ def texts():
 
 def shows():
     for name, labels in [
-        ("www.example.com.", WWW), ("the root", []), ("capitals", [b"WwW", b"COM"]), ("label with a dot", [b"a.b", b"com"]),
-        ("label of one dot", [b"."]), ("label with a backslash", [b"a\\b", b"com"]), ("label with a space", [b"a b", b"com"]),
-        ("label of one octet 0", [b"\0", b"com"]), ("octets 0 to 31", [bytes(range(32))]), ("octet 127", [b"\x7f", b"com"]),
+        ("www.example.com.", WWW), ("the root", []), ("capitals", [b"WwW", b"COM"]),
+        ("label with a dot", [b"a.b", b"com"]), ("label of one dot", [b"."]),
+        ("label with a backslash", [b"a\\b", b"com"]), ("label with a space", [b"a b", b"com"]),
+        ("label of one octet 0", [b"\0", b"com"]), ("octets 0 to 31", [bytes(range(32))]),
+        ("octet 127", [b"\x7f", b"com"]),
         ("octets above 127", [b"\x80\xc3\xbc\xff", b"com"]), ("octet before a digit", [b"\x011", b"\xff9"]),
         ("special characters of zone files", [b"@", b'"$;()"', b"#"]), ("label that begins with [", [b"[x", b"com"]),
-        ("name of 255 octets", labels_of_size(255)), ("255 octets, all to be escaped", [b"\xff" * 63] * 3 + [b"\0" * 61]),
+        ("name of 255 octets", labels_of_size(255)),
+        ("255 octets, all to be escaped", [b"\xff" * 63] * 3 + [b"\0" * 61]),
     ]:
         yield Case("show", name, f"show {octets(wire(*labels))}", ACCEPT, "text", labels)
 
@@ -312,8 +317,8 @@ def cases():
 # What follows is for the random messages.
 
 def standard_name(message, offset):
-    """The labels of the name at an offset and the offset after it, or None: RFC 1035, 3.1 and 4.1.4, where `prior` is taken
-    for an offset before the pointer's own."""
+    """The labels of the name at an offset and the offset after it, or None: RFC 1035, 3.1 and 4.1.4, where `prior` is
+    taken for an offset before the pointer's own."""
     labels, size, end, at = [], 1, None, offset
     while at < len(message):
         head = message[at]
@@ -337,8 +342,9 @@ def standard_name(message, offset):
 
 
 ALPHABETS = [
-    bytes([0, 1, 2, 0x61]), bytes([0, 1, 0xC0]), bytes([0, 1, 2, 3, 4, 6, 8, 0xC0]), bytes([0, 1, 3, 0x2E, 0x41, 0x5C, 0xC0]),
-    bytes([0, 1, 2, 0x3F, 0x40, 0x80, 0xC0]), bytes([0, 2, 12, 14, 16, 18, 0xC0]), bytes([1, 2, 5, 9, 0xC0, 0xC1, 0xFF]),
+    bytes([0, 1, 2, 0x61]), bytes([0, 1, 0xC0]), bytes([0, 1, 2, 3, 4, 6, 8, 0xC0]),
+    bytes([0, 1, 3, 0x2E, 0x41, 0x5C, 0xC0]), bytes([0, 1, 2, 0x3F, 0x40, 0x80, 0xC0]),
+    bytes([0, 2, 12, 14, 16, 18, 0xC0]), bytes([1, 2, 5, 9, 0xC0, 0xC1, 0xFF]),
 ]
 
 
@@ -390,7 +396,8 @@ def check():
             assert found == (None if case.expect == REFUSE else (case.labels, case.end)), case.name
         elif case.group == "text" and case.expect != UNSAID:
             found = standard_text(bytes.fromhex(words[1]))
-            whole = found is not None and len(wire(*[x[:63] for x in found])) <= 255 and all(len(x) < 64 for x in found)
+            whole = (found is not None and len(wire(*[x[:63] for x in found])) <= 255
+                     and all(len(x) < 64 for x in found))
             assert (found if whole else None) == (None if case.expect == REFUSE else case.labels), case.name
 
 

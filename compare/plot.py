@@ -2,7 +2,8 @@
 
 import math
 
-COLOURS = ["#d62728", "#1f77b4", "#2ca02c", "#ff7f0e", "#9467bd", "#8c564b", "#e377c2", "#7f7f7f", "#bcbd22", "#17becf", "#000000"]
+COLOURS = ["#d62728", "#1f77b4", "#2ca02c", "#ff7f0e", "#9467bd", "#8c564b", "#e377c2", "#7f7f7f", "#bcbd22", "#17becf",
+           "#000000"]
 COLUMNS, WIDTH, HEIGHT, LEFT, RIGHT, TOP = 4, 240, 200, 44, 22, 28
 
 
@@ -31,7 +32,8 @@ def panel(title, curves, sizes, low, high, colours):
     for key, values in curves.items():
         points = [(x_of(size), y_of(value)) for size, value in zip(sizes, values) if value]
         line = " ".join(f"{x:.1f},{y:.1f}" for x, y in points)
-        res.append(f'<polyline points="{line}" fill="none" stroke="{colours[key]}" stroke-width="1.5"/>')
+        width = 3 if key == "this" else 1.5
+        res.append(f'<polyline points="{line}" fill="none" stroke="{colours[key]}" stroke-width="{width}"/>')
         res.extend(f'<circle cx="{x:.1f}" cy="{y:.1f}" r="2" fill="{colours[key]}"/>' for x, y in points)
     return res
 
@@ -52,7 +54,8 @@ def plot(panels, sizes, caption):
         res.append("</g>")
     for i, key in enumerate(keys):
         x = 10 + i * 84
-        res.append(f'<line x1="{x}" y1="{height - 30}" x2="{x + 18}" y2="{height - 30}" stroke="{colours[key]}" stroke-width="3"/>')
+        line = f'x1="{x}" y1="{height - 30}" x2="{x + 18}" y2="{height - 30}"'
+        res.append(f'<line {line} stroke="{colours[key]}" stroke-width="3"/>')
         res.append(f'<text x="{x + 22}" y="{height - 26}">{key}</text>')
     res.append(f'<text x="10" y="{height - 8}">{caption}; both axes logarithmic</text>')
     return "\n".join([*res, "</svg>", ""])

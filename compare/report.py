@@ -24,20 +24,22 @@ CHAIN = 1100  # the longest row of pointers that is tried
 STATED = {
     "256 pointers in a row": "it follows at most 255 pointers",
     "1000 pointers in a row": "it follows at most 255 pointers",
-    r"\[x.com.": r"it refuses `\[` at the beginning of a label, as the Rust crate does, since that began a label of bits "
-                 "(RFC 2673, historic)",
+    r"\[x.com.": r"it refuses `\[` at the beginning of a label, as the Rust crate does, since that began a label of "
+                 "bits (RFC 2673, historic)",
 }
 YES, OTHER, NO, NONE, UNASKED = "yes", "other", "no", "-", "?"
 # The groups of cases: where a name stands, the tables' titles, and what a table's cells say.
 WHERE = {"read": "in a message", "text": "text to wire", "show": "wire to text", "order": "in order"}
-TITLES = {"read": "Names in messages", "text": "Text to wire format", "show": "Wire format to text", "order": "Canonical order"}
+TITLES = {"read": "Names in messages", "text": "Text to wire format", "show": "Wire format to text",
+          "order": "Canonical order"}
 LEGENDS = {
-    "read": "yes: accepted, with the labels of the case and the offset after the name, where it has any; other: accepted with "
-            "others; no: refused. The message of each case ends where memory that can't be read begins, so that a library in C "
-            "which reads past its end dies.",
-    "text": "yes: accepted, as the name of the case; other: as another name; no: refused. The text is given as one word, "
-            "without an origin.",
-    "show": "yes: a text that RFC 1035, 5.1 reads as the same labels, with or without a dot at its end; other: another text.",
+    "read": "yes: accepted, with the labels of the case and the offset after the name, where it has any; other: with "
+            "others; no: refused. The message of each case ends where memory that can't be read begins, so that a "
+            "library in C which reads past its end dies.",
+    "text": "yes: accepted, as the name of the case; other: as another name; no: refused. The text is given as one "
+            "word, without an origin.",
+    "show": "yes: a text that RFC 1035, 5.1 reads as the same labels, with or without a dot at its end; other: another "
+            "text.",
     "order": "yes: sorted as RFC 4034, 6.1 has it. libknot was given the names in lower case, as it wants them.",
 }
 
@@ -78,7 +80,8 @@ def is_right(case, cell):
 
 def standard(case):
     """What the standard says of a case, as a part of a sentence."""
-    says = {ACCEPT: "accepts" if case.group in ("read", "text") else "wants it so", REFUSE: "refuses", UNSAID: "doesn't say"}
+    says = {ACCEPT: "accepts" if case.group in ("read", "text") else "wants it so", REFUSE: "refuses",
+            UNSAID: "doesn't say"}
     return f"the standard {says[case.expect]} (RFC {RULES[case.rule][0].replace(' ', ', ')})"
 
 
@@ -89,7 +92,8 @@ def verb(group, cell, many):
             OTHER: {"read": f"read{s} other labels or another end", "text": f"read{s} another name",
                     "show": f"show{s} a text of another name", "order": f"sort{s} otherwise"}[group],
             NO: f"refuse{s}", DIED: "died", HUNG: "gave no answer in 5 seconds",
-            NONE: "have no such call" if many else "has no such call", UNASKED: "weren't asked" if many else "wasn't asked"}[cell]
+            NONE: "have no such call" if many else "has no such call",
+            UNASKED: "weren't asked" if many else "wasn't asked"}[cell]
 
 
 def code(case):
@@ -147,7 +151,8 @@ class Report:
         """Who does what with cases that all libraries answer alike."""
         row, case = self.row(cases[0]), cases[0]
         # Those that do what most do, or what the standard says, aren't named.
-        unnamed = Counter(row.values()).most_common(1)[0][0] if case.expect == UNSAID else YES if case.expect == ACCEPT else NO
+        most = Counter(row.values()).most_common(1)[0][0]
+        unnamed = {UNSAID: most, ACCEPT: YES, REFUSE: NO}[case.expect]
         parts = []
         for cell in (YES, OTHER, NO, DIED, HUNG, UNASKED):
             keys = [key for key in row if row[key] == cell]
@@ -166,7 +171,7 @@ class Report:
         return cell if 2 * count > len(others) else None, count, len(others)
 
     def wrong(self):
-        """The cases where this project differs from the standard's text: those that no page states, and those stated."""
+        """The cases where this project differs from the standard's text: those that no page states, and the rest."""
         wrong = [case for case in self.cases if is_right(case, self.row(case).get("this", NONE)) is False]
         return [case for case in wrong if case.name not in STATED], [case for case in wrong if case.name in STATED]
 
@@ -174,12 +179,13 @@ class Report:
 
     def head(self):
         self.say("# Beside other libraries", "", filled(
-            "What DNS libraries accept as a name in a message and as a name's text, how they order names, and what the "
-            "standard says of it. `compare/run.sh WORK docs` builds a driver for each library that is there, asks all of them "
-            f"the same {len(self.cases)} cases (`compare/corpus.py`, which takes what is expected from the standard's text "
-            f"alone), and writes this page and [the table of all cases]({CASES}): here on {datetime.date.today().isoformat()}, "
-            f"{platform.system()} {platform.machine()}. Nothing is said of a library but what that run saw of the version "
-            "below. What hostile messages cost in each: [COST.md](COST.md)."), "")
+            "What DNS libraries accept as a name in a message and as a name's text, how they order names, and what "
+            "the standard says of it. `compare/run.sh WORK docs` builds a driver for each library that is there, "
+            f"asks all of them the same {len(self.cases)} cases (`compare/corpus.py`, which takes what is expected "
+            f"from the standard's text alone), and writes this page and [the table of all cases]({CASES}): here on "
+            f"{datetime.date.today().isoformat()}, {platform.system()} {platform.machine()}. Nothing is said of a "
+            "library but what that run saw of the version below. What hostile messages cost in each: "
+            "[COST.md](COST.md)."), "")
 
     def differences(self):
         self.say("## Where this project differs", "")
@@ -190,8 +196,8 @@ class Report:
         for case in self.cases:
             cell, (most, count, among) = self.row(case)["this"], self.majority(case)
             if most not in (None, cell):
-                lines.append(wrapped(f"- {code(case)} ({WHERE[case.group]}): here '{cell}', in {count} of {among} others "
-                                     f"'{most}'; {standard(case)}."))
+                lines.append(wrapped(f"- {code(case)} ({WHERE[case.group]}): here '{cell}', in {count} of {among} "
+                                     f"others '{most}'; {standard(case)}."))
         self.say("From most of the others, in " + (f"{len(lines)} cases:" if lines else "no case."), "")
         if lines:
             self.say(*lines, "")
@@ -210,11 +216,12 @@ class Report:
 
     def counts(self):
         """For each library, in how many cases it differs from the standard's text."""
-        told = {group: [case for case in self.cases if case.group == group and case.expect != UNSAID] for group in WHERE}
+        told = {group: [case for case in self.cases if case.group == group and case.expect != UNSAID]
+                for group in WHERE}
         self.say("## How often each differs from the standard's text", "", filled(
             "Of the cases of which it says something. The random messages are held against a reader of twenty lines "
-            f"([its rules]({CASES}#random-messages)); the last column is how many pointers in a row a library follows, of up "
-            f"to {CHAIN:,}."), "",
+            f"([its rules]({CASES}#random-messages)); the last column is how many pointers in a row a library "
+            f"follows, of up to {CHAIN:,}."), "",
             "| | " + " | ".join(f"{WHERE[group]}, {len(cases)}" for group, cases in told.items())
             + f" | random messages, {RANDOM_MESSAGES:,} | pointers |", "|---|" + "--:|" * (len(told) + 2))
         for key in self.keys:
@@ -223,21 +230,24 @@ class Report:
                 found = [self.row(case)[key] for case in cases]
                 failed = sum(cell in (DIED, HUNG, UNASKED) for cell in found)
                 wrong = sum(is_right(case, cell) is False for case, cell in zip(cases, found))
-                cells.append("-" if not self.has(key, group) else f"{wrong}" + (f" ({failed} died or hung)" if failed else ""))
+                said = f"{wrong} ({failed} died or hung)" if failed else f"{wrong}"
+                cells.append(said if self.has(key, group) else "-")
             chain = self.chains[key]
-            self.say(f"| {key} | " + " | ".join(cells) + f" | {self.random.wrong(key):,} | {'all' if chain is None else chain} |")
+            cells += [f"{self.random.wrong(key):,}", "all" if chain is None else f"{chain}"]
+            self.say(f"| {key} | " + " | ".join(cells) + " |")
         self.say("")
 
     def sentences(self):
         self.say("## Where they differ", "", filled(
-            "Those that aren't named do what the standard says. cares, libc and both of Go's give names as text, which their "
-            "drivers take apart into labels. The call of cares that makes a name of a text makes a query of it, and that of "
-            "gonet knows no escapes: neither claims to read texts of zone files."), "")
+            "Those that aren't named do what the standard says. cares, libc and both of Go's give names as text, "
+            "which their drivers take apart into labels. The call of cares that makes a name of a text makes a query "
+            "of it, and that of gonet knows no escapes: neither claims to read texts of zone files."), "")
         for group, title in TITLES.items():
             alike = {}
             for _, cases in self.rows(group):
                 if len(set(self.row(cases[0]).values()) - {NONE}) > 1:
-                    alike.setdefault((cases[0].rule, cases[0].expect, *self.row(cases[0]).values()), []).append(cases[0])
+                    key = (cases[0].rule, cases[0].expect, *self.row(cases[0]).values())
+                    alike.setdefault(key, []).append(cases[0])
             self.say(f"{title}:", "", *map(self.sentence, alike.values()), "")
 
     # The page of all cases.
@@ -271,7 +281,8 @@ class Report:
     def texts_read_here(self):
         """Which texts that the other libraries wrote of a name this project reads otherwise, or not at all."""
         this = next((library for library in self.libraries if library.key == "this"), None)
-        shown_texts = [(key, case, self.answers["show", case.name, key].split(" ")[1]) for key in self.keys if key != "this"
+        shown_texts = [(key, case, self.answers["show", case.name, key].split(" ")[1])
+                       for key in self.keys if key != "this"
                        for case in self.cases if case.group == "show" and self.row(case)[key] == YES]
         if this is None:
             return
@@ -279,8 +290,8 @@ class Report:
         other = [f"{key}'s " + ("text without any character" if text == "-" else f"`{bytes.fromhex(text).decode()}`")
                  + f" for '{case.name}'"
                  for (key, case, text), answer in zip(shown_texts, answers) if answer != f"ok {shown(case.labels)}"]
-        self.say(filled(f"Of the {len(shown_texts)} texts that the other libraries wrote so, this project reads all as the "
-                        "same name" + (f", but for {', '.join(other)}." if other else ".")), "")
+        self.say(filled(f"Of the {len(shown_texts)} texts that the other libraries wrote so, this project reads all as "
+                        "the same name" + (f", but for {', '.join(other)}." if other else ".")), "")
 
     def list_rules(self):
         self.say("## What the standard says", "", "By the numbers in the tables, in other words than its own:", "")
@@ -290,10 +301,10 @@ class Report:
     def all_cases(self):
         self.page = self.pages[CASES]
         self.say("# Every case of the comparison", "", filled(
-            f"What [{PAGE}]({PAGE}) sums up, as `compare/run.sh WORK docs` wrote it on {datetime.date.today().isoformat()}. "
-            "Bold is what the standard's text contradicts. Where it says nothing ('unsaid'), 'yes' is the name that one would "
-            "read. died, hung: what the driver did at this case, in 5 seconds; ?: not asked, after "
-            f"{MOST_FAILURES} such cases; -: no such call."), "")
+            f"What [{PAGE}]({PAGE}) sums up, as `compare/run.sh WORK docs` wrote it on "
+            f"{datetime.date.today().isoformat()}. Bold is what the standard's text contradicts. Where it says "
+            "nothing ('unsaid'), 'yes' is the name that one would read. died, hung: what the driver did at this "
+            f"case, in 5 seconds; ?: not asked, after {MOST_FAILURES} such cases; -: no such call."), "")
         for group in TITLES:
             self.table(group)
             if group == "show":
@@ -315,7 +326,8 @@ class Report:
         here = f"this project differs from the standard's text in {here}"
         if "this" not in self.keys:
             here = "this project wasn't asked, since its library isn't built"
-        return f"{len(self.cases)} cases and {RANDOM_MESSAGES:,} random messages, {len(self.libraries)} libraries; {here}"
+        asked = f"{len(self.cases)} cases and {RANDOM_MESSAGES:,} random messages, {len(self.libraries)} libraries"
+        return f"{asked}; {here}"
 
 
 def longest_chain(library):
@@ -351,17 +363,19 @@ class RandomMessages:
     def tell(self, say):
         accepted = sum(word != "no" for word in self.wanted)
         say("## Random messages", "", filled(
-            f"{len(self.lines):,} messages of 1 to 40 octets, each made of one of {len(corpus.ALPHABETS)} small alphabets, with "
-            "an offset in each. They are held against a reader of some twenty lines (`standard_name` in `compare/corpus.py`), "
-            "written from RFC 1035, 3.1 and 4.1.4, which takes 'prior' for an offset before the pointer's own, and doesn't ask "
-            f"whether a name began there. It accepts {accepted:,} of them."), "",
-            "| Library | as that reader | only it accepts | only the reader accepts | other labels or end | died or hung |",
+            f"{len(self.lines):,} messages of 1 to 40 octets, each made of one of {len(corpus.ALPHABETS)} small "
+            "alphabets, with an offset in each. They are held against a reader of some twenty lines (`standard_name` "
+            "in `compare/corpus.py`), written from RFC 1035, 3.1 and 4.1.4, which takes 'prior' for an offset before "
+            f"the pointer's own, and doesn't ask whether a name began there. It accepts {accepted:,} of them."), "",
+            "| Library | as that reader | only it accepts | only the reader accepts | other labels or end | died or "
+            "hung |",
             "|---|--:|--:|--:|--:|--:|")
         examples = []
         for key in self.answers:
             kinds = self.kinds(key)
             counts = [len(found) for found in kinds.values()]
-            say(f"| {key} | {len(self.lines) - sum(counts):,} | " + " | ".join(f"{count:,}" for count in counts) + " |")
+            cells = [f"{count:,}" for count in [len(self.lines) - sum(counts), *counts]]
+            say(f"| {key} | " + " | ".join(cells) + " |")
             shortest = {kind: min(found, key=len).split(" ") for kind, found in kinds.items() if found}
             if shortest:
                 examples.append(wrapped(f"- {key}: " + "; ".join(
@@ -373,8 +387,9 @@ class RandomMessages:
         say("How many of the messages two libraries answer alike:", "",
             "| | " + " | ".join(self.answers) + " |", "|---|" + "--:|" * len(self.answers))
         for left in self.answers:
-            cells = [f"{sum(a == b for a, b in zip(self.answers[left], self.answers[right])):,}" if left != right else ""
-                     for right in self.answers]
+            counts = {right: sum(a == b for a, b in zip(self.answers[left], self.answers[right]))
+                      for right in self.answers}
+            cells = ["" if right == left else f"{count:,}" for right, count in counts.items()]
             say(f"| {left} | " + " | ".join(cells) + " |")
         say("")
 

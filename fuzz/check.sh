@@ -1,6 +1,6 @@
 #!/usr/bin/env bash
-# Runs the kept inputs once through the harnesses, in seconds: fuzz/check.sh. The last line is 'fuzz: N passed, N failed'.
-# Where clang, its runtime or the library for C isn't there, that line says so, and no input is run. Status 1 where an
+# Runs the kept inputs once through the harnesses, in seconds: fuzz/check.sh. The last line is 'fuzz: N passed, N
+# failed'. Where clang, its runtime or the library for C isn't there, that line says so, and no input is run. Status 1 where an
 # input failed, or where the harnesses can't be built though all of that is there. fuzz/build.sh tells the variables.
 set -u
 here=$(cd "$(dirname "$0")" && pwd)

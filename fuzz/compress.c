@@ -1,9 +1,10 @@
-/* Writing with compression, and round trips: dnsnames_append, dnsnames_plan. The input is a capacity (or that the writing begins shortly
- * before the offsets that no pointer leads to) and a message, of which all names that follow one another are written. */
+/* Writing with compression, and round trips: dnsnames_append, dnsnames_plan. The input is a capacity (or that the
+ * writing begins shortly before the offsets that no pointer leads to) and a message, of which all names that follow one
+ * another are written. */
 #include "harness.h"
 
-/* The longest suffix, but the root, that is read at an offset of the table, and the first such offset: where it begins in
- * the name, or -1. */
+/* The longest suffix, but the root, that is read at an offset of the table, and the first such offset: where it begins
+ * in the name, or -1. */
 static int plan(const uint8_t *octets, size_t len, const uint16_t *table, size_t table_len, const struct name *name,
                 size_t *offset)
 {
@@ -51,16 +52,16 @@ static void check_plan(struct message *message, const struct name *name)
     size_t want_offset = 0, begin = 7;
     uint16_t offset = 7;
     int want = plan(message->octets, message->len, message->begins, message->begin_count, name, &want_offset);
-    uint32_t status = dnsnames_plan(message->octets, message->len, message->begins, message->begin_count, name->wire, name->len,
-                                    &begin, &offset);
+    uint32_t status = dnsnames_plan(message->octets, message->len, message->begins, message->begin_count, name->wire,
+                                    name->len, &begin, &offset);
     MUST(status == (want < 0 ? DNSNAMES_FLAT : DNSNAMES_OK));
     MUST(want < 0 ? begin == 7 && offset == 7 : begin == (size_t)want && offset == want_offset);
     if (message->begin_count < DNSNAMES_MAX_TABLE && message->len < FAR)
         message->begins[message->begin_count++] = (uint16_t)message->len;
 }
 
-/* The table has the labels that were written, as long as there is room for them and a pointer can lead there. `last` is
- * the size of what ends the name: a root or a pointer. */
+/* The table has the labels that were written, as long as there is room for them and a pointer can lead there. `last`
+ * is the size of what ends the name: a root or a pointer. */
 static void check_table(const struct message *message, size_t last)
 {
     size_t added = message->old_table_len, at = message->old_len;
@@ -81,8 +82,8 @@ static void check_read(const struct message *message, const struct name *name)
     uint32_t flag;
     MUST(reader_name(message->octets, message->len, message->old_len, 255, &back, &end, &compressed));
     MUST(same_name(&back, name) && end == message->len);
-    MUST(dnsnames_read(message->octets, message->len, message->old_len, 255, read, sizeof read, &read_len, &read_end, &flag)
-         == DNSNAMES_OK);
+    MUST(dnsnames_read(message->octets, message->len, message->old_len, 255, read, sizeof read, &read_len, &read_end,
+                       &flag) == DNSNAMES_OK);
     MUST(read_len == back.len && memcmp(read, back.wire, read_len) == 0 && read_end == end && flag == compressed);
 }
 
@@ -94,8 +95,8 @@ static bool append(struct message *message, const struct name *name)
     size_t want = begin < 0 ? name->len : (size_t)begin + 2;
     message->old_table_len = message->table_len;
     memcpy(message->old, message->octets, message->capacity + 1);
-    uint32_t status = dnsnames_append(message->octets, message->capacity, &message->len, message->table, DNSNAMES_MAX_TABLE,
-                                      &message->table_len, name->wire, name->len);
+    uint32_t status = dnsnames_append(message->octets, message->capacity, &message->len, message->table,
+                                      DNSNAMES_MAX_TABLE, &message->table_len, name->wire, name->len);
     if (len + want > message->capacity) {
         MUST(status == DNSNAMES_NO_ROOM && message->len == len && message->table_len == message->old_table_len);
         MUST(memcmp(message->old, message->octets, message->capacity + 1) == 0);

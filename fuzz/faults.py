@@ -1,6 +1,6 @@
 #!/usr/bin/python3 -B
-"""Plants small faults, one after another, in plain C code with the library's calls (bindings/c/check/second.c), and tells
-which of them the kept inputs notice: faults.py WORK. The last line has how many were noticed."""
+"""Plants small faults, one after another, in plain C code with the library's calls (bindings/c/check/second.c), and
+tells which of them the kept inputs notice: faults.py WORK. The last line has how many were noticed."""
 
 import subprocess
 import sys
@@ -61,14 +61,15 @@ FAULTS = [
 
 def build(work, source):
     """Links all harnesses with the code; they themselves are compiled once."""
+    def clang(*words):
+        subprocess.run(["clang", "-O1", f"-I{C}", *words], check=True)
     (work / "second.c").write_text(source)
-    subprocess.run(["clang", "-std=c99", "-O1", "-w", "-DDNSNAMES_NO_GUARDS", "-DSECOND(call)=dnsnames_##call", f"-I{C}",
-                    f"-I{C / 'check'}", "-c", "-o", work / "second.o", work / "second.c"], check=True)
+    clang("-std=c99", "-w", "-DDNSNAMES_NO_GUARDS", "-DSECOND(call)=dnsnames_##call", f"-I{C / 'check'}", "-c",
+          "-o", work / "second.o", work / "second.c")
     for harness in HARNESSES:
         if not (work / f"{harness}.o").exists():
-            subprocess.run(["clang", "-std=gnu11", "-O1", "-fsanitize=fuzzer", f"-I{C}", "-c", "-o", work / f"{harness}.o",
-                            HERE / f"{harness}.c"], check=True)
-        subprocess.run(["clang", "-fsanitize=fuzzer", "-o", work / harness, work / f"{harness}.o", work / "second.o"], check=True)
+            clang("-std=gnu11", "-fsanitize=fuzzer", "-c", "-o", work / f"{harness}.o", HERE / f"{harness}.c")
+        clang("-fsanitize=fuzzer", "-o", work / harness, work / f"{harness}.o", work / "second.o")
 
 
 def notices(work, harness):

@@ -19,7 +19,8 @@
 
 int LLVMFuzzerTestOneInput(const uint8_t *data, size_t size);
 
-/* Copies octets to the end of memory behind which nothing can be read, since the library isn't built with a sanitizer. */
+/* Copies octets to the end of memory behind which nothing can be read, since the library isn't built with a
+ * sanitizer. */
 static inline const uint8_t *before_the_wall(const uint8_t *octets, size_t len)
 {
     enum { ROOM = 1 << 20 };

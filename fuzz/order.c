@@ -1,5 +1,5 @@
-/* Comparing: dnsnames_compare, dnsnames_eq, dnsnames_ends_with, dnsnames_lower, dnsnames_hash, dnsnames_check, and libknot.
- * The input is a message with two names one after another. */
+/* Comparing: dnsnames_compare, dnsnames_eq, dnsnames_ends_with, dnsnames_lower, dnsnames_hash, dnsnames_check, and
+ * libknot. The input is a message with two names one after another. */
 #include "harness.h"
 
 int LLVMFuzzerTestOneInput(const uint8_t *data, size_t size)
@@ -8,7 +8,8 @@ int LLVMFuzzerTestOneInput(const uint8_t *data, size_t size)
     size_t end = 0, last = 0;
     bool compressed, absolute = reader_name(data, size, 0, 0, &left, &end, &compressed);
     MUST((dnsnames_check(before_the_wall(data, size), size) == DNSNAMES_OK) == (absolute && end == size));
-    if (!reader_name(data, size, 0, 255, &left, &end, &compressed) || !reader_name(data, size, end, 255, &right, &last, &compressed))
+    if (!reader_name(data, size, 0, 255, &left, &end, &compressed)
+        || !reader_name(data, size, end, 255, &right, &last, &compressed))
         return 0;
 
     int32_t order = 7;

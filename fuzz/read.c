@@ -1,4 +1,5 @@
-/* Reading names: dnsnames_read, dnsnames_check, and libknot. The input is an offset, a limit of pointers, and a message. */
+/* Reading names: dnsnames_read, dnsnames_check, and libknot. The input is an offset, a limit of pointers, and a
+ * message. */
 #include "harness.h"
 
 int LLVMFuzzerTestOneInput(const uint8_t *data, size_t size)
@@ -20,7 +21,8 @@ int LLVMFuzzerTestOneInput(const uint8_t *data, size_t size)
         MUST(dnsnames_check(buffer, length) == DNSNAMES_OK);
         /* A buffer that is an octet too small stays as it is. */
         memset(buffer, 0xAA, sizeof buffer);
-        MUST(dnsnames_read(message, len, offset, limit, buffer, want.len - 1, &length, &end, &compressed) == DNSNAMES_NO_ROOM);
+        status = dnsnames_read(message, len, offset, limit, buffer, want.len - 1, &length, &end, &compressed);
+        MUST(status == DNSNAMES_NO_ROOM);
         MUST(length == want.len && buffer[0] == 0xAA && buffer[want.len - 1] == 0xAA);
     } else {
         MUST(length == 7 && end == 7 && compressed == 7 && buffer[0] == 0xAA && buffer[254] == 0xAA);

@@ -63,8 +63,8 @@ static inline bool reader_skip(const uint8_t *message, size_t len, size_t offset
     return false;
 }
 
-/* The name of a text (RFC 1035, 5.1) with or without a final dot. Printed ASCII stands for itself, a label doesn't begin
- * with `\[`, and a text has at least one character. */
+/* The name of a text (RFC 1035, 5.1) with or without a final dot. Printed ASCII stands for itself, a label doesn't
+ * begin with `\[`, and a text has at least one character. */
 static inline bool reader_text(const uint8_t *text, size_t len, struct name *name)
 {
     size_t label = 0; /* the offset of the open label's length octet */

@@ -4,8 +4,8 @@
 # SECONDS  in all, shared by the harnesses
 # WORK     the folder to build in, and for the inputs found (a new one of mktemp)
 #
-# It begins with the inputs of fuzz/corpus, and stops at the first difference with the input saved in WORK/found. The last
-# line has the runs, the runs a second and the differences; the line before it the branches of the second reader that
+# It begins with the inputs of fuzz/corpus, and stops at the first difference with the input saved in WORK/found. The
+# last line has the runs, the runs a second and the differences; the line before it the branches of the second reader that
 # the runs covered. fuzz/build.sh tells what is needed.
 set -eu
 here=$(cd "$(dirname "$0")" && pwd)
@@ -20,7 +20,8 @@ runs=0 differences=0 begun=$SECONDS
 mkdir -p "${harnesses[@]/#/$work/corpus/}" "${harnesses[@]/#/$here/corpus/}"
 for harness in "${harnesses[@]}"; do
     if ! "$work/$harness" -seed=1 -max_len=1200 -max_total_time=$((seconds / ${#harnesses[@]})) -print_final_stats=1 \
-        -artifact_prefix="$work/found/$harness-" "$work/corpus/$harness" "$here/corpus/$harness" > "$work/$harness.log" 2>&1; then
+        -artifact_prefix="$work/found/$harness-" "$work/corpus/$harness" "$here/corpus/$harness" \
+        > "$work/$harness.log" 2>&1; then
         differences=$((differences + 1))
         grep 'not so' "$work/$harness.log" || tail -n 3 "$work/$harness.log"
     fi
@@ -32,8 +33,8 @@ done
 took=$((SECONDS - begun))
 objects=()
 for harness in "${harnesses[@]}"; do
-    LLVM_PROFILE_FILE=$work/coverage/$harness.profraw "$work/coverage/$harness" -runs=0 "$work/corpus/$harness" "$here/corpus/$harness" \
-        > /dev/null 2>&1 || true
+    LLVM_PROFILE_FILE=$work/coverage/$harness.profraw "$work/coverage/$harness" -runs=0 "$work/corpus/$harness" \
+        "$here/corpus/$harness" > /dev/null 2>&1 || true
     objects+=(-object "$work/coverage/$harness")
 done
 find_tool() {
@@ -41,7 +42,9 @@ find_tool() {
 }
 "$(find_tool llvm-profdata)" merge -o "$work/coverage/all.profdata" "$work"/coverage/*.profraw
 "$(find_tool llvm-cov)" report "${objects[@]:1}" -instr-profile "$work/coverage/all.profdata" "$here/reader.h" | awk '
-    $1 ~ /reader\.h$/ { print "branches of the second reader: " $(NF - 2) ", of them not taken: " $(NF - 1) " (" $NF " taken)" }'
+    $1 ~ /reader\.h$/ {
+        print "branches of the second reader: " $(NF - 2) ", of them not taken: " $(NF - 1) " (" $NF " taken)"
+    }'
 echo "$runs runs, $((runs / (took > 0 ? took : 1))) a second, $differences differences"
 [ "$differences" -eq 0 ] || echo "the input: $(ls "$work"/found/*)"
 exit "$differences"

@@ -1,5 +1,5 @@
-/* Passing over names, questions and records: dnsnames_skip, dnsnames_question, dnsnames_record, dnsnames_header. The input
- * is an offset and a message. */
+/* Passing over names, questions and records: dnsnames_skip, dnsnames_question, dnsnames_record, dnsnames_header. The
+ * input is an offset and a message. */
 #include "harness.h"
 
 static unsigned number(const uint8_t *octets)
@@ -31,7 +31,8 @@ int LLVMFuzzerTestOneInput(const uint8_t *data, size_t size)
     type = class = 7;
     end = 7;
     bool record = accepts && len - want >= 10 && len - want - 10 >= number(message + want + 8);
-    MUST((dnsnames_record(message, len, offset, &type, &class, &ttl, &begin, &data_len, &end) == DNSNAMES_OK) == record);
+    uint32_t status = dnsnames_record(message, len, offset, &type, &class, &ttl, &begin, &data_len, &end);
+    MUST((status == DNSNAMES_OK) == record);
     if (record) {
         MUST(type == number(message + want) && class == number(message + want + 2));
         MUST(ttl == number(message + want + 4) * 65536u + number(message + want + 6));
@@ -42,7 +43,8 @@ int LLVMFuzzerTestOneInput(const uint8_t *data, size_t size)
 
     uint16_t head[6] = { 7, 7, 7, 7, 7, 7 };
     bool whole = len >= 12;
-    MUST((dnsnames_header(message, len, head, head + 1, head + 2, head + 3, head + 4, head + 5) == DNSNAMES_OK) == whole);
+    status = dnsnames_header(message, len, head, head + 1, head + 2, head + 3, head + 4, head + 5);
+    MUST((status == DNSNAMES_OK) == whole);
     for (size_t i = 0; i < 6; i++)
         MUST(head[i] == (whole ? number(message + 2 * i) : 7));
     return 0;

@@ -75,7 +75,8 @@ static size_t compose(const struct name *names, size_t count, uint8_t *message)
     ldns_buffer_skip(buffer, 12);
     for (size_t i = 0; i < count; i++) {
         ldns_rdf rdf = view(&names[i]);
-        if (ldns_buffer_remaining(buffer) < 255 || ldns_dname2buffer_wire_compress(buffer, &rdf, tree) != LDNS_STATUS_OK)
+        if (ldns_buffer_remaining(buffer) < 255
+            || ldns_dname2buffer_wire_compress(buffer, &rdf, tree) != LDNS_STATUS_OK)
             break;
     }
     size_t written = ldns_buffer_position(buffer);

@@ -1,8 +1,8 @@
 /* The line protocol of the drivers, for those in C. A driver is this file, and a `struct library` named `library`.
  *
- * A line of standard input asks, a line of standard output answers. Octets are in hexadecimal, `-` where there are none.
- * WIRE is the wire format of a name without compression. LABELS are its labels in hexadecimal with dots between, the root
- * left out; `.` is the root alone.
+ * A line of standard input asks, a line of standard output answers. Octets are in hexadecimal, `-` where there are
+ * none. WIRE is the wire format of a name without compression. LABELS are its labels in hexadecimal with dots between,
+ * the root left out; `.` is the root alone.
  *
  *   version                 ok VERSION
  *   read MESSAGE OFFSET     ok LABELS END   END is the offset after the name
@@ -14,8 +14,8 @@
  *   time sort FILE
  *   time compose FILE       COUNT is of octets written, in one message of at most 65,535, with compression
  *
- * `no` is a refusal, `none` a call that the library doesn't have. A time is that of the processor, which other work on the
- * machine disturbs little, for the best of several rounds.
+ * `no` is a refusal, `none` a call that the library doesn't have. A time is that of the processor, which other work on
+ * the machine disturbs little, for the best of several rounds.
  */
 #include <stdbool.h>
 #include <stddef.h>

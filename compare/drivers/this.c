@@ -49,7 +49,8 @@ static size_t compose(const struct name *names, size_t count, uint8_t *message)
     size_t len = 12, table_len = 0;
     memset(message, 0, len);
     for (size_t i = 0; i < count; i++)
-        if (dnsnames_append(message, MESSAGE_ROOM, &len, table, 128, &table_len, names[i].wire, names[i].len) != DNSNAMES_OK)
+        if (dnsnames_append(message, MESSAGE_ROOM, &len, table, 128, &table_len, names[i].wire, names[i].len)
+            != DNSNAMES_OK)
             break;
     return len;
 }
