@@ -1,4 +1,4 @@
--- Taking the first label off a name.
+-- Removing the first label of a name.
 use Rattle.std.specs.Prelude.{◌≡◌, ◌≤◌, ℕ, List, [], ◌∷◌, Option, None, Some, length, slice_range}
 use Rattle.std.specs.declared.ops.Range.{Range}
 use Rattle.octseq.specs.declared.octets.Octets.{Ghosts}
@@ -8,7 +8,7 @@ use Rattle.domain_name.specs.Names.{relative_labels}
 use Rattle.domain_parsed.specs.declared.parsed.ParsedName.{ParsedName}
 use Rattle.domain_parsed.specs.ParsedNames.{parsed_octets, parsed_labels, may_be_compressed}
 
--- The name new is old without its first label, which stands in the octets where the range says.
+-- The name new is old without its first label, which is in the octets at this range.
 pub record DropsFirst {O : Type 0} {g : Ghosts O} (old : ParsedName O g) (range : Range ℕ) (new : ParsedName O g) : Type 0 where
   pub label : List ℕ
   pub labels : parsed_labels old ≡ label ∷ parsed_labels new
@@ -17,7 +17,7 @@ pub record DropsFirst {O : Type 0} {g : Ghosts O} (old : ParsedName O g) (range 
   pub inside : range.end ≤ length (parsed_octets old)
   pub stands : slice_range (parsed_octets old) range.start range.end ≡ wire (label ∷ [])
 
--- The name new is old without its first label, which is the result; without one nothing changed.
+-- The name new is old without its first label, which is the result; the root is unchanged, without a result.
 abbrev pub SplitsFirst : {O : Type 0} {g : Ghosts O} {P : Type 0} {h : Ghosts P} → ParsedName O g → Option (RelativeName P h) → ParsedName O g → Type 0
 SplitsFirst old None new = new ≡ old
 SplitsFirst old (Some first) new = (label : List ℕ) × (relative_labels first ≡ label ∷ []) × (parsed_labels old ≡ label ∷ parsed_labels new) × (parsed_octets new ≡ parsed_octets old) × (may_be_compressed new ≡ may_be_compressed old)

@@ -1,4 +1,4 @@
-//! The labels of a flat name, found as those of a name in a message.
+//! The labels of a name in uncompressed wire format, found as those of a name in a message.
 ghost use Rattle.std.specs.Prelude.{◌≡◌, slice_range, false};
 ghost use Rattle.domain_label.specs.Wire.{IsAbsoluteWire, labels_in};
 ghost use Rattle.domain_reading.specs.ParseResult.{Holds};
@@ -8,8 +8,7 @@ use domain_reading::alone::read_name;
 use domain_reading::progress::Progress;
 use domain_reading::standing::MAX_LABELS;
 
-/// Finds the labels of a flat name, and puts their places at the beginning of the table. A name in one piece has no
-/// pointer.
+/// Finds the labels of a name in uncompressed wire format, and writes their offsets to the beginning of the table.
 pub(crate) fn read_flat(octets: &[u8], places: &mut [u16; MAX_LABELS]) -> Progress
     requires { IsAbsoluteWire octets.now }
     ensures held { Holds octets.now result places.new }

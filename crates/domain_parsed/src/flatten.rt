@@ -1,4 +1,4 @@
-//! Names in a message made flat.
+//! Names in a message copied to uncompressed wire format.
 ghost use Rattle.std.specs.Prelude.{◌≡◌, length};
 ghost use Rattle.domain_label.specs.Wire.{wire};
 ghost use Rattle.domain_name.specs.Names.{name_labels};
@@ -11,9 +11,9 @@ use domain_traits::{FlattenInto, FlattenName, ToName};
 use octseq::{EmptyBuilder, FromBuilder, Octets, ShortBuf};
 use std::alloc::Global;
 
-/// The labels are put together over new octets, wherever they stand in the message.
+/// The labels are copied from the message to new octets, as an uncompressed name.
 ///
-/// `ShortBuf` where the wire format exceeds a fixed room of the octets, or where memory was refused.
+/// `ShortBuf` where the wire format exceeds the fixed capacity of the new octets, or where an allocation failed.
 impl<Octs: Octets + Drop, Target: FromBuilder + Drop> FlattenInto<Name<Target>> for ParsedName<Octs>
 where
     Target::Builder: EmptyBuilder + Drop,

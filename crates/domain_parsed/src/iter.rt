@@ -10,8 +10,8 @@ use std::sync::ledger::{Blank, Ledger};
 
 /// The labels of a name in a message, the root label last.
 ///
-/// They are given from either end, and each of them once. Each is read where the name's table says that it
-/// stands, for one head; no pointer is followed again.
+/// They are returned from either end, each of them once. Each is read at the offset that the name's table has for it,
+/// and counts as one; no pointer is followed again.
 #[derive(Clone, Copy)]
 pub struct ParsedNameIter<'a> {
     octets: &'a [u8],
@@ -26,7 +26,7 @@ impl<'a> ParsedNameIter<'a> {
     ghost use Rattle.domain_label.specs.Labels.{label_octets};
     ghost use Rattle.domain_parsed.specs.ParsedNames.{labels_left};
 
-    /// The labels that stand at the places of a table.
+    /// The labels at the offsets that a table has.
     #[inline(always)]
     pub(crate) fn new(octets: &'a [u8], base: usize, places: &'a [u16]) -> Self
         requires { AreLabelOffsets octets.now base places.now }
@@ -40,7 +40,7 @@ impl<'a> ParsedNameIter<'a> {
         }
     }
 
-    /// The same as `next`, with the heads that it reads counted: one for a label, none for `None`.
+    /// The same as `next`, and counts what is read: one for a label, nothing for `None`.
     #[inline(always)]
     pub fn next_counted<L: Ledger>(&mut self, heads: &mut Heads<L>) -> Option<Label<'a>>
         ensures first { YieldsFirstBy label_octets labels_left self.old result self.new }
@@ -53,7 +53,7 @@ impl<'a> ParsedNameIter<'a> {
         Some(label)
     }
 
-    /// The same as `next_back`, with the heads that it reads counted: one for a label, none for `None`.
+    /// The same as `next_back`, and counts what is read: one for a label, nothing for `None`.
     #[inline(always)]
     pub fn next_back_counted<L: Ledger>(&mut self, heads: &mut Heads<L>) -> Option<Label<'a>>
         ensures last { YieldsLastBy label_octets labels_left self.old result self.new }

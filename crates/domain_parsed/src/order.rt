@@ -1,4 +1,4 @@
-//! Equality, order and hash of names in a message, all without ASCII case.
+//! Equality, order and hash of names in a message, all ignoring ASCII case.
 ghost use Rattle.std.specs.Prelude.{refl};
 ghost use Rattle.std.proofs.Common.{rules};
 ghost use Rattle.std.specs.Cmp.{partial_order_from_agreeing_total, partial_equiv_from_equiv, on_equiv, on_total};
@@ -16,7 +16,7 @@ use octseq::Octets;
 use std::cmp::Ordering;
 use std::hash::{Hash, Hasher};
 
-/// Names are equal where their labels are, without ASCII case (RFC 4343).
+/// Names are equal where their labels are, ignoring ASCII case (RFC 4343).
 impl<Octs: Octets> PartialEq for ParsedName<Octs> {
     ghost use Rattle.domain_parsed.specs.ParsedNames.{parsed_labels};
 
@@ -35,7 +35,7 @@ impl<Octs: Octets> Eq for ParsedName<Octs> {
     ghost laws = { on_equiv parsed_labels same_name_is_equivalence };
 }
 
-/// The order of names (RFC 4034, 6.1).
+/// The canonical order of names (RFC 4034, 6.1).
 impl<Octs: Octets> Ord for ParsedName<Octs> {
     ghost use Rattle.domain_parsed.specs.ParsedNames.{parsed_labels};
 
@@ -77,7 +77,8 @@ impl<Octs: Octets> CanonicalOrd for ParsedName<Octs> {
     }
 }
 
-/// Feeds each label's length and its octets without ASCII case, so that equal names feed alike.
+/// Writes each label's length and its octets, ignoring ASCII case, to the hasher, so that equal names have equal
+/// hashes.
 impl<Octs: Octets> Hash for ParsedName<Octs> {
     ghost use Rattle.domain_parsed.specs.ParsedNames.{parsed_labels};
 

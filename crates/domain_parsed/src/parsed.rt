@@ -28,28 +28,28 @@ use std::sync::ledger::{Blank, Ledger};
 /// The most pointers that are followed for one name.
 const MAX_POINTERS: u8 = 255;
 
-/// An absolute name in a message, whose labels may stand in several places (RFC 1035, 4.1.4).
+/// An absolute name in a message, which may be compressed (RFC 1035, 4.1.4).
 ///
-/// It has at most 255 octets with the root label, and at most 255 compression pointers lead along it.
-/// It keeps the octets of the whole message and a table of the places where its labels stand, so that each
-/// label is found by one look at the message, from either end.
+/// It has at most 255 octets with the root label, and is read through at most 255 compression pointers. It keeps the
+/// octets of the whole message and a table of the offsets of its labels, so that each label is found without
+/// following a pointer, from either end.
 ///
-/// It is for names that are read from a message and looked at while that is at hand: no octet is copied, and
-/// over `&[u8]` it is Copy, of 288 octets. `parse` makes one, and `From` makes one of a flat name. To keep a name
-/// without its message, make a flat one of it by `flatten_into` or `to_name`.
+/// It is for names that are read from a message and used while that is in memory: no octet is copied, and over
+/// `&[u8]` it is Copy, of 288 octets. `parse` makes one, and `From` makes one of an uncompressed name. To keep a name
+/// without its message, copy it to an uncompressed one by `flatten_into` or `to_name`.
 pub struct ParsedName<Octs: Octets> {
     octets: Octs,
-    /// The place of the label that was the first when the name was read.
+    /// The offset of the label that was the first when the name was read.
     base: usize,
-    /// Where each label stands, in the name's order.
+    /// The offset of each label, in the name's order.
     places: [u16; MAX_LABELS],
-    /// How many labels have their places in the table.
+    /// How many labels have their offsets in the table.
     count: u8,
-    /// How many of them were left out at the front since.
+    /// How many of them were removed from the beginning since.
     dropped: u8,
     /// How many octets those had.
     passed: u16,
-    /// How many octets the labels have that are left.
+    /// How many octets the remaining labels have.
     name_len: u16,
     compressed: bool,
     ghost some: { dropped < count },
@@ -80,16 +80,17 @@ impl<'a> ParsedName<&'a [u8]> {
     ghost use Rattle.domain_wire.specs.Refusals.{refusal};
     ghost use Rattle.domain_reading.specs.ParseResult.{MovesPastName, IsErrorOfName, SkipsName, IsErrorOfSkip, StandsUncompressed, CountsName, CountsFault};
 
-    /// Reads the name at the parser's place, and moves the parser behind the name's root or first pointer.
+    /// Reads the name at the parser's position, and moves the parser after the name's root or first pointer.
     ///
-    /// Octets at or past the parser's end are never read. A name that begins with pointers is taken at
-    /// the place that they lead to. Labels, the root among them, may have at most 255 octets with their
-    /// length octets. Each pointer must lead to a place before its own, and at most 255 are followed.
+    /// Octets at or after the parser's end are never read. A name that begins with pointers is read at the offset
+    /// that they lead to. Labels, the root among them, may have at most 255 octets with their length octets. Each
+    /// pointer must lead to an offset before its own, and at most 255 are followed.
     ///
-    /// The first fault on the way decides, and the parser stays where it is:
-    /// - `ShortInput` where a head, a label or the second octet of a pointer is past the end;
-    /// - "invalid label type" at a head from 0x40 to 0xbf;
-    /// - "too many compression pointers" at one that doesn't lead back, and at a 256th;
+    /// The first error on the way is returned, and the parser is then unchanged:
+    /// - `ShortInput` where the first octet of a label or a pointer, an octet of a label or the second octet of a
+    ///   pointer is at or after the end;
+    /// - "invalid label type" where the first octet of a label is from 0x40 to 0xbf;
+    /// - "too many compression pointers" at one that doesn't lead to an offset before its own, and at a 256th;
     /// - "long domain name" where the labels and their length octets are more than 254 before the root.
     ///
     /// In `crates/examples/src/reading.rt`, where it is proved:
@@ -158,7 +159,7 @@ impl<'a> ParsedName<&'a [u8]> {
         ParsedName::parse_with::<Brand>(parser, limit, Blank::new(1))
     }
 
-    /// `parse_counted` with a counter of its own.
+    /// `parse_counted` with a new counter, which is dropped.
     #[inline(always)]
     fn parse_with<L: Ledger>(
         parser: &mut Parser<'a>,
@@ -180,8 +181,8 @@ impl<'a> ParsedName<&'a [u8]> {
         ParsedName::parse_counted(parser, limit, &mut Heads::<L>::new(blank))
     }
 
-    /// The same as `parse_with_limit`, with the heads that are read counted: those of labels, of pointers and
-    /// of the root, and the last one where it is missing or the fault. They are at most `limit` and 128.
+    /// The same as `parse_with_limit`, and counts what is read: each label, each pointer and the root, and the last
+    /// one where it is missing or the error. The count grows by at most `limit` and 128.
     #[inline(always)]
     pub fn parse_counted<L: Ledger>(
         parser: &mut Parser<'a>,
@@ -208,7 +209,8 @@ impl<'a> ParsedName<&'a [u8]> {
         Ok(ParsedName::of(parser.octets_ref(), &found, places))
     }
 
-    /// The same as `parse_with_limit`, with the `NameFault` itself as the error, for callers that tell the four apart.
+    /// The same as `parse_with_limit`, with the `NameFault` as the error, for callers that treat the four
+    /// differently.
     ///
     /// The parser is unchanged on an error.
     #[inline(always)]
@@ -232,13 +234,13 @@ impl<'a> ParsedName<&'a [u8]> {
         Ok(ParsedName::of(parser.octets_ref(), &found, places))
     }
 
-    /// Moves the parser behind the root or the first pointer of the name at its place.
+    /// Moves the parser after the root or the first pointer of the name at its position.
     ///
-    /// A pointer is not followed, so it may lead anywhere; its two octets must be there. The labels
-    /// before it with their length octets may be at most 255, the root included.
+    /// A pointer is not followed, so it may lead anywhere; its two octets must be there. The labels before it with
+    /// their length octets may be at most 255, the root included.
     ///
-    /// `ShortInput` and "invalid label type" as `parse`, "long domain name" past the 255 octets. The
-    /// parser then stays where it is. Where `parse` succeeds, this does, and moves to the same place.
+    /// `ShortInput` and "invalid label type" as for `parse`, "long domain name" for more than 255 octets. The parser
+    /// is then unchanged. Where `parse` succeeds, this does, and moves to the same offset.
     ///
     /// In `crates/examples/src/reading.rt`, where it is proved:
     ///
@@ -297,7 +299,8 @@ impl<Octs: Octets> ParsedName<Octs> {
         }
     }
 
-    /// Whether a pointer may follow the first label. False means that the name lies in one piece.
+    /// Whether a pointer may follow the first label. False means that from its first label on the name is
+    /// uncompressed.
     pub fn is_compressed(&self) -> bool
         ensures { result ≡ may_be_compressed self.now }
     {
@@ -311,7 +314,7 @@ impl<Octs: Octets> ParsedName<Octs> {
         self.name_len == 1
     }
 
-    /// The same name with its octets lent.
+    /// The same name with its octets borrowed.
     pub fn ref_octets(&self) -> ParsedName<&Octs>
         ensures octets { parsed_octets result ≡ parsed_octets self.now }
         ensures labels { parsed_labels result ≡ parsed_labels self.now }
@@ -371,7 +374,7 @@ impl<Octs: Octets> ParsedName<Octs> {
         ParsedNameIter::new(self.octets.as_slice(), self.base, places)
     }
 
-    /// The name, then the name without its first label, and so on down to the root.
+    /// The name, then the name without its first label, and so on to the root.
     #[inline(always)]
     pub fn iter_suffixes(&self) -> ParsedSuffixIter<'_>
         ensures { suffixes_left result ≡ suffixes (parsed_octets self.now) (may_be_compressed self.now) (parsed_labels self.now) }
@@ -406,9 +409,9 @@ impl<Octs: Octets> ParsedName<Octs> {
         Label::root()
     }
 
-    /// Leaves out the first label.
+    /// Removes the first label.
     ///
-    /// False for the root, which stays as it is. `is_compressed` stays as it was.
+    /// False for the root, which is unchanged. `is_compressed` returns what it did before.
     #[inline(always)]
     pub fn parent(&mut self) -> bool
         ensures labels { MatchBool result ((l : List ℕ) × (parsed_labels self.old ≡ l ∷ parsed_labels self.new)) ((self.new ≡ self.old) × (parsed_labels self.old ≡ Root)) }
@@ -419,10 +422,9 @@ impl<Octs: Octets> ParsedName<Octs> {
         self.drop_first_label().is_some()
     }
 
-    /// Takes the first label off, and gives it as a relative name. `None` for the root, which stays as
-    /// it is.
+    /// Removes the first label, and returns it as a relative name. `None` for the root, which is unchanged.
     ///
-    /// `is_compressed` stays as it was.
+    /// `is_compressed` returns what it did before.
     pub fn split_first(&mut self) -> Option<RelativeName<&[u8]>>
         ensures none { IsNone result ↔ (parsed_labels self.old ≡ Root) }
         ensures some { IfSome result (λ first. (l : List ℕ) × (rest : List (List ℕ)) × (relative_labels first ≡ l ∷ []) × (parsed_labels self.old ≡ l ∷ rest)) }
@@ -435,8 +437,8 @@ impl<Octs: Octets> ParsedName<Octs> {
         Some(first)
     }
 
-    /// Leaves out the first label, and tells where it stands with its length octet. `None` for the
-    /// root, which stays as it is.
+    /// Removes the first label, and returns the range of its octets, the length octet included. `None` for the root,
+    /// which is unchanged.
     #[inline(always)]
     fn drop_first_label(&mut self) -> Option<Range<usize>>
         ensures some { IfSome result (λ range. DropsFirst self.old range self.new) }
@@ -466,7 +468,7 @@ impl<Octs: Octets> ParsedName<Octs> {
         self.name_len
     }
 
-    /// The octets of a name that lies in one piece.
+    /// The octets of a name that is uncompressed from its first label on.
     pub(crate) fn flat_octets(&self) -> Option<&[u8]>
         ensures octets { IfSome result (λ octets. octets.now ≡ wire (parsed_labels self.now)) }
         ensures none { IsNone result ↔ (may_be_compressed self.now ≡ true) }
@@ -504,7 +506,7 @@ impl<'a, Octs: Octets> ParsedName<&'a Octs> {
     }
 }
 
-/// A flat name is a name in a message that has no other octets.
+/// An uncompressed name is a name in a message that has no other octets.
 impl<Octs: Octets> From<Name<Octs>> for ParsedName<Octs> {
     ghost use Rattle.domain_name.specs.Names.{name_octets, name_labels};
     ghost use Rattle.domain_parsed.specs.ParsedNames.{parsed_octets, parsed_labels, may_be_compressed};
@@ -521,8 +523,7 @@ impl<Octs: Octets> From<Name<Octs>> for ParsedName<Octs> {
 impl ParsedName<Vec<u8>> {
     ghost use Rattle.domain_parsed.specs.ParsedNames.{parsed_model};
 
-    /// The same name over new octets, a copy of the whole message. `ShortBuf` only where memory was
-    /// refused.
+    /// The same name over new octets, a copy of the whole message. `ShortBuf` only where an allocation failed.
     pub fn clone(&self, alloc: Global) -> Result<ParsedName<Vec<u8>>, ShortBuf>
         ensures { IfOk result (λ name. parsed_model name ≡ parsed_model self.now) }
     {
@@ -543,7 +544,7 @@ impl ParsedName<Vec<u8>> {
 impl<const N: usize> ParsedName<ArrayVec<u8, N>> {
     ghost use Rattle.domain_parsed.specs.ParsedNames.{parsed_model};
 
-    /// The same name over new octets, a copy of the whole message, which is never refused.
+    /// The same name over new octets, a copy of the whole message, which never fails.
     pub fn clone(&self, alloc: Global) -> Result<ParsedName<ArrayVec<u8, N>>, ShortBuf>
         ensures ok { IfOk result (λ name. parsed_model name ≡ parsed_model self.now) }
         ensures made { IsOk result }

@@ -3,11 +3,11 @@ ghost use Rattle.std.specs.Prelude.{◌≡◌};
 
 use crate::parsed::ParsedName;
 
-/// The suffixes of a name: the name, the name without its first label, and so on down to the root.
+/// The suffixes of a name: the name, the name without its first label, and so on to the root.
 #[derive(Clone, Copy)]
 pub struct ParsedSuffixIter<'a> {
     name: ParsedName<&'a [u8]>,
-    /// Whether the name was given, and is the root.
+    /// Whether the name was returned, and is the root.
     ended: bool,
 }
 

@@ -1,4 +1,4 @@
--- Why no name can be read or passed over at a place (RFC 1035, 4.1.4).
+-- Why no name can be read or skipped at an offset (RFC 1035, 4.1.4).
 use Rattle.std.specs.Prelude.{◌≡◌, ℕ, suc, ◌+◌, ◌≤◌, ◌<◌, ◌⊎◌, List, [], ◌∷◌, ◌++◌, length, slice_index, codes}
 use Rattle.domain_wire.specs.Refusals.{Refusal, short_input, form}
 use Rattle.domain_label.specs.Wire.{wire}
@@ -6,35 +6,35 @@ use Rattle.domain_reading.specs.Grammar.{OctetAt, LabelAt, PointerAt, Flat, Enco
 use Rattle.domain_reading.specs.declared.fault.NameFault.{NameFault}
 use Rattle.domain_reading.specs.declared.fault.NameFault.TheVariants.{ShortInput, BadLabelType, TooManyPointers, LongName}
 
--- How a fault is told.
+-- The error that is returned for each.
 abbrev pub error_of : NameFault → Refusal
 error_of ShortInput = short_input
 error_of BadLabelType = form (codes "invalid label type")
 error_of TooManyPointers = form (codes "too many compression pointers")
 error_of LongName = form (codes "long domain name")
 
--- A walk from p has passed the labels fs and k pointers, of n that may be, and its next head stands at r.
+-- From p on the labels fs and k of at most n pointers were read, and the next label or pointer is at r.
 pub data Followed (n : ℕ) (m : List ℕ) (p : ℕ) : ℕ → List (List ℕ) → ℕ → Type 0 where
   start : Followed n m p 0 [] p
   past_label : {k r : ℕ} {fs : List (List ℕ)} {l : List ℕ} → Followed n m p k fs r → LabelAt m r l → length (wire fs) + 1 + length l ≤ 254 → Followed n m p k (fs ++ l ∷ []) (r + 1 + length l)
   past_pointer : {k r q : ℕ} {fs : List (List ℕ)} → Followed n m p k fs r → PointerAt m r q → q < r → k < n → Followed n m p (suc k) fs q
 
--- The head at r, the second octet of a pointer or an octet of a label is past the end.
+-- The first octet at r, the second octet of a pointer or an octet of a label is at or after the end.
 abbrev pub EndsTooEarly : List ℕ → ℕ → Type 0
 EndsTooEarly m r = (length m ≤ r) ⊎ ((length m ≤ r + 1) × (192 ≤ slice_index m r)) ⊎ ((slice_index m r < 64) × (length m < r + 1 + slice_index m r))
 
--- The head at r is neither that of a label nor that of a pointer.
+-- The octet at r is the first of neither a label nor a pointer.
 abbrev pub BadTypeAt : List ℕ → ℕ → Type 0
 BadTypeAt m r = (r < length m) × (64 ≤ slice_index m r) × (slice_index m r < 192)
 
--- A walk that has passed the labels fs and k pointers, of n that may be, can't go on at r, and why.
+-- After the labels fs and k of at most n pointers the next label or pointer, at r, can't be read, and why.
 abbrev pub StepFaultAt : ℕ → List ℕ → ℕ → List (List ℕ) → ℕ → NameFault → Type 0
 StepFaultAt n m k fs r ShortInput = EndsTooEarly m r
 StepFaultAt n m k fs r BadLabelType = BadTypeAt m r
 StepFaultAt n m k fs r TooManyPointers = (q : ℕ) × PointerAt m r q × ((r ≤ q) ⊎ (k ≡ n))
 StepFaultAt n m k fs r LongName = (l : List ℕ) × LabelAt m r l × (254 < length (wire fs) + 1 + length l)
 
--- No name of at most n pointers can be read at p, and why: the walk from p can't go on.
+-- No name of at most n pointers is at p, and why: from p on labels and pointers can be read up to one that can't.
 pub record NameFaultAt (n : ℕ) (m : List ℕ) (p : ℕ) (fault : NameFault) : Type 0 where
   pub pointers : ℕ
   pub passed : List (List ℕ)
@@ -42,26 +42,26 @@ pub record NameFaultAt (n : ℕ) (m : List ℕ) (p : ℕ) (fault : NameFault) : 
   pub walk : Followed n m p pointers passed stopped
   pub at : StepFaultAt n m pointers passed stopped fault
 
--- How many octets of a name what ends its front has: the root has one.
+-- How many octets the end of an encoding counts: one for the root, none for a pointer.
 abbrev pub stop_len : Stop → ℕ
 stop_len root = 1
 stop_len (pointer q) = 0
 
--- A front that has at most 255 octets stands at p, and e is the place behind it.
+-- At p is an encoding of at most 255 octets, the root included and a pointer left out, and e is the offset after it.
 pub record Skips (m : List ℕ) (p e : ℕ) : Type 0 where
   pub passed : List (List ℕ)
   pub stop : Stop
   pub front : Encoding m p passed stop e
   pub short : length (wire passed) + stop_len stop ≤ 255
 
--- The labels fs were passed over, but at r that can't go on, and why.
+-- The labels fs were skipped, but what comes next, at r, can't be, and why.
 abbrev pub SkipFaultAt : List ℕ → List (List ℕ) → ℕ → NameFault → Type 0
 SkipFaultAt m fs r ShortInput = EndsTooEarly m r
 SkipFaultAt m fs r BadLabelType = BadTypeAt m r
 SkipFaultAt m fs r TooManyPointers = ⊥
 SkipFaultAt m fs r LongName = (OctetAt m r 0 × (255 ≤ length (wire fs))) ⊎ ((l : List ℕ) × LabelAt m r l × (255 < length (wire fs) + 1 + length l))
 
--- No name can be passed over at p, and why.
+-- No name can be skipped at p, and why.
 pub record SkipFault (m : List ℕ) (p : ℕ) (fault : NameFault) : Type 0 where
   pub passed : List (List ℕ)
   pub stopped : ℕ

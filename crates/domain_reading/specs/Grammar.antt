@@ -2,12 +2,12 @@
 use Rattle.std.specs.Prelude.{◌≡◌, ℕ, suc, ◌+◌, ◌*◌, ◌≤◌, ◌<◌, List, [], ◌∷◌, length, slice_index, slice_range}
 use Rattle.domain_label.specs.Wire.{wire, Root}
 
--- The octet o stands at p.
+-- The octet o is at p.
 pub record OctetAt (m : List ℕ) (p o : ℕ) : Type 0 where
   pub inside : p < length m
   pub octet : slice_index m p ≡ o
 
--- A whole label stands at p, and it isn't the root: its length, 1 to 63, and that many octets.
+-- A whole label is at p, and it isn't the root: its length, 1 to 63, and that many octets.
 pub record LabelAt (m : List ℕ) (p : ℕ) (l : List ℕ) : Type 0 where
   pub nonempty : 0 < length l
   pub short : length l < 64
@@ -15,13 +15,13 @@ pub record LabelAt (m : List ℕ) (p : ℕ) (l : List ℕ) : Type 0 where
   pub inside : p + 1 + length l ≤ length m
   pub octets : slice_range m (p + 1) (p + 1 + length l) ≡ l
 
--- A whole pointer to q stands at p: two octets, the two high bits ones, the other 14 the place.
+-- A whole pointer to q is at p: two octets, the two high bits ones, the other 14 the offset.
 pub record PointerAt (m : List ℕ) (p q : ℕ) : Type 0 where
   pub inside : p + 1 < length m
   pub head : 192 ≤ slice_index m p
   pub target : q + 49152 ≡ 256 * slice_index m p + slice_index m (p + 1)
 
--- The labels ls are read at p, through k pointers. Each pointer leads back.
+-- The labels ls are read at p, through k pointers. Each pointer leads to an offset before its own.
 pub data Reads (m : List ℕ) : ℕ → ℕ → List (List ℕ) → Type 0 where
   root : {p : ℕ} → OctetAt m p 0 → Reads m p 0 Root
   label : {p k : ℕ} {l : List ℕ} {rest : List (List ℕ)} → LabelAt m p l → Reads m (p + 1 + length l) k rest → Reads m p k (l ∷ rest)
@@ -34,36 +34,37 @@ pub record Names (n : ℕ) (m : List ℕ) (p : ℕ) (ls : List (List ℕ)) : Typ
   pub few_pointers : pointers ≤ n
   pub short : length (wire ls) ≤ 255
 
--- The labels fs stand from p to r, one behind the other, with no pointer between them.
+-- The labels fs are at the octets from p to r, one after the other, with no pointer between them.
 abbrev pub Flat : List ℕ → ℕ → List (List ℕ) → ℕ → Type 0
 Flat m p [] r = p ≡ r
 Flat m p (l ∷ fs) r = LabelAt m p l × Flat m (p + 1 + length l) fs r
 
--- What ends the front of a name.
+-- What ends the encoding of a name.
 pub data Stop : Type 0 where
   root : Stop
   pointer : ℕ → Stop
 
--- The root or a whole pointer stands at r, and e is the place behind it.
+-- The root or a whole pointer is at r, and e is the offset after it.
 abbrev pub StopAt : List ℕ → ℕ → Stop → ℕ → Type 0
 StopAt m r root e = OctetAt m r 0 × (e ≡ r + 1)
 StopAt m r (pointer q) e = PointerAt m r q × (e ≡ r + 2)
 
--- The front of the name at p: the labels fs, then the first root or pointer c, and e is the place behind it.
+-- The encoding of the name at p: the labels fs, then the first root or pointer c, and e is the offset after it.
 pub record Encoding (m : List ℕ) (p : ℕ) (fs : List (List ℕ)) (c : Stop) (e : ℕ) : Type 0 where
   pub stop : ℕ
   pub flat : Flat m p fs stop
   pub ends : StopAt m stop c e
 
--- The front of the name at p ends before e.
+-- The encoding of the name at p ends before e.
 abbrev pub EncodingEnds : List ℕ → ℕ → ℕ → Type 0
 EncodingEnds m p e = (fs : List (List ℕ)) × (c : Stop) × Encoding m p fs c e
 
--- The base of the name at p, where its pointers at the beginning lead to: no pointer leads back from there.
+-- The offset of the first label of the name at p, after its pointers at the beginning: no pointer to an earlier
+-- offset is there.
 pub data FirstLabelAt (m : List ℕ) : ℕ → ℕ → Type 0 where
   here : {p : ℕ} → ((q : ℕ) → PointerAt m p q → p ≤ q) → FirstLabelAt m p p
   past : {p q b : ℕ} → PointerAt m p q → q < p → FirstLabelAt m q b → FirstLabelAt m p b
 
--- From its base on the name lies in one piece: its front ends in the root.
+-- From its first label on the name is uncompressed: its encoding there ends in the root.
 abbrev pub IsContiguous : List ℕ → ℕ → Type 0
 IsContiguous m p = (b : ℕ) × (fs : List (List ℕ)) × (e : ℕ) × FirstLabelAt m p b × Encoding m b fs root e

@@ -1,4 +1,4 @@
--- What stands at one place of a message.
+-- What is at an offset of a message: the root, another label, or a pointer.
 use Rattle.std.specs.Prelude.{◌≡◌, ℕ, ◌<◌, ◌^◌, List, length}
 use Rattle.domain_reading.specs.Grammar.{OctetAt, LabelAt, PointerAt}
 use Rattle.domain_reading.specs.Faults.{EndsTooEarly, BadTypeAt}
@@ -7,13 +7,13 @@ use Rattle.domain_reading.specs.declared.fault.NameFault.TheVariants.{ShortInput
 use Rattle.domain_reading.specs.declared.head.Head.{Head}
 use Rattle.domain_reading.specs.declared.head.Head.TheVariants.{Root, Label, Pointer}
 
--- The head stands at r.
+-- This is at r.
 abbrev pub StandsAt : List ℕ → ℕ → Head → Type 0
 StandsAt m r Root = OctetAt m r 0
 StandsAt m r (Label n) = (l : List ℕ) × (length l ≡ n) × LabelAt m r l
 StandsAt m r (Pointer q) = PointerAt m r q × (q < 2 ^ 14)
 
--- No head can be read at r, and why.
+-- No label and no pointer can be read at r, and why.
 abbrev pub BrokenAt : List ℕ → ℕ → NameFault → Type 0
 BrokenAt m r ShortInput = EndsTooEarly m r
 BrokenAt m r BadLabelType = BadTypeAt m r

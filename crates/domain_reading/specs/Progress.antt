@@ -1,25 +1,25 @@
--- How reading a name goes on.
+-- The steps of reading a name.
 use Rattle.std.specs.Prelude.{ℕ, ◌+◌, ◌==◌, if◌then◌else◌, List, Some, None, unwrap_or, true, false, set}
 use Rattle.domain_reading.specs.declared.progress.Progress.{Progress}
 
--- At the first head of a name at p, where the table has no entry yet.
+-- At the first label or pointer of a name at p, where the table has no entry yet.
 abbrev pub beginning : ℕ → Progress
 beginning p = record { at = p; base = p; len = 0; pointers = 0; compressed = false; end = None; count = 0 }
 
--- What the table says of the next head: how far it is behind the base while the name lies in one piece, and its place
--- in the message once it doesn't.
+-- The entry for the next label: how many octets it is after the base while no pointer came after the first label,
+-- else 32768 more than its offset in the message.
 abbrev pub entry_of : Progress → ℕ
 entry_of w = if w.compressed then w.at + 32768 else w.len
 
--- The table once the place of the next head, which is a label's, came into it.
+-- The table after the entry for the next label was added.
 abbrev pub table_noted : Progress → List ℕ → List ℕ
 table_noted w table = set table w.count (entry_of w)
 
--- The place of the next head, which is a label's, came into the table.
+-- The entry for the next label was added to the table.
 abbrev pub noted : Progress → Progress
 noted w = record w { count = w.count + 1 }
 
--- A label of n octets was passed.
+-- A label of n octets was read.
 abbrev pub label_passed : Progress → ℕ → Progress
 label_passed w n = record w { at = w.at + 1 + n; len = w.len + 1 + n; count = w.count + 1 }
 

@@ -3,18 +3,18 @@ use Rattle.std.specs.Prelude.{◌≡◌, ℕ, ◌+◌, ◌<◌, ◌≤◌, ◌�
 use Rattle.domain_reading.specs.Grammar.{Reads}
 use Rattle.domain_reading.specs.Grammar.Reads.{root, label, pointer}
 
--- The octet at the place i is one of those that the name is read from: the root, the length or an octet of a
--- label, or one of the two octets of a pointer.
+-- The octet at i is one of those that the name is read from: the root, the length or an octet of a label, or one of
+-- the two octets of a pointer.
 abbrev pub Touches : {m : List ℕ} {p k : ℕ} {ls : List (List ℕ)} → Reads m p k ls → ℕ → Type 0
 Touches {m} {p} (root x) i = i ≡ p
 Touches {m} {p} (label {l = l} x r) i = ((p ≤ i) × (i ≤ p + length l)) ⊎ Touches r i
 Touches {m} {p} (pointer x lt r) i = ((p ≤ i) × (i ≤ p + 1)) ⊎ Touches r i
 
--- The octet at the place i of w is there, and is the one of m.
+-- The octet at i of w is there, and is the one of m.
 abbrev pub IsKept : List ℕ → List ℕ → ℕ → Type 0
 IsKept m w i = (i < length w) × (slice_index w i ≡ slice_index m i)
 
--- A list of labels is read at p, from octets at the place n and behind it alone.
+-- A list of labels is read at p, from octets at n and after it alone.
 pub record ReadsBehind (n : ℕ) (m : List ℕ) (p : ℕ) (ls : List (List ℕ)) : Type 0 where
   pub pointers : ℕ
   pub reads : Reads m p pointers ls

@@ -1,10 +1,9 @@
-//! The walks of `read` for callers that want no count.
+//! The functions of `read` for callers that want no count.
 //!
-//! A count of heads is kept in a ledger, and a type parameter stands for it. A caller that has no ledger
-//! picks one where it passes `Brand` to a function that is generic over ledgers, and only such a function
-//! can open the count. So each walk is two functions: the one that is called, which picks, and one over a
-//! ledger, which opens the count. That of `encoding_end` stands in `read`, since it is the walk itself; the
-//! others stand here.
+//! The count of labels and pointers is kept in a ledger, which a type parameter names. A caller without a ledger
+//! passes `Brand` as this parameter to a function that is generic over ledgers, and only such a function can start a
+//! count. So there are two functions for each: the public one, which passes `Brand`, and a generic one, which starts
+//! the count. The generic one of `encoding_end` is in `read`, since its loop is there; the others are here.
 ghost use Rattle.std.specs.Prelude.{◌≡◌, ℕ, ◌+◌, ◌≤◌, ◌<◌, length, IfSome, IfOk, IfErr, OnOk};
 ghost use Rattle.domain_label.specs.Labels.{label_octets};
 ghost use Rattle.domain_reading.specs.Faults.{NameFaultAt, Skips, SkipFault};
@@ -21,10 +20,11 @@ use domain_label::Label;
 use std::marker::Brand;
 use std::sync::ledger::{Blank, Ledger};
 
-/// Reads the name at a place, of at most `limit` pointers, and notes how that went. It reads at most
-/// 128 heads more than the limit.
+/// Reads the name at an offset, through at most `limit` pointers, and leaves the result in `progress`. It reads at
+/// most 128 labels and pointers more than the limit.
 ///
-/// `progress` stands at the name's first head. The places of the labels are put at the beginning of the table.
+/// `progress` is as `Progress::new` makes it, at the name's first octet. The offsets of the labels are written to the
+/// beginning of the table.
 #[inline(always)]
 pub fn read_name(
     message: &[u8],
@@ -65,8 +65,9 @@ fn read_name_with<L: Ledger>(
     )
 }
 
-/// The place behind the front of the name at a place, where that is found with one test of the end for each
-/// head: an octet is left behind it, so both octets of a pointer are there. `None` says nothing.
+/// The offset after the encoding of the name at an offset, where it is found with one test of the end for each label
+/// or pointer: at least one octet comes after its first octet, so both octets of a pointer are there. `None` says
+/// nothing of the name.
 #[inline(always)]
 fn quick_end(message: &[u8], pos: usize) -> Option<usize>
     ensures skips { IfSome result (λ end. Skips message.now pos end) }
@@ -99,7 +100,7 @@ fn quick_end(message: &[u8], pos: usize) -> Option<usize>
     None
 }
 
-/// The place behind the front of the name at a place, wherever its pointer leads to.
+/// The offset after the encoding of the name at an offset: after its root or first pointer, wherever that leads to.
 #[inline(always)]
 pub fn encoding_end(message: &[u8], pos: usize) -> Result<usize, NameFault>
     ensures skips { IfOk result (λ end. Skips message.now pos end) }
@@ -112,7 +113,7 @@ pub fn encoding_end(message: &[u8], pos: usize) -> Result<usize, NameFault>
     }
 }
 
-/// The label that stands at a place.
+/// The label at an offset.
 pub fn label_at_offset<'a>(octets: &'a [u8], place: usize) -> Label<'a>
     requires { IsLabelOffset octets.now place }
     ensures { label_octets result ≡ label_at octets.now place }

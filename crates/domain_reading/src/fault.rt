@@ -2,16 +2,17 @@
 
 use domain_wire::ParseError;
 
-/// Why no name can be read at a place.
+/// Why no name can be read at an offset.
 #[derive(Clone, Copy, Debug, PartialEq, Eq)]
 pub enum NameFault {
-    /// A head, the second octet of a pointer or a label reaches past the end.
+    /// The first octet of a label or a pointer, an octet of a label or the second octet of a pointer is at or after
+    /// the end.
     ShortInput,
-    /// A head is neither a label's nor a pointer's.
+    /// The first octet is neither that of a label nor that of a pointer: it is from 0x40 to 0xbf.
     BadLabelType,
-    /// A pointer does not lead back, or it is one too many.
+    /// A pointer doesn't lead to an offset before its own, or it is one too many.
     TooManyPointers,
-    /// The octets of the name are too many.
+    /// The name has too many octets.
     LongName,
 }
 

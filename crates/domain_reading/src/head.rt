@@ -1,4 +1,4 @@
-//! Reading the head of a label or a pointer.
+//! Reading a length octet or a pointer.
 ghost use Rattle.std.specs.Prelude.{◌≡◌, ◌+◌, MatchResult};
 ghost use Rattle.domain_reading.specs.Heads.{StandsAt, BrokenAt};
 
@@ -6,21 +6,22 @@ use crate::fault::NameFault;
 use crate::heads::Heads;
 use std::sync::ledger::Ledger;
 
-/// What stands at a place of a name.
+/// What is at an offset of a name.
 #[derive(Clone, Copy)]
 pub enum Head {
     /// The root label.
     Root,
-    /// A label that isn't the root, of so many octets.
+    /// A label that isn't the root, and how many octets it has.
     Label(u8),
-    /// A pointer to a place.
+    /// A pointer to an offset.
     Pointer(usize),
 }
 
-/// Reads the head at a place, and sees that its octets are there.
+/// Reads the length octet or the pointer at an offset, and tests that the whole label or pointer is there.
 ///
-/// It is the one function that counts, and the one here that takes a head from octets, but for `quick_end`, of which
-/// nothing is counted. What walks along names calls it: `read_name_counted`, `encoding_end_with`, `read_label`, and the
+/// It is the only function that counts, and besides `quick_end`, which counts nothing, the only one here that
+/// interprets the first octet of a label or pointer. All that read names call it: `read_name_counted`,
+/// `encoding_end_with`, `read_label`, and the search of `domain_compress`.
 /// search of `domain_compress`.
 #[inline(always)]
 pub fn read_head<L: Ledger>(

@@ -1,10 +1,10 @@
-//! A count of the heads that were read.
+//! A count of the labels and pointers that were read.
 ghost use Rattle.std.specs.Prelude.{◌≡◌, ℕ, ◌+◌, ◌<◌};
 
 use std::marker::Model;
 use std::sync::ledger::{Blank, Book, Ledger, Share};
 
-/// How many heads were read. It takes no bytes: contracts alone see the number.
+/// How many labels, the root among them, and pointers were read. It takes no bytes: contracts alone see the number.
 #[derive(Drop)]
 pub struct Heads<L: Ledger> {
     book: Book<L>,
@@ -32,7 +32,7 @@ impl<L: Ledger> Heads<L> {
         Heads { book, share }
     }
 
-    /// Counts one more head. Only `read_head` calls it.
+    /// Counts one more label or pointer. Only `read_head` calls it.
     #[inline(always)]
     pub(crate) fn count(&mut self)
         ensures { self.new ≡ self.old + 1 }

@@ -1,4 +1,4 @@
-//! Laws of reading names.
+//! Facts on the definitions of names in messages.
 ghost use Rattle.std.specs.Prelude.{◌≡◌, ℕ, ◌+◌, ◌<◌, ◌≤◌, ◌⊎◌, List, ◌++◌, length, drop};
 ghost use Rattle.domain_label.specs.Wire.{wire, IsAbsoluteName};
 ghost use Rattle.domain_reading.specs.Grammar.{PointerAt, Reads, Names, Flat, Encoding, EncodingEnds, Stop, root, FirstLabelAt};
@@ -7,13 +7,13 @@ ghost use Rattle.domain_reading.specs.Labels.{labels_at};
 ghost use Rattle.domain_reading.specs.Touched.{Touches, IsKept, ReadsBehind};
 ghost use Rattle.domain_reading.specs.declared.fault.NameFault.{NameFault};
 
-/// What holds of names in messages. The call does nothing: its contract is the laws.
+/// Facts on names in messages. The call does nothing: its contract is the facts.
 ///
-/// A place reads at most one list, which is an absolute name; what the beginning of a message reads,
-/// the whole message reads. At each place there is a name or a fault, never both, and the fault is
-/// one. The front of a name is one, and so is its base. Octets of an absolute name are read as that
-/// name. At each place there is a front to pass over or a fault, never both; where a name is read, its
-/// front can be passed over, up to the same place.
+/// At an offset at most one list of labels is read, which is an absolute name; what is read in the first octets of a
+/// message is read in the whole message, too. At each offset there is a name or an error, never both, and only one
+/// error. There is only one encoding of the name at an offset, and only one first label. The octets of an absolute
+/// name are read as that name. At each offset there is an encoding to skip or an error, never both; where a name is
+/// read, its encoding can be skipped, and ends at the same offset.
 pub fn reads_laws()
     ensures once { (m : List ℕ) (p j k : ℕ) (xs ys : List (List ℕ)) → Reads m p j xs → Reads m p k ys → (j ≡ k) × (xs ≡ ys) }
     ensures more { (m u : List ℕ) (p k : ℕ) (ls : List (List ℕ)) → Reads m p k ls → Reads (m ++ u) p k ls }
@@ -33,13 +33,13 @@ pub fn reads_laws()
     ensures one_skip_fault { (m : List ℕ) (p : ℕ) (d e : NameFault) → SkipFault m p d → SkipFault m p e → d ≡ e }
 {}
 
-/// What holds of names in a message whose octets are written over. The call does nothing: its contract is
-/// the laws.
+/// Facts on names in a message whose octets are overwritten. The call does nothing: its contract is the facts.
 ///
-/// A name is read from some octets of the message (`Touches`). Where these stay, the same labels are read,
-/// whatever becomes of the others. So what is read from the place n on alone is read, and is a name, whatever
-/// is written before n. A name that is read through no pointer is read from its own place on, and one whose
-/// labels and pointer stand behind n, from n on where what the pointer leads to is.
+/// A name is read from some octets of the message (`Touches`). Where these are kept, the same labels are read,
+/// whatever the others become. So what is read from octets at n and after it alone is read, and is a name, whatever
+/// is written before n. A name that is read without a pointer is read from octets at its own offset and after it; and
+/// one whose labels and pointer are at n or after it, from octets at n and after it, where what the pointer leads to
+/// is.
 pub fn overwriting_laws()
     ensures kept { (m w : List ℕ) (p k : ℕ) (ls : List (List ℕ)) (r : Reads m p k ls) → ((i : ℕ) → Touches r i → IsKept m w i) → Reads w p k ls }
     ensures inside { (m : List ℕ) (p k : ℕ) (ls : List (List ℕ)) (r : Reads m p k ls) (i : ℕ) → Touches r i → i < length m }

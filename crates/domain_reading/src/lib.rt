@@ -1,5 +1,5 @@
-//! How names in messages are read (RFC 1035, 4.1.4): what may stand at a place, and what a name, its front
-//! and its faults are.
+//! How names in messages are read (RFC 1035, 4.1.4): what may be at an offset, and what a name, its encoding and its
+//! errors are.
 #![tactic(auto)]
 
 pub mod alone;

@@ -1,26 +1,26 @@
-//! How far reading a name has come.
+//! How far a name was read.
 ghost use Rattle.std.specs.Prelude.{◌≡◌, ◌+◌, ◌≤◌, ◌<◌, ◌^◌, ◌⊎◌, MatchResult, true, false, unwrap_or};
 
 use crate::fault::NameFault;
 use crate::standing::{FAR, MAX_LABELS};
 
-/// How far reading a name has come. Where the labels stand is noted in a table beside it, which is the caller's, so that
-/// these few numbers can stay in registers.
+/// How far a name was read. The offsets of its labels are in a table of the caller's, so that these few numbers can
+/// be kept in registers.
 #[derive(Clone, Copy)]
 pub struct Progress {
-    /// The place of the next head.
+    /// The offset of the next label or pointer.
     pub at: usize,
-    /// The place of the first label, or of the next head where no label was passed.
+    /// The offset of the first label, or of the next label or pointer where no label was read.
     pub base: usize,
-    /// How many octets the passed labels have, with their lengths.
+    /// How many octets the labels that were read have, with their length octets.
     pub len: u16,
     /// How many pointers were followed.
     pub pointers: u8,
     /// Whether a pointer follows the first label.
     pub compressed: bool,
-    /// The place behind the first pointer.
+    /// The offset after the first pointer.
     pub end: Option<usize>,
-    /// How many labels have their places in the table.
+    /// How many labels have their offsets in the table.
     pub count: u8,
 }
 
@@ -30,7 +30,7 @@ impl Progress {
     /// The most octets that the labels of a name have before its root.
     const MAX_LEN: u16 = 254;
 
-    /// At a name's first head.
+    /// At the first label or pointer of a name.
     #[inline(always)]
     pub fn new(at: usize) -> Self
         ensures { result ≡ beginning at }
@@ -46,7 +46,7 @@ impl Progress {
         }
     }
 
-    /// Takes the place of the next head, which is a label's, into the table.
+    /// Adds the offset of the next label to the table.
     #[inline(always)]
     pub fn note_offset(&mut self, places: &mut [u16; MAX_LABELS])
         requires few { self.old.count < 128 }
@@ -63,7 +63,8 @@ impl Progress {
         self.count += 1;
     }
 
-    /// Passes a label of so many octets, whose place comes into the table.
+    /// Reads a label of this many octets, and adds its offset to the table. `LongName` where the labels have more
+    /// than 254 octets; nothing is changed then.
     #[inline(always)]
     pub fn pass_label(
         &mut self,
@@ -87,7 +88,8 @@ impl Progress {
         Ok(())
     }
 
-    /// Follows a pointer, which must lead back, as one of at most `limit`.
+    /// Follows a pointer. `TooManyPointers` where it doesn't lead to an offset before its own or `limit` pointers
+    /// were followed; nothing is changed then.
     #[inline(always)]
     pub fn follow(&mut self, target: usize, limit: u8) -> Result<(), NameFault>
         requires room { self.old.at + 2 < 2 ^ 64 }
@@ -111,7 +113,7 @@ impl Progress {
         Ok(())
     }
 
-    /// The place behind the first pointer, or behind the root where there was none.
+    /// The offset after the first pointer, or after the root where there was none.
     #[inline(always)]
     pub fn end_offset(&self) -> usize
         requires { self.now.at + 1 < 2 ^ 64 }

@@ -1,7 +1,7 @@
-//! The walks along names in messages, head after head: reading a name, and passing over one.
+//! Reading a name in a message and skipping one, label after label.
 //!
-//! Reading counts the heads for its caller, passing over a name for itself. The module `alone` has what callers
-//! without a count call.
+//! Reading counts the labels and pointers for its caller; skipping doesn't. The module `alone` has the functions for
+//! callers without a count.
 ghost use Rattle.std.specs.Prelude.{◌≡◌, ◌+◌, ◌≤◌, ◌<◌, length, IfOk, IfErr, OnOk};
 ghost use Rattle.domain_reading.specs.Faults.{NameFaultAt, Skips, SkipFault};
 ghost use Rattle.domain_reading.specs.ParseResult.{NameRead};
@@ -17,9 +17,10 @@ use std::sync::ledger::{Blank, Ledger};
 /// The most octets that a name has.
 const MAX_LEN: usize = 255;
 
-/// Reads the name at a place, of at most `limit` pointers, and notes how that went.
+/// Reads the name at an offset, through at most `limit` pointers, and leaves the result in `progress`.
 ///
-/// `progress` stands at the name's first head. The places of the labels are put at the beginning of the table.
+/// `progress` is as `Progress::new` makes it, at the name's first octet. The offsets of the labels are written to the
+/// beginning of the table.
 #[inline(always)]
 pub fn read_name_counted<L: Ledger>(
     message: &[u8],
@@ -46,8 +47,8 @@ pub fn read_name_counted<L: Ledger>(
     }
 }
 
-/// The place behind the front of the name at a place, wherever its pointer leads to. No clause tells how
-/// many heads it reads, so the count is its own.
+/// The offset after the encoding of the name at an offset: after its root or first pointer, wherever that leads to.
+/// No clause says how many labels it reads, so it takes no count of the caller's.
 #[inline(always)]
 pub(crate) fn encoding_end_with<L: Ledger>(
     message: &[u8],

@@ -1,4 +1,4 @@
-//! Where the labels of a name stand.
+//! The offsets of a name's labels.
 ghost use Rattle.std.specs.Prelude.{◌≡◌, ◌+◌, ◌<◌, ◌^◌};
 ghost use Rattle.domain_label.specs.Labels.{label_octets};
 ghost use Rattle.domain_reading.specs.Offsets.{entry_offset, IsLabelOffset, label_at};
@@ -11,10 +11,10 @@ use std::sync::ledger::Ledger;
 /// The most labels that a name has, the root among them.
 pub const MAX_LABELS: usize = 128;
 
-/// What is added to a place of the message to tell it from a place that counts from the base.
+/// What is added to an offset of the message in an entry, to mark it; an unmarked entry counts from the first label.
 pub const FAR: u16 = 32768;
 
-/// The place that an entry of a table tells.
+/// The offset that an entry of a table means.
 #[inline(always)]
 pub fn entry_offset(base: usize, entry: u16) -> usize
     requires { entry_offset base entry < 2 ^ 64 }
@@ -27,7 +27,7 @@ pub fn entry_offset(base: usize, entry: u16) -> usize
     }
 }
 
-/// The label that stands at a place, for one head.
+/// The label at an offset, which is counted.
 #[inline(always)]
 pub fn read_label<'a, L: Ledger>(octets: &'a [u8], place: usize, heads: &mut Heads<L>) -> Label<'a>
     requires { IsLabelOffset octets.now place }
