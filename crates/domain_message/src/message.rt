@@ -12,6 +12,7 @@ use octseq::{Octets, Parser};
 /// A message: octets that begin with a header (RFC 1035, 4.1).
 ///
 /// What follows the header is read when it is asked for, and may be missing. Nothing is copied.
+#[derive(Drop)]
 pub struct Message<Octs: Octets> {
     octets: Octs,
     ghost header: { 12 ≤ length (Octs.octets octets) },

@@ -17,7 +17,7 @@ use domain_wire::parse::Parse;
 use octseq::{Octets, OctetsBuilder, Parser, Truncate};
 
 /// A question: a name, a type and a class (RFC 1035, 4.1.2).
-#[derive(Clone, Copy)]
+#[derive(Clone, Copy, Drop)]
 pub struct Question<N> {
     qname: N,
     qtype: Rtype,

@@ -17,7 +17,7 @@ use octseq::Parser;
 
 /// What a record has before its data: the owner's name, the type, the class, the TTL and the length of the data
 /// (RFC 1035, 4.1.3).
-#[derive(Clone, Copy)]
+#[derive(Clone, Copy, Drop)]
 pub struct RecordHeader<N> {
     owner: N,
     rtype: Rtype,

@@ -22,7 +22,7 @@ fn octets_before_length(rtype: Rtype, class: Class, ttl: Ttl) -> [u8; 8]
 }
 
 /// A resource record: the owner's name, a class, a TTL, and data, which has the record's type (RFC 1035, 4.1.3).
-#[derive(Clone, Copy)]
+#[derive(Clone, Copy, Drop)]
 pub struct Record<N, D> {
     owner: N,
     class: Class,

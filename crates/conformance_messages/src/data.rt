@@ -1,0 +1,162 @@
+//! Record data by its type.
+
+use crate::answer::{Answer, Fail};
+use crate::fields::Fields;
+use domain_data::{A, Aaaa, Cname, Dname, Mx, Ns, Ptr, Soa, Srv};
+use domain_parsed::ParsedName;
+use domain_rdata::{ComposeRecordData, ParseRecordData, Rtype};
+use octseq::Parser;
+
+/// A name as it is read.
+pub type Read<'a> = ParsedName<&'a [u8]>;
+
+/// `data TYPE OCTETS OFFSET LENGTH`: asks each type of data.
+pub fn put_data(out: &mut Answer, fields: Fields<'_>) {
+    let rtype = fields.number(1, out);
+    let octets = fields.octets(2, out);
+    let offset = fields.number(3, out);
+    let end = offset.saturating_add(fields.number(4, out));
+    if rtype > 65535 || end > octets.len() || offset > end {
+        return out.fail(Fail::Bad);
+    }
+    let rtype = Rtype::from_int(rtype as u16);
+    let parser = Parser::with_range(octets.as_slice(), offset..end);
+    put_a(out, rtype, parser);
+    put_aaaa(out, rtype, parser);
+    put_ns(out, rtype, parser);
+    put_cname(out, rtype, parser);
+    put_ptr(out, rtype, parser);
+    put_dname(out, rtype, parser);
+    put_mx(out, rtype, parser);
+    put_srv(out, rtype, parser);
+    put_soa(out, rtype, parser);
+    if out.len() == 0 {
+        out.put(b"none");
+    }
+}
+
+/// Reads data as of one type, and composes it. `None` if it isn't of that type, or an error was written.
+fn read<'a, D: ParseRecordData<'a> + ComposeRecordData + Drop>(
+    out: &mut Answer,
+    rtype: Rtype,
+    parser: Parser<'a>,
+) -> Option<D> {
+    let mut left = parser;
+    match D::parse_rdata(rtype, &mut left) {
+        Ok(Some(data)) => {
+            out.agree(left.remaining() == 0, b"parse_rdata");
+            out.agree(data.rtype() == rtype, b"rtype");
+            put_forms(out, &data);
+            Some(data)
+        }
+        Ok(None) => {
+            out.agree(left.pos() == parser.pos(), b"parse_rdata");
+            None
+        }
+        Err(error) => {
+            out.agree(left.pos() == parser.pos(), b"parse_rdata");
+            out.put_text(b"err ", error);
+            None
+        }
+    }
+}
+
+/// The octets with no name compressed, the canonical form, and the length where it is known in a target that compresses.
+fn put_forms<D: ComposeRecordData>(out: &mut Answer, data: &D) {
+    let mut composed: Vec<u8> = Vec::new(out.alloc());
+    let mut canonical: Vec<u8> = Vec::new(out.alloc());
+    if data.compose_rdata(&mut composed).is_err()
+        || data.compose_canonical_rdata(&mut canonical).is_err()
+    {
+        out.fail(Fail::Memory);
+    }
+    out.put(b"ok ");
+    out.put_hex(composed.as_slice());
+    out.put(b" ");
+    out.put_hex(canonical.as_slice());
+    match data.rdlen(true) {
+        Some(len) => out.put_text(b" ", len),
+        None => out.put(b" -"),
+    }
+    let len = data.rdlen(false).map(|len| usize::from(len));
+    out.agree(len == Some(composed.len()), b"rdlen");
+    out.put(b" ");
+}
+
+fn put_a(out: &mut Answer, rtype: Rtype, parser: Parser<'_>) {
+    if let Some(data) = read::<A>(out, rtype, parser) {
+        out.put_hex(&data.addr().octets());
+    }
+}
+
+fn put_aaaa(out: &mut Answer, rtype: Rtype, parser: Parser<'_>) {
+    if let Some(data) = read::<Aaaa>(out, rtype, parser) {
+        out.put_hex(&data.addr().octets());
+    }
+}
+
+fn put_ns(out: &mut Answer, rtype: Rtype, parser: Parser<'_>) {
+    if let Some(data) = read::<Ns<Read<'_>>>(out, rtype, parser) {
+        let start = out.len();
+        out.put_name(b"", data.nsdname());
+        out.is_shown(start, &data);
+    }
+}
+
+fn put_cname(out: &mut Answer, rtype: Rtype, parser: Parser<'_>) {
+    if let Some(data) = read::<Cname<Read<'_>>>(out, rtype, parser) {
+        let start = out.len();
+        out.put_name(b"", data.cname());
+        out.is_shown(start, &data);
+    }
+}
+
+fn put_ptr(out: &mut Answer, rtype: Rtype, parser: Parser<'_>) {
+    if let Some(data) = read::<Ptr<Read<'_>>>(out, rtype, parser) {
+        let start = out.len();
+        out.put_name(b"", data.ptrdname());
+        out.is_shown(start, &data);
+    }
+}
+
+fn put_dname(out: &mut Answer, rtype: Rtype, parser: Parser<'_>) {
+    if let Some(data) = read::<Dname<Read<'_>>>(out, rtype, parser) {
+        let start = out.len();
+        out.put_name(b"", data.dname());
+        out.is_shown(start, &data);
+    }
+}
+
+fn put_mx(out: &mut Answer, rtype: Rtype, parser: Parser<'_>) {
+    if let Some(data) = read::<Mx<Read<'_>>>(out, rtype, parser) {
+        let start = out.len();
+        out.put_text(b"", data.preference());
+        out.put_name(b" ", data.exchange());
+        out.is_shown(start, &data);
+    }
+}
+
+fn put_srv(out: &mut Answer, rtype: Rtype, parser: Parser<'_>) {
+    if let Some(data) = read::<Srv<Read<'_>>>(out, rtype, parser) {
+        let start = out.len();
+        out.put_text(b"", data.priority());
+        out.put_text(b" ", data.weight());
+        out.put_text(b" ", data.port());
+        out.put_name(b" ", data.target());
+        out.is_shown(start, &data);
+    }
+}
+
+fn put_soa(out: &mut Answer, rtype: Rtype, parser: Parser<'_>) {
+    if let Some(data) = read::<Soa<Read<'_>>>(out, rtype, parser) {
+        let start = out.len();
+        out.put_name(b"", data.mname());
+        out.put_name(b" ", data.rname());
+        out.put_text(b" ", data.serial());
+        out.put_text(b" ", data.refresh());
+        out.put_text(b" ", data.retry());
+        out.put_text(b" ", data.expire());
+        out.put_text(b" ", data.minimum());
+        out.is_shown(start, &data);
+    }
+}

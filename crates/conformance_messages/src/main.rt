@@ -1,0 +1,87 @@
+//! The conformance table of messages: reads calls from standard input, one a line, makes them, and prints one line of
+//! answer for each.
+//!
+//! docs/CONFORMANCE.md tells the lines and the answers.
+#![tactic(auto)]
+
+mod answer;
+mod compose;
+mod data;
+mod fields;
+mod header;
+mod message;
+
+use crate::answer::{Answer, Fail};
+use crate::compose::put_composed;
+use crate::data::put_data;
+use crate::fields::{Fields, is};
+use crate::header::{put_class, put_header, put_written_header};
+use crate::message::put_message;
+use std::alloc::{AllocError, Global};
+use std::io::{Read, Write};
+use std::process::ExitCode;
+
+/// Answers a line.
+fn respond(line: &[u8], out: &mut Answer) {
+    let fields = Fields::new(line);
+    let word = fields.at(0);
+    if is(word, b"data") {
+        fields.expect(5, out);
+        put_data(out, fields);
+    } else if is(word, b"write") {
+        fields.expect(3, out);
+        put_written_header(out, fields);
+    } else {
+        fields.expect(2, out);
+        respond_to_octets(word, fields.octets(1, out).as_slice(), out);
+    }
+}
+
+/// A word with octets behind it.
+fn respond_to_octets(word: &[u8], octets: &[u8], out: &mut Answer) {
+    if is(word, b"header") {
+        put_header(out, octets);
+    } else if is(word, b"message") {
+        put_message(out, octets);
+    } else if is(word, b"compose") {
+        put_composed(out, octets);
+    } else if is(word, b"class") {
+        put_class(out, octets);
+    } else {
+        out.fail(Fail::Bad);
+    }
+}
+
+/// Answers each line of the input. A line that begins with `#` is a heading, and its own answer.
+fn answer_all(alloc: Global, input: &[u8], out: &mut Vec<u8>) -> Result<(), AllocError> {
+    let mut answer = Answer::new(alloc);
+    for line in input.split(|octet| *octet == b'\n') {
+        if line.is_empty() {
+            continue;
+        }
+        answer.clear();
+        if line.first() == Some(&b'#') {
+            answer.put(line);
+        } else {
+            respond(line, &mut answer);
+        }
+        answer.end_line(out)?;
+    }
+    Ok(())
+}
+
+fn main(rt: HostRuntime) -> ExitCode {
+    let alloc = rt.alloc();
+    let mut input = Vec::new(alloc);
+    if rt.stdin().read_to_end(&mut input).is_err() {
+        return ExitCode::from(3);
+    }
+    let mut out = Vec::new(alloc);
+    if answer_all(alloc, input.as_slice(), &mut out).is_err() {
+        return ExitCode::from(3);
+    }
+    match rt.stdout().write_all(out.as_slice()) {
+        Ok(()) => ExitCode::from(0),
+        Err(_) => ExitCode::from(3),
+    }
+}

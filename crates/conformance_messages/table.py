@@ -1,0 +1,439 @@
+#!/usr/bin/env python3
+"""Writes the conformance table of messages anew: the lines to `stdin` and their answers to `stdout`, beside this file.
+
+    table.py ANSWERER [WORD ..]
+    table.py --random COUNT SEED
+
+ANSWERER is a command that answers the lines of docs/CONFORMANCE.md. No answer comes from the program itself. Parts of
+answers that stand here beside their line must be in what the ANSWERER says.
+
+With --random it prints lines of so many random and mutated messages, always the same for a SEED.
+"""
+import itertools
+import os
+import random
+import subprocess
+import sys
+
+rows = []  # (line, what must be in its answer, or None)
+
+A, NS, CNAME, SOA, PTR, MX, TXT, AAAA, SRV, DNAME, PRIVATE = 1, 2, 5, 6, 12, 15, 16, 28, 33, 39, 65280
+KNOWN = (A, NS, CNAME, SOA, PTR, MX, AAAA, SRV, DNAME)
+FLAGS = {"qr": 15, "aa": 10, "tc": 9, "rd": 8, "ra": 7, "z": 6, "ad": 5, "cd": 4}
+OPCODES = {0: "QUERY", 1: "IQUERY", 2: "STATUS", 4: "NOTIFY", 5: "UPDATE", 6: "DSO"}
+RCODES = dict(enumerate("NOERROR FORMERR SERVFAIL NXDOMAIN NOTIMP REFUSED YXDOMAIN YXRRSET NXRRSET NOTAUTH NOTZONE".split()))
+CLASSES = {1: "IN", 3: "CH", 4: "HS", 254: "NONE", 255: "*"}
+
+
+def hx(octets):
+    return bytes(octets).hex() or "-"
+
+
+def topic(text):
+    rows.append(("# " + text, None))
+
+
+def row(*fields, told=None):
+    rows.append((" ".join(hx(f) if isinstance(f, (bytes, bytearray)) else str(f) for f in fields), told))
+
+
+def u16(number):
+    return number.to_bytes(2, "big")
+
+
+def u32(number):
+    return number.to_bytes(4, "big")
+
+
+def name(text):
+    labels = [label.encode("latin-1") for label in text.strip(".").split(".") if label]
+    return b"".join(bytes([len(label)]) + label for label in labels) + b"\0"
+
+
+def pointer(place):
+    return u16(0xC000 | place)
+
+
+def header(counts=(0, 0, 0, 0), ident=0x1234, bits=0x8180):
+    return u16(ident) + u16(bits) + b"".join(u16(count) for count in counts)
+
+
+def question(owner, rtype=A, rclass=1):
+    return owner + u16(rtype) + u16(rclass)
+
+
+def record(owner, rtype, data, rclass=1, ttl=3600, length=None):
+    return owner + u16(rtype) + u16(rclass) + u32(ttl) + u16(len(data) if length is None else length) + data
+
+
+def message(questions=(), answers=(), authority=(), additional=(), bits=0x8180):
+    parts = (questions, answers, authority, additional)
+    return header([len(part) for part in parts], bits=bits) + b"".join(b"".join(part) for part in parts)
+
+
+SOA_NUMBERS = u32(2026112501) + u32(7200) + u32(3600) + u32(1209600) + u32(2**32 - 1)
+WWW = name("www.example.com")
+AT = pointer(12)  # the name of the first question
+END = pointer(16)  # that without its first label
+OF_TYPE = {
+    A: bytes([192, 0, 2, 1]),
+    NS: name("ns1.Example.com"),
+    CNAME: name("Host.example.org"),
+    SOA: name("ns1.example.com") + name("host\\.Master.example.com") + SOA_NUMBERS,
+    PTR: name("example.net"),
+    MX: u16(10) + name("Mail.example.com"),
+    AAAA: bytes(range(16)),
+    SRV: u16(1) + u16(65535) + u16(5060) + name("SIP.example.com"),
+    DNAME: name("Other.example"),
+}
+WORKED = message(
+    [question(WWW)],
+    [
+        record(AT, CNAME, b"\4host" + END),
+        record(b"\4Host" + END, A, bytes([192, 0, 2, 1])),
+        record(END, MX, u16(10) + b"\4mail" + END),
+        record(END, TXT, b"\3a b"),
+    ],
+    [
+        record(END, NS, b"\2ns" + END, ttl=2**32 - 1),
+        record(END, SOA, b"\2ns" + END + b"\5admin" + END + SOA_NUMBERS),
+        record(b"\1d" + END, DNAME, name("example.org")),
+    ],
+    [
+        record(b"\4mail" + END, AAAA, bytes(range(16)), ttl=0),
+        record(b"\4_sip\4_udp" + END, SRV, u16(1) + u16(2) + u16(5060) + name("sip.example.com")),
+        record(name("1.2.0.192.in-addr.arpa"), PTR, AT),
+        record(b"\0", 65281, b"", rclass=1232),
+        record(b"\0", PRIVATE, b"\xc0\x0c", rclass=2),
+    ],
+)
+
+
+def header_rows():
+    topic("the header: lengths, each bit, each code, each count")
+    for size in range(13):
+        row("header", b"\xff" * size, told="err short message" if size < 12 else "65535 OPCODE15 RCODE15 65535")
+        row("message", b"\0" * size, told="err short message" if size < 12 else "question=@12")
+        row("write", b"\xff" * size, "qr:0", told="err short message" if size < 12 else "ffff7fff")
+    for word, at in FLAGS.items():
+        row("header", header(bits=1 << at), told="4660 QUERY NOERROR 0 0 0 0 " + word)
+        others = " ".join(other for other in FLAGS if other != word)
+        row("header", header(bits=0xFFFF ^ 1 << at), told="4660 OPCODE15 RCODE15 0 0 0 0 " + others)
+        row("write", header(bits=0), word + ":1", told="1234" + u16(1 << at).hex())
+        row("write", header(bits=0xFFFF), word + ":0", told="1234" + u16(0xFFFF ^ 1 << at).hex())
+        row("write", header(bits=0), word + ":0", told="12340000")
+        row("write", header(bits=0xFFFF), word + ":1", told="1234ffff")
+    for code in range(16):
+        for bits in (0, 0x87F0):
+            text = OPCODES.get(code, "OPCODE%d" % code)
+            row("header", header(bits=bits | code << 11), told="4660 %s NOERROR 0" % text)
+            row("write", header(bits=bits | 0x7800 ^ code << 11), "opcode:%d" % code, told="1234" + u16(bits | code << 11).hex())
+        for bits in (0, 0xFFF0):
+            text = RCODES.get(code, "RCODE%d" % code)
+            row("header", header(bits=bits | code), told=" %s 0 0 0 0" % text)
+            row("write", header(bits=bits | 15 ^ code), "rcode:%d" % code, told="1234" + u16(bits | code).hex())
+    for bit in range(16):
+        row("header", header(ident=1 << bit), told="%d QUERY" % (1 << bit))
+        row("write", header(ident=0xFFFF), "id:%d" % (1 << bit), told=u16(1 << bit).hex() + "8180")
+        for place, word in enumerate(("qdcount", "ancount", "nscount", "arcount")):
+            counts = [0, 0, 0, 0]
+            counts[place] = 1 << bit
+            row("header", header(counts), told="4660 QUERY NOERROR %d %d %d %d qr rd ra" % tuple(counts))
+            row("write", header(), "%s:%d" % (word, 1 << bit), told=header(counts).hex())
+            row("message", header(counts))
+    row("write", header() + WWW, "id:0;qr:0;rd:0;ra:0;opcode:5;rcode:9;qdcount:1;ancount:2;nscount:3;arcount:4;arcount:5",
+        told="00002809" + "0001000200030005" + WWW.hex())
+    for calls in ("qr:2", "qr", "qr:", "QR:1", "opcode:16", "rcode:16", "id:65536", "id:-1", "", ";", "qr:1;", "no:1"):
+        row("write", header(), calls, told="bad")
+    topic("mnemonics of classes")
+    for number in (*range(8), *range(250, 260), 32768, 65279, 65535):
+        text = CLASSES.get(number, "CLASS%d" % number)
+        row("message", message([question(WWW, rclass=number)]), told="question=www.example.com./1/%s;" % text)
+        row("message", message([], [record(WWW, A, b"", rclass=number)]), told="answer=www.example.com./1/%s/3600/39+0;" % text)
+    for number, text in CLASSES.items():
+        for way in (text, text.lower(), text.capitalize()):
+            row("class", way.encode(), told=str(number))
+    for text in ("", "I", "INN", "IN ", " IN", "ANY", "CS", "CLASS1", "1", "\u0131N"):
+        row("class", text.encode(), told="none")
+    row("class", b"\xff", told="bad")
+
+
+def section_rows():
+    topic("a message with all sections: cut at each octet, behind other octets, with each count")
+    row("message", WORKED, told="additional=mail.example.com./28/IN/0/")
+    row("compose", WORKED)
+    for size in range(len(WORKED)):
+        row("message", WORKED[:size])
+        row("compose", WORKED[:size])
+    row("message", message([question(WWW)], (), (), [record(b"\0", 41, b"", rclass=1232)]), told="additional=./41/CLASS1232/3600/44+0;")
+    row("message", WORKED + b"\xff" * 9)
+    row("compose", WORKED + b"\xff" * 9)
+    for place in (4, 6, 8, 10):
+        for count in (0, 1, 2, 3, 4, 5, 6, 255, 256, 65535):
+            changed = WORKED[:place] + u16(count) + WORKED[place + 2:]
+            row("message", changed)
+            row("compose", changed)
+    topic("each octet of it changed")
+    for place in range(12, len(WORKED)):
+        for octet in (0, 0xFF, WORKED[place] ^ 1, WORKED[place] ^ 0xC0):
+            row("message", WORKED[:place] + bytes([octet]) + WORKED[place + 1:])
+    for place in range(12, len(WORKED), 3):
+        row("compose", WORKED[:place] + bytes([WORKED[place] ^ 0xC0]) + WORKED[place + 1:])
+    topic("questions: none, two, one that is missing; pointers that lead nowhere")
+    row("message", header(), told="sole=err no question first=none canonical=none")
+    row("message", message([question(WWW)] * 2), told="sole=err multiple questions first=www.example.com./1/IN")
+    row("message", header((1, 0, 0, 0)), told="sole=err unexpected end of input first=none canonical=none")
+    row("message", header((2, 0, 0, 0)), told="sole=err multiple questions first=none canonical=none")
+    row("message", header((2, 1, 1, 1)) + question(WWW), told="answer=err unexpected end of input authority=err")
+    for owner in (pointer(12), pointer(14), pointer(16), pointer(18), pointer(0x3FFF), b"\xc0", b"\x40a\0", b"\x80a\0",
+                  b"\1a" + pointer(12), b"\1a" + pointer(14), b"\1a" + pointer(16), pointer(2), pointer(4), pointer(11)):
+        row("message", message([question(owner)]))
+        row("message", message([question(WWW), question(owner)]))
+        row("message", message([question(WWW)], [record(owner, A, b"\1\2\3\4")]))
+        row("message", message([question(WWW)], [record(WWW, CNAME, owner)]))
+        row("compose", message([question(WWW)], [record(WWW, CNAME, owner)]))
+    ring = header((1, 0, 0, 0)) + pointer(14) + pointer(12) + u16(A) + u16(1)
+    row("message", ring)
+    row("message", message([question(name("a" * 63 + "." + "b" * 63 + "." + "c" * 63 + "." + "d" * 61))]))
+    row("message", message([question(name("a" * 63 + "." + "b" * 63 + "." + "c" * 63 + "." + "d" * 62))]), told="err long domain name")
+
+
+def long_rows():
+    topic("65,535 octets of data, and one too few; data that ends past what a pointer reaches")
+    head = message([question(WWW)]).hex()
+    for rtype in (A, NS, TXT, PRIVATE):
+        start = header((1, 1, 0, 0)) + question(WWW) + record(AT, rtype, b"", length=65535)
+        for zeros in (65535, 65534, 65536, 0, 1):
+            row("message", "%s+zeros:%d" % (start.hex(), zeros))
+        row("data", rtype, "zeros:65535", 0, 65535)
+        row("data", rtype, "zeros:65536", 1, 65535)
+    start = header((1, 2, 0, 0)) + question(WWW) + record(AT, PRIVATE, b"", length=16340)
+    more = record(name("later.example"), NS, b"\2ns" + END)
+    for end in (b"", b"\0"):
+        row("message", "%s+zeros:16340+%s" % (start.hex(), (more + end).hex()))
+    start = header((1, 3, 0, 0)) + question(WWW) + record(AT, PRIVATE, b"", length=16340)
+    for gap in range(16310, 16350, 3):
+        start = header((1, 3, 0, 0)) + question(WWW) + record(AT, PRIVATE, b"", length=gap)
+        again = record(name("a.b.c.later"), NS, name("a.b.c.later")) + record(name("x.b.c.later"), CNAME, name("y.later"))
+        row("compose", "%s+zeros:%d+%s" % (start.hex(), gap, again.hex()))
+    row("message", head + "+zeros:100000", told="@33 authority=@33 additional=@33")
+    row("message", head + "+zeros:100001", told="bad")
+    for count in (42, 43, 44, 128):
+        # Names of three labels that share none: 128 places are remembered.
+        owners = ["a%d.b%d.c%d" % (k, k, k) for k in range(count)]
+        row("compose", message([question(name(owner)) for owner in owners + owners]))
+
+
+def data_rows():
+    topic("data of each type: in its own octets, cut and too long, asked as each other type")
+    for rtype, octets in OF_TYPE.items():
+        for size in range(len(octets) + 1):
+            row("data", rtype, octets, 0, size)
+        for more in (1, 2, 17):
+            row("data", rtype, octets + b"\0" * more, 0, len(octets) + more, told="err trailing data")
+        row("data", rtype, octets + b"\0", 0, len(octets), told="ok")
+        row("data", rtype, b"\xff" + octets + b"\xff", 1, len(octets), told="ok")
+        for other in KNOWN:
+            row("data", other, octets, 0, len(octets))
+    for rtype in (0, 3, 7, 16, 27, 29, 40, 41, 255, 256, 257, 513, 65535):
+        row("data", rtype, b"\1\2\3\4", 0, 4, told="none")
+        row("data", rtype, b"", 0, 0, told="none")
+    topic("names in data: pointers into the message, forward, out of it, in a ring, into the data itself")
+    before = header() + WWW  # 12 to 28
+    at = len(before)
+    for rtype, front, back in ((NS, b"", b""), (CNAME, b"", b""), (PTR, b"", b""), (DNAME, b"", b""), (MX, u16(5), b""),
+                               (SRV, u16(1) + u16(2) + u16(3), b""), (SOA, b"\1m" + END, SOA_NUMBERS),
+                               (SOA, b"", b"\1r" + END + SOA_NUMBERS)):
+        here = at + len(front)
+        for middle in (AT, END, b"\1a" + AT, pointer(here), pointer(here + 1), pointer(here + 2), pointer(at), pointer(0x3FFF),
+                       b"\1a" + pointer(here), b"\1a" + pointer(here + 2), b"\1a" + pointer(here + 4), b"\xc0", b"\x40\0",
+                       b"\x80\0", b"\1", b"\2a", b"\1a", b"", b"\0", b"\0\0", pointer(11), pointer(0), name("A.b.C")):
+            data = front + middle + back
+            row("data", rtype, before + data, at, len(data))
+            row("data", rtype, before + data + WWW, at, len(data))
+            row("message", message([question(WWW)], [record(AT, rtype, data), record(AT, A, b"\1\2\3\4")]))
+    ring = before + pointer(at + 2) + pointer(at)
+    row("data", NS, ring, at, 2)
+    row("data", NS, ring, at + 2, 2)
+    long = name(".".join(["x" * 62] * 4))[:-1]
+    for rtype in (NS, DNAME):
+        row("data", rtype, long + b"\0", 0, len(long) + 1, told="ok")
+        for more in (b"\1a", b"\2ab"):
+            octets = long + more + b"\0"
+            row("data", rtype, octets, 0, len(octets))
+    for line in ("data 1 00 0", "data 1 00 0 1 1", "data 65536 00 0 1", "data 1 00 0 2", "data 1 00 2 0", "data x 00 0 1", "data 1 0 0 0",
+                 "data 1 zeros 0 0", "data 1 ones:1 0 0", "data 1 00+ 0 0", "data 1 +00 0 0", "message", "message 00 00", "header 0G",
+                 "massage 00", "write 00", "compose"):
+        row(line, told="bad")
+
+
+def chain_rows():
+    topic("CNAME chains: straight, in any order, with a gap, with a ring, with data that is no name")
+    links = [record(name(a), CNAME, name(b)) for a, b in (("www.example.com", "b"), ("b", "c"), ("c", "d"), ("d", "e"))]
+    ask = [question(WWW)]
+    for size in range(5):
+        row("message", message(ask, links[:size]), told="canonical=%s." % ["www.example.com", "b", "c", "d", "e"][size])
+    for order in itertools.permutations(links):
+        row("message", message(ask, order), told="canonical=e.")
+    for gone in range(4):
+        left = links[:gone] + links[gone + 1:]
+        row("message", message(ask, left), told="canonical=%s." % ["www.example.com", "b", "c", "d"][gone])
+        row("message", message(ask, left[::-1]), told="canonical=%s." % ["www.example.com", "b", "c", "d"][gone])
+    for back in ("www.example.com", "WWW.example.COM", "b", "c", "d", "e"):
+        ring = links + [record(name("e"), CNAME, name(back))]
+        row("message", message(ask, ring), told="canonical=none")
+        row("message", message(ask, ring[::-1]), told="canonical=none")
+    row("message", message(ask, [record(WWW, CNAME, WWW)]), told="canonical=none")
+    row("message", message(ask, [record(AT, CNAME, AT)]), told="canonical=none")
+    row("message", message(ask, links + [record(name("x"), CNAME, name("x"))]), told="canonical=e.")
+    row("message", message(ask, links[:1] + [record(name("B"), CNAME, name("X"))]), told="canonical=X.")
+    row("message", message(ask, [record(WWW, CNAME, name("first")), record(WWW, CNAME, name("second"))]), told="canonical=first.")
+    row("message", message(ask, [record(WWW, CNAME, name("a"), rclass=3)]), told="canonical=a.")
+    row("message", message(ask, [record(WWW, DNAME, name("a")), record(WWW, A, b"\1a\0\0")]), told="canonical=www.example.com.")
+    row("message", message(ask, (), links), told="canonical=www.example.com.")
+    row("message", message(ask, (), (), links), told="canonical=www.example.com.")
+    row("message", message((), links), told="canonical=none")
+    row("message", message([question(name("b")), question(WWW)], links), told="canonical=e.")
+    for data in (b"", b"\0\0", b"\1", b"\1a", b"\1a\0\0", b"\xc0", b"\xff\0", pointer(0x3FFF), b"\x40\0"):
+        row("message", message(ask, [record(WWW, CNAME, data)]), told="canonical=www.example.com.")
+        row("message", message(ask, [record(WWW, CNAME, data)] + links), told="canonical=e.")
+    for cut in range(1, 30):
+        row("message", message(ask, links)[:-cut], told="canonical=")
+    long = message(ask, links[::-1])
+    row("message", long[:6] + u16(65535) + long[8:], told="canonical=e.")
+    steps = ["www.example.com"] + ["n%d.example" % k for k in range(60)]
+    chain = [record(name(a), CNAME, name(b)) for a, b in zip(steps, steps[1:])]
+    row("message", message(ask, chain), told="canonical=n59.example.")
+    row("message", message(ask, chain[::-1]), told="canonical=n59.example.")
+    row("message", message(ask, chain + [record(name("n59.example"), CNAME, name("n0.example"))]), told="canonical=none")
+
+
+def random_name(rng, places, at):
+    """Labels of a few words, in any case, and then the root or a pointer to a name, sometimes to anywhere."""
+    octets = b""
+    for _label in range(rng.choice((0, 0, 1, 1, 1, 2, 3, 5))):
+        word = rng.choice((b"a", b"b", b"www", b"mail", b"example", b"com", b"x" * 63, b"\x00", b". \\", b"ns1"))
+        word = bytes(octet ^ 32 if rng.random() < 0.1 and chr(octet).isalpha() else octet for octet in word)
+        octets += bytes([len(word)]) + word
+    if places and rng.random() < 0.6:
+        return octets + pointer(rng.choice(places) & 0x3FFF)
+    if rng.random() < 0.02:
+        return octets + pointer(rng.randrange(0, at + 40) & 0x3FFF)
+    return octets + b"\0"
+
+
+def random_data(rng, rtype, places, at):
+    shape = {A: "a", NS: "n", CNAME: "n", SOA: "nns", PTR: "n", MX: "2n", AAAA: "aaaa", SRV: "222n", DNAME: "n"}.get(rtype, "r")
+    octets = b""
+    for part in shape:
+        if part == "n":
+            octets += random_name(rng, places, at + len(octets))
+        else:
+            size = {"a": 4, "2": 2, "s": 20}.get(part) or rng.randrange(0, 20)
+            octets += bytes(rng.randrange(256) for _octet in range(size))
+    return octets
+
+
+def random_message(rng):
+    """A header and the entries that it counts; and the type, offset and length of each record's data."""
+    counts = [rng.choice((0, 1, 1, 1, 1, 2)), rng.choice((0, 1, 2, 3, 4, 8)), rng.choice((0, 0, 1, 2)), rng.choice((0, 0, 1, 2))]
+    octets = header(counts, rng.randrange(65536), rng.randrange(65536))
+    places, parts = [], []
+    for place, count in enumerate(counts):
+        for _entry in range(count):
+            at = len(octets)
+            owner = random_name(rng, places, at)
+            rclass = rng.choice((1, 1, 1, 3, 255, rng.randrange(65536)))
+            rtype = rng.choice(KNOWN + (CNAME, CNAME, TXT, PRIVATE, rng.randrange(65536)))
+            octets += question(owner, rtype, rclass)
+            if place:
+                data = random_data(rng, rtype, places + [at], len(octets) + 6)
+                if rtype in (NS, CNAME, PTR, DNAME) and rng.random() < 0.9:
+                    places.append(len(octets) + 6)
+                octets += u32(rng.choice((0, 300, 2**31, rng.randrange(2**32)))) + u16(len(data)) + data
+                parts.append((rtype, len(octets) - len(data), len(data)))
+            places.append(at)
+    return octets, parts
+
+
+def mutated(rng, octets):
+    octets = bytearray(octets)
+    for _time in range(rng.choice((0, 0, 1, 1, 2, 4))):
+        if not octets:
+            break
+        at = rng.randrange(len(octets))
+        way = rng.randrange(7)
+        if way == 0:
+            octets[at] ^= 1 << rng.randrange(8)
+        elif way == 1:
+            octets[at] = rng.choice((0, 1, 2, 3, 4, 12, 63, 64, 127, 128, 191, 192, 255))
+        elif way == 2:
+            octets[at:at] = bytes(rng.randrange(256) for _octet in range(rng.randrange(1, 4)))
+        elif way == 3:
+            del octets[at:at + rng.randrange(1, 4)]
+        elif way == 4:
+            del octets[at:]
+        elif way == 5:
+            octets[at:at + 2] = pointer(rng.randrange(len(octets)) & 0x3FFF)
+        elif len(octets) > 12:
+            octets[4 + rng.randrange(8)] = rng.choice((0, 1, 2, 3, 255))
+    return bytes(octets)
+
+
+def random_lines(count, seed):
+    """For each message what it has, what is composed of it, and the data of a record, or of a type at any of its places."""
+    rng = random.Random(seed)
+    for _message in range(count):
+        octets, parts = random_message(rng)
+        if rng.random() < 0.03:
+            octets = bytes(rng.randrange(256) for _octet in range(rng.randrange(40)))
+        octets = mutated(rng, octets)
+        yield "message " + hx(octets)
+        yield "compose " + hx(octets)
+        begin = rng.randrange(len(octets) + 1)
+        length = rng.choice((len(octets) - begin, rng.randrange(len(octets) - begin + 1)))
+        data = (rng.choice(KNOWN), begin, length)
+        if parts and rng.random() < 0.9:
+            data = rng.choice(parts)
+        if data[1] + data[2] <= len(octets):
+            yield "data %d %s %d %d" % (data[0], hx(octets), *data[1:])
+
+
+def main():
+    if sys.argv[1:2] == ["--random"]:
+        for line in random_lines(int(sys.argv[2]), int(sys.argv[3])):
+            print(line)
+        return
+    answerer = sys.argv[1:]
+    if not answerer:
+        sys.exit(__doc__)
+    for make in (header_rows, section_rows, long_rows, data_rows, chain_rows):
+        make()
+    topic("random and mutated messages")
+    for line in random_lines(400, 1):
+        row(line)
+    table = {}
+    for line, told in rows:
+        if told is not None or line not in table:
+            table[line] = told
+    text = "".join(line + "\n" for line in table)
+    ran = subprocess.run(answerer, input=text.encode(), stdout=subprocess.PIPE, check=True)
+    answers = ran.stdout.decode().splitlines()
+    assert len(answers) == len(table), (len(answers), len(table))
+    wrong = 0
+    for (line, told), answer in zip(table.items(), answers):
+        if told is not None and told not in answer:
+            wrong += 1
+            print("different:", line[:300], "\n  wanted:", told[:300], "\n  is:    ", answer[:300], file=sys.stderr)
+    folder = os.path.dirname(os.path.abspath(__file__))
+    with open(os.path.join(folder, "stdin"), "w", encoding="ascii") as file:
+        file.write(text)
+    with open(os.path.join(folder, "stdout"), "w", encoding="ascii") as file:
+        file.write("".join(answer + "\n" for answer in answers))
+    lines = sum(not line.startswith("#") for line in table)
+    by_hand = sum(told is not None for told in table.values())
+    print(f"{lines} rows, {by_hand} of them with a part of the answer beside them; {wrong} different")
+    sys.exit(wrong > 0)
+
+
+main()
