@@ -52,7 +52,7 @@ fn put_labels<'a, I: LabelIterator<'a>>(labels: I, octets: &mut [u8; 255]) -> us
     len
 }
 
-/// Puts the wire format of a label behind so many octets of a buffer, and tells how many there are then.
+/// Puts the wire format of a label after so many octets of a buffer, and tells how many there are then.
 #[inline(always)]
 fn put_label(label: Label, octets: &mut [u8; 255], len: usize) -> usize
     requires { len + length (wire_label (label_octets label)) ≤ 255 }
@@ -132,7 +132,7 @@ pub fn compose_name<'a, N: ToLabelIter<'a>, Target: OctetsBuilder>(
     target.append_slice(&octets[..len])
 }
 
-/// Appends the wire format of a name of any kind without ASCII case (RFC 4034, 6.2) at once, or nothing.
+/// Appends the wire format of a name of any kind in lower case (RFC 4034, 6.2) at once, or nothing.
 ///
 /// The target's error where the octets don't fit, or where there was no memory for them; the target
 /// is then as before. Where they fit its spare capacity, there is none.
