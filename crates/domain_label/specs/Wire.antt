@@ -1,11 +1,11 @@
--- Labels, lists of labels, and how they lie on the wire.
+-- Labels, lists of labels, and how they are encoded on the wire.
 use Rattle.std.specs.Prelude.{◌≡◌, ℕ, zero, suc, ◌≤◌, List, [], ◌∷◌, ◌++◌, length, take, drop, ⊤, ◌⊎◌}
 
 -- A label has at most 63 octets (RFC 1035, 3.1).
 abbrev pub IsLabel : List ℕ → Type 0
 IsLabel l = length l ≤ 63
 
--- Each label as one octet that tells its length, and then that many octets (RFC 1035, 3.1).
+-- Each label as one octet with its length, and then that many octets (RFC 1035, 3.1).
 abbrev pub wire : List (List ℕ) → List ℕ
 wire [] = []
 wire (l ∷ ls) = length l ∷ (l ++ wire ls)

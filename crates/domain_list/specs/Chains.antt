@@ -3,7 +3,7 @@ use Rattle.std.specs.Prelude.{ℕ, ◌≤◌, List, ◌++◌, length}
 use Rattle.domain_label.specs.Wire.{wire, IsRelative}
 use Rattle.domain_list.specs.Count.{but_root}
 
--- How many octets stand on the wire before a root label.
+-- How many octets come on the wire before a root label.
 abbrev pub before_root : List (List ℕ) → ℕ
 before_root ls = length (wire (but_root ls))
 
