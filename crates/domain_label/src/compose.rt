@@ -9,7 +9,7 @@ use crate::owned::OwnedLabel;
 use octseq::OctetsBuilder;
 
 impl<'a> Label<'a> {
-    /// The same label in lower case, in new octets (RFC 4034, 6.2).
+    /// The same label in lower case, with its own octets (RFC 4034, 6.2).
     pub fn to_canonical(&self) -> OwnedLabel
         ensures { owned_octets result ≡ lowercase (label_octets self.now) }
     {

@@ -25,7 +25,7 @@ impl<N: Relative> Relative for &N {
     ghost relative = { λ n. N.relative n.now };
 }
 
-/// The labels are those of the borrowed name; its contiguous octets are not offered.
+/// The labels are those of the borrowed name; `as_flat_slice` is always `None`.
 impl<'a, 'b, N: ToLabelIter<'a>> ToLabelIter<'a> for &'b N {
     type LabelIter = N::LabelIter;
 
