@@ -1,4 +1,4 @@
--- How errors of names are told as errors of parsing.
+-- The errors of parsing that errors of names become.
 use Rattle.std.specs.Prelude.{ℕ, List, codes}
 use Rattle.domain_wire.specs.Refusals.{Refusal, short_input, form}
 use Rattle.domain_label.specs.ErrorText.{label_type_text}
@@ -9,7 +9,7 @@ use Rattle.domain_flat.specs.declared.error.NameErrorKind.TheVariants.{BadLabel,
 use Rattle.domain_flat.specs.declared.error.RelativeNameErrorKind.{RelativeNameErrorKind}
 use Rattle.domain_flat.specs.declared.error.RelativeNameErrorKind.TheVariants as relative
 
--- as an error of form
+-- as a form error
 abbrev pub name_error_text : NameErrorKind → List ℕ
 name_error_text (BadLabel label_type) = codes "unknown label type"
 name_error_text CompressedName = codes "compressed domain name"
@@ -23,7 +23,7 @@ abbrev pub name_refusal : NameErrorKind → Refusal
 name_refusal ShortInput = short_input
 name_refusal kind = form (name_error_text kind)
 
--- what a fault of a label makes of a name
+-- the error of a name that an error of a label becomes
 abbrev pub name_fault : SplitLabelError → NameErrorKind
 name_fault (split.Pointer place) = CompressedName
 name_fault (split.BadType label_type) = BadLabel label_type

@@ -12,7 +12,7 @@ use Rattle.domain_flat.specs.declared.error.NameErrorKind.TheVariants as absolut
 use Rattle.domain_flat.specs.declared.error.RelativeNameErrorKind.{RelativeNameErrorKind}
 use Rattle.domain_flat.specs.declared.error.RelativeNameErrorKind.TheVariants as relative
 
--- Behind the labels fs no absolute name can go on with the octets rest.
+-- After the labels fs no absolute name can go on with the octets rest.
 abbrev pub AbsoluteFaultAt : List (List ℕ) → List ℕ → NameErrorKind → Type 0
 AbsoluteFaultAt fs rest (absolute.BadLabel label_type) = SplitFault rest (BadType label_type)
 AbsoluteFaultAt fs rest absolute.CompressedName = (place : ℕ) × SplitFault rest (Pointer place)
@@ -26,7 +26,7 @@ abbrev pub AbsoluteFault : List ℕ → NameErrorKind → Type 0
 AbsoluteFault o absolute.LongName = 255 < length o
 AbsoluteFault o kind = (length o ≤ 255) × ((fs : List (List ℕ)) × (rest : List ℕ) × LabelsBefore o fs rest × AbsoluteFaultAt fs rest kind)
 
--- Behind the labels fs no relative name can go on with the octets rest.
+-- After the labels fs no relative name can go on with the octets rest.
 abbrev pub RelativeFaultAt : List ℕ → RelativeNameErrorKind → Type 0
 RelativeFaultAt rest (relative.BadLabel label_type) = SplitFault rest (BadType label_type)
 RelativeFaultAt rest relative.CompressedName = (place : ℕ) × SplitFault rest (Pointer place)
@@ -39,13 +39,13 @@ abbrev pub RelativeFault : List ℕ → RelativeNameErrorKind → Type 0
 RelativeFault o relative.LongName = 254 < length o
 RelativeFault o kind = (length o ≤ 254) × ((fs : List (List ℕ)) × (rest : List ℕ) × LabelsBefore o fs rest × RelativeFaultAt rest kind)
 
--- Behind the labels fs no name can go on with the octets rest: no label begins there, or a root that
--- makes more than 255 octets. It is told so.
+-- After the labels fs no name can go on with the octets rest: no label begins there, or a root that makes more than
+-- 255 octets. This is the error for it.
 abbrev pub StartFaultAt : List (List ℕ) → List ℕ → Refusal → Type 0
 StartFaultAt fs rest r =
     ((e : SplitLabelError) × SplitFault rest e × (r ≡ split_refusal e))
     ⊎ ((more : List ℕ) × (rest ≡ 0 ∷ more) × (254 < length (wire fs)) × (r ≡ form (codes "long domain name")))
 
--- No absolute name stands at the beginning of the octets o, whatever follows, and why.
+-- The octets o begin with no absolute name, whatever follows, and why.
 abbrev pub StartFault : List ℕ → Refusal → Type 0
 StartFault o r = (fs : List (List ℕ)) × (rest : List ℕ) × LabelsBefore o fs rest × StartFaultAt fs rest r

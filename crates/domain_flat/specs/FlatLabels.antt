@@ -1,4 +1,4 @@
--- What contracts see of errors, and of the iterator over flat labels.
+-- How contracts describe errors, and the iterator over labels.
 use Rattle.std.specs.Prelude.{ℕ, List}
 use Rattle.domain_label.specs.Wire.{labels_in}
 use Rattle.domain_flat.specs.declared.error.NameError.{NameError}
@@ -15,6 +15,6 @@ name_error_kind e = e.kind
 abbrev pub relative_name_error_kind : RelativeNameError → RelativeNameErrorKind
 relative_name_error_kind e = e.kind
 
--- the labels that an iterator has left
+-- the labels that an iterator still gives
 abbrev pub flat_labels_left : NameIter → List (List ℕ)
 flat_labels_left it = labels_in it.octets.now

@@ -1,4 +1,4 @@
-//! Canonical forms of flat octets.
+//! Canonical forms of octets in wire format.
 ghost use Rattle.std.specs.Prelude.{◌≡◌};
 ghost use Rattle.domain_label.specs.Lowercase.{lowercase};
 

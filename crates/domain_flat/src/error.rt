@@ -9,13 +9,13 @@ use std::fmt;
 /// Why octets are no absolute name.
 #[derive(Clone, Copy, Debug, PartialEq, Eq)]
 pub enum NameErrorKind {
-    /// A head is of a type that is not in use.
+    /// The first octet of a label is of a type that is not in use.
     BadLabel(LabelTypeError),
-    /// A compression pointer stands among the labels.
+    /// A compression pointer is among the labels.
     CompressedName,
     /// There are more than 255 octets.
     LongName,
-    /// The octets end behind a label that isn't the root.
+    /// The octets end after a label that isn't the root.
     RelativeName,
     /// Octets follow the root.
     TrailingData,
@@ -130,15 +130,15 @@ impl From<NameError> for ParseError {
 /// Why octets are no relative name.
 #[derive(Clone, Copy, Debug, PartialEq, Eq)]
 pub enum RelativeNameErrorKind {
-    /// A head is of a type that is not in use.
+    /// The first octet of a label is of a type that is not in use.
     BadLabel(LabelTypeError),
-    /// A compression pointer stands among the labels.
+    /// A compression pointer is among the labels.
     CompressedName,
     /// The octets end inside a label.
     ShortInput,
     /// There are more than 254 octets.
     LongName,
-    /// A root label stands among the labels.
+    /// A root label is among the labels.
     AbsoluteName,
 }
 

@@ -1,4 +1,4 @@
-//! Tests of flat octets.
+//! Tests of octets in wire format.
 ghost use Rattle.std.specs.Prelude.{◌≡◌, ◌≢◌, ◌≤◌, ◌<◌, ◌+◌, ◌∷◌, [], ◌++◌, ◌⊎◌, ◌↔◌, ℕ, List, length, IfOk, IfErr, IsOk, OnOk};
 ghost use Rattle.domain_label.specs.Splitting.{SplitFault};
 ghost use Rattle.domain_label.specs.Wire.{wire, IsAbsoluteName, IsRelativeName, IsAbsoluteWire, IsRelativeWire};
@@ -17,7 +17,7 @@ pub const MAX_NAME_LEN: usize = 255;
 /// The most octets of a relative name, which leave one for a root label.
 const MAX_RELATIVE_LEN: usize = 254;
 
-/// The octets behind the labels that aren't the root: none, or from the root on.
+/// The octets after the labels that aren't the root: none, or from the root on.
 fn pass_labels(octets: &[u8]) -> Result<&[u8], SplitLabelError>
     ensures ok { IfOk result (λ rest. ((fs : List (List ℕ)) × LabelsBefore octets.now fs rest.now) × ((rest.now ≡ []) ⊎ ((more : List ℕ) × (rest.now ≡ 0 ∷ more)))) }
     ensures err { IfErr result (λ e. (fs : List (List ℕ)) × (rest : List ℕ) × LabelsBefore octets.now fs rest × SplitFault rest e × (rest ≢ [])) }
@@ -35,7 +35,7 @@ fn pass_labels(octets: &[u8]) -> Result<&[u8], SplitLabelError>
 
 /// Tests that the octets are the wire format of an absolute name (RFC 1035, 3.1).
 ///
-/// `LongName` where they are more than 255; else the first fault from the left.
+/// `LongName` where they are more than 255; else the first error from the left.
 pub fn check_absolute(octets: &[u8]) -> Result<(), NameError>
     ensures ok { OnOk result (IsAbsoluteWire octets.now) }
     ensures err { IfErr result (λ e. AbsoluteFault octets.now (name_error_kind e)) }
@@ -54,7 +54,7 @@ pub fn check_absolute(octets: &[u8]) -> Result<(), NameError>
 
 /// Tests that the octets are the wire format of a relative name.
 ///
-/// `LongName` where they are more than 254; else the first fault from the left.
+/// `LongName` where they are more than 254; else the first error from the left.
 pub fn check_relative(octets: &[u8]) -> Result<(), RelativeNameError>
     ensures ok { OnOk result (IsRelativeWire octets.now) }
     ensures err { IfErr result (λ e. RelativeFault octets.now (relative_name_error_kind e)) }
@@ -69,9 +69,9 @@ pub fn check_relative(octets: &[u8]) -> Result<(), RelativeNameError>
     }
 }
 
-/// How many octets the absolute name has that stands at the beginning of the octets.
+/// How many octets the absolute name has that the octets begin with.
 ///
-/// The number is tested behind the root, so that a fault of the form comes first.
+/// The number is tested after the root, so that an error of the format comes first.
 pub fn name_len(octets: &[u8]) -> Result<usize, ParseError>
     ensures ok { IfOk result (λ len. (ls : List (List ℕ)) × (rest : List ℕ) × IsAbsoluteName ls × (octets.now ≡ wire ls ++ rest) × (len ≡ length (wire ls))) }
     ensures err { IfErr result (λ e. StartFault octets.now (refusal e)) }

@@ -1,4 +1,4 @@
-//! The labels of a flat name, from either end.
+//! The labels of an uncompressed name, from either end.
 ghost use Rattle.std.specs.Prelude.{◌≡◌, ◌<◌, ◌≤◌, ◌+◌, [], length, take, drop, IfSome, IsTrue, MatchOption};
 ghost use Rattle.domain_label.specs.Wire.{IsWire, wire, labels_in};
 ghost use Rattle.domain_label.proofs.WireLaws.{IsWire_prop};
@@ -13,16 +13,17 @@ use std::marker::PhantomData;
 /// The most labels of a name, the root among them.
 const MAX_LABELS: usize = 128;
 
-/// The labels of a flat name, from either end.
+/// The labels of an uncompressed name, from either end.
 ///
-/// `next` and `next_back` may be mixed at will: no label comes twice and none is left out. Behind the
-/// last one it stays at `None`.
+/// `next` and `next_back` may be mixed at will: no label comes twice and none is skipped. After the last one it stays
+/// at `None`.
 #[derive(Clone, Copy, Debug)]
 pub struct NameIter<'a> {
     octets: &'a [u8],
-    /// Where each label begins. It is filled at a step from the back, so that further ones need no walk.
+    /// The offset of each label. The first call from the back fills it, so that further ones need not read the labels
+    /// again.
     starts: [u8; MAX_LABELS],
-    /// How many labels the table tells, which are all; 0 where it isn't filled.
+    /// How many labels the table has, which are all; 0 where it isn't filled.
     count: u8,
     of: PhantomData<Label<'a>>,
     ghost few: { count ≤ 128 },
@@ -47,7 +48,7 @@ impl<'a> NameIter<'a> {
         }
     }
 
-    /// Fills the table, where it isn't filled. False where no label is left, or more than it has room for.
+    /// Fills the table, where it isn't filled. False where no label is left, or more than fit in it.
     fn fill(&mut self) -> bool
         ensures same { self.new.octets ≡ self.old.octets }
         ensures filled { IsTrue result → 0 < self.new.count }
@@ -74,7 +75,7 @@ impl<'a> NameIter<'a> {
     }
 }
 
-/// The octets of the first label of a wire format, and the wire format behind it.
+/// The octets of the first label of a wire format, and the wire format after it.
 pub fn first_label(octets: &[u8]) -> Option<(&[u8], &[u8])>
     requires { IsWire octets.now }
     ensures { MatchOption result (octets.now ≡ []) (λ parts. HasFirst octets.now parts.0.now parts.1.now) }
@@ -85,8 +86,8 @@ pub fn first_label(octets: &[u8]) -> Option<(&[u8], &[u8])>
     Some(rest.split_at(*len as usize))
 }
 
-/// Writes where the labels of a wire format begin, and tells how many there are. `None` where the octets are more
-/// than 255 or the labels more than the table has room for.
+/// Writes the offsets of a wire format's labels, and returns how many there are. `None` where the octets are more
+/// than 255 or the labels more than fit in the table.
 fn find_starts(octets: &[u8], starts: &mut [u8; MAX_LABELS]) -> Option<u8>
     requires { IsWire octets.now }
     ensures few { IfSome result (λ count. count ≤ 128) }
@@ -108,7 +109,7 @@ fn find_starts(octets: &[u8], starts: &mut [u8; MAX_LABELS]) -> Option<u8>
     Some(count)
 }
 
-/// The octets before a place and those behind it.
+/// The octets before an offset and those after it.
 fn split_around(octets: &[u8], place: usize) -> (&[u8], &[u8])
     requires { place < length octets.now }
     ensures before { result.0.now ≡ take place octets.now }

@@ -1,4 +1,4 @@
-//! Laws of the faults of flat octets.
+//! Laws of the errors of octets in wire format.
 ghost use Rattle.std.specs.Prelude.{◌≡◌, ℕ, List, drop};
 ghost use Rattle.domain_label.specs.Wire.{IsAbsoluteWire, IsRelativeWire};
 ghost use Rattle.domain_wire.specs.Refusals.{Refusal};
@@ -7,9 +7,9 @@ ghost use Rattle.domain_flat.specs.Flat.{NameAt};
 ghost use Rattle.domain_flat.specs.declared.error.NameErrorKind.{NameErrorKind};
 ghost use Rattle.domain_flat.specs.declared.error.RelativeNameErrorKind.{RelativeNameErrorKind};
 
-/// Octets have one first fault, as an absolute name, as a relative one, and as the start of a name, and never
-/// both the fault and the name; and at a place of a message stands at most one name that has no pointer. The call
-/// does nothing: its contract is the laws.
+/// Octets have one first error, as an absolute name, as a relative one, and as the start of a name, and never both
+/// the error and the name; and at an offset of a message is at most one name without a pointer. The call does
+/// nothing: its contract is the facts.
 pub fn fault_laws()
     ensures absolute { (o : List ℕ) (j k : NameErrorKind) → AbsoluteFault o j → AbsoluteFault o k → j ≡ k }
     ensures relative { (o : List ℕ) (j k : RelativeNameErrorKind) → RelativeFault o j → RelativeFault o k → j ≡ k }

@@ -1,4 +1,4 @@
-//! Names in one piece: how flat octets are read as lists of labels.
+//! Uncompressed names: how octets in wire format are read as lists of labels.
 #![tactic(auto)]
 
 pub mod canonical;

@@ -1,4 +1,4 @@
--- The texts of errors of labels, and how they are told as errors of parsing.
+-- The texts of errors of labels, and the errors of parsing that they become.
 use Rattle.std.specs.Prelude.{ℕ, ◌/◌, ◌%◌, List, [], ◌∷◌, ◌++◌, codes}
 use Rattle.domain_label.specs.Hex.{hex_digit}
 use Rattle.domain_wire.specs.Refusals.{Refusal, short_input, form}

@@ -1,4 +1,4 @@
--- What contracts see of a label.
+-- How contracts describe a label.
 use Rattle.std.specs.Prelude.{ℕ, List, [], take, drop, slice_index, nat_lt, if◌then◌else◌}
 use Rattle.domain_label.specs.declared.label.Label.{Label}
 use Rattle.domain_label.specs.SliceWalk.{slice_walk}
@@ -14,12 +14,12 @@ label_octets l = l.octets.now
 abbrev pub label_mut_octets : LabelMut → List ℕ
 label_mut_octets l = l.octets.now
 
--- the octets of a label that owns them: as many as the length octet tells, behind it; no label has
--- a length octet over 63
+-- the octets of a label that owns them: as many as the length octet tells, after it; no label has a length octet over
+-- 63
 abbrev pub owned_octets : OwnedLabel → List ℕ
 owned_octets l =
     let len = slice_index l.wire 0 in if nat_lt 63 len then [] else take len (drop 1 l.wire)
 
--- the labels that a walk over a slice still gives
+-- the labels that an iterator over a slice still gives
 abbrev pub walk_left : SliceLabelsIter → List (List ℕ)
 walk_left it = slice_walk it.slice.now it.place it.heads

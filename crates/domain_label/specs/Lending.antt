@@ -1,11 +1,11 @@
--- What a label that owns its octets ends as, where they are lent to be written.
+-- What a label that owns its octets is after these were borrowed to be written.
 use Rattle.std.specs.Prelude.{ℕ, List, ◌++◌, length, take, drop}
 use Rattle.std.specs.Borrow.{Fml, MutBor, Array, u8, Lends, follows}
 use Rattle.domain_label.specs.declared.label_mut.LabelMut.{LabelMut}
 use Rattle.domain_label.specs.declared.owned.OwnedLabel.{OwnedLabel}
 use Rattle.domain_label.specs.contracts.owned.OwnedLabel.{the_row}
 
--- the label with the octets ws in the place of as many behind its length octet
+-- the label with the octets ws instead of as many after its length octet
 abbrev pub with_octets : OwnedLabel → List ℕ → OwnedLabel
 with_octets l ws = record { wire = take 1 l.wire ++ (ws ++ drop (length ws) (drop 1 l.wire)) }
 

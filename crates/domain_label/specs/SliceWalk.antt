@@ -1,28 +1,28 @@
 -- Labels one after another in octets, where pointers lead on (RFC 1035, 3.1 and 4.1.4).
 use Rattle.std.specs.Prelude.{ℕ, zero, suc, ◌+◌, ◌-◌, ◌*◌, List, [], ◌∷◌, length, take, drop, ⊤, if◌then◌else◌, nat_lt, nat_le}
 
--- What a head does to a walk: a label that isn't the root is given, and the walk goes on at a place;
--- the root is given, and ends it; a pointer lets it go on at a place; all else ends it.
+-- What a first octet means: a label that isn't the root is given, and reading goes on at an offset; the root is
+-- given, and is the last; a pointer is followed to an offset; all else ends the labels.
 pub data Step : Type 0 where
   past_label : List ℕ → ℕ → Step
   at_root : Step
   at_pointer : ℕ → Step
   at_end : Step
 
--- A head from 0 to 63 at the place p, and the octets behind it: a label, where it is whole.
+-- A first octet from 0 to 63 at the offset p, and the octets after it: a label, where it is whole.
 abbrev pub label_step : ℕ → ℕ → List ℕ → Step
 label_step p zero rest = at_root
 label_step p (suc len) rest =
     if nat_lt (length rest) (suc len) then at_end else past_label (take (suc len) rest) (p + (suc len + 1))
 
--- A head from 192 on at the place p, and the octets behind it: a pointer to its low 14 bits. It is
--- followed where it is whole and leads to no later place than its own.
+-- A first octet from 192 on at the offset p, and the octets after it: a pointer to its low 14 bits. It is followed
+-- where it is whole and leads to its own offset or before.
 abbrev pub pointer_step : ℕ → ℕ → List ℕ → Step
 pointer_step p head [] = at_end
 pointer_step p head (octet ∷ rest) =
     let place = (head - 192) * 256 + octet in if nat_le place p then at_pointer place else at_end
 
--- The octets from the place p on.
+-- The octets from the offset p on.
 abbrev pub step_of : ℕ → List ℕ → Step
 step_of p [] = at_end
 step_of p (head ∷ rest) =
@@ -40,19 +40,19 @@ labels_past at_root from = [] ∷ []
 labels_past (at_pointer place) from = from place
 labels_past at_end from = []
 
--- The labels among the first n heads from the place p of s.
+-- The labels among the first n labels and pointers from the offset p of s.
 abbrev pub slice_walk : List ℕ → ℕ → ℕ → List (List ℕ)
 slice_walk s p zero = []
 slice_walk s p (suc n) = labels_past (step_at s p) (λ q. slice_walk s q n)
 
--- What holds where a step goes on, and nothing where it ends the walk.
+-- What holds where the labels go on, and nothing where they end.
 abbrev pub WherePast : Step → (ℕ → Type 0) → Type 0
 WherePast (past_label l next) P = P next
 WherePast at_root P = ⊤
 WherePast (at_pointer place) P = P place
 WherePast at_end P = ⊤
 
--- The walk from the place p of s ends of itself within n heads.
+-- The labels from the offset p of s end within n labels and pointers.
 abbrev pub WalkEnds : List ℕ → ℕ → ℕ → Type 0
 WalkEnds s p zero = ⊥
 WalkEnds s p (suc n) = WherePast (step_at s p) (λ q. WalkEnds s q n)

@@ -27,8 +27,8 @@ IsNotPrintable c = (c < 32) ⊎ (126 < c)
 abbrev pub number : ℕ → ℕ → ℕ → ℕ
 number a b c = (a - 48) * 100 + (b - 48) * 10 + (c - 48)
 
--- A character stands for itself, one behind a backslash has no special meaning, and three decimal
--- digits behind a backslash are the octet of that number.
+-- A character stands for itself, one after a backslash has no special meaning, and three decimal digits after a
+-- backslash are the octet of that number.
 abbrev pub spelling : Symbol → List ℕ
 spelling (Char c) = c ∷ []
 spelling (SimpleEscape c) = 92 ∷ c ∷ []

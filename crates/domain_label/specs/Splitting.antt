@@ -1,16 +1,16 @@
--- What stands at the beginning of octets (RFC 1035, 3.1 and 4.1.4).
+-- What octets begin with (RFC 1035, 3.1 and 4.1.4).
 use Rattle.std.specs.Prelude.{◌≡◌, ℕ, ◌+◌, ◌*◌, ◌<◌, ◌≤◌, ◌⊎◌, List, [], ◌∷◌, ◌++◌, length}
 use Rattle.domain_label.specs.Wire.{IsLabel}
 use Rattle.domain_label.specs.declared.split.SplitLabelError.{SplitLabelError}
 use Rattle.domain_label.specs.declared.split.SplitLabelError.TheVariants.{Pointer, BadType, ShortInput}
 use Rattle.domain_label.specs.declared.split.LabelTypeError.TheVariants.{Undefined, Extended}
 
--- The octets o begin with the label l, and rest is behind it.
+-- The octets o begin with the label l, and rest is after it.
 abbrev pub BeginsWithLabel : List ℕ → List ℕ → List ℕ → Type 0
 BeginsWithLabel o l rest = IsLabel l × (o ≡ length l ∷ (l ++ rest))
 
--- No label begins with this head and the octets behind it, and why: octets are missing, the head is
--- that of another type of label, or a pointer stands there. Its low 14 bits are a place.
+-- No label begins with this first octet and the octets after it, and why: octets are missing, the first octet is that
+-- of another type of label, or it begins a pointer. Its low 14 bits are an offset.
 abbrev pub HeadFault : ℕ → List ℕ → SplitLabelError → Type 0
 HeadFault head rest ShortInput = ((head ≤ 63) × (length rest < head)) ⊎ ((192 ≤ head) × (rest ≡ []))
 HeadFault head rest (BadType (Extended value)) = (value ≡ head) × (64 ≤ head) × (head < 128)

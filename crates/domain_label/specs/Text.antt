@@ -12,7 +12,7 @@ escaped_octet c =
 abbrev pub escaped : List ℕ → List ℕ
 escaped = flat_map escaped_octet
 
--- A label and a dot behind it; the root label is nothing.
+-- A label and a dot after it; the root label is nothing.
 abbrev pub with_dot : List ℕ → List ℕ
 with_dot [] = []
 with_dot (c ∷ l) = escaped (c ∷ l) ++ 46 ∷ []
@@ -22,7 +22,7 @@ abbrev pub or_dot : List ℕ → List ℕ
 or_dot [] = 46 ∷ []
 or_dot (c ∷ t) = c ∷ t
 
--- Each label and a dot behind it; the root alone is a dot.
+-- Each label and a dot after it; the root alone is a dot.
 abbrev pub text_with_final_dot : List (List ℕ) → List ℕ
 text_with_final_dot ls = or_dot (flat_map with_dot ls)
 
@@ -36,6 +36,6 @@ abbrev pub text : List (List ℕ) → List ℕ
 text [] = []
 text (l ∷ ls) = escaped l ++ flat_map dot_before ls
 
--- What an absolute name in one piece shows: its text, and the root a dot.
+-- What an absolute name in contiguous octets shows: its text, and the root a dot.
 abbrev pub displayed : List (List ℕ) → List ℕ
 displayed ls = or_dot (text ls)

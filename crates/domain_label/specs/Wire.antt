@@ -1,11 +1,11 @@
--- Labels, lists of labels, and how they lie on the wire.
+-- Labels, lists of labels, and how they are encoded on the wire.
 use Rattle.std.specs.Prelude.{◌≡◌, ℕ, zero, suc, ◌≤◌, List, [], ◌∷◌, ◌++◌, length, take, drop, ⊤, ◌⊎◌}
 
 -- A label has at most 63 octets (RFC 1035, 3.1).
 abbrev pub IsLabel : List ℕ → Type 0
 IsLabel l = length l ≤ 63
 
--- Each label as one octet that tells its length, and then that many octets (RFC 1035, 3.1).
+-- Each label as one octet with its length, and then that many octets (RFC 1035, 3.1).
 abbrev pub wire : List (List ℕ) → List ℕ
 wire [] = []
 wire (l ∷ ls) = length l ∷ (l ++ wire ls)
@@ -48,7 +48,7 @@ cut zero o = []
 cut (suc n) [] = []
 cut (suc n) (len ∷ o) = take len o ∷ cut n (drop len o)
 
--- The labels that o spells, where it is a wire format: `labels_in (wire ls) ≡ ls`.
+-- The labels that o encodes, where it is a wire format: `labels_in (wire ls) ≡ ls`.
 abbrev pub labels_in : List ℕ → List (List ℕ)
 labels_in o = cut (length o) o
 
@@ -57,7 +57,7 @@ abbrev pub AreLabels : List (List ℕ) → Type 0
 AreLabels [] = ⊤
 AreLabels (l ∷ ls) = IsLabel l × AreLabels ls
 
--- o is the wire format of the labels that it spells, and of no other list.
+-- o is the wire format of the labels that it encodes, and of no other list.
 abbrev pub IsWire : List ℕ → Type 0
 IsWire o = (wire (labels_in o) ≡ o) × AreLabels (labels_in o)
 

@@ -1,4 +1,4 @@
-//! Appending labels to what octets are appended to.
+//! Appending labels to octets.
 ghost use Rattle.std.specs.Prelude.{◌≡◌, ◌≤◌, ◌<◌, ◌+◌, ◌++◌, length, OnOk, OnErr, IfSome};
 ghost use Rattle.domain_label.specs.Lowercase.{lowercase};
 ghost use Rattle.domain_label.specs.Wire.{wire_label};
@@ -9,7 +9,7 @@ use crate::owned::OwnedLabel;
 use octseq::OctetsBuilder;
 
 impl<'a> Label<'a> {
-    /// The same label without ASCII case, in octets of its own (RFC 4034, 6.2).
+    /// The same label in lower case, with its own octets (RFC 4034, 6.2).
     pub fn to_canonical(&self) -> OwnedLabel
         ensures { owned_octets result ≡ lowercase (label_octets self.now) }
     {
@@ -27,8 +27,8 @@ impl<'a> Label<'a> {
 
     /// Appends the wire format: the length octet and the octets (RFC 1035, 3.1).
     ///
-    /// It is refused only where these octets exceed the target's spare capacity. A refused call
-    /// leaves the target's octets as they were.
+    /// It fails only where these octets exceed the target's spare capacity. A call that fails leaves the target's
+    /// octets as they were.
     pub fn compose<Target: OctetsBuilder>(
         &self,
         target: &mut Target,
@@ -66,7 +66,7 @@ impl<'a> Label<'a> {
     }
 }
 
-/// Appends length octet and octets at once, so that a refusal takes neither.
+/// Appends length octet and octets at once, so that a call that fails appends neither.
 fn append_wire<Target: OctetsBuilder>(
     label: &OwnedLabel,
     target: &mut Target,

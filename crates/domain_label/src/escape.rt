@@ -23,7 +23,7 @@ pub(crate) fn escape<I: Iterator<Item = char>>(chars: &mut I) -> Result<Symbol, 
     }
 }
 
-/// Reads an escape whose first character behind the backslash was read.
+/// Reads an escape whose first character after the backslash was read.
 #[inline(always)]
 pub(crate) fn escape_at<I: Iterator<Item = char>>(
     first: char,

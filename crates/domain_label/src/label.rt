@@ -29,10 +29,10 @@ impl Error for LongLabelError {}
 
 /// A label: at most 63 octets, of any values (RFC 1035, 3.1). The empty label is the root label.
 ///
-/// It is one part of a name, and lends the octets in which it lies; it is Copy. The iterators over names
-/// give labels, and `from_slice` makes one of octets, `split_from` of the beginning of a wire format. An
-/// [`OwnedLabel`](crate::OwnedLabel) keeps the octets itself. Two are equal, ordered and hashed without
-/// ASCII case (RFC 4343; RFC 4034, 6.1).
+/// It is one part of a name, and borrows its octets; it is Copy. The iterators over names give labels, and
+/// `from_slice` makes one of octets, `split_from` of the beginning of a wire format. An
+/// [`OwnedLabel`](crate::OwnedLabel) keeps the octets itself. Two are equal, ordered and hashed ignoring ASCII case
+/// (RFC 4343; RFC 4034, 6.1).
 #[derive(Clone, Copy)]
 pub struct Label<'a> {
     octets: &'a [u8],
@@ -81,11 +81,11 @@ impl<'a> Label<'a> {
         Label { octets }
     }
 
-    /// The label that the octets begin with, and the octets behind it (RFC 1035, 3.1).
+    /// The label that the octets begin with, and the octets after it (RFC 1035, 3.1).
     ///
-    /// The head decides: from 0xc0 on it is a `Pointer` to the place in the low 14 bits, from 0x40 on
-    /// a `BadType`. `ShortInput` where the head, an octet of the label or the second octet of the
-    /// pointer is missing.
+    /// The first octet decides: from 0xc0 on it begins a `Pointer` to the offset in the low 14 bits, from 0x40 on it
+    /// is a `BadType`. `ShortInput` where the first octet, an octet of the label or the second octet of the pointer
+    /// is missing.
     pub fn split_from(octets: &'a [u8]) -> Result<(Label<'a>, &'a [u8]), SplitLabelError>
         ensures exact { IsOk result ↔ ((l : List ℕ) × (rest : List ℕ) × BeginsWithLabel octets.now l rest) }
         ensures ok { IfOk result (λ parts. BeginsWithLabel octets.now (label_octets parts.0) parts.1.now) }

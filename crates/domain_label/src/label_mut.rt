@@ -40,7 +40,7 @@ impl<'a> LabelMut<'a> {
         LabelMut { octets }
     }
 
-    /// The label that the octets begin with, and the octets behind it, both in place (RFC 1035, 3.1).
+    /// The label that the octets begin with, and the octets after it, both in place (RFC 1035, 3.1).
     ///
     /// The errors are those of [`Label::split_from`], and then the octets stay as they are.
     pub fn split_from_mut(
@@ -78,7 +78,7 @@ impl<'a> LabelMut<'a> {
         self.octets.make_ascii_lowercase();
     }
 
-    /// The label of `len` octets behind the length octet, and the octets behind it.
+    /// The label of `len` octets after the length octet, and the octets after it.
     pub(crate) fn split_known(octets: &'a mut [u8], len: usize) -> (LabelMut<'a>, &'a mut [u8])
         requires short { len ≤ 63 }
         requires whole { len < length octets.old }

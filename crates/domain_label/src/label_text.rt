@@ -9,7 +9,7 @@ use crate::symbol::{BadSymbol, Symbol, SymbolCharsError};
 use std::error::Error;
 use std::fmt;
 
-/// Why a text is no label.
+/// Why a text isn't the text of a label.
 #[derive(Clone, Copy, Debug, PartialEq, Eq)]
 pub enum LabelFromStrErrorKind {
     /// An escape is broken.
@@ -18,11 +18,11 @@ pub enum LabelFromStrErrorKind {
     BadSymbol(BadSymbol),
     /// The label begins with `\[`, as binary labels did, which are no longer in use (RFC 6891, 5).
     BinaryLabel,
-    /// Something stands behind 63 octets.
+    /// Something comes after 63 octets.
     LongLabel,
 }
 
-/// A text that is no label.
+/// A text that isn't the text of a label.
 #[derive(Clone, Copy, Debug, PartialEq, Eq)]
 pub struct LabelFromStrError {
     kind: LabelFromStrErrorKind,
@@ -89,7 +89,7 @@ impl From<BadSymbol> for LabelFromStrError {
     }
 }
 
-/// Reads the octet whose symbol begins with `c`, at the start of a label or behind it.
+/// Reads the octet whose symbol begins with `c`, at the start of a label or after it.
 pub(crate) fn next_octet<I: Iterator<Item = char>>(
     c: char,
     start: bool,
@@ -130,7 +130,7 @@ fn label_escape<I: Iterator<Item = char>>(chars: &mut I) -> Result<Symbol, Symbo
     escape_at(first, chars)
 }
 
-/// The octet that a symbol is in a label, at its start or behind it.
+/// The octet that a symbol is in a label, at its start or after it.
 fn octet_in_label(symbol: Symbol, start: bool) -> Result<u8, LabelFromStrErrorKind>
     ensures { result ≡ label_octet start symbol }
 {

@@ -10,30 +10,30 @@ ghost use Rattle.domain_label.specs.declared.split.SplitLabelError.{SplitLabelEr
 
 use crate::owned::OwnedLabel;
 
-/// What the definitions of wire formats say together: octets spell the list that they are the wire format
-/// of, so they are the wire format of one list only; and no list is absolute and relative.
+/// What the definitions of wire formats say together: octets encode the list that they are the wire format of, so
+/// they are the wire format of one list only; and no list is absolute and relative.
 pub fn wire_laws()
     ensures spelled { (ls : List (List ℕ)) → labels_in (wire ls) ≡ ls }
     ensures once { (xs ys : List (List ℕ)) → wire xs ≡ wire ys → xs ≡ ys }
     ensures apart { (ls : List (List ℕ)) → IsAbsolute ls → IsRelative ls → ⊥ }
 {}
 
-/// What `with_octets` says of a label whose octets were lent: those that were written, of which there
-/// are as many, are its octets.
+/// What `with_octets` says of a label whose octets were borrowed: those that were written, of which there are as
+/// many, are its octets.
 pub fn lent_laws()
     ensures { (l : OwnedLabel) (ws : List ℕ) → length ws ≡ length (owned_octets l) → owned_octets (with_octets l ws) ≡ ws }
 {}
 
-/// Octets begin with one label, or with none for one reason, and never both. That one of the two always
-/// stands is the contract of `Label::split_from`.
+/// Octets begin with one label, or with none for one reason, and never both. That always one of the two holds is the
+/// contract of `Label::split_from`.
 pub fn split_laws()
     ensures one_label { (o a b r s : List ℕ) → BeginsWithLabel o a r → BeginsWithLabel o b s → (a ≡ b) × (r ≡ s) }
     ensures one_fault { (o : List ℕ) (d e : SplitLabelError) → SplitFault o d → SplitFault o e → d ≡ e }
     ensures not_both { (o l rest : List ℕ) (e : SplitLabelError) → BeginsWithLabel o l rest → SplitFault o e → ⊥ }
 {}
 
-/// Each text is read in exactly one way, as symbols and at most a broken escape behind them; and it is
-/// the text of exactly one label, or has exactly one fault, never both.
+/// Each text is read in exactly one way, as symbols and at most a broken escape after them; and it is the text of
+/// exactly one label, or has exactly one error, never both.
 pub fn scan_laws()
     ensures symbols { (cs : List ℕ) → IsReadOnce cs }
     ensures labels { (cs : List ℕ) → OneLabel cs }

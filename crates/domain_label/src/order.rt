@@ -1,4 +1,4 @@
-//! Labels without ASCII case: equality, order and hashing, and the orders of wire formats.
+//! Labels ignoring ASCII case: equality, order and hashing, and the orders of wire formats.
 ghost use Rattle.std.specs.Prelude.{◌≡◌};
 ghost use Rattle.std.specs.Cmp.{partial_order_from_own_ties};
 ghost use Rattle.std.specs.Cmp.Rules.{comparing};
@@ -13,7 +13,7 @@ use crate::same::same_octets;
 use std::cmp::Ordering;
 use std::hash::{Hash, Hasher};
 
-/// Labels are equal where their octets are the same without ASCII case (RFC 4343).
+/// Labels are equal where their octets are the same ignoring ASCII case (RFC 4343).
 impl<'a> PartialEq for Label<'a> {
     ghost eq = { on label_octets eq_ignoring_case };
 
@@ -28,8 +28,8 @@ impl<'a> Eq for Label<'a> {
     ghost laws = { Prim.search (comparing, rules) };
 }
 
-/// Labels are ordered as their octets from the left without ASCII case, and one that begins another
-/// is less (RFC 4034, 6.1).
+/// Labels are ordered as their octets from the left ignoring ASCII case, and one that begins another is less (RFC
+/// 4034, 6.1).
 impl<'a> Ord for Label<'a> {
     ghost cmp = { on label_octets cmp_ignoring_case };
 
@@ -54,7 +54,7 @@ impl<'a> PartialOrd for Label<'a> {
     }
 }
 
-/// The length and each octet without ASCII case as one `u8`, so that equal labels feed alike.
+/// The length and each octet in lower case as one `u8`, so that equal labels write the same.
 impl<'a> Hash for Label<'a> {
     ghost hash_input = { λ label. label_hash_input (label_octets label) };
 
@@ -80,8 +80,8 @@ impl<'a> Label<'a> {
         self.as_slice().cmp(other.as_slice())
     }
 
-    /// The order of the labels' wire formats without ASCII case: the shorter first, then by the lowered
-    /// octets.
+    /// The order of the labels' wire formats ignoring ASCII case: the shorter first, then by the octets in lower
+    /// case.
     pub fn lowercase_composed_cmp(&self, other: &Label) -> Ordering
         ensures { result ≡ label_lowercase_composed_order (label_octets self.now) (label_octets other.now) }
     {
@@ -93,7 +93,7 @@ impl<'a> Label<'a> {
     }
 }
 
-/// Octets in order, without ASCII case.
+/// Octets in order, ignoring ASCII case.
 pub fn order_ignoring_case(a: &[u8], b: &[u8]) -> Ordering
     ensures { result ≡ cmp_ignoring_case a.now b.now }
 {

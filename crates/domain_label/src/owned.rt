@@ -23,8 +23,8 @@ use std::str::FromStr;
 /// A label that owns its octets, in its wire format.
 #[derive(Clone, Copy)]
 pub struct OwnedLabel {
-    /// The length octet, and behind it the label's octets. What is left behind those means nothing.
-    /// A length octet over 63 is never written, and would be read as that of the root.
+    /// The length octet, and after it the label's octets. The octets after those have no meaning. A length octet over
+    /// 63 is never written, and would be read as that of the root.
     wire: [u8; 64],
 }
 
@@ -50,10 +50,10 @@ impl OwnedLabel {
     /// decimal digits of value at most 255 are that octet, and one before an ASCII character that isn't a
     /// digit is that character, a control character too.
     ///
-    /// The first fault decides. Any other character, and a plain dot, is `BadSymbol`. A broken escape is
+    /// The first error is returned. Any other character, and a plain dot, is `BadSymbol`. A broken escape is
     /// `SymbolChars`: `ShortInput` where the text ends inside it, else `BadEscape`. `\[` at the start is
-    /// `BinaryLabel`. Anything behind 63 octets is `LongLabel`, before it is looked at. By
-    /// `laws::scan_laws` each text is that of one label or has one fault, so the answer is just that.
+    /// `BinaryLabel`. Anything after 63 octets is `LongLabel`, before it is looked at. By `laws::scan_laws` each text
+    /// is that of one label or has one error, so the answer is just that.
     pub fn from_chars<I: Iterator<Item = char> + Drop>(
         chars: I,
     ) -> Result<OwnedLabel, LabelFromStrError>
@@ -100,7 +100,7 @@ impl OwnedLabel {
         LabelMut::of_short(self.octets_mut(len))
     }
 
-    /// The `len` octets behind the length octet, for writing.
+    /// The `len` octets after the length octet, for writing.
     fn octets_mut(&mut self, len: usize) -> &mut [u8]
         requires { len ≤ 63 }
         ensures* writes_back { sem 𝓛 (LendsOctets self.entry result) }
@@ -145,7 +145,7 @@ impl FromStr for OwnedLabel {
     }
 }
 
-/// As the labels.
+/// As the labels it holds.
 impl PartialEq for OwnedLabel {
     ghost use Rattle.domain_label.specs.Labels.{owned_octets};
 
@@ -162,7 +162,7 @@ impl Eq for OwnedLabel {
     ghost laws = { Prim.search (comparing, rules) };
 }
 
-/// As the labels.
+/// As the labels it holds.
 impl Ord for OwnedLabel {
     ghost use Rattle.domain_label.specs.Labels.{owned_octets};
 
@@ -191,7 +191,7 @@ impl PartialOrd for OwnedLabel {
     }
 }
 
-/// As the label.
+/// As the label it holds.
 impl Hash for OwnedLabel {
     ghost use Rattle.domain_label.specs.Labels.{owned_octets};
 
@@ -204,7 +204,7 @@ impl Hash for OwnedLabel {
     }
 }
 
-/// As the label.
+/// As the label it holds.
 impl fmt::Display for OwnedLabel {
     ghost use Rattle.domain_label.specs.Labels.{owned_octets};
 

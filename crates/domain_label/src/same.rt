@@ -1,13 +1,13 @@
-//! Octets compared without ASCII case, many at a time. A length octet is below `A`, so it is its own lower
-//! case, and wire formats are compared so without going over their labels.
+//! Octets compared ignoring ASCII case, many at a time. A length octet is below `A`, so it is its own lower case, and
+//! wire formats are compared so without iterating over their labels.
 ghost use Rattle.std.specs.Prelude.{◌≡◌, ◌≤◌, ◌+◌, IsTrue, ◌↔◌, length};
 ghost use Rattle.domain_label.specs.Lowercase.{lowercase};
 
 /// How many octets are compared at a time where there are many.
 const PART: usize = 16;
 
-/// Whether octets, as many on both sides, are the same without ASCII case. All are looked at, so that many
-/// can be taken at a time.
+/// Whether octets, as many on both sides, are the same ignoring ASCII case. All are looked at, so that many can be
+/// taken at a time.
 #[inline(always)]
 fn same_each(a: &[u8], b: &[u8]) -> bool
     requires { length a.now ≡ length b.now }
@@ -35,8 +35,8 @@ fn same_ends(a: &[u8], b: &[u8], size: usize) -> bool
     same
 }
 
-/// The same of many octets, as those of a whole name. The last ones come first, so that none are left over behind
-/// the parts: the last of these may reach into them.
+/// The same of many octets, as those of a whole name. The last ones come first, so that none are left over after the
+/// parts: the last of these may reach into them.
 fn same_parts(a: &[u8], b: &[u8]) -> bool
     requires sized { length a.now ≡ length b.now }
     requires long { 16 ≤ length a.now }
@@ -56,7 +56,7 @@ fn same_parts(a: &[u8], b: &[u8]) -> bool
     true
 }
 
-/// Whether octets are the same without ASCII case.
+/// Whether octets are the same ignoring ASCII case.
 ///
 /// Most labels are short: they are compared without a loop and without a call.
 #[inline(always)]

@@ -12,24 +12,23 @@ use crate::split::SplitLabelError;
 #[derive(Debug, Drop)]
 pub struct SliceLabelsIter<'a> {
     slice: &'a [u8],
-    /// Where the next head stands.
+    /// The offset of the next label or pointer.
     place: usize,
-    /// How many heads are read at most from here on, 0 behind the end.
+    /// How many labels and pointers are read at most from here on, 0 after the end.
     heads: usize,
 }
 
 impl<'a> Label<'a> {
-    /// The labels that stand in `slice` from the place `start` on, one after another.
+    /// The labels in `slice` from the offset `start` on, one after another.
     ///
-    /// The root label is given and ends the walk. A pointer is followed to a place that isn't behind
-    /// its own first octet, which counts from the beginning of `slice`. A pointer to a later place, a
-    /// head of another type and a label or pointer that isn't whole end the walk, and so does the end
-    /// of `slice`; from a `start` at or past it there is no label. After as many heads, labels and
-    /// pointers together, as `slice` has octets the walk is cut off, which only pointers that lead
-    /// round reach (RFC 1035, 3.1 and 4.1.4).
+    /// The root label is given and is the last. A pointer is followed to its own offset or one before it, which
+    /// counts from the beginning of `slice`. A pointer to a later offset, a first octet of another type and a label
+    /// or pointer that isn't whole end the labels, and so does the end of `slice`; from a `start` at or after it
+    /// there is no label. As many labels and pointers together are read as `slice` has octets, and no more, which
+    /// only pointers in a loop reach (RFC 1035, 3.1 and 4.1.4).
     pub fn iter_slice(slice: &'a [u8], start: usize) -> SliceLabelsIter<'a>
         ensures labels { walk_left result ≡ slice_walk slice.now start (length slice.now) }
-        // A walk that ends of itself is given whole.
+        // Labels that end, within any number n of labels and pointers, are all given.
         ensures whole { (n : ℕ) → WalkEnds slice.now start n → walk_left result ≡ slice_walk slice.now start n }
     {
         SliceLabelsIter {
@@ -76,7 +75,7 @@ impl<'a> Iterator for SliceLabelsIter<'a> {
     }
 }
 
-/// The label that stands at a place, and the octets behind it. Nothing stands past the end.
+/// The label at an offset, and the octets after it. `ShortInput` where the offset is at or after the end.
 fn split_at_place(octets: &[u8], place: usize) -> Result<(Label<'_>, &[u8]), SplitLabelError>
     ensures ok { IfOk result (λ parts. BeginsWithLabel (drop place octets.now) (label_octets parts.0) parts.1.now) }
     ensures err { IfErr result (λ e. SplitFault (drop place octets.now) e) }

@@ -6,13 +6,13 @@ use domain_wire::ParseError;
 use std::error::Error;
 use std::fmt;
 
-/// A head that begins neither a label nor a pointer.
+/// A first octet that begins neither a label nor a pointer.
 #[derive(Clone, Copy, Debug, PartialEq, Eq)]
 pub enum LabelTypeError {
-    /// A head from 0x80 to 0xbf, whose type was never defined.
+    /// A first octet from 0x80 to 0xbf, whose type was never defined.
     Undefined,
-    /// A head from 0x40 to 0x7f: the extended label types of RFC 6891, none of which is in use. The
-    /// value is the head.
+    /// A first octet from 0x40 to 0x7f: the extended label types of RFC 6891, none of which is in use. The value is
+    /// this octet.
     Extended(u8),
 }
 
@@ -38,11 +38,11 @@ impl Error for LabelTypeError {}
 /// Why octets begin with no whole label.
 #[derive(Clone, Copy, Debug, PartialEq, Eq)]
 pub enum SplitLabelError {
-    /// A compression pointer to this place stands there (RFC 1035, 4.1.4).
+    /// A compression pointer to this offset is there (RFC 1035, 4.1.4).
     Pointer(u16),
-    /// The head is of a type that is not in use.
+    /// The first octet is of a type that is not in use.
     BadType(LabelTypeError),
-    /// The head, an octet of the label or the second octet of a pointer is missing.
+    /// The first octet, an octet of the label or the second octet of a pointer is missing.
     ShortInput,
 }
 

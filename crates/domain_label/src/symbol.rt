@@ -37,7 +37,7 @@ impl Symbol {
     }
 }
 
-/// Why an escape is none.
+/// Why characters are no escape.
 #[derive(Clone, Copy, Debug, PartialEq, Eq)]
 pub enum SymbolCharsError {
     /// The text ends inside the escape.

@@ -12,8 +12,8 @@ use crate::symbol::{Symbol, SymbolCharsError};
 /// The symbols of a text, in order (RFC 1035, 5.1). Each text has exactly one reading, by
 /// `laws::scan_laws`.
 ///
-/// A broken escape is an error, and the last item: `ShortInput` where the text ends inside it, `BadEscape`
-/// at the first character that breaks it or behind three digits whose value is over 255.
+/// A broken escape is an error, and the last item: `ShortInput` where the text ends inside it, `BadEscape` at the
+/// first character that breaks it or after three digits whose value is over 255.
 #[derive(Drop)]
 pub struct Symbols<I> {
     chars: I,

@@ -1,11 +1,11 @@
--- What a sorted zone rests on: names that end with its apex stand together in the order.
+-- What a sorted zone needs: names that end with its apex are adjacent in the order.
 use Rattle.std.specs.Prelude.{◌≡◌, ◌≢◌, ◌↔◌, ℕ, List}
 use Rattle.std.specs.declared.cmp.Ordering.TheVariants.{Less, Equal, Greater}
 use Rattle.domain_label.specs.Lowercase.{lowercase_labels}
 use Rattle.domain_list.specs.Ends.{EndsWith}
 use Rattle.domain_list.specs.Order.{canonical_order}
 
--- The order tells apart exactly the names that differ by more than case.
+-- The order distinguishes exactly the names that differ by more than case.
 abbrev pub TellsApart : Type 0
 TellsApart = (a b : List (List ℕ)) → (canonical_order a b ≡ Equal) ↔ (lowercase_labels a ≡ lowercase_labels b)
 

@@ -1,4 +1,4 @@
--- What contracts see of a name that is shown with a final dot.
+-- How contracts describe a name that is shown with a final dot.
 use Rattle.domain_list.specs.declared.dotted.DisplayWithDot.{DisplayWithDot}
 
 -- the name that is shown

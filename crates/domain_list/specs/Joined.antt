@@ -1,4 +1,4 @@
--- What contracts see of labels that are shown joined by dots.
+-- How contracts describe labels that are shown joined by dots.
 use Rattle.domain_list.specs.declared.joined.JoinedLabels.{JoinedLabels}
 
 -- what gives the labels that are shown

@@ -20,7 +20,7 @@ use Rattle.domain_list.specs.Count.{but_root}
 use Rattle.domain_list.specs.HashInput.{name_hash_input}
 use Rattle.domain_list.specs.Order.{from_right, canonical_order, same_name}
 
--- ---- what impls of `Eq`, `Ord` and `Hash` for names owe
+-- ---- what impls of `Eq`, `Ord` and `Hash` for names must prove
 
 -- lists of labels, from the left: a total order
 pub lists_order : IsTotalOrder (slice_cmp (slice_cmp nat_cmp))
@@ -30,7 +30,7 @@ lists_order = lists_total nat_list_cmp_total
 pub order_is_total : IsTotalOrder canonical_order
 order_is_total = on_total from_right lists_order
 
--- being the same name without ASCII case (RFC 4343) is an equivalence
+-- being the same name ignoring ASCII case (RFC 4343) is an equivalence
 pub same_name_is_equivalence : IsEquivalence same_name
 same_name_is_equivalence = on_equiv from_right (eq_by_cmp_equiv lists_order)
 
@@ -45,30 +45,30 @@ same_lowercase a b h =
     let e : from_right a ≡ from_right b = slice_cmp-IsAntisymmetric (slice_cmp-IsAntisymmetric nat_cmp-IsAntisymmetric) (from_right a) (from_right b) (equal_of _ h) in
     sym (reverse-reverse (lowercase_labels a)) ∙ (ap reverse e ∙ reverse-reverse (lowercase_labels b))
 
--- what is fed is the wire format without case, octet by octet
+-- what is written to a hasher is the wire format ignoring case, octet by octet
 pub hash_input_is_wire : (ls : List (List ℕ)) → name_hash_input ls ≡ as_writes (wire (lowercase_labels ls))
 hash_input_is_wire [] = refl
 hash_input_is_wire (l ∷ ls) =
     ap (λ r. label_hash_input l ++ r) (hash_input_is_wire ls) ∙ sym (flat_map-append fed.u8 (length (lowercase l) ∷ lowercase l) (wire (lowercase_labels ls)))
 
--- names that are the same without case feed alike
+-- names that are the same ignoring case write the same to a hasher
 pub same_hash_input : (a b : List (List ℕ)) → IsTrue (same_name a b) → name_hash_input a ≡ name_hash_input b
 same_hash_input a b h = hash_input_is_wire a ∙ (ap (λ r. as_writes (wire r)) (same_lowercase a b h) ∙ sym (hash_input_is_wire b))
 
 -- ---- chains
 
--- what stands before the root of an absolute list, and of a relative one
+-- what comes before the root of an absolute list, and of a relative one
 no_labels : (ls : List (List ℕ)) → ls ≡ [] → before_root ls + 1 ≡ length (wire ([] ∷ ls))
 no_labels [] e = refl
 no_labels (l ∷ ls) e = absurd (omega (arith, ap length e))
 
--- an absolute name has one octet more than stands before its root
+-- an absolute name has one octet more than comes before its root
 pub before_absolute : (ls : List (List ℕ)) → IsAbsolute ls → before_root ls + 1 ≡ length (wire ls)
 before_absolute [] a = absurd a
 before_absolute ([] ∷ ls) a = no_labels ls a
 before_absolute ((x ∷ xs) ∷ ls) a = omega (arith, before_absolute ls a.1, length-append xs (wire ls), length-append xs (wire (but_root ls)))
 
--- all octets of a relative name stand before a root
+-- all octets of a relative name come before a root
 pub before_relative : (ls : List (List ℕ)) → IsRelative ls → before_root ls ≡ length (wire ls)
 before_relative [] r = refl
 before_relative ([] ∷ ls) r = absurd r

@@ -9,12 +9,12 @@ use Rattle.domain_label.specs.Labels.{label_octets}
 use Rattle.domain_label.specs.declared.label.Label.{Label}
 use Rattle.domain_label.specs.Wire.{wire}
 
--- the labels from the right, without case
+-- the labels from the right, ignoring case
 abbrev pub from_right : List (List ℕ) → List (List ℕ)
 from_right ls = reverse (lowercase_labels ls)
 
--- Labels are compared from the right, as lists of octets without case; a list that begins another
--- is less (RFC 4034, 6.1).
+-- Labels are compared from the right, as lists of octets ignoring case; a list that begins another is less (RFC 4034,
+-- 6.1).
 abbrev pub canonical_order : List (List ℕ) → List (List ℕ) → Ordering
 canonical_order = on from_right (slice_cmp (slice_cmp nat_cmp))
 
@@ -29,10 +29,10 @@ last_order (Some x) (Some y) = cmp_ignoring_case (label_octets x) (label_octets 
 abbrev pub composed_order : List (List ℕ) → List (List ℕ) → Ordering
 composed_order = on wire (slice_cmp nat_cmp)
 
--- The order of the octets on the wire without case.
+-- The order of the octets on the wire ignoring case.
 abbrev pub lowercase_composed_order : List (List ℕ) → List (List ℕ) → Ordering
 lowercase_composed_order = on lowercase_labels composed_order
 
--- The names that the order does not tell apart: those whose labels are the same without case.
+-- The names that the order finds equal: those whose labels are the same ignoring case.
 abbrev pub same_name : List (List ℕ) → List (List ℕ) → Bool
 same_name = on from_right (eq_by_cmp (slice_cmp (slice_cmp nat_cmp)))

@@ -15,7 +15,7 @@ use std::error::Error;
 use std::fmt;
 use std::marker::PhantomData;
 
-/// More than 254 octets stand before any root label of a chain.
+/// More than 254 octets come before any root label of a chain.
 #[derive(Clone, Copy, Debug, PartialEq, Eq)]
 pub struct LongChainError;
 
@@ -31,12 +31,12 @@ impl Error for LongChainError {}
 
 /// A relative name and then another name: one name, whose labels are those of both in turn.
 ///
-/// It is for a name that needs no octets of its own, as that of a host before the name of its zone, which
-/// is asked, compared or composed and then let go. It is absolute where the right name is, and relative
-/// where the right name is.
+/// It is for a name that needs no octets of its own, as that of a host before the name of its zone, which is looked
+/// up, compared or composed and then dropped. It is absolute where the right name is, and relative where the right
+/// name is.
 ///
-/// It is made by `chain` and `chain_root` of relative names, or by `new`. It keeps both names, which may
-/// be references; `unwrap` gives them back.
+/// It is made by `chain` and `chain_root` of relative names, or by `new`. It keeps both names, which may be
+/// references; `unwrap` returns them.
 pub struct Chain<L: NameLabels, R: NameLabels> {
     left: L,
     right: R,
@@ -60,8 +60,8 @@ impl<L: NameLabels + Drop, R: NameLabels + Drop> Chain<L, R> {
 
     /// The chain of a relative name and another name.
     ///
-    /// `LongChainError` where more than 254 octets stand before any root label. That `left` is
-    /// relative can be tested by `is_absolute`.
+    /// `LongChainError` where more than 254 octets come before any root label. That `left` is relative can be tested
+    /// by `is_absolute`.
     pub fn new(left: L, right: R) -> Result<Chain<L, R>, LongChainError>
         requires { IsRelative (L.labels left) }
         ensures parts { IfOk result (λ c. (left_part c ≡ left) × (right_part c ≡ right)) }

@@ -1,5 +1,5 @@
-//! Comparing names. The calls of names stand on these functions; each is the one body for absolute and
-//! relative names of every kind. Where both names lie in one piece, their octets are compared as they lie.
+//! Comparing names. The methods of names call these functions; each is the one body for absolute and relative names
+//! of every kind. Where both names are in contiguous octets, these are compared directly.
 ghost use Rattle.std.specs.Prelude.{◌≡◌, ◌≢◌, ◌<◌, ◌∷◌, IsTrue, ◌↔◌, length, MatchBool};
 ghost use Rattle.domain_label.specs.Lowercase.{lowercase, lowercase_labels};
 ghost use Rattle.domain_label.specs.Labels.{label_octets};
@@ -14,7 +14,7 @@ use domain_label::order::order_ignoring_case;
 use domain_label::same::same_octets;
 use std::cmp::Ordering;
 
-/// Whether the labels that are left are the same without ASCII case (RFC 4343).
+/// Whether the labels that are left are the same ignoring ASCII case (RFC 4343).
 pub(crate) fn eq_labels<'a, A: LabelIterator<'a>, B: LabelIterator<'a>>(a: A, b: B) -> bool
     ensures { IsTrue result ↔ (lowercase_labels (A.left a) ≡ lowercase_labels (B.left b)) }
 {
@@ -33,10 +33,10 @@ pub(crate) fn eq_labels<'a, A: LabelIterator<'a>, B: LabelIterator<'a>>(a: A, b:
     }
 }
 
-/// Whether the labels that are left, of `len` octets on the wire, have this wire format without ASCII case.
+/// Whether the labels that are left, of `len` octets on the wire, have this wire format ignoring ASCII case.
 ///
-/// Each label is looked for at the front of what is left of the octets, so that no second iterator reads their
-/// length octets, and a label of another length is told by one comparison.
+/// Each label is compared with the first one of the remaining octets, so that no second iterator reads their length
+/// octets, and a label of another length is found by one comparison.
 #[inline(always)]
 fn eq_flat<'a, I: LabelIterator<'a>>(labels: I, len: u16, flat: &[u8]) -> bool
     requires sized { len ≡ length (wire (I.left labels)) }
@@ -61,7 +61,7 @@ fn eq_flat<'a, I: LabelIterator<'a>>(labels: I, len: u16, flat: &[u8]) -> bool
     true
 }
 
-/// Whether the labels of two names are the same without ASCII case (RFC 4343).
+/// Whether the labels of two names are the same ignoring ASCII case (RFC 4343).
 pub fn eq_names<'a, A: ToLabelIter<'a>, B: ToLabelIter<'a>>(a: &'a A, b: &'a B) -> bool
     ensures { IsTrue result ↔ (lowercase_labels (A.labels a.now) ≡ lowercase_labels (B.labels b.now)) }
 {
@@ -112,10 +112,9 @@ fn differ(x: &Label<'_>, y: &Label<'_>) -> bool
 
 /// The order of the labels that are left, from the last ones on (RFC 4034, 6.1).
 ///
-/// `a_len` and `b_len` are how many octets they have on the wire. Both are gone over once at most, from
-/// the front: what both end with has as many octets, so labels are compared only where as many are left
-/// of both, and the last labels before the common end decide. `alike` octets at the end are known to be
-/// alike; they aren't looked at.
+/// `a_len` and `b_len` are how many octets they have on the wire. Both are iterated over once at most, from the left:
+/// what both end with has as many octets, so labels are compared only where as many octets remain of both, and the
+/// last labels before the common end decide. The last `alike` octets are known to be the same; they aren't looked at.
 fn order_labels<'a, A: LabelIterator<'a>, B: LabelIterator<'a>>(
     a: A,
     a_len: u16,
@@ -157,8 +156,8 @@ fn order_labels<'a, A: LabelIterator<'a>, B: LabelIterator<'a>>(
     order_of_last(x, y)
 }
 
-/// The order of two names of any kinds, from the last labels on (RFC 4034, 6.1). Where both lie in one
-/// piece, the octets that they end with alike are passed over first.
+/// The order of two names of any kinds, from the last labels on (RFC 4034, 6.1). Where both are in contiguous octets,
+/// the octets at their ends that are the same are skipped first.
 pub fn order_names<'a, A: ToLabelIter<'a>, B: ToLabelIter<'a>>(a: &'a A, b: &'a B) -> Ordering
     ensures { result ≡ canonical_order (A.labels a.now) (B.labels b.now) }
 {
@@ -207,7 +206,7 @@ pub fn composed_order_names<'a, A: ToLabelIter<'a>, B: ToLabelIter<'a>>(
     }
 }
 
-/// The order of the wire octets of the labels that are left, without ASCII case.
+/// The order of the wire octets of the labels that are left, ignoring ASCII case.
 #[tactic(auto, using(crate::proofs::Steps::composed_steps))]
 fn lowercase_composed_order_labels<'a, A: LabelIterator<'a>, B: LabelIterator<'a>>(
     a: A,
@@ -232,7 +231,7 @@ fn lowercase_composed_order_labels<'a, A: LabelIterator<'a>, B: LabelIterator<'a
     }
 }
 
-/// The order of the wire octets of two names, without ASCII case.
+/// The order of the wire octets of two names, ignoring ASCII case.
 pub fn lowercase_composed_order_names<'a, A: ToLabelIter<'a>, B: ToLabelIter<'a>>(
     a: &'a A,
     b: &'a B,

@@ -36,8 +36,8 @@ pub fn compose_labels<'a, I: LabelIterator<'a>, Target: OctetsBuilder>(
     Ok(())
 }
 
-/// Puts the wire format of the labels that are left at the beginning of a buffer, and tells how many octets
-/// it has.
+/// Puts the wire format of the labels that are left at the beginning of a buffer, and returns how many
+/// octets it has.
 #[inline(always)]
 fn put_labels<'a, I: LabelIterator<'a>>(labels: I, octets: &mut [u8; 255]) -> usize
     requires { length (wire (I.left labels)) ≤ 255 }
@@ -52,7 +52,7 @@ fn put_labels<'a, I: LabelIterator<'a>>(labels: I, octets: &mut [u8; 255]) -> us
     len
 }
 
-/// Puts the wire format of a label behind so many octets of a buffer, and tells how many there are then.
+/// Puts the wire format of a label after so many octets of a buffer, and returns how many there are then.
 #[inline(always)]
 fn put_label(label: Label, octets: &mut [u8; 255], len: usize) -> usize
     requires { len + length (wire_label (label_octets label)) ≤ 255 }
@@ -66,7 +66,7 @@ fn put_label(label: Label, octets: &mut [u8; 255], len: usize) -> usize
 }
 
 /// Puts the wire format of a name of any kind at the beginning of a buffer, which has room for each name,
-/// and tells how many octets it has.
+/// and returns how many octets it has.
 #[inline(always)]
 pub fn put_name<'a, N: ToLabelIter<'a>>(name: &'a N, octets: &mut [u8; 255]) -> usize
     ensures size { result ≡ length (wire (N.labels name.now)) }
@@ -80,7 +80,7 @@ pub fn put_name<'a, N: ToLabelIter<'a>>(name: &'a N, octets: &mut [u8; 255]) -> 
     put_labels(name.iter_labels(), octets)
 }
 
-/// Puts octets at the beginning of a buffer, A to Z as a to z, and tells how many there are.
+/// Puts octets at the beginning of a buffer, A to Z as a to z, and returns how many there are.
 #[inline(always)]
 fn put_lowercase(flat: &[u8], octets: &mut [u8; 255]) -> usize
     requires { length flat.now ≤ 255 }
@@ -93,8 +93,8 @@ fn put_lowercase(flat: &[u8], octets: &mut [u8; 255]) -> usize
     flat.len()
 }
 
-/// Puts the wire format of a name of any kind at the beginning of a buffer, A to Z as a to z, and tells how
-/// many octets it has.
+/// Puts the wire format of a name of any kind at the beginning of a buffer, A to Z as a to z, and returns
+/// how many octets it has.
 #[inline(always)]
 fn put_lowercase_name<'a, N: ToLabelIter<'a>>(name: &'a N, octets: &mut [u8; 255]) -> usize
     ensures wire { take result octets.new ≡ wire (lowercase_labels (N.labels name.now)) }
@@ -132,7 +132,7 @@ pub fn compose_name<'a, N: ToLabelIter<'a>, Target: OctetsBuilder>(
     target.append_slice(&octets[..len])
 }
 
-/// Appends the wire format of a name of any kind without ASCII case (RFC 4034, 6.2) at once, or nothing.
+/// Appends the wire format of a name of any kind in lower case (RFC 4034, 6.2) at once, or nothing.
 ///
 /// The target's error where the octets don't fit, or where there was no memory for them; the target
 /// is then as before. Where they fit its spare capacity, there is none.

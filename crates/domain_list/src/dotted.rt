@@ -11,7 +11,7 @@ use domain_label::Label;
 use domain_label::presentation::{ascii_text, push_label};
 use std::fmt;
 
-/// Appends a label with a dot behind it, and the root label as nothing.
+/// Appends a label with a dot after it, and the root label as nothing.
 fn push_with_dot(label: Label, text: &mut ArrayVec<u8, 1020>)
     requires room { length text.old.items + 4 * length (label_octets label) + 1 ≤ 1020 }
     requires ascii { IsAscii text.old.items }
@@ -26,7 +26,7 @@ fn push_with_dot(label: Label, text: &mut ArrayVec<u8, 1020>)
     text.push(b'.');
 }
 
-/// Appends the labels that are left with a dot behind each, and the root alone as a dot (RFC 1035, 5.1), to a buffer
+/// Appends the labels that are left with a dot after each, and the root alone as a dot (RFC 1035, 5.1), to a buffer
 /// that is empty and has room for each name.
 pub fn push_dotted<'a, I: LabelIterator<'a>>(labels: I, text: &mut ArrayVec<u8, 1020>)
     requires fits { length (wire (I.left labels)) ≤ 255 }
@@ -43,7 +43,7 @@ pub fn push_dotted<'a, I: LabelIterator<'a>>(labels: I, text: &mut ArrayVec<u8, 
     }
 }
 
-/// Shows a name with a dot behind each label, and the root as a dot (RFC 1035, 5.1).
+/// Shows a name with a dot after each label, and the root as a dot (RFC 1035, 5.1).
 #[derive(Clone, Copy)]
 pub struct DisplayWithDot<'a, N> {
     name: &'a N,

@@ -8,7 +8,7 @@ use crate::comparing::{eq_labels, next_label};
 use crate::labels::{LabelIterator, ToLabelIter};
 use domain_label::same::same_octets;
 
-/// Whether the labels that `a` has left begin with those of `b`, without ASCII case.
+/// Whether the labels that `a` has left begin with those of `b`, ignoring ASCII case.
 pub fn begins_with<'a, A: LabelIterator<'a>, B: LabelIterator<'a>>(a: A, b: B) -> bool
     ensures { IsTrue result ↔ StartsWith (A.left a) (B.left b) }
 {
@@ -27,8 +27,8 @@ pub fn begins_with<'a, A: LabelIterator<'a>, B: LabelIterator<'a>>(a: A, b: B) -
     }
 }
 
-/// Whether the last labels of `a`, which are those that `rest` has left and have as many octets as `b`
-/// has, are those of `b` without ASCII case.
+/// Whether the last labels of `a`, which are those that `rest` has left and have as many octets as `b` has, are those
+/// of `b` ignoring ASCII case.
 fn is_end<'a, A: ToLabelIter<'a>, B: ToLabelIter<'a>>(
     a: &'a A,
     rest: A::LabelIter,
@@ -44,9 +44,9 @@ fn is_end<'a, A: ToLabelIter<'a>, B: ToLabelIter<'a>>(
     }
 }
 
-/// Whether the name `a` ends with the labels of `b`, without ASCII case.
+/// Whether the name `a` ends with the labels of `b`, ignoring ASCII case.
 ///
-/// Labels of `a` are passed over until no more octets are left than `b` has.
+/// Labels of `a` are skipped until no more octets are left than `b` has.
 pub fn ends_with_labels<'a, A: ToLabelIter<'a>, B: ToLabelIter<'a>>(a: &'a A, b: &'a B) -> bool
     ensures { IsTrue result ↔ EndsWith (A.labels a.now) (B.labels b.now) }
 {

@@ -1,16 +1,16 @@
-//! How many octets two wire formats end with alike, found without going over their labels.
+//! How many octets at the ends of two wire formats are the same, found without iterating over their labels.
 ghost use Rattle.std.specs.Prelude.{◌≡◌, MatchBool, ⊤};
 ghost use Rattle.std.specs.Char.{to_ascii_lowercase};
 ghost use Rattle.domain_list.specs.EqualSuffixes.{OctetSuffixesEqual, KnownSuffixesEqual};
 
-/// Whether two octets are the same without ASCII case.
+/// Whether two octets are the same ignoring ASCII case.
 fn same_octet(x: u8, y: u8) -> bool
     ensures { MatchBool result (to_ascii_lowercase x ≡ to_ascii_lowercase y) ⊤ }
 {
     x == y || x.to_ascii_lowercase() == y.to_ascii_lowercase()
 }
 
-/// How many of the last octets of two wire formats are the same without ASCII case.
+/// How many of the last octets of two wire formats are the same ignoring ASCII case.
 fn equal_suffix_len(a: &[u8], b: &[u8]) -> usize
     ensures { OctetSuffixesEqual a.now b.now result }
 {
@@ -28,7 +28,7 @@ fn equal_suffix_len(a: &[u8], b: &[u8]) -> usize
     alike
 }
 
-/// The same of two names, where both lie in one piece.
+/// The same of two names, where both are in contiguous octets.
 pub(crate) fn known_equal_suffix_len(a: Option<&[u8]>, b: Option<&[u8]>) -> usize
     ensures { KnownSuffixesEqual a.entry b.entry result }
 {

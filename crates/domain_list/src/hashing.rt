@@ -1,4 +1,4 @@
-//! What names feed a hasher.
+//! What names write to a hasher.
 ghost use Rattle.std.specs.Prelude.{◌≡◌, fold};
 ghost use Rattle.domain_label.specs.Lowercase.{lowercase, lowercase_labels, as_writes};
 ghost use Rattle.domain_label.specs.Wire.{wire};
@@ -7,8 +7,8 @@ ghost use Rattle.domain_list.specs.HashInput.{name_hash_input};
 use crate::labels::{LabelIterator, ToLabelIter};
 use std::hash::{Hash, Hasher};
 
-/// Feeds the labels that are left: for each its length and then its octets without ASCII case, each
-/// as one `u8`. These are the octets of the lowered wire format.
+/// Writes to the hasher the labels that are left: for each its length and then its octets in lower case, each as one
+/// `u8`. These are the octets of the wire format in lower case.
 fn hash_labels<'a, I: LabelIterator<'a>, H: Hasher>(labels: I, state: &mut H)
     ensures { state.new ≡ fold H.write state.old (name_hash_input (I.left labels)) }
 {
@@ -18,7 +18,7 @@ fn hash_labels<'a, I: LabelIterator<'a>, H: Hasher>(labels: I, state: &mut H)
     }
 }
 
-/// Feeds octets without ASCII case, each as one `u8`.
+/// Writes octets in lower case to the hasher, each as one `u8`.
 fn hash_octets<H: Hasher>(octets: &[u8], state: &mut H)
     ensures { state.new ≡ fold H.write state.old (as_writes (lowercase octets.now)) }
 {
@@ -27,8 +27,8 @@ fn hash_octets<H: Hasher>(octets: &[u8], state: &mut H)
     }
 }
 
-/// Feeds the labels of a name of any kind: for each its length and then its octets without ASCII case,
-/// each as one `u8`. These are the octets of the lowered wire format.
+/// Writes to the hasher the labels of a name of any kind: for each its length and then its octets in lower case, each
+/// as one `u8`. These are the octets of the wire format in lower case.
 pub fn hash_name<'a, N: ToLabelIter<'a>, H: Hasher>(name: &'a N, state: &mut H)
     ensures fed { state.new ≡ fold H.write state.old (name_hash_input (N.labels name.now)) }
     ensures wire { name_hash_input (N.labels name.now) ≡ as_writes (wire (lowercase_labels (N.labels name.now))) }

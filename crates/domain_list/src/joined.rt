@@ -13,11 +13,11 @@ use domain_label::presentation::{ascii_text, push_label};
 use std::fmt;
 use std::marker::PhantomData;
 
-/// How many characters are put together before they are written. It is more than those of one label and a
-/// dot; and no more than a name mostly has, since the room is cleared before it is filled.
+/// How many characters are collected before they are written. It is more than those of one label and a dot; and no
+/// more than a name mostly has, since the buffer is cleared before it is filled.
 const ROOM: usize = 320;
 
-/// Writes what the buffer has and empties it, where so many more characters don't fit behind it.
+/// Writes what the buffer has and empties it, where so many more characters don't fit after it.
 #[inline(always)]
 fn make_room<W: fmt::Write>(
     needed: usize,

@@ -12,13 +12,13 @@ use domain_label::Label;
 
 /// An iterator over the labels of a name.
 ///
-/// `next` and `next_back` may be mixed at will: no label comes twice and none is left out. Behind the
-/// last one it stays at `None`.
+/// `next` and `next_back` may be mixed at will: no label comes twice and none is skipped. After the last one it stays
+/// at `None`.
 pub trait LabelIterator<'a>: Iterator<Item = Label<'a>> + DoubleEndedIterator + Copy {
     /// The labels that are left.
     ghost left: { Self → List (List ℕ) };
 
-    /// Both ends may be asked at any time.
+    /// `next` and `next_back` may be called at any time.
     ghost ready: { (s : Self) → Self.can_next s };
 
     ghost ready_back: { (s : Self) → Self.can_next_back s };
@@ -59,32 +59,32 @@ pub trait Relative: NameLabels {
     ghost relative: { (n : Self) → IsRelativeName (Self.labels n) };
 }
 
-/// A name whose labels can be gone over.
+/// A name whose labels can be iterated over.
 pub trait ToLabelIter<'a>: NameLabels {
-    /// What goes over them.
+    /// What iterates over them.
     type LabelIter: LabelIterator<'a>;
 
     /// The labels, from either end.
     fn iter_labels(&'a self) -> Self::LabelIter
         ensures { Self.LabelIter.left result ≡ Self.labels self.now };
 
-    /// The names whose wire format can be lent in one piece.
+    /// The names whose wire format can be borrowed in contiguous octets.
     ghost lies_flat: { Self → Type 0 };
 
-    /// The wire format of the name, where it lies in one piece.
+    /// The wire format of the name, where it is in contiguous octets.
     fn as_flat_slice(&'a self) -> Option<&'a [u8]>
         ensures wire { IfSome result (λ s. s.now ≡ wire (Self.labels self.now)) }
         ensures given { IsSome result ↔ lies_flat self.now };
 
-    /// Whether the name begins with the labels of `other`, a name of any kind, without ASCII case.
+    /// Whether the name begins with the labels of `other`, a name of any kind, ignoring ASCII case.
     final fn starts_with<N: ToLabelIter<'a>>(&'a self, other: &'a N) -> bool
         ensures { IsTrue result ↔ StartsWith (Self.labels self.now) (N.labels other.now) }
     {
         begins_with(self.iter_labels(), other.iter_labels())
     }
 
-    /// Whether the name ends with the labels of `other`, a name of any kind, without ASCII case. No
-    /// relative name ends with an absolute one.
+    /// Whether the name ends with the labels of `other`, a name of any kind, ignoring ASCII case. No relative name
+    /// ends with an absolute one.
     ///
     /// In `crates/examples/src/comparing.rt`, where it is proved:
     ///
@@ -105,8 +105,8 @@ pub trait ToLabelIter<'a>: NameLabels {
     }
 }
 
-/// An absolute name whose labels can be gone over.
+/// An absolute name whose labels can be iterated over.
 pub trait AbsoluteLabels<'a>: ToLabelIter<'a> + Absolute {}
 
-/// A relative name whose labels can be gone over.
+/// A relative name whose labels can be iterated over.
 pub trait RelativeLabels<'a>: ToLabelIter<'a> + Relative {}

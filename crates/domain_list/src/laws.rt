@@ -3,9 +3,9 @@ ghost use Rattle.std.specs.Cmp.{IsTotalOrder};
 ghost use Rattle.domain_list.specs.Ancestors.{TellsApart, DescendantsAreAdjacent, ParentIsFirst};
 ghost use Rattle.domain_list.specs.Order.{canonical_order};
 
-/// The order of names is total, and `Equal` exactly where names are the same without ASCII case.
+/// The order of names is total, and `Equal` exactly where names are the same ignoring ASCII case.
 ///
-/// In a zone all names that end with its apex stand together, and the ancestor is the first of them.
+/// In a zone all names that end with its apex are adjacent, and the apex is the first of them.
 pub fn order_laws()
     ensures total { IsTotalOrder canonical_order }
     ensures apart { TellsApart }

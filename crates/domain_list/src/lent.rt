@@ -1,4 +1,4 @@
-//! A name that is lent is a name.
+//! A reference to a name is a name.
 ghost use Rattle.std.specs.Prelude.{◌≡◌};
 
 use crate::labels::{Absolute, AbsoluteLabels, NameLabels, Relative, RelativeLabels, ToLabelIter};
@@ -25,7 +25,7 @@ impl<N: Relative> Relative for &N {
     ghost relative = { λ n. N.relative n.now };
 }
 
-/// The labels are those of the lent name; a flat slice is not passed on.
+/// The labels are those of the borrowed name; `as_flat_slice` is always `None`.
 impl<'a, 'b, N: ToLabelIter<'a>> ToLabelIter<'a> for &'b N {
     type LabelIter = N::LabelIter;
 

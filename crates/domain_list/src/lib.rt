@@ -1,4 +1,4 @@
-//! What all names have: a list of labels, whatever lies in memory.
+//! What all names have: a list of labels, however they are stored.
 #![tactic(auto)]
 
 pub mod chain;

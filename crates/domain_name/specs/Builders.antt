@@ -1,4 +1,4 @@
--- What contracts see of builders of names.
+-- How contracts describe builders of names.
 use Rattle.domain_builder.specs.BuilderState.{BuilderState}
 use Rattle.domain_builder.specs.Inside.{Held}
 use Rattle.domain_name.specs.declared.builder.NameBuilder.{NameBuilder}

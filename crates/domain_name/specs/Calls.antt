@@ -18,11 +18,11 @@ use Rattle.domain_name.specs.Names.{relative_labels}
 abbrev pub Fits : ℕ → ℕ → Type 0
 Fits label whole = (label ≤ 63) × (whole ≤ 254)
 
--- They aren't, or they exceed the room.
+-- They aren't, or they exceed the capacity.
 abbrev pub Exceeds : ℕ → ℕ → ℕ → Type 0
 Exceeds room label whole = (63 < label) ⊎ ((254 < whole) ⊎ (room < whole))
 
--- What an accepted call makes.
+-- What a call that succeeds makes.
 abbrev pub Accepted : BuilderState → BuilderCall → BuilderState → Type 0
 Accepted b (Push c) new = (new ≡ pushed b (c ∷ [])) × Fits (length new.open_label) (size new)
 Accepted b (PushSymbol s) new = (symbol_fault b (symbol_in_name s) ≡ None) × (new ≡ after b (symbol_in_name s))
@@ -34,11 +34,11 @@ Accepted b (AppendHexDigitLabel n) new = (new ≡ labelled b (digit_glyph true (
 Accepted b (AppendName n) new = (new ≡ named b (relative_labels n)) × (size new ≤ 254)
 Accepted b (AppendChars s) new = (items : List (Result Symbol SymbolCharsError)) → Reads (chars s.now) items → Makes b (name_symbols items) new
 
--- All of them are too many octets, or exceed the room.
+-- All of them are too many octets, or exceed the capacity.
 abbrev pub IsTooMuch : ℕ → ℕ → Type 0
 IsTooMuch room whole = (254 < whole) ⊎ (room < whole)
 
--- Why a call is passed over. It changes nothing, but that symbols of a text that were taken stay.
+-- Why a call fails. It changes nothing, but that symbols of a text that were added are kept.
 abbrev pub PassedOver : ℕ → BuilderState → BuilderCall → BuilderState → Type 0
 PassedOver room b (Push c) new = (new ≡ b) × Exceeds room (length (pushed b (c ∷ [])).open_label) (size (pushed b (c ∷ [])))
 PassedOver room b (PushSymbol s) new = (new ≡ b) × (((f : TextFault) × (symbol_fault b (symbol_in_name s) ≡ Some f)) ⊎ ((symbol_fault b (symbol_in_name s) ≡ None) × (symbol_in_name s ≢ Dot) × (room < size (after b (symbol_in_name s)))))
@@ -50,25 +50,25 @@ PassedOver room b (AppendHexDigitLabel n) new = (new ≡ b) × IsTooMuch room (s
 PassedOver room b (AppendName n) new = (new ≡ b) × IsTooMuch room (size (named b (relative_labels n)))
 PassedOver room b (AppendChars s) new = (items : List (Result Symbol SymbolCharsError)) → Reads (chars s.now) items → ((f : TextFault) × StopsAt b (name_symbols items) new f) ⊎ LacksRoom room b (name_symbols items) new
 
--- A call is taken. No capacity is lost.
+-- A call succeeds. No capacity is lost.
 abbrev pub Takes : Held → BuilderCall → Held → Type 0
 Takes b call new = Accepted b.built call new.built × (b.capacity ≤ new.capacity)
 
--- A call is passed over. The room is that which it leaves, and may have grown.
+-- A call fails. The capacity is that which it leaves, and may have grown.
 abbrev pub PassesOver : Option ℕ → Held → BuilderCall → Held → Type 0
 PassesOver limit b call new = PassedOver (room limit new) b.built call new.built × (b.capacity ≤ new.capacity)
 
--- One call, accepted or not.
+-- One call, whether it succeeds or not.
 abbrev pub Applies : Option ℕ → Held → BuilderCall → Held → Bool → Type 0
 Applies limit b call new true = Takes b call new
 Applies limit b call new false = PassesOver limit b call new
 
--- Calls in turn, n of them accepted. Each goes on from what the one before it left, the capacity too.
+-- Calls in turn, n of which succeed. Each goes on from what the one before it left, the capacity too.
 abbrev pub AppliesAll : Option ℕ → Held → List BuilderCall → Held → ℕ → Type 0
 AppliesAll limit b [] new n = (new ≡ b) × (n ≡ 0)
 AppliesAll limit b (call ∷ calls) new n = (m : Held) × ((Takes b call m × ((k : ℕ) × (n ≡ k + 1) × AppliesAll limit m calls new k)) ⊎ (PassesOver limit b call m × AppliesAll limit m calls new n))
 
--- What calls in turn may make, and how many of them may be accepted.
+-- What calls in turn may make, and how many of them may succeed.
 abbrev pub MayEnd : Option ℕ → Held → List BuilderCall → BuilderState × ℕ → Type 0
 MayEnd limit b calls end = (capacity : ℕ) × AppliesAll limit b calls (record { built = end.0; capacity = capacity }) end.1
 

@@ -1,4 +1,4 @@
--- What contracts see of flat names.
+-- How contracts describe uncompressed names.
 use Rattle.std.specs.Prelude.{◌≡◌, ◌++◌, ℕ, List}
 use Rattle.octseq.specs.declared.octets.Octets.{Ghosts}
 use Rattle.domain_label.specs.Lowercase.{lowercase_labels}
@@ -30,11 +30,11 @@ name_holder n = n.octets
 abbrev pub relative_holder : {O : Type 0} {g : Ghosts O} → RelativeName O g → O
 relative_holder n = n.octets
 
--- a source of these octets may be refused
+-- making a value of these octets may fail
 abbrev pub MayRefuse : {S : Type 0} → (S → Type 0) → (S → List ℕ) → List ℕ → Type 0
 MayRefuse {S} refused octets_of octets = (source : S) × (octets_of source ≡ octets) × refused source
 
--- rest is what stands in ls before its last labels, which are those of base without case
+-- rest is what ls has before its last labels, which equal those of base ignoring case
 pub record IsStripped (ls base rest : List (List ℕ)) : Type 0 where
   pub suffix : List (List ℕ)
   pub parts : ls ≡ rest ++ suffix

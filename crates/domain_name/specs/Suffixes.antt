@@ -1,4 +1,4 @@
--- What contracts see of the suffixes of a name.
+-- How contracts describe the suffixes of a name.
 use Rattle.std.specs.Prelude.{ℕ, List, [], Option, Some, None}
 use Rattle.octseq.specs.declared.octets.Octets.{Ghosts}
 use Rattle.domain_flat.specs.Flat.{suffix_lists}

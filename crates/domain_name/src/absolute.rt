@@ -26,15 +26,15 @@ use octseq::{Octets, OctetsFrom, OctetsMut, Parser, SameOctets, ShortBuf, Trunca
 use std::alloc::{AllocError, Global};
 use std::ops::Range;
 
-/// An absolute name: labels and the root, at most 255 octets, in one piece of octets (RFC 1035, 3.1).
+/// An absolute name: labels and the root, at most 255 octets, in contiguous octets (RFC 1035, 3.1).
 ///
-/// It is for names that are kept: owners, zones, keys of maps. `Octs` says where its octets lie:
-/// `&[u8]` lends them, and the name is then Copy; `Vec<u8>` has them in memory of its own; an
-/// `ArrayVec<u8, 255>` has room for each name without any memory.
+/// It is for names that are kept: owners, zones, keys of maps. `Octs` is the type that holds its octets: with `&[u8]`
+/// they are borrowed, and the name is then Copy; with `Vec<u8>` they are allocated; an `ArrayVec<u8, 255>` has room
+/// for each name without an allocation.
 ///
-/// It is made of octets in wire format by `from_octets`, `from_slice` and `parse`, and of names of other
-/// kinds by `to_name` and `flatten_into`. Two are equal, ordered and hashed by their labels without ASCII
-/// case (RFC 4343; RFC 4034, 6.1).
+/// It is made of octets in wire format by `from_octets`, `from_slice` and `parse`, and of names of other kinds by
+/// `to_name` and `flatten_into`. Two are equal, ordered and hashed by their labels ignoring ASCII case (RFC 4343; RFC
+/// 4034, 6.1).
 pub struct Name<Octs: Octets> {
     octets: Octs,
     ghost absolute: { IsAbsoluteWire (Octs.octets octets) } by { IsAbsoluteWire_prop (Octs.octets octets) },
@@ -57,10 +57,10 @@ impl<Octs: Octets + Drop> Name<Octs> {
 
     /// The name whose wire format the octets are.
     ///
-    /// `LongName` where they are more than 255; else the first fault from the left: `CompressedName` at
-    /// a pointer, `BadLabel` at another head that begins no label, `ShortInput` where there are no
-    /// octets or they end inside a label, `RelativeName` where they end behind a label that isn't the
-    /// root, `TrailingData` where octets follow the root.
+    /// `LongName` where they are more than 255; else the first error from the left: `CompressedName` at a pointer,
+    /// `BadLabel` at another octet that begins no label, `ShortInput` where there are no octets or they end inside a
+    /// label, `RelativeName` where they end after a label that isn't the root, `TrailingData` where octets follow the
+    /// root.
     pub fn from_octets(octets: Octs) -> Result<Name<Octs>, NameError>
         ensures ok { IfOk result (λ name. name_octets name ≡ Octs.octets octets) }
         ensures holder { IfOk result (λ name. name_holder name ≡ octets) }
@@ -97,11 +97,11 @@ impl<'a> Name<&'a [u8]> {
         Name::from_octets(octets)
     }
 
-    /// Reads the name that stands at the parser's place, without pointers, up to its root.
+    /// Reads the uncompressed name at the parser's position, and moves the parser after its root.
     ///
-    /// The first fault from the left is told: `ShortInput`, or a form error "compressed domain name" at
-    /// a pointer, "invalid label type" at another head that begins no label. Behind the root, "long
-    /// domain name" where the name has more than 255 octets. A refused call leaves the parser.
+    /// The first error from the left is returned: `ShortInput`, or a form error "compressed domain name" at a
+    /// pointer, "invalid label type" at another octet that begins no label. After the root, "long domain name" where
+    /// the name has more than 255 octets. On an error the parser is unchanged.
     pub fn parse(parser: &mut Parser<'a>) -> Result<Name<&'a [u8]>, ParseError>
         ensures ok { IfOk result (λ name. NameAt (message parser.old) (position parser.old) (name_labels name) (position parser.new)) }
         ensures moves { IfOk result (λ name. MovesOver parser.old parser.new (length (name_octets name))) }
@@ -115,7 +115,7 @@ impl<'a> Name<&'a [u8]> {
         Ok(Name { octets })
     }
 
-    /// The first label, and the name of the labels behind it. `None` for the root.
+    /// The first label, and the name of the labels after it. `None` for the root.
     pub(crate) fn split_slice(self) -> Option<(Label<'a>, Name<&'a [u8]>)>
         ensures some { IfSome result (λ parts. name_labels self.entry ≡ label_octets parts.0 ∷ name_labels parts.1) }
         ensures none { IsNone result ↔ (name_labels self.entry ≡ Root) }
@@ -134,7 +134,7 @@ impl<'a> Name<&'a [u8]> {
     }
 }
 
-// It is what the tests of octets take as the most.
+// What the tests of octets take as the maximum.
 const _: () = prove!(Name::<&'static [u8]>::MAX_LEN == MAX_NAME_LEN);
 
 impl Name<&'static [u8]> {
@@ -178,7 +178,7 @@ impl<Octs: Octets> Name<Octs> {
         &self.octets
     }
 
-    /// What holds the octets, given away.
+    /// What holds the octets, moved out of the name.
     pub fn into_octets(self) -> Octs
         ensures { result ≡ name_holder self }
     {
@@ -186,7 +186,7 @@ impl<Octs: Octets> Name<Octs> {
         octets
     }
 
-    /// The same name over lent octets.
+    /// The same name over borrowed octets.
     pub fn for_ref(&self) -> Name<&Octs>
         ensures labels { name_labels result ≡ name_labels self.now }
         ensures holder { (name_holder result).now ≡ name_holder self.now }
@@ -248,7 +248,7 @@ impl<Octs: Octets> Name<Octs> {
         NameIter::new(self.octets.as_slice())
     }
 
-    /// The name itself, and then what is left of it behind its first labels, down to the root.
+    /// The name itself, the name without its first label, and so on to the root.
     pub fn iter_suffixes(&self) -> SuffixIter<'_>
         ensures { suffix_lists_left result ≡ suffix_lists (name_labels self.now) }
     {
@@ -277,15 +277,15 @@ impl<Octs: Octets> Name<Octs> {
         Label::root()
     }
 
-    /// Whether a label, the root label too, begins at this place of the wire format.
+    /// Whether a label, the root label too, begins at this offset of the wire format.
     pub fn is_label_start(&self, place: usize) -> bool
         ensures { IsTrue result ↔ IsLabelStart (name_labels self.now) place }
     {
         place < self.len() && is_label_end(self.octets.as_slice(), place)
     }
 
-    /// The labels from one place of the wire format to another, where `is_label_start` is true at both and
-    /// they are in order.
+    /// The labels from one offset of the wire format to another, where `is_label_start` is true at both and they are
+    /// in order.
     pub fn slice(&self, range: Range<usize>) -> RelativeName<&[u8]>
         requires start { IsLabelStart (name_labels self.now) range.start }
         requires end { IsLabelStart (name_labels self.now) range.end }
@@ -305,8 +305,7 @@ impl<Octs: Octets> Name<Octs> {
         self.slice(range)
     }
 
-    /// The labels before a place of the wire format and those from it on, where `is_label_start` is true
-    /// there.
+    /// The labels before an offset of the wire format and those from it on, where `is_label_start` is true there.
     pub fn split(&self, mid: usize) -> (RelativeName<&[u8]>, Name<&[u8]>)
         requires { IsLabelStart (name_labels self.now) mid }
         ensures parts { relative_labels result.0 ++ name_labels result.1 ≡ name_labels self.now }
@@ -316,7 +315,7 @@ impl<Octs: Octets> Name<Octs> {
         (RelativeName::from_wire(before), Name { octets: behind })
     }
 
-    /// The labels from a place of the wire format on, where `is_label_start` is true there.
+    /// The labels from an offset of the wire format on, where `is_label_start` is true there.
     pub fn slice_from(&self, begin: usize) -> Name<&[u8]>
         requires { IsLabelStart (name_labels self.now) begin }
         ensures { (before : List (List ℕ)) × SplitsAt (name_labels self.now) begin before (name_labels result) }
@@ -333,7 +332,7 @@ impl<Octs: Octets> Name<Octs> {
         self.slice_from(begin)
     }
 
-    /// The first label, and the name of the labels behind it. `None` for the root.
+    /// The first label, and the name of the labels after it. `None` for the root.
     pub fn split_first(&self) -> Option<(Label<'_>, Name<&[u8]>)>
         ensures some { IfSome result (λ parts. name_labels self.now ≡ label_octets parts.0 ∷ name_labels parts.1) }
         ensures none { IsNone result ↔ (name_labels self.now ≡ Root) }
@@ -341,7 +340,7 @@ impl<Octs: Octets> Name<Octs> {
         self.for_slice().split_slice()
     }
 
-    /// The name of the labels behind the first. `None` for the root.
+    /// The name of the labels after the first. `None` for the root.
     pub fn parent(&self) -> Option<Name<&[u8]>>
         ensures some { IfSome result (λ rest. (first : List ℕ) × (name_labels self.now ≡ first ∷ name_labels rest)) }
         ensures none { IsNone result ↔ (name_labels self.now ≡ Root) }
@@ -369,7 +368,7 @@ impl<Octs: Truncate> Name<Octs> {
         self.truncate(len)
     }
 
-    /// The labels before a place of the wire format, where `is_label_start` is true there.
+    /// The labels before an offset of the wire format, where `is_label_start` is true there.
     pub fn truncate(self, len: usize) -> RelativeName<Octs>
         requires { IsLabelStart (name_labels self) len }
         ensures parts { (behind : List (List ℕ)) × (name_labels self ≡ relative_labels result ++ behind) }
@@ -380,8 +379,8 @@ impl<Octs: Truncate> Name<Octs> {
         RelativeName::from_wire(octets)
     }
 
-    /// The labels before those of `base`, where the name ends with them without ASCII case. Else the
-    /// name itself is given back.
+    /// The labels before those of `base`, where the name ends with them ignoring ASCII case. Else the name itself is
+    /// returned.
     pub fn strip_suffix<'a, N: AbsoluteLabels<'a>>(
         self,
         base: &'a N,
@@ -428,7 +427,7 @@ impl<Octs: SameOctets<&'static [u8]>> Name<Octs> {
 
     /// The root.
     ///
-    /// `ShortBuf` only where the octets refuse to be made of one.
+    /// `ShortBuf` only where a value can't be made of this one octet.
     pub fn root(alloc: Global) -> Result<Name<Octs>, ShortBuf>
         ensures ok { IfOk result (λ name. name_labels name ≡ Root) }
         ensures err { OnErr result (MayRefuse Octs.may_refuse (λ source. source.now) (wire Root)) }
@@ -443,14 +442,14 @@ impl<Octs: SameOctets<&'static [u8]>> Name<Octs> {
 impl Name<Vec<u8>> {
     ghost use Rattle.domain_name.specs.Names.{name_labels};
 
-    /// The root. `ShortBuf` only where memory was refused.
+    /// The root. `ShortBuf` only where an allocation failed.
     pub fn root_vec(alloc: Global) -> Result<Name<Vec<u8>>, ShortBuf>
         ensures { IfOk result (λ name. name_labels name ≡ Root) }
     {
         Name::root(alloc)
     }
 
-    /// The same name over new octets. `ShortBuf` only where memory was refused.
+    /// The same name over new octets. `ShortBuf` only where an allocation failed.
     pub fn clone(&self, alloc: Global) -> Result<Name<Vec<u8>>, ShortBuf>
         ensures { IfOk result (λ name. name_labels name ≡ name_labels self.now) }
     {
@@ -461,7 +460,7 @@ impl Name<Vec<u8>> {
 impl<const N: usize> Name<ArrayVec<u8, N>> {
     ghost use Rattle.domain_name.specs.Names.{name_labels};
 
-    /// The same name over new octets, which is never refused.
+    /// The same name over new octets, which never fails.
     pub fn clone(&self, alloc: Global) -> Result<Name<ArrayVec<u8, N>>, ShortBuf>
         ensures ok { IfOk result (λ name. name_labels name ≡ name_labels self.now) }
         ensures made { IsOk result }

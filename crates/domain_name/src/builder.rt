@@ -27,20 +27,19 @@ use domain_list::{AbsoluteLabels, RelativeLabels};
 use octseq::{EmptyBuilder, FreezeBuilder, Octets, OctetsBuilder, OctetsMut, ShortBuf};
 use std::alloc::Global;
 
-/// A name that is being put together: labels that are finished, and maybe one that is still open and has
-/// octets already.
+/// A name that is being built: labels that are finished, and maybe one that is still open and has octets already.
 ///
-/// With the length octets it never has more than 254, so that the root can follow. What is refused changes
-/// nothing, not even whether a label is open; only `append_symbols` and `append_chars` keep the symbols in
-/// front of the one that was refused. `ShortBuf` is answered where the octets don't fit the builder beneath,
-/// or where memory was refused.
+/// With the length octets it never has more than 254, so that the root can follow. A call that fails changes nothing,
+/// not even whether a label is open; only `append_symbols` and `append_chars` keep the symbols before the one that
+/// couldn't be added. `ShortBuf` is returned where the octets don't fit the octets builder below it, or where an
+/// allocation failed.
 #[derive(Drop)]
 pub struct NameBuilder<B: OctetsBuilder + OctetsMut> {
     labels: LabelsBuilder<B>,
 }
 
 impl<B: EmptyBuilder + OctetsMut> NameBuilder<B> {
-    /// A builder of nothing, which takes no memory yet.
+    /// An empty builder, which allocates nothing yet.
     #[inline(always)]
     pub fn new(alloc: Global) -> Self
         ensures built { built result ≡ empty_state }
@@ -51,10 +50,10 @@ impl<B: EmptyBuilder + OctetsMut> NameBuilder<B> {
         }
     }
 
-    /// A builder of nothing that has room for so many octets.
+    /// An empty builder with a capacity of so many octets.
     ///
-    /// Under a fixed room any number is taken, and the room stays what it is. Else it is `ShortBuf` where
-    /// memory was refused.
+    /// Where the capacity is fixed any number is accepted, and the capacity stays what it is. Else it is `ShortBuf`
+    /// where an allocation failed.
     pub fn with_capacity(alloc: Global, capacity: usize) -> Result<Self, ShortBuf>
         ensures built { IfOk result (λ builder. built builder ≡ empty_state) }
         ensures room { IfSome B.ROOM (λ n. IfOk result (λ builder. (held builder).capacity ≡ n)) }
@@ -69,7 +68,7 @@ impl<B: EmptyBuilder + OctetsMut> NameBuilder<B> {
 }
 
 impl NameBuilder<Vec<u8>> {
-    /// A builder of nothing over a `Vec`, which takes no memory yet.
+    /// An empty builder over a `Vec`, which allocates nothing yet.
     #[inline(always)]
     pub fn new_vec(alloc: Global) -> Self
         ensures { built result ≡ empty_state }
@@ -77,8 +76,7 @@ impl NameBuilder<Vec<u8>> {
         NameBuilder::new(alloc)
     }
 
-    /// A builder of nothing over a `Vec` that has room for so many octets. `ShortBuf` only where memory was
-    /// refused.
+    /// An empty builder over a `Vec` with a capacity of so many octets. `ShortBuf` only where an allocation failed.
     pub fn vec_with_capacity(alloc: Global, capacity: usize) -> Result<Self, ShortBuf>
         ensures built { IfOk result (λ builder. built builder ≡ empty_state) }
         ensures none { capacity ≡ 0 → IsOk result }
@@ -87,7 +85,7 @@ impl NameBuilder<Vec<u8>> {
         NameBuilder::with_capacity(alloc, capacity)
     }
 
-    /// The same builder over new octets, an open label too. `ShortBuf` only where memory was refused.
+    /// The same builder over new octets, an open label too. `ShortBuf` only where an allocation failed.
     pub fn clone(&self, alloc: Global) -> Result<Self, ShortBuf>
         ensures { IfOk result (λ copy. built copy ≡ built self.now) }
     {
@@ -98,7 +96,7 @@ impl NameBuilder<Vec<u8>> {
 }
 
 impl<const N: usize> NameBuilder<ArrayVec<u8, N>> {
-    /// The same builder over new octets, an open label too, which is never refused.
+    /// The same builder over new octets, an open label too, which never fails.
     pub fn clone(&self, alloc: Global) -> Result<Self, ShortBuf>
         ensures built { IfOk result (λ copy. built copy ≡ built self.now) }
         ensures made { IsOk result }
@@ -112,7 +110,7 @@ impl<const N: usize> NameBuilder<ArrayVec<u8, N>> {
 impl<const N: usize> Default for NameBuilder<ArrayVec<u8, N>> {
     ghost is_default = { λ builder. built builder ≡ empty_state };
 
-    /// A builder of nothing.
+    /// An empty builder.
     fn default() -> Self {
         NameBuilder {
             labels: LabelsBuilder::new_array(),
@@ -133,9 +131,9 @@ impl<B: OctetsBuilder + OctetsMut> Octets for NameBuilder<B> {
 impl<B: OctetsBuilder + OctetsMut + Drop> NameBuilder<B> {
     /// A builder of the labels whose wire format the octets are, none of them open.
     ///
-    /// `LongName` where they are more than 254; else the first fault from the left: `CompressedName` at a
-    /// pointer, `BadLabel` at another head that begins no label, `ShortInput` where they end inside a label,
-    /// `AbsoluteName` at a root.
+    /// `LongName` where they are more than 254; else the first error from the left: `CompressedName` at a pointer,
+    /// `BadLabel` at another octet that begins no label, `ShortInput` where they end inside a label, `AbsoluteName`
+    /// at a root.
     pub fn from_builder(builder: B) -> Result<Self, RelativeNameError>
         ensures ok { IfOk result (λ made. built made ≡ finished (labels_in (B.octets builder))) }
         ensures capacity { IfOk result (λ made. (held made).capacity ≡ B.capacity builder) }
@@ -161,8 +159,8 @@ impl<B: OctetsBuilder + OctetsMut> NameBuilder<B> {
         }
     }
 
-    /// The octets: the wire format of the finished labels, and behind it a 0 and the octets of the open label,
-    /// if any. They are never more than a fixed room of the builder beneath.
+    /// The octets: the wire format of the finished labels, and after it a 0 and the octets of the open label, if any.
+    /// They are never more than a fixed capacity of the octets builder below it.
     pub fn as_slice(&self) -> &[u8]
         ensures octets { result.now ≡ encoded (built self.now) }
         ensures short { length result.now ≤ 254 }
@@ -171,8 +169,8 @@ impl<B: OctetsBuilder + OctetsMut> NameBuilder<B> {
         self.labels.as_slice()
     }
 
-    /// How many octets there are, with all length octets: at most 254, and never more than a fixed room of the
-    /// builder beneath.
+    /// How many octets there are, with all length octets: at most 254, and never more than a fixed capacity of the
+    /// octets builder below it.
     #[inline(always)]
     pub fn len(&self) -> usize
         ensures size { result ≡ size (built self.now) }
@@ -226,7 +224,7 @@ impl<B: OctetsBuilder + OctetsMut> NameBuilder<B> {
         self.labels.append_slice(slice)
     }
 
-    /// Finishes the open label, if any. It can't be refused: the length octet has its place already.
+    /// Finishes the open label, if any. It can't fail: the octet for its length was appended when it was opened.
     #[inline(always)]
     pub fn end_label(&mut self)
         ensures ended { built self.new ≡ ended (built self.old) }
@@ -290,7 +288,7 @@ impl<B: OctetsBuilder + OctetsMut> NameBuilder<B> {
         self.labels.append_name(name)
     }
 
-    /// The same of a flat name.
+    /// The same of an uncompressed name.
     pub(crate) fn append_flat(&mut self, name: RelativeName<&[u8]>) -> Result<(), PushNameError>
         ensures made { OnOk result (built self.new ≡ named (built self.old) (relative_labels name.entry)) }
         ensures unchanged { OnErr result (built self.new ≡ built self.old) }
@@ -303,9 +301,8 @@ impl<B: OctetsBuilder + OctetsMut> NameBuilder<B> {
     /// Adds what a symbol of a text stands for (RFC 1035, 5.1): a plain dot ends the open label, and any other
     /// symbol is pushed as its octet.
     ///
-    /// `EmptyLabel` at a dot where no label is open, and a dot elsewhere is never refused; `BinaryLabel` at
-    /// `\[` where none is open; `BadSymbol` at a character that stands for no octet; else the refusals of
-    /// `push`.
+    /// `EmptyLabel` at a dot where no label is open, and a dot elsewhere never fails; `BinaryLabel` at `\[` where
+    /// none is open; `BadSymbol` at a character that stands for no octet; else the errors of `push`.
     pub fn push_symbol(&mut self, symbol: Symbol) -> Result<(), FromStrError>
         ensures takes { TakesSymbol (room B.limit (held self.new)) (built self.old) (symbol_in_name symbol) result (built self.new) }
         ensures grows { (held self.old).capacity ≤ (held self.new).capacity }
@@ -315,7 +312,7 @@ impl<B: OctetsBuilder + OctetsMut> NameBuilder<B> {
 
     /// Pushes symbols in turn. They continue an open label, and leave the last one open.
     ///
-    /// The error is that of the first symbol that is refused. What those before it made stays.
+    /// The error is that of the first symbol that can't be added. What those before it added is kept.
     pub fn append_symbols<I: Iterator<Item = Symbol> + Drop>(
         &mut self,
         symbols: I,
@@ -331,8 +328,8 @@ impl<B: OctetsBuilder + OctetsMut> NameBuilder<B> {
 
     /// Pushes the symbols of a text in turn. They continue an open label, and leave the last one open.
     ///
-    /// The error is that of the first symbol that is refused, or of a broken escape. What the symbols before
-    /// it made stays.
+    /// The error is that of the first symbol that can't be added, or of a broken escape. What the symbols before it
+    /// added is kept.
     pub fn append_chars<I: Iterator<Item = char> + Drop>(
         &mut self,
         chars: I,
@@ -360,7 +357,7 @@ impl<B: OctetsBuilder + OctetsMut + FreezeBuilder + Drop> NameBuilder<B>
 where
     B::Octets: Drop,
 {
-    /// Finishes the open label and gives the labels as a relative name. It can't be refused.
+    /// Finishes the open label and returns the labels as a relative name. It can't fail.
     #[inline(always)]
     pub fn finish(self) -> RelativeName<B::Octets>
         ensures { relative_labels result ≡ closed (built self) }
@@ -369,9 +366,9 @@ where
         RelativeName::from_wire(labels.finish())
     }
 
-    /// Finishes the open label and gives the labels and the root as an absolute name.
+    /// Finishes the open label and returns the labels and the root as an absolute name.
     ///
-    /// `ShortBuf` only where the root doesn't fit, or where memory was refused.
+    /// `ShortBuf` only where the root doesn't fit, or where an allocation failed.
     #[inline(always)]
     pub fn into_name(self) -> Result<Name<B::Octets>, PushError>
         ensures ok { IfOk result (λ name. name_labels name ≡ closed (built self) ++ Root) }
@@ -388,8 +385,8 @@ where
         Ok(Name::from_wire(builder.freeze()))
     }
 
-    /// Finishes the open label and gives the labels and behind them those of an absolute name of any kind,
-    /// which are appended at once.
+    /// Finishes the open label and returns the labels and after them those of an absolute name of any kind, which are
+    /// appended at once.
     ///
     /// `LongName` where all would be more than 255 octets; else `ShortBuf`.
     pub fn append_origin<'a, N: AbsoluteLabels<'a>>(

@@ -8,7 +8,7 @@ use crate::relative::RelativeName;
 use domain_label::scan::Symbol;
 use octseq::{OctetsBuilder, OctetsMut};
 
-/// A call of a [`NameBuilder`] that changes it and leaves it in hand, with the call's argument.
+/// A call of a [`NameBuilder`] that changes it and doesn't consume it, with the call's argument.
 #[derive(Clone, Copy)]
 pub enum BuilderCall<'a> {
     /// Adds an octet, by `push`.
@@ -32,7 +32,7 @@ pub enum BuilderCall<'a> {
 }
 
 impl<B: OctetsBuilder + OctetsMut> NameBuilder<B> {
-    /// Makes a call, and tells whether it was accepted.
+    /// Makes a call, and returns whether it succeeded.
     fn apply(&mut self, call: &BuilderCall) -> bool
         ensures { Applies B.limit (held self.old) call.now (held self.new) result }
     {
@@ -76,10 +76,10 @@ impl<B: OctetsBuilder + OctetsMut> NameBuilder<B> {
         }
     }
 
-    /// Makes each call in turn, passes over refused ones, and counts those that were accepted.
+    /// Makes each call in turn, ignores those that fail, and counts those that succeed.
     ///
-    /// A call that is passed over changes nothing, but for the symbols of a text before the first that was
-    /// refused: these stay. One that is passed over for want of room asks for more than the room that it leaves.
+    /// A call that fails changes nothing, but for the symbols of a text before the first that couldn't be added:
+    /// these are kept. One that fails for want of capacity asks for more than the capacity that it leaves.
     pub fn apply_all(&mut self, calls: &[BuilderCall]) -> usize
         ensures applied { AppliesAll B.limit (held self.old) calls.now (held self.new) result }
         ensures grows { (held self.old).capacity ≤ (held self.new).capacity }

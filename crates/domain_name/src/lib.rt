@@ -1,4 +1,4 @@
-//! Flat names: names whose wire format lies in one piece.
+//! Uncompressed names: names whose wire format is in contiguous octets.
 #![tactic(auto)]
 
 pub mod absolute;

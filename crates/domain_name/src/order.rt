@@ -1,4 +1,4 @@
-//! Equality, order and hash of absolute names, all without ASCII case.
+//! Equality, order and hash of absolute names, all ignoring ASCII case.
 ghost use Rattle.std.specs.Prelude.{refl};
 ghost use Rattle.std.proofs.Common.{rules};
 ghost use Rattle.std.specs.Cmp.{partial_order_from_agreeing_total, partial_equiv_from_equiv, on_equiv, on_total};
@@ -16,7 +16,7 @@ use octseq::Octets;
 use std::cmp::Ordering;
 use std::hash::{Hash, Hasher};
 
-/// Names are equal where their labels are, without ASCII case (RFC 4343).
+/// Names are equal where their labels are, ignoring ASCII case (RFC 4343).
 impl<Octs: Octets> PartialEq for Name<Octs> {
     ghost use Rattle.domain_name.specs.Names.{name_labels};
 
@@ -77,7 +77,7 @@ impl<Octs: Octets> CanonicalOrd for Name<Octs> {
     }
 }
 
-/// Feeds each label's length and its octets without ASCII case, so that equal names feed alike.
+/// Writes to the hasher each label's length and its octets in lower case, so that equal names write the same.
 impl<Octs: Octets> Hash for Name<Octs> {
     ghost use Rattle.domain_name.specs.Names.{name_labels};
 

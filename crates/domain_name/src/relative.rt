@@ -21,11 +21,10 @@ use octseq::{Octets, OctetsFrom, OctetsMut, SameOctets, ShortBuf, Truncate};
 use std::alloc::{AllocError, Global};
 use std::ops::Range;
 
-/// A relative name: labels without the root, at most 254 octets, in one piece of octets. It may have no
-/// label.
+/// A relative name: labels without the root, at most 254 octets, in contiguous octets. It may have no label.
 ///
-/// It is for the beginnings of names, as that of a host in its zone; it becomes whole by `chain` and
-/// `chain_root`. `Octs` says where its octets lie, as in a [`Name`](crate::Name).
+/// It is for the first labels of names, as those of a host in its zone; it becomes absolute by `chain` and
+/// `chain_root`. `Octs` is the type that holds its octets, as for a [`Name`](crate::Name).
 ///
 /// It is made of octets in wire format by `from_octets` and `from_slice`, of the parts of a `Name` by
 /// `split`, `slice`, `truncate` and `strip_suffix`, and of relative names of other kinds by
@@ -52,9 +51,9 @@ impl<Octs: Octets + Drop> RelativeName<Octs> {
 
     /// The name whose wire format the octets are.
     ///
-    /// `LongName` where they are more than 254; else the first fault from the left: `CompressedName` at
-    /// a pointer, `BadLabel` at another head that begins no label, `ShortInput` where they end inside a
-    /// label, `AbsoluteName` at a root.
+    /// `LongName` where they are more than 254; else the first error from the left: `CompressedName` at a pointer,
+    /// `BadLabel` at another octet that begins no label, `ShortInput` where they end inside a label, `AbsoluteName`
+    /// at a root.
     pub fn from_octets(octets: Octs) -> Result<RelativeName<Octs>, RelativeNameError>
         ensures ok { IfOk result (λ name. relative_octets name ≡ Octs.octets octets) }
         ensures holder { IfOk result (λ name. relative_holder name ≡ octets) }
@@ -68,7 +67,7 @@ impl<Octs: Octets + Drop> RelativeName<Octs> {
 
     /// The chain of this name and another, which is one name.
     ///
-    /// `LongChainError` where more than 254 octets stand before any root label.
+    /// `LongChainError` where more than 254 octets come before any root label.
     pub fn chain<N: NameLabels + Drop>(
         self,
         other: N,
@@ -104,7 +103,7 @@ impl<'a> RelativeName<&'a [u8]> {
         RelativeName::from_octets(octets)
     }
 
-    /// The first label, and the name of the labels behind it. `None` where there is no label.
+    /// The first label, and the name of the labels after it. `None` where there is no label.
     pub(crate) fn split_slice(self) -> Option<(Label<'a>, RelativeName<&'a [u8]>)>
         ensures some { IfSome result (λ parts. relative_labels self.entry ≡ label_octets parts.0 ∷ relative_labels parts.1) }
         ensures none { IsNone result ↔ (relative_labels self.entry ≡ []) }
@@ -171,7 +170,7 @@ impl<Octs: Octets> RelativeName<Octs> {
         &self.octets
     }
 
-    /// What holds the octets, given away.
+    /// What holds the octets, moved out of the name.
     pub fn into_octets(self) -> Octs
         ensures { result ≡ relative_holder self }
     {
@@ -179,7 +178,7 @@ impl<Octs: Octets> RelativeName<Octs> {
         octets
     }
 
-    /// The same name over lent octets.
+    /// The same name over borrowed octets.
     pub fn for_ref(&self) -> RelativeName<&Octs>
         ensures labels { relative_labels result ≡ relative_labels self.now }
         ensures holder { (relative_holder result).now ≡ relative_holder self.now }
@@ -258,15 +257,15 @@ impl<Octs: Octets> RelativeName<Octs> {
         self.iter().next_back()
     }
 
-    /// Whether a label begins at this place of the wire format, or the name ends there.
+    /// Whether a label begins at this offset of the wire format, or the name ends there.
     pub fn is_label_start(&self, place: usize) -> bool
         ensures { IsTrue result ↔ IsLabelEnd (relative_labels self.now) place }
     {
         is_label_end(self.octets.as_slice(), place)
     }
 
-    /// The labels from one place of the wire format to another, where `is_label_start` is true at both and
-    /// they are in order.
+    /// The labels from one offset of the wire format to another, where `is_label_start` is true at both and they are
+    /// in order.
     pub fn slice(&self, range: Range<usize>) -> RelativeName<&[u8]>
         requires start { IsLabelEnd (relative_labels self.now) range.start }
         requires end { IsLabelEnd (relative_labels self.now) range.end }
@@ -288,8 +287,7 @@ impl<Octs: Octets> RelativeName<Octs> {
         self.slice(range)
     }
 
-    /// The labels before a place of the wire format and those from it on, where `is_label_start` is true
-    /// there.
+    /// The labels before an offset of the wire format and those from it on, where `is_label_start` is true there.
     pub fn split(&self, mid: usize) -> (RelativeName<&[u8]>, RelativeName<&[u8]>)
         requires { IsLabelEnd (relative_labels self.now) mid }
         ensures parts { relative_labels result.0 ++ relative_labels result.1 ≡ relative_labels self.now }
@@ -306,7 +304,7 @@ impl<Octs: Octets> RelativeName<Octs> {
 impl<Octs: Octets> RelativeName<Octs> {
     ghost use Rattle.domain_name.specs.Names.{relative_labels};
 
-    /// The first label, and the name of the labels behind it. `None` where there is no label.
+    /// The first label, and the name of the labels after it. `None` where there is no label.
     pub fn split_first(&self) -> Option<(Label<'_>, RelativeName<&[u8]>)>
         ensures some { IfSome result (λ parts. relative_labels self.now ≡ label_octets parts.0 ∷ relative_labels parts.1) }
         ensures none { IsNone result ↔ (relative_labels self.now ≡ []) }
@@ -314,7 +312,7 @@ impl<Octs: Octets> RelativeName<Octs> {
         self.for_slice().split_slice()
     }
 
-    /// The name of the labels behind the first. `None` where there is no label.
+    /// The name of the labels after the first. `None` where there is no label.
     pub fn parent(&self) -> Option<RelativeName<&[u8]>>
         ensures some { IfSome result (λ rest. (first : List ℕ) × (relative_labels self.now ≡ first ∷ relative_labels rest)) }
         ensures none { IsNone result ↔ (relative_labels self.now ≡ []) }
@@ -327,7 +325,7 @@ impl<Octs: Octets> RelativeName<Octs> {
 impl<Octs: Truncate> RelativeName<Octs> {
     ghost use Rattle.domain_name.specs.Names.{relative_labels, IsStripped};
 
-    /// Keeps the labels before a place of the wire format where `is_label_start` is true.
+    /// Keeps the labels before an offset of the wire format where `is_label_start` is true.
     pub fn truncate(&mut self, len: usize)
         requires { IsLabelEnd (relative_labels self.old) len }
         ensures parts { (behind : List (List ℕ)) × (relative_labels self.old ≡ relative_labels self.new ++ behind) }
@@ -336,9 +334,9 @@ impl<Octs: Truncate> RelativeName<Octs> {
         self.octets.truncate(len);
     }
 
-    /// Leaves out the labels of `base`, where the name ends with them without ASCII case.
+    /// Removes the labels of `base`, where the name ends with them ignoring ASCII case.
     ///
-    /// `StripSuffixError` where it doesn't. The name is then as before.
+    /// `StripSuffixError` where it doesn't. The name is then unchanged.
     pub fn strip_suffix<'a, N: RelativeLabels<'a>>(
         &mut self,
         base: &'a N,
@@ -389,7 +387,7 @@ impl<Octs: SameOctets<&'static [u8]>> RelativeName<Octs> {
 
     /// The name without labels.
     ///
-    /// `ShortBuf` only where the octets refuse to be made of none.
+    /// `ShortBuf` only where a value can't be made of no octets.
     pub fn empty(alloc: Global) -> Result<RelativeName<Octs>, ShortBuf>
         ensures ok { IfOk result (λ name. relative_labels name ≡ []) }
         ensures err { OnErr result (MayRefuse Octs.may_refuse (λ source. source.now) (wire [])) }
@@ -402,7 +400,7 @@ impl<Octs: SameOctets<&'static [u8]>> RelativeName<Octs> {
 
     /// The name of one label, an asterisk (RFC 4592, 2.1.1).
     ///
-    /// `ShortBuf` only where the octets refuse to be made of two.
+    /// `ShortBuf` only where a value can't be made of these two octets.
     pub fn wildcard(alloc: Global) -> Result<RelativeName<Octs>, ShortBuf>
         ensures ok { IfOk result (λ name. relative_labels name ≡ (42 ∷ []) ∷ []) }
         ensures err { OnErr result (MayRefuse Octs.may_refuse (λ source. source.now) (wire ((42 ∷ []) ∷ []))) }
@@ -417,7 +415,7 @@ impl<Octs: SameOctets<&'static [u8]>> RelativeName<Octs> {
 impl RelativeName<Vec<u8>> {
     ghost use Rattle.domain_name.specs.Names.{relative_labels};
 
-    /// The name without labels, which takes no memory and is never refused.
+    /// The name without labels, which allocates nothing and never fails.
     pub fn empty_vec(alloc: Global) -> Result<RelativeName<Vec<u8>>, ShortBuf>
         ensures ok { IfOk result (λ name. relative_labels name ≡ []) }
         ensures made { IsOk result }
@@ -425,14 +423,14 @@ impl RelativeName<Vec<u8>> {
         RelativeName::empty(alloc)
     }
 
-    /// The name of one label, an asterisk. `ShortBuf` only where memory was refused.
+    /// The name of one label, an asterisk. `ShortBuf` only where an allocation failed.
     pub fn wildcard_vec(alloc: Global) -> Result<RelativeName<Vec<u8>>, ShortBuf>
         ensures { IfOk result (λ name. relative_labels name ≡ (42 ∷ []) ∷ []) }
     {
         RelativeName::wildcard(alloc)
     }
 
-    /// The same name over new octets. `ShortBuf` only where memory was refused.
+    /// The same name over new octets. `ShortBuf` only where an allocation failed.
     pub fn clone(&self, alloc: Global) -> Result<RelativeName<Vec<u8>>, ShortBuf>
         ensures { IfOk result (λ name. relative_labels name ≡ relative_labels self.now) }
     {
@@ -443,7 +441,7 @@ impl RelativeName<Vec<u8>> {
 impl<const N: usize> RelativeName<ArrayVec<u8, N>> {
     ghost use Rattle.domain_name.specs.Names.{relative_labels};
 
-    /// The same name over new octets, which is never refused.
+    /// The same name over new octets, which never fails.
     pub fn clone(&self, alloc: Global) -> Result<RelativeName<ArrayVec<u8, N>>, ShortBuf>
         ensures ok { IfOk result (λ name. relative_labels name ≡ relative_labels self.now) }
         ensures made { IsOk result }

@@ -1,4 +1,4 @@
-//! Equality, order and hash of relative names, all without ASCII case.
+//! Equality, order and hash of relative names, all ignoring ASCII case.
 ghost use Rattle.std.specs.Prelude.{refl};
 ghost use Rattle.std.proofs.Common.{rules};
 ghost use Rattle.std.specs.Cmp.{partial_order_from_agreeing_total, partial_equiv_from_equiv, on_equiv, on_total};
@@ -15,7 +15,7 @@ use octseq::Octets;
 use std::cmp::Ordering;
 use std::hash::{Hash, Hasher};
 
-/// Names are equal where their labels are, without ASCII case (RFC 4343).
+/// Names are equal where their labels are, ignoring ASCII case (RFC 4343).
 impl<Octs: Octets> PartialEq for RelativeName<Octs> {
     ghost use Rattle.domain_name.specs.Names.{relative_labels};
 
@@ -63,7 +63,7 @@ impl<Octs: Octets> PartialOrd for RelativeName<Octs> {
     }
 }
 
-/// Feeds each label's length and its octets without ASCII case, so that equal names feed alike.
+/// Writes to the hasher each label's length and its octets in lower case, so that equal names write the same.
 impl<Octs: Octets> Hash for RelativeName<Octs> {
     ghost use Rattle.domain_name.specs.Names.{relative_labels};
 

@@ -1,4 +1,4 @@
-//! Leaving out the last labels of flat names.
+//! Removing the last labels of uncompressed names.
 ghost use Rattle.std.specs.Prelude.{◌≡◌, ◌+◌, Some, length, IfSome, IsSome, ◌↔◌, codes};
 ghost use Rattle.domain_label.specs.Wire.{IsWire, labels_in, wire};
 ghost use Rattle.domain_list.specs.Ends.{EndsWith};
@@ -10,7 +10,7 @@ use domain_list::composing::put_name;
 use std::error::Error;
 use std::fmt;
 
-/// A relative name doesn't end with the suffix that was to be left out.
+/// A relative name doesn't end with the suffix that was to be removed.
 #[derive(Clone, Copy, Debug, PartialEq, Eq)]
 pub struct StripSuffixError;
 
@@ -24,8 +24,8 @@ impl fmt::Display for StripSuffixError {
 
 impl Error for StripSuffixError {}
 
-/// The place in a wire format where its last labels begin, which are those of another one without ASCII
-/// case. `None` where it doesn't end with them.
+/// The offset in a wire format where its last labels begin, which are those of another one ignoring ASCII case.
+/// `None` where it doesn't end with them.
 fn place_of(octets: &[u8], suffix: &[u8]) -> Option<usize>
     requires whole { IsWire octets.now }
     requires part { IsWire suffix.now }
@@ -45,8 +45,8 @@ fn place_of(octets: &[u8], suffix: &[u8]) -> Option<usize>
     Some(place)
 }
 
-/// The place in a wire format where its last labels begin, which are those of `base` without ASCII
-/// case. `None` where the name doesn't end with them.
+/// The offset in a wire format where its last labels begin, which are those of `base` ignoring ASCII case. `None`
+/// where the name doesn't end with them.
 pub(crate) fn suffix_place<'a, N: ToLabelIter<'a>>(octets: &[u8], base: &'a N) -> Option<usize>
     requires { IsWire octets.now }
     ensures exact { IsSome result ↔ EndsWith (labels_in octets.now) (N.labels base.now) }

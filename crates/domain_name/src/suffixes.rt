@@ -1,9 +1,8 @@
-//! What is left of a name behind its first labels.
+//! A name without its first labels.
 
 use crate::absolute::Name;
 
-/// The suffixes of an absolute name: the name itself, and then what is left of it behind its first
-/// labels, down to the root.
+/// The suffixes of an absolute name: the name itself, the name without its first label, and so on to the root.
 #[derive(Clone, Copy)]
 pub struct SuffixIter<'a> {
     next: Option<Name<&'a [u8]>>,

@@ -38,12 +38,11 @@ where
     /// Reads an absolute name from text, as `www.example.com` with or without a dot at the end
     /// (RFC 1035, 5.1).
     ///
-    /// A single dot is the root. `ShortInput` where the text is empty; else the fault of the first symbol
-    /// that is refused: `ShortInput` or `BadEscape` at a broken escape, `BadSymbol` at a character that
-    /// isn't from space to tilde, `BinaryLabel` at `\[` where a label begins, `EmptyLabel` at a dot where
-    /// none is open, `LongName` past 254 octets before the root, else `LongLabel` past 63 in a label.
-    /// `ShortBuf` only where there is no fault: the octets, which are appended once, don't fit, or memory
-    /// was refused.
+    /// A single dot is the root. `ShortInput` where the text is empty; else the error of the first symbol that can't
+    /// be added: `ShortInput` or `BadEscape` at a broken escape, `BadSymbol` at a character that isn't from space to
+    /// tilde, `BinaryLabel` at `\[` where a label begins, `EmptyLabel` at a dot where none is open, `LongName` for
+    /// more than 254 octets before the root, else `LongLabel` for more than 63 in a label. `ShortBuf` only where
+    /// there is no other error: the octets, which are appended once, don't fit, or an allocation failed.
     #[inline(always)]
     pub fn from_chars<I: Iterator<Item = char> + Drop>(
         alloc: Global,
@@ -90,7 +89,7 @@ where
     /// `in-addr.arpa` (RFC 1035, 3.5); for IPv6 each four bits as an upper case digit, the last first,
     /// under `ip6.arpa` (RFC 3596, 2.5).
     ///
-    /// `ShortBuf` only where the octets, which are appended once, don't fit, or memory was refused.
+    /// `ShortBuf` only where the octets, which are appended once, don't fit, or an allocation failed.
     pub fn reverse_from_addr(alloc: Global, addr: IpAddr) -> Result<Self, PushError>
         ensures ok { IfOk result (λ name. name_labels name ≡ reverse_name addr) }
         ensures err { IfErr result (λ e. (e ≡ ShortBuf) × MayExceedCapacity Octs.Builder.ROOM (length (wire (reverse_name addr)))) }
@@ -103,7 +102,7 @@ where
 }
 
 impl Name<Vec<u8>> {
-    /// Reads an absolute name from text, as `from_chars` does. `ShortBuf` only where memory was refused.
+    /// Reads an absolute name from text, as `from_chars` does. `ShortBuf` only where an allocation failed.
     #[inline(always)]
     pub fn vec_from_str(alloc: Global, text: &str) -> Result<Self, FromStrError>
         ensures ok { IfOk result (λ name. SpellsName (chars text.now) (name_labels name)) }
@@ -143,10 +142,10 @@ where
 {
     /// Reads a relative name from text, as `www.example` (RFC 1035, 5.1).
     ///
-    /// The empty text is the empty name. A symbol that is refused is told first, as by `Name::from_chars`,
-    /// but that a single dot is `EmptyLabel`; `AbsoluteName` where there is none and a dot stands behind the
-    /// last label. `ShortBuf` only where there is no fault: the octets, which are appended once, don't fit,
-    /// or memory was refused.
+    /// The empty text is the empty name. The error of a symbol that can't be added comes first, as for
+    /// `Name::from_chars`, but that a single dot is `EmptyLabel`; `AbsoluteName` where there is none and a dot comes
+    /// after the last label. `ShortBuf` only where there is no other error: the octets, which are appended once,
+    /// don't fit, or an allocation failed.
     #[inline(always)]
     pub fn from_chars<I: Iterator<Item = char> + Drop>(
         alloc: Global,
@@ -169,7 +168,7 @@ where
 }
 
 impl RelativeName<Vec<u8>> {
-    /// Reads a relative name from text, as `from_chars` does. `ShortBuf` only where memory was refused.
+    /// Reads a relative name from text, as `from_chars` does. `ShortBuf` only where an allocation failed.
     #[inline(always)]
     pub fn vec_from_str(alloc: Global, text: &str) -> Result<Self, RelativeFromStrError>
         ensures ok { IfOk result (λ name. SpellsRelative (chars text.now) (relative_labels name)) }
@@ -207,8 +206,7 @@ impl<Octs: IntoBuilder> RelativeName<Octs>
 where
     Octs::Builder: OctetsMut,
 {
-    /// A builder that goes on from the name's labels, none of which is open, and has no less room than the
-    /// name's octets.
+    /// A builder with the name's labels, none of which is open, and with at least the capacity of the name's octets.
     pub fn into_builder(self) -> NameBuilder<Octs::Builder>
         ensures built { built result ≡ finished (relative_labels self) }
         ensures room { Octs.capacity (relative_holder self) ≤ room Octs.Builder.limit (held result) }
@@ -223,9 +221,9 @@ where
 {
     /// The absolute name of the name's labels and the root.
     ///
-    /// `ShortBuf` only where the root exceeds the spare capacity of the name's octets, so never where it
-    /// fits. Under a fixed room it is answered exactly where the root doesn't fit, else only where memory
-    /// was refused, too.
+    /// `ShortBuf` only where the root exceeds the spare capacity of the name's octets, so never where it fits. Where
+    /// the capacity is fixed it is returned exactly where the root doesn't fit, else only where an allocation failed,
+    /// too.
     pub fn into_absolute(self) -> Result<Name<Octs>, PushError>
         ensures ok { IfOk result (λ name. name_labels name ≡ relative_labels self ++ Root) }
         ensures err { IfErr result (λ e. e ≡ ShortBuf) }

@@ -22,7 +22,6 @@ pub enum Head {
 /// It is the only function that counts, and besides `quick_end`, which counts nothing, the only one here that
 /// interprets the first octet of a label or pointer. All that read names call it: `read_name_counted`,
 /// `encoding_end_with`, `read_label`, and the search of `domain_compress`.
-/// search of `domain_compress`.
 #[inline(always)]
 pub fn read_head<L: Ledger>(
     message: &[u8],

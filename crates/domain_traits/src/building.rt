@@ -1,5 +1,5 @@
-//! Wire formats and flat names made of names. The calls of names stand on these functions, which are
-//! one body each for absolute and relative names of every kind.
+//! Wire formats and uncompressed names made of names. The methods of names call these functions, which are one body
+//! each for absolute and relative names of every kind.
 ghost use Rattle.std.specs.Prelude.{◌≡◌, ◌<◌, ℕ, List, length, IfOk, IsOkAnd, OnErr};
 ghost use Rattle.std.specs.Cow.{cow_slice_items, IsBorrowedSlice};
 ghost use Rattle.domain_label.specs.Wire.{wire, IsAbsoluteName, IsRelativeName};
@@ -12,9 +12,9 @@ use octseq::{Octets, ShortBuf};
 use std::alloc::Global;
 use std::borrow::CowSlice;
 
-/// The wire format of a name: lent where it lies in one piece, else put together.
+/// The wire format of a name: borrowed where it is in contiguous octets, else built.
 ///
-/// `ShortBuf` only where it doesn't lie in one piece, has octets, and memory was refused.
+/// `ShortBuf` only where it isn't in contiguous octets, isn't empty, and an allocation failed.
 pub(crate) fn lend_or_build<'a, N: ToLabelIter<'a>>(
     name: &'a N,
     alloc: Global,

@@ -1,4 +1,4 @@
-//! Names made flat over other octets.
+//! Names copied to uncompressed wire format.
 ghost use Rattle.std.specs.Prelude.{◌≡◌, IfOk, OnErr};
 
 use domain_list::NameLabels;
@@ -6,21 +6,22 @@ use domain_name::Name;
 use octseq::{Octets, OctetsFrom, SameOctets, ShortBuf};
 use std::alloc::Global;
 
-/// A value that can be made a flat one, over octets of its own or of another kind, and is taken for it.
+/// A value that can be converted to one with uncompressed names, over octets of its own or of another kind, and is
+/// consumed by this.
 ///
-/// Names are made flat names. What has names in it, as the data of a record, is made the same over flat
-/// names. Generic code that needs to know that a flat name has the same labels asks for [`FlattenName`].
+/// Names become uncompressed names. What has names in it, as the data of a record, becomes the same with uncompressed
+/// names. Generic code that needs to know that the new name has the same labels requires [`FlattenName`].
 pub trait FlattenInto<Target>: Sized {
-    /// What was made says the same as what it was made of.
+    /// What the new value and the old one have in common.
     ghost same: { Self → Target → Type 0 };
 
-    /// The values that may be refused. No other ever is. Which these are each type says of itself: one that
-    /// says all may be refused promises nothing.
+    /// The values for which the conversion may fail. It fails for no other. Each type defines which these are: one
+    /// that says all may fail promises nothing.
     ghost may_refuse: { Self → Type 0 };
 
-    /// The flat value.
+    /// The value with uncompressed names.
     ///
-    /// `ShortBuf` only where octets don't fit or memory was refused. A refused value is let go.
+    /// `ShortBuf` only where octets don't fit or an allocation failed. The value is then dropped.
     fn try_flatten_into(self, alloc: Global) -> Result<Target, ShortBuf>
         ensures ok { IfOk result (λ made. same self made) }
         ensures err { OnErr result (may_refuse self) };
@@ -41,14 +42,14 @@ pub trait FlattenInto<Target>: Sized {
         ensures err { OnErr result (may_refuse self) };
 }
 
-/// A name that can be made a flat one, which has the same labels.
+/// A name that can be converted to an uncompressed one, which has the same labels.
 pub trait FlattenName<Target: NameLabels>: NameLabels + FlattenInto<Target> {
-    /// What is the same is the list of labels.
+    /// What both have in common is the list of labels.
     ghost same_labels: { (name : Self) (made : Target) → Self.same name made →
         Target.labels made ≡ Self.labels name };
 }
 
-/// The octets of the name are made over as [`OctetsFrom`] makes them.
+/// The octets of the name are converted as [`OctetsFrom`] converts them.
 impl<Octs: Octets, Target: SameOctets<Octs>> FlattenInto<Name<Target>> for Name<Octs> {
     ghost use Rattle.domain_name.specs.Names.{name_holder, name_labels};
 

@@ -1,5 +1,5 @@
-//! The calls of names of every kind: what they can be made into, octets, flat names, chains and text, and
-//! how they compare.
+//! The calls of names of every kind: what they can be made into, octets, uncompressed names, chains and text, and how
+//! they compare.
 #![tactic(auto)]
 
 mod building;

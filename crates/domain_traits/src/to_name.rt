@@ -24,13 +24,13 @@ use std::cmp::Ordering;
 
 /// The calls that absolute names of every kind have.
 ///
-/// Each type with [`AbsoluteLabels`] has them, with nothing to write. Each call is one body for all types,
-/// and what it gives depends on the name's list of labels alone. How the name lies in memory decides how
-/// soon it is given, and for `to_cow` whether its octets are lent.
+/// Each type with [`AbsoluteLabels`] has them, with nothing to write. Each call is one body for all types, and what
+/// it returns depends on the name's list of labels alone. How the name is stored decides how fast it is, and for
+/// `to_cow` whether octets are borrowed.
 pub trait ToName<'a>: AbsoluteLabels<'a> {
-    /// The same name in one piece, over octets of the caller's choice.
+    /// The same name in contiguous octets, of a type of the caller's choice.
     ///
-    /// `ShortBuf` where the wire format exceeds a fixed room of the octets, or where memory was refused.
+    /// `ShortBuf` where the wire format exceeds a fixed capacity of these octets, or where an allocation failed.
     final fn try_to_name<Octs: FromBuilder + Drop>(
         &'a self,
         alloc: Global,
@@ -66,7 +66,7 @@ pub trait ToName<'a>: AbsoluteLabels<'a> {
         ensures ok { IfOk result (λ name. name_labels name ≡ Self.labels self.now) }
         ensures err { OnErr result (MayExceedCapacity Octs.Builder.ROOM (length (wire (Self.labels self.now)))) }
     {
-        // The body stands here and not in the call above: a result that is handed on is copied once more.
+        // The body is here and not in the call above: a result that is passed on is copied once more.
         let mut target = Octs::Builder::with_capacity(alloc, self.compose_len() as usize)?;
         match compose_name(self, &mut target) {
             Ok(()) => Ok(name_of(Octs::from_builder(target))),
@@ -74,8 +74,8 @@ pub trait ToName<'a>: AbsoluteLabels<'a> {
         }
     }
 
-    /// The name in one piece with A to Z as a to z, its canonical form (RFC 4034, 6.2), over octets of
-    /// the caller's choice.
+    /// The name in contiguous octets with A to Z as a to z, its canonical form (RFC 4034, 6.2), over octets of the
+    /// caller's choice.
     ///
     /// The errors are those of `try_to_name`.
     final fn try_to_canonical_name<Octs: FromBuilder + Drop>(
@@ -100,7 +100,7 @@ pub trait ToName<'a>: AbsoluteLabels<'a> {
         ensures ok { IfOk result (λ name. name_labels name ≡ lowercase_labels (Self.labels self.now)) }
         ensures err { OnErr result (MayExceedCapacity Octs.Builder.ROOM (length (wire (Self.labels self.now)))) }
     {
-        // The body stands here and not in the call above: a result that is handed on is copied once more.
+        // The body is here and not in the call above: a result that is passed on is copied once more.
         let mut target = Octs::Builder::with_capacity(alloc, self.compose_len() as usize)?;
         match compose_canonical_name(self, &mut target) {
             Ok(()) => Ok(name_of(Octs::from_builder(target))),
@@ -108,17 +108,17 @@ pub trait ToName<'a>: AbsoluteLabels<'a> {
         }
     }
 
-    /// The same name in one piece, over new octets. `ShortBuf` only where memory was refused.
+    /// The same name in contiguous octets, over new octets. `ShortBuf` only where an allocation failed.
     final fn to_vec(&'a self, alloc: Global) -> Result<Name<Vec<u8>>, ShortBuf>
         ensures { IfOk result (λ name. name_labels name ≡ Self.labels self.now) }
     {
         self.to_name(alloc)
     }
 
-    /// The same name in one piece. Its octets are lent where the name lies in one piece already, which
+    /// The same name in contiguous octets. They are borrowed where the name is in contiguous octets already, which
     /// `as_flat_slice` tells, and new ones else.
     ///
-    /// `ShortBuf` only where octets are new and memory was refused.
+    /// `ShortBuf` only where octets are new and an allocation failed.
     final fn to_cow(&'a self, alloc: Global) -> Result<Name<CowSlice<'a, u8>>, ShortBuf>
         ensures ok { IfOk result (λ name. name_labels name ≡ Self.labels self.now) }
         ensures flat { Self.lies_flat self.now → IsOkAnd result (λ name. IsBorrowedSlice (name_holder name)) }
@@ -177,7 +177,7 @@ pub trait ToName<'a>: AbsoluteLabels<'a> {
         compose_canonical_name(self, target)
     }
 
-    /// Whether the labels are the same without ASCII case (RFC 4343).
+    /// Whether the labels are the same ignoring ASCII case (RFC 4343).
     ///
     /// In `crates/examples/src/comparing.rt`, where it is proved:
     ///
@@ -194,8 +194,8 @@ pub trait ToName<'a>: AbsoluteLabels<'a> {
         eq_names(self, other)
     }
 
-    /// The order of names: labels are compared from the right, as lists of octets without ASCII case
-    /// (RFC 4034, 6.1). It is `Equal` exactly where `name_eq` is true.
+    /// The order of names: labels are compared from the right, as lists of octets ignoring ASCII case (RFC 4034,
+    /// 6.1). It is `Equal` exactly where `name_eq` is true.
     ///
     /// In `crates/examples/src/comparing.rt`, where it is proved:
     ///
@@ -219,7 +219,7 @@ pub trait ToName<'a>: AbsoluteLabels<'a> {
         composed_order_names(self, other)
     }
 
-    /// The order of the octets of the uncompressed wire formats, without ASCII case.
+    /// The order of the octets of the uncompressed wire formats, ignoring ASCII case.
     final fn lowercase_composed_cmp<N: AbsoluteLabels<'a>>(&'a self, other: &'a N) -> Ordering
         ensures { result ≡ lowercase_composed_order (Self.labels self.now) (N.labels other.now) }
     {
@@ -234,7 +234,7 @@ pub trait ToName<'a>: AbsoluteLabels<'a> {
         rrsig_count(self.iter_labels())
     }
 
-    /// Shows the name with a dot behind each label, and the root as a dot (RFC 1035, 5.1).
+    /// Shows the name with a dot after each label, and the root as a dot (RFC 1035, 5.1).
     ///
     /// In `crates/examples/src/reading.rt`, where it is proved:
     ///

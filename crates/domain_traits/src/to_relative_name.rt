@@ -21,13 +21,13 @@ use std::cmp::Ordering;
 
 /// The calls that relative names of every kind have.
 ///
-/// Each type with [`RelativeLabels`] has them, with nothing to write. Each call is one body for all types,
-/// and what it gives depends on the name's list of labels alone. How the name lies in memory decides how
-/// soon it is given, and for `to_cow` whether its octets are lent.
+/// Each type with [`RelativeLabels`] has them, with nothing to write. Each call is one body for all types, and what
+/// it returns depends on the name's list of labels alone. How the name is stored decides how fast it is, and for
+/// `to_cow` whether octets are borrowed.
 pub trait ToRelativeName<'a>: RelativeLabels<'a> {
-    /// The same name in one piece, over octets of the caller's choice.
+    /// The same name in contiguous octets, of a type of the caller's choice.
     ///
-    /// `ShortBuf` where the wire format exceeds a fixed room of the octets, or where memory was refused.
+    /// `ShortBuf` where the wire format exceeds a fixed capacity of these octets, or where an allocation failed.
     final fn try_to_relative_name<Octs: FromBuilder + Drop>(
         &'a self,
         alloc: Global,
@@ -50,7 +50,7 @@ pub trait ToRelativeName<'a>: RelativeLabels<'a> {
         ensures ok { IfOk result (λ name. relative_labels name ≡ Self.labels self.now) }
         ensures err { OnErr result (MayExceedCapacity Octs.Builder.ROOM (length (wire (Self.labels self.now)))) }
     {
-        // The body stands here and not in the call above: a result that is handed on is copied once more.
+        // The body is here and not in the call above: a result that is passed on is copied once more.
         let mut target = Octs::Builder::with_capacity(alloc, self.compose_len() as usize)?;
         match compose_name(self, &mut target) {
             Ok(()) => Ok(relative_name_of(Octs::from_builder(target))),
@@ -58,7 +58,7 @@ pub trait ToRelativeName<'a>: RelativeLabels<'a> {
         }
     }
 
-    /// The name in one piece with A to Z as a to z (RFC 4034, 6.2), over octets of the caller's choice.
+    /// The name in contiguous octets with A to Z as a to z (RFC 4034, 6.2), over octets of the caller's choice.
     ///
     /// The errors are those of `try_to_relative_name`.
     final fn try_to_canonical_relative_name<Octs: FromBuilder + Drop>(
@@ -83,7 +83,7 @@ pub trait ToRelativeName<'a>: RelativeLabels<'a> {
         ensures ok { IfOk result (λ name. relative_labels name ≡ lowercase_labels (Self.labels self.now)) }
         ensures err { OnErr result (MayExceedCapacity Octs.Builder.ROOM (length (wire (Self.labels self.now)))) }
     {
-        // The body stands here and not in the call above: a result that is handed on is copied once more.
+        // The body is here and not in the call above: a result that is passed on is copied once more.
         let mut target = Octs::Builder::with_capacity(alloc, self.compose_len() as usize)?;
         match compose_canonical_name(self, &mut target) {
             Ok(()) => Ok(relative_name_of(Octs::from_builder(target))),
@@ -91,7 +91,7 @@ pub trait ToRelativeName<'a>: RelativeLabels<'a> {
         }
     }
 
-    /// The same name in one piece, over new octets. `ShortBuf` only where memory was refused, which the
+    /// The same name in contiguous octets, over new octets. `ShortBuf` only where an allocation failed, which the
     /// name without labels doesn't ask for.
     final fn to_vec(&'a self, alloc: Global) -> Result<RelativeName<Vec<u8>>, ShortBuf>
         ensures ok { IfOk result (λ name. relative_labels name ≡ Self.labels self.now) }
@@ -100,10 +100,10 @@ pub trait ToRelativeName<'a>: RelativeLabels<'a> {
         self.to_relative_name(alloc)
     }
 
-    /// The same name in one piece. Its octets are lent where the name lies in one piece already, which
+    /// The same name in contiguous octets. They are borrowed where the name is in contiguous octets already, which
     /// `as_flat_slice` tells, and new ones else.
     ///
-    /// `ShortBuf` only where octets are new and memory was refused; the name without labels has none.
+    /// `ShortBuf` only where octets are new and an allocation failed; the name without labels has none.
     final fn to_cow(&'a self, alloc: Global) -> Result<RelativeName<CowSlice<'a, u8>>, ShortBuf>
         ensures ok { IfOk result (λ name. relative_labels name ≡ Self.labels self.now) }
         ensures flat { Self.lies_flat self.now → IsOkAnd result (λ name. IsBorrowedSlice (relative_holder name)) }
@@ -157,7 +157,7 @@ pub trait ToRelativeName<'a>: RelativeLabels<'a> {
     /// The labels of this name and then those of the other, as one name. It is absolute where the other
     /// name is, and relative where that is.
     ///
-    /// `LongChainError` where more than 254 octets stand before any root label.
+    /// `LongChainError` where more than 254 octets come before any root label.
     final fn chain<N: NameLabels + Drop>(self, other: N) -> Result<Chain<Self, N>, LongChainError>
     where
         Self: Sized + Drop,
@@ -167,11 +167,11 @@ pub trait ToRelativeName<'a>: RelativeLabels<'a> {
         Chain::new(self, other)
     }
 
-    /// The absolute name of these labels and the root. It can't be refused, since a relative name leaves
-    /// an octet for the root.
+    /// The absolute name of these labels and the root. It can't fail, since a relative name leaves an octet for the
+    /// root.
     ///
-    /// A function that is generic over names answers it as `Chain<N, Name<&'a [u8]>>`, with the lifetime
-    /// of its bound: one that names `'static` beside it isn't covered by the checker.
+    /// A function that is generic over names returns it as `Chain<N, Name<&'a [u8]>>`, with the lifetime of its
+    /// bound: one that names `'static` beside it isn't covered by the checker.
     final fn chain_root(self) -> Chain<Self, Name<&'static [u8]>>
     where
         Self: Sized + Drop,
@@ -181,7 +181,7 @@ pub trait ToRelativeName<'a>: RelativeLabels<'a> {
         Chain::new(self, Name::root_ref()).unwrap()
     }
 
-    /// Whether the labels are the same without ASCII case (RFC 4343).
+    /// Whether the labels are the same ignoring ASCII case (RFC 4343).
     final fn name_eq<N: RelativeLabels<'a>>(&'a self, other: &'a N) -> bool
         ensures { IsTrue result ↔ (lowercase_labels (Self.labels self.now) ≡ lowercase_labels (N.labels other.now)) }
     {
