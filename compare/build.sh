@@ -3,12 +3,12 @@
 #
 #   compare/build.sh WORK
 #
-# WORK            the folder to build in; nothing is written beside this script
-# DNSNAMES_LIB    this project's library for C (crates/dnsnames_c/out/libdnsnames_c.a, which ./library makes)
-# DNSNAMES_HEADER the folder of its header (bindings/c)
-# DOMAIN_SOURCE   a folder with the Rust crates `domain` and `octseq`, each in a folder of its name; nothing of them is
-#                 here
-# CARGO           (cargo of the path)
+# WORK              the folder to build in; nothing is written beside this script
+# DNSNAMES_ARCHIVE  this project's library for C (crates/dnsnames_c/out/libdnsnames_c.a, which ./library makes)
+# DNSNAMES_HEADER   the folder of its header (bindings/c)
+# DOMAIN_SOURCE     a folder with the Rust crates `domain` and `octseq`, each in a folder of its name; nothing of them
+#                   is here
+# CARGO             (cargo of the path)
 #
 # The rest comes from Debian's packages alone. WORK/drivers gets one executable for each library; WORK/missing one file
 # for each that could not be built, with the reason.
@@ -112,7 +112,7 @@ package_version() {
     dpkg-query -W -f '${Version}' "$1" 2> /dev/null || echo unknown
 }
 
-library=${DNSNAMES_LIB:-$top/crates/dnsnames_c/out/libdnsnames_c.a}
+library=${DNSNAMES_ARCHIVE:-$top/crates/dnsnames_c/out/libdnsnames_c.a}
 header=${DNSNAMES_HEADER:-$top/bindings/c}
 if [ -e "$library" ] && [ -e "$header/dnsnames.h" ]; then
     version="$(sed -n 's/^VERSION = //p' "$top/bindings/c/Makefile"), SHA-256 $(sha256sum "$library" | cut -c 1-12).."

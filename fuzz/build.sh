@@ -1,9 +1,9 @@
 #!/usr/bin/env bash
 # Builds the harnesses of libFuzzer: fuzz/build.sh WORK [FLAG ..]
 #
-# WORK            the folder to build in; the FLAGs go to the compiler
-# DNSNAMES_LIB    this project's library for C (crates/dnsnames_c/out/libdnsnames_c.a, which ./library makes)
-# DNSNAMES_HEADER the folder of its header (bindings/c)
+# WORK              the folder to build in; the FLAGs go to the compiler
+# DNSNAMES_ARCHIVE  this project's library for C (crates/dnsnames_c/out/libdnsnames_c.a, which ./library makes)
+# DNSNAMES_HEADER   the folder of its header (bindings/c)
 #
 # It needs clang with its runtime (apt-get install clang libclang-rt-14-dev). With libknot (libknot-dev) the harnesses
 # compare with that, too.
@@ -12,7 +12,7 @@ here=$(cd "$(dirname "$0")" && pwd)
 top=$(dirname "$here")
 work=${1:?a folder to build in}
 shift
-library=${DNSNAMES_LIB:-$top/crates/dnsnames_c/out/libdnsnames_c.a}
+library=${DNSNAMES_ARCHIVE:-$top/crates/dnsnames_c/out/libdnsnames_c.a}
 header=${DNSNAMES_HEADER:-$top/bindings/c}
 if [ ! -e "$library" ]; then
     echo "no $library: run ./library" >&2

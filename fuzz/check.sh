@@ -1,15 +1,17 @@
 #!/usr/bin/env bash
-# Runs the kept inputs once through the harnesses, in seconds: fuzz/check.sh. The last line is 'fuzz: N passed, N
-# failed'. Where clang, its runtime or the library for C isn't there, that line says so, and no input is run. Status 1 where an
-# input failed, or where the harnesses can't be built though all of that is there. fuzz/build.sh tells the variables.
+# Runs the kept inputs once through the harnesses, in seconds: fuzz/check.sh. The last line is 'N passed, N failed'.
+# Where clang, its runtime or the library for C isn't there, the line before it says so as 'skipped', and no input is
+# run. Status 1 where an input failed, or where the harnesses can't be built though all of that is there. fuzz/build.sh
+# tells the variables.
 set -u
 here=$(cd "$(dirname "$0")" && pwd)
-library=${DNSNAMES_LIB:-$(dirname "$here")/crates/dnsnames_c/out/libdnsnames_c.a}
+library=${DNSNAMES_ARCHIVE:-$(dirname "$here")/crates/dnsnames_c/out/libdnsnames_c.a}
 work=$(mktemp -d)
 trap 'rm -rf "$work"' EXIT
 
-not_run() {
-    echo "fuzz: 0 passed, 0 failed; not run, since $1"
+skip() {
+    echo "skipped: the inputs of the fuzzer: $1"
+    echo "0 passed, 0 failed"
     exit 0
 }
 
@@ -30,14 +32,14 @@ run_harness() {
             passed=$((passed + 1))
         else
             failed=$((failed + 1))
-            echo "fuzz: $input: $(grep -m 1 'not so' "$work/log" || tail -n 1 "$work/log")" >&2
+            echo "failed: $input: $(grep -m 1 'not so' "$work/log" || tail -n 1 "$work/log")" >&2
         fi
     done
 }
 
-command -v clang > /dev/null || not_run "clang isn't there (apt-get install clang libclang-rt-14-dev)"
-has_runtime || not_run "clang has no runtime for fuzzing (apt-get install libclang-rt-14-dev)"
-[ -e "$library" ] || not_run "the library for C isn't built (./library)"
+command -v clang > /dev/null || skip "clang isn't there (apt-get install clang libclang-rt-14-dev)"
+has_runtime || skip "clang has no runtime for fuzzing (apt-get install libclang-rt-14-dev)"
+[ -e "$library" ] || skip "the library for C isn't built (./library)"
 passed=0 failed=0
 if "$here/build.sh" "$work" 2> "$work/log"; then
     for folder in "$here"/corpus/*; do
@@ -45,8 +47,8 @@ if "$here/build.sh" "$work" 2> "$work/log"; then
     done
 else
     head -n 5 "$work/log" >&2
-    echo "fuzz: the harnesses can't be built" >&2
+    echo "failed: the harnesses of the fuzzer can't be built" >&2
     failed=1
 fi
-echo "fuzz: $passed passed, $failed failed"
+echo "$passed passed, $failed failed"
 [ "$failed" -eq 0 ]

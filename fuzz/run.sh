@@ -5,8 +5,8 @@
 # WORK     the folder to build in, and for the inputs found (a new one of mktemp)
 #
 # It begins with the inputs of fuzz/corpus, and stops at the first difference with the input saved in WORK/found. The
-# last line has the runs, the runs a second and the differences; the line before it the branches of the second reader that
-# the runs covered. fuzz/build.sh tells what is needed.
+# last line has the runs, the runs a second and the differences; the line before it the branches of the second reader
+# that the runs covered. fuzz/build.sh tells what is needed.
 set -eu
 here=$(cd "$(dirname "$0")" && pwd)
 seconds=${1:?seconds}
