@@ -1,2 +1,4 @@
+pub mod Digits
 pub mod Fields
 pub mod Rows
+pub mod WordAndNumber

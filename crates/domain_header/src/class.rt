@@ -1,9 +1,11 @@
 //! Classes of records.
-ghost use Rattle.std.specs.Prelude.{◌≡◌, Some, option_map};
+ghost use Rattle.std.specs.Prelude.{◌≡◌, Some, codes, option_map};
 ghost use Rattle.domain_header.specs.Mnemonics.{rows_of, NumberOf};
+ghost use Rattle.domain_header.specs.Numbered.{Named};
 ghost use Rattle.domain_header.specs.Tables.{class_rows};
 
 use crate::mnemonic::{Mnemonic, mnemonic_number, mnemonic_word};
+use crate::numbered::named_number;
 use std::fmt;
 
 const CLASSES: [Mnemonic; 5] = [
@@ -62,6 +64,17 @@ impl Class {
         ensures { NumberOf word.now class_rows (option_map class_number result) }
     {
         match mnemonic_number(classes(), word) {
+            Some(number) => Some(Class(number)),
+            None => None,
+        }
+    }
+
+    /// Returns the class that this text names: by its mnemonic, or by `CLASS` immediately followed by its number in decimal
+    /// digits (RFC 3597, 5), ignoring ASCII case. `None` exactly if it names none.
+    pub fn from_text(text: &str) -> Option<Class>
+        ensures { Named class_rows (codes "CLASS") text.now (option_map class_number result) }
+    {
+        match named_number(classes(), "CLASS", text) {
             Some(number) => Some(Class(number)),
             None => None,
         }

@@ -8,7 +8,9 @@ pub mod counts;
 pub mod flags;
 pub mod header;
 pub mod mnemonic;
+pub mod numbered;
 pub mod numbers;
+pub mod rtypes;
 pub mod ttl;
 
 pub use class::Class;

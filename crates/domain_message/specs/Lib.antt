@@ -3,6 +3,7 @@ pub mod AliasLaws
 pub mod Composing
 pub mod Entries
 pub mod Facts
+pub mod HeaderLaws
 pub mod Messages
 pub mod Models
 pub mod Readings
@@ -13,4 +14,6 @@ pub mod Runs
 pub mod SectionOrder
 pub mod Sections
 pub mod Sole
+pub mod Texts
+pub mod TextViews
 pub mod Views

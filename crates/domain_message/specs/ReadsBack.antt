@@ -10,8 +10,8 @@ use Rattle.domain_reading.specs.Grammar.{Flat, EncodingEnds, Stop, StopAt}
 use Rattle.domain_reading.specs.Grammar.Stop.{root, pointer}
 use Rattle.domain_reading.proofs.Reading.{octet_more, label_more, pointer_more, names_more}
 use Rattle.domain_header.specs.Numbers.{number16, number32}
-use Rattle.domain_message.specs.Composing.{type_and_class, QuestionOctets, before_length, RecordOctets}
-use Rattle.domain_message.specs.Entries.{NameAt, QuestionFields, QuestionAt, HeaderFields, RecordHeaderAt, RecordFields, RecordAt}
+use Rattle.domain_message.specs.Composing.{type_and_class, QuestionOctets, RecordOctets}
+use Rattle.domain_message.specs.Entries.{NameAt, QuestionFields, QuestionAt, RecordHeaderAt, RecordAt}
 
 flat_more : (fs : List (List ℕ)) (m : List ℕ) (p r : ℕ) (u : List ℕ) → Flat m p fs r → Flat (m ++ u) p fs r
 flat_more [] m p r u same = same

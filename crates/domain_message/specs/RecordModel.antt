@@ -1,6 +1,10 @@
 -- What a record says that was read from a message.
+use Rattle.std.specs.Prelude.{ℕ, Bool, ◌==◌, List, drop}
+use Rattle.std.specs.Cmp.Lexicographic.{pointwise}
+use Rattle.std.specs.Ordering.{on, eq_of_both}
+use Rattle.domain_list.specs.Order.{same_name}
 use Rattle.octseq.specs.Parsing.{message, position}
-use Rattle.domain_message.specs.Entries.{RecordFields}
+use Rattle.domain_message.specs.Entries.{HeaderFields, RecordFields}
 use Rattle.domain_message.specs.Models.{header_fields}
 use Rattle.domain_message.specs.declared.record.ParsedRecord.{ParsedRecord}
 
@@ -11,3 +15,19 @@ record_fields r = record {
   start = position r.data;
   octets = message r.data;
 }
+
+-- Equal record headers.
+abbrev pub same_header : HeaderFields → HeaderFields → Bool
+same_header = eq_of_both (on (λ h. h.owner) same_name) (eq_of_both (on (λ h. h.rtype) ◌==◌) (eq_of_both (on (λ h. h.class) ◌==◌) (eq_of_both (on (λ h. h.ttl) ◌==◌) (on (λ h. h.rdlen) ◌==◌))))
+
+-- the octets of the data
+abbrev pub parsed_data : ParsedRecord → List ℕ
+parsed_data r = drop (position r.data) (message r.data)
+
+-- the record header
+abbrev pub parsed_header : ParsedRecord → HeaderFields
+parsed_header r = (record_fields r).header
+
+-- Record headers and octets of data are equal, the owner's names without ASCII case.
+abbrev pub same_parsed_record : ParsedRecord → ParsedRecord → Bool
+same_parsed_record = eq_of_both (on parsed_header same_header) (on parsed_data (pointwise ◌==◌))

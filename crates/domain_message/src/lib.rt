@@ -6,6 +6,7 @@ pub mod message;
 pub mod question;
 pub mod record;
 pub mod resource_record;
+pub mod rtype_text;
 pub mod section;
 
 pub use domain_header::{
@@ -15,4 +16,5 @@ pub use message::Message;
 pub use question::Question;
 pub use record::{ParsedRecord, RecordHeader};
 pub use resource_record::Record;
+pub use rtype_text::{RtypeText, rtype_from_mnemonic, rtype_from_text, rtype_mnemonic};
 pub use section::{QuestionSection, RecordSection, Section};

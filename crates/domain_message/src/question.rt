@@ -1,23 +1,29 @@
 //! Questions.
-ghost use Rattle.std.specs.Prelude.{◌≡◌, ◌≤◌, OnOk, OnErr};
+ghost use Rattle.std.specs.Prelude.{◌≡◌, ◌≤◌, Some, OnOk, OnErr};
 ghost use Rattle.domain_header.specs.Values.{class_number};
 ghost use Rattle.domain_rdata.specs.ReadBack.{Appended, Exceeds};
 ghost use Rattle.domain_rdata.specs.Rtypes.{rtype_number};
 ghost use Rattle.domain_message.specs.Composing.{type_and_class, QuestionOctets};
 ghost use Rattle.domain_message.specs.Entries.{QuestionFields, QuestionAt, NoQuestion};
 ghost use Rattle.domain_message.specs.Readings.{question_reading};
+ghost use Rattle.domain_message.specs.Texts.{question_text};
 
+use crate::rtype_text::RtypeText;
 use domain_header::Class;
 use domain_header::numbers::number_of_16_bits;
 use domain_list::AbsoluteLabels;
 use domain_parsed::ParsedName;
 use domain_rdata::{Composer, Rtype};
+use domain_traits::ToName;
 use domain_wire::ParseError;
 use domain_wire::parse::Parse;
 use octseq::{Octets, OctetsBuilder, Parser, Truncate};
+use std::fmt;
 
 /// A question: a name, a type and a class (RFC 1035, 4.1.2).
-#[derive(Clone, Copy, Drop)]
+///
+/// Questions are equal if all three are, the name without ASCII case, and are ordered by the name, the type and the class.
+#[derive(Clone, Copy, Drop, PartialEq, Eq, PartialOrd, Ord, Hash)]
 pub struct Question<N> {
     qname: N,
     qtype: Rtype,
@@ -91,6 +97,20 @@ impl<'a> Parse<'a> for Question<ParsedName<&'a [u8]>> {
     }
 
     ghost lawful = { question_reading };
+}
+
+/// Writes the name with its final dot, the class and the type, with a space between: `www.example.com. IN A`.
+impl<Octs: Octets> fmt::Display for Question<ParsedName<Octs>> {
+    ghost use Rattle.domain_message.specs.Models.{question_fields};
+
+    ghost output = { λ it. Some (question_text (question_fields it).name (question_fields it).class (question_fields it).rtype) };
+
+    fn fmt<W: fmt::Write>(&self, f: &mut fmt::Formatter<W>) -> fmt::Result {
+        let name = self.qname.fmt_with_dot();
+        let class = self.qclass;
+        let rtype = RtypeText::new(self.qtype);
+        write!(f, "{name} {class} {rtype}")
+    }
 }
 
 /// Type and class in four octets.

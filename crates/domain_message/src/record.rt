@@ -1,23 +1,33 @@
 //! Record headers, and records that are read from a message.
-ghost use Rattle.std.specs.Prelude.{◌≡◌};
+ghost use Rattle.std.specs.Prelude.{◌≡◌, ◌++◌, Some};
+ghost use Rattle.std.specs.Cmp.{partial_equiv_from_equiv, on_per, and_per};
+ghost use Rattle.std.specs.Cmp.Lexicographic.{nat_list_eq_equiv};
 ghost use Rattle.octseq.specs.Parsing.{message, position};
 ghost use Rattle.domain_parsed.specs.ParsedNames.{parsed_labels};
+ghost use Rattle.domain_rdata.specs.AnyData.{unknown_text};
 ghost use Rattle.domain_rdata.specs.Rtypes.{rtype_number};
 ghost use Rattle.domain_message.specs.Entries.{HeaderFields, RecordHeaderAt, NoRecordHeader, RecordFields, RecordAt, NoRecord};
+ghost use Rattle.domain_message.specs.HeaderLaws.{header_is_equivalence};
 ghost use Rattle.domain_message.specs.Readings.{record_header_reading, record_reading};
+ghost use Rattle.domain_message.specs.Texts.{text_before_data};
 ghost use Rattle.domain_header.specs.Values.{class_number, ttl_seconds};
 
+use crate::rtype_text::RtypeText;
 use domain_header::numbers::{number_of_16_bits, number_of_32_bits};
 use domain_header::{Class, Ttl};
 use domain_parsed::ParsedName;
-use domain_rdata::Rtype;
+use domain_rdata::{Rtype, UnknownRecordData};
+use domain_traits::ToName;
 use domain_wire::ParseError;
 use domain_wire::parse::Parse;
 use octseq::Parser;
+use std::fmt;
 
 /// What a record has before its data: the owner's name, the type, the class, the TTL and the length of the data
 /// (RFC 1035, 4.1.3).
-#[derive(Clone, Copy, Drop)]
+///
+/// Record headers are equal if all five are, the owner's name without ASCII case.
+#[derive(Clone, Copy, Drop, PartialEq, Eq, PartialOrd, Ord, Hash)]
 pub struct RecordHeader<N> {
     owner: N,
     rtype: Rtype,
@@ -125,7 +135,7 @@ pub struct ParsedRecord<'a> {
 }
 
 impl<'a> ParsedRecord<'a> {
-    ghost use Rattle.domain_message.specs.RecordModel.{record_fields};
+    ghost use Rattle.domain_message.specs.RecordModel.{record_fields, parsed_data};
 
     /// The owner's name.
     pub fn owner(&self) -> ParsedName<&'a [u8]>
@@ -162,12 +172,52 @@ impl<'a> ParsedRecord<'a> {
         self.header.rdlen()
     }
 
+    /// The octets of the data.
+    pub fn data_octets(&self) -> &'a [u8]
+        ensures { result.now ≡ parsed_data self.now }
+    {
+        &self.data.as_slice()[self.data.pos()..]
+    }
+
     /// Returns a parser at the start of the data, which ends with the data.
     pub fn data(&self) -> Parser<'a>
         ensures message { message result ≡ (record_fields self.now).octets }
         ensures place { position result ≡ (record_fields self.now).start }
     {
         self.data
+    }
+}
+
+/// Records of messages are equal if their record headers are, the owner's name without ASCII case, and the octets of their
+/// data. Names in the data may be compressed, so equal data need not have equal octets.
+impl<'a> PartialEq for ParsedRecord<'a> {
+    ghost use Rattle.domain_message.specs.RecordModel.{parsed_data, parsed_header, same_parsed_record};
+
+    ghost eq = { same_parsed_record };
+
+    ghost laws = { and_per (on_per parsed_header (partial_equiv_from_equiv header_is_equivalence)) (on_per parsed_data (partial_equiv_from_equiv nat_list_eq_equiv)) };
+
+    fn eq(&self, other: &ParsedRecord<'a>) -> bool {
+        self.header == other.header && self.data_octets() == other.data_octets()
+    }
+}
+
+/// Writes the owner's name with its final dot, TTL, class and type, and the data in the form for unknown types (RFC 3597,
+/// 5), with a space between: `www.example.com. 300 IN A \# 4 c0 00 02 01`.
+impl<'a> fmt::Display for ParsedRecord<'a> {
+    ghost use Rattle.domain_message.specs.RecordModel.{record_fields, parsed_data};
+
+    ghost output = { λ it. Some (text_before_data (record_fields it).header.owner (record_fields it).header.ttl (record_fields it).header.class (record_fields it).header.rtype ++ unknown_text (parsed_data it)) };
+
+    fn fmt<W: fmt::Write>(&self, f: &mut fmt::Formatter<W>) -> fmt::Result {
+        let header = &self.header;
+        let owner = header.owner.fmt_with_dot();
+        let (ttl, class) = (header.ttl, header.class);
+        let rtype = RtypeText::new(header.rtype);
+        let Ok(data) = UnknownRecordData::from_octets(header.rtype, self.data_octets()) else {
+            return Err(fmt::Error);
+        };
+        write!(f, "{owner} {ttl} {class} {rtype} {data}")
     }
 }
 

@@ -1,15 +1,26 @@
 //! Records of a name, a class, a TTL and data.
-ghost use Rattle.std.specs.Prelude.{◌≡◌, ◌≤◌, ◌++◌, OnOk, OnErr, IfErr};
+ghost use Rattle.std.specs.Prelude.{◌≡◌, ◌≤◌, ◌==◌, ◌++◌, Some, OnOk, OnErr, IfErr};
+ghost use Rattle.std.specs.Cmp.{partial_equiv_from_equiv, nat_eq_equiv, nat_cmp_total, on_per, and_per, on_equiv, and_equiv, on_total, then_total};
+ghost use Rattle.std.specs.Ordering.{on, eq_of_both, then_cmp, nat_cmp};
+ghost use Rattle.std.specs.Fmt.{◌++?◌};
+ghost use Rattle.domain_parsed.specs.ParsedNames.{parsed_labels};
 ghost use Rattle.std.specs.Int.{w16, w32, to_be_bytes};
 ghost use Rattle.domain_rdata.specs.ReadBack.{Appended};
 ghost use Rattle.domain_rdata.specs.Rtypes.{rtype_number};
 ghost use Rattle.domain_header.specs.Values.{class_number, ttl_seconds};
 ghost use Rattle.domain_message.specs.Composing.{before_length, RecordOctets, RecordRefused};
+ghost use Rattle.domain_message.specs.Texts.{text_before_data};
 
+use crate::rtype_text::RtypeText;
 use domain_header::{Class, Ttl};
 use domain_list::AbsoluteLabels;
+use domain_parsed::ParsedName;
 use domain_rdata::{ComposeRdataError, ComposeRecordData, Composer, RecordData, Rtype};
+use domain_traits::ToName;
+use domain_wire::CanonicalOrd;
 use octseq::{Octets, OctetsBuilder, Truncate};
+use std::cmp::Ordering;
+use std::fmt;
 
 /// Type, class and TTL in eight octets.
 fn octets_before_length(rtype: Rtype, class: Class, ttl: Ttl) -> [u8; 8]
@@ -84,6 +95,67 @@ impl<N, D> Record<N, D> {
         ensures { result.now ≡ data_of self.now }
     {
         &self.rdata
+    }
+}
+
+/// Records are equal if owner, class and data are: names without ASCII case, and data as its type says. The TTL isn't
+/// compared (RFC 2136, 1.1.1).
+impl<N: PartialEq, D: PartialEq> PartialEq for Record<N, D> {
+    ghost use Rattle.domain_message.specs.RecordParts.{owner_of, class_of, data_of};
+
+    ghost eq = { eq_of_both (on owner_of N.eq) (eq_of_both (on (λ r. class_number (class_of r)) ◌==◌) (on data_of D.eq)) };
+
+    ghost laws = { and_per (on_per owner_of N.laws) (and_per (on_per (λ r. class_number (class_of r)) (partial_equiv_from_equiv nat_eq_equiv)) (on_per data_of D.laws)) };
+
+    fn eq(&self, other: &Record<N, D>) -> bool {
+        self.owner == other.owner && self.class == other.class && self.rdata == other.rdata
+    }
+}
+
+impl<N: Eq, D: Eq> Eq for Record<N, D> {
+    ghost use Rattle.domain_message.specs.RecordParts.{owner_of, class_of, data_of};
+
+    ghost laws = { and_equiv (on_equiv owner_of N.Eq.laws) (and_equiv (on_equiv (λ r. class_number (class_of r)) nat_eq_equiv) (on_equiv data_of D.Eq.laws)) };
+}
+
+/// The order of class, owner, type and data: within an RRset that of the data (RFC 4034, 6.3), and the RRsets of a class in
+/// the order of their owners (RFC 4034, 6.1) and types.
+impl<N: CanonicalOrd, D: RecordData + CanonicalOrd> CanonicalOrd for Record<N, D> {
+    ghost use Rattle.domain_message.specs.RecordParts.{owner_of, class_of, data_of};
+
+    ghost value_order = { then_cmp (on (λ r. class_number (class_of r)) nat_cmp) (then_cmp (on owner_of N.value_order) (then_cmp (on (λ r. D.type_number (data_of r)) nat_cmp) (on data_of D.value_order))) };
+
+    ghost total = { then_total (on_total (λ r. class_number (class_of r)) nat_cmp_total) (then_total (on_total owner_of N.total) (then_total (on_total (λ r. D.type_number (data_of r)) nat_cmp_total) (on_total data_of D.total))) };
+
+    fn canonical_cmp(&self, other: &Record<N, D>) -> Ordering {
+        let by_class = self.class.cmp(&other.class);
+        if by_class.is_ne() {
+            return by_class;
+        }
+        let by_owner = self.owner.canonical_cmp(&other.owner);
+        if by_owner.is_ne() {
+            return by_owner;
+        }
+        let by_type = self.rdata.rtype().cmp(&other.rdata.rtype());
+        if by_type.is_ne() {
+            return by_type;
+        }
+        self.rdata.canonical_cmp(&other.rdata)
+    }
+}
+
+/// Writes the owner's name with its final dot, TTL, class, type and data, with a space between:
+/// `example.com. 300 IN MX 10 mail.example.com.`.
+impl<Octs: Octets, D: RecordData + fmt::Display> fmt::Display for Record<ParsedName<Octs>, D> {
+    ghost use Rattle.domain_message.specs.RecordParts.{owner_of, class_of, ttl_of, data_of};
+
+    ghost output = { λ it. Some (text_before_data (parsed_labels (owner_of it)) (ttl_seconds (ttl_of it)) (class_number (class_of it)) (D.type_number (data_of it))) ++? D.output (data_of it) };
+
+    fn fmt<W: fmt::Write>(&self, f: &mut fmt::Formatter<W>) -> fmt::Result {
+        let owner = self.owner.fmt_with_dot();
+        let (ttl, class) = (self.ttl, self.class);
+        let rtype = RtypeText::new(self.rdata.rtype());
+        write!(f, "{owner} {ttl} {class} {rtype} {}", self.rdata)
     }
 }
 
