@@ -15,7 +15,7 @@ import corpus
 from ask import DIED, HUNG, ask, libraries
 from corpus import ACCEPT, REFUSE, RULES, UNSAID
 
-PAGE, CASES = "COMPARISON.md", "COMPARISON-CASES.md"
+PAGE, CASES = "COMPARISON.md", "comparison-cases.md"
 RANDOM_MESSAGES = 100_000
 MOST_FAILURES = 40  # a driver that died or hung at so many cases isn't asked the rest
 CHAIN = 1100  # the longest row of pointers that is tried
