@@ -2,8 +2,8 @@
 
 import math
 
-COLOURS = ["#d62728", "#1f77b4", "#2ca02c", "#ff7f0e", "#9467bd", "#8c564b", "#e377c2", "#7f7f7f", "#bcbd22", "#17becf",
-           "#000000"]
+COLOURS = ["#d62728", "#1f77b4", "#2ca02c", "#ff7f0e", "#9467bd", "#8c564b", "#e377c2", "#7f7f7f", "#bcbd22",
+           "#17becf", "#000000"]
 COLUMNS, WIDTH, HEIGHT, LEFT, RIGHT, TOP = 4, 240, 200, 44, 22, 28
 
 

@@ -15,7 +15,7 @@ import corpus
 from ask import DIED, HUNG, ask, libraries
 from corpus import ACCEPT, REFUSE, RULES, UNSAID
 
-PAGE, CASES = "COMPARISON.md", "COMPARISON-CASES.md"
+PAGE, CASES = "COMPARISON.md", "comparison-cases.md"
 RANDOM_MESSAGES = 100_000
 MOST_FAILURES = 40  # a driver that died or hung at so many cases isn't asked the rest
 CHAIN = 1100  # the longest row of pointers that is tried
@@ -38,8 +38,8 @@ LEGENDS = {
             "library in C which reads past its end dies.",
     "text": "yes: accepted, as the name of the case; other: as another name; no: refused. The text is given as one "
             "word, without an origin.",
-    "show": "yes: a text that RFC 1035, 5.1 reads as the same labels, with or without a dot at its end; other: another "
-            "text.",
+    "show": "yes: a text that RFC 1035, 5.1 reads as the same labels, with or without a dot at its end; other: "
+            "another text.",
     "order": "yes: sorted as RFC 4034, 6.1 has it. libknot was given the names in lower case, as it wants them.",
 }
 
@@ -290,8 +290,8 @@ class Report:
         other = [f"{key}'s " + ("text without any character" if text == "-" else f"`{bytes.fromhex(text).decode()}`")
                  + f" for '{case.name}'"
                  for (key, case, text), answer in zip(shown_texts, answers) if answer != f"ok {shown(case.labels)}"]
-        self.say(filled(f"Of the {len(shown_texts)} texts that the other libraries wrote so, this project reads all as "
-                        "the same name" + (f", but for {', '.join(other)}." if other else ".")), "")
+        self.say(filled(f"Of the {len(shown_texts)} texts that the other libraries wrote so, this project reads all "
+                        "as the same name" + (f", but for {', '.join(other)}." if other else ".")), "")
 
     def list_rules(self):
         self.say("## What the standard says", "", "By the numbers in the tables, in other words than its own:", "")

@@ -1,6 +1,6 @@
 /* Writing with compression, and round trips: dnsnames_append, dnsnames_plan. The input is a capacity (or that the
- * writing begins shortly before the offsets that no pointer leads to) and a message, of which all names that follow one
- * another are written. */
+ * writing begins shortly before the offsets that no pointer leads to) and a message, of which all names that follow
+ * one another are written. */
 #include "harness.h"
 
 /* The longest suffix, but the root, that is read at an offset of the table, and the first such offset: where it begins

@@ -5,7 +5,7 @@ mod line;
 
 use std::cmp::Ordering;
 use trust_dns_proto::rr::Name;
-use trust_dns_proto::serialize::binary::{BinDecodable, BinDecoder, BinEncodable, BinEncoder};
+use trust_dns_proto::serialize::binary::{BinDecodable, BinDecoder, BinEncodable, BinEncoder, EncodeMode};
 
 struct Trust;
 
@@ -39,7 +39,7 @@ impl line::Library for Trust {
 
     fn compose(names: &[Name]) -> usize {
         let mut message = vec![0; 12];
-        let mut encoder = BinEncoder::with_offset(&mut message, 12, trust_dns_proto::serialize::binary::EncodeMode::Normal);
+        let mut encoder = BinEncoder::with_offset(&mut message, 12, EncodeMode::Normal);
         for name in names {
             if name.emit(&mut encoder).is_err() {
                 break;
