@@ -61,7 +61,7 @@ fn read<'a, D: ParseRecordData<'a> + ComposeRecordData + Drop>(
     }
 }
 
-/// The octets with no name compressed, the canonical form, and the length where it is known in a target that compresses.
+/// The octets with no name compressed, the canonical form, and the length if it is known where names are compressed.
 fn put_forms<D: ComposeRecordData>(out: &mut Answer, data: &D) {
     let mut composed: Vec<u8> = Vec::new(out.alloc());
     let mut canonical: Vec<u8> = Vec::new(out.alloc());
