@@ -1,5 +1,5 @@
 -- What a walk over strings has shown.
-use Rattle.std.proofs.Common.{◌≡◌, List, ℕ, [], ◌∷◌, ◌++◌, refl, sym, ap, ◌∙◌, append_assoc, append-nil}
+use Rattle.std.proofs.Common.{◌≡◌, List, ℕ, [], ◌++◌, refl, sym, ap, ◌∙◌, append_assoc, append-nil}
 use Rattle.std.proofs.lemmas.Grind.{put_two}
 use Rattle.std.specs.Fmt.{HasWritten}
 use Rattle.std.specs.List.{flat_map}

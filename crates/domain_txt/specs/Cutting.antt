@@ -1,10 +1,10 @@
 -- Octets are made of one list of strings.
-use Rattle.std.specs.Prelude.{◌≡◌, ℕ, zero, suc, ◌+◌, ◌-◌, ◌<◌, ◌≤◌, List, [], ◌∷◌, ◌++◌, length, take, drop, refl}
+use Rattle.std.specs.Prelude.{◌≡◌, ℕ, zero, suc, ◌-◌, ◌<◌, ◌≤◌, List, [], ◌∷◌, ◌++◌, length, take, drop, refl}
 use Rattle.std.proofs.Common.{arith, ap, subst, sym, ◌∙◌, append_assoc, append-nil, get_or, length-append, length-take, take-append-drop}
 use Rattle.std.proofs.lemmas.List.{length-take-le, take_all}
 use Rattle.std.proofs.Math.Seq.{take-append_seam, drop-append_seam}
 use Rattle.std.proofs.Math.Nat.{le_refl}
-use Rattle.domain_txt.specs.Strings.{IsString, AreStrings, string_octets, cut_strings, strings_in, HasStrings, StringsBefore, EndsInside, HasFirstString}
+use Rattle.domain_txt.specs.Strings.{AreStrings, string_octets, cut_strings, strings_in, HasStrings, StringsBefore, EndsInside, HasFirstString}
 
 -- cutting undoes writing
 cut_written : (n : ℕ) (ss : List (List ℕ)) → length (string_octets ss) ≤ n → cut_strings n (string_octets ss) ≡ ss
