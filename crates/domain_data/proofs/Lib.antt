@@ -1,2 +1,3 @@
 pub mod Missing
+pub mod Ordering
 pub mod Parsers

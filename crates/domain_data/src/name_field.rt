@@ -2,6 +2,7 @@
 ghost use Rattle.std.specs.Prelude.{◌≡◌, ◌++◌, ◌+◌, ◌<◌, ◌≤◌, ℕ, List, length, OnOk, OnErr, None, Some, if◌then◌else◌, refl};
 ghost use Rattle.domain_label.specs.Lowercase.{lowercase_labels};
 ghost use Rattle.domain_label.specs.Wire.{wire};
+ghost use Rattle.domain_list.specs.Order.{lowercase_composed_order};
 ghost use Rattle.domain_parsed.specs.ParsedNames.{parsed_labels};
 ghost use Rattle.domain_rdata.specs.ReadBack.{Appended, Exceeds};
 ghost use Rattle.domain_rdata.specs.RecordData.{NameOctets};
@@ -18,6 +19,7 @@ use domain_rdata::Composer;
 use domain_traits::ToName;
 use domain_wire::ParseError;
 use octseq::{Octets, Parser};
+use std::cmp::Ordering;
 
 /// An absolute name that record data may have.
 pub trait DataName: Absolute {
@@ -47,6 +49,10 @@ pub trait DataName: Absolute {
         ensures unchanged { OnErr result (Target.octets target.new ≡ Target.octets target.old) }
         ensures full { OnErr result (Target.capacity target.old < length (Target.octets target.old) + length (wire (lowercase_labels (Self.labels self.now)))) }
         ensures capacity { Target.capacity target.old ≤ Target.capacity target.new };
+
+    /// The order of the octets of the two names in lowercase with no pointer.
+    fn lowercase_cmp(&self, other: &Self) -> Ordering
+        ensures { result ≡ lowercase_composed_order (Self.labels self.now) (Self.labels other.now) };
 }
 
 impl<Octs: Octets> DataName for ParsedName<Octs> {
@@ -70,6 +76,10 @@ impl<Octs: Octets> DataName for ParsedName<Octs> {
     ) -> Result<(), Target::AppendError> {
         self.compose_canonical(target)
     }
+
+    fn lowercase_cmp(&self, other: &ParsedName<Octs>) -> Ordering {
+        self.lowercase_composed_cmp(other)
+    }
 }
 
 impl<Octs: Octets> DataName for Name<Octs> {
@@ -92,6 +102,10 @@ impl<Octs: Octets> DataName for Name<Octs> {
         target: &mut Target,
     ) -> Result<(), Target::AppendError> {
         self.compose_canonical(target)
+    }
+
+    fn lowercase_cmp(&self, other: &Name<Octs>) -> Ordering {
+        self.lowercase_composed_cmp(other)
     }
 }
 
