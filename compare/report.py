@@ -322,8 +322,9 @@ class Report:
 
     def last_line(self):
         wrong, stated = self.wrong()
-        here = f"{len(wrong + stated)} cases" + (f", {len(stated)} of them as its pages state" if stated else "")
-        here = f"this project differs from the standard's text in {here}"
+        here = f"this project differs from the standard's text in {len(wrong)} cases"
+        if stated:
+            here += f", beside the {len(stated)} that its pages state"
         if "this" not in self.keys:
             here = "this project wasn't asked, since its library isn't built"
         asked = f"{len(self.cases)} cases and {RANDOM_MESSAGES:,} random messages, {len(self.libraries)} libraries"

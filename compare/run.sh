@@ -6,7 +6,7 @@
 #
 # WORK is the folder to build in; compare/build.sh tells the variables. What is built, and what isn't and why, goes to
 # standard error. The last line has the counts of cases, of libraries, and of cases where this project differs from the
-# standard's text; status 1 where it does so and no page states it.
+# standard's text and no page states it, which set the status to 1; those that a page states are counted beside them.
 set -euo pipefail
 here=$(cd "$(dirname "$0")" && pwd)
 work=${1:?a folder to build in}
