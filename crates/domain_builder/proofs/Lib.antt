@@ -1,12 +1,8 @@
-pub mod Sizes
-pub mod Grammar
-pub mod OneOutcome
-pub mod Buffering
-pub mod Reading
-pub mod Outcomes
 pub mod Building
 pub mod Pushes
-pub mod DisplayedIsRead
-pub mod PlainTexts
 pub mod Digits
 pub mod Reversing
+pub use Rattle.domain_text_grammar.proofs.Sizes
+pub use Rattle.domain_text_grammar.proofs.Grammar
+pub use Rattle.domain_text_grammar.proofs.OneOutcome
+pub use Rattle.domain_text_grammar.proofs.Outcomes

@@ -1,11 +1,9 @@
-pub mod BuilderState
-pub mod NameSymbols
-pub mod Plain
-pub mod TextGrammar
-pub mod ErrorText
-pub mod Laws
-pub mod Buffer
-pub mod TextErrors
 pub mod Inside
 pub mod Pushing
 pub mod Reverse
+pub use Rattle.domain_text_grammar.specs.BuilderState
+pub use Rattle.domain_text_grammar.specs.NameSymbols
+pub use Rattle.domain_text_grammar.specs.TextGrammar
+pub use Rattle.domain_text_grammar.specs.TextErrors
+pub use Rattle.domain_text_grammar.specs.ErrorText
+pub use Rattle.domain_text_grammar.specs.Laws

@@ -1,12 +1,12 @@
--- When a builder refuses octets.
-use Rattle.std.specs.Prelude.{◌≡◌, ◌≢◌, ℕ, ◌<◌, ◌≤◌, Some, None, Result, Ok, Err, MatchResult, List}
-use Rattle.domain_builder.specs.BuilderState.{BuilderState, size, symbol_fault, after, Makes, StopsAt, LacksRoom}
-use Rattle.domain_builder.specs.TextErrors.{MatchFromStr}
-use Rattle.domain_builder.specs.declared.error.FromStrError.{FromStrError}
-use Rattle.domain_builder.specs.declared.error.FromStrError.TheVariants as short
-use Rattle.domain_builder.specs.declared.name_symbol.TextFault.TheVariants as fault
-use Rattle.domain_builder.specs.declared.name_symbol.NameSymbol.{NameSymbol}
-use Rattle.domain_builder.specs.declared.name_symbol.NameSymbol.TheVariants.{Dot}
+-- When a builder refuses octets, and what its errors tell.
+use Rattle.std.specs.Prelude.{◌≡◌, ◌≢◌, ℕ, ◌<◌, ◌≤◌, Some, None, Result, Ok, Err, MatchResult, List, codes}
+use Rattle.domain_text_grammar.specs.BuilderState.{BuilderState, size, symbol_fault, after, Makes, StopsAt, LacksRoom}
+use Rattle.domain_text_grammar.specs.TextErrors.{MatchFromStr}
+use Rattle.domain_text_grammar.specs.declared.error.FromStrError.{FromStrError}
+use Rattle.domain_text_grammar.specs.declared.error.FromStrError.TheVariants as short
+use Rattle.domain_text_grammar.specs.declared.name_symbol.TextFault.TheVariants as fault
+use Rattle.domain_text_grammar.specs.declared.name_symbol.NameSymbol.{NameSymbol}
+use Rattle.domain_text_grammar.specs.declared.name_symbol.NameSymbol.TheVariants.{Dot}
 use Rattle.domain_builder.specs.declared.push_error.PushNameError.{PushNameError}
 use Rattle.domain_builder.specs.declared.push_error.PushNameError.TheVariants as name
 use Rattle.domain_builder.specs.declared.push_error.PushError.{PushError}
@@ -70,3 +70,14 @@ abbrev pub OriginFits : {A : Type 0} → (whole room : ℕ) → Result A PushNam
 OriginFits whole room (Ok octets) = whole ≤ 255
 OriginFits whole room (Err name.LongName) = 255 < whole
 OriginFits whole room (Err name.ShortBuf) = (whole ≤ 255) × (room < whole)
+
+-- The text of an error of adding octets to a builder
+abbrev pub push_text : PushError → List ℕ
+push_text LongLabel = codes "long label"
+push_text LongName = codes "long domain name"
+push_text ShortBuf = codes "buffer size exceeded"
+
+-- The text of an error of adding a name to a builder
+abbrev pub push_name_text : PushNameError → List ℕ
+push_name_text name.LongName = codes "long domain name"
+push_name_text name.ShortBuf = codes "buffer size exceeded"

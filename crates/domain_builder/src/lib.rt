@@ -1,21 +1,18 @@
-//! Texts of names, and labels that are put together one by one: what names from text and builders of names
-//! are made of. The octets that it gives are wire formats.
+//! Names that are put together step by step: labels and the octets of an open one, from octets, symbols, other names
+//! and addresses. A call makes its step or returns its one error and changes nothing; what is built is always in wire
+//! format. It passes on the grammar of texts and their reading, so that what is on top of it needs one line.
 #![tactic(auto)]
 
 mod append;
-mod buffer;
-mod error;
 mod labels;
-mod laws;
-mod name_symbol;
-mod plain;
 mod push_error;
 mod reverse;
-pub mod text;
 
-pub use error::{FromStrError, PresentationError, PresentationErrorKind, RelativeFromStrError};
+pub use domain_text_grammar::{
+    FromStrError, NameSymbol, PresentationError, PresentationErrorKind, RelativeFromStrError,
+    TextFault, error, name_symbol, name_symbol_of, text_laws,
+};
+pub use domain_text_reading::text;
 pub use labels::{LabelsBuilder, append_absolute};
-pub use laws::text_laws;
-pub use name_symbol::{NameSymbol, TextFault, name_symbol_of};
 pub use push_error::{PushError, PushNameError};
 pub use reverse::reverse_octets;

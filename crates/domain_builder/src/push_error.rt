@@ -1,6 +1,7 @@
 //! Why octets weren't added.
 ghost use Rattle.std.specs.Prelude.{◌≡◌, Some};
 
+use domain_text_grammar::{FromStrError, TextFault};
 use octseq::ShortBuf;
 use std::error::Error;
 use std::fmt;
@@ -17,7 +18,7 @@ pub enum PushError {
 }
 
 impl fmt::Display for PushError {
-    ghost use Rattle.domain_builder.specs.ErrorText.{push_text};
+    ghost use Rattle.domain_builder.specs.Pushing.{push_text};
 
     ghost output = { λ e. Some (push_text e) };
 
@@ -45,6 +46,20 @@ impl From<ShortBuf> for PushError {
     }
 }
 
+impl From<PushError> for FromStrError {
+    ghost use Rattle.domain_builder.specs.Pushing.{PushTold};
+
+    ghost from_gives = { λ push e. PushTold push e };
+
+    fn from(push: PushError) -> Self {
+        match push {
+            PushError::LongLabel => TextFault::LongLabel.into(),
+            PushError::LongName => TextFault::LongName.into(),
+            PushError::ShortBuf => FromStrError::ShortBuf,
+        }
+    }
+}
+
 /// Why a name wasn't added.
 #[derive(Clone, Copy, Debug, PartialEq, Eq)]
 pub enum PushNameError {
@@ -55,7 +70,7 @@ pub enum PushNameError {
 }
 
 impl fmt::Display for PushNameError {
-    ghost use Rattle.domain_builder.specs.ErrorText.{push_name_text};
+    ghost use Rattle.domain_builder.specs.Pushing.{push_name_text};
 
     ghost output = { λ e. Some (push_name_text e) };
 
@@ -79,5 +94,18 @@ impl From<ShortBuf> for PushNameError {
 
     fn from(_short: ShortBuf) -> Self {
         PushNameError::ShortBuf
+    }
+}
+
+impl From<PushNameError> for FromStrError {
+    ghost use Rattle.domain_builder.specs.Pushing.{PushNameTold};
+
+    ghost from_gives = { λ push e. PushNameTold push e };
+
+    fn from(push: PushNameError) -> Self {
+        match push {
+            PushNameError::LongName => TextFault::LongName.into(),
+            PushNameError::ShortBuf => FromStrError::ShortBuf,
+        }
     }
 }

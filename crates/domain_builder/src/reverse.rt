@@ -4,14 +4,13 @@ ghost use Rattle.std.specs.Fmt.{decimal};
 ghost use Rattle.std.specs.List.{flat_map};
 ghost use Rattle.octseq.specs.Capacity.{MayExceedCapacity};
 ghost use Rattle.domain_label.specs.Wire.{wire, Root, IsAbsoluteWire, labels_in};
-ghost use Rattle.domain_builder.specs.BuilderState.{finished, closed, size};
+ghost use Rattle.domain_text_grammar.specs.BuilderState.{finished, closed, size};
 ghost use Rattle.domain_builder.specs.Reverse.{nibbles, reverse_name};
 
-use crate::buffer::octets_of;
 use crate::labels::LabelsBuilder;
 use arrayvec::ArrayVec;
 use domain_wire::net::IpAddr;
-use octseq::{EmptyBuilder, FromBuilder, ShortBuf};
+use octseq::{EmptyBuilder, FromBuilder, OctetsBuilder, ShortBuf};
 use std::alloc::Global;
 
 /// The wire format of the name under which an address is looked up, in one piece that is appended once.
@@ -89,4 +88,18 @@ fn nibble_labels(octets: &[u8]) -> LabelsBuilder<ArrayVec<u8, 255>>
         };
     }
     labels
+}
+
+/// New octets that are those of the slice.
+fn octets_of<Octs: FromBuilder + Drop>(slice: &[u8], alloc: Global) -> Result<Octs, ShortBuf>
+where
+    Octs::Builder: EmptyBuilder + Drop,
+    ensures ok { IfOk result (λ octets. Octs.octets octets ≡ slice.now) }
+    ensures err { OnErr result (MayExceedCapacity Octs.Builder.ROOM (length slice.now)) }
+{
+    let mut target = Octs::Builder::with_capacity(alloc, slice.len())?;
+    match target.append_slice(slice) {
+        Ok(()) => Ok(Octs::from_builder(target)),
+        Err(e) => Err(e.into()),
+    }
 }

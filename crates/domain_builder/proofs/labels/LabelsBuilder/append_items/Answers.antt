@@ -1,7 +1,7 @@
 use Rattle.std.proofs.Common.{sym, ap, ◌∙◌, arith}
 use Rattle.domain_label.proofs.Scanning.{given_some, given_none}
-use Rattle.domain_builder.specs.BuilderState.{symbol_fault, after}
-use Rattle.domain_builder.proofs.Reading.{read_none, read_more, read_all}
+use Rattle.domain_text_grammar.specs.BuilderState.{symbol_fault, after}
+use Rattle.domain_text_grammar.proofs.Reading.{read_none, read_more, read_all}
 use Rattle.domain_builder.specs.Inside.{room}
 use Rattle.domain_builder.proofs.Pushes.{takes_stop}
 use Rattle.domain_builder.proofs.labels.LabelsBuilder.append_items.Goals as goal

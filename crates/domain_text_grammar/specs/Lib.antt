@@ -1,0 +1,6 @@
+pub mod BuilderState
+pub mod NameSymbols
+pub mod TextGrammar
+pub mod ErrorText
+pub mod Laws
+pub mod TextErrors

@@ -1,0 +1,33 @@
+use Rattle.std.proofs.Common.{◌≢◌, sym, ap, ◌∙◌}
+use Rattle.domain_label.proofs.Scanning.{given_some, given_none}
+use Rattle.domain_text_grammar.specs.BuilderState.{symbol_fault, after}
+use Rattle.domain_text_grammar.specs.NameSymbols.{name_symbol}
+use Rattle.domain_text_grammar.specs.declared.name_symbol.NameSymbol.TheVariants.{Dot}
+use Rattle.domain_text_grammar.proofs.Reading.{name_empty, name_dot, name_dot_first, name_first_refused, name_rest}
+use Rattle.domain_text_reading.proofs.text.read_name_text.Goals as goal
+
+pub returns-in-None : goal.returns-in-None
+returns-in-None g c = λ all h. name_empty all (given_none g.I.Iterator.next_gives c.args.items c.next.new.self all h c.in-None.ensures.steps)
+
+pub returns-in-None-next : goal.returns-in-None-next
+returns-in-None-next g c = λ all h.
+    let n = given_some g.I.Iterator.next_gives c.args.items c.next.new.self c.in-Some.item all h c.in-Some.ensures.steps in
+    name_dot all n.0 c.in-Some.item c.args.buffer.now c.requires.empty n.1 (given_none g.I.Iterator.next_gives c.next.new.self _ n.0 n.2 c.in-None-next.ensures.steps) (sym c.name_symbol_of-first.ensures ∙ c.if-is_dot.ensures)
+
+pub returns-in-Some-next : goal.returns-in-Some-next
+returns-in-Some-next g c = λ all h.
+    let n = given_some g.I.Iterator.next_gives c.args.items c.next.new.self c.in-Some.item all h c.in-Some.ensures.steps in
+    let m = given_some g.I.Iterator.next_gives c.next.new.self _ _ n.0 n.2 c.in-Some-next.ensures.steps in
+    name_dot_first all n.0 m.0 c.in-Some.item _ n.1 m.1 (sym c.name_symbol_of-first.ensures ∙ c.if-is_dot.ensures)
+
+pub returns-in-Ok : goal.returns-in-Ok
+returns-in-Ok g c = λ all h.
+    let n = given_some g.I.Iterator.next_gives c.args.items c.next.new.self c.in-Some.item all h c.in-Some.ensures.steps in
+    let other : name_symbol c.in-Some.item ≢ Dot = λ e. c.if-is_dot.ensures (c.name_symbol_of-first.ensures ∙ e) in
+    name_rest all n.0 c.in-Some.item c.args.buffer.now c.push_name_symbol.new.self c.push_name_symbols.new.self c.push_name_symbols.result c.requires.empty n.1 other (ap (symbol_fault c.args.buffer.now) (sym c.name_symbol_of-first.ensures) ∙ c.in-Ok.ensures.taken) (c.in-Ok.ensures.made ∙ ap (after c.args.buffer.now) c.name_symbol_of-first.ensures) (c.push_name_symbols.ensures n.0 n.2)
+
+pub returns-in-Err : goal.returns-in-Err
+returns-in-Err g c = λ all h.
+    let n = given_some g.I.Iterator.next_gives c.args.items c.next.new.self c.in-Some.item all h c.in-Some.ensures.steps in
+    let other : name_symbol c.in-Some.item ≢ Dot = λ e. c.if-is_dot.ensures (c.name_symbol_of-first.ensures ∙ e) in
+    name_first_refused all n.0 c.in-Some.item c.args.buffer.now c.in-Err.fault c.requires.empty n.1 other (ap (symbol_fault c.args.buffer.now) (sym c.name_symbol_of-first.ensures) ∙ c.in-Err.ensures.err)
