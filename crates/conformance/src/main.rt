@@ -4,38 +4,40 @@
 //! docs/CONFORMANCE.md tells the lines and the answers.
 #![tactic(auto)]
 
-mod address;
-mod answer;
-mod building;
-mod canonical;
-mod capacity;
-mod chains;
-mod command;
-mod compare;
-mod compress;
-mod errors;
-mod fail;
-mod fields;
-mod flat;
-mod kept;
-mod labels;
-mod made;
-mod message;
-mod numbers;
-mod octets;
-mod parser;
 mod program;
-mod records;
-mod relative;
-mod serials;
-mod text;
-mod words;
 
-use crate::answer::Answer;
-use crate::command::respond;
+use crate::program::put_run;
+use conformance_answer::{Answer, Fail, Fields};
+use conformance_labels::answer_labels;
+use conformance_names::answer_names;
+use conformance_parsed::answer_parsed;
+use conformance_texts::answer_texts;
 use std::alloc::{AllocError, Global};
 use std::io::{Read, Write};
 use std::process::ExitCode;
+
+/// Answers a line.
+fn respond(line: &[u8], out: &mut Answer) {
+    let fields = Fields::new(line);
+    let is_answered = answer_parsed(fields, out)
+        || answer_texts(fields, out)
+        || answer_names(fields, out)
+        || answer_labels(fields, out)
+        || answer_run(fields, out);
+    if !is_answered {
+        out.fail(Fail::Bad);
+    }
+}
+
+/// `run WORDS INPUT`
+fn answer_run(fields: Fields<'_>, out: &mut Answer) -> bool {
+    if fields.at(0) != b"run".as_slice() {
+        return false;
+    }
+    fields.expect(3, out);
+    put_run(out, fields.at(1), fields.at(2));
+    true
+}
 
 /// Answers each line of the input. A line that begins with `#` is a heading, and its own answer.
 fn answer_all(alloc: Global, input: &[u8], out: &mut Vec<u8>) -> Result<(), AllocError> {

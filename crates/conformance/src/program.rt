@@ -1,12 +1,7 @@
-//! What the program `dnsnames` does with the words behind its name.
+//! What the program `dnsnames` does with the words after its name.
 
-use crate::answer::Answer;
-use crate::fail::Fail;
-use crate::fields::{decimal, is, octets_of, split_once};
-use domain::tool::run;
-
-/// The most zero octets that an input has.
-const MOST: usize = 100_000;
+use conformance_answer::{Answer, Fail, is, octets_of};
+use domain_tool::tool::run;
 
 /// `run WORDS INPUT`: the status, what is written, and the reason that is told.
 pub fn put_run(out: &mut Answer, words: &[u8], input: &[u8]) {
@@ -22,7 +17,7 @@ pub fn put_run(out: &mut Answer, words: &[u8], input: &[u8]) {
             Err(_) => out.fail(Fail::Bad),
         }
     }
-    match input_of(out, input) {
+    match octets_of(input, out.alloc()) {
         Ok(octets) => put_done(out, texts.as_slice(), octets.as_slice()),
         Err(fail) => out.fail(fail),
     }
@@ -47,29 +42,12 @@ fn words_of(out: &mut Answer, field: &[u8]) -> Vec<Vec<u8>> {
     words
 }
 
-/// Octets, or `zeros:LEN`.
-fn input_of(out: &Answer, field: &[u8]) -> Result<Vec<u8>, Fail> {
-    let (word, digits) = split_once(field, b':');
-    let Some(digits) = digits else {
-        return octets_of(field, out.alloc());
-    };
-    let len = decimal(digits)?;
-    if !is(word, b"zeros") || len > MOST {
-        return Err(Fail::Bad);
-    }
-    let mut zeros = Vec::new(out.alloc());
-    match zeros.resize(len, 0) {
-        Ok(()) => Ok(zeros),
-        Err(_) => Err(Fail::Memory),
-    }
-}
-
 fn put_done(out: &mut Answer, words: &[&str], octets: &[u8]) {
     let mut input = octets;
     let mut written: Vec<u8> = Vec::new(out.alloc());
     let mut told: Vec<u8> = Vec::new(out.alloc());
     let status = run(out.alloc(), words, &mut input, &mut written, &mut told);
     out.put_number(usize::from(status));
-    out.put_hex_behind(b" ", written.as_slice());
-    out.put_hex_behind(b" ", told.as_slice());
+    out.put_hex_after(b" ", written.as_slice());
+    out.put_hex_after(b" ", told.as_slice());
 }

@@ -1,7 +1,7 @@
 //! A message that is read, and composed anew.
 
-use crate::answer::{Answer, Fail};
 use crate::data::Read;
+use conformance_answer::{Answer, Fail};
 use domain_compress::CompressComposer;
 use domain_data::{A, Aaaa, Cname, Dname, Mx, Ns, Ptr, Soa, Srv};
 use domain_header::HeaderSection;
@@ -14,7 +14,7 @@ use octseq::{Octets, OctetsBuilder};
 pub fn put_composed(out: &mut Answer, octets: &[u8]) {
     let message = match Message::from_octets(octets) {
         Ok(message) => message,
-        Err(error) => return out.put_text(b"err ", error),
+        Err(error) => return out.put_text_after(b"err ", error),
     };
     let mut plain: Vec<u8> = Vec::new(out.alloc());
     let mut compressed = CompressComposer::new(Vec::new(out.alloc()));
@@ -78,7 +78,7 @@ fn compose_section<T: Composer>(
 }
 
 fn is_refused(out: &mut Answer, error: ParseError) -> bool {
-    out.put_text(b"err ", error);
+    out.put_text_after(b"err ", error);
     false
 }
 

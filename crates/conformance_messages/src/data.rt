@@ -1,14 +1,19 @@
 //! Record data by its type.
 
-use crate::answer::{Answer, Fail};
-use crate::fields::Fields;
+use conformance_answer::{Answer, Fail, Fields};
 use domain_data::{A, Aaaa, Cname, Dname, Mx, Ns, Ptr, Soa, Srv};
 use domain_parsed::ParsedName;
 use domain_rdata::{ComposeRecordData, ParseRecordData, Rtype};
+use domain_traits::ToName;
 use octseq::Parser;
 
 /// A name as it is read.
 pub type Read<'a> = ParsedName<&'a [u8]>;
+
+/// Appends a word, and the name with its final dot.
+pub fn put_name(out: &mut Answer, word: &[u8], name: &Read<'_>) {
+    out.put_text_after(word, name.fmt_with_dot());
+}
 
 /// `data TYPE OCTETS OFFSET LENGTH`: asks each type of data.
 pub fn put_data(out: &mut Answer, fields: Fields<'_>) {
@@ -55,7 +60,7 @@ fn read<'a, D: ParseRecordData<'a> + ComposeRecordData + Drop>(
         }
         Err(error) => {
             out.agree(left.pos() == parser.pos(), b"parse_rdata");
-            out.put_text(b"err ", error);
+            out.put_text_after(b"err ", error);
             None
         }
     }
@@ -75,7 +80,7 @@ fn put_forms<D: ComposeRecordData>(out: &mut Answer, data: &D) {
     out.put(b" ");
     out.put_hex(canonical.as_slice());
     match data.rdlen(true) {
-        Some(len) => out.put_text(b" ", len),
+        Some(len) => out.put_text_after(b" ", len),
         None => out.put(b" -"),
     }
     let len = data.rdlen(false).map(|len| usize::from(len));
@@ -98,7 +103,7 @@ fn put_aaaa(out: &mut Answer, rtype: Rtype, parser: Parser<'_>) {
 fn put_ns(out: &mut Answer, rtype: Rtype, parser: Parser<'_>) {
     if let Some(data) = read::<Ns<Read<'_>>>(out, rtype, parser) {
         let start = out.len();
-        out.put_name(b"", data.nsdname());
+        put_name(out, b"", data.nsdname());
         out.is_shown(start, &data);
     }
 }
@@ -106,7 +111,7 @@ fn put_ns(out: &mut Answer, rtype: Rtype, parser: Parser<'_>) {
 fn put_cname(out: &mut Answer, rtype: Rtype, parser: Parser<'_>) {
     if let Some(data) = read::<Cname<Read<'_>>>(out, rtype, parser) {
         let start = out.len();
-        out.put_name(b"", data.cname());
+        put_name(out, b"", data.cname());
         out.is_shown(start, &data);
     }
 }
@@ -114,7 +119,7 @@ fn put_cname(out: &mut Answer, rtype: Rtype, parser: Parser<'_>) {
 fn put_ptr(out: &mut Answer, rtype: Rtype, parser: Parser<'_>) {
     if let Some(data) = read::<Ptr<Read<'_>>>(out, rtype, parser) {
         let start = out.len();
-        out.put_name(b"", data.ptrdname());
+        put_name(out, b"", data.ptrdname());
         out.is_shown(start, &data);
     }
 }
@@ -122,7 +127,7 @@ fn put_ptr(out: &mut Answer, rtype: Rtype, parser: Parser<'_>) {
 fn put_dname(out: &mut Answer, rtype: Rtype, parser: Parser<'_>) {
     if let Some(data) = read::<Dname<Read<'_>>>(out, rtype, parser) {
         let start = out.len();
-        out.put_name(b"", data.dname());
+        put_name(out, b"", data.dname());
         out.is_shown(start, &data);
     }
 }
@@ -130,8 +135,8 @@ fn put_dname(out: &mut Answer, rtype: Rtype, parser: Parser<'_>) {
 fn put_mx(out: &mut Answer, rtype: Rtype, parser: Parser<'_>) {
     if let Some(data) = read::<Mx<Read<'_>>>(out, rtype, parser) {
         let start = out.len();
-        out.put_text(b"", data.preference());
-        out.put_name(b" ", data.exchange());
+        out.put_text_after(b"", data.preference());
+        put_name(out, b" ", data.exchange());
         out.is_shown(start, &data);
     }
 }
@@ -139,10 +144,10 @@ fn put_mx(out: &mut Answer, rtype: Rtype, parser: Parser<'_>) {
 fn put_srv(out: &mut Answer, rtype: Rtype, parser: Parser<'_>) {
     if let Some(data) = read::<Srv<Read<'_>>>(out, rtype, parser) {
         let start = out.len();
-        out.put_text(b"", data.priority());
-        out.put_text(b" ", data.weight());
-        out.put_text(b" ", data.port());
-        out.put_name(b" ", data.target());
+        out.put_text_after(b"", data.priority());
+        out.put_text_after(b" ", data.weight());
+        out.put_text_after(b" ", data.port());
+        put_name(out, b" ", data.target());
         out.is_shown(start, &data);
     }
 }
@@ -150,13 +155,13 @@ fn put_srv(out: &mut Answer, rtype: Rtype, parser: Parser<'_>) {
 fn put_soa(out: &mut Answer, rtype: Rtype, parser: Parser<'_>) {
     if let Some(data) = read::<Soa<Read<'_>>>(out, rtype, parser) {
         let start = out.len();
-        out.put_name(b"", data.mname());
-        out.put_name(b" ", data.rname());
-        out.put_text(b" ", data.serial());
-        out.put_text(b" ", data.refresh());
-        out.put_text(b" ", data.retry());
-        out.put_text(b" ", data.expire());
-        out.put_text(b" ", data.minimum());
+        put_name(out, b"", data.mname());
+        put_name(out, b" ", data.rname());
+        out.put_text_after(b" ", data.serial());
+        out.put_text_after(b" ", data.refresh());
+        out.put_text_after(b" ", data.retry());
+        out.put_text_after(b" ", data.expire());
+        out.put_text_after(b" ", data.minimum());
         out.is_shown(start, &data);
     }
 }

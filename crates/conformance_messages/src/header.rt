@@ -1,23 +1,22 @@
 //! The header, and the mnemonics of classes.
 
-use crate::answer::{Answer, Fail};
-use crate::fields::{Fields, decimal, is, split_at_colon};
+use conformance_answer::{Answer, Fail, Fields, decimal, is, split_once};
 use domain_header::{Class, Header, HeaderCounts, HeaderSection, Opcode, Rcode, ShortMessage};
 
 /// `header OCTETS`
 pub fn put_header(out: &mut Answer, octets: &[u8]) {
     if octets.len() < 12 {
-        return out.put_text(b"err ", ShortMessage);
+        return out.put_text_after(b"err ", ShortMessage);
     }
     let header = Header::for_message_slice(octets);
     let counts = HeaderCounts::for_message_slice(octets);
-    out.put_text(b"", header.id());
-    out.put_text(b" ", header.opcode());
-    out.put_text(b" ", header.rcode());
-    out.put_text(b" ", counts.qdcount());
-    out.put_text(b" ", counts.ancount());
-    out.put_text(b" ", counts.nscount());
-    out.put_text(b" ", counts.arcount());
+    out.put_text_after(b"", header.id());
+    out.put_text_after(b" ", header.opcode());
+    out.put_text_after(b" ", header.rcode());
+    out.put_text_after(b" ", counts.qdcount());
+    out.put_text_after(b" ", counts.ancount());
+    out.put_text_after(b" ", counts.nscount());
+    out.put_text_after(b" ", counts.arcount());
     put_flag(out, b" qr", header.qr());
     put_flag(out, b" aa", header.aa());
     put_flag(out, b" tc", header.tc());
@@ -53,14 +52,14 @@ pub fn put_written_header(out: &mut Answer, fields: Fields<'_>) {
         let section = HeaderSection::new(Header::new(), HeaderCounts::new());
         match section.write(octets.as_mut_slice()) {
             Ok(()) => out.agree(false, b"HeaderSection::write"),
-            Err(error) => out.put_text(b"err ", error),
+            Err(error) => out.put_text_after(b"err ", error),
         }
         return;
     }
     let mut header = Header::for_message_slice(octets.as_slice());
     let mut counts = HeaderCounts::for_message_slice(octets.as_slice());
     for call in fields.at(2).split(|octet| *octet == b';') {
-        let (word, digits) = split_at_colon(call);
+        let (word, digits) = split_once(call, b':');
         match decimal(digits.unwrap_or(b"")) {
             Ok(number) if number <= 65535 => {
                 set(out, &mut header, &mut counts, word, number as u16);
@@ -123,7 +122,7 @@ pub fn put_class(out: &mut Answer, text: &[u8]) {
         return out.fail(Fail::Bad);
     };
     match Class::from_mnemonic(word) {
-        Some(class) => out.put_text(b"", class.to_int()),
+        Some(class) => out.put_text_after(b"", class.to_int()),
         None => out.put(b"none"),
     }
 }

@@ -4,19 +4,16 @@
 //! docs/CONFORMANCE.md tells the lines and the answers.
 #![tactic(auto)]
 
-mod answer;
 mod compose;
 mod data;
-mod fields;
 mod header;
 mod message;
 
-use crate::answer::{Answer, Fail};
 use crate::compose::put_composed;
 use crate::data::put_data;
-use crate::fields::{Fields, is};
 use crate::header::{put_class, put_header, put_written_header};
 use crate::message::put_message;
+use conformance_answer::{Answer, Fail, Fields, is};
 use std::alloc::{AllocError, Global};
 use std::io::{Read, Write};
 use std::process::ExitCode;

@@ -1,0 +1,155 @@
+//! Labels: split from octets, compared, composed, and lowered in place.
+
+use arrayvec::ArrayVec;
+use conformance_answer::{Answer, Fail};
+use domain_label::{Label, OwnedLabel};
+use octseq::OctetsBuilder;
+use std::hash::{DefaultHasher, Hash, Hasher};
+
+/// `label A B`
+pub fn put_label(out: &mut Answer, a: &[u8], b: &[u8]) {
+    match Label::from_slice(a) {
+        Ok(left) => match Label::from_slice(b) {
+            Ok(right) => put_two_labels(out, left, right),
+            Err(error) => out.put_text(error),
+        },
+        Err(error) => out.put_text(error),
+    }
+}
+
+fn put_two_labels(out: &mut Answer, a: Label<'_>, b: Label<'_>) {
+    out.put_bit(b"eq=", a == b);
+    out.put_order(b" cmp=", a.cmp(&b));
+    out.put_order(b" composed=", a.composed_cmp(&b));
+    out.put_order(b" lower=", a.lowercase_composed_cmp(&b));
+    out.put_shown_after(b" text=", a);
+    out.put_bit(b" root=", a.is_root());
+    out.put_bit(b" wild=", a.is_wildcard());
+    out.put(b" wire=");
+    put_composed(out, a);
+    out.put(b" canonical=");
+    put_lowered(out, a);
+    out.put_text_after(b" len=", a.compose_len());
+    is_compared_as_owned(out, a, b);
+    gives_octets(out, a);
+    is_owned(out, a);
+    is_composed_where_it_fits(out, a);
+}
+
+/// A label goes into the room that it just fits, and an octet less refuses it and stays.
+fn is_composed_where_it_fits(out: &mut Answer, label: Label<'_>) {
+    let len = usize::from(label.compose_len());
+    let mut fits = room_for(out, len);
+    out.agree(label.compose(&mut fits).is_ok(), b"compose of what fits");
+    let mut full = room_for(out, len);
+    out.agree(full.append_slice(b"\xee").is_ok(), b"append_slice");
+    let held = full.len();
+    out.agree(
+        label.compose(&mut full).is_err(),
+        b"compose of what exceeds the room",
+    );
+    out.agree(
+        label.compose_canonical(&mut full).is_err(),
+        b"compose of what exceeds the room",
+    );
+    out.agree(full.len() == held, b"compose of what exceeds the room");
+}
+
+/// An array of 64 octets that has room for so many more.
+fn room_for(out: &mut Answer, len: usize) -> ArrayVec<u8, 64> {
+    let mut room = ArrayVec::<u8, 64>::new();
+    for _octet in len..64 {
+        out.agree(room.append_slice(b"\xee").is_ok(), b"append_slice");
+    }
+    room
+}
+
+fn put_composed(out: &mut Answer, label: Label<'_>) {
+    let mut wire: Vec<u8> = Vec::new(out.alloc());
+    if label.compose(&mut wire).is_err() {
+        out.fail(Fail::Memory);
+    }
+    out.put_hex(wire.as_slice());
+    let owned = OwnedLabel::from_label(label);
+    out.same(owned.as_wire_slice(), wire.as_slice(), b"as_wire_slice");
+}
+
+fn put_lowered(out: &mut Answer, label: Label<'_>) {
+    let mut lowered: Vec<u8> = Vec::new(out.alloc());
+    if label.compose_canonical(&mut lowered).is_err() {
+        out.fail(Fail::Memory);
+    }
+    out.put_hex(lowered.as_slice());
+    let canonical = label.to_canonical();
+    out.same(
+        canonical.as_wire_slice(),
+        lowered.as_slice(),
+        b"to_canonical",
+    );
+    let mut owned = OwnedLabel::from_label(label);
+    owned.make_canonical();
+    out.same(owned.as_wire_slice(), lowered.as_slice(), b"make_canonical");
+    let mut lent = OwnedLabel::from_label(label);
+    lower_lent(&mut lent);
+    out.same(lent.as_wire_slice(), lowered.as_slice(), b"as_label_mut");
+}
+
+fn lower_lent(owned: &mut OwnedLabel) {
+    let mut label = owned.as_label_mut();
+    label.make_canonical();
+}
+
+fn hash_of(label: Label<'_>) -> u64 {
+    let mut hasher = DefaultHasher::new();
+    label.hash(&mut hasher);
+    hasher.finish()
+}
+
+fn owned_hash_of(label: OwnedLabel) -> u64 {
+    let mut hasher = DefaultHasher::new();
+    label.hash(&mut hasher);
+    hasher.finish()
+}
+
+/// Owned labels compare and hash as labels, and equal ones hash alike.
+fn is_compared_as_owned(out: &mut Answer, a: Label<'_>, b: Label<'_>) {
+    let left = OwnedLabel::from(a);
+    let right = OwnedLabel::from(b);
+    out.agree((left == right) == (a == b), b"== of owned labels");
+    out.agree(left.cmp(&right) == a.cmp(&b), b"cmp of owned labels");
+    out.agree(a.partial_cmp(&b) == Some(a.cmp(&b)), b"partial_cmp");
+    out.agree(a != b || hash_of(a) == hash_of(b), b"hash");
+    out.agree(owned_hash_of(left) == hash_of(a), b"hash of owned labels");
+}
+
+/// The octets of a label come from its iterators.
+fn gives_octets(out: &mut Answer, label: Label<'_>) {
+    let octets = label.as_slice();
+    out.agree(label.len() == octets.len(), b"len");
+    out.agree(label.is_empty() == octets.is_empty(), b"is_empty");
+    out.agree(label.iter().eq(octets.iter().copied()), b"iter");
+    out.agree(label.into_iter().eq(octets.iter().copied()), b"into_iter");
+}
+
+/// An owned label lends the label that it was made from, and is shown as that.
+fn is_owned(out: &mut Answer, label: Label<'_>) {
+    let owned = OwnedLabel::from_label(label);
+    out.same(owned.as_label().as_slice(), label.as_slice(), b"as_label");
+    match (
+        format!(in out.alloc(); "{owned}"),
+        format!(in out.alloc(); "{label}"),
+    ) {
+        (Ok(one), Ok(other)) => out.same(one.as_bytes(), other.as_bytes(), b"text of owned labels"),
+        _ => out.fail(Fail::Memory),
+    }
+}
+
+/// `slice MSG START`
+pub fn put_slice(out: &mut Answer, message: &[u8], start: usize) {
+    let mut is_first = true;
+    for label in Label::iter_slice(message, start) {
+        out.put_comma(&mut is_first);
+        out.put_hex(label.as_slice());
+    }
+    out.put_none(is_first);
+}

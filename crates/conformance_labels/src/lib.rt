@@ -1,0 +1,18 @@
+//! The calls of the conformance table on octets, numbers, serial numbers and labels.
+#![tactic(auto)]
+
+mod address;
+mod command;
+mod errors;
+mod labels;
+mod numbers;
+mod octets;
+mod order;
+mod parser;
+mod serials;
+mod split;
+
+pub use command::answer_labels;
+pub use errors::{put_name_error, put_parse_error, put_relative_kind, put_relative_name_error};
+pub use order::{is_in_canonical_order, put_canonical_order};
+pub use parser::parser_at;

@@ -1,0 +1,210 @@
+//! Numbers and addresses on the wire.
+
+use crate::parser::parser_at;
+use arrayvec::ArrayVec;
+use conformance_answer::{Answer, Fail};
+use domain_wire::{Compose, Ipv4Addr, Ipv6Addr, Parse, ParseError, compose_vec, parse_slice};
+use octseq::{OctetsBuilder, Parser};
+use std::fmt::Display;
+
+/// A value that was parsed, or the error, and the parser's place.
+fn put_parsed<T: Display + Drop>(out: &mut Answer, value: Result<T, ParseError>, place: usize) {
+    match value {
+        Ok(value) => out.put_text(value),
+        Err(error) => out.put_text(error),
+    }
+    put_place(out, place);
+}
+
+fn put_place(out: &mut Answer, place: usize) {
+    out.put_number_after(b"@", place);
+    out.put(b";");
+}
+
+/// A number of a type at the parser's place.
+fn put_number<'a, T: Parse<'a> + Display + Drop>(out: &mut Answer, parser: Parser<'a>) {
+    let mut parser = parser;
+    let value = T::parse(&mut parser);
+    put_parsed(out, value, parser.pos());
+}
+
+/// `ints OCTETS PLACE`
+pub fn put_ints(out: &mut Answer, octets: &[u8], place: usize) {
+    let Some(parser) = parser_at(octets, place, octets.len()) else {
+        return out.fail(Fail::Bad);
+    };
+    put_number::<i8>(out, parser);
+    put_number::<u8>(out, parser);
+    put_number::<i16>(out, parser);
+    put_number::<u16>(out, parser);
+    put_number::<i32>(out, parser);
+    put_number::<u32>(out, parser);
+    put_number::<i64>(out, parser);
+    put_number::<u64>(out, parser);
+    put_addresses(out, parser);
+    let whole: Result<u32, ParseError> = parse_slice(octets, |p| u32::parse(p));
+    put_parsed(out, whole, 0);
+}
+
+fn put_addresses(out: &mut Answer, parser: Parser<'_>) {
+    let mut first = parser;
+    match Ipv4Addr::parse(&mut first) {
+        Ok(address) => out.put_hex(&address.octets()),
+        Err(error) => out.put_text(error),
+    }
+    put_place(out, first.pos());
+    let mut second = parser;
+    match Ipv6Addr::parse(&mut second) {
+        Ok(address) => out.put_hex(&address.octets()),
+        Err(error) => out.put_text(error),
+    }
+    put_place(out, second.pos());
+}
+
+/// `arrays OCTETS PLACE`: an array of no octets, of 3, and of 16.
+pub fn put_arrays(out: &mut Answer, octets: &[u8], place: usize) {
+    let Some(parser) = parser_at(octets, place, octets.len()) else {
+        return out.fail(Fail::Bad);
+    };
+    let mut none = parser;
+    match <[u8; 0]>::parse(&mut none) {
+        Ok(octets) => out.put_hex(&octets),
+        Err(error) => out.put_text(error),
+    }
+    put_place(out, none.pos());
+    let mut three = parser;
+    match <[u8; 3]>::parse(&mut three) {
+        Ok(octets) => out.put_hex(&octets),
+        Err(error) => out.put_text(error),
+    }
+    put_place(out, three.pos());
+    let mut sixteen = parser;
+    match <[u8; 16]>::parse(&mut sixteen) {
+        Ok(octets) => out.put_hex(&octets),
+        Err(error) => out.put_text(error),
+    }
+    put_place(out, sixteen.pos());
+}
+
+/// `whole OCTETS`: all octets as a number of 16 bits, and as no octets.
+pub fn put_whole(out: &mut Answer, octets: &[u8]) {
+    let number: Result<u16, ParseError> = parse_slice(octets, |p| u16::parse(p));
+    match number {
+        Ok(value) => out.put_text(value),
+        Err(error) => out.put_text(error),
+    }
+    out.put(b" ");
+    let none: Result<[u8; 0], ParseError> = parse_slice(octets, |p| <[u8; 0]>::parse(p));
+    match none {
+        Ok(_) => out.put(b"ok"),
+        Err(error) => out.put_text(error),
+    }
+}
+
+/// What a value is composed to, in a room of 16 octets that it fits, and in one that lacks an octet.
+pub fn put_composed<T: Compose>(out: &mut Answer, value: &T, len: usize) {
+    let mut octets: Vec<u8> = Vec::new(out.alloc());
+    if value.compose(&mut octets).is_err() {
+        out.fail(Fail::Memory);
+    }
+    out.put_hex(octets.as_slice());
+    out.agree(octets.len() == len, b"compose");
+    out.agree(usize::from(T::COMPOSE_LEN) == len, b"COMPOSE_LEN");
+    out.agree(<&T>::COMPOSE_LEN == T::COMPOSE_LEN, b"COMPOSE_LEN");
+    out.agree(usize::from(value.composed_len()) == len, b"composed_len");
+    is_refused_by_a_full_room(out, value, len);
+}
+
+fn is_refused_by_a_full_room<T: Compose>(out: &mut Answer, value: &T, len: usize) {
+    let mut fits = room_for(out, len);
+    out.agree(
+        (&value).compose(&mut &mut fits).is_ok(),
+        b"compose of what fits",
+    );
+    let mut full = room_for(out, len);
+    out.agree(full.append_slice(b"\xee").is_ok(), b"append_slice");
+    let held = full.len();
+    out.agree(
+        value.compose(&mut full).is_err(),
+        b"compose of what exceeds the room",
+    );
+    out.agree(full.len() == held, b"compose of what exceeds the room");
+}
+
+/// An array of 16 octets that has room for so many more.
+fn room_for(out: &mut Answer, len: usize) -> ArrayVec<u8, 16> {
+    let mut room = ArrayVec::<u8, 16>::new();
+    for _octet in len..16 {
+        out.agree(room.append_slice(b"\xee").is_ok(), b"append_slice");
+    }
+    room
+}
+
+fn number_of(field: &[u8]) -> Option<i128> {
+    match str::from_utf8(field) {
+        Ok(text) => text.parse::<i128>().ok(),
+        Err(_) => None,
+    }
+}
+
+/// A number in as few as 8 bits, with or without a sign.
+fn put_in_bits<T: Compose + Copy>(out: &mut Answer, number: Option<T>, len: usize) {
+    match number {
+        Some(value) => put_composed(out, &value, len),
+        None => out.fail(Fail::Bad),
+    }
+}
+
+/// `signed BITS NUMBER`
+pub fn put_signed(out: &mut Answer, bits: usize, digits: &[u8]) {
+    let Some(number) = number_of(digits) else {
+        return out.fail(Fail::Bad);
+    };
+    match bits {
+        8 => put_in_bits(out, i8::try_from(number).ok(), 1),
+        16 => put_in_bits(out, i16::try_from(number).ok(), 2),
+        32 => put_in_bits(out, i32::try_from(number).ok(), 4),
+        64 => put_in_bits(out, i64::try_from(number).ok(), 8),
+        128 => put_composed(out, &number, 16),
+        _ => out.fail(Fail::Bad),
+    }
+}
+
+fn unsigned_number_of(field: &[u8]) -> Option<u128> {
+    match str::from_utf8(field) {
+        Ok(text) => text.parse::<u128>().ok(),
+        Err(_) => None,
+    }
+}
+
+/// `unsigned BITS NUMBER`
+pub fn put_unsigned(out: &mut Answer, bits: usize, digits: &[u8]) {
+    let Some(number) = unsigned_number_of(digits) else {
+        return out.fail(Fail::Bad);
+    };
+    match bits {
+        8 => put_in_bits(out, u8::try_from(number).ok(), 1),
+        16 => put_in_bits(out, u16::try_from(number).ok(), 2),
+        32 => put_in_bits(out, u32::try_from(number).ok(), 4),
+        64 => put_in_bits(out, u64::try_from(number).ok(), 8),
+        128 => put_composed(out, &number, 16),
+        _ => out.fail(Fail::Bad),
+    }
+}
+
+/// `composevec A B`: two runs of octets composed into one `Vec`, each octet as a number.
+pub fn put_composevec(out: &mut Answer, first: &[u8], second: &[u8]) {
+    let composed = compose_vec(out.alloc(), |target| {
+        for octet in first {
+            octet.compose(target)?;
+        }
+        for octet in second {
+            octet.compose(target)?;
+        }
+        Ok(())
+    });
+    match composed {
+        Ok(octets) => out.put_hex(octets.as_slice()),
+        Err(_) => out.fail(Fail::Memory),
+    }
+}

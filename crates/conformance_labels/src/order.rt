@@ -1,0 +1,22 @@
+//! Values in their canonical order.
+
+use conformance_answer::Answer;
+use domain_wire::CanonicalOrd;
+use std::cmp::Ordering;
+
+/// The canonical order of two values is this one, by each call that tells it.
+pub fn is_in_canonical_order<T: CanonicalOrd>(out: &mut Answer, a: &T, b: &T, order: Ordering) {
+    out.agree(a.canonical_cmp(b) == order, b"canonical_cmp");
+    out.agree(a.canonical_lt(b) == order.is_lt(), b"canonical_lt");
+    out.agree(a.canonical_le(b) == order.is_le(), b"canonical_le");
+    out.agree(a.canonical_gt(b) == order.is_gt(), b"canonical_gt");
+    out.agree(a.canonical_ge(b) == order.is_ge(), b"canonical_ge");
+}
+
+/// Puts the canonical order of two values, and that they have the reverse order with sides swapped.
+pub fn put_canonical_order<T: CanonicalOrd>(out: &mut Answer, a: &T, b: &T) {
+    let order = a.canonical_cmp(b);
+    out.put_order(b"", order);
+    is_in_canonical_order(out, a, b, order);
+    is_in_canonical_order(out, b, a, order.reverse());
+}

@@ -1,0 +1,160 @@
+//! Names over octets of their own: made, copied, and taken apart.
+
+use arrayvec::ArrayVec;
+use conformance_answer::{Answer, Fail};
+use domain_label::Label;
+use domain_name::{Name, RelativeName};
+use octseq::{Octets, OctetsFrom, ShortBuf};
+use std::borrow::CowSlice;
+
+/// `keep NAME`: the name over a `Vec`, and then without its root label.
+pub fn put_keep(out: &mut Answer, octets: &[u8]) {
+    let Ok(owned) = Vec::from_slice(out.alloc(), octets) else {
+        return out.fail(Fail::Memory);
+    };
+    let Ok(name) = Name::from_octets(owned) else {
+        return out.fail(Fail::Bad);
+    };
+    let Ok(copy) = name.clone(out.alloc()) else {
+        return out.fail(Fail::Memory);
+    };
+    out.put_hex(copy.as_slice());
+    out.same(name.for_ref().as_slice(), octets, b"for_ref");
+    out.same(name.for_slice().as_slice(), octets, b"for_slice");
+    out.same(name.as_octets().as_slice(), octets, b"as_octets");
+    out.same(copy.into_octets().as_slice(), octets, b"into_octets");
+    out.put_hex_after(b" ", name.into_relative().as_slice());
+    is_kept_in_an_array(out, octets);
+    is_made_of_slice(out, octets);
+}
+
+fn is_kept_in_an_array(out: &mut Answer, octets: &[u8]) {
+    let Ok(held) = ArrayVec::<u8, 255>::try_from(octets) else {
+        return out.fail(Fail::Bad);
+    };
+    let Ok(name) = Name::from_octets(held) else {
+        return out.wrong(b"from_octets");
+    };
+    match name.clone(out.alloc()) {
+        Ok(copy) => out.same(copy.as_slice(), octets, b"clone"),
+        Err(_) => out.wrong(b"clone"),
+    }
+}
+
+/// The name made over octets of each kind.
+fn is_made_of_slice(out: &mut Answer, octets: &[u8]) {
+    let Ok(name) = Name::from_slice(octets) else {
+        return out.fail(Fail::Bad);
+    };
+    match name_over_vec(out, name) {
+        Ok(made) => out.same(made.as_slice(), octets, b"try_octets_from"),
+        Err(_) => out.fail(Fail::Memory),
+    }
+    match Name::<ArrayVec<u8, 255>>::try_octets_from(out.alloc(), name) {
+        Ok(made) => out.same(made.as_slice(), octets, b"try_octets_from"),
+        Err(_) => out.wrong(b"try_octets_from"),
+    }
+    match Name::<CowSlice<'_, u8>>::try_octets_from(out.alloc(), name) {
+        Ok(made) => out.same(made.as_slice(), octets, b"try_octets_from"),
+        Err(_) => out.wrong(b"try_octets_from"),
+    }
+}
+
+fn name_over_vec(out: &Answer, name: Name<&[u8]>) -> Result<Name<Vec<u8>>, ShortBuf> {
+    Name::try_octets_from(out.alloc(), name)
+}
+
+/// `relkeep NAME`: the name over a `Vec`.
+pub fn put_relkeep(out: &mut Answer, octets: &[u8]) {
+    let Ok(owned) = Vec::from_slice(out.alloc(), octets) else {
+        return out.fail(Fail::Memory);
+    };
+    let Ok(name) = RelativeName::from_octets(owned) else {
+        return out.fail(Fail::Bad);
+    };
+    let Ok(copy) = name.clone(out.alloc()) else {
+        return out.fail(Fail::Memory);
+    };
+    out.put_hex(copy.as_slice());
+    out.same(name.for_ref().as_slice(), octets, b"for_ref");
+    out.same(name.for_slice().as_slice(), octets, b"for_slice");
+    out.same(name.as_octets().as_slice(), octets, b"as_octets");
+    out.same(copy.into_octets().as_slice(), octets, b"into_octets");
+    is_relative_in_an_array(out, octets);
+}
+
+fn is_relative_in_an_array(out: &mut Answer, octets: &[u8]) {
+    let Ok(name) = RelativeName::from_slice(octets) else {
+        return out.fail(Fail::Bad);
+    };
+    match RelativeName::<ArrayVec<u8, 255>>::try_octets_from(out.alloc(), name) {
+        Ok(made) => match made.clone(out.alloc()) {
+            Ok(copy) => out.same(copy.as_slice(), octets, b"clone"),
+            Err(_) => out.wrong(b"clone"),
+        },
+        Err(_) => out.wrong(b"try_octets_from"),
+    }
+}
+
+/// `root`
+pub fn put_root(out: &mut Answer) {
+    let root = Name::root_ref();
+    out.put_hex(root.as_slice());
+    out.agree(Name::root_slice() == root, b"root_slice");
+    out.agree(Label::root().as_slice().is_empty(), b"root of labels");
+    out.agree(Label::MAX_LEN == 63, b"MAX_LEN");
+    out.agree(Name::<&'static [u8]>::MAX_LEN == 255, b"MAX_LEN");
+    match Name::root_vec(out.alloc()) {
+        Ok(made) => out.same(made.as_slice(), root.as_slice(), b"root_vec"),
+        Err(_) => out.fail(Fail::Memory),
+    }
+    match Name::<ArrayVec<u8, 1>>::root(out.alloc()) {
+        Ok(made) => out.same(made.as_slice(), root.as_slice(), b"root"),
+        Err(_) => out.wrong(b"root"),
+    }
+    match Name::<ArrayVec<u8, 0>>::root(out.alloc()) {
+        Ok(_) => out.wrong(b"root"),
+        Err(error) => {
+            out.put_text_after(b" ", error);
+        }
+    }
+}
+
+/// `empty`
+pub fn put_empty(out: &mut Answer) {
+    let empty = RelativeName::empty_ref();
+    out.put_hex(empty.as_slice());
+    out.agree(RelativeName::empty_slice() == empty, b"empty_slice");
+    match RelativeName::empty_vec(out.alloc()) {
+        Ok(made) => out.same(made.as_slice(), empty.as_slice(), b"empty_vec"),
+        Err(_) => out.wrong(b"empty_vec"),
+    }
+    match RelativeName::<ArrayVec<u8, 0>>::empty(out.alloc()) {
+        Ok(made) => out.same(made.as_slice(), empty.as_slice(), b"empty"),
+        Err(_) => out.wrong(b"empty"),
+    }
+}
+
+/// `wildcard`
+pub fn put_wildcard(out: &mut Answer) {
+    let wildcard = RelativeName::wildcard_ref();
+    out.put_hex(wildcard.as_slice());
+    out.agree(
+        RelativeName::wildcard_slice() == wildcard,
+        b"wildcard_slice",
+    );
+    match RelativeName::wildcard_vec(out.alloc()) {
+        Ok(made) => out.same(made.as_slice(), wildcard.as_slice(), b"wildcard_vec"),
+        Err(_) => out.fail(Fail::Memory),
+    }
+    match RelativeName::<ArrayVec<u8, 2>>::wildcard(out.alloc()) {
+        Ok(made) => out.same(made.as_slice(), wildcard.as_slice(), b"wildcard"),
+        Err(_) => out.wrong(b"wildcard"),
+    }
+    match RelativeName::<ArrayVec<u8, 1>>::wildcard(out.alloc()) {
+        Ok(_) => out.wrong(b"wildcard"),
+        Err(error) => {
+            out.put_text_after(b" ", error);
+        }
+    }
+}

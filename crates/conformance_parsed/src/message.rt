@@ -1,0 +1,312 @@
+//! Names in messages: read, passed over, and walked.
+
+use arrayvec::ArrayVec;
+use conformance_answer::{Answer, Fail};
+use conformance_labels::parser_at;
+use conformance_names::{put_mixture as put_mixed, put_orders};
+use domain_list::{NameLabels, ToLabelIter};
+use domain_name::Name;
+use domain_parsed::ParsedName;
+use domain_traits::{FlattenInto, ToName};
+use domain_wire::ParseError;
+use octseq::Octets;
+
+/// The name at a place of a message.
+pub fn name_at(message: &[u8], place: usize) -> Option<ParsedName<&[u8]>> {
+    let mut parser = parser_at(message, place, message.len())?;
+    match ParsedName::parse(&mut parser) {
+        Ok(name) => Some(name),
+        Err(_) => None,
+    }
+}
+
+fn put_refusal(out: &mut Answer, place: usize, error: ParseError) {
+    out.put_number_after(b"err ", place);
+    out.put_text_after(b" ", error);
+}
+
+pub fn put_parse(out: &mut Answer, message: &[u8], place: usize, end: usize) {
+    let Some(mut parser) = parser_at(message, place, end) else {
+        return out.fail(Fail::Bad);
+    };
+    let mut twin = parser;
+    let read = ParsedName::parse(&mut parser);
+    let again = ParsedName::parse_ref(&mut twin);
+    out.agree(is_same_read(&again, &read), b"parse_ref");
+    out.agree(twin.pos() == parser.pos(), b"parse_ref");
+    match read {
+        Ok(name) => put_read(out, name, parser.pos()),
+        Err(error) => put_refusal(out, parser.pos(), error),
+    }
+}
+
+/// By `parse_with_limit`: as `put_parse`, with so many pointers at most.
+pub fn put_limited(out: &mut Answer, message: &[u8], place: usize, limit: usize) {
+    if limit > 255 {
+        return out.fail(Fail::Bad);
+    }
+    let Some(mut parser) = parser_at(message, place, message.len()) else {
+        return out.fail(Fail::Bad);
+    };
+    let mut twin = parser;
+    let read = ParsedName::parse_with_limit(&mut parser, limit as u8);
+    if limit == 255 {
+        // The limit of `parse`.
+        let again = ParsedName::parse(&mut twin);
+        out.agree(is_same_read(&again, &read), b"parse");
+        out.agree(twin.pos() == parser.pos(), b"parse");
+    }
+    match read {
+        Ok(name) => put_read(out, name, parser.pos()),
+        Err(error) => put_refusal(out, parser.pos(), error),
+    }
+}
+
+fn is_same_read(
+    one: &Result<ParsedName<&[u8]>, ParseError>,
+    other: &Result<ParsedName<&[u8]>, ParseError>,
+) -> bool {
+    match (one, other) {
+        (Ok(a), Ok(b)) => is_same_name(a, b),
+        (Err(a), Err(b)) => a == b,
+        _ => false,
+    }
+}
+
+/// The same labels without case, and the same flag.
+fn is_same_name(a: &ParsedName<&[u8]>, b: &ParsedName<&[u8]>) -> bool {
+    a == b && a.is_compressed() == b.is_compressed()
+}
+
+fn put_read(out: &mut Answer, name: ParsedName<&[u8]>, place: usize) {
+    let Ok(flat) = name.to_vec(out.alloc()) else {
+        return out.fail(Fail::Memory);
+    };
+    out.put_hex_after(b"ok ", flat.as_slice());
+    out.put(if name.is_compressed() { b" c " } else { b" f " });
+    out.put_number(place);
+    is_measured_as(out, name, flat.for_slice());
+    has_parts_of(out, name, flat.for_slice());
+    is_flattened(out, name, flat.as_slice());
+}
+
+/// What a name in a message tells of its octets is what the same name as a `Name` tells.
+fn is_measured_as(out: &mut Answer, name: ParsedName<&[u8]>, flat: Name<&[u8]>) {
+    let len = flat.len();
+    out.agree(name.compose_len() as usize == len, b"compose_len");
+    out.agree(name.is_root() == (len == 1), b"is_root");
+    out.agree(name.is_absolute(), b"is_absolute");
+    match name.as_flat_slice() {
+        Some(lent) => {
+            out.agree(!name.is_compressed(), b"as_flat_slice");
+            out.same(lent, flat.as_slice(), b"as_flat_slice");
+        }
+        None => out.agree(name.is_compressed(), b"as_flat_slice"),
+    }
+}
+
+/// The labels of a name in a message are those of the same name as a `Name`.
+fn has_parts_of(out: &mut Answer, name: ParsedName<&[u8]>, flat: Name<&[u8]>) {
+    out.agree(name.label_count() == flat.label_count(), b"label_count");
+    out.same(name.first().as_slice(), flat.first().as_slice(), b"first");
+    out.agree(name.last().is_root(), b"last");
+    out.agree(name.name_eq(&flat), b"name_eq");
+    let twin = ParsedName::from(flat);
+    out.agree(twin == name && !twin.is_compressed(), b"from");
+    let lent = name.ref_octets();
+    out.agree(is_same_name(&lent.deref_octets(), &name), b"deref_octets");
+}
+
+/// A name in a message is flattened over a `Vec` and over an array of 255 octets.
+fn is_flattened(out: &mut Answer, name: ParsedName<&[u8]>, wire: &[u8]) {
+    let flattened: Result<Name<Vec<u8>>, _> = name.flatten_into(out.alloc());
+    match flattened {
+        Ok(made) => {
+            out.same(made.as_slice(), wire, b"flatten_into");
+            out.asked_once(made.as_octets(), b"memory of flatten_into");
+        }
+        Err(_) => out.fail(Fail::Memory),
+    }
+    let held: Result<Name<ArrayVec<u8, 255>>, _> = name.try_flatten_into(out.alloc());
+    match held {
+        Ok(made) => out.same(made.as_slice(), wire, b"try_flatten_into"),
+        Err(_) => out.wrong(b"try_flatten_into"),
+    }
+}
+
+pub fn put_skip(out: &mut Answer, message: &[u8], place: usize, end: usize) {
+    let Some(mut parser) = parser_at(message, place, end) else {
+        return out.fail(Fail::Bad);
+    };
+    match ParsedName::skip(&mut parser) {
+        Ok(()) => {
+            out.put_number_after(b"ok ", parser.pos());
+        }
+        Err(error) => put_refusal(out, parser.pos(), error),
+    }
+}
+
+pub fn put_nparse(out: &mut Answer, message: &[u8], place: usize, end: usize) {
+    let Some(mut parser) = parser_at(message, place, end) else {
+        return out.fail(Fail::Bad);
+    };
+    match Name::parse(&mut parser) {
+        Ok(name) => {
+            out.put_hex_after(b"ok ", name.as_slice());
+            out.put_number_after(b" ", parser.pos());
+        }
+        Err(error) => put_refusal(out, parser.pos(), error),
+    }
+}
+
+pub fn put_walk(out: &mut Answer, message: &[u8], place: usize) {
+    let Some(mut parser) = parser_at(message, place, message.len()) else {
+        return out.fail(Fail::Bad);
+    };
+    match ParsedName::parse(&mut parser) {
+        Ok(name) => put_walked(out, name),
+        Err(_) => out.put(b"err"),
+    }
+}
+
+fn put_walked(out: &mut Answer, name: ParsedName<&[u8]>) {
+    put_orders(out, name.iter());
+    out.put(b" ");
+    put_suffixes(out, name);
+    out.put(b" ");
+    put_parents(out, name);
+    out.put(b" ");
+    put_firsts(out, name);
+    out.put(b" ");
+    put_numbers(out, name);
+}
+
+/// The flag and the flat wire format of a name in a message.
+fn put_part_of(out: &mut Answer, name: ParsedName<&[u8]>) {
+    match name.to_vec(out.alloc()) {
+        Ok(flat) => {
+            out.put(if name.is_compressed() { b"c" } else { b"f" });
+            out.put_hex(flat.as_slice());
+            out.agree(
+                usize::from(name.compose_len()) == flat.len(),
+                b"compose_len",
+            );
+        }
+        Err(_) => out.fail(Fail::Memory),
+    }
+}
+
+fn put_suffixes(out: &mut Answer, name: ParsedName<&[u8]>) {
+    let mut suffixes = name.iter_suffixes();
+    let mut is_first = true;
+    for _time in 0..1000u32 {
+        let Some(suffix) = suffixes.next() else {
+            break;
+        };
+        out.put_comma(&mut is_first);
+        put_part_of(out, suffix);
+    }
+    out.agree(suffixes.next().is_none(), b"iter_suffixes");
+}
+
+fn put_parents(out: &mut Answer, name: ParsedName<&[u8]>) {
+    let mut rest = name;
+    let mut is_first = true;
+    for _time in 0..1000u32 {
+        if !rest.parent() {
+            break;
+        }
+        out.put_comma(&mut is_first);
+        put_part_of(out, rest);
+    }
+    out.put_none(is_first);
+    out.agree(rest.is_root() && !rest.parent(), b"parent");
+}
+
+fn put_firsts(out: &mut Answer, name: ParsedName<&[u8]>) {
+    let mut rest = name;
+    let mut is_first = true;
+    for _time in 0..1000u32 {
+        let Some(first) = rest.split_first() else {
+            break;
+        };
+        out.put_comma(&mut is_first);
+        out.put_hex(first.as_slice());
+    }
+    out.put_comma(&mut is_first);
+    put_part_of(out, rest);
+    out.agree(
+        rest.is_root() && rest.split_first().is_none(),
+        b"split_first",
+    );
+}
+
+/// The counts, the texts and the canonical wire format.
+fn put_numbers(out: &mut Answer, name: ParsedName<&[u8]>) {
+    out.put_number(name.label_count());
+    out.put_text_after(b" ", name.rrsig_label_count());
+    out.put_shown_after(b" ", &name);
+    out.put_shown_after(b" ", name.fmt_with_dot());
+    out.put(b" ");
+    put_canonical(out, name);
+}
+
+fn put_canonical(out: &mut Answer, name: ParsedName<&[u8]>) {
+    let made: Result<Name<Vec<u8>>, _> = name.to_canonical_name(out.alloc());
+    match made {
+        Ok(canonical) => out.put_hex(canonical.as_slice()),
+        Err(_) => out.fail(Fail::Memory),
+    }
+}
+
+/// `rest MSG PLACE N`: the labels of what is left of a name without its first labels, from both ends.
+pub fn put_rest(out: &mut Answer, message: &[u8], place: usize, labels: usize) {
+    let Some(name) = name_at(message, place) else {
+        return out.fail(Fail::Bad);
+    };
+    let mut rest = name;
+    for _label in 0..labels.min(1000) {
+        if rest.split_first().is_none() {
+            break;
+        }
+    }
+    put_orders(out, rest.iter());
+    out.put(b" ");
+    put_part_of(out, rest);
+}
+
+/// `parentswalk MSG PLACE`: the labels from both ends, of the name and of what each `parent` leaves.
+pub fn put_parentswalk(out: &mut Answer, message: &[u8], place: usize) {
+    let Some(mut rest) = name_at(message, place) else {
+        return out.fail(Fail::Bad);
+    };
+    put_orders(out, rest.iter());
+    for _label in 0..1000u32 {
+        if !rest.parent() {
+            break;
+        }
+        out.put(b" / ");
+        put_orders(out, rest.iter());
+    }
+}
+
+/// Leaves out the first labels of a name, down to the root.
+pub fn leave_out<Octs: Octets>(name: &mut ParsedName<Octs>, labels: usize) {
+    for _label in 0..labels.min(1000) {
+        if !name.parent() {
+            break;
+        }
+    }
+}
+
+/// `mixture MSG PLACE N CALLS`: without the first N labels, what calls on either end give, also on the same name as a `Name`.
+pub fn put_mixture(out: &mut Answer, message: &[u8], place: usize, labels: usize, calls: &[u8]) {
+    let Some(mut rest) = name_at(message, place) else {
+        return out.fail(Fail::Bad);
+    };
+    leave_out(&mut rest, labels);
+    match rest.to_vec(out.alloc()) {
+        Ok(flat) => put_mixed(out, rest.iter(), flat.iter(), calls),
+        Err(_) => out.fail(Fail::Memory),
+    }
+}

@@ -1,0 +1,254 @@
+//! Record data, and the names of addresses.
+
+use arrayvec::ArrayVec;
+use conformance_answer::{Answer, Fail};
+use conformance_labels::is_in_canonical_order;
+use domain_rdata::{
+    ComposeRecordData, Composer, LongRecordData, ParseRecordData, RecordData, Rtype,
+    UnknownRecordData,
+};
+use domain_wire::{CanonicalOrd, ParseError};
+use octseq::{EmptyBuilder, Octets, OctetsFrom, Parser, ShortBuf};
+
+const PRIVATE: u16 = 65280;
+
+type Data<'a> = UnknownRecordData<&'a [u8]>;
+
+fn data_of(rtype: u16, octets: &[u8]) -> Result<Data<'_>, LongRecordData> {
+    UnknownRecordData::from_octets(Rtype::from_int(rtype), octets)
+}
+
+/// `rdata OCTETS`
+pub fn put_rdata(out: &mut Answer, octets: &[u8]) {
+    let data = match data_of(PRIVATE, octets) {
+        Ok(data) => data,
+        Err(error) => return out.put_text_after(b"err ", error),
+    };
+    out.put_shown_after(b"ok ", data);
+    let mut composed: Vec<u8> = Vec::new(out.alloc());
+    if data.compose_len_rdata(&mut composed).is_err() {
+        out.fail(Fail::Memory);
+    }
+    out.put_hex_after(b" ", composed.as_slice());
+    out.agree(data.rtype().to_int() == PRIVATE, b"rtype");
+    out.same(*data.data(), octets, b"data");
+    is_composed_alike(out, data, composed.as_slice());
+    is_measured(out, data, octets);
+    is_composed_where_it_fits::<ArrayVec<u8, 4>>(out, data, composed.as_slice());
+    is_composed_where_it_fits::<ArrayVec<u8, 5>>(out, data, composed.as_slice());
+    is_read(out, octets);
+    is_copied(out, data);
+    is_copied_in_an_array(out, data);
+}
+
+/// The data over a `Vec` of its own, and a copy of that.
+fn is_copied(out: &mut Answer, data: Data<'_>) {
+    let held: Result<UnknownRecordData<Vec<u8>>, ShortBuf> = UnknownRecordData::try_octets_from(
+        out.alloc(),
+        data,
+    );
+    let Ok(held) = held else {
+        return out.fail(Fail::Memory);
+    };
+    out.same(held.data().as_slice(), *data.data(), b"try_octets_from");
+    match held.clone(out.alloc()) {
+        Ok(copy) => {
+            out.same(copy.data().as_slice(), *data.data(), b"clone");
+            out.agree(copy.rtype() == data.rtype(), b"clone");
+        }
+        Err(_) => out.fail(Fail::Memory),
+    }
+}
+
+/// The same over an array of 255 octets, which is refused only what doesn't fit.
+fn is_copied_in_an_array(out: &mut Answer, data: Data<'_>) {
+    let held: Result<UnknownRecordData<ArrayVec<u8, 255>>, ShortBuf> =
+        UnknownRecordData::try_octets_from(out.alloc(), data);
+    let Ok(held) = held else {
+        return out.agree(data.data().len() > 255, b"try_octets_from");
+    };
+    match held.clone(out.alloc()) {
+        Ok(copy) => {
+            out.same(copy.data().as_slice(), *data.data(), b"clone");
+            out.agree(copy.rtype() == data.rtype(), b"clone");
+        }
+        Err(_) => out.wrong(b"clone"),
+    }
+}
+
+/// The canonical form, and a reference to the data, are composed to the same octets.
+fn is_composed_alike(out: &mut Answer, data: Data<'_>, wanted: &[u8]) {
+    let mut composed: Vec<u8> = Vec::new(out.alloc());
+    if data.compose_canonical_len_rdata(&mut composed).is_err() {
+        out.fail(Fail::Memory);
+    }
+    out.same(composed.as_slice(), wanted, b"compose_canonical_len_rdata");
+    let mut composed: Vec<u8> = Vec::new(out.alloc());
+    if (&data).compose_len_rdata(&mut composed).is_err() {
+        out.fail(Fail::Memory);
+    }
+    out.same(composed.as_slice(), wanted, b"compose_len_rdata");
+}
+
+/// The length that is told is that of what is composed.
+fn is_measured(out: &mut Answer, data: Data<'_>, wanted: &[u8]) {
+    let mut composed: Vec<u8> = Vec::new(out.alloc());
+    if data.compose_rdata(&mut composed).is_err() {
+        out.fail(Fail::Memory);
+    }
+    out.same(composed.as_slice(), wanted, b"compose_rdata");
+    for compress in [true, false] {
+        let told = data.rdlen(compress).map(|len| usize::from(len));
+        out.agree(told == Some(composed.len()), b"rdlen");
+    }
+}
+
+/// A target takes what fits it, and stays as it was else.
+fn is_composed_where_it_fits<B: EmptyBuilder + Composer + Drop>(
+    out: &mut Answer,
+    data: Data<'_>,
+    wanted: &[u8],
+) {
+    let fits = match B::ROOM {
+        Some(room) => wanted.len() <= room,
+        None => true,
+    };
+    let left: &[u8] = if fits { wanted } else { b"" };
+    let mut target = B::empty(out.alloc());
+    out.agree(
+        data.compose_len_rdata(&mut target).is_ok() == fits,
+        b"compose_len_rdata",
+    );
+    out.same(Octets::as_slice(&target), left, b"compose_len_rdata");
+    let mut target = B::empty(out.alloc());
+    let taken = data.compose_canonical_len_rdata(&mut target).is_ok();
+    out.agree(taken == fits, b"compose_canonical_len_rdata");
+    out.same(
+        Octets::as_slice(&target),
+        left,
+        b"compose_canonical_len_rdata",
+    );
+}
+
+/// Data of any type is all that is left of a message.
+fn is_read(out: &mut Answer, octets: &[u8]) {
+    let mut parser = Parser::from_ref(octets);
+    match Data::parse_any_rdata(Rtype::from_int(1), &mut parser) {
+        Ok(data) => out.same(*data.data(), octets, b"parse_any_rdata"),
+        Err(_) => out.wrong(b"parse_any_rdata"),
+    }
+    out.agree(parser.remaining() == 0, b"parse_any_rdata");
+    let mut parser = Parser::from_ref(octets);
+    match Data::parse_rdata(Rtype::from_int(1), &mut parser) {
+        Ok(Some(data)) => out.same(*data.data(), octets, b"parse_rdata"),
+        _ => out.wrong(b"parse_rdata"),
+    }
+    out.agree(parser.remaining() == 0, b"parse_rdata");
+}
+
+/// `rdatacmp A B`: data of two types.
+pub fn put_rdatacmp(out: &mut Answer, a: &[u8], b: &[u8]) {
+    let Ok(a) = data_of(1, a) else {
+        return out.fail(Fail::Bad);
+    };
+    let Ok(b) = data_of(2, b) else {
+        return out.fail(Fail::Bad);
+    };
+    let order = a.cmp(&b);
+    out.put_bit(b"eq=", a == b);
+    out.put_order(b" cmp=", order);
+    out.put_order(b" canonical=", a.canonical_cmp(&b));
+    out.agree(a.partial_cmp(&b) == Some(order), b"partial_cmp");
+    is_in_canonical_order(out, &a, &b, order);
+}
+
+/// `longdata LEN`: so many octets that are zero as record data.
+pub fn put_longdata(out: &mut Answer, len: usize) {
+    let mut octets: Vec<u8> = Vec::new(out.alloc());
+    if len > 100_000 || octets.resize(len, 0).is_err() {
+        return out.fail(Fail::Bad);
+    }
+    match data_of(1, octets.as_slice()) {
+        Ok(data) => {
+            out.put_number_after(b"ok ", data.data().len());
+            is_read(out, octets.as_slice());
+            is_copied(out, data);
+            is_behind_its_length(out, data);
+        }
+        Err(error) => {
+            out.put_text_after(b"err ", error);
+            is_refused(out, octets.as_slice(), error);
+        }
+    }
+}
+
+/// What is composed with its length is two octets that tell it, and the data.
+fn is_behind_its_length(out: &mut Answer, data: Data<'_>) {
+    let mut composed: Vec<u8> = Vec::new(out.alloc());
+    if data.compose_len_rdata(&mut composed).is_err() {
+        return out.fail(Fail::Memory);
+    }
+    let octets: &[u8] = *data.data();
+    match composed.as_slice() {
+        [high, low, rest @ ..] => {
+            let told = u16::from_be_bytes([*high, *low]);
+            out.agree(usize::from(told) == octets.len(), b"compose_len_rdata");
+            out.same(rest, octets, b"compose_len_rdata");
+        }
+        _ => out.wrong(b"compose_len_rdata"),
+    }
+}
+
+/// The octets are too many for record data, and the parser stays.
+fn is_refused(out: &mut Answer, octets: &[u8], error: LongRecordData) {
+    let mut parser = Parser::from_ref(octets);
+    let read = Data::parse_any_rdata(Rtype::from_int(1), &mut parser);
+    out.agree(read == Err(ParseError::from(error)), b"parse_any_rdata");
+    let read = Data::parse_rdata(Rtype::from_int(1), &mut parser);
+    out.agree(read == Err(ParseError::from(error)), b"parse_rdata");
+    out.agree(parser.pos() == 0, b"parse_any_rdata");
+}
+
+fn number_of(digits: &[u8]) -> Option<usize> {
+    str::from_utf8(digits).ok()?.parse::<usize>().ok()
+}
+
+/// `lengths LEN,LEN,LEN`: parts of record data of these lengths.
+pub fn put_lengths(out: &mut Answer, fields: &[u8]) {
+    let mut lens = ArrayVec::<usize, 3>::new();
+    for field in fields.split(|octet| *octet == b',') {
+        match number_of(field) {
+            Some(len) if lens.try_push(len).is_ok() => {}
+            _ => out.fail(Fail::Bad),
+        }
+    }
+    match lens.as_slice() {
+        [a] => put_checked(
+            out,
+            LongRecordData::check_len(*a),
+            LongRecordData::check_multi_len([*a]),
+        ),
+        [a, b] => put_checked(
+            out,
+            LongRecordData::check_append_len(*a, *b),
+            LongRecordData::check_multi_len([*a, *b]),
+        ),
+        [a, b, c] => {
+            let checked = LongRecordData::check_multi_len([*a, *b, *c]);
+            put_checked(out, checked, LongRecordData::check_multi_len([*c, *b, *a]));
+        }
+        _ => out.fail(Fail::Bad),
+    }
+}
+
+fn put_checked(
+    out: &mut Answer,
+    one: Result<(), LongRecordData>,
+    other: Result<(), LongRecordData>,
+) {
+    out.agree(one.is_ok() == other.is_ok(), b"check_multi_len");
+    match one {
+        Ok(()) => out.put(b"ok"),
+        Err(error) => out.put_text_after(b"err ", error.as_str()),
+    }
+}
