@@ -8,7 +8,7 @@ escaped_octet c =
     cond (c == 32 || c == 46 || c == 92) (92 ∷ c ∷ [])
     (cond (nat_lt c 32 || nat_lt 126 c) (92 ∷ (48 + c / 100) ∷ (48 + c / 10 % 10) ∷ (48 + c % 10) ∷ []) (c ∷ []))
 
--- the octets of a label as text, each escaped where it must be (RFC 1035, 5.1)
+-- the octets of a label as text (RFC 1035, 5.1)
 abbrev pub escaped : List ℕ → List ℕ
 escaped = flat_map escaped_octet
 

@@ -61,7 +61,7 @@ AreLabels (l ∷ ls) = IsLabel l × AreLabels ls
 abbrev pub IsWire : List ℕ → Type 0
 IsWire o = (wire (labels_in o) ≡ o) × AreLabels (labels_in o)
 
--- o is the wire format of an absolute name, and of a relative one.
+-- o is the wire format of an absolute name.
 abbrev pub IsAbsoluteWire : List ℕ → Type 0
 IsAbsoluteWire o = (wire (labels_in o) ≡ o) × IsAbsoluteName (labels_in o)
 

@@ -1,2 +1,3 @@
 pub mod ParsedNames
+pub mod Parses
 pub mod Splitting

@@ -31,8 +31,8 @@ const MAX_POINTERS: u8 = 255;
 /// An absolute name in a message, which may be compressed (RFC 1035, 4.1.4).
 ///
 /// It has at most 255 octets with the root label, and is read through at most 255 compression pointers. It keeps the
-/// octets of the whole message and a table of the offsets of its labels, so that each label is found without
-/// following a pointer, from either end.
+/// octets of the whole slice that it was read from and a table of the offsets of its labels, so that each label is
+/// found without following a pointer, from either end.
 ///
 /// It is for names that are read from a message and used while that is in memory: no octet is copied, and over
 /// `&[u8]` it is Copy, of 288 octets. `parse` makes one, and `From` makes one of an uncompressed name. To keep a name
@@ -41,21 +41,24 @@ pub struct ParsedName<Octs: Octets> {
     octets: Octs,
     /// The offset of the label that was the first when the name was read.
     base: usize,
-    /// The offset of each label, in the name's order.
+    /// One entry for each label, in the name's order; `entry_offset` makes its offset of it.
     places: [u16; MAX_LABELS],
-    /// How many labels have their offsets in the table.
+    /// How many labels have an entry in the table.
     count: u8,
-    /// How many of them were removed from the beginning since.
+    /// How many of them `parent` and `split_first` removed.
     dropped: u8,
-    /// How many octets those had.
+    /// How many octets those have on the wire.
     passed: u16,
-    /// How many octets the remaining labels have.
+    /// How many octets the remaining labels have on the wire, the root among them.
     name_len: u16,
     compressed: bool,
+    // There is a label, and at most 128 are there; at the offset of each entry is a whole label, and these are an
+    // absolute name.
     ghost some: { dropped < count },
     ghost few: { count ≤ 128 },
     ghost stand: { AreLabelOffsets (Octs.octets octets) base (slice_range places dropped count) },
     ghost absolute: { IsAbsoluteName (labels_at_entries (Octs.octets octets) base (slice_range places dropped count)) } by { IsAbsoluteName_prop (labels_at_entries (Octs.octets octets) base (slice_range places dropped count)) },
+    // `name_len` is its size, and it had at most 255 octets; with the flag false it stands in a row.
     ghost sized: { name_len ≡ length (wire (labels_at_entries (Octs.octets octets) base (slice_range places dropped count))) },
     ghost short: { passed + name_len ≤ 255 },
     ghost flat: { compressed ≡ false → slice_range (Octs.octets octets) (base + passed) (base + passed + name_len) ≡ wire (labels_at_entries (Octs.octets octets) base (slice_range places dropped count)) },
@@ -75,6 +78,7 @@ impl<Octs: Octets + Copy> Clone for ParsedName<Octs> {
 
 impl<'a> ParsedName<&'a [u8]> {
     ghost use Rattle.domain_parsed.specs.ParsedNames.{parsed_octets, parsed_labels, may_be_compressed};
+    ghost use Rattle.domain_parsed.specs.Parses.{GivesName, ParsesName};
     ghost use Rattle.octseq.specs.Parsing.{slice_of, message, position};
     ghost use Rattle.domain_reading.specs.Faults.{NameFaultAt, Skips};
     ghost use Rattle.domain_wire.specs.Refusals.{refusal};
@@ -91,7 +95,7 @@ impl<'a> ParsedName<&'a [u8]> {
     ///   pointer is at or after the end;
     /// - "invalid label type" where the first octet of a label is from 0x40 to 0xbf;
     /// - "too many compression pointers" at one that doesn't lead to an offset before its own, and at a 256th;
-    /// - "long domain name" where the labels and their length octets are more than 254 before the root.
+    /// - "long domain name" at a whole label that makes more than 254 octets with those before it.
     ///
     /// In `crates/examples/src/reading.rt`, where it is proved:
     ///
@@ -129,14 +133,7 @@ impl<'a> ParsedName<&'a [u8]> {
     /// The same as `parse`.
     #[inline(always)]
     pub fn parse_ref(parser: &mut Parser<'a>) -> Result<ParsedName<&'a [u8]>, ParseError>
-        ensures exact { IsOk result ↔ ((ls : List (List ℕ)) × Names 255 (message parser.old) (position parser.old) ls) }
-        ensures labels { IfOk result (λ name. Names 255 (message parser.old) (position parser.old) (parsed_labels name)) }
-        ensures octets { IfOk result (λ name. parsed_octets name ≡ slice_of parser.old) }
-        ensures is_compressed { IfOk result (λ name. (may_be_compressed name ≡ false) ↔ IsContiguous (message parser.old) (position parser.old)) }
-        ensures moves { OnOk result (MovesPastName parser.old parser.new) }
-        ensures uncompressed { (ls : List (List ℕ)) → StandsUncompressed parser.old ls → MatchResult result (λ name. (parsed_labels name ≡ ls) × (may_be_compressed name ≡ false) × (position parser.new ≡ position parser.old + length (wire ls))) (λ _. ⊥) }
-        ensures err { IfErr result (λ e. IsErrorOfName 255 parser.old e) }
-        ensures unchanged { OnErr result (parser.new ≡ parser.old) }
+        ensures { ParsesName 255 parser.old parser.new result }
     {
         ParsedName::parse(parser)
     }
@@ -147,19 +144,12 @@ impl<'a> ParsedName<&'a [u8]> {
         parser: &mut Parser<'a>,
         limit: u8,
     ) -> Result<ParsedName<&'a [u8]>, ParseError>
-        ensures exact { IsOk result ↔ ((ls : List (List ℕ)) × Names limit (message parser.old) (position parser.old) ls) }
-        ensures labels { IfOk result (λ name. Names limit (message parser.old) (position parser.old) (parsed_labels name)) }
-        ensures octets { IfOk result (λ name. parsed_octets name ≡ slice_of parser.old) }
-        ensures is_compressed { IfOk result (λ name. (may_be_compressed name ≡ false) ↔ IsContiguous (message parser.old) (position parser.old)) }
-        ensures moves { OnOk result (MovesPastName parser.old parser.new) }
-        ensures uncompressed { (ls : List (List ℕ)) → StandsUncompressed parser.old ls → MatchResult result (λ name. (parsed_labels name ≡ ls) × (may_be_compressed name ≡ false) × (position parser.new ≡ position parser.old + length (wire ls))) (λ _. ⊥) }
-        ensures err { IfErr result (λ e. IsErrorOfName limit parser.old e) }
-        ensures unchanged { OnErr result (parser.new ≡ parser.old) }
+        ensures { ParsesName limit parser.old parser.new result }
     {
         ParsedName::parse_with::<Brand>(parser, limit, Blank::new(1))
     }
 
-    /// `parse_counted` with a new counter, which is dropped.
+    /// `parse_counted` with a new counter, which is dropped. (Why `Brand` and `Blank`: `domain_reading`, `alone.rt`.)
     #[inline(always)]
     fn parse_with<L: Ledger>(
         parser: &mut Parser<'a>,
@@ -169,20 +159,14 @@ impl<'a> ParsedName<&'a [u8]> {
         requires ledger { blank.name ≡ L.name }
         requires parts { blank.parts ≡ L.parts }
         requires some { 0 < blank.parts }
-        ensures exact { IsOk result ↔ ((ls : List (List ℕ)) × Names limit (message parser.old) (position parser.old) ls) }
-        ensures labels { IfOk result (λ name. Names limit (message parser.old) (position parser.old) (parsed_labels name)) }
-        ensures octets { IfOk result (λ name. parsed_octets name ≡ slice_of parser.old) }
-        ensures is_compressed { IfOk result (λ name. (may_be_compressed name ≡ false) ↔ IsContiguous (message parser.old) (position parser.old)) }
-        ensures moves { OnOk result (MovesPastName parser.old parser.new) }
-        ensures uncompressed { (ls : List (List ℕ)) → StandsUncompressed parser.old ls → MatchResult result (λ name. (parsed_labels name ≡ ls) × (may_be_compressed name ≡ false) × (position parser.new ≡ position parser.old + length (wire ls))) (λ _. ⊥) }
-        ensures err { IfErr result (λ e. IsErrorOfName limit parser.old e) }
-        ensures unchanged { OnErr result (parser.new ≡ parser.old) }
+        ensures { ParsesName limit parser.old parser.new result }
     {
         ParsedName::parse_counted(parser, limit, &mut Heads::<L>::new(blank))
     }
 
-    /// The same as `parse_with_limit`, and counts what is read: each label, each pointer and the root, and the last
-    /// one where it is missing or the error. The count grows by at most `limit` and 128.
+    /// The same as `parse_with_limit`, and counts what is read in `heads`, which contracts alone see: one for each
+    /// label, each pointer and the root, and after an error one more for what failed. The count grows by at most `limit`
+    /// and 128.
     #[inline(always)]
     pub fn parse_counted<L: Ledger>(
         parser: &mut Parser<'a>,
@@ -210,7 +194,7 @@ impl<'a> ParsedName<&'a [u8]> {
     }
 
     /// The same as `parse_with_limit`, with the `NameFault` as the error, for callers that treat the four
-    /// differently.
+    /// differently. At an offset there is a name or a fault, never both (`reads_laws`), so it succeeds where that does.
     ///
     /// The parser is unchanged on an error.
     #[inline(always)]
@@ -218,10 +202,7 @@ impl<'a> ParsedName<&'a [u8]> {
         parser: &mut Parser<'a>,
         limit: u8,
     ) -> Result<ParsedName<&'a [u8]>, NameFault>
-        ensures labels { IfOk result (λ name. Names limit (message parser.old) (position parser.old) (parsed_labels name)) }
-        ensures octets { IfOk result (λ name. parsed_octets name ≡ slice_of parser.old) }
-        ensures is_compressed { IfOk result (λ name. (may_be_compressed name ≡ false) ↔ IsContiguous (message parser.old) (position parser.old)) }
-        ensures moves { OnOk result (MovesPastName parser.old parser.new) }
+        ensures ok { GivesName limit parser.old parser.new result }
         ensures err { IfErr result (λ fault. NameFaultAt limit (message parser.old) (position parser.old) fault) }
         ensures unchanged { OnErr result (parser.new ≡ parser.old) }
     {
@@ -236,8 +217,8 @@ impl<'a> ParsedName<&'a [u8]> {
 
     /// Moves the parser after the root or the first pointer of the name at its position.
     ///
-    /// A pointer is not followed, so it may lead anywhere; its two octets must be there. The labels before it with
-    /// their length octets may be at most 255, the root included.
+    /// A pointer is not followed, so it may lead anywhere; its two octets must be there. The labels up to the root or
+    /// first pointer, with their length octets and the root's, may have at most 255 octets.
     ///
     /// `ShortInput` and "invalid label type" as for `parse`, "long domain name" for more than 255 octets. The parser
     /// is then unchanged. Where `parse` succeeds, this does, and moves to the same offset.
@@ -299,8 +280,8 @@ impl<Octs: Octets> ParsedName<Octs> {
         }
     }
 
-    /// Whether a pointer may follow the first label. False means that from its first label on the name is
-    /// uncompressed.
+    /// False: from the first label on, all labels stand in a row. True: a pointer comes after the first label, or did
+    /// before `parent` or `split_first`.
     pub fn is_compressed(&self) -> bool
         ensures { result ≡ may_be_compressed self.now }
     {
@@ -425,6 +406,7 @@ impl<Octs: Octets> ParsedName<Octs> {
     /// Removes the first label, and returns it as a relative name. `None` for the root, which is unchanged.
     ///
     /// `is_compressed` returns what it did before.
+    // The clause `after`: once the borrow that is returned ends, the name is as `SplitsFirst` says.
     pub fn split_first(&mut self) -> Option<RelativeName<&[u8]>>
         ensures none { IsNone result ↔ (parsed_labels self.old ≡ Root) }
         ensures some { IfSome result (λ first. (l : List ℕ) × (rest : List (List ℕ)) × (relative_labels first ≡ l ∷ []) × (parsed_labels self.old ≡ l ∷ rest)) }

@@ -7,7 +7,7 @@ use crate::parsed::ParsedName;
 #[derive(Clone, Copy)]
 pub struct ParsedSuffixIter<'a> {
     name: ParsedName<&'a [u8]>,
-    /// Whether the name was returned, and is the root.
+    /// Whether the root was returned.
     ended: bool,
 }
 

@@ -78,6 +78,7 @@ fn quick_end(message: &[u8], pos: usize) -> Option<usize>
     }
     let last = message.len() - 1;
     let mut at = pos;
+    // The label names the loop in its proof.
     'heads: while at < last {
         let first = message[at];
         if first == 0 || first > 63 {

@@ -12,7 +12,7 @@ pub struct Progress {
     pub at: usize,
     /// The offset of the first label, or of the next label or pointer where no label was read.
     pub base: usize,
-    /// How many octets the labels that were read have, with their length octets.
+    /// How many octets the labels that were read have, with their length octets and without the root.
     pub len: u16,
     /// How many pointers were followed.
     pub pointers: u8,
@@ -28,7 +28,7 @@ impl Progress {
     ghost use Rattle.domain_reading.specs.Progress.{beginning, noted, table_noted, label_passed, pointer_followed};
 
     /// The most octets that the labels of a name have before its root.
-    const MAX_LEN: u16 = 254;
+    const MAX_BEFORE_ROOT: u16 = 254;
 
     /// At the first label or pointer of a name.
     #[inline(always)]
@@ -79,7 +79,7 @@ impl Progress {
         ensures long { MatchResult result (λ _. self.old.len + 1 + octets ≤ 254) (λ fault. (fault ≡ NameFault.LongName) × (254 < self.old.len + 1 + octets)) }
     {
         let len = self.len + 1 + u16::from(octets);
-        if len > Progress::MAX_LEN {
+        if len > Progress::MAX_BEFORE_ROOT {
             return Err(NameFault::LongName);
         }
         self.note_offset(places);

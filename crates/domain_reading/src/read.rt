@@ -14,8 +14,8 @@ use crate::progress::Progress;
 use crate::standing::MAX_LABELS;
 use std::sync::ledger::{Blank, Ledger};
 
-/// The most octets that a name has.
-const MAX_LEN: usize = 255;
+/// The most octets that a name has, its root's among them.
+const MAX_NAME_LEN: usize = 255;
 
 /// Reads the name at an offset, through at most `limit` pointers, and leaves the result in `progress`.
 ///
@@ -35,6 +35,7 @@ pub fn read_name_counted<L: Ledger>(
     ensures fault { IfErr result (λ fault. (f : NameFaultAt limit message.now progress.old.at fault) × (heads.new ≡ heads.old + length f.passed + f.pointers + 1)) }
     ensures few_heads { heads.new ≤ heads.old + 128 + limit }
 {
+    // The label names the loop in its proof.
     'heads: loop {
         match read_head(message, progress.at, heads)? {
             Head::Root => {
@@ -48,7 +49,7 @@ pub fn read_name_counted<L: Ledger>(
 }
 
 /// The offset after the encoding of the name at an offset: after its root or first pointer, wherever that leads to.
-/// No clause says how many labels it reads, so it takes no count of the caller's.
+/// How many labels it reads is bounded by no clause, so the caller passes no counter.
 #[inline(always)]
 pub(crate) fn encoding_end_with<L: Ledger>(
     message: &[u8],
@@ -69,12 +70,12 @@ pub(crate) fn encoding_end_with<L: Ledger>(
         match read_head(message, at, &mut heads)? {
             Head::Label(octets) => {
                 len = len + 1 + usize::from(octets);
-                if len > MAX_LEN {
+                if len > MAX_NAME_LEN {
                     return Err(NameFault::LongName);
                 }
                 at = at + 1 + usize::from(octets);
             }
-            Head::Root if len == MAX_LEN => return Err(NameFault::LongName),
+            Head::Root if len == MAX_NAME_LEN => return Err(NameFault::LongName),
             Head::Root => return Ok(at + 1),
             Head::Pointer(_) => return Ok(at + 2),
         }

@@ -75,7 +75,7 @@ impl Serial {
 
     /// Reads a serial, the high octet first (RFC 1035, 2.3.2).
     ///
-    /// `ShortInput` where fewer than four octets are left. A refused call leaves the parser.
+    /// `ShortInput` where fewer than four octets are left. The parser is unchanged then.
     pub fn parse(parser: &mut Parser<'_>) -> Result<Serial, ParseError>
         ensures ok { IfOk result (λ serial. FixedAt 4 (from_be_bytes w32) (message parser.old) (position parser.old) serial.0 (position parser.new)) }
         ensures moves { OnOk result (MovesTo parser.old parser.new (position parser.new)) }
@@ -87,7 +87,7 @@ impl Serial {
 
     /// Appends the four octets, the high one first, or none.
     ///
-    /// It is refused only where they exceed the spare capacity of the target, and leaves its octets then.
+    /// It fails only where they exceed the spare capacity of the target, whose octets are then as before.
     pub fn compose<Target: OctetsBuilder>(
         &self,
         target: &mut Target,

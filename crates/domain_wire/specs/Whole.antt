@@ -11,14 +11,14 @@ pub record BeginsAt (p : Parser) (octets : List ℕ) : Type 0 where
   pub to_the_end : message p ≡ octets
   pub at_start : position p ≡ 0
 
--- a value is told where nothing was left, and else an error that `trailing data` becomes
+-- the value where nothing was left, and else an error that `trailing data` becomes
 abbrev pub OnlyWhole : {T E : Type 0} → (FormError → E → Type 0) → T → List ℕ → Result T E → Type 0
 OnlyWhole becomes value [] result = result ≡ Ok value
 OnlyWhole becomes value (octet ∷ octets) (Ok _) = ⊥
 OnlyWhole becomes value (octet ∷ octets) (Err e) = (trailing : FormError) × (form_text trailing ≡ codes "trailing data") × becomes trailing e
 
--- what is told of a reading that gave this and left the parser so: its error, its value, or that
--- octets were left
+-- what is returned of a reading that gave this and left the parser so: its error, its value, or that octets
+-- were left
 abbrev pub TellsWhole : {T E : Type 0} → (FormError → E → Type 0) → Result T E → Parser → Result T E → Type 0
 TellsWhole becomes (Err e) end result = result ≡ Err e
 TellsWhole becomes (Ok value) end result = OnlyWhole becomes value (left end) result

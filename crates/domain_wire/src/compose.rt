@@ -21,8 +21,8 @@ pub trait Compose {
 
     /// Appends the octets of the value, or none.
     ///
-    /// It is refused only where the octets exceed the spare capacity of the target, so never where
-    /// they fit. A refused call leaves the octets of the target as they were.
+    /// It fails only where the octets exceed the spare capacity of the target, so never where they fit. On an error
+    /// the octets of the target are as before.
     fn compose<Target: OctetsBuilder>(&self, target: &mut Target) -> Result<(), Target::AppendError>
         ensures ok { OnOk result (Target.octets target.new ≡ Target.octets target.old ++ composed_octets self.now) }
         ensures unchanged { OnErr result (Target.octets target.new ≡ Target.octets target.old) }

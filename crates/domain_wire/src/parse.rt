@@ -18,9 +18,9 @@ use octseq::Parser;
 
 /// A value that is read from a message.
 ///
-/// Where values stand in octets is a relation of octets, a place, what contracts see of the value, and
-/// the place behind it; why none stands at a place is another. The octets are those up to the parser's
-/// end, so that nothing behind it counts.
+/// Where values are in octets is a relation of octets, an offset, what contracts see of the value, and the offset
+/// after it; why none is at an offset is another. The octets are those up to the parser's end, so that nothing
+/// after it counts.
 ///
 /// Numbers, addresses and arrays have the same number of octets whatever they are. Numbers are read with
 /// the high octet first, signed ones in two's complement (RFC 1035, 2.3.2), and addresses as their octets.
@@ -32,22 +32,22 @@ pub trait Parse<'a>: Sized {
     /// What contracts see of this value.
     ghost model: { Self → View };
 
-    /// A value that is seen so stands in the octets at the first place, and the second place is behind it.
+    /// A value that is seen so is in the octets at the first offset, and the second is the offset after it.
     ghost encodes: { List ℕ → ℕ → View → ℕ → Type 0 };
 
-    /// No value stands in the octets at the place, and the error tells why.
+    /// No value is in the octets at the offset, and the error says why.
     ghost fails_with: { List ℕ → ℕ → ParseError → Type 0 };
 
-    /// Reads a value from the place of the parser on, and moves the parser behind it.
+    /// Reads a value from the parser's position on, and moves the parser after it.
     ///
-    /// A refused call leaves the parser where it stood.
+    /// An error leaves the parser as it was.
     fn parse(parser: &mut Parser<'a>) -> Result<Self, ParseError>
         ensures ok { IfOk result (λ value. encodes (message parser.old) (position parser.old) (model value) (position parser.new)) }
         ensures moves { OnOk result (MovesTo parser.old parser.new (position parser.new)) }
         ensures err { IfErr result (λ e. fails_with (message parser.old) (position parser.old) e) }
         ensures unchanged { OnErr result (parser.new ≡ parser.old) };
 
-    /// At each place stands one value or one fault is told, and never both.
+    /// At each offset there is one value or one error, and never both.
     ghost lawful: { IsReading encodes fails_with };
 }
 

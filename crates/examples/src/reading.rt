@@ -16,7 +16,7 @@ use octseq::Parser;
 use std::alloc::{AllocError, Global};
 use std::sync::ledger::Ledger;
 
-/// The name at the parser's place, the type and the class behind it. A refused call leaves the parser.
+/// The name at the parser's position, and the type and the class after it. An error leaves the parser as it was.
 pub fn question<'a>(parser: &mut Parser<'a>) -> Result<(ParsedName<&'a [u8]>, u16, u16), ParseError>
     ensures name { IfOk result (λ read. Names 255 (message parser.old) (position parser.old) (parsed_labels read.0)) }
     ensures behind { IfOk result (λ read. (e : ℕ) × EncodingEnds (message parser.old) (position parser.old) e

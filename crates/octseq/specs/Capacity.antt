@@ -1,7 +1,7 @@
--- When octets that a new builder makes may be refused.
+-- When a new builder may fail to hold octets.
 use Rattle.std.specs.Prelude.{ℕ, ◌<◌, Option, None, Some}
 
--- They exceed a fixed room. Where none is fixed, memory may be refused, which no octets don't ask for.
+-- They exceed a fixed capacity. Where none is fixed, an allocation may fail, and for no octets there is none.
 abbrev pub MayExceedCapacity : Option ℕ → ℕ → Type 0
 MayExceedCapacity None len = 0 < len
 MayExceedCapacity (Some room) len = room < len

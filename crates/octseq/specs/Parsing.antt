@@ -1,4 +1,4 @@
--- What contracts see of a parser: its octets, where it stands in them, and where they end for it.
+-- What contracts see of a parser: its octets, its position in them, and where they end for it.
 use Rattle.std.specs.Prelude.{◌≡◌, ℕ, ◌+◌, ◌<◌, List, length, take, drop, slice_range}
 use Rattle.octseq.specs.declared.parse.Parser.{Parser}
 
@@ -10,7 +10,7 @@ slice_of p = p.octets.now
 abbrev pub message : Parser → List ℕ
 message p = take p.end p.octets.now
 
--- the place of the next octet, counted from the start of the slice
+-- the position of the next octet, counted from the start of the slice
 abbrev pub position : Parser → ℕ
 position p = p.pos
 
@@ -26,7 +26,7 @@ next p n = slice_range (message p) p.pos (p.pos + n)
 abbrev pub LacksOctets : Parser → ℕ → Type 0
 LacksOctets p n = length (message p) < p.pos + n
 
--- new is old, moved to the place n; slice and end stay
+-- new is old with its position at n; slice and end are the same
 pub record MovesTo (old new : Parser) (n : ℕ) : Type 0 where
   pub octets : new.octets ≡ old.octets
   pub end : new.end ≡ old.end

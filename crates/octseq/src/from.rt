@@ -19,14 +19,13 @@ pub trait OctetsFrom<Src>: Sized {
     /// What was made says the same as what it was made of.
     ghost same: { Src → Self → Type 0 };
 
-    /// The sources that may be refused. No other ever is. Which these are each type says of itself: one that
-    /// says all may be refused promises nothing.
+    /// The sources of which making it may fail; of no other it does. Each type says so of itself: one that says
+    /// it of all sources promises nothing.
     ghost may_refuse: { Src → Type 0 };
 
     /// Makes the value.
     ///
-    /// It is refused only where the octets don't fit or memory was refused. A refused source is
-    /// let go.
+    /// It fails only where the octets don't fit or an allocation failed. The source is dropped then.
     fn try_octets_from(alloc: Global, source: Src) -> Result<Self, Self::Error>
         ensures ok { IfOk result (λ made. same source made) }
         ensures err { OnErr result (may_refuse source) };

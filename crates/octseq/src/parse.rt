@@ -1,7 +1,7 @@
 //! Reading octets one after another.
 //!
-//! Contracts speak of a parser by the words of `specs/Parsing.antt`: the octets up to its end, its
-//! place in them, and the octets that are left.
+//! Contracts speak of a parser by the words of `specs/Parsing.antt`: the octets up to its end, its position in
+//! them, and the octets that are left.
 ghost use Rattle.std.specs.Prelude.{◌≡◌, ◌+◌, ◌<◌, ◌≤◌, ◌↔◌, length, take, IfOk, IsErr, OnOk, OnErr, Some, codes};
 ghost use Rattle.std.specs.Int.{w8, w16, w32, w64, from_be_bytes, cast_signed};
 
@@ -23,12 +23,11 @@ impl fmt::Display for ShortInput {
 
 impl Error for ShortInput {}
 
-/// A slice of octets, a place in it, and an end.
+/// A slice of octets, a position in it, and an end.
 ///
-/// Reading begins at the place and never goes past the end. Places count from the start of the
-/// slice. A call is refused exactly where octets before the end are missing, and then changes
-/// nothing. A parser is `Copy`: to read several things or none, read with a copy, and assign it
-/// once all were there.
+/// Reading begins at the position and never goes past the end. Positions count from the start of the slice. A call
+/// fails exactly where octets before the end are missing, and then changes nothing. A parser is `Copy`: to read
+/// several things or none, read with a copy, and assign it once all were there.
 #[derive(Clone, Copy, Debug)]
 pub struct Parser<'a> {
     octets: &'a [u8],
@@ -86,7 +85,7 @@ impl<'a> Parser<'a> {
         &self.octets[..self.end]
     }
 
-    /// The place of the next octet.
+    /// The position of the next octet.
     pub fn pos(&self) -> usize
         ensures place { result ≡ position self.now }
         ensures inside { result ≤ length (message self.now) }
@@ -121,9 +120,9 @@ impl<'a> Parser<'a> {
         &self.octets[self.pos..self.end]
     }
 
-    /// Goes to a place, forwards or back.
+    /// Goes to a position, forwards or back.
     ///
-    /// `ShortInput` where the place is past the end.
+    /// `ShortInput` where it is past the end.
     pub fn seek(&mut self, pos: usize) -> Result<(), ShortInput>
         ensures ok { OnOk result (MovesTo self.old self.new pos) }
         ensures short { IsErr result ↔ (length (message self.old) < pos) }
@@ -167,7 +166,7 @@ impl<'a> Parser<'a> {
 
     /// A parser over the next `n` octets, and goes over them.
     ///
-    /// Its places count from the start of the same slice. `ShortInput` where fewer are left.
+    /// Its positions count from the start of the same slice. `ShortInput` where fewer octets are left.
     pub fn parse_parser(&mut self, n: usize) -> Result<Parser<'a>, ShortInput>
         ensures whole { IfOk result (λ part. slice_of part ≡ slice_of self.old) }
         ensures message { IfOk result (λ part. message part ≡ take (position self.old + n) (message self.old)) }

@@ -15,4 +15,4 @@ returns-in-Ok-clause-compressed c =
     let parser = c.seek.new.self in
     let same : message parser ≡ c.args.message.now = search rules in
     let here : position parser ≡ c.args.offset = search rules in
-    contiguous_here c.args.message.now (message parser) c.args.offset (position parser) c.is_compressed.result _ same here c.is_compressed.ensures c.in-Ok.ensures.is_compressed
+    contiguous_here c.args.message.now (message parser) c.args.offset (position parser) c.is_compressed.result _ same here c.is_compressed.ensures c.in-Ok.ensures.ok.is_compressed
