@@ -21,10 +21,7 @@ impl<B: OctetsBuilder + OctetsMut> LabelsBuilder<B> {
         ensures capacity { self.old.capacity ≤ self.new.capacity }
     {
         match part {
-            NameSymbol::Octet(octet) => match self.push(octet) {
-                Ok(()) => Ok(()),
-                Err(e) => Err(e.into()),
-            },
+            NameSymbol::Octet(octet) => Ok(self.push(octet)?),
             NameSymbol::Dot => {
                 if !self.in_label() {
                     return Err(TextFault::EmptyLabel.into());
@@ -36,10 +33,7 @@ impl<B: OctetsBuilder + OctetsMut> LabelsBuilder<B> {
                 if !self.in_label() {
                     return Err(TextFault::BinaryLabel.into());
                 }
-                match self.push(b'[') {
-                    Ok(()) => Ok(()),
-                    Err(e) => Err(e.into()),
-                }
+                Ok(self.push(b'[')?)
             }
             NameSymbol::Nothing(fault) => Err(fault.into()),
         }
@@ -69,10 +63,7 @@ impl<B: OctetsBuilder + OctetsMut> LabelsBuilder<B> {
         ensures capacity { self.old.capacity ≤ self.new.capacity }
     {
         for item in items {
-            match self.push_name_symbol(name_symbol_of(item)) {
-                Ok(()) => {}
-                Err(e) => return Err(e),
-            }
+            self.push_name_symbol(name_symbol_of(item))?;
         }
         Ok(())
     }

@@ -53,13 +53,11 @@ impl<B: EmptyBuilder + OctetsMut> LabelsBuilder<B> {
         ensures none { capacity ≡ 0 → IsOk result }
         ensures capacity { B.ROOM ≡ None → IfOk result (λ made. capacity ≤ made.capacity) }
     {
-        match B::with_capacity(alloc, capacity) {
-            Ok(builder) => Ok(LabelsBuilder {
-                builder,
-                head: None,
-            }),
-            Err(e) => Err(e),
-        }
+        let builder = B::with_capacity(alloc, capacity)?;
+        Ok(LabelsBuilder {
+            builder,
+            head: None,
+        })
     }
 }
 
@@ -327,10 +325,7 @@ impl<B: OctetsBuilder + OctetsMut> LabelsBuilder<B> {
         if self.len() + slice.len() > 254 {
             return Err(PushNameError::LongName);
         }
-        match self.add_labels(slice) {
-            Ok(()) => Ok(()),
-            Err(_) => Err(PushNameError::ShortBuf),
-        }
+        Ok(self.add_labels(slice)?)
     }
 
     /// Finishes the open label and adds labels in their wire format that make no long name.
@@ -393,10 +388,8 @@ where
         ensures full { OnErr result (room B.limit self < size self.built + length origin.now) }
     {
         let mut builder = self.into_builder();
-        match append_absolute(&mut builder, origin) {
-            Ok(()) => Ok(builder.freeze()),
-            Err(e) => Err(e),
-        }
+        append_absolute(&mut builder, origin)?;
+        Ok(builder.freeze())
     }
 
     /// Finishes the open label and gives the labels, and behind them those of an absolute name of any kind,
@@ -429,10 +422,7 @@ where
         if self.len() + origin.len() > 255 {
             return Err(PushNameError::LongName);
         }
-        match self.finish_with(origin) {
-            Ok(octets) => Ok(octets),
-            Err(_) => Err(PushNameError::ShortBuf),
-        }
+        Ok(self.finish_with(origin)?)
     }
 }
 

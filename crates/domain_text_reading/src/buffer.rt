@@ -153,10 +153,7 @@ fn add_symbols<I: Iterator<Item = Result<Symbol, SymbolCharsError>> + Drop>(
         MatchResult result (λ _. Makes (buffer_view octets.old ends.old.head ends.old.open_len) (name_symbols all) (buffer_view octets.new ends.new.head ends.new.open_len)) (λ f. StopsAt (buffer_view octets.old ends.old.head ends.old.open_len) (name_symbols all) (buffer_view octets.new ends.new.head ends.new.open_len) f) }
 {
     for item in items {
-        match add_symbol(octets, ends, name_symbol_of(item)) {
-            Ok(()) => {}
-            Err(fault) => return Err(fault),
-        }
+        add_symbol(octets, ends, name_symbol_of(item))?;
     }
     Ok(())
 }
@@ -239,13 +236,8 @@ impl NameBuffer {
             open_len: 0,
         };
         self.octets[1..text.len() + 1].copy_from_slice(text);
-        match end_plain(&mut self.octets, text) {
-            Ok(read) => {
-                self.ends = read;
-                Ok(())
-            }
-            Err(fault) => Err(fault),
-        }
+        self.ends = end_plain(&mut self.octets, text)?;
+        Ok(())
     }
 
     /// The number of octets of the labels, the open one among them.

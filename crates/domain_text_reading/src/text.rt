@@ -49,10 +49,8 @@ fn read_name_text<I: Iterator<Item = Result<Symbol, SymbolCharsError>> + Drop>(
             Some(_) => return Err(TextFault::EmptyLabel),
         }
     }
-    match buffer.push_name_symbol(first) {
-        Ok(()) => buffer.push_name_symbols(items),
-        Err(fault) => Err(fault),
-    }
+    buffer.push_name_symbol(first)?;
+    buffer.push_name_symbols(items)
 }
 
 /// Whether a part is a plain dot.
@@ -147,14 +145,8 @@ where
     ensures text { (ps : List NameSymbol) → MatchResult read (λ _. IsNameText ps (closed buffer.old ++ Root)) (NotANameText ps) →
         MatchResult result (λ octets. IsNameText ps (labels_in (Octs.octets octets))) (NoName Octs.Builder.ROOM ps) }
 {
-    match read {
-        Ok(()) => {}
-        Err(fault) => return Err(fault.into()),
-    }
-    let mut target = match Octs::Builder::with_capacity(alloc, buffer.len() + 1) {
-        Ok(target) => target,
-        Err(short) => return Err(short.into()),
-    };
+    read?;
+    let mut target = Octs::Builder::with_capacity(alloc, buffer.len() + 1)?;
     match buffer.append_name(&mut target) {
         Ok(()) => Ok(Octs::from_builder(target)),
         Err(refused) => {
@@ -329,14 +321,8 @@ fn absolute_array<const N: usize>(
     ensures text { (ps : List NameSymbol) → MatchResult read (λ _. IsNameText ps (closed buffer.old ++ Root)) (NotANameText ps) →
         MatchResult result (λ _. IsNameText ps (labels_in octets.new.items)) (NoName (Some N) ps) }
 {
-    match read {
-        Ok(()) => {}
-        Err(fault) => return Err(fault.into()),
-    }
-    match buffer.append_name(octets) {
-        Ok(()) => Ok(()),
-        Err(short) => Err(short.into()),
-    }
+    read?;
+    Ok(buffer.append_name(octets)?)
 }
 
 /// The same for a relative name.

@@ -5,12 +5,12 @@ use Rattle.domain_text_grammar.specs.TextGrammar.{IsNameText}
 use Rattle.domain_text_reading.proofs.Buffering.{absolute_made, labels_made}
 use Rattle.domain_text_reading.proofs.text.absolute_array.Goals as goal
 
-pub returns-in-Ok-append_name-clause-wire : goal.returns-in-Ok-append_name-clause-wire
-returns-in-Ok-append_name-clause-wire g c =
+pub returns-clause-wire : goal.returns-clause-wire
+returns-clause-wire g c =
     let ls : List (List ℕ) = closed c.args.buffer.now ++ Root in
-    absolute_made _ ls c.append_name.ensures.name (c.in-Ok-append_name.ensures.ok ∙ ap (λ (z : List ℕ). z ++ wire ls) c.requires.empty)
+    absolute_made _ ls c.append_name.ensures.name (c.in_ok-append_name.ensures.ok ∙ ap (λ (z : List ℕ). z ++ wire ls) c.requires.empty)
 
-pub returns-in-Ok-append_name-clause-text : goal.returns-in-Ok-append_name-clause-text
-returns-in-Ok-append_name-clause-text g c = λ ps h.
+pub returns-clause-text : goal.returns-clause-text
+returns-clause-text g c = λ ps h.
     let ls : List (List ℕ) = closed c.args.buffer.now ++ Root in
-    subst (λ (z : List (List ℕ)). IsNameText ps z) (sym (labels_made _ ls (c.in-Ok-append_name.ensures.ok ∙ ap (λ (z : List ℕ). z ++ wire ls) c.requires.empty))) (rw c.in-Ok.is at h)
+    subst (λ (z : List (List ℕ)). IsNameText ps z) (sym (labels_made _ ls (c.in_ok-append_name.ensures.ok ∙ ap (λ (z : List ℕ). z ++ wire ls) c.requires.empty))) (rw c.in_ok-read.was at h)

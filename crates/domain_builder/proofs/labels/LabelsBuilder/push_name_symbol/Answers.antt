@@ -19,4 +19,4 @@ dot_refused room b ShortBuf closed told = absurd told
 
 pub returns-then-not-in_label-clause-takes : goal.returns-then-not-in_label-clause-takes
 returns-then-not-in_label-clause-takes g c =
-    rw c.in-Dot.is (dot_refused _ _ _ (sym c.in_label.ensures ∙ c.if-not-in_label.true) c.into-then-not-in_label.ensures)
+    rw c.in-Dot.is (dot_refused _ _ _ (sym c.in_label.ensures ∙ c.if-not-in_label.true) c.into.ensures)
