@@ -52,7 +52,7 @@ lay_out() {
 # crates that it proves.
 build_port() {
     cp "$here/../HANDLES" "$work/port/"
-    grep -v -E '^(conformance|conformance_messages|dnsnames|domain_tests|examples) *[a-z]*:' "$here/../crates.txt" > "$work/port/crates.txt"
+    grep -v -E '^(conformance[a-z_]*|dnsnames|domain_tests|examples) *[a-z]*:' "$here/../crates.txt" > "$work/port/crates.txt"
     sed -n 's/^\([a-z_0-9]*\).*:.*/\1/p' "$work/port/crates.txt" | while read -r crate; do
         lay_out "$crate"
     done

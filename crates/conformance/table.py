@@ -1246,6 +1246,61 @@ ran(["list"], ANSWER[:4] + b"\xff" * 8, 1, b"", ENDED)
 ran(["list"], ANSWER[:4] + b"\0\1" + b"\0" * 6 + b"\xc0\x0c\0\1\0\1", 1, b"", MANY)
 
 
+topic("names read slowly, at each offset")
+
+
+def skip_slowly(message, place):
+    """The place behind the root or the first pointer of the name at a place, or the first fault before it."""
+    at, passed = place, 0
+    while at < len(message):
+        head = message[at]
+        if head >= 0xC0:
+            if at + 1 == len(message):
+                break
+            return at + 2
+        if head >= 0x40:
+            return "invalid label type"
+        passed += 1 + head
+        if at + 1 + head > len(message):
+            break
+        if passed > 255:
+            return "long domain name"
+        at += 1 + head
+        if head == 0:
+            return at
+    return "unexpected end of input"
+
+
+def read_answer(message, place, limit=255):
+    read = read_slowly(message, place, limit)
+    if isinstance(read, str):
+        return "err %d %s" % (place, read)
+    labels, flag, behind = read
+    return "ok %s %s %d" % (hx(rel(*labels)), flag, behind)
+
+
+def slow_rows(message, places, ends):
+    for end in ends:
+        for place in places:
+            if place <= end <= len(message):
+                told("parse", message, place, end, read_answer(message[:end], place))
+                skipped = skip_slowly(message[:end], place)
+                told("skip", message, place, end, "err %d %s" % (place, skipped) if isinstance(skipped, str) else "ok %d" % skipped)
+
+
+for octets in (
+    SCATTERED, FLAT_POINTER, ONCE, b"\3com\0\xc0\0", b"123\0", INSIDE, b"\xc0\x0012", b"\xc0\2\xc0\x0012", b"\1a\xc0\0", b"\3www\xc0\xee12",
+    b"\3www\xc0\x0412", b"\3www\xc0\x0612", b"\3www\xc0\x0012", b"\3www\7exam", b"\3www\7example", b"\3www\7example\xbffoo", b"\x40a\x80\0",
+    b"\1a\1b\xc0\0", b"\4\1a\xc0\1\xc0\1", ANSWER,
+):
+    slow_rows(octets, range(len(octets) + 1), range(len(octets) + 1))
+    for place in range(len(octets) + 1):
+        for limit in (0, 1, 2):
+            own("parselimit", octets, place, limit, read_answer(octets, place, limit))
+for octets in (LONG + b"\xc0\x0012", b"\1a" * 127 + b"\0", b"\1a" * 127 + b"\5a", b"\1a" * 128 + b"\0", b"\1a" * 126 + b"\2aa\xc0\0", b"\1a" * 126 + b"\2aa\0", b"\3123\0" + LONG + b"\xc0\x0012", b"\x041234\0" + LONG + b"\xc0\x0012"):
+    slow_rows(octets, (0, 1, 2, 4, 5, 6, 15, len(octets) - 4, len(octets) - 2, len(octets)), range(len(octets) - 3, len(octets) + 1))
+
+
 
 def main():
     answerer = sys.argv[1:]

@@ -71,7 +71,11 @@ pub fn relative_names_beside(rt: &impl Abort) -> RelativeOthers<'static> {
 }
 
 /// Goes over the labels from both ends.
-fn gives_labels<'a, N: ToLabelIter<'a>>(alloc: Global, name: &'a N, wanted: Wanted<'_>) -> bool {
+pub fn gives_labels<'a, N: ToLabelIter<'a>>(
+    alloc: Global,
+    name: &'a N,
+    wanted: Wanted<'_>,
+) -> bool {
     let mut taken = true;
     let mut given: Vec<u8> = Vec::new(alloc);
     let mut labels = name.iter_labels();
@@ -92,20 +96,6 @@ fn gives_labels<'a, N: ToLabelIter<'a>>(alloc: Global, name: &'a N, wanted: Want
 fn is_measured<'a, N: ToLabelIter<'a>>(name: &'a N, wanted: Wanted<'_>, flat: bool) -> bool {
     let lent = if flat { Some(wanted.wire) } else { None };
     name.compose_len() as usize == wanted.wire.len() && name.as_flat_slice() == lent
-}
-
-/// Asks a name of any kind for all that names of each kind have, absolute and relative ones.
-pub fn every_call_of_any<'a, N: ToLabelIter<'a>>(
-    rt: &impl Abort,
-    alloc: Global,
-    name: &'a N,
-    wanted: Wanted<'_>,
-    flat: bool,
-) {
-    assert!(rt; gives_labels(alloc, name, wanted));
-    assert!(rt; is_measured(name, wanted, flat));
-    assert!(rt; name.is_absolute() == (wanted.wire.last() == Some(&0)));
-    assert!(rt; name.starts_with(name) && name.ends_with(name));
 }
 
 fn is_composed<'a, N: AbsoluteLabels<'a>>(alloc: Global, name: &'a N, wanted: Wanted<'_>) -> bool {

@@ -1,6 +1,6 @@
 //! Tests of what neither a contract nor a table of calls shows: calls over types of one's own, buffers that
-//! are full, memory that is refused, readers and writers that fail, and names read a second time by a slow
-//! reader. Calls whose answers are values stand in the table of the program `conformance`.
+//! are full, memory that is refused, and readers and writers that fail. Calls whose answers are values stand in
+//! the table of the program `conformance`.
 #![tactic(auto)]
 
 #[cfg(test)]
@@ -26,8 +26,6 @@ mod lists;
 #[cfg(test)]
 mod memory;
 #[cfg(test)]
-mod messages;
-#[cfg(test)]
 mod names;
 #[cfg(test)]
 mod paths;
@@ -37,7 +35,5 @@ mod places;
 mod records;
 #[cfg(test)]
 mod refused;
-#[cfg(test)]
-mod slow_reader;
 #[cfg(test)]
 mod words;
