@@ -1,17 +1,20 @@
 //! What a name of any kind is made into.
+//!
+//! A function that is generic over names is dear to check. So each kind of names has one here, which hands what was
+//! made to functions that aren't.
 
 use arrayvec::ArrayVec;
 use conformance_answer::{Answer, Fail};
 use domain_list::{AbsoluteLabels, RelativeLabels};
 use domain_name::{Name, NameBuilder, RelativeName};
 use domain_traits::{ToName, ToRelativeName};
-use octseq::OctetsBuilder;
+use octseq::{OctetsBuilder, ShortBuf};
 use std::borrow::CowSlice;
 
 /// How many octets an array has that can be too small for a name.
 pub const SIZE: usize = 17;
 
-/// An array that has room for so many octets behind those that it holds.
+/// An array that has room for so many octets after those that it holds.
 fn with_room(out: &mut Answer, room: usize) -> ArrayVec<u8, SIZE> {
     let mut target = ArrayVec::new();
     for _held in room..SIZE {
@@ -25,6 +28,26 @@ fn put_composed(out: &mut Answer, refused: bool, octets: &[u8]) {
     out.put_hex(octets);
 }
 
+/// Puts octets that were composed into an empty `Vec`.
+fn put_all_composed(out: &mut Answer, word: &[u8], taken: bool, octets: &Vec<u8>) {
+    if !taken {
+        out.fail(Fail::Memory);
+    }
+    out.put_hex_after(word, octets.as_slice());
+    out.asked_once(octets, b"memory of compose");
+}
+
+/// A name that was made over a `Vec` is this one.
+fn is_made<E: Drop>(out: &mut Answer, made: Result<Name<Vec<u8>>, E>, wanted: &[u8], call: &[u8]) {
+    match made {
+        Ok(made) => {
+            out.same(made.as_slice(), wanted, call);
+            out.asked_once(made.as_octets(), call);
+        }
+        Err(_) => out.fail(Fail::Memory),
+    }
+}
+
 fn put_cow(out: &mut Answer, octets: &CowSlice<'_, u8>) {
     match octets {
         CowSlice::Borrowed(_) => out.put(b" cow=lent"),
@@ -35,108 +58,63 @@ fn put_cow(out: &mut Answer, octets: &CowSlice<'_, u8>) {
     }
 }
 
-/// The name over a `Vec`, its canonical form, whether `to_cow` lends, the same over 17 octets, and
-/// what is composed into 17 octets behind one octet; the text with a final dot, and the labels that a signature
-/// counts.
-pub fn put_forms<'a, N: AbsoluteLabels<'a>>(out: &mut Answer, name: &'a N) {
-    put_vec(out, name);
-    put_canonical(out, name);
-    put_lent(out, name);
-    put_held(out, name);
-    out.put(b" composed=");
-    put_appended(out, name, 16);
-    put_dotted(out, name);
+/// Puts whether `to_cow` borrowed the octets.
+fn put_cow_name(out: &mut Answer, made: Result<Name<CowSlice<'_, u8>>, ShortBuf>, wanted: &[u8]) {
+    match made {
+        Ok(made) => {
+            put_cow(out, made.as_octets());
+            out.same(made.as_slice(), wanted, b"to_cow");
+        }
+        Err(_) => out.fail(Fail::Memory),
+    }
 }
 
-fn put_dotted<'a, N: AbsoluteLabels<'a>>(out: &mut Answer, name: &'a N) {
+fn is_lent(out: &mut Answer, lent: Option<&[u8]>, wanted: &[u8]) {
+    if let Some(lent) = lent {
+        out.same(lent, wanted, b"as_flat_slice");
+    }
+}
+
+fn put_held(out: &mut Answer, word: &[u8], made: Result<Name<ArrayVec<u8, 17>>, ShortBuf>) {
+    out.put(word);
+    match made {
+        Ok(made) => out.put_hex(made.as_slice()),
+        Err(error) => out.put_text(error),
+    }
+}
+
+/// The name over a `Vec`, its canonical form, whether `to_cow` lends, the same over 17 octets, and
+/// what is composed into 17 octets after one octet; the text with a final dot, and the labels that a signature
+/// counts.
+pub fn put_forms<'a, N: AbsoluteLabels<'a>>(out: &mut Answer, name: &'a N) {
+    let alloc = out.alloc();
+    let mut wire: Vec<u8> = Vec::new(alloc);
+    let taken = name.compose(&mut wire).is_ok();
+    put_all_composed(out, b"made=", taken, &wire);
+    is_made(out, name.to_vec(alloc), wire.as_slice(), b"to_vec");
+    is_made(out, name.to_name(alloc), wire.as_slice(), b"to_name");
+    let origin = NameBuilder::new_vec(alloc).append_origin(name);
+    is_made(out, origin, wire.as_slice(), b"append_origin");
+    let mut lowered: Vec<u8> = Vec::new(alloc);
+    let taken = name.compose_canonical(&mut lowered).is_ok();
+    put_all_composed(out, b" canonical=", taken, &lowered);
+    is_made(
+        out,
+        name.to_canonical_name(alloc),
+        lowered.as_slice(),
+        b"to_canonical_name",
+    );
+    put_cow_name(out, name.to_cow(alloc), wire.as_slice());
+    is_lent(out, name.as_flat_slice(), wire.as_slice());
+    put_held(out, b" held=", name.try_to_name(alloc));
+    put_held(out, b" lowered=", name.try_to_canonical_name(alloc));
+    out.put(b" composed=");
+    put_appended(out, name, 16);
     out.put_shown_after(b" dotted=", name.fmt_with_dot());
     out.put_text_after(b" rrsig=", name.rrsig_label_count());
 }
 
-fn put_vec<'a, N: AbsoluteLabels<'a>>(out: &mut Answer, name: &'a N) {
-    let Ok(made) = name.to_vec(out.alloc()) else {
-        return out.fail(Fail::Memory);
-    };
-    out.put_hex_after(b"made=", made.as_slice());
-    let mut octets: Vec<u8> = Vec::new(out.alloc());
-    if name.compose(&mut octets).is_err() {
-        out.fail(Fail::Memory);
-    }
-    out.same(octets.as_slice(), made.as_slice(), b"compose");
-    out.asked_once(&octets, b"memory of compose");
-    out.asked_once(made.as_octets(), b"memory of to_vec");
-    is_named(out, name, made.as_slice());
-    is_origin(out, name, made.as_slice());
-}
-
-fn is_named<'a, N: AbsoluteLabels<'a>>(out: &mut Answer, name: &'a N, wanted: &[u8]) {
-    let made: Result<Name<Vec<u8>>, _> = name.to_name(out.alloc());
-    match made {
-        Ok(made) => {
-            out.same(made.as_slice(), wanted, b"to_name");
-            out.asked_once(made.as_octets(), b"memory of to_name");
-        }
-        Err(_) => out.fail(Fail::Memory),
-    }
-}
-
-/// A builder of nothing takes the name as its origin.
-fn is_origin<'a, N: AbsoluteLabels<'a>>(out: &mut Answer, name: &'a N, wanted: &[u8]) {
-    let builder = NameBuilder::new_vec(out.alloc());
-    match builder.append_origin(name) {
-        Ok(made) => {
-            out.same(made.as_slice(), wanted, b"append_origin");
-            out.asked_once(made.as_octets(), b"memory of append_origin");
-        }
-        Err(_) => out.fail(Fail::Memory),
-    }
-}
-
-fn put_canonical<'a, N: AbsoluteLabels<'a>>(out: &mut Answer, name: &'a N) {
-    let made: Result<Name<Vec<u8>>, _> = name.to_canonical_name(out.alloc());
-    let Ok(made) = made else {
-        return out.fail(Fail::Memory);
-    };
-    out.put_hex_after(b" canonical=", made.as_slice());
-    let mut octets: Vec<u8> = Vec::new(out.alloc());
-    if name.compose_canonical(&mut octets).is_err() {
-        out.fail(Fail::Memory);
-    }
-    out.same(octets.as_slice(), made.as_slice(), b"compose_canonical");
-    out.asked_once(&octets, b"memory of compose_canonical");
-    out.asked_once(made.as_octets(), b"memory of canonical names");
-}
-
-fn put_lent<'a, N: AbsoluteLabels<'a>>(out: &mut Answer, name: &'a N) {
-    let Ok(cow) = name.to_cow(out.alloc()) else {
-        return out.fail(Fail::Memory);
-    };
-    put_cow(out, cow.as_octets());
-    let Ok(made) = name.to_vec(out.alloc()) else {
-        return out.fail(Fail::Memory);
-    };
-    out.same(cow.as_slice(), made.as_slice(), b"to_cow");
-    if let Some(lent) = name.as_flat_slice() {
-        out.same(lent, made.as_slice(), b"as_flat_slice");
-    }
-}
-
-fn put_held<'a, N: AbsoluteLabels<'a>>(out: &mut Answer, name: &'a N) {
-    let made: Result<Name<ArrayVec<u8, 17>>, _> = name.try_to_name(out.alloc());
-    let lowered: Result<Name<ArrayVec<u8, 17>>, _> = name.try_to_canonical_name(out.alloc());
-    out.put(b" held=");
-    match made {
-        Ok(made) => out.put_hex(made.as_slice()),
-        Err(error) => out.put_text(error),
-    }
-    out.put(b" lowered=");
-    match lowered {
-        Ok(made) => out.put_hex(made.as_slice()),
-        Err(error) => out.put_text(error),
-    }
-}
-
-/// What is composed behind other octets that leave so much room, and the same of the canonical form.
+/// What is composed after other octets that leave so much room, and the same of the canonical form.
 pub fn put_appended<'a, N: AbsoluteLabels<'a>>(out: &mut Answer, name: &'a N, room: usize) {
     let mut target = with_room(out, room);
     let refused = name.compose(&mut target).is_err();
@@ -163,99 +141,95 @@ pub fn put_lent_forms(out: &mut Answer, octets: &[u8]) {
     }
 }
 
-/// What `put_forms` tells, of a relative name.
-pub fn put_relative_forms<'a, N: RelativeLabels<'a>>(out: &mut Answer, name: &'a N) {
-    put_relative_vec(out, name);
-    put_relative_canonical(out, name);
-    put_relative_lent(out, name);
-    put_relative_held(out, name);
-    out.put(b" composed=");
-    put_relative_appended(out, name, 16);
-}
-
-fn put_relative_vec<'a, N: RelativeLabels<'a>>(out: &mut Answer, name: &'a N) {
-    let Ok(made) = name.to_vec(out.alloc()) else {
-        return out.fail(Fail::Memory);
-    };
-    out.put_hex_after(b"made=", made.as_slice());
-    out.agree(name.is_empty() == made.is_empty(), b"is_empty");
-    let mut octets: Vec<u8> = Vec::new(out.alloc());
-    if name.compose(&mut octets).is_err() {
-        out.fail(Fail::Memory);
-    }
-    out.same(octets.as_slice(), made.as_slice(), b"compose");
-    out.asked_once(&octets, b"memory of compose");
-    out.asked_once(made.as_octets(), b"memory of to_vec");
-    is_relative_named(out, name, made.as_slice());
-    is_appended(out, name, made.as_slice());
-}
-
-fn is_relative_named<'a, N: RelativeLabels<'a>>(out: &mut Answer, name: &'a N, wanted: &[u8]) {
-    let made: Result<RelativeName<Vec<u8>>, _> = name.to_relative_name(out.alloc());
+/// A relative name that was made over a `Vec` is this one.
+fn is_relative_made(
+    out: &mut Answer,
+    made: Result<RelativeName<Vec<u8>>, ShortBuf>,
+    wanted: &[u8],
+    call: &[u8],
+) {
     match made {
         Ok(made) => {
-            out.same(made.as_slice(), wanted, b"to_relative_name");
-            out.asked_once(made.as_octets(), b"memory of to_relative_name");
+            out.same(made.as_slice(), wanted, call);
+            out.asked_once(made.as_octets(), call);
         }
         Err(_) => out.fail(Fail::Memory),
     }
 }
 
-/// A builder of nothing takes the labels of the name.
-fn is_appended<'a, N: RelativeLabels<'a>>(out: &mut Answer, name: &'a N, wanted: &[u8]) {
-    let mut builder = NameBuilder::new_vec(out.alloc());
-    if builder.append_name(name).is_err() {
-        return out.fail(Fail::Memory);
+/// A builder that took the labels of the name has them.
+fn is_appended(out: &mut Answer, taken: bool, builder: NameBuilder<Vec<u8>>, wanted: &[u8]) {
+    if !taken {
+        out.fail(Fail::Memory);
     }
     let made = builder.finish();
     out.same(made.as_slice(), wanted, b"append_name");
     out.asked_once(made.as_octets(), b"memory of append_name");
 }
 
-fn put_relative_canonical<'a, N: RelativeLabels<'a>>(out: &mut Answer, name: &'a N) {
-    let made: Result<RelativeName<Vec<u8>>, _> = name.to_canonical_relative_name(out.alloc());
-    let Ok(made) = made else {
-        return out.fail(Fail::Memory);
-    };
-    out.put_hex_after(b" canonical=", made.as_slice());
-    let mut octets: Vec<u8> = Vec::new(out.alloc());
-    if name.compose_canonical(&mut octets).is_err() {
-        out.fail(Fail::Memory);
-    }
-    out.same(octets.as_slice(), made.as_slice(), b"compose_canonical");
-    out.asked_once(&octets, b"memory of compose_canonical");
-    out.asked_once(made.as_octets(), b"memory of canonical names");
-}
-
-fn put_relative_lent<'a, N: RelativeLabels<'a>>(out: &mut Answer, name: &'a N) {
-    let Ok(cow) = name.to_cow(out.alloc()) else {
-        return out.fail(Fail::Memory);
-    };
-    put_cow(out, cow.as_octets());
-    let Ok(made) = name.to_vec(out.alloc()) else {
-        return out.fail(Fail::Memory);
-    };
-    out.same(cow.as_slice(), made.as_slice(), b"to_cow");
-    if let Some(lent) = name.as_flat_slice() {
-        out.same(lent, made.as_slice(), b"as_flat_slice");
+fn put_cow_relative(
+    out: &mut Answer,
+    made: Result<RelativeName<CowSlice<'_, u8>>, ShortBuf>,
+    wanted: &[u8],
+) {
+    match made {
+        Ok(made) => {
+            put_cow(out, made.as_octets());
+            out.same(made.as_slice(), wanted, b"to_cow");
+        }
+        Err(_) => out.fail(Fail::Memory),
     }
 }
 
-fn put_relative_held<'a, N: RelativeLabels<'a>>(out: &mut Answer, name: &'a N) {
-    let made: Result<RelativeName<ArrayVec<u8, 17>>, _> = name.try_to_relative_name(out.alloc());
-    let lowered: Result<RelativeName<ArrayVec<u8, 17>>, _> = name.try_to_canonical_relative_name(
-        out.alloc(),
-    );
-    out.put(b" held=");
+fn put_relative_held(
+    out: &mut Answer,
+    word: &[u8],
+    made: Result<RelativeName<ArrayVec<u8, 17>>, ShortBuf>,
+) {
+    out.put(word);
     match made {
         Ok(made) => out.put_hex(made.as_slice()),
         Err(error) => out.put_text(error),
     }
-    out.put(b" lowered=");
-    match lowered {
-        Ok(made) => out.put_hex(made.as_slice()),
-        Err(error) => out.put_text(error),
-    }
+}
+
+/// What `put_forms` tells, of a relative name.
+pub fn put_relative_forms<'a, N: RelativeLabels<'a>>(out: &mut Answer, name: &'a N) {
+    let alloc = out.alloc();
+    let mut wire: Vec<u8> = Vec::new(alloc);
+    let taken = name.compose(&mut wire).is_ok();
+    put_all_composed(out, b"made=", taken, &wire);
+    out.agree(name.is_empty() == wire.is_empty(), b"is_empty");
+    is_relative_made(out, name.to_vec(alloc), wire.as_slice(), b"to_vec");
+    is_relative_made(
+        out,
+        name.to_relative_name(alloc),
+        wire.as_slice(),
+        b"to_relative_name",
+    );
+    let mut builder = NameBuilder::new_vec(alloc);
+    let taken = builder.append_name(name).is_ok();
+    is_appended(out, taken, builder, wire.as_slice());
+    let mut lowered: Vec<u8> = Vec::new(alloc);
+    let taken = name.compose_canonical(&mut lowered).is_ok();
+    put_all_composed(out, b" canonical=", taken, &lowered);
+    let canonical = name.to_canonical_relative_name(alloc);
+    is_relative_made(
+        out,
+        canonical,
+        lowered.as_slice(),
+        b"to_canonical_relative_name",
+    );
+    put_cow_relative(out, name.to_cow(alloc), wire.as_slice());
+    is_lent(out, name.as_flat_slice(), wire.as_slice());
+    put_relative_held(out, b" held=", name.try_to_relative_name(alloc));
+    put_relative_held(
+        out,
+        b" lowered=",
+        name.try_to_canonical_relative_name(alloc),
+    );
+    out.put(b" composed=");
+    put_relative_appended(out, name, 16);
 }
 
 /// What `put_appended` tells, of a relative name.
