@@ -4,7 +4,7 @@ ghost use Rattle.std.specs.Iterator.{AlwaysYields, IsFinite};
 ghost use Rattle.std.specs.Str.{chars};
 ghost use Rattle.domain_label.specs.declared.symbol.Symbol.{Symbol};
 ghost use Rattle.domain_label.specs.declared.symbol.SymbolCharsError.{SymbolCharsError};
-ghost use Rattle.domain_label.specs.Spelling.{Reads};
+ghost use Rattle.domain_label.specs.Spelling.{ReadsSymbols};
 ghost use Rattle.domain_text_grammar.specs.NameSymbols.{name_symbols, symbol_in_name, symbols_in_name};
 ghost use Rattle.domain_builder.specs.Pushing.{TakesSymbol, TakesSymbols};
 ghost use Rattle.domain_builder.specs.Inside.{room};
@@ -78,7 +78,7 @@ impl<B: OctetsBuilder + OctetsMut> LabelsBuilder<B> {
     ) -> Result<(), FromStrError>
         requires can { I.can_next chars }
         requires ends { IsFinite (I.remaining chars) }
-        ensures takes { (cs : List ℕ) (items : List (Result Symbol SymbolCharsError)) → AlwaysYields I.next_gives (λ c. c) chars cs → Reads cs items →
+        ensures takes { (cs : List ℕ) (items : List (Result Symbol SymbolCharsError)) → AlwaysYields I.next_gives (λ c. c) chars cs → ReadsSymbols cs items →
             TakesSymbols (room B.limit self.new) self.old.built (name_symbols items) result self.new.built }
         ensures capacity { self.old.capacity ≤ self.new.capacity }
     {
@@ -101,7 +101,7 @@ impl<B: OctetsBuilder + OctetsMut> LabelsBuilder<B> {
 
     /// Pushes the symbols of a text in turn, as `append_chars` does those of its characters.
     pub fn append_str(&mut self, text: &str) -> Result<(), FromStrError>
-        ensures takes { (items : List (Result Symbol SymbolCharsError)) → Reads (chars text.now) items →
+        ensures takes { (items : List (Result Symbol SymbolCharsError)) → ReadsSymbols (chars text.now) items →
             TakesSymbols (room B.limit self.new) self.old.built (name_symbols items) result self.new.built }
         ensures capacity { self.old.capacity ≤ self.new.capacity }
     {

@@ -6,7 +6,7 @@ use Rattle.domain_label.specs.declared.symbol.Symbol.{Symbol}
 use Rattle.domain_label.specs.declared.symbol.Symbol.TheVariants.{Char, SimpleEscape, DecimalEscape}
 use Rattle.domain_label.specs.declared.symbol.SymbolCharsError.{SymbolCharsError}
 use Rattle.domain_label.specs.declared.symbol.SymbolCharsError.TheVariants.{ShortInput, BadEscape}
-use Rattle.domain_label.specs.Spelling.{IsDigit, IsNoDigit, IsPrintable, IsNotPrintable, number, spelling, HasSpelling, Breaks, IsBroken, Reads, IsReadOnce}
+use Rattle.domain_label.specs.Spelling.{IsDigit, IsNoDigit, IsPrintable, IsNotPrintable, number, spelling, HasSpelling, Breaks, IsBroken, ReadsSymbols, IsReadOnce}
 
 -- what the three digits of an octet spell
 pub number-digits : (n : ℕ) → n ≤ 255 → number (48 + n / 100) (48 + n / 10 % 10) (48 + n % 10) ≡ n
@@ -122,14 +122,14 @@ one_fault cs BadEscape ShortInput b d = absurd (cut_or_broken cs d b)
 one_fault cs BadEscape BadEscape b d = refl
 
 -- texts are read in no two ways
-pub same_reading : (items others : List (Result Symbol SymbolCharsError)) (cs : List ℕ) → Reads cs items → Reads cs others → others ≡ items
+pub same_reading : (items others : List (Result Symbol SymbolCharsError)) (cs : List ℕ) → ReadsSymbols cs items → ReadsSymbols cs others → others ≡ items
 same_reading [] [] cs r o = refl
 same_reading [] (Ok t ∷ os) cs r o = absurd (none_spelled t cs o.1.0 r o.1.1)
 same_reading [] (Err f ∷ os) cs r o = absurd (none_broken cs f r o.0)
 same_reading (Ok s ∷ is) [] cs r o = absurd (none_spelled s cs r.1.0 o r.1.1)
 same_reading (Ok s ∷ is) (Ok t ∷ os) cs r o =
     let same = one_symbol t s o.1.0 r.1.0 o.0 r.0 (sym o.1.1 ∙ r.1.1) in
-    let more : os ≡ is = same_reading is os r.1.0 r.1.2 (subst (λ (q : List ℕ). Reads q os) same.1 o.1.2) in
+    let more : os ≡ is = same_reading is os r.1.0 r.1.2 (subst (λ (q : List ℕ). ReadsSymbols q os) same.1 o.1.2) in
     ap (λ (x : Symbol). Ok x ∷ os) same.0 ∙ ap (λ (x : List (Result Symbol SymbolCharsError)). Ok s ∷ x) more
 same_reading (Ok s ∷ is) (Err f ∷ os) cs r o = absurd (whole_or_broken s cs r.1.0 f r.0 r.1.1 o.0)
 same_reading (Err e ∷ is) [] cs r o = absurd (none_broken cs e o r.0)
@@ -220,12 +220,12 @@ shorter (Char c) cs rest e = let k : length cs ≡ length (c ∷ rest) = ap leng
 shorter (SimpleEscape c) cs rest e = let k : length cs ≡ length (92 ∷ c ∷ rest) = ap length e in omega arith
 shorter (DecimalEscape n) cs rest e = let k : length cs ≡ length (92 ∷ (48 + n / 100) ∷ (48 + n / 10 % 10) ∷ (48 + n % 10) ∷ rest) = ap length e in omega arith
 
-reading : (n : ℕ) (cs : List ℕ) → length cs ≤ n → (items : List (Result Symbol SymbolCharsError)) × Reads cs items
+reading : (n : ℕ) (cs : List ℕ) → length cs ≤ n → (items : List (Result Symbol SymbolCharsError)) × ReadsSymbols cs items
 reading n [] h = ([], refl)
 reading zero (c ∷ cs) h = absurd (omega arith)
 reading (suc n) (c ∷ cs) h = at (first c cs) (λ rest k. reading n rest k)
   where
-    at : SymbolOrFault (c ∷ cs) → ((rest : List ℕ) → length rest ≤ n → (items : List (Result Symbol SymbolCharsError)) × Reads rest items) → (items : List (Result Symbol SymbolCharsError)) × Reads (c ∷ cs) items
+    at : SymbolOrFault (c ∷ cs) → ((rest : List ℕ) → length rest ≤ n → (items : List (Result Symbol SymbolCharsError)) × ReadsSymbols rest items) → (items : List (Result Symbol SymbolCharsError)) × ReadsSymbols (c ∷ cs) items
     at (inl f) more =
         let k = shorter f.0 (c ∷ cs) f.1 f.3 in
         let r = more f.1 (omega (arith, k)) in

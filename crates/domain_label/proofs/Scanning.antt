@@ -7,8 +7,8 @@ use Rattle.domain_label.specs.declared.symbol.SymbolCharsError.{SymbolCharsError
 use Rattle.domain_label.specs.declared.symbol.SymbolCharsError.TheVariants.{ShortInput, BadEscape}
 use Rattle.domain_label.specs.declared.symbols.Symbols.{Symbols}
 use Rattle.domain_label.specs.declared.whole.WholeSymbols.{WholeSymbols}
-use Rattle.domain_label.specs.Spelling.{IsDigit, number, spelling, IsBroken, Reads}
-use Rattle.domain_label.specs.Scanning.{Gives, SymbolSteps, GivesDigit, GivesEscape, WholeSteps}
+use Rattle.domain_label.specs.Spelling.{IsDigit, number, spelling, IsBroken, ReadsSymbols}
+use Rattle.domain_label.specs.Scanning.{GivesSymbol, SymbolSteps, GivesDigit, GivesEscape, WholeSteps}
 use Rattle.domain_label.proofs.ReadOnce.{digits_of, one_symbol, none_spelled, none_broken, whole_or_broken, one_fault}
 
 -- where each run gives cs, an item is the first of cs
@@ -45,24 +45,24 @@ module _ {I : Type 0} (steps : I → Option ℕ → I → Type 0) where
   nothing_more s (x ∷ items) over e = absurd (cc)
 
   GivesOn : List (Result Symbol SymbolCharsError) → Type 0
-  GivesOn items = (s : Symbols I) (cs : List ℕ) → s.done ≡ false → AlwaysYields steps (λ c. c) s.chars cs → Reads cs items → AlwaysYields (SymbolSteps steps) (λ x. x) s items
+  GivesOn items = (s : Symbols I) (cs : List ℕ) → s.done ≡ false → AlwaysYields steps (λ c. c) s.chars cs → ReadsSymbols cs items → AlwaysYields (SymbolSteps steps) (λ x. x) s items
 
-  no_item : (cs : List ℕ) → cs ≡ [] → (x : Result Symbol SymbolCharsError) (t : Symbols I) → Gives steps cs (Some x) t.chars t.done → ⊥
+  no_item : (cs : List ℕ) → cs ≡ [] → (x : Result Symbol SymbolCharsError) (t : Symbols I) → GivesSymbol steps cs (Some x) t.chars t.done → ⊥
   no_item cs e (Err f) t g = none_broken cs f e g.0
   no_item cs e (Ok z) t g = none_spelled z cs g.2.0 e g.2.1
 
-  symbol_item : (y : Symbol) (items : List (Result Symbol SymbolCharsError)) (cs : List ℕ) → Reads cs (Ok y ∷ items) → GivesOn items → (x : Result Symbol SymbolCharsError) (t : Symbols I) → Gives steps cs (Some x) t.chars t.done → (x ≡ Ok y) × AlwaysYields (SymbolSteps steps) (λ x. x) t items
+  symbol_item : (y : Symbol) (items : List (Result Symbol SymbolCharsError)) (cs : List ℕ) → ReadsSymbols cs (Ok y ∷ items) → GivesOn items → (x : Result Symbol SymbolCharsError) (t : Symbols I) → GivesSymbol steps cs (Some x) t.chars t.done → (x ≡ Ok y) × AlwaysYields (SymbolSteps steps) (λ x. x) t items
   unfolding GivesOn
   symbol_item y items cs reads more (Err e) t g = absurd (whole_or_broken y cs reads.1.0 e reads.0 reads.1.1 g.0)
   symbol_item y items cs reads more (Ok z) t g =
       let same = one_symbol z y g.2.0 reads.1.0 g.0 reads.0 (sym g.2.1 ∙ reads.1.1) in
       (ap Ok same.0, more t reads.1.0 g.1 (subst (λ (q : List ℕ). AlwaysYields steps (λ c. c) t.chars q) same.1 g.2.2) reads.1.2)
 
-  broken_item : (f : SymbolCharsError) (items : List (Result Symbol SymbolCharsError)) (cs : List ℕ) → Reads cs (Err f ∷ items) → (x : Result Symbol SymbolCharsError) (t : Symbols I) → Gives steps cs (Some x) t.chars t.done → (x ≡ Err f) × AlwaysYields (SymbolSteps steps) (λ x. x) t items
+  broken_item : (f : SymbolCharsError) (items : List (Result Symbol SymbolCharsError)) (cs : List ℕ) → ReadsSymbols cs (Err f ∷ items) → (x : Result Symbol SymbolCharsError) (t : Symbols I) → GivesSymbol steps cs (Some x) t.chars t.done → (x ≡ Err f) × AlwaysYields (SymbolSteps steps) (λ x. x) t items
   broken_item f items cs reads (Err e) t g = (ap Err (one_fault cs e f g.0 reads.0), nothing_more t items g.1 reads.1)
   broken_item f items cs reads (Ok z) t g = absurd (whole_or_broken z cs g.2.0 f g.0 g.2.1 reads.0)
 
-  pub gives_items : (items : List (Result Symbol SymbolCharsError)) (s : Symbols I) (cs : List ℕ) → s.done ≡ false → AlwaysYields steps (λ c. c) s.chars cs → Reads cs items → AlwaysYields (SymbolSteps steps) (λ x. x) s items
+  pub gives_items : (items : List (Result Symbol SymbolCharsError)) (s : Symbols I) (cs : List ℕ) → s.done ≡ false → AlwaysYields steps (λ c. c) s.chars cs → ReadsSymbols cs items → AlwaysYields (SymbolSteps steps) (λ x. x) s items
   unfolding GivesOn
   gives_items [] s cs on h reads = λ x t step. no_item cs reads x t (step.on on cs h)
   gives_items (Ok y ∷ items) s cs on h reads = (λ t step. none_spelled y cs reads.1.0 (step.on on cs h).0 reads.1.1, λ x t step. symbol_item y items cs reads (λ u ds o k r. gives_items items u ds o k r) x t (step.on on cs h))
@@ -82,7 +82,7 @@ module _ {I : Type 0} (steps : I → Option ℕ → I → Type 0) (s t : Symbols
   pub at_escape : (c : ℕ) → s.done ≡ false → (r : Result Symbol SymbolCharsError) → c ≡ 92 → steps s.chars (Some c) next → ((cs : List ℕ) → AlwaysYields steps (λ c. c) next cs → GivesEscape steps cs r t.chars) → MatchResult r (λ _. t.done ≡ false) (λ _. t.done ≡ true) → SymbolSteps steps s (Some r) t
   at_escape c on r e step escape now = record { over = λ p. absurd (cc); on = λ _ cs h. let n = given_some steps s.chars next c cs h step in at cs n.0 (n.1 ∙ ap (λ x. x ∷ n.0) e) r (escape n.0 n.2) now }
     where
-      at : (cs rest : List ℕ) → cs ≡ 92 ∷ rest → (r : Result Symbol SymbolCharsError) → GivesEscape steps rest r t.chars → MatchResult r (λ _. t.done ≡ false) (λ _. t.done ≡ true) → Gives steps cs (Some r) t.chars t.done
+      at : (cs rest : List ℕ) → cs ≡ 92 ∷ rest → (r : Result Symbol SymbolCharsError) → GivesEscape steps rest r t.chars → MatchResult r (λ _. t.done ≡ false) (λ _. t.done ≡ true) → GivesSymbol steps cs (Some r) t.chars t.done
       at cs rest e (Ok z) g now = (g.0, now, (g.1.0, e ∙ g.1.1, g.1.2))
       at cs rest e (Err f) g now = (subst (λ (q : List ℕ). IsBroken q f) (sym e) g, now)
 

@@ -19,15 +19,15 @@ abbrev pub chars_of : {I : Type 0} → Symbols I → I
 chars_of s = s.chars
 
 -- What a call gives where the characters cs are left, and whether the text is done.
-abbrev pub Gives : {I : Type 0} → (I → Option ℕ → I → Type 0) → List ℕ → Option (Result Symbol SymbolCharsError) → I → Bool → Type 0
-Gives steps cs None left done = (cs ≡ []) × (done ≡ true)
-Gives steps cs (Some (Err e)) left done = IsBroken cs e × (done ≡ true)
-Gives steps cs (Some (Ok s)) left done = HasSpelling s × (done ≡ false) × ((rest : List ℕ) × (cs ≡ spelling s ++ rest) × AlwaysYields steps (λ c. c) left rest)
+abbrev pub GivesSymbol : {I : Type 0} → (I → Option ℕ → I → Type 0) → List ℕ → Option (Result Symbol SymbolCharsError) → I → Bool → Type 0
+GivesSymbol steps cs None left done = (cs ≡ []) × (done ≡ true)
+GivesSymbol steps cs (Some (Err e)) left done = IsBroken cs e × (done ≡ true)
+GivesSymbol steps cs (Some (Ok s)) left done = HasSpelling s × (done ≡ false) × ((rest : List ℕ) × (cs ≡ spelling s ++ rest) × AlwaysYields steps (λ c. c) left rest)
 
 -- A call gives what the characters that are left begin with, and nothing once the text is done.
 pub record SymbolSteps {I : Type 0} (steps : I → Option ℕ → I → Type 0) (s : Symbols I) (r : Option (Result Symbol SymbolCharsError)) (t : Symbols I) : Type 0 where
   pub over : s.done ≡ true → (r ≡ None) × (t.done ≡ true)
-  pub on : s.done ≡ false → (cs : List ℕ) → AlwaysYields steps (λ c. c) s.chars cs → Gives steps cs r t.chars t.done
+  pub on : s.done ≡ false → (cs : List ℕ) → AlwaysYields steps (λ c. c) s.chars cs → GivesSymbol steps cs r t.chars t.done
 
 -- The source may be called, and ends.
 abbrev pub CanScan : {I : Type 0} → (I → Type 0) → (I → Count) → Symbols I → Type 0

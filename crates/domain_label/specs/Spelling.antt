@@ -54,10 +54,10 @@ IsBroken cs ShortInput = (ds : List ℕ) × (cs ≡ 92 ∷ ds) × (length ds < 3
 IsBroken cs BadEscape = (ds : List ℕ) × (c : ℕ) × (rest : List ℕ) × (cs ≡ 92 ∷ (ds ++ c ∷ rest)) × AllByRecursion IsDigit ds × Breaks ds c
 
 -- What a text is read as, one after another: symbols, and at most a broken escape, which is the last.
-abbrev pub Reads : List ℕ → List (Result Symbol SymbolCharsError) → Type 0
-Reads cs [] = cs ≡ []
-Reads cs (Ok s ∷ items) = HasSpelling s × ((rest : List ℕ) × (cs ≡ spelling s ++ rest) × Reads rest items)
-Reads cs (Err e ∷ items) = IsBroken cs e × (items ≡ [])
+abbrev pub ReadsSymbols : List ℕ → List (Result Symbol SymbolCharsError) → Type 0
+ReadsSymbols cs [] = cs ≡ []
+ReadsSymbols cs (Ok s ∷ items) = HasSpelling s × ((rest : List ℕ) × (cs ≡ spelling s ++ rest) × ReadsSymbols rest items)
+ReadsSymbols cs (Err e ∷ items) = IsBroken cs e × (items ≡ [])
 
 -- Some a is P, and no other.
 abbrev pub JustOne : {A : Type 0} → (A → Type 0) → Type 0
@@ -65,7 +65,7 @@ JustOne {A} P = (a : A) × P a × ((b : A) → P b → b ≡ a)
 
 -- Each text is read in one way.
 abbrev pub IsReadOnce : List ℕ → Type 0
-IsReadOnce cs = JustOne (Reads cs)
+IsReadOnce cs = JustOne (ReadsSymbols cs)
 
 -- the one value of the error
 abbrev pub bad_symbol : BadSymbol

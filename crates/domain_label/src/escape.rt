@@ -42,14 +42,8 @@ pub(crate) fn escape_at<I: Iterator<Item = char>>(
         }
         return Err(SymbolCharsError::BadEscape);
     }
-    let second = match next_digit(chars) {
-        Ok(second) => second,
-        Err(error) => return Err(error),
-    };
-    let third = match next_digit(chars) {
-        Ok(third) => third,
-        Err(error) => return Err(error),
-    };
+    let second = next_digit(chars)?;
+    let third = next_digit(chars)?;
     let value = value_of(first, second, third);
     if value > 255 {
         return Err(SymbolCharsError::BadEscape);

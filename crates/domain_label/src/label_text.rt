@@ -1,7 +1,8 @@
 //! Labels from text.
 ghost use Rattle.std.specs.Prelude.{◌≡◌, ℕ, ◌≤◌, ◌∷◌, List, Some, OnOk};
 ghost use Rattle.std.specs.Iterator.{AlwaysYields, IsFinite, size};
-ghost use Rattle.domain_label.specs.LabelText.{label_octet};
+ghost use Rattle.domain_label.specs.ErrorText.{label_from_str_text};
+ghost use Rattle.domain_label.specs.LabelText.{label_error_kind, label_octet};
 ghost use Rattle.domain_label.specs.Scanning.{GivesLabelEscape, GivesOctet};
 
 use crate::escape::escape_at;
@@ -29,8 +30,6 @@ pub struct LabelFromStrError {
 }
 
 impl LabelFromStrError {
-    ghost use Rattle.domain_label.specs.LabelText.{label_error_kind};
-
     /// Why the text is no label.
     pub fn kind(&self) -> LabelFromStrErrorKind
         ensures { result ≡ label_error_kind self.now }
@@ -40,9 +39,6 @@ impl LabelFromStrError {
 }
 
 impl fmt::Display for LabelFromStrError {
-    ghost use Rattle.domain_label.specs.LabelText.{label_error_kind};
-    ghost use Rattle.domain_label.specs.ErrorText.{label_from_str_text};
-
     ghost output = { λ e. Some (label_from_str_text (label_error_kind e)) };
 
     fn fmt<W: fmt::Write>(&self, f: &mut fmt::Formatter<W>) -> fmt::Result {
@@ -58,8 +54,6 @@ impl fmt::Display for LabelFromStrError {
 impl Error for LabelFromStrError {}
 
 impl From<LabelFromStrErrorKind> for LabelFromStrError {
-    ghost use Rattle.domain_label.specs.LabelText.{label_error_kind};
-
     ghost from_gives = { λ kind e. label_error_kind e ≡ kind };
 
     fn from(kind: LabelFromStrErrorKind) -> LabelFromStrError {
@@ -68,7 +62,6 @@ impl From<LabelFromStrErrorKind> for LabelFromStrError {
 }
 
 impl From<SymbolCharsError> for LabelFromStrError {
-    ghost use Rattle.domain_label.specs.LabelText.{label_error_kind};
     ghost use Rattle.domain_label.specs.declared.label_text.LabelFromStrErrorKind.TheVariants.{SymbolChars};
 
     ghost from_gives = { λ error e. label_error_kind e ≡ SymbolChars error };
@@ -79,7 +72,6 @@ impl From<SymbolCharsError> for LabelFromStrError {
 }
 
 impl From<BadSymbol> for LabelFromStrError {
-    ghost use Rattle.domain_label.specs.LabelText.{label_error_kind};
     ghost use Rattle.domain_label.specs.declared.label_text.LabelFromStrErrorKind.TheVariants.{BadSymbol};
 
     ghost from_gives = { λ error e. label_error_kind e ≡ BadSymbol error };

@@ -5,7 +5,10 @@ ghost use Rattle.std.specs.Cmp.{partial_order_from_own_ties};
 ghost use Rattle.std.specs.Cmp.Rules.{comparing};
 ghost use Rattle.std.specs.Iterator.{AlwaysYields, IsFinite};
 ghost use Rattle.std.specs.Ordering.{on, as_partial_cmp};
+ghost use Rattle.std.specs.Str.{chars};
 ghost use Rattle.std.proofs.Common.{rules};
+ghost use Rattle.domain_label.specs.LabelText.{ReadsLabel};
+ghost use Rattle.domain_label.specs.Labels.{label_octets, label_mut_octets, owned_octets};
 ghost use Rattle.domain_label.specs.SameHash.{same_label_hash_input};
 ghost use Rattle.domain_label.specs.Lowercase.{lowercase, eq_ignoring_case, cmp_ignoring_case, label_hash_input};
 ghost use Rattle.domain_label.specs.Text.{escaped};
@@ -29,9 +32,7 @@ pub struct OwnedLabel {
 }
 
 impl OwnedLabel {
-    ghost use Rattle.domain_label.specs.LabelText.{ReadsLabel};
     ghost use Rattle.domain_label.specs.Lending.{LendsLabel, LendsOctets};
-    ghost use Rattle.domain_label.specs.Labels.{label_octets, label_mut_octets, owned_octets};
 
     /// The octets of a label, as they are.
     pub fn from_label(label: Label) -> OwnedLabel
@@ -122,8 +123,6 @@ impl OwnedLabel {
 }
 
 impl<'a> From<Label<'a>> for OwnedLabel {
-    ghost use Rattle.domain_label.specs.Labels.{label_octets, owned_octets};
-
     ghost from_gives = { λ label owned. owned_octets owned ≡ label_octets label };
 
     fn from(label: Label<'a>) -> OwnedLabel {
@@ -133,9 +132,6 @@ impl<'a> From<Label<'a>> for OwnedLabel {
 
 /// By `from_chars`.
 impl FromStr for OwnedLabel {
-    ghost use Rattle.std.specs.Str.{chars};
-    ghost use Rattle.domain_label.specs.LabelText.{ReadsLabel};
-
     type Err = LabelFromStrError;
 
     ghost from_str_gives = { λ text result. ReadsLabel (chars text) result };
@@ -147,8 +143,6 @@ impl FromStr for OwnedLabel {
 
 /// As the labels it holds.
 impl PartialEq for OwnedLabel {
-    ghost use Rattle.domain_label.specs.Labels.{owned_octets};
-
     ghost eq = { on owned_octets eq_ignoring_case };
 
     ghost laws = { Prim.search (comparing, rules) };
@@ -164,8 +158,6 @@ impl Eq for OwnedLabel {
 
 /// As the labels it holds.
 impl Ord for OwnedLabel {
-    ghost use Rattle.domain_label.specs.Labels.{owned_octets};
-
     ghost cmp = { on owned_octets cmp_ignoring_case };
 
     ghost total = { Prim.search (comparing, rules) };
@@ -180,8 +172,6 @@ impl Ord for OwnedLabel {
 }
 
 impl PartialOrd for OwnedLabel {
-    ghost use Rattle.domain_label.specs.Labels.{owned_octets};
-
     ghost partial_cmp = { as_partial_cmp (on owned_octets cmp_ignoring_case) };
 
     ghost laws = { partial_order_from_own_ties (Prim.search (comparing, rules)) (Prim.search (comparing, rules)) };
@@ -193,8 +183,6 @@ impl PartialOrd for OwnedLabel {
 
 /// As the label it holds.
 impl Hash for OwnedLabel {
-    ghost use Rattle.domain_label.specs.Labels.{owned_octets};
-
     ghost hash_input = { λ label. label_hash_input (owned_octets label) };
 
     ghost respects_eq = { λ x y. same_label_hash_input.fed (owned_octets x) (owned_octets y) };
@@ -206,8 +194,6 @@ impl Hash for OwnedLabel {
 
 /// As the label it holds.
 impl fmt::Display for OwnedLabel {
-    ghost use Rattle.domain_label.specs.Labels.{owned_octets};
-
     ghost output = { λ label. Some (escaped (owned_octets label)) };
 
     fn fmt<W: fmt::Write>(&self, f: &mut fmt::Formatter<W>) -> fmt::Result {

@@ -1,5 +1,6 @@
 //! Why octets begin with no label.
 ghost use Rattle.std.specs.Prelude.{◌≡◌, Some, codes};
+ghost use Rattle.domain_label.specs.ErrorText.{label_type_text, split_text, split_refusal};
 
 use crate::hex::hex_character;
 use domain_wire::ParseError;
@@ -17,8 +18,6 @@ pub enum LabelTypeError {
 }
 
 impl fmt::Display for LabelTypeError {
-    ghost use Rattle.domain_label.specs.ErrorText.{label_type_text};
-
     ghost output = { λ e. Some (label_type_text e) };
 
     fn fmt<W: fmt::Write>(&self, f: &mut fmt::Formatter<W>) -> fmt::Result {
@@ -47,8 +46,6 @@ pub enum SplitLabelError {
 }
 
 impl fmt::Display for SplitLabelError {
-    ghost use Rattle.domain_label.specs.ErrorText.{split_text};
-
     ghost output = { λ e. Some (split_text e) };
 
     fn fmt<W: fmt::Write>(&self, f: &mut fmt::Formatter<W>) -> fmt::Result {
@@ -74,7 +71,6 @@ impl From<LabelTypeError> for SplitLabelError {
 
 impl From<SplitLabelError> for ParseError {
     ghost use Rattle.domain_wire.specs.Refusals.{refusal};
-    ghost use Rattle.domain_label.specs.ErrorText.{split_refusal};
 
     ghost from_gives = { λ split e. refusal e ≡ split_refusal split };
 

@@ -1,5 +1,7 @@
 //! A symbol, and the octet that it stands for.
 ghost use Rattle.std.specs.Prelude.{◌≡◌, Some, codes};
+ghost use Rattle.domain_label.specs.ErrorText.{symbol_chars_text};
+ghost use Rattle.domain_label.specs.Spelling.{octet_of};
 
 use std::error::Error;
 use std::fmt;
@@ -17,8 +19,6 @@ pub enum Symbol {
 }
 
 impl Symbol {
-    ghost use Rattle.domain_label.specs.Spelling.{octet_of};
-
     /// The octet that the symbol stands for. An escape always does.
     ///
     /// `BadSymbol` for a character that isn't from space to tilde.
@@ -47,8 +47,6 @@ pub enum SymbolCharsError {
 }
 
 impl fmt::Display for SymbolCharsError {
-    ghost use Rattle.domain_label.specs.ErrorText.{symbol_chars_text};
-
     ghost output = { λ e. Some (symbol_chars_text e) };
 
     fn fmt<W: fmt::Write>(&self, f: &mut fmt::Formatter<W>) -> fmt::Result {

@@ -3,7 +3,7 @@ ghost use Rattle.std.specs.Prelude.{◌≡◌, ℕ, List, Result, false};
 ghost use Rattle.std.specs.Iterator.{AlwaysYields, IsFinite, count_unless};
 ghost use Rattle.domain_label.specs.declared.symbol.Symbol.{Symbol};
 ghost use Rattle.domain_label.specs.declared.symbol.SymbolCharsError.{SymbolCharsError};
-ghost use Rattle.domain_label.specs.Spelling.{Reads};
+ghost use Rattle.domain_label.specs.Spelling.{ReadsSymbols};
 ghost use Rattle.domain_label.specs.Scanning.{SymbolSteps, CanScan, is_done, chars_of};
 
 use crate::escape::escape;
@@ -24,7 +24,7 @@ impl<I: Iterator<Item = char> + Drop> Symbols<I> {
     /// The symbols that the characters spell. Nothing is read yet.
     #[inline(always)]
     pub fn new(chars: I) -> Self
-        ensures items { (cs : List ℕ) (items : List (Result Symbol SymbolCharsError)) → AlwaysYields I.next_gives (λ c. c) chars cs → Reads cs items → AlwaysYields (SymbolSteps I.next_gives) (λ x. x) result items }
+        ensures items { (cs : List ℕ) (items : List (Result Symbol SymbolCharsError)) → AlwaysYields I.next_gives (λ c. c) chars cs → ReadsSymbols cs items → AlwaysYields (SymbolSteps I.next_gives) (λ x. x) result items }
         ensures can { I.can_next chars → IsFinite (I.remaining chars) → CanScan I.can_next I.remaining result }
         ensures ends { IsFinite (I.remaining chars) → IsFinite (count_unless (is_done result) (I.remaining (chars_of result))) }
     {

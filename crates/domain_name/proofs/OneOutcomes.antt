@@ -3,7 +3,7 @@ use Rattle.std.proofs.Common.{◌≡◌, ◌≢◌, ℕ, ◌+◌, ◌<◌, ◌�
 use Rattle.std.proofs.lemmas.Bool.Decides.{leb_tells}
 use Rattle.std.specs.Fmt.{decimal, digit_glyph}
 use Rattle.std.specs.Str.{chars}
-use Rattle.domain_label.specs.Spelling.{JustOne, Reads}
+use Rattle.domain_label.specs.Spelling.{JustOne, ReadsSymbols}
 use Rattle.domain_label.specs.declared.symbol.Symbol.{Symbol}
 use Rattle.domain_label.specs.declared.symbol.SymbolCharsError.{SymbolCharsError}
 use Rattle.domain_builder.specs.BuilderState.{BuilderState, size, pushed, ended, labelled, named, unless_open, too_long, symbol_fault, after, Makes, StopsAt, LacksRoom}
@@ -124,10 +124,10 @@ symbol room b p r s = at (symbol_fault b p) refl
     at (Some f) e = passes _ _ b (refl, inl (f, e)) s (λ m h. h.0) (λ m h. refused f e h.0)
 
 TextMakes : BuilderState → List ℕ → BuilderState → Type 0
-TextMakes b cs m = (items : List (Result Symbol SymbolCharsError)) → Reads cs items → Makes b (name_symbols items) m
+TextMakes b cs m = (items : List (Result Symbol SymbolCharsError)) → ReadsSymbols cs items → Makes b (name_symbols items) m
 
 TextStops : ℕ → BuilderState → List ℕ → BuilderState → Type 0
-TextStops room b cs m = (items : List (Result Symbol SymbolCharsError)) → Reads cs items → ((f : TextFault) × StopsAt b (name_symbols items) m f) ⊎ LacksRoom room b (name_symbols items) m
+TextStops room b cs m = (items : List (Result Symbol SymbolCharsError)) → ReadsSymbols cs items → ((f : TextFault) × StopsAt b (name_symbols items) m f) ⊎ LacksRoom room b (name_symbols items) m
 
 texts : (room : ℕ) (b : BuilderState) (cs : List ℕ) → 254 ≤ room → size b ≤ 254 → OneStep (TextMakes b cs) (TextStops room b cs)
 unfolding TextMakes TextStops

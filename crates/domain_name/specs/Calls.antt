@@ -2,7 +2,7 @@
 use Rattle.std.specs.Prelude.{◌≡◌, ◌≢◌, ℕ, ◌+◌, ◌<◌, ◌≤◌, ◌⊎◌, Bool, true, false, Option, Some, None, ◌%◌, List, [], ◌∷◌, length, Result}
 use Rattle.std.specs.Fmt.{decimal, digit_glyph}
 use Rattle.std.specs.Str.{chars}
-use Rattle.domain_label.specs.Spelling.{JustOne, Reads}
+use Rattle.domain_label.specs.Spelling.{JustOne, ReadsSymbols}
 use Rattle.domain_label.specs.declared.symbol.Symbol.{Symbol}
 use Rattle.domain_label.specs.declared.symbol.SymbolCharsError.{SymbolCharsError}
 use Rattle.domain_builder.specs.BuilderState.{BuilderState, size, pushed, ended, labelled, named, symbol_fault, after, Makes, StopsAt, LacksRoom}
@@ -32,7 +32,7 @@ Accepted b (AppendLabel s) new = (new ≡ labelled b s.now) × Fits (length s.no
 Accepted b (AppendDecU8Label n) new = (new ≡ labelled b (decimal n)) × (size new ≤ 254)
 Accepted b (AppendHexDigitLabel n) new = (new ≡ labelled b (digit_glyph true (n % 16) ∷ [])) × (size new ≤ 254)
 Accepted b (AppendName n) new = (new ≡ named b (relative_labels n)) × (size new ≤ 254)
-Accepted b (AppendChars s) new = (items : List (Result Symbol SymbolCharsError)) → Reads (chars s.now) items → Makes b (name_symbols items) new
+Accepted b (AppendChars s) new = (items : List (Result Symbol SymbolCharsError)) → ReadsSymbols (chars s.now) items → Makes b (name_symbols items) new
 
 -- All of them are too many octets, or exceed the capacity.
 abbrev pub IsTooMuch : ℕ → ℕ → Type 0
@@ -48,7 +48,7 @@ PassedOver room b (AppendLabel s) new = (new ≡ b) × Exceeds room (length s.no
 PassedOver room b (AppendDecU8Label n) new = (new ≡ b) × IsTooMuch room (size (labelled b (decimal n)))
 PassedOver room b (AppendHexDigitLabel n) new = (new ≡ b) × IsTooMuch room (size (labelled b (digit_glyph true (n % 16) ∷ [])))
 PassedOver room b (AppendName n) new = (new ≡ b) × IsTooMuch room (size (named b (relative_labels n)))
-PassedOver room b (AppendChars s) new = (items : List (Result Symbol SymbolCharsError)) → Reads (chars s.now) items → ((f : TextFault) × StopsAt b (name_symbols items) new f) ⊎ LacksRoom room b (name_symbols items) new
+PassedOver room b (AppendChars s) new = (items : List (Result Symbol SymbolCharsError)) → ReadsSymbols (chars s.now) items → ((f : TextFault) × StopsAt b (name_symbols items) new f) ⊎ LacksRoom room b (name_symbols items) new
 
 -- A call succeeds. No capacity is lost.
 abbrev pub Takes : Held → BuilderCall → Held → Type 0

@@ -4,7 +4,7 @@ ghost use Rattle.std.specs.Fmt.{decimal, digit_glyph};
 ghost use Rattle.std.specs.Iterator.{AlwaysYields, IsFinite};
 ghost use Rattle.std.specs.Str.{chars};
 ghost use Rattle.domain_label.specs.Wire.{wire, Root, IsRelativeWire, labels_in};
-ghost use Rattle.domain_label.specs.Spelling.{Reads};
+ghost use Rattle.domain_label.specs.Spelling.{ReadsSymbols};
 ghost use Rattle.domain_label.specs.declared.symbol.Symbol.{Symbol};
 ghost use Rattle.domain_label.specs.declared.symbol.SymbolCharsError.{SymbolCharsError};
 ghost use Rattle.domain_flat.specs.Faults.{RelativeFault};
@@ -336,7 +336,7 @@ impl<B: OctetsBuilder + OctetsMut> NameBuilder<B> {
     ) -> Result<(), FromStrError>
         requires can { I.can_next chars }
         requires ends { IsFinite (I.remaining chars) }
-        ensures takes { (cs : List ℕ) (items : List (Result Symbol SymbolCharsError)) → AlwaysYields I.next_gives (λ c. c) chars cs → Reads cs items →
+        ensures takes { (cs : List ℕ) (items : List (Result Symbol SymbolCharsError)) → AlwaysYields I.next_gives (λ c. c) chars cs → ReadsSymbols cs items →
             TakesSymbols (room B.limit (held self.new)) (built self.old) (name_symbols items) result (built self.new) }
         ensures grows { (held self.old).capacity ≤ (held self.new).capacity }
     {
@@ -345,7 +345,7 @@ impl<B: OctetsBuilder + OctetsMut> NameBuilder<B> {
 
     /// Pushes the symbols of a text in turn, as `append_chars` does those of its characters.
     pub(crate) fn append_str(&mut self, text: &str) -> Result<(), FromStrError>
-        ensures takes { (items : List (Result Symbol SymbolCharsError)) → Reads (chars text.now) items →
+        ensures takes { (items : List (Result Symbol SymbolCharsError)) → ReadsSymbols (chars text.now) items →
             TakesSymbols (room B.limit (held self.new)) (built self.old) (name_symbols items) result (built self.new) }
         ensures grows { (held self.old).capacity ≤ (held self.new).capacity }
     {

@@ -9,7 +9,7 @@ ghost use Rattle.domain_builder.specs.BuilderState.{finished};
 ghost use Rattle.domain_builder.specs.NameSymbols.{symbols_in_name};
 ghost use Rattle.domain_builder.specs.TextGrammar.{IsNameText, SpellsName, SpellsNoName, SpellsRelative, SpellsNoRelative};
 ghost use Rattle.domain_builder.specs.Reverse.{reverse_name};
-ghost use Rattle.domain_builder.specs.TextErrors.{NoName, NoNameRead, NoRelativeRead, Lacks, RelativeLacks, Tells, RelativeTells};
+ghost use Rattle.domain_builder.specs.TextErrors.{NoNameMade, NoNameRead, NoRelativeRead, LacksCapacity, RelativeLacksCapacity, Tells, RelativeTells};
 ghost use Rattle.domain_builder.specs.declared.name_symbol.TextFault.{TextFault};
 ghost use Rattle.domain_builder.specs.declared.push_error.PushError.TheVariants.{ShortBuf};
 ghost use Rattle.domain_builder.specs.Inside.{room};
@@ -53,7 +53,7 @@ where
         ensures ok { (cs : List ℕ) → AlwaysYields I.next_gives (λ c. c) chars cs → IfOk result (λ name. SpellsName cs (name_labels name)) }
         ensures err { (cs : List ℕ) → AlwaysYields I.next_gives (λ c. c) chars cs → IfErr result (NoNameRead Octs.Builder.ROOM cs) }
         ensures accepts { (cs : List ℕ) (ls : List (List ℕ)) → AlwaysYields I.next_gives (λ c. c) chars cs → SpellsName cs ls →
-            MatchResult result (λ name. name_labels name ≡ ls) (Lacks Octs.Builder.ROOM ls) }
+            MatchResult result (λ name. name_labels name ≡ ls) (LacksCapacity Octs.Builder.ROOM ls) }
         ensures exact { (cs : List ℕ) (f : TextFault) → AlwaysYields I.next_gives (λ c. c) chars cs → SpellsNoName cs f →
             MatchResult result (λ _. ⊥) (Tells f) }
     {
@@ -72,7 +72,7 @@ where
         requires can { I.can_next symbols }
         requires ends { IsFinite (I.remaining symbols) }
         ensures { (ss : List Symbol) → AlwaysYields I.next_gives (λ x. x) symbols ss →
-            MatchResult result (λ name. IsNameText (symbols_in_name ss) (name_labels name)) (NoName Octs.Builder.ROOM (symbols_in_name ss)) }
+            MatchResult result (λ name. IsNameText (symbols_in_name ss) (name_labels name)) (NoNameMade Octs.Builder.ROOM (symbols_in_name ss)) }
     {
         match absolute_from_symbols(alloc, symbols) {
             Ok(octets) => Ok(Name::from_wire(octets)),
@@ -107,7 +107,7 @@ impl Name<Vec<u8>> {
     pub fn vec_from_str(alloc: Global, text: &str) -> Result<Self, FromStrError>
         ensures ok { IfOk result (λ name. SpellsName (chars text.now) (name_labels name)) }
         ensures err { IfErr result (NoNameRead None (chars text.now)) }
-        ensures accepts { (ls : List (List ℕ)) → SpellsName (chars text.now) ls → MatchResult result (λ name. name_labels name ≡ ls) (Lacks None ls) }
+        ensures accepts { (ls : List (List ℕ)) → SpellsName (chars text.now) ls → MatchResult result (λ name. name_labels name ≡ ls) (LacksCapacity None ls) }
         ensures exact { (f : TextFault) → SpellsNoName (chars text.now) f → MatchResult result (λ _. ⊥) (Tells f) }
     {
         match absolute_from_str(alloc, text) {
@@ -120,11 +120,11 @@ impl Name<Vec<u8>> {
 /// Reads an absolute name from text, as `from_chars` does. `ShortBuf` exactly where a name has more than
 /// `N` octets.
 impl<const N: usize> FromStr for Name<ArrayVec<u8, N>> {
-    ghost use Rattle.domain_builder.specs.TextErrors.{ReadsName};
+    ghost use Rattle.domain_builder.specs.TextErrors.{ReadsNameText};
 
     type Err = FromStrError;
 
-    ghost from_str_gives = { λ text r. ReadsName name_labels (Some N) (chars text) r };
+    ghost from_str_gives = { λ text r. ReadsNameText name_labels (Some N) (chars text) r };
 
     #[inline(always)]
     fn from_str(text: &str) -> Result<Self, FromStrError> {
@@ -156,7 +156,7 @@ where
         ensures ok { (cs : List ℕ) → AlwaysYields I.next_gives (λ c. c) chars cs → IfOk result (λ name. SpellsRelative cs (relative_labels name)) }
         ensures err { (cs : List ℕ) → AlwaysYields I.next_gives (λ c. c) chars cs → IfErr result (NoRelativeRead Octs.Builder.ROOM cs) }
         ensures accepts { (cs : List ℕ) (ls : List (List ℕ)) → AlwaysYields I.next_gives (λ c. c) chars cs → SpellsRelative cs ls →
-            MatchResult result (λ name. relative_labels name ≡ ls) (RelativeLacks Octs.Builder.ROOM ls) }
+            MatchResult result (λ name. relative_labels name ≡ ls) (RelativeLacksCapacity Octs.Builder.ROOM ls) }
         ensures exact { (cs : List ℕ) (why : Option TextFault) → AlwaysYields I.next_gives (λ c. c) chars cs → SpellsNoRelative cs why →
             MatchResult result (λ _. ⊥) (RelativeTells why) }
     {
@@ -173,7 +173,7 @@ impl RelativeName<Vec<u8>> {
     pub fn vec_from_str(alloc: Global, text: &str) -> Result<Self, RelativeFromStrError>
         ensures ok { IfOk result (λ name. SpellsRelative (chars text.now) (relative_labels name)) }
         ensures err { IfErr result (NoRelativeRead None (chars text.now)) }
-        ensures accepts { (ls : List (List ℕ)) → SpellsRelative (chars text.now) ls → MatchResult result (λ name. relative_labels name ≡ ls) (RelativeLacks None ls) }
+        ensures accepts { (ls : List (List ℕ)) → SpellsRelative (chars text.now) ls → MatchResult result (λ name. relative_labels name ≡ ls) (RelativeLacksCapacity None ls) }
         ensures exact { (why : Option TextFault) → SpellsNoRelative (chars text.now) why → MatchResult result (λ _. ⊥) (RelativeTells why) }
     {
         match relative_from_str(alloc, text) {
@@ -186,11 +186,11 @@ impl RelativeName<Vec<u8>> {
 /// Reads a relative name from text, as `from_chars` does. `ShortBuf` exactly where a name has more than `N`
 /// octets.
 impl<const N: usize> FromStr for RelativeName<ArrayVec<u8, N>> {
-    ghost use Rattle.domain_builder.specs.TextErrors.{ReadsRelative};
+    ghost use Rattle.domain_builder.specs.TextErrors.{ReadsRelativeText};
 
     type Err = RelativeFromStrError;
 
-    ghost from_str_gives = { λ text r. ReadsRelative relative_labels (Some N) (chars text) r };
+    ghost from_str_gives = { λ text r. ReadsRelativeText relative_labels (Some N) (chars text) r };
 
     #[inline(always)]
     fn from_str(text: &str) -> Result<Self, RelativeFromStrError> {

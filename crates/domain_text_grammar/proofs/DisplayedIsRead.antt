@@ -6,11 +6,11 @@ use Rattle.domain_label.specs.Wire.{IsLabel, IsAbsolute, IsRelative, IsAbsoluteN
 use Rattle.domain_label.specs.Text.{escaped_octet, escaped, with_dot, or_dot, text_with_final_dot, dot_before, displayed, text}
 use Rattle.domain_label.specs.declared.symbol.Symbol.{Symbol}
 use Rattle.domain_label.specs.declared.symbol.Symbol.TheVariants.{Char, SimpleEscape, DecimalEscape}
-use Rattle.domain_label.specs.Spelling.{spelling, HasSpelling, IsPrintable, IsNoDigit, Reads}
+use Rattle.domain_label.specs.Spelling.{spelling, HasSpelling, IsPrintable, IsNoDigit, ReadsSymbols}
 use Rattle.domain_label.proofs.ReadOnce.{none_spelled, none_broken}
 use Rattle.domain_text_grammar.specs.NameSymbols.{name_symbols, symbol_in_name}
 use Rattle.domain_text_grammar.specs.Laws.{AreBytes}
-use Rattle.domain_text_grammar.specs.TextGrammar.{AreOctets, CanBegin, IsLabelText, Joined, Begins, SpellsName, SpellsRelative}
+use Rattle.domain_text_grammar.specs.TextGrammar.{AreOctets, CanBegin, IsLabelText, Joined, IsTextSoFar, SpellsName, SpellsRelative}
 use Rattle.domain_text_grammar.specs.declared.name_symbol.NameSymbol.{NameSymbol}
 use Rattle.domain_text_grammar.specs.declared.name_symbol.NameSymbol.TheVariants.{Dot, Octet}
 use Rattle.domain_text_grammar.proofs.Grammar.{begins_texts}
@@ -98,7 +98,7 @@ shown_items : List ℕ → List Item
 shown_items [] = []
 shown_items (c ∷ l) = Ok (symbol_of c) ∷ shown_items l
 
-label_reads : (l rest : List ℕ) (items : List Item) → AllByRecursion (λ c. c < 256) l → Reads rest items → Reads (escaped l ++ rest) (shown_items l ++ items)
+label_reads : (l rest : List ℕ) (items : List Item) → AllByRecursion (λ c. c < 256) l → ReadsSymbols rest items → ReadsSymbols (escaped l ++ rest) (shown_items l ++ items)
 unfolding shown_items
 label_reads [] rest items b r = r
 label_reads (c ∷ l) rest items b r =
@@ -117,15 +117,15 @@ encoded_label c l short = record {
   short = short;
 }
 
-dot_reads : (rest : List ℕ) (items : List Item) → Reads rest items → Reads (46 ∷ rest) (Ok (Char 46) ∷ items)
+dot_reads : (rest : List ℕ) (items : List Item) → ReadsSymbols rest items → ReadsSymbols (46 ∷ rest) (Ok (Char 46) ∷ items)
 dot_reads rest items r = (omega arith, (rest, refl, r))
 
 -- ---- each label and a dot behind it
 pub record Dots (ls : List (List ℕ)) : Type 0 where
   pub items : List Item
   pub labels : List (List ℕ)
-  pub reads : Reads (flat_map with_dot ls) items
-  pub begins : Begins (name_symbols items) labels []
+  pub reads : ReadsSymbols (flat_map with_dot ls) items
+  pub begins : IsTextSoFar (name_symbols items) labels []
   pub all : ls ≡ labels ++ Root
 
 dots : (ls : List (List ℕ)) → IsAbsolute ls → AreBytes ls → Dots ls
@@ -136,7 +136,7 @@ dots ((c ∷ l) ∷ ls) a b =
     record {
       items = shown_items (c ∷ l) ++ Ok (Char 46) ∷ d.items;
       labels = (c ∷ l) ∷ d.labels;
-      reads = subst (λ (x : List ℕ). Reads x (shown_items (c ∷ l) ++ Ok (Char 46) ∷ d.items)) (sym (append_assoc (escaped (c ∷ l)) (46 ∷ []) (flat_map with_dot ls)))
+      reads = subst (λ (x : List ℕ). ReadsSymbols x (shown_items (c ∷ l) ++ Ok (Char 46) ∷ d.items)) (sym (append_assoc (escaped (c ∷ l)) (46 ∷ []) (flat_map with_dot ls)))
           (label_reads (c ∷ l) (46 ∷ flat_map with_dot ls) (Ok (Char 46) ∷ d.items) b.0 (dot_reads (flat_map with_dot ls) d.items d.reads));
       begins = (name_symbols (shown_items (c ∷ l)), name_symbols d.items, encoded_label c l a.0, parts-append (shown_items (c ∷ l)) (Ok (Char 46) ∷ d.items), d.begins);
       all = ap (λ (x : List (List ℕ)). (c ∷ l) ∷ x) d.all;
@@ -146,7 +146,7 @@ no_dot : (x y : List NameSymbol) → [] ≡ x ++ Dot ∷ y → ⊥
 no_dot [] y e = cc
 no_dot (p ∷ x) y e = cc
 
-no_items : (i : Item) (items : List Item) → Reads [] (i ∷ items) → ⊥
+no_items : (i : Item) (items : List Item) → ReadsSymbols [] (i ∷ items) → ⊥
 no_items (Ok s) items r = none_spelled s [] r.1.0 refl r.1.1
 no_items (Err f) items r = none_broken [] f refl r.0
 
@@ -156,7 +156,7 @@ dotted_spells ls n b = at d.items d.labels (flat_map with_dot ls) d.reads d.begi
     d : Dots ls
     d = dots ls n.0 b
 
-    at : (items : List Item) (ks : List (List ℕ)) (cs : List ℕ) → Reads cs items → Begins (name_symbols items) ks [] → ls ≡ ks ++ Root → SpellsName (or_dot cs) ls
+    at : (items : List Item) (ks : List (List ℕ)) (cs : List ℕ) → ReadsSymbols cs items → IsTextSoFar (name_symbols items) ks [] → ls ≡ ks ++ Root → SpellsName (or_dot cs) ls
     at [] [] [] r g e = (Ok (Char 46) ∷ [], dot_reads [] [] refl, inl (refl, e))
     at [] [] (c ∷ cs) r g e = absurd (cc r)
     at [] (k ∷ ks) cs r g e = absurd (no_dot g.0 g.1 g.3)
@@ -166,7 +166,7 @@ dotted_spells ls n b = at d.items d.labels (flat_map with_dot ls) d.reads d.begi
 -- ---- labels joined by dots
 pub record Joins (ls : List (List ℕ)) : Type 0 where
   pub items : List Item
-  pub reads : Reads (text ls) items
+  pub reads : ReadsSymbols (text ls) items
   pub joined : Joined (name_symbols items) ls
 
 joins : (ls : List (List ℕ)) → IsRelative ls → AreBytes ls → Joins ls
@@ -181,7 +181,7 @@ joins ((c ∷ l) ∷ m ∷ ls) a b =
     let j = joins (m ∷ ls) a.1 b.1 in
     record {
       items = shown_items (c ∷ l) ++ Ok (Char 46) ∷ j.items;
-      reads = subst (λ (x : List ℕ). Reads (escaped (c ∷ l) ++ x) (shown_items (c ∷ l) ++ Ok (Char 46) ∷ j.items)) (joined_text m ls a.1)
+      reads = subst (λ (x : List ℕ). ReadsSymbols (escaped (c ∷ l) ++ x) (shown_items (c ∷ l) ++ Ok (Char 46) ∷ j.items)) (joined_text m ls a.1)
           (label_reads (c ∷ l) (46 ∷ text (m ∷ ls)) (Ok (Char 46) ∷ j.items) b.0 (dot_reads (text (m ∷ ls)) j.items j.reads));
       joined = (name_symbols (shown_items (c ∷ l)), name_symbols j.items, encoded_label c l a.0, parts-append (shown_items (c ∷ l)) (Ok (Char 46) ∷ j.items), j.joined);
     }
@@ -233,7 +233,7 @@ shown_spells ls n b = at f.labels f.all f.joined (joins f.labels f.relative f.by
     f : Front ls
     f = front ls n.0 b
 
-    some : (k : List ℕ) (ks : List (List ℕ)) (items : List Item) (cs : List ℕ) → ls ≡ (k ∷ ks) ++ Root → Reads cs items → Joined (name_symbols items) (k ∷ ks) → SpellsName (or_dot cs) ls
+    some : (k : List ℕ) (ks : List (List ℕ)) (items : List Item) (cs : List ℕ) → ls ≡ (k ∷ ks) ++ Root → ReadsSymbols cs items → Joined (name_symbols items) (k ∷ ks) → SpellsName (or_dot cs) ls
     some k ks [] cs e r g = absurd (some_parts k ks g)
     some k ks (i ∷ items) [] e r g = absurd (no_items i items r)
     some k ks (i ∷ items) (c ∷ cs) e r g = (i ∷ items, r, inr (k ∷ ks, record { some = omega arith; text = name_symbols (i ∷ items); joined = g; dot = inl refl }, e, n.1))

@@ -2,7 +2,7 @@
 use Rattle.std.proofs.Common.{◌≡◌, ℕ, ◌+◌, ◌<◌, ◌≤◌, ◌⊎◌, inl, inr, List, [], ◌∷◌, ◌++◌, length, None, refl, ap, sym, ◌∙◌, subst, arith, append_assoc, append-nil, length-append}
 use Rattle.domain_label.specs.Wire.{wire}
 use Rattle.domain_text_grammar.specs.BuilderState.{BuilderState, empty_state, closed_with, closed, size, symbol_fault, after, too_long, Makes}
-use Rattle.domain_text_grammar.specs.TextGrammar.{IsOctet, AreOctets, CanBegin, IsLabelText, Joined, AreLabelTexts, Begins}
+use Rattle.domain_text_grammar.specs.TextGrammar.{IsOctet, AreOctets, CanBegin, IsLabelText, Joined, AreLabelTexts, IsTextSoFar}
 use Rattle.domain_text_grammar.specs.declared.name_symbol.NameSymbol.{NameSymbol}
 use Rattle.domain_text_grammar.specs.declared.name_symbol.NameSymbol.TheVariants.{Dot, Octet, Bracket, Nothing}
 use Rattle.domain_text_grammar.proofs.Sizes.{built, length-wire_append, size_some, labels_le, taken, take_ok}
@@ -64,7 +64,7 @@ dot_follows ls [] h = absurd (omega arith)
 dot_follows ls (c ∷ l) h = (refl, refl)
 
 -- what a text begins with, behind labels
-behind_made : (ps : List NameSymbol) (ls fs : List (List ℕ)) (o : List ℕ) → Begins ps fs o → size (built (ls ++ fs) o) ≤ 254 → Makes (built ls []) ps (built (ls ++ fs) o)
+behind_made : (ps : List NameSymbol) (ls fs : List (List ℕ)) (o : List ℕ) → IsTextSoFar ps fs o → size (built (ls ++ fs) o) ≤ 254 → Makes (built ls []) ps (built (ls ++ fs) o)
 behind_made ps ls [] [] h n = subst (λ (x : List NameSymbol). Makes (built ls []) x (built (ls ++ []) [])) (sym h) (ap (λ (x : List (List ℕ)). built x []) (append-nil ls))
 behind_made ps ls [] (c ∷ o) h n =
     let e : ls ++ [] ≡ ls = append-nil ls in
@@ -80,7 +80,7 @@ behind_made ps ls (l ∷ fs) o h n =
     let rest : Makes (built ls l) (Dot ∷ h.1) (built (ls ++ l ∷ fs) o) = (dot.0, subst (λ (x : BuilderState). Makes x h.1 (built (ls ++ l ∷ fs) o)) (sym dot.1) more) in
     subst (λ (x : List NameSymbol). Makes (built ls []) x (built (ls ++ l ∷ fs) o)) (sym h.3) (makes-append h.0 (Dot ∷ h.1) (built ls []) (built ls l) (built (ls ++ l ∷ fs) o) (label_made h.0 l ls h.2 small) rest)
 
-pub begins_made : (ps : List NameSymbol) (b : BuilderState) → Begins ps b.labels b.open_label → size b ≤ 254 → Makes empty_state ps b
+pub begins_made : (ps : List NameSymbol) (b : BuilderState) → IsTextSoFar ps b.labels b.open_label → size b ≤ 254 → Makes empty_state ps b
 begins_made ps b h n = behind_made ps [] b.labels b.open_label h n
 
 -- ---- from what is made to the grammar
@@ -99,18 +99,18 @@ start_more (Bracket ∷ ps) qs h = h
 start_more (Nothing f ∷ ps) qs h = tt
 
 -- one octet more
-octet_more : (ps : List NameSymbol) (fs : List (List ℕ)) (o : List ℕ) (p : NameSymbol) (c : ℕ) → Begins ps fs o → IsOctet p c → (o ≡ [] → CanBegin (p ∷ [])) → length (o ++ c ∷ []) ≤ 63 → Begins (ps ++ p ∷ []) fs (o ++ c ∷ [])
+octet_more : (ps : List NameSymbol) (fs : List (List ℕ)) (o : List ℕ) (p : NameSymbol) (c : ℕ) → IsTextSoFar ps fs o → IsOctet p c → (o ≡ [] → CanBegin (p ∷ [])) → length (o ++ c ∷ []) ≤ 63 → IsTextSoFar (ps ++ p ∷ []) fs (o ++ c ∷ [])
 octet_more ps [] [] p c h is start s = subst (λ (x : List NameSymbol). IsLabelText (x ++ p ∷ []) (c ∷ [])) (sym h) (record { octets = (is, tt); start = start refl; short = s })
 octet_more ps [] (d ∷ o) p c h is start s = record { octets = octets_more ps (d ∷ o) p c h.octets is; start = start_more ps (p ∷ []) h.start; short = s }
 octet_more ps (l ∷ fs) o p c h is start s = (h.0, h.1 ++ p ∷ [], h.2, ap (λ (x : List NameSymbol). x ++ p ∷ []) h.3 ∙ append_assoc h.0 (Dot ∷ h.1) (p ∷ []), octet_more h.1 fs o p c h.4 is start s)
 
 -- one dot more
-dot_more : (ps : List NameSymbol) (fs : List (List ℕ)) (c : ℕ) (o : List ℕ) → Begins ps fs (c ∷ o) → Begins (ps ++ Dot ∷ []) (fs ++ (c ∷ o) ∷ []) []
+dot_more : (ps : List NameSymbol) (fs : List (List ℕ)) (c : ℕ) (o : List ℕ) → IsTextSoFar ps fs (c ∷ o) → IsTextSoFar (ps ++ Dot ∷ []) (fs ++ (c ∷ o) ∷ []) []
 dot_more ps [] c o h = (ps, [], h, refl, refl)
 dot_more ps (l ∷ fs) c o h = (h.0, h.1 ++ Dot ∷ [], h.2, ap (λ (x : List NameSymbol). x ++ Dot ∷ []) h.3 ∙ append_assoc h.0 (Dot ∷ h.1) (Dot ∷ []), dot_more h.1 fs c o h.4)
 
 -- one part more, whatever it is
-part_more : (ps : List NameSymbol) (p : NameSymbol) (fs : List (List ℕ)) (o : List ℕ) → Begins ps fs o → size (built fs o) ≤ 254 → symbol_fault (built fs o) p ≡ None → Begins (ps ++ p ∷ []) (after (built fs o) p).labels (after (built fs o) p).open_label × (size (after (built fs o) p) ≤ 254)
+part_more : (ps : List NameSymbol) (p : NameSymbol) (fs : List (List ℕ)) (o : List ℕ) → IsTextSoFar ps fs o → size (built fs o) ≤ 254 → symbol_fault (built fs o) p ≡ None → IsTextSoFar (ps ++ p ∷ []) (after (built fs o) p).labels (after (built fs o) p).open_label × (size (after (built fs o) p) ≤ 254)
 part_more ps Dot fs [] h n e = absurd (cc)
 part_more ps Dot fs (c ∷ o) h n e = (dot_more ps fs c o h, n)
 part_more ps (Octet c) fs o h n e = let k = taken (built fs (o ++ c ∷ [])) e in (octet_more ps fs o (Octet c) c h refl (λ _. tt) k.1, k.0)
@@ -118,19 +118,19 @@ part_more ps Bracket fs [] h n e = absurd (cc)
 part_more ps Bracket fs (c ∷ o) h n e = let k = taken (built fs ((c ∷ o) ++ 91 ∷ [])) e in (octet_more ps fs (c ∷ o) Bracket 91 h refl (λ none. absurd (cc)) k.1, k.0)
 part_more ps (Nothing f) fs o h n e = absurd (cc)
 
-made_more : (ps before : List NameSymbol) (b m : BuilderState) → Begins before b.labels b.open_label → size b ≤ 254 → Makes b ps m → Begins (before ++ ps) m.labels m.open_label × (size m ≤ 254)
-made_more [] before b m h n e = subst (λ (x : BuilderState). Begins (before ++ []) x.labels x.open_label × (size x ≤ 254)) (sym e) (subst (λ (x : List NameSymbol). Begins x b.labels b.open_label × (size b ≤ 254)) (sym (append-nil before)) (h, n))
+made_more : (ps before : List NameSymbol) (b m : BuilderState) → IsTextSoFar before b.labels b.open_label → size b ≤ 254 → Makes b ps m → IsTextSoFar (before ++ ps) m.labels m.open_label × (size m ≤ 254)
+made_more [] before b m h n e = subst (λ (x : BuilderState). IsTextSoFar (before ++ []) x.labels x.open_label × (size x ≤ 254)) (sym e) (subst (λ (x : List NameSymbol). IsTextSoFar x b.labels b.open_label × (size b ≤ 254)) (sym (append-nil before)) (h, n))
 made_more (p ∷ ps) before b m h n g =
     let k = part_more before p b.labels b.open_label h n g.0 in
-    subst (λ (x : List NameSymbol). Begins x m.labels m.open_label × (size m ≤ 254)) (append_assoc before (p ∷ []) ps) (made_more ps (before ++ p ∷ []) (after b p) m k.0 k.1 g.1)
+    subst (λ (x : List NameSymbol). IsTextSoFar x m.labels m.open_label × (size m ≤ 254)) (append_assoc before (p ∷ []) ps) (made_more ps (before ++ p ∷ []) (after b p) m k.0 k.1 g.1)
 
-pub made_begins : (ps : List NameSymbol) (b : BuilderState) → Makes empty_state ps b → Begins ps b.labels b.open_label × (size b ≤ 254)
+pub made_begins : (ps : List NameSymbol) (b : BuilderState) → Makes empty_state ps b → IsTextSoFar ps b.labels b.open_label × (size b ≤ 254)
 made_begins ps b g = made_more ps [] empty_state b refl (omega arith) g
 
 -- ---- what a text begins with, and texts of labels
 
 -- where a dot is the last part of a text, or no label is open
-pub begins_dotted : (text : List NameSymbol) (ls : List (List ℕ)) → Joined text ls → 0 < length ls → Begins (text ++ Dot ∷ []) ls []
+pub begins_dotted : (text : List NameSymbol) (ls : List (List ℕ)) → Joined text ls → 0 < length ls → IsTextSoFar (text ++ Dot ∷ []) ls []
 begins_dotted text [] h n = absurd (omega arith)
 begins_dotted text (l ∷ []) h n = (text, [], h, refl, refl)
 begins_dotted text (l ∷ m ∷ ls) h n = (h.0, h.1 ++ Dot ∷ [], h.2, ap (λ (x : List NameSymbol). x ++ Dot ∷ []) h.3 ∙ append_assoc h.0 (Dot ∷ h.1) (Dot ∷ []), begins_dotted h.1 (m ∷ ls) h.4 (omega arith))
@@ -138,10 +138,10 @@ begins_dotted text (l ∷ m ∷ ls) h n = (h.0, h.1 ++ Dot ∷ [], h.2, ap (λ (
 -- the labels of a text of labels as what is built
 pub record Ends (ps : List NameSymbol) (ls : List (List ℕ)) : Type 0 where
   pub built : BuilderState
-  pub begins : Begins ps built.labels built.open_label
+  pub begins : IsTextSoFar ps built.labels built.open_label
   pub labels : closed built ≡ ls
 
-label_ends : (ps : List NameSymbol) (l : List ℕ) → IsLabelText ps l → Begins ps [] l × (closed_with [] l ≡ l ∷ [])
+label_ends : (ps : List NameSymbol) (l : List ℕ) → IsLabelText ps l → IsTextSoFar ps [] l × (closed_with [] l ≡ l ∷ [])
 label_ends ps [] t = let k = label_some ps [] t in absurd (omega (arith, k))
 label_ends ps (c ∷ l) t = (t, refl)
 
@@ -158,7 +158,7 @@ joined_begins text (l ∷ m ∷ ls) h =
     record { built = built (l ∷ k.built.labels) k.built.open_label; begins = (h.0, h.1, h.2, h.3, k.begins); labels = closed-cons l k.built.labels k.built.open_label ∙ ap (λ (x : List (List ℕ)). l ∷ x) k.labels }
 
 -- a text that begins so is a text of labels, with a dot behind the last where none is open
-pub begins_joined : (ps : List NameSymbol) (fs : List (List ℕ)) (o : List ℕ) → Begins ps fs o → 0 < length o → Joined ps (closed_with fs o)
+pub begins_joined : (ps : List NameSymbol) (fs : List (List ℕ)) (o : List ℕ) → IsTextSoFar ps fs o → 0 < length o → Joined ps (closed_with fs o)
 begins_joined ps [] [] h n = absurd (omega arith)
 begins_joined ps [] (c ∷ o) h n = h
 begins_joined ps (l ∷ []) [] h n = absurd (omega arith)
@@ -166,13 +166,13 @@ begins_joined ps (l ∷ []) (c ∷ o) h n = (h.0, h.1, h.2, h.3, begins_joined h
 begins_joined ps (l ∷ m ∷ fs) [] h n = absurd (omega arith)
 begins_joined ps (l ∷ m ∷ fs) (c ∷ o) h n = (h.0, h.1, h.2, h.3, begins_joined h.1 (m ∷ fs) (c ∷ o) h.4 n)
 
-pub begins_joined_dot : (ps : List NameSymbol) (l : List ℕ) (fs : List (List ℕ)) → Begins ps (l ∷ fs) [] → (text : List NameSymbol) × Joined text (l ∷ fs) × (ps ≡ text ++ Dot ∷ [])
+pub begins_joined_dot : (ps : List NameSymbol) (l : List ℕ) (fs : List (List ℕ)) → IsTextSoFar ps (l ∷ fs) [] → (text : List NameSymbol) × Joined text (l ∷ fs) × (ps ≡ text ++ Dot ∷ [])
 begins_joined_dot ps l [] h = (h.0, h.2, h.3 ∙ ap (λ (x : List NameSymbol). h.0 ++ Dot ∷ x) h.4)
 begins_joined_dot ps l (m ∷ fs) h =
     let k = begins_joined_dot h.1 m fs h.4 in
     (h.0 ++ Dot ∷ k.0, (h.0, k.0, h.2, refl, k.1), h.3 ∙ ap (λ (x : List NameSymbol). h.0 ++ Dot ∷ x) k.2 ∙ sym (append_assoc h.0 (Dot ∷ k.0) (Dot ∷ [])))
 
-pub begins_texts : (ps : List NameSymbol) (fs : List (List ℕ)) (o : List ℕ) → Begins ps fs o → 0 < length ps → AreLabelTexts ps (closed_with fs o)
+pub begins_texts : (ps : List NameSymbol) (fs : List (List ℕ)) (o : List ℕ) → IsTextSoFar ps fs o → 0 < length ps → AreLabelTexts ps (closed_with fs o)
 begins_texts ps [] [] h n = let k : length ps ≡ length {A = NameSymbol} [] = ap length h in absurd (omega (arith, k, n))
 begins_texts ps (l ∷ fs) [] h n = let k = begins_joined_dot ps l fs h in record { some = omega arith; text = k.0; joined = k.1; dot = inr k.2 }
 begins_texts ps fs (c ∷ o) h n = record { some = omega (arith, length-append fs ((c ∷ o) ∷ [])); text = ps; joined = begins_joined ps fs (c ∷ o) h (omega arith); dot = inl refl }

@@ -2,7 +2,7 @@
 use Rattle.std.proofs.Common.{◌≡◌, ◌≢◌, ℕ, ◌+◌, ◌<◌, ◌≤◌, ◌⊎◌, inl, inr, List, [], ◌∷◌, ◌++◌, length, Option, Some, None, refl, ap, sym, ◌∙◌, subst, arith}
 use Rattle.domain_label.specs.Wire.{wire, Root}
 use Rattle.domain_text_grammar.specs.BuilderState.{BuilderState, empty_state, closed_with, closed, symbol_fault, after, Makes, StopsAt}
-use Rattle.domain_text_grammar.specs.TextGrammar.{AreLabelTexts, IsNameText, IsRelativeText, Begins, FirstFault, NotANameText, EndsInDot, NoRelative}
+use Rattle.domain_text_grammar.specs.TextGrammar.{AreLabelTexts, IsNameText, IsRelativeText, IsTextSoFar, FirstFault, NotANameText, EndsInDot, NoRelative}
 use Rattle.domain_text_grammar.specs.Laws.{OneName, OneRelative, AppendsByGrammar}
 use Rattle.domain_text_grammar.specs.declared.name_symbol.TextFault.{TextFault}
 use Rattle.domain_text_grammar.specs.declared.name_symbol.TextFault.TheVariants.{ShortInput}
@@ -151,7 +151,7 @@ empty_made ls t =
     cut [] b e = cc
     cut (p ∷ a) b e = cc
 
-    at : (fs : List (List ℕ)) (o : List ℕ) → Begins [] fs o → 0 < length (closed_with fs o) → ⊥
+    at : (fs : List (List ℕ)) (o : List ℕ) → IsTextSoFar [] fs o → 0 < length (closed_with fs o) → ⊥
     at [] [] h n = omega (arith, n)
     at [] (c ∷ o) h n = h.start
     at (l ∷ fs) o h n = cut h.0 h.1 h.3
@@ -194,7 +194,7 @@ relative_made ps ls h =
     (k.built, begins_made ps k.built k.begins (subst (λ (x : List (List ℕ)). length (wire x) ≤ 254) (sym k.labels) h.1), k.labels, joined_open ps ls h.0)
 
 dotted_made : (ps : List NameSymbol) (h : EndsInDot ps) → Makes empty_state ps (built h.labels [])
-dotted_made ps h = begins_made ps (built h.labels []) (subst (λ (x : List NameSymbol). Begins x h.labels []) (sym h.dot) (begins_dotted h.text h.labels h.joined h.some)) h.short
+dotted_made ps h = begins_made ps (built h.labels []) (subst (λ (x : List NameSymbol). IsTextSoFar x h.labels []) (sym h.dot) (begins_dotted h.text h.labels h.joined h.some)) h.short
 
 -- what is made is a relative text, or one that ends in a dot
 pub made_relative : (ps : List NameSymbol) (ls : List (List ℕ)) (o : List ℕ) → Makes empty_state ps (built ls o) → 0 < length o → IsRelativeText ps (closed_with ls o)

@@ -2,13 +2,13 @@
 use Rattle.std.proofs.Common.{◌≡◌, ℕ, ◌⊎◌, inl, inr, List, length, Option, Some, None, Result, Ok, Err, sym, ◌∙◌, subst, MatchResult, IfOk, IfErr}
 use Rattle.octseq.specs.Capacity.{MayExceedCapacity}
 use Rattle.domain_label.specs.Wire.{wire}
-use Rattle.domain_label.specs.Spelling.{Reads}
+use Rattle.domain_label.specs.Spelling.{ReadsSymbols}
 use Rattle.domain_label.proofs.ReadOnce.{read_once}
 use Rattle.domain_text_grammar.specs.Laws.{SpellsOneName, SpellsOneRelative}
 use Rattle.domain_text_grammar.specs.NameSymbols.{name_symbols}
 use Rattle.domain_label.specs.Spelling.{JustOne}
 use Rattle.domain_text_grammar.specs.TextGrammar.{IsNameText, NotANameText, IsRelativeText, NoRelative, SpellsName, SpellsNoName, SpellsRelative, SpellsNoRelative}
-use Rattle.domain_text_grammar.specs.TextErrors.{MatchFromStr, MatchRelativeFromStr, NoName, NoRelativeName, presentation_fault, presentation_error_kind}
+use Rattle.domain_text_grammar.specs.TextErrors.{MatchFromStr, MatchRelativeFromStr, NoNameMade, NoRelativeMade, presentation_fault, presentation_error_kind}
 use Rattle.domain_text_grammar.specs.declared.name_symbol.TextFault.{TextFault}
 use Rattle.domain_text_grammar.specs.declared.name_symbol.NameSymbol.{NameSymbol}
 use Rattle.domain_text_grammar.specs.declared.error.FromStrError.{FromStrError}
@@ -37,18 +37,18 @@ two_faults P Q (inr h) b d p q = h.0.2 b p ∙ sym (h.0.2 d q)
 pub items_of : (cs : List ℕ) → List Item
 items_of cs = (read_once cs).0
 
-pub items_read : (cs : List ℕ) → Reads cs (items_of cs)
+pub items_read : (cs : List ℕ) → ReadsSymbols cs (items_of cs)
 unfolding items_of
 items_read cs = (read_once cs).1
 
-pub same_items : (cs : List ℕ) (items : List Item) → Reads cs items → items ≡ items_of cs
+pub same_items : (cs : List ℕ) (items : List Item) → ReadsSymbols cs items → items ≡ items_of cs
 unfolding items_of
 same_items cs items r = (read_once cs).2 items r
 
 -- ---- characters have one outcome where their parts have
 
 Spelled : {A : Type 0} → (List NameSymbol → A → Type 0) → List ℕ → A → Type 0
-Spelled P cs a = (items : List Item) × Reads cs items × P (name_symbols items) a
+Spelled P cs a = (items : List Item) × ReadsSymbols cs items × P (name_symbols items) a
 
 spelled_parts : {A : Type 0} (P : List NameSymbol → A → Type 0) (cs : List ℕ) (a : A) → Spelled P cs a → P (name_symbols (items_of cs)) a
 unfolding Spelled
@@ -72,18 +72,18 @@ spells_one_relative cs = one_spelled IsRelativeText NoRelative cs (one_relative 
 
 -- ---- absolute names
 
-module _ {N : Type 0} (labels : N → List (List ℕ)) (room : Option ℕ) (cs : List ℕ) (r : Result N FromStrError) (h : MatchResult r (λ n. IsNameText (name_symbols (items_of cs)) (labels n)) (λ e. NoName room (name_symbols (items_of cs)) e)) where
+module _ {N : Type 0} (labels : N → List (List ℕ)) (room : Option ℕ) (cs : List ℕ) (r : Result N FromStrError) (h : MatchResult r (λ n. IsNameText (name_symbols (items_of cs)) (labels n)) (λ e. NoNameMade room (name_symbols (items_of cs)) e)) where
   pub name_ok : IfOk r (λ n. SpellsName cs (labels n))
   name_ok = at r h
     where
-      at : (r : Result N FromStrError) → MatchResult r (λ n. IsNameText (name_symbols (items_of cs)) (labels n)) (λ e. NoName room (name_symbols (items_of cs)) e) → IfOk r (λ n. SpellsName cs (labels n))
+      at : (r : Result N FromStrError) → MatchResult r (λ n. IsNameText (name_symbols (items_of cs)) (labels n)) (λ e. NoNameMade room (name_symbols (items_of cs)) e) → IfOk r (λ n. SpellsName cs (labels n))
       at (Ok n) h = (items_of cs, items_read cs, h)
       at (Err e) h = tt
 
   pub name_err : IfErr r (λ e. MatchFromStr e (SpellsNoName cs) ((ls : List (List ℕ)) × SpellsName cs ls × MayExceedCapacity room (length (wire ls))))
   name_err = at r h
     where
-      at : (r : Result N FromStrError) → MatchResult r (λ n. IsNameText (name_symbols (items_of cs)) (labels n)) (λ e. NoName room (name_symbols (items_of cs)) e) → IfErr r (λ e. MatchFromStr e (SpellsNoName cs) ((ls : List (List ℕ)) × SpellsName cs ls × MayExceedCapacity room (length (wire ls))))
+      at : (r : Result N FromStrError) → MatchResult r (λ n. IsNameText (name_symbols (items_of cs)) (labels n)) (λ e. NoNameMade room (name_symbols (items_of cs)) e) → IfErr r (λ e. MatchFromStr e (SpellsNoName cs) ((ls : List (List ℕ)) × SpellsName cs ls × MayExceedCapacity room (length (wire ls))))
       at (Ok n) h = tt
       at (Err (Presentation p)) h = (items_of cs, items_read cs, h)
       at (Err ShortBuf) h = (h.0, (items_of cs, items_read cs, h.1), h.2)
@@ -91,7 +91,7 @@ module _ {N : Type 0} (labels : N → List (List ℕ)) (room : Option ℕ) (cs :
   pub name_accepts : (ls : List (List ℕ)) → SpellsName cs ls → MatchResult r (λ n. labels n ≡ ls) (λ e. MatchFromStr e (λ _. ⊥) (MayExceedCapacity room (length (wire ls))))
   name_accepts ls s = at r h (subst (λ (z : List Item). IsNameText (name_symbols z) ls) (same_items cs s.0 s.1) s.2)
     where
-      at : (r : Result N FromStrError) → MatchResult r (λ n. IsNameText (name_symbols (items_of cs)) (labels n)) (λ e. NoName room (name_symbols (items_of cs)) e) → IsNameText (name_symbols (items_of cs)) ls → MatchResult r (λ n. labels n ≡ ls) (λ e. MatchFromStr e (λ _. ⊥) (MayExceedCapacity room (length (wire ls))))
+      at : (r : Result N FromStrError) → MatchResult r (λ n. IsNameText (name_symbols (items_of cs)) (labels n)) (λ e. NoNameMade room (name_symbols (items_of cs)) e) → IsNameText (name_symbols (items_of cs)) ls → MatchResult r (λ n. labels n ≡ ls) (λ e. MatchFromStr e (λ _. ⊥) (MayExceedCapacity room (length (wire ls))))
       at (Ok n) h t = two_of (IsNameText (name_symbols (items_of cs))) (NotANameText (name_symbols (items_of cs))) (one_name (name_symbols (items_of cs))) (labels n) ls h t
       at (Err (Presentation p)) h t = never_both (IsNameText (name_symbols (items_of cs))) (NotANameText (name_symbols (items_of cs))) (one_name (name_symbols (items_of cs))) ls (presentation_fault (presentation_error_kind p)) t h
       at (Err ShortBuf) h t = subst (λ (z : List (List ℕ)). MayExceedCapacity room (length (wire z))) (two_of (IsNameText (name_symbols (items_of cs))) (NotANameText (name_symbols (items_of cs))) (one_name (name_symbols (items_of cs))) h.0 ls h.1 t) h.2
@@ -99,25 +99,25 @@ module _ {N : Type 0} (labels : N → List (List ℕ)) (room : Option ℕ) (cs :
   pub name_exact : (f : TextFault) → SpellsNoName cs f → MatchResult r (λ _. ⊥) (λ e. MatchFromStr e (λ told. told ≡ f) ⊥)
   name_exact f s = at r h (subst (λ (z : List Item). NotANameText (name_symbols z) f) (same_items cs s.0 s.1) s.2)
     where
-      at : (r : Result N FromStrError) → MatchResult r (λ n. IsNameText (name_symbols (items_of cs)) (labels n)) (λ e. NoName room (name_symbols (items_of cs)) e) → NotANameText (name_symbols (items_of cs)) f → MatchResult r (λ _. ⊥) (λ e. MatchFromStr e (λ told. told ≡ f) ⊥)
+      at : (r : Result N FromStrError) → MatchResult r (λ n. IsNameText (name_symbols (items_of cs)) (labels n)) (λ e. NoNameMade room (name_symbols (items_of cs)) e) → NotANameText (name_symbols (items_of cs)) f → MatchResult r (λ _. ⊥) (λ e. MatchFromStr e (λ told. told ≡ f) ⊥)
       at (Ok n) h t = never_both (IsNameText (name_symbols (items_of cs))) (NotANameText (name_symbols (items_of cs))) (one_name (name_symbols (items_of cs))) (labels n) f h t
       at (Err (Presentation p)) h t = two_faults (IsNameText (name_symbols (items_of cs))) (NotANameText (name_symbols (items_of cs))) (one_name (name_symbols (items_of cs))) (presentation_fault (presentation_error_kind p)) f h t
       at (Err ShortBuf) h t = never_both (IsNameText (name_symbols (items_of cs))) (NotANameText (name_symbols (items_of cs))) (one_name (name_symbols (items_of cs))) h.0 f h.1 t
 
 -- ---- relative names
 
-module _ {N : Type 0} (labels : N → List (List ℕ)) (room : Option ℕ) (cs : List ℕ) (r : Result N RelativeFromStrError) (h : MatchResult r (λ n. IsRelativeText (name_symbols (items_of cs)) (labels n)) (λ e. NoRelativeName room (name_symbols (items_of cs)) e)) where
+module _ {N : Type 0} (labels : N → List (List ℕ)) (room : Option ℕ) (cs : List ℕ) (r : Result N RelativeFromStrError) (h : MatchResult r (λ n. IsRelativeText (name_symbols (items_of cs)) (labels n)) (λ e. NoRelativeMade room (name_symbols (items_of cs)) e)) where
   pub relative_ok : IfOk r (λ n. SpellsRelative cs (labels n))
   relative_ok = at r h
     where
-      at : (r : Result N RelativeFromStrError) → MatchResult r (λ n. IsRelativeText (name_symbols (items_of cs)) (labels n)) (λ e. NoRelativeName room (name_symbols (items_of cs)) e) → IfOk r (λ n. SpellsRelative cs (labels n))
+      at : (r : Result N RelativeFromStrError) → MatchResult r (λ n. IsRelativeText (name_symbols (items_of cs)) (labels n)) (λ e. NoRelativeMade room (name_symbols (items_of cs)) e) → IfOk r (λ n. SpellsRelative cs (labels n))
       at (Ok n) h = (items_of cs, items_read cs, h)
       at (Err e) h = tt
 
   pub relative_err : IfErr r (λ e. MatchRelativeFromStr e (SpellsNoRelative cs) ((ls : List (List ℕ)) × SpellsRelative cs ls × MayExceedCapacity room (length (wire ls))))
   relative_err = at r h
     where
-      at : (r : Result N RelativeFromStrError) → MatchResult r (λ n. IsRelativeText (name_symbols (items_of cs)) (labels n)) (λ e. NoRelativeName room (name_symbols (items_of cs)) e) → IfErr r (λ e. MatchRelativeFromStr e (SpellsNoRelative cs) ((ls : List (List ℕ)) × SpellsRelative cs ls × MayExceedCapacity room (length (wire ls))))
+      at : (r : Result N RelativeFromStrError) → MatchResult r (λ n. IsRelativeText (name_symbols (items_of cs)) (labels n)) (λ e. NoRelativeMade room (name_symbols (items_of cs)) e) → IfErr r (λ e. MatchRelativeFromStr e (SpellsNoRelative cs) ((ls : List (List ℕ)) × SpellsRelative cs ls × MayExceedCapacity room (length (wire ls))))
       at (Ok n) h = tt
       at (Err AbsoluteName) h = (items_of cs, items_read cs, h)
       at (Err (FromStr (Presentation p))) h = (items_of cs, items_read cs, h)
@@ -126,7 +126,7 @@ module _ {N : Type 0} (labels : N → List (List ℕ)) (room : Option ℕ) (cs :
   pub relative_accepts : (ls : List (List ℕ)) → SpellsRelative cs ls → MatchResult r (λ n. labels n ≡ ls) (λ e. MatchRelativeFromStr e (λ _. ⊥) (MayExceedCapacity room (length (wire ls))))
   relative_accepts ls s = at r h (subst (λ (z : List Item). IsRelativeText (name_symbols z) ls) (same_items cs s.0 s.1) s.2)
     where
-      at : (r : Result N RelativeFromStrError) → MatchResult r (λ n. IsRelativeText (name_symbols (items_of cs)) (labels n)) (λ e. NoRelativeName room (name_symbols (items_of cs)) e) → IsRelativeText (name_symbols (items_of cs)) ls → MatchResult r (λ n. labels n ≡ ls) (λ e. MatchRelativeFromStr e (λ _. ⊥) (MayExceedCapacity room (length (wire ls))))
+      at : (r : Result N RelativeFromStrError) → MatchResult r (λ n. IsRelativeText (name_symbols (items_of cs)) (labels n)) (λ e. NoRelativeMade room (name_symbols (items_of cs)) e) → IsRelativeText (name_symbols (items_of cs)) ls → MatchResult r (λ n. labels n ≡ ls) (λ e. MatchRelativeFromStr e (λ _. ⊥) (MayExceedCapacity room (length (wire ls))))
       at (Ok n) h t = two_of (IsRelativeText (name_symbols (items_of cs))) (NoRelative (name_symbols (items_of cs))) (one_relative (name_symbols (items_of cs))) (labels n) ls h t
       at (Err AbsoluteName) h t = never_both (IsRelativeText (name_symbols (items_of cs))) (NoRelative (name_symbols (items_of cs))) (one_relative (name_symbols (items_of cs))) ls None t h
       at (Err (FromStr (Presentation p))) h t = never_both (IsRelativeText (name_symbols (items_of cs))) (NoRelative (name_symbols (items_of cs))) (one_relative (name_symbols (items_of cs))) ls (Some (presentation_fault (presentation_error_kind p))) t h
@@ -135,7 +135,7 @@ module _ {N : Type 0} (labels : N → List (List ℕ)) (room : Option ℕ) (cs :
   pub relative_exact : (why : Option TextFault) → SpellsNoRelative cs why → MatchResult r (λ _. ⊥) (λ e. MatchRelativeFromStr e (λ told. told ≡ why) ⊥)
   relative_exact why s = at r h (subst (λ (z : List Item). NoRelative (name_symbols z) why) (same_items cs s.0 s.1) s.2)
     where
-      at : (r : Result N RelativeFromStrError) → MatchResult r (λ n. IsRelativeText (name_symbols (items_of cs)) (labels n)) (λ e. NoRelativeName room (name_symbols (items_of cs)) e) → NoRelative (name_symbols (items_of cs)) why → MatchResult r (λ _. ⊥) (λ e. MatchRelativeFromStr e (λ told. told ≡ why) ⊥)
+      at : (r : Result N RelativeFromStrError) → MatchResult r (λ n. IsRelativeText (name_symbols (items_of cs)) (labels n)) (λ e. NoRelativeMade room (name_symbols (items_of cs)) e) → NoRelative (name_symbols (items_of cs)) why → MatchResult r (λ _. ⊥) (λ e. MatchRelativeFromStr e (λ told. told ≡ why) ⊥)
       at (Ok n) h t = never_both (IsRelativeText (name_symbols (items_of cs))) (NoRelative (name_symbols (items_of cs))) (one_relative (name_symbols (items_of cs))) (labels n) why h t
       at (Err AbsoluteName) h t = two_faults (IsRelativeText (name_symbols (items_of cs))) (NoRelative (name_symbols (items_of cs))) (one_relative (name_symbols (items_of cs))) None why h t
       at (Err (FromStr (Presentation p))) h t = two_faults (IsRelativeText (name_symbols (items_of cs))) (NoRelative (name_symbols (items_of cs))) (one_relative (name_symbols (items_of cs))) (Some (presentation_fault (presentation_error_kind p))) why h t

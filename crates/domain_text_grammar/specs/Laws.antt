@@ -5,7 +5,7 @@ use Rattle.domain_label.specs.Text.{text_with_final_dot, displayed, text}
 use Rattle.domain_label.specs.Wire.{IsAbsoluteName, IsRelativeName}
 use Rattle.domain_label.specs.Spelling.{JustOne}
 use Rattle.domain_text_grammar.specs.BuilderState.{BuilderState, empty_state, size, Makes, StopsAt}
-use Rattle.domain_text_grammar.specs.TextGrammar.{Begins, FirstFault, IsNameText, NotANameText, IsRelativeText, NoRelative, SpellsName, SpellsNoName, SpellsRelative, SpellsNoRelative}
+use Rattle.domain_text_grammar.specs.TextGrammar.{IsTextSoFar, FirstFault, IsNameText, NotANameText, IsRelativeText, NoRelative, SpellsName, SpellsNoName, SpellsRelative, SpellsNoRelative}
 use Rattle.domain_text_grammar.specs.declared.name_symbol.TextFault.{TextFault}
 use Rattle.domain_text_grammar.specs.declared.name_symbol.NameSymbol.{NameSymbol}
 
@@ -38,7 +38,7 @@ SpellsOneRelative cs =
 -- its first fault.
 abbrev pub AppendsByGrammar : List NameSymbol → Type 0
 AppendsByGrammar ps =
-    ((b : BuilderState) → Makes empty_state ps b ↔ (Begins ps b.labels b.open_label × (size b ≤ 254)))
+    ((b : BuilderState) → Makes empty_state ps b ↔ (IsTextSoFar ps b.labels b.open_label × (size b ≤ 254)))
     × ((f : TextFault) → ((b : BuilderState) × StopsAt empty_state ps b f) ↔ FirstFault ps f)
 
 -- Each number is an octet.

@@ -58,12 +58,12 @@ MatchRelativeFromStr (FromStr e) P Q = MatchFromStr e (λ f. P (Some f)) Q
 MatchRelativeFromStr AbsoluteName P Q = P None
 
 -- Why no name was made of a text: a fault of the text, or else its octets lack room.
-abbrev pub NoName : Option ℕ → List NameSymbol → FromStrError → Type 0
-NoName room ps e = MatchFromStr e (NotANameText ps) ((ls : List (List ℕ)) × IsNameText ps ls × MayExceedCapacity room (length (wire ls)))
+abbrev pub NoNameMade : Option ℕ → List NameSymbol → FromStrError → Type 0
+NoNameMade room ps e = MatchFromStr e (NotANameText ps) ((ls : List (List ℕ)) × IsNameText ps ls × MayExceedCapacity room (length (wire ls)))
 
 -- The same of relative names.
-abbrev pub NoRelativeName : Option ℕ → List NameSymbol → RelativeFromStrError → Type 0
-NoRelativeName room ps e = MatchRelativeFromStr e (NoRelative ps) ((ls : List (List ℕ)) × IsRelativeText ps ls × MayExceedCapacity room (length (wire ls)))
+abbrev pub NoRelativeMade : Option ℕ → List NameSymbol → RelativeFromStrError → Type 0
+NoRelativeMade room ps e = MatchRelativeFromStr e (NoRelative ps) ((ls : List (List ℕ)) × IsRelativeText ps ls × MayExceedCapacity room (length (wire ls)))
 
 -- Why no name was read of the characters cs: a fault of theirs, or else the octets of the name that they
 -- are the text of lack room.
@@ -75,12 +75,12 @@ abbrev pub NoRelativeRead : Option ℕ → List ℕ → RelativeFromStrError →
 NoRelativeRead room cs e = MatchRelativeFromStr e (SpellsNoRelative cs) ((ls : List (List ℕ)) × SpellsRelative cs ls × MayExceedCapacity room (length (wire ls)))
 
 -- The error is a want of room for these labels.
-abbrev pub Lacks : Option ℕ → List (List ℕ) → FromStrError → Type 0
-Lacks room ls e = MatchFromStr e (λ _. ⊥) (MayExceedCapacity room (length (wire ls)))
+abbrev pub LacksCapacity : Option ℕ → List (List ℕ) → FromStrError → Type 0
+LacksCapacity room ls e = MatchFromStr e (λ _. ⊥) (MayExceedCapacity room (length (wire ls)))
 
 -- The same of relative names.
-abbrev pub RelativeLacks : Option ℕ → List (List ℕ) → RelativeFromStrError → Type 0
-RelativeLacks room ls e = MatchRelativeFromStr e (λ _. ⊥) (MayExceedCapacity room (length (wire ls)))
+abbrev pub RelativeLacksCapacity : Option ℕ → List (List ℕ) → RelativeFromStrError → Type 0
+RelativeLacksCapacity room ls e = MatchRelativeFromStr e (λ _. ⊥) (MayExceedCapacity room (length (wire ls)))
 
 -- The error is this fault, or where it is None a dot at the end.
 abbrev pub Tells : TextFault → FromStrError → Type 0
@@ -92,15 +92,15 @@ RelativeTells why e = MatchRelativeFromStr e (λ told. told ≡ why) ⊥
 
 -- What reading a name of the characters cs gives: the name that they are the text of, or their fault, or
 -- else a want of room.
-pub record ReadsName {N : Type 0} (labels : N → List (List ℕ)) (room : Option ℕ) (cs : List ℕ) (r : Result N FromStrError) : Type 0 where
+pub record ReadsNameText {N : Type 0} (labels : N → List (List ℕ)) (room : Option ℕ) (cs : List ℕ) (r : Result N FromStrError) : Type 0 where
   pub ok : IfOk r (λ n. SpellsName cs (labels n))
   pub err : IfErr r (NoNameRead room cs)
-  pub accepts : (ls : List (List ℕ)) → SpellsName cs ls → MatchResult r (λ n. labels n ≡ ls) (Lacks room ls)
+  pub accepts : (ls : List (List ℕ)) → SpellsName cs ls → MatchResult r (λ n. labels n ≡ ls) (LacksCapacity room ls)
   pub exact : (f : TextFault) → SpellsNoName cs f → MatchResult r (λ _. ⊥) (Tells f)
 
 -- The same of relative names.
-pub record ReadsRelative {N : Type 0} (labels : N → List (List ℕ)) (room : Option ℕ) (cs : List ℕ) (r : Result N RelativeFromStrError) : Type 0 where
+pub record ReadsRelativeText {N : Type 0} (labels : N → List (List ℕ)) (room : Option ℕ) (cs : List ℕ) (r : Result N RelativeFromStrError) : Type 0 where
   pub ok : IfOk r (λ n. SpellsRelative cs (labels n))
   pub err : IfErr r (NoRelativeRead room cs)
-  pub accepts : (ls : List (List ℕ)) → SpellsRelative cs ls → MatchResult r (λ n. labels n ≡ ls) (RelativeLacks room ls)
+  pub accepts : (ls : List (List ℕ)) → SpellsRelative cs ls → MatchResult r (λ n. labels n ≡ ls) (RelativeLacksCapacity room ls)
   pub exact : (why : Option TextFault) → SpellsNoRelative cs why → MatchResult r (λ _. ⊥) (RelativeTells why)

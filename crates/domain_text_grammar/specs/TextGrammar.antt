@@ -3,7 +3,7 @@ use Rattle.std.specs.Prelude.{◌≡◌, ◌≢◌, ℕ, ◌<◌, ◌≤◌, ◌
 use Rattle.domain_label.specs.Wire.{wire, IsLabel, Root}
 use Rattle.domain_label.specs.declared.symbol.Symbol.{Symbol}
 use Rattle.domain_label.specs.declared.symbol.SymbolCharsError.{SymbolCharsError}
-use Rattle.domain_label.specs.Spelling.{Reads}
+use Rattle.domain_label.specs.Spelling.{ReadsSymbols}
 use Rattle.domain_text_grammar.specs.BuilderState.{BuilderState, size, symbol_fault}
 use Rattle.domain_text_grammar.specs.NameSymbols.{name_symbols}
 use Rattle.domain_text_grammar.specs.declared.name_symbol.TextFault.{TextFault}
@@ -62,10 +62,10 @@ IsNameText ps ls =
 
 -- A text begins with texts of the labels fs, a dot behind each, and then with nothing, or with the octets
 -- o of a label that isn't ended.
-abbrev pub Begins : List NameSymbol → List (List ℕ) → List ℕ → Type 0
-Begins ps [] [] = ps ≡ []
-Begins ps [] (c ∷ o) = IsLabelText ps (c ∷ o)
-Begins ps (l ∷ fs) o = (a : List NameSymbol) × (b : List NameSymbol) × IsLabelText a l × (ps ≡ a ++ Dot ∷ b) × Begins b fs o
+abbrev pub IsTextSoFar : List NameSymbol → List (List ℕ) → List ℕ → Type 0
+IsTextSoFar ps [] [] = ps ≡ []
+IsTextSoFar ps [] (c ∷ o) = IsLabelText ps (c ∷ o)
+IsTextSoFar ps (l ∷ fs) o = (a : List NameSymbol) × (b : List NameSymbol) × IsLabelText a l × (ps ≡ a ++ Dot ∷ b) × IsTextSoFar b fs o
 
 -- The first part of a text that can't follow what the text begins with, and why.
 pub record FirstFault (ps : List NameSymbol) (f : TextFault) : Type 0 where
@@ -74,7 +74,7 @@ pub record FirstFault (ps : List NameSymbol) (f : TextFault) : Type 0 where
   pub rest : List NameSymbol
   pub whole : ps ≡ before ++ part ∷ rest
   pub built : BuilderState
-  pub begins : Begins before built.labels built.open_label
+  pub begins : IsTextSoFar before built.labels built.open_label
   pub short : size built ≤ 254
   pub refused : symbol_fault built part ≡ Some f
 
@@ -93,15 +93,15 @@ pub record EndsInDot (ps : List NameSymbol) : Type 0 where
 
 -- The characters cs are the text of the name ls, and have the fault f.
 abbrev pub SpellsName : List ℕ → List (List ℕ) → Type 0
-SpellsName cs ls = (items : List (Result Symbol SymbolCharsError)) × Reads cs items × IsNameText (name_symbols items) ls
+SpellsName cs ls = (items : List (Result Symbol SymbolCharsError)) × ReadsSymbols cs items × IsNameText (name_symbols items) ls
 
 -- The characters cs are the text of no absolute name, and have the fault f.
 abbrev pub SpellsNoName : List ℕ → TextFault → Type 0
-SpellsNoName cs f = (items : List (Result Symbol SymbolCharsError)) × Reads cs items × NotANameText (name_symbols items) f
+SpellsNoName cs f = (items : List (Result Symbol SymbolCharsError)) × ReadsSymbols cs items × NotANameText (name_symbols items) f
 
 -- The characters cs are the text of the relative name ls.
 abbrev pub SpellsRelative : List ℕ → List (List ℕ) → Type 0
-SpellsRelative cs ls = (items : List (Result Symbol SymbolCharsError)) × Reads cs items × IsRelativeText (name_symbols items) ls
+SpellsRelative cs ls = (items : List (Result Symbol SymbolCharsError)) × ReadsSymbols cs items × IsRelativeText (name_symbols items) ls
 
 -- Why a text is no relative name: a first fault, or None where it ends in a dot behind a label.
 abbrev pub NoRelative : List NameSymbol → Option TextFault → Type 0
@@ -110,4 +110,4 @@ NoRelative ps None = EndsInDot ps
 
 -- The same of the characters cs.
 abbrev pub SpellsNoRelative : List ℕ → Option TextFault → Type 0
-SpellsNoRelative cs why = (items : List (Result Symbol SymbolCharsError)) × Reads cs items × NoRelative (name_symbols items) why
+SpellsNoRelative cs why = (items : List (Result Symbol SymbolCharsError)) × ReadsSymbols cs items × NoRelative (name_symbols items) why

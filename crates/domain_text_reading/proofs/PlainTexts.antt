@@ -8,7 +8,7 @@ use Rattle.std.proofs.Math.Seq.{take-add}
 use Rattle.std.proofs.lemmas.List.{take_more, drop_more, get_or-drop, drop-drop, drop-take, drop-set-lt, take-append-drop, get_or-take}
 use Rattle.std.proofs.lemmas.Grind.{common_steps}
 use Rattle.std.proofs.lemmas.List.Elements.{All-from_get_or}
-use Rattle.domain_label.specs.Spelling.{Reads}
+use Rattle.domain_label.specs.Spelling.{ReadsSymbols}
 use Rattle.domain_label.specs.Wire.{wire, labels_in, Root}
 use Rattle.domain_label.specs.declared.symbol.Symbol.TheVariants.{Char}
 use Rattle.domain_text_reading.specs.Buffer.{buffer_view, IsBuffer}
@@ -37,11 +37,11 @@ plain_items (c ∷ cs) = Ok (Char c) ∷ plain_items cs
 abbrev pub text_parts : List ℕ → List NameSymbol
 text_parts cs = name_symbols (plain_items cs)
 
-reads_plain : (cs : List ℕ) → AllByRecursion IsPlain cs → Reads cs (plain_items cs)
+reads_plain : (cs : List ℕ) → AllByRecursion IsPlain cs → ReadsSymbols cs (plain_items cs)
 reads_plain [] p = refl
 reads_plain (c ∷ cs) p = (p.0.1, (cs, refl, reads_plain cs p.1))
 
-pub read_parts : (cs : List ℕ) (all : List Item) → AllByRecursion IsPlain cs → Reads cs all → name_symbols all ≡ text_parts cs
+pub read_parts : (cs : List ℕ) (all : List Item) → AllByRecursion IsPlain cs → ReadsSymbols cs all → name_symbols all ≡ text_parts cs
 read_parts cs all p r = ap name_symbols (same_items cs all r ∙ sym (same_items cs (plain_items cs) (reads_plain cs p)))
 
 parts_joined : (xs ys : List ℕ) → text_parts (xs ++ ys) ≡ text_parts xs ++ text_parts ys
@@ -271,15 +271,15 @@ all_inside octets text head at e short fits = opened octets head (length text - 
 pub plain_chars : (text : List ℕ) → IsPlainText text → chars text ≡ text
 plain_chars text p = chars-IsAscii text (IsAscii-from_all text (All-from_get_or (λ b. b < 128) text 0 (λ i lt. (let c = all_at IsPlain text i p.plain lt in omega (arith, c.0.1)))))
 
-pub plain_reads : (text : List ℕ) (all : List Item) → IsPlainText text → Reads (chars text) all → Reads text all
-plain_reads text all p r = subst (λ cs. Reads cs all) (plain_chars text p) r
+pub plain_reads : (text : List ℕ) (all : List Item) → IsPlainText text → ReadsSymbols (chars text) all → ReadsSymbols text all
+plain_reads text all p r = subst (λ cs. ReadsSymbols cs all) (plain_chars text p) r
 
 items_long : (cs : List ℕ) → length (text_parts cs) ≡ length cs
 items_long [] = refl
 items_long (c ∷ cs) = ap suc (items_long cs)
 
 -- a plain text is that of a name, or has a fault
-pub plain_name : (text : List ℕ) (all : List Item) (b : BuilderState) (r : Result (Unit {0}) TextFault) → IsPlainText text → Reads text all → MatchResult r (λ _. Makes empty_state (name_symbols all) b) (λ f. (m : BuilderState) × StopsAt empty_state (name_symbols all) m f) → MatchResult r (λ _. IsNameText (name_symbols all) (closed b ++ Root)) (λ f. NotANameText (name_symbols all) f)
+pub plain_name : (text : List ℕ) (all : List Item) (b : BuilderState) (r : Result (Unit {0}) TextFault) → IsPlainText text → ReadsSymbols text all → MatchResult r (λ _. Makes empty_state (name_symbols all) b) (λ f. (m : BuilderState) × StopsAt empty_state (name_symbols all) m f) → MatchResult r (λ _. IsNameText (name_symbols all) (closed b ++ Root)) (λ f. NotANameText (name_symbols all) f)
 plain_name text all b r p h m =
     let long : length (name_symbols all) ≡ length text = ap length (read_parts text all p.plain h) ∙ items_long text in
     named r m (omega (arith, long, p.some))

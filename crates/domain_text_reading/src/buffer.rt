@@ -3,7 +3,7 @@ ghost use Rattle.std.specs.Prelude.{◌≡◌, ◌++◌, ℕ, ◌+◌, ◌<◌, 
 ghost use Rattle.std.specs.Iterator.{AlwaysYields, IsFinite};
 ghost use Rattle.domain_label.specs.declared.symbol.Symbol.{Symbol};
 ghost use Rattle.domain_label.specs.declared.symbol.SymbolCharsError.{SymbolCharsError};
-ghost use Rattle.domain_label.specs.Spelling.{Reads};
+ghost use Rattle.domain_label.specs.Spelling.{ReadsSymbols};
 ghost use Rattle.domain_label.specs.Wire.{wire, Root, IsAbsoluteName, IsRelativeName};
 ghost use Rattle.domain_text_reading.specs.Plain.{IsPlainText};
 ghost use Rattle.domain_text_grammar.specs.BuilderState.{BuilderState, empty_state, closed, size, pushed, ended, too_long, symbol_fault, after, Makes, StopsAt};
@@ -115,7 +115,7 @@ fn end_plain(octets: &mut [u8; 255], text: &[u8]) -> Result<Ends, TextFault>
     requires plain { IsPlainText text.now }
     requires there { take (length text.now) (drop 1 octets.old) ≡ text.now }
     ensures inside { IfOk result (λ ends. IsBuffer octets.new ends.head ends.open_len) }
-    ensures read { (all : List (Result Symbol SymbolCharsError)) → Reads text.now all →
+    ensures read { (all : List (Result Symbol SymbolCharsError)) → ReadsSymbols text.now all →
         MatchResult result (λ ends. Makes empty_state (name_symbols all) (buffer_view octets.new ends.head ends.open_len)) (λ f. (built : BuilderState) × StopsAt empty_state (name_symbols all) built f) }
 {
     let mut head = 0;
@@ -228,7 +228,7 @@ impl NameBuffer {
     #[inline(always)]
     pub(crate) fn read_plain(&mut self, text: &[u8]) -> Result<(), TextFault>
         requires plain { IsPlainText text.now }
-        ensures { (all : List (Result Symbol SymbolCharsError)) → Reads text.now all →
+        ensures { (all : List (Result Symbol SymbolCharsError)) → ReadsSymbols text.now all →
             MatchResult result (λ _. Makes empty_state (name_symbols all) self.new) (λ f. (built : BuilderState) × StopsAt empty_state (name_symbols all) built f) }
     {
         self.ends = Ends {

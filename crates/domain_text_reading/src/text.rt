@@ -2,7 +2,7 @@
 ghost use Rattle.std.specs.Prelude.{◌≡◌, ℕ, ◌++◌, List, [], Result, Option, Some, IfOk, IfErr, OnOk, MatchResult};
 ghost use Rattle.std.specs.Iterator.{AlwaysYields, IsFinite};
 ghost use Rattle.std.specs.Str.{chars};
-ghost use Rattle.domain_label.specs.Spelling.{Reads};
+ghost use Rattle.domain_label.specs.Spelling.{ReadsSymbols};
 ghost use Rattle.domain_label.specs.Wire.{Root, IsAbsoluteWire, IsRelativeWire, labels_in};
 ghost use Rattle.domain_label.specs.declared.symbol.Symbol.{Symbol};
 ghost use Rattle.domain_label.specs.declared.symbol.SymbolCharsError.{SymbolCharsError};
@@ -10,7 +10,7 @@ ghost use Rattle.domain_text_grammar.specs.BuilderState.{BuilderState, empty_sta
 ghost use Rattle.domain_text_grammar.specs.NameSymbols.{name_symbols, symbols_in_name, IsDot};
 ghost use Rattle.domain_text_reading.specs.Plain.{IsPlainText};
 ghost use Rattle.domain_text_grammar.specs.TextGrammar.{IsNameText, NotANameText, IsRelativeText, NoRelative, SpellsName, SpellsNoName, SpellsRelative, SpellsNoRelative};
-ghost use Rattle.domain_text_grammar.specs.TextErrors.{NoName, NoRelativeName, NoNameRead, NoRelativeRead, Lacks, RelativeLacks, Tells, RelativeTells};
+ghost use Rattle.domain_text_grammar.specs.TextErrors.{NoNameMade, NoRelativeMade, NoNameRead, NoRelativeRead, LacksCapacity, RelativeLacksCapacity, Tells, RelativeTells};
 ghost use Rattle.domain_text_grammar.specs.declared.name_symbol.TextFault.{TextFault};
 ghost use Rattle.domain_text_grammar.specs.declared.name_symbol.NameSymbol.{NameSymbol};
 
@@ -107,7 +107,7 @@ fn read_relative_text<I: Iterator<Item = Result<Symbol, SymbolCharsError>> + Dro
 #[inline(always)]
 fn read_name_str(buffer: &mut NameBuffer, text: &str) -> Result<(), TextFault>
     requires empty { buffer.old ≡ empty_state }
-    ensures { (all : List (Result Symbol SymbolCharsError)) → Reads (chars text.now) all →
+    ensures { (all : List (Result Symbol SymbolCharsError)) → ReadsSymbols (chars text.now) all →
         MatchResult result (λ _. IsNameText (name_symbols all) (closed buffer.new ++ Root)) (λ f. NotANameText (name_symbols all) f) }
 {
     if is_plain(text.as_bytes()) {
@@ -120,7 +120,7 @@ fn read_name_str(buffer: &mut NameBuffer, text: &str) -> Result<(), TextFault>
 #[inline(always)]
 fn read_relative_str(buffer: &mut NameBuffer, text: &str) -> Result<(), Option<TextFault>>
     requires empty { buffer.old ≡ empty_state }
-    ensures { (all : List (Result Symbol SymbolCharsError)) → Reads (chars text.now) all →
+    ensures { (all : List (Result Symbol SymbolCharsError)) → ReadsSymbols (chars text.now) all →
         MatchResult result (λ _. IsRelativeText (name_symbols all) (closed buffer.new)) (λ why. NoRelative (name_symbols all) why) }
 {
     if is_plain(text.as_bytes()) {
@@ -143,7 +143,7 @@ where
     Octs::Builder: EmptyBuilder + Drop,
     ensures wire { IfOk result (λ octets. IsAbsoluteWire (Octs.octets octets)) }
     ensures text { (ps : List NameSymbol) → MatchResult read (λ _. IsNameText ps (closed buffer.old ++ Root)) (NotANameText ps) →
-        MatchResult result (λ octets. IsNameText ps (labels_in (Octs.octets octets))) (NoName Octs.Builder.ROOM ps) }
+        MatchResult result (λ octets. IsNameText ps (labels_in (Octs.octets octets))) (NoNameMade Octs.Builder.ROOM ps) }
 {
     read?;
     let mut target = Octs::Builder::with_capacity(alloc, buffer.len() + 1)?;
@@ -167,7 +167,7 @@ where
     Octs::Builder: EmptyBuilder + Drop,
     ensures wire { IfOk result (λ octets. IsRelativeWire (Octs.octets octets)) }
     ensures text { (ps : List NameSymbol) → MatchResult read (λ _. IsRelativeText ps (closed buffer.old)) (NoRelative ps) →
-        MatchResult result (λ octets. IsRelativeText ps (labels_in (Octs.octets octets))) (NoRelativeName Octs.Builder.ROOM ps) }
+        MatchResult result (λ octets. IsRelativeText ps (labels_in (Octs.octets octets))) (NoRelativeMade Octs.Builder.ROOM ps) }
 {
     match read {
         Ok(()) => {}
@@ -199,7 +199,7 @@ where
     requires ends { IsFinite (I.remaining items) }
     ensures wire { IfOk result (λ octets. IsAbsoluteWire (Octs.octets octets)) }
     ensures text { (all : List (Result Symbol SymbolCharsError)) → AlwaysYields I.next_gives (λ x. x) items all →
-        MatchResult result (λ octets. IsNameText (name_symbols all) (labels_in (Octs.octets octets))) (NoName Octs.Builder.ROOM (name_symbols all)) }
+        MatchResult result (λ octets. IsNameText (name_symbols all) (labels_in (Octs.octets octets))) (NoNameMade Octs.Builder.ROOM (name_symbols all)) }
 {
     let mut buffer = NameBuffer::new();
     let read = read_name_text(&mut buffer, items);
@@ -220,7 +220,7 @@ where
     ensures ok { (cs : List ℕ) → AlwaysYields I.next_gives (λ c. c) chars cs → IfOk result (λ octets. SpellsName cs (labels_in (Octs.octets octets))) }
     ensures err { (cs : List ℕ) → AlwaysYields I.next_gives (λ c. c) chars cs → IfErr result (NoNameRead Octs.Builder.ROOM cs) }
     ensures accepts { (cs : List ℕ) (ls : List (List ℕ)) → AlwaysYields I.next_gives (λ c. c) chars cs → SpellsName cs ls →
-        MatchResult result (λ octets. labels_in (Octs.octets octets) ≡ ls) (Lacks Octs.Builder.ROOM ls) }
+        MatchResult result (λ octets. labels_in (Octs.octets octets) ≡ ls) (LacksCapacity Octs.Builder.ROOM ls) }
     ensures exact { (cs : List ℕ) (f : TextFault) → AlwaysYields I.next_gives (λ c. c) chars cs → SpellsNoName cs f →
         MatchResult result (λ _. ⊥) (Tells f) }
 {
@@ -241,7 +241,7 @@ where
     ensures ok { (cs : List ℕ) → AlwaysYields I.next_gives (λ c. c) chars cs → IfOk result (λ octets. SpellsRelative cs (labels_in (Octs.octets octets))) }
     ensures err { (cs : List ℕ) → AlwaysYields I.next_gives (λ c. c) chars cs → IfErr result (NoRelativeRead Octs.Builder.ROOM cs) }
     ensures accepts { (cs : List ℕ) (ls : List (List ℕ)) → AlwaysYields I.next_gives (λ c. c) chars cs → SpellsRelative cs ls →
-        MatchResult result (λ octets. labels_in (Octs.octets octets) ≡ ls) (RelativeLacks Octs.Builder.ROOM ls) }
+        MatchResult result (λ octets. labels_in (Octs.octets octets) ≡ ls) (RelativeLacksCapacity Octs.Builder.ROOM ls) }
     ensures exact { (cs : List ℕ) (why : Option TextFault) → AlwaysYields I.next_gives (λ c. c) chars cs → SpellsNoRelative cs why →
         MatchResult result (λ _. ⊥) (RelativeTells why) }
 {
@@ -262,7 +262,7 @@ where
     requires ends { IsFinite (I.remaining symbols) }
     ensures wire { IfOk result (λ octets. IsAbsoluteWire (Octs.octets octets)) }
     ensures text { (ss : List Symbol) → AlwaysYields I.next_gives (λ x. x) symbols ss →
-        MatchResult result (λ octets. IsNameText (symbols_in_name ss) (labels_in (Octs.octets octets))) (NoName Octs.Builder.ROOM (symbols_in_name ss)) }
+        MatchResult result (λ octets. IsNameText (symbols_in_name ss) (labels_in (Octs.octets octets))) (NoNameMade Octs.Builder.ROOM (symbols_in_name ss)) }
 {
     absolute_from_items(alloc, WholeSymbols::new(symbols))
 }
@@ -279,7 +279,7 @@ where
     ensures ok { IfOk result (λ octets. SpellsName (chars text.now) (labels_in (Octs.octets octets))) }
     ensures err { IfErr result (NoNameRead Octs.Builder.ROOM (chars text.now)) }
     ensures accepts { (ls : List (List ℕ)) → SpellsName (chars text.now) ls →
-        MatchResult result (λ octets. labels_in (Octs.octets octets) ≡ ls) (Lacks Octs.Builder.ROOM ls) }
+        MatchResult result (λ octets. labels_in (Octs.octets octets) ≡ ls) (LacksCapacity Octs.Builder.ROOM ls) }
     ensures exact { (f : TextFault) → SpellsNoName (chars text.now) f → MatchResult result (λ _. ⊥) (Tells f) }
 {
     let mut buffer = NameBuffer::new();
@@ -299,7 +299,7 @@ where
     ensures ok { IfOk result (λ octets. SpellsRelative (chars text.now) (labels_in (Octs.octets octets))) }
     ensures err { IfErr result (NoRelativeRead Octs.Builder.ROOM (chars text.now)) }
     ensures accepts { (ls : List (List ℕ)) → SpellsRelative (chars text.now) ls →
-        MatchResult result (λ octets. labels_in (Octs.octets octets) ≡ ls) (RelativeLacks Octs.Builder.ROOM ls) }
+        MatchResult result (λ octets. labels_in (Octs.octets octets) ≡ ls) (RelativeLacksCapacity Octs.Builder.ROOM ls) }
     ensures exact { (why : Option TextFault) → SpellsNoRelative (chars text.now) why → MatchResult result (λ _. ⊥) (RelativeTells why) }
 {
     let mut buffer = NameBuffer::new();
@@ -319,7 +319,7 @@ fn absolute_array<const N: usize>(
     requires empty { octets.old.items ≡ [] }
     ensures wire { OnOk result (IsAbsoluteWire octets.new.items) }
     ensures text { (ps : List NameSymbol) → MatchResult read (λ _. IsNameText ps (closed buffer.old ++ Root)) (NotANameText ps) →
-        MatchResult result (λ _. IsNameText ps (labels_in octets.new.items)) (NoName (Some N) ps) }
+        MatchResult result (λ _. IsNameText ps (labels_in octets.new.items)) (NoNameMade (Some N) ps) }
 {
     read?;
     Ok(buffer.append_name(octets)?)
@@ -335,7 +335,7 @@ fn relative_array<const N: usize>(
     requires empty { octets.old.items ≡ [] }
     ensures wire { OnOk result (IsRelativeWire octets.new.items) }
     ensures text { (ps : List NameSymbol) → MatchResult read (λ _. IsRelativeText ps (closed buffer.old)) (NoRelative ps) →
-        MatchResult result (λ _. IsRelativeText ps (labels_in octets.new.items)) (NoRelativeName (Some N) ps) }
+        MatchResult result (λ _. IsRelativeText ps (labels_in octets.new.items)) (NoRelativeMade (Some N) ps) }
 {
     match read {
         Ok(()) => {}
@@ -361,7 +361,7 @@ pub fn absolute_into_array<const N: usize>(
     ensures ok { OnOk result (SpellsName (chars text.now) (labels_in octets.new.items)) }
     ensures err { IfErr result (NoNameRead (Some N) (chars text.now)) }
     ensures accepts { (ls : List (List ℕ)) → SpellsName (chars text.now) ls →
-        MatchResult result (λ _. labels_in octets.new.items ≡ ls) (Lacks (Some N) ls) }
+        MatchResult result (λ _. labels_in octets.new.items ≡ ls) (LacksCapacity (Some N) ls) }
     ensures exact { (f : TextFault) → SpellsNoName (chars text.now) f → MatchResult result (λ _. ⊥) (Tells f) }
 {
     let mut buffer = NameBuffer::new();
@@ -380,7 +380,7 @@ pub fn relative_into_array<const N: usize>(
     ensures ok { OnOk result (SpellsRelative (chars text.now) (labels_in octets.new.items)) }
     ensures err { IfErr result (NoRelativeRead (Some N) (chars text.now)) }
     ensures accepts { (ls : List (List ℕ)) → SpellsRelative (chars text.now) ls →
-        MatchResult result (λ _. labels_in octets.new.items ≡ ls) (RelativeLacks (Some N) ls) }
+        MatchResult result (λ _. labels_in octets.new.items ≡ ls) (RelativeLacksCapacity (Some N) ls) }
     ensures exact { (why : Option TextFault) → SpellsNoRelative (chars text.now) why → MatchResult result (λ _. ⊥) (RelativeTells why) }
 {
     let mut buffer = NameBuffer::new();

@@ -1,10 +1,10 @@
 use Rattle.std.proofs.Common.{List, map, Ok, MatchResult, subst}
 use Rattle.domain_label.specs.Wire.{labels_in}
 use Rattle.domain_text_grammar.specs.TextGrammar.{IsNameText}
-use Rattle.domain_text_grammar.specs.TextErrors.{NoName}
+use Rattle.domain_text_grammar.specs.TextErrors.{NoNameMade}
 use Rattle.domain_text_grammar.specs.declared.name_symbol.NameSymbol.{NameSymbol}
 use Rattle.domain_text_grammar.proofs.Reading.{whole_parts_of}
 use Rattle.domain_text_reading.proofs.text.absolute_from_symbols.Goals as goal
 
 pub returns-clause-text : goal.returns-clause-text
-returns-clause-text g c = λ ss h. subst (λ (z : List NameSymbol). MatchResult c.absolute_from_items.result (λ o. IsNameText z (labels_in (g.Octs.Octets.octets o))) (λ e. NoName g.Octs.Builder.EmptyBuilder.ROOM z e)) (whole_parts_of ss) (c.absolute_from_items.ensures.text (map Ok ss) (c.new.ensures.items ss h))
+returns-clause-text g c = λ ss h. subst (λ (z : List NameSymbol). MatchResult c.absolute_from_items.result (λ o. IsNameText z (labels_in (g.Octs.Octets.octets o))) (λ e. NoNameMade g.Octs.Builder.EmptyBuilder.ROOM z e)) (whole_parts_of ss) (c.absolute_from_items.ensures.text (map Ok ss) (c.new.ensures.items ss h))
