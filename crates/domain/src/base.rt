@@ -44,6 +44,7 @@ pub mod name {
     pub use domain_label::slice_labels::SliceLabelsIter;
     pub use domain_label::split::{LabelTypeError, SplitLabelError};
     pub use domain_list::chain::{Chain, ChainIter, LongChainError};
+    pub use domain_list::composing::put_labels;
     pub use domain_list::dotted::DisplayWithDot;
     pub use domain_list::labels::{
         Absolute, AbsoluteLabels, LabelIterator, NameLabels, Relative, RelativeLabels, ToLabelIter,

@@ -10,5 +10,4 @@ pub mod EqualSuffixLabels
 pub mod SuffixBySize
 pub mod Octetwise
 pub mod BufferContents
-pub mod Flatwise
 pub mod TextThroughBuffer

@@ -1,5 +1,5 @@
 //! Writing names in wire format, without compression (RFC 1035, 3.1).
-ghost use Rattle.std.specs.Prelude.{◌≡◌, ◌≤◌, ◌<◌, ◌+◌, ◌++◌, length, take, IfSome, OnOk, OnErr};
+ghost use Rattle.std.specs.Prelude.{◌≡◌, ◌≤◌, ◌<◌, ◌+◌, ◌++◌, ◌↔◌, length, take, IfSome, IsNone, MatchBool, OnOk, OnErr};
 ghost use Rattle.domain_label.specs.Lowercase.{lowercase, lowercase_labels};
 ghost use Rattle.domain_label.specs.Labels.{label_octets};
 ghost use Rattle.domain_label.specs.Wire.{wire, wire_label};
@@ -36,20 +36,41 @@ pub fn compose_labels<'a, I: LabelIterator<'a>, Target: OctetsBuilder>(
     Ok(())
 }
 
-/// Puts the wire format of the labels that are left at the beginning of a buffer, and returns how many
-/// octets it has.
+/// Puts the wire format of the labels that are left, which has `size` octets, after the first `len` octets of a
+/// buffer, and returns how many octets there are then. `None` exactly where it doesn't fit. The first `len` octets
+/// stay as they are.
+///
+/// It is a body for `put_wire` of any type of names: `put_labels(self.iter_labels(), self.compose_len(), octets, len)`.
 #[inline(always)]
-fn put_labels<'a, I: LabelIterator<'a>>(labels: I, octets: &mut [u8; 255]) -> usize
-    requires { length (wire (I.left labels)) ≤ 255 }
-    ensures size { result ≡ length (wire (I.left labels)) }
-    ensures wire { take result octets.new ≡ wire (I.left labels) }
+pub fn put_labels<'a, I: LabelIterator<'a>>(
+    labels: I,
+    size: u16,
+    octets: &mut [u8; 255],
+    len: usize,
+) -> Option<usize>
+    requires { size ≡ length (wire (I.left labels)) }
+    ensures size { IfSome result (λ end. end ≡ len + length (wire (I.left labels))) }
+    ensures wire { IfSome result (λ end. take end octets.new ≡ take len octets.old ++ wire (I.left labels)) }
+    ensures full { IsNone result ↔ (255 < len + length (wire (I.left labels))) }
+    ensures kept { take len octets.new ≡ take len octets.old }
 {
-    let mut labels = labels;
-    let mut len = 0;
-    while let Some(label) = labels.next() {
-        len = put_label(label, octets, len);
+    if !has_room(len, usize::from(size)) {
+        return None;
     }
-    len
+    let mut labels = labels;
+    let mut end = len;
+    while let Some(label) = labels.next() {
+        end = put_label(label, octets, end);
+    }
+    Some(end)
+}
+
+/// Whether so many octets fit after the first `len` of 255.
+#[inline(always)]
+pub fn has_room(len: usize, size: usize) -> bool
+    ensures { MatchBool result (len + size ≤ 255) (255 < len + size) }
+{
+    len <= 255 && size <= 255 - len
 }
 
 /// Puts the wire format of a label after so many octets of a buffer, and returns how many there are then.
@@ -65,6 +86,23 @@ fn put_label(label: Label, octets: &mut [u8; 255], len: usize) -> usize
     end
 }
 
+/// Puts octets after the first `len` octets of a buffer, and returns how many there are then. `None` exactly where
+/// they don't fit. The first `len` octets stay as they are.
+#[inline(always)]
+pub fn put_slice(flat: &[u8], octets: &mut [u8; 255], len: usize) -> Option<usize>
+    ensures size { IfSome result (λ end. end ≡ len + length flat.now) }
+    ensures wire { IfSome result (λ end. take end octets.new ≡ take len octets.old ++ flat.now) }
+    ensures full { IsNone result ↔ (255 < len + length flat.now) }
+    ensures kept { take len octets.new ≡ take len octets.old }
+{
+    if !has_room(len, flat.len()) {
+        return None;
+    }
+    let end = len + flat.len();
+    octets[len..end].copy_from_slice(flat);
+    Some(end)
+}
+
 /// Puts the wire format of a name of any kind at the beginning of a buffer, which has room for each name,
 /// and returns how many octets it has.
 #[inline(always)]
@@ -73,11 +111,10 @@ pub fn put_name<'a, N: ToLabelIter<'a>>(name: &'a N, octets: &mut [u8; 255]) -> 
     ensures wire { take result octets.new ≡ wire (N.labels name.now) }
     ensures fits { result ≤ 255 }
 {
-    if let Some(flat) = name.as_flat_slice() {
-        octets[..flat.len()].copy_from_slice(flat);
-        return flat.len();
-    }
-    put_labels(name.iter_labels(), octets)
+    let Some(len) = name.put_wire(octets, 0) else {
+        unreachable!();
+    };
+    len
 }
 
 /// Puts octets at the beginning of a buffer, A to Z as a to z, and returns how many there are.
@@ -103,7 +140,7 @@ fn put_lowercase_name<'a, N: ToLabelIter<'a>>(name: &'a N, octets: &mut [u8; 255
     if let Some(flat) = name.as_flat_slice() {
         return put_lowercase(flat, octets);
     }
-    let len = put_labels(name.iter_labels(), octets);
+    let len = put_name(name, octets);
     octets.make_ascii_lowercase();
     len
 }

@@ -1,4 +1,5 @@
 pub mod Parents
+pub mod Putting
 pub mod Parsing
 pub mod FlatNames
 pub mod NoNamePastEnd

@@ -1,16 +1,20 @@
 //! A name in a message.
-ghost use Rattle.std.specs.Prelude.{◌≡◌, ◌≤◌, ◌<◌, ◌+◌, ◌∷◌, ◌++◌, ◌↔◌, ℕ, List, [], length, slice_range, IfOk, IfErr, IfSome, IsSome, IsNone, OnOk, OnErr, IsOk, IsTrue, MatchBool, MatchResult, true, false, ⊤};
+ghost use Rattle.std.specs.Prelude.{◌≡◌, ◌≤◌, ◌<◌, ◌+◌, ◌∷◌, ◌++◌, ◌↔◌, ℕ, List, [], length, take, slice_range, IfOk, IfErr, IfSome, IsSome, IsNone, OnOk, OnErr, IsOk, IsTrue, MatchBool, MatchResult, true, false, ⊤};
 ghost use Rattle.domain_label.specs.Wire.{wire, Root, IsAbsoluteName};
 ghost use Rattle.domain_label.proofs.WireLaws.{IsAbsoluteName_prop};
 ghost use Rattle.domain_reading.specs.Grammar.{Names, IsContiguous};
 ghost use Rattle.domain_label.specs.Labels.{label_octets};
+ghost use Rattle.domain_reading.specs.Labels.{read_from, IsWholeFrom};
+ghost use Rattle.domain_reading.proofs.LabelsAt.{IsWholeFrom_prop};
 ghost use Rattle.domain_reading.specs.Offsets.{AreLabelOffsets, labels_at_entries};
 
 use crate::flat::read_flat;
 use crate::iter::ParsedNameIter;
+use crate::put::put_read;
 use crate::suffixes::ParsedSuffixIter;
 use arrayvec::ArrayVec;
 use domain_label::Label;
+use domain_list::composing::{has_room, put_labels, put_slice};
 use domain_name::{Name, RelativeName};
 use domain_reading::alone::{encoding_end, label_at_offset, read_name};
 use domain_reading::fault::NameFault;
@@ -61,6 +65,8 @@ pub struct ParsedName<Octs: Octets> {
     // `name_len` is its size, and it had at most 255 octets; with the flag false it stands in a row.
     ghost sized: { name_len ≡ length (wire (labels_at_entries (Octs.octets octets) base (slice_range places dropped count))) },
     ghost short: { passed + name_len ≤ 255 },
+    ghost reads: { dropped ≡ 0 → read_from 383 (Octs.octets octets) base ≡ labels_at_entries (Octs.octets octets) base (slice_range places dropped count) },
+    ghost whole: { IsWholeFrom 383 (Octs.octets octets) base } by { IsWholeFrom_prop 383 (Octs.octets octets) base },
     ghost flat: { compressed ≡ false → slice_range (Octs.octets octets) (base + passed) (base + passed + name_len) ≡ wire (labels_at_entries (Octs.octets octets) base (slice_range places dropped count)) },
 }
 
@@ -448,6 +454,29 @@ impl<Octs: Octets> ParsedName<Octs> {
         ensures { result ≡ length (wire (parsed_labels self.now)) }
     {
         self.name_len
+    }
+
+    /// Puts the wire format after the first `len` octets of a buffer, and returns how many octets there are then.
+    /// `None` exactly where it doesn't fit. The first `len` octets stay as they are.
+    ///
+    /// The octets are those of the message, so the table is only looked at where labels were removed.
+    #[inline(always)]
+    pub(crate) fn put_octets(&self, octets: &mut [u8; 255], len: usize) -> Option<usize>
+        ensures size { IfSome result (λ end. end ≡ len + length (wire (parsed_labels self.now))) }
+        ensures wire { IfSome result (λ end. take end octets.new ≡ take len octets.old ++ wire (parsed_labels self.now)) }
+        ensures full { IsNone result ↔ (255 < len + length (wire (parsed_labels self.now))) }
+        ensures kept { take len octets.new ≡ take len octets.old }
+    {
+        if let Some(flat) = self.flat_octets() {
+            return put_slice(flat, octets, len);
+        }
+        if self.dropped != 0 {
+            return put_labels(self.iter(), self.name_len, octets, len);
+        }
+        if !has_room(len, usize::from(self.name_len)) {
+            return None;
+        }
+        Some(put_read(self.octets.as_slice(), self.base, octets, len))
     }
 
     /// The octets of a name that is uncompressed from its first label on.

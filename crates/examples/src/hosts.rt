@@ -69,6 +69,10 @@ impl<'a> ToLabelIter<'a> for Host {
     fn as_flat_slice(&'a self) -> Option<&'a [u8]> {
         None
     }
+
+    fn put_wire(&'a self, octets: &mut [u8; 255], len: usize) -> Option<usize> {
+        put_labels(self.iter_labels(), self.compose_len(), octets, len)
+    }
 }
 
 impl<'a> AbsoluteLabels<'a> for Host {}

@@ -45,6 +45,10 @@ impl<'a, N: ToLabelIter<'a>> ToLabelIter<'a> for Dated<N> {
     fn as_flat_slice(&'a self) -> Option<&'a [u8]> {
         self.name.as_flat_slice()
     }
+
+    fn put_wire(&'a self, octets: &mut [u8; 255], len: usize) -> Option<usize> {
+        self.name.put_wire(octets, len)
+    }
 }
 
 impl<'a, N: AbsoluteLabels<'a>> AbsoluteLabels<'a> for Dated<N> {}

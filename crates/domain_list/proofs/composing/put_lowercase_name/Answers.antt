@@ -14,4 +14,4 @@ returns-in-Some-clause-wire g c =
 pub returns-clause-wire : goal.returns-clause-wire
 returns-clause-wire g c =
     let ls = g.N.NameLabels.labels c.args.name.now in
-    lowered_front c.put_labels-len.new.octets _ _ ls c.make_ascii_lowercase.ensures.after (c.put_labels-len.ensures.wire ∙ ap wire c.iter_labels.ensures) (name_labels_short ls (g.met.N.NameLabels.lawful c.args.name.now))
+    lowered_front c.put_name-len.new.octets _ _ ls c.make_ascii_lowercase.ensures.after c.put_name-len.ensures.wire (name_labels_short ls (g.met.N.NameLabels.lawful c.args.name.now))

@@ -31,14 +31,14 @@ pub of-requires : goal.of-requires
 of-requires g c =
     let here = ap (λ w. w.at) c.new-found.ensures ∙ c.pos.ensures.place in
     let r = read_here c.args.parser.now (search rules) here c.in_ok-read_name_counted.ensures.name in
-    (held c.args.parser.now c.octets_ref.result.now (c.octets_ref.ensures ∙ ap (λ o. o.now) c.in-Ok.ensures.ok.octets) r).holds
+    (held c.args.parser.now c.octets_ref.result.now (c.octets_ref.ensures ∙ ap (λ o. o.now) c.in-Ok.ensures.ok.octets) (search rules) r).holds
 
 pub returns-clause-labels : goal.returns-clause-labels
 returns-clause-labels g c =
     let parser = c.args.parser.now in
     let here = ap (λ w. w.at) c.new-found.ensures ∙ c.pos.ensures.place in
     let r = read_here parser (search rules) here c.in_ok-read_name_counted.ensures.name in
-    let h = held parser c.octets_ref.result.now (c.octets_ref.ensures ∙ ap (λ o. o.now) c.in-Ok.ensures.ok.octets) r in
+    let h = held parser c.octets_ref.result.now (c.octets_ref.ensures ∙ ap (λ o. o.now) c.in-Ok.ensures.ok.octets) (search rules) r in
     subst (λ ls. Names c.args.limit (message parser) (position parser) ls) (sym (c.of.ensures.labels ∙ h.same)) r.name
 
 pub returns-clause-is_compressed : goal.returns-clause-is_compressed
@@ -51,7 +51,7 @@ returns-clause-uncompressed g c = λ ls x.
     let parser = c.args.parser.now in
     let here = ap (λ w. w.at) c.new-found.ensures ∙ c.pos.ensures.place in
     let r = read_here parser (search rules) here c.in_ok-read_name_counted.ensures.name in
-    let h = held parser c.octets_ref.result.now (c.octets_ref.ensures ∙ ap (λ o. o.now) c.in-Ok.ensures.ok.octets) r in
+    let h = held parser c.octets_ref.result.now (c.octets_ref.ensures ∙ ap (λ o. o.now) c.in-Ok.ensures.ok.octets) (search rules) r in
     let p = plainly_read x r in
     (c.of.ensures.labels ∙ (h.same ∙ p.0), c.of.ensures.is_compressed ∙ p.1, c.in-Ok.ensures.ok.place ∙ c.end_offset.ensures ∙ p.2)
 
@@ -60,5 +60,5 @@ returns-clause-counted g c =
     let parser = c.args.parser.now in
     let here = ap (λ w. w.at) c.new-found.ensures ∙ c.pos.ensures.place in
     let r = read_here parser (search rules) here c.in_ok-read_name_counted.ensures.name in
-    let h = held parser c.octets_ref.result.now (c.octets_ref.ensures ∙ ap (λ o. o.now) c.in-Ok.ensures.ok.octets) r in
+    let h = held parser c.octets_ref.result.now (c.octets_ref.ensures ∙ ap (λ o. o.now) c.in-Ok.ensures.ok.octets) (search rules) r in
     name_counted r (sym (c.of.ensures.labels ∙ h.same))

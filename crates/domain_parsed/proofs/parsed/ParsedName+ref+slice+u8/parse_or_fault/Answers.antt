@@ -8,14 +8,14 @@ pub of-requires : goal.of-requires
 of-requires c =
     let here = ap (λ w. w.at) c.new-found.ensures ∙ c.pos.ensures.place in
     let r = read_here c.args.parser.now (search rules) here c.in_ok-read_name.ensures.name.1 in
-    (held c.args.parser.now c.octets_ref.result.now (c.octets_ref.ensures ∙ ap (λ o. o.now) c.in-Ok.ensures.ok.octets) r).holds
+    (held c.args.parser.now c.octets_ref.result.now (c.octets_ref.ensures ∙ ap (λ o. o.now) c.in-Ok.ensures.ok.octets) (search rules) r).holds
 
 pub returns-clause-ok : goal.returns-clause-ok
 returns-clause-ok c =
     let parser = c.args.parser.now in
     let here = ap (λ w. w.at) c.new-found.ensures ∙ c.pos.ensures.place in
     let r = read_here parser (search rules) here c.in_ok-read_name.ensures.name.1 in
-    let h = held parser c.octets_ref.result.now (c.octets_ref.ensures ∙ ap (λ o. o.now) c.in-Ok.ensures.ok.octets) r in
+    let h = held parser c.octets_ref.result.now (c.octets_ref.ensures ∙ ap (λ o. o.now) c.in-Ok.ensures.ok.octets) (search rules) r in
     record {
       labels = subst (λ ls. Names c.args.limit (message parser) (position parser) ls) (sym (c.of.ensures.labels ∙ h.same)) r.name;
       octets = search rules;

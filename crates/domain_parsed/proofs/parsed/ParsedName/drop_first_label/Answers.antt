@@ -40,23 +40,59 @@ overflow_add-result g c =
     let label : label_octets c.label_at_offset.result ≡ d.label = c.label_at_offset.ensures ∙ (ap (λ m. label_at m c.entry_offset-start.result) c.as_slice-octets.ensures ∙ (ap (λ p. label_at o p) here ∙ sym d.is_label)) in
     omega (arith, c.len.ensures, ap (λ l. length l) label, d.here, d.head, here, ap (λ xs. length xs) c.as_slice-octets.ensures, c.from-2.ensures)
 
-pub invariant_of-self : goal.invariant_of-self
-invariant_of-self g c =
+pub invariant_of-self-clause-some : goal.invariant_of-self-clause-some
+invariant_of-self-clause-some g c =
+    let s = c.args.self.now in
+    let o = g.Octs.Octets.octets s.octets in
+    let d = drop_first o s.base s.places s.dropped s.count s.passed s.name_len s.compressed s.some (omega arith) s.stand s.absolute s.sized s.flat (not_so c.is_root.ensures c.if-is_root.false) in
+    d.some
+
+pub invariant_of-self-clause-stand : goal.invariant_of-self-clause-stand
+invariant_of-self-clause-stand g c =
+    let s = c.args.self.now in
+    let o = g.Octs.Octets.octets s.octets in
+    let d = drop_first o s.base s.places s.dropped s.count s.passed s.name_len s.compressed s.some (omega arith) s.stand s.absolute s.sized s.flat (not_so c.is_root.ensures c.if-is_root.false) in
+    d.stand
+
+pub invariant_of-self-clause-absolute : goal.invariant_of-self-clause-absolute
+invariant_of-self-clause-absolute g c =
+    let s = c.args.self.now in
+    let o = g.Octs.Octets.octets s.octets in
+    let d = drop_first o s.base s.places s.dropped s.count s.passed s.name_len s.compressed s.some (omega arith) s.stand s.absolute s.sized s.flat (not_so c.is_root.ensures c.if-is_root.false) in
+    d.rest.absolute
+
+pub invariant_of-self-clause-sized : goal.invariant_of-self-clause-sized
+invariant_of-self-clause-sized g c =
     let s = c.args.self.now in
     let o = g.Octs.Octets.octets s.octets in
     let d = drop_first o s.base s.places s.dropped s.count s.passed s.name_len s.compressed s.some (omega arith) s.stand s.absolute s.sized s.flat (not_so c.is_root.ensures c.if-is_root.false) in
     let here : c.entry_offset-start.result ≡ d.place = c.entry_offset-start.ensures ∙ (ap (λ i. entry_offset s.base (slice_index s.places i)) c.from.ensures ∙ sym d.is_place) in
     let label : label_octets c.label_at_offset.result ≡ d.label = c.label_at_offset.ensures ∙ (ap (λ m. label_at m c.entry_offset-start.result) c.as_slice-octets.ensures ∙ (ap (λ p. label_at o p) here ∙ sym d.is_label)) in
     let len : c.len.result ≡ length d.label = c.len.ensures ∙ ap (λ l. length l) label in
-    rw len record {
-      some = d.some;
-      few = s.few;
-      stand = d.stand;
-      absolute = d.rest.absolute;
-      sized = d.rest.sized;
-      short = omega (arith, s.short, d.rest.fits);
-      flat = d.flat;
-    }
+    rw len d.rest.sized
+
+pub invariant_of-self-clause-short : goal.invariant_of-self-clause-short
+invariant_of-self-clause-short g c =
+    let s = c.args.self.now in
+    let o = g.Octs.Octets.octets s.octets in
+    let d = drop_first o s.base s.places s.dropped s.count s.passed s.name_len s.compressed s.some (omega arith) s.stand s.absolute s.sized s.flat (not_so c.is_root.ensures c.if-is_root.false) in
+    let here : c.entry_offset-start.result ≡ d.place = c.entry_offset-start.ensures ∙ (ap (λ i. entry_offset s.base (slice_index s.places i)) c.from.ensures ∙ sym d.is_place) in
+    let label : label_octets c.label_at_offset.result ≡ d.label = c.label_at_offset.ensures ∙ (ap (λ m. label_at m c.entry_offset-start.result) c.as_slice-octets.ensures ∙ (ap (λ p. label_at o p) here ∙ sym d.is_label)) in
+    let len : c.len.result ≡ length d.label = c.len.ensures ∙ ap (λ l. length l) label in
+    rw len (omega (arith, s.short, d.rest.fits))
+
+pub invariant_of-self-clause-flat : goal.invariant_of-self-clause-flat
+invariant_of-self-clause-flat g c =
+    let s = c.args.self.now in
+    let o = g.Octs.Octets.octets s.octets in
+    let d = drop_first o s.base s.places s.dropped s.count s.passed s.name_len s.compressed s.some (omega arith) s.stand s.absolute s.sized s.flat (not_so c.is_root.ensures c.if-is_root.false) in
+    let here : c.entry_offset-start.result ≡ d.place = c.entry_offset-start.ensures ∙ (ap (λ i. entry_offset s.base (slice_index s.places i)) c.from.ensures ∙ sym d.is_place) in
+    let label : label_octets c.label_at_offset.result ≡ d.label = c.label_at_offset.ensures ∙ (ap (λ m. label_at m c.entry_offset-start.result) c.as_slice-octets.ensures ∙ (ap (λ p. label_at o p) here ∙ sym d.is_label)) in
+    let len : c.len.result ≡ length d.label = c.len.ensures ∙ ap (λ l. length l) label in
+    rw len d.flat
+
+pub invariant_of-self-clause-reads : goal.invariant_of-self-clause-reads
+invariant_of-self-clause-reads g c = λ none. absurd (omega (arith, none))
 
 pub returns-clause-some : goal.returns-clause-some
 returns-clause-some g c =
