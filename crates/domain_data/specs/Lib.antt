@@ -1,8 +1,6 @@
-pub mod Data
-pub mod FieldLaws
-pub mod Names
-pub mod Reading
-pub mod Sequences
+pub use Rattle.domain_fields.specs.Data
+pub use Rattle.domain_fields.specs.Names
+pub use Rattle.domain_fields.specs.Reading
+pub use Rattle.domain_fields.specs.Sequences
 pub mod Shapes
-pub mod Texts
 pub mod Views

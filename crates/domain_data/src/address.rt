@@ -10,12 +10,13 @@ pub type A = FieldsData<1, Ipv4Addr>;
 /// An IPv6 address (RFC 3596, 2.2).
 pub type Aaaa = FieldsData<28, Ipv6Addr>;
 
-impl FieldsData<1, Ipv4Addr> {
-    ghost use Rattle.domain_data.specs.Views.{fields_of};
+impl A {
+    ghost use Rattle.domain_data.specs.Views.{fields_of, type_of};
 
     /// Data that is this address.
     pub fn new(addr: Ipv4Addr) -> A
-        ensures { fields_of result ≡ addr }
+        ensures addr { fields_of result ≡ addr }
+        ensures of_type { type_of result ≡ 1 }
     {
         FieldsData { fields: addr }
     }
@@ -28,12 +29,13 @@ impl FieldsData<1, Ipv4Addr> {
     }
 }
 
-impl FieldsData<28, Ipv6Addr> {
-    ghost use Rattle.domain_data.specs.Views.{fields_of};
+impl Aaaa {
+    ghost use Rattle.domain_data.specs.Views.{fields_of, type_of};
 
     /// Data that is this address.
     pub fn new(addr: Ipv6Addr) -> Aaaa
-        ensures { fields_of result ≡ addr }
+        ensures addr { fields_of result ≡ addr }
+        ensures of_type { type_of result ≡ 28 }
     {
         FieldsData { fields: addr }
     }

@@ -1,15 +1,51 @@
 //! Record data that is one field after another.
+ghost use Rattle.std.specs.Prelude.{◌≡◌, ◌↔◌, nat_eq, false, IfOk, IfErr, OnOk, OnErr, IfSome, IsNone};
 ghost use Rattle.std.proofs.Common.{subst, sym};
-ghost use Rattle.domain_data.specs.Data.{is_known};
+ghost use Rattle.octseq.specs.Parsing.{message, position, MovesTo};
+ghost use Rattle.domain_rdata.specs.Rtypes.{rtype_number};
+ghost use Rattle.domain_fields.specs.Data.{AllAt, NotAll, is_known};
 
-use crate::field::DataField;
+use domain_fields::{DataField, FieldError, ReadField, read_all};
 use domain_rdata::{ComposeRecordData, Composer, RecordData, Rtype};
+use octseq::Parser;
 
 /// Data of the type with this number that has these fields: a name, a number, an address, or a
 /// [`Sequence`](crate::Sequence) of such.
 #[derive(Clone, Copy, Debug, Drop, PartialEq, Eq)]
 pub struct FieldsData<const TYPE: u16, F> {
     pub fields: F,
+}
+
+impl<const TYPE: u16, F> FieldsData<TYPE, F> {
+    ghost use Rattle.domain_data.specs.Views.{fields_of};
+
+    /// Reads the fields, which have to be all that is left: `parse_rdata` of each type, and of one with fields of
+    /// its own.
+    ///
+    /// `None` exactly where the type of the record is another. `None` and an error leave the parser. The error is that
+    /// of the first field that isn't there, or "trailing data" where octets are left after the last.
+    pub fn read<'a, E: FieldError>(
+        rtype: Rtype,
+        parser: &mut Parser<'a>,
+    ) -> Result<Option<FieldsData<TYPE, F>>, E>
+    where
+        F: ReadField<'a, E> + Drop,
+        ensures ok { IfOk result (λ read. IfSome read (λ it. AllAt F.encodes (message parser.old) (position parser.old) (F.model (fields_of it)) (position parser.new))) }
+        ensures of_type { IfOk result (λ read. IfSome read (λ _. TYPE ≡ rtype_number rtype)) }
+        ensures none { IfOk result (λ read. IsNone read ↔ (nat_eq (rtype_number rtype) TYPE ≡ false)) }
+        ensures passed { IfOk result (λ read. IsNone read → parser.new ≡ parser.old) }
+        ensures moves { OnOk result (MovesTo parser.old parser.new (position parser.new)) }
+        ensures err { IfErr result (λ e. NotAll E.said F.encodes F.fails_with (message parser.old) (position parser.old) e) }
+        ensures unchanged { OnErr result (parser.new ≡ parser.old) }
+    {
+        if rtype.to_int() != TYPE {
+            return Ok(None);
+        }
+        match read_all(parser) {
+            Ok(fields) => Ok(Some(FieldsData { fields })),
+            Err(e) => Err(e),
+        }
+    }
 }
 
 impl<const TYPE: u16, F> RecordData for FieldsData<TYPE, F> {

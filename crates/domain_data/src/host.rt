@@ -2,8 +2,7 @@
 ghost use Rattle.std.specs.Prelude.{◌≡◌};
 
 use crate::fields::FieldsData;
-use crate::name_field::{NameField, UncompressedNameField};
-use crate::sequence::Sequence;
+use domain_fields::{NameField, Sequence, UncompressedNameField};
 
 /// The name that the owner stands for (RFC 1035, 3.3.1).
 pub type Cname<N> = FieldsData<5, NameField<N>>;
@@ -52,45 +51,49 @@ impl<const TYPE: u16, N> FieldsData<TYPE, NameField<N>> {
     }
 }
 
-impl<N> FieldsData<5, NameField<N>> {
-    ghost use Rattle.domain_data.specs.Views.{fields_of};
+impl<N> Cname<N> {
+    ghost use Rattle.domain_data.specs.Views.{fields_of, type_of};
 
     /// The name that the owner stands for.
     pub fn cname(&self) -> &N
-        ensures { result.now ≡ (fields_of self.now).name }
+        ensures name { result.now ≡ (fields_of self.now).name }
+        ensures of_type { type_of self.now ≡ 5 }
     {
         &self.fields.name
     }
 }
 
-impl<N> FieldsData<2, NameField<N>> {
-    ghost use Rattle.domain_data.specs.Views.{fields_of};
+impl<N> Ns<N> {
+    ghost use Rattle.domain_data.specs.Views.{fields_of, type_of};
 
     /// The name of the server.
     pub fn nsdname(&self) -> &N
-        ensures { result.now ≡ (fields_of self.now).name }
+        ensures name { result.now ≡ (fields_of self.now).name }
+        ensures of_type { type_of self.now ≡ 2 }
     {
         &self.fields.name
     }
 }
 
-impl<N> FieldsData<12, NameField<N>> {
-    ghost use Rattle.domain_data.specs.Views.{fields_of};
+impl<N> Ptr<N> {
+    ghost use Rattle.domain_data.specs.Views.{fields_of, type_of};
 
     /// The name that is pointed to.
     pub fn ptrdname(&self) -> &N
-        ensures { result.now ≡ (fields_of self.now).name }
+        ensures name { result.now ≡ (fields_of self.now).name }
+        ensures of_type { type_of self.now ≡ 12 }
     {
         &self.fields.name
     }
 }
 
-impl<N> FieldsData<39, UncompressedNameField<N>> {
-    ghost use Rattle.domain_data.specs.Views.{fields_of};
+impl<N> Dname<N> {
+    ghost use Rattle.domain_data.specs.Views.{fields_of, type_of};
 
     /// Data that is this name.
     pub fn new(name: N) -> Dname<N>
-        ensures { (fields_of result).name ≡ name }
+        ensures name { (fields_of result).name ≡ name }
+        ensures of_type { type_of result ≡ 39 }
     {
         FieldsData {
             fields: UncompressedNameField { name },
@@ -105,13 +108,14 @@ impl<N> FieldsData<39, UncompressedNameField<N>> {
     }
 }
 
-impl<N> FieldsData<15, Sequence<u16, NameField<N>>> {
-    ghost use Rattle.domain_data.specs.Views.{fields_of};
+impl<N> Mx<N> {
+    ghost use Rattle.domain_data.specs.Views.{fields_of, type_of};
 
     /// Data of these.
     pub fn new(preference: u16, exchange: N) -> Mx<N>
         ensures preference { (fields_of result).first ≡ preference }
         ensures exchange { (fields_of result).rest.name ≡ exchange }
+        ensures of_type { type_of result ≡ 15 }
     {
         FieldsData {
             fields: Sequence {
@@ -136,8 +140,8 @@ impl<N> FieldsData<15, Sequence<u16, NameField<N>>> {
     }
 }
 
-impl<N> FieldsData<33, Sequence<u16, Sequence<u16, Sequence<u16, UncompressedNameField<N>>>>> {
-    ghost use Rattle.domain_data.specs.Views.{fields_of};
+impl<N> Srv<N> {
+    ghost use Rattle.domain_data.specs.Views.{fields_of, type_of};
 
     /// Data of these.
     pub fn new(priority: u16, weight: u16, port: u16, target: N) -> Srv<N>
@@ -145,6 +149,7 @@ impl<N> FieldsData<33, Sequence<u16, Sequence<u16, Sequence<u16, UncompressedNam
         ensures weight { (fields_of result).rest.first ≡ weight }
         ensures port { (fields_of result).rest.rest.first ≡ port }
         ensures target { (fields_of result).rest.rest.rest.name ≡ target }
+        ensures of_type { type_of result ≡ 33 }
     {
         FieldsData {
             fields: Sequence {
@@ -189,8 +194,8 @@ impl<N> FieldsData<33, Sequence<u16, Sequence<u16, Sequence<u16, UncompressedNam
     }
 }
 
-impl<N> FieldsData<6, Sequence<NameField<N>, Sequence<NameField<N>, SoaNumbers>>> {
-    ghost use Rattle.domain_data.specs.Views.{fields_of};
+impl<N> Soa<N> {
+    ghost use Rattle.domain_data.specs.Views.{fields_of, type_of};
 
     /// Data of these.
     pub fn new(
@@ -209,6 +214,7 @@ impl<N> FieldsData<6, Sequence<NameField<N>, Sequence<NameField<N>, SoaNumbers>>
         ensures retry { (fields_of result).rest.rest.rest.rest.first ≡ retry }
         ensures expire { (fields_of result).rest.rest.rest.rest.rest.first ≡ expire }
         ensures minimum { (fields_of result).rest.rest.rest.rest.rest.rest ≡ minimum }
+        ensures of_type { type_of result ≡ 6 }
     {
         let numbers = Sequence {
             first: serial,

@@ -3,21 +3,16 @@
 
 pub mod address;
 mod display;
-pub mod field;
 pub mod fields;
 mod flatten;
 pub mod host;
-pub mod name_field;
-pub mod order;
+mod order;
 mod parse;
-pub mod read;
-pub mod sequence;
 
 pub use address::{A, Aaaa};
-pub use field::DataField;
+pub use domain_fields::{
+    DataField, DataName, FieldError, FlattenField, NameField, OrderedField, ReadField, Sequence,
+    UncompressedNameField, read_all,
+};
 pub use fields::FieldsData;
 pub use host::{Cname, Dname, Mx, Ns, Ptr, Soa, Srv};
-pub use name_field::{DataName, NameField, UncompressedNameField};
-pub use order::OrderedField;
-pub use read::{FieldError, ReadField, read_all};
-pub use sequence::Sequence;

@@ -1,77 +1,12 @@
 //! The canonical order of record data (RFC 4034, 6.3).
-ghost use Rattle.std.specs.Prelude.{◌≡◌, ◌++◌, ℕ, List};
 ghost use Rattle.std.specs.Cmp.{on_total};
 ghost use Rattle.std.specs.Cmp.Lexicographic.{slice_cmp, nat_list_cmp_total};
-ghost use Rattle.std.specs.Ordering.{nat_cmp, on, ordering_then};
+ghost use Rattle.std.specs.Ordering.{nat_cmp, on};
 
-use crate::field::DataField;
 use crate::fields::FieldsData;
-use crate::name_field::{DataName, NameField, UncompressedNameField};
-use crate::sequence::Sequence;
+use domain_fields::OrderedField;
 use domain_wire::CanonicalOrd;
-use domain_wire::net::{Ipv4Addr, Ipv6Addr};
 use std::cmp::Ordering;
-
-/// A field whose canonical form ends where its own octets tell, so that data is compared field by field.
-pub trait OrderedField: DataField {
-    /// The order of the octets of the canonical forms from the left; what begins another comes first (RFC 4034, 6.3).
-    fn canonical_field_cmp(&self, other: &Self) -> Ordering
-        ensures order { result ≡ slice_cmp nat_cmp (Self.canonical self.now) (Self.canonical other.now) }
-        // With other fields behind them, these are looked at only where the two are the same.
-        ensures followed { (s t : List ℕ) → slice_cmp nat_cmp (Self.canonical self.now ++ s) (Self.canonical other.now ++ t) ≡ ordering_then result (slice_cmp nat_cmp s t) };
-}
-
-impl OrderedField for u16 {
-    fn canonical_field_cmp(&self, other: &u16) -> Ordering {
-        self.to_be_bytes()
-            .as_slice()
-            .cmp(other.to_be_bytes().as_slice())
-    }
-}
-
-impl OrderedField for u32 {
-    fn canonical_field_cmp(&self, other: &u32) -> Ordering {
-        self.to_be_bytes()
-            .as_slice()
-            .cmp(other.to_be_bytes().as_slice())
-    }
-}
-
-impl OrderedField for Ipv4Addr {
-    fn canonical_field_cmp(&self, other: &Ipv4Addr) -> Ordering {
-        self.octets().as_slice().cmp(other.octets().as_slice())
-    }
-}
-
-impl OrderedField for Ipv6Addr {
-    fn canonical_field_cmp(&self, other: &Ipv6Addr) -> Ordering {
-        self.octets().as_slice().cmp(other.octets().as_slice())
-    }
-}
-
-/// The order of the names in lowercase, as octets.
-impl<N: DataName> OrderedField for NameField<N> {
-    fn canonical_field_cmp(&self, other: &NameField<N>) -> Ordering {
-        self.name.lowercase_cmp(&other.name)
-    }
-}
-
-/// The order of the names in lowercase, as octets.
-impl<N: DataName> OrderedField for UncompressedNameField<N> {
-    fn canonical_field_cmp(&self, other: &UncompressedNameField<N>) -> Ordering {
-        self.name.lowercase_cmp(&other.name)
-    }
-}
-
-/// The first fields, and the rest where these are the same.
-impl<A: OrderedField, B: OrderedField> OrderedField for Sequence<A, B> {
-    fn canonical_field_cmp(&self, other: &Sequence<A, B>) -> Ordering {
-        match self.first.canonical_field_cmp(&other.first) {
-            Ordering::Equal => self.rest.canonical_field_cmp(&other.rest),
-            order => order,
-        }
-    }
-}
 
 /// The order of the octets of the canonical forms from the left; a missing octet comes before any (RFC 4034, 6.3).
 impl<const TYPE: u16, F: OrderedField> CanonicalOrd for FieldsData<TYPE, F> {

@@ -5,7 +5,7 @@ ghost use Rattle.octseq.specs.Parsing.{message, position};
 ghost use Rattle.domain_wire.specs.Values.{FixedAt};
 ghost use Rattle.domain_parsed.specs.ParsedNames.{parsed_labels};
 ghost use Rattle.domain_data.specs.Data.{AllAt};
-ghost use Rattle.domain_data.specs.Names.{NameTo};
+ghost use Rattle.domain_data.specs.Names.{NameFieldAt};
 ghost use Rattle.domain_data.specs.Sequences.{BothAt};
 
 use domain::base::name::*;
@@ -22,7 +22,7 @@ pub fn read_exchanger<'a>(
     rtype: Rtype,
     parser: &mut Parser<'a>,
 ) -> Result<Option<Kx<ParsedName<&'a [u8]>>>, ParseError>
-    ensures ok { IfOk result (λ read. IfSome read (λ kx. AllAt (BothAt (FixedAt 2 (from_be_bytes w16)) NameTo) (message parser.old) (position parser.old) (kx.fields.first, parsed_labels kx.fields.rest.name) (position parser.new))) }
+    ensures ok { IfOk result (λ read. IfSome read (λ kx. AllAt (BothAt (FixedAt 2 (from_be_bytes w16)) NameFieldAt) (message parser.old) (position parser.old) (kx.fields.first, parsed_labels kx.fields.rest.name) (position parser.new))) }
     ensures unchanged { OnErr result (parser.new ≡ parser.old) }
 {
     Kx::parse_rdata(rtype, parser)

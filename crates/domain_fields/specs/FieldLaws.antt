@@ -1,0 +1,35 @@
+-- The laws of fields.
+use Rattle.std.specs.Prelude.{◌≡◌, ℕ, Bool, true, false, List, Option, None, Some, if◌then◌else◌, length, refl}
+use Rattle.std.proofs.Common.{ap, subst, ◌∙◌}
+use Rattle.domain_label.specs.Lowercase.{lowercase_labels}
+use Rattle.domain_label.specs.Wire.{wire, IsAbsoluteName}
+use Rattle.domain_label.proofs.CanonicalForm.{lowercase_size}
+use Rattle.domain_rdata.specs.FlatNames.{wire_reads_back}
+use Rattle.domain_rdata.specs.RecordData.{NameOctets}
+
+abbrev known : Option ℕ → ℕ
+known None = 0
+known (Some n) = n
+
+pub known_once : {a b : ℕ} → Some a ≡ Some b → a ≡ b
+known_once e = ap known e
+
+pub none_known : {n : ℕ} {A : Type 0} → None ≡ Some n → A
+none_known {n} {A} e = let P : Option ℕ → Type 0 = λ o. elim o as (λ _. Type 0) [ None ↦ Unit {0} | Some n ↦ A ] in subst P e tt
+
+-- the length of octets that are always the same
+pub fixed_size : (o s : List ℕ) (n : ℕ) → Some (length o) ≡ Some n → s ≡ o → length s ≡ n
+fixed_size o s n told is = ap length is ∙ known_once told
+
+-- the length of the canonical form of a name
+pub canonical_size : (ls : List (List ℕ)) (n : ℕ) → Some (length (wire ls)) ≡ Some n → length (wire (lowercase_labels ls)) ≡ n
+canonical_size ls n told = lowercase_size ls ∙ known_once told
+
+-- the length of a name, where it is known
+pub name_size : (ls : List (List ℕ)) (c : Bool) (n : ℕ) (t s : List ℕ) → (if c then None else Some (length (wire ls))) ≡ Some n → NameOctets ls c t s → length s ≡ n
+name_size ls true n t s told name = none_known told
+name_size ls false n t s told name = ap length (name.flat refl) ∙ known_once told
+
+-- the octets of a name that isn't compressed
+pub wire_octets : (ls : List (List ℕ)) (c : Bool) (t : List ℕ) → IsAbsoluteName ls → NameOctets ls c t (wire ls)
+wire_octets ls c t name = record { read = wire_reads_back t ls name; flat = λ _. refl }

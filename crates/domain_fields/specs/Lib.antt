@@ -1,0 +1,5 @@
+pub mod Data
+pub mod FieldLaws
+pub mod Names
+pub mod Reading
+pub mod Sequences

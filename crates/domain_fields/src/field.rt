@@ -1,0 +1,106 @@
+//! Fields of record data.
+ghost use Rattle.std.specs.Prelude.{◌≡◌, ℕ, ◌++◌, ◌+◌, ◌<◌, ◌≤◌, List, length, OnOk, OnErr, Bool, false, Option, Some, refl};
+ghost use Rattle.domain_rdata.specs.ReadBack.{Appended, Exceeds};
+ghost use Rattle.domain_fields.specs.FieldLaws.{fixed_size};
+
+use domain_rdata::Composer;
+use domain_wire::Compose;
+
+/// A field of record data: a name, a number or an address.
+///
+/// Numbers and addresses have the same number of octets whatever they are. A name may be written shorter,
+/// where the target writes names shorter and the type of the record allows it.
+pub trait DataField {
+    /// The octets of the field, with no name compressed.
+    ghost uncompressed: { Self → List ℕ };
+
+    /// The octets that may be appended to these octets of a target, which may write names shorter or not.
+    ghost composed: { Self → Bool → List ℕ → List ℕ → Type 0 };
+
+    /// The octets of the canonical form (RFC 4034, 6.2).
+    ghost canonical: { Self → List ℕ };
+
+    /// How many octets the field has, where that is known before it is composed.
+    ghost known_len: { Self → Bool → Option ℕ };
+
+    /// How many octets the field has: in a target that may write names shorter, if `compress`; else in one
+    /// that doesn't, and in the canonical form. `None` where a name may be written shorter, and where there are
+    /// more than 65,535.
+    fn field_len(&self, compress: bool) -> Option<u16>
+        ensures { result ≡ known_len self.now compress };
+
+    /// Appends the field, or nothing.
+    ///
+    /// Fails only where octets that may be appended exceed the spare capacity of the target,
+    /// and leaves its octets then.
+    fn compose_field<Target: Composer>(
+        &self,
+        target: &mut Target,
+    ) -> Result<(), Target::AppendError>
+        ensures ok { OnOk result (Appended (composed self.now Target.compresses (Target.octets target.old)) (Target.octets target.old) (Target.octets target.new)) }
+        ensures unchanged { OnErr result (Target.octets target.new ≡ Target.octets target.old) }
+        ensures full { OnErr result (Exceeds (composed self.now Target.compresses (Target.octets target.old)) (Target.octets target.old) (Target.capacity target.old)) }
+        ensures capacity { Target.capacity target.old ≤ Target.capacity target.new };
+
+    /// Appends the canonical form of the field, or nothing.
+    ///
+    /// Fails only where its octets exceed the spare capacity of the target, and leaves its
+    /// octets then.
+    fn compose_canonical_field<Target: Composer>(
+        &self,
+        target: &mut Target,
+    ) -> Result<(), Target::AppendError>
+        ensures ok { OnOk result (Target.octets target.new ≡ Target.octets target.old ++ canonical self.now) }
+        ensures unchanged { OnErr result (Target.octets target.new ≡ Target.octets target.old) }
+        ensures full { OnErr result (Target.capacity target.old < length (Target.octets target.old) + length (canonical self.now)) }
+        ensures capacity { Target.capacity target.old ≤ Target.capacity target.new };
+
+    /// The field may always be written with no name compressed.
+    ghost plain: { (it : Self) (compresses : Bool) (t : List ℕ) → composed it compresses t (uncompressed it) };
+
+    /// A target that writes no name shorter takes nothing else.
+    ghost flat: { (it : Self) (t s : List ℕ) → composed it false t s → s ≡ uncompressed it };
+
+    /// A length that is known is that of all octets that may be appended.
+    ghost sized: { (it : Self) (compresses : Bool) (n : ℕ) (t s : List ℕ) → known_len it compresses ≡ Some n → composed it compresses t s → length s ≡ n };
+
+    /// And that of the canonical form, where no name is written shorter.
+    ghost canonical_sized: { (it : Self) (n : ℕ) → known_len it false ≡ Some n → length (canonical it) ≡ n };
+}
+
+/// A number or an address: the octets are the same in each form.
+impl<T: Compose> DataField for T {
+    ghost uncompressed = { T.composed_octets };
+
+    ghost composed = { λ it _ _ s. s ≡ T.composed_octets it };
+
+    ghost canonical = { T.composed_octets };
+
+    ghost known_len = { λ it _. Some (length (T.composed_octets it)) };
+
+    fn field_len(&self, _compress: bool) -> Option<u16> {
+        Some(self.composed_len())
+    }
+
+    fn compose_field<Target: Composer>(
+        &self,
+        target: &mut Target,
+    ) -> Result<(), Target::AppendError> {
+        self.compose(target)
+    }
+
+    fn compose_canonical_field<Target: Composer>(
+        &self,
+        target: &mut Target,
+    ) -> Result<(), Target::AppendError> {
+        self.compose(target)
+    }
+
+    ghost plain = { λ _ _ _. refl };
+
+    ghost flat = { λ _ _ _ h. h };
+
+    ghost sized = { λ it _ n t s known is. fixed_size (T.composed_octets it) s n known is };
+
+    ghost canonical_sized = { λ it n known. fixed_size (T.composed_octets it) (T.composed_octets it) n known refl };
+}

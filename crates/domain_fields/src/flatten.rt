@@ -1,0 +1,88 @@
+//! Fields over names that own their octets.
+ghost use Rattle.std.specs.Prelude.{◌≡◌, ◌⊎◌, IfOk, OnErr};
+
+use crate::name_field::{NameField, UncompressedNameField};
+use crate::sequence::Sequence;
+use domain_traits::FlattenInto;
+use octseq::ShortBuf;
+use std::alloc::Global;
+
+/// A field that can be converted to one with uncompressed names, over octets of its own or of another kind, and is
+/// consumed by this. Names are converted as [`FlattenInto`] converts them, and numbers stay.
+pub trait FlattenField<Target>: Sized {
+    /// What the new field and the old one have in common.
+    ghost same: { Self → Target → Type 0 };
+
+    /// The fields for which the conversion may fail. It fails for no other.
+    ghost may_refuse: { Self → Type 0 };
+
+    /// The field with uncompressed names.
+    ///
+    /// `ShortBuf` only where octets don't fit or an allocation failed. The field is then dropped.
+    fn flatten_field(self, alloc: Global) -> Result<Target, ShortBuf>
+        ensures ok { IfOk result (λ made. same self made) }
+        ensures err { OnErr result (may_refuse self) };
+}
+
+impl FlattenField<u16> for u16 {
+    ghost same = { λ it made. made ≡ it };
+
+    ghost may_refuse = { λ _. ⊥ };
+
+    fn flatten_field(self, _alloc: Global) -> Result<u16, ShortBuf> {
+        Ok(self)
+    }
+}
+
+impl FlattenField<u32> for u32 {
+    ghost same = { λ it made. made ≡ it };
+
+    ghost may_refuse = { λ _. ⊥ };
+
+    fn flatten_field(self, _alloc: Global) -> Result<u32, ShortBuf> {
+        Ok(self)
+    }
+}
+
+/// The name is converted.
+impl<N: FlattenInto<Target>, Target> FlattenField<NameField<Target>> for NameField<N> {
+    ghost same = { λ it made. N.same it.name made.name };
+
+    ghost may_refuse = { λ it. N.may_refuse it.name };
+
+    fn flatten_field(self, alloc: Global) -> Result<NameField<Target>, ShortBuf> {
+        let NameField { name } = self;
+        let name = name.try_flatten_into(alloc)?;
+        Ok(NameField { name })
+    }
+}
+
+/// The name is converted.
+impl<N: FlattenInto<Target>, Target> FlattenField<UncompressedNameField<Target>>
+    for UncompressedNameField<N> {
+    ghost same = { λ it made. N.same it.name made.name };
+
+    ghost may_refuse = { λ it. N.may_refuse it.name };
+
+    fn flatten_field(self, alloc: Global) -> Result<UncompressedNameField<Target>, ShortBuf> {
+        let UncompressedNameField { name } = self;
+        let name = name.try_flatten_into(alloc)?;
+        Ok(UncompressedNameField { name })
+    }
+}
+
+/// The first field is converted, and then the rest.
+impl<A: FlattenField<First>, B: FlattenField<Rest> + Drop, First: Drop, Rest> FlattenField<
+    Sequence<First, Rest>,
+> for Sequence<A, B> {
+    ghost same = { λ it made. A.same it.first made.first × B.same it.rest made.rest };
+
+    ghost may_refuse = { λ it. A.may_refuse it.first ⊎ B.may_refuse it.rest };
+
+    fn flatten_field(self, alloc: Global) -> Result<Sequence<First, Rest>, ShortBuf> {
+        let Sequence { first, rest } = self;
+        let first = first.flatten_field(alloc)?;
+        let rest = rest.flatten_field(alloc)?;
+        Ok(Sequence { first, rest })
+    }
+}

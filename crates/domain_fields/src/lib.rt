@@ -1,0 +1,17 @@
+//! Fields of record data, and fields one after the other (RFC 1035, 3.3): reading, composing and comparing them.
+#![tactic(auto)]
+
+mod display;
+pub mod field;
+pub mod flatten;
+pub mod name_field;
+pub mod order;
+pub mod read;
+pub mod sequence;
+
+pub use field::DataField;
+pub use flatten::FlattenField;
+pub use name_field::{DataName, NameField, UncompressedNameField};
+pub use order::OrderedField;
+pub use read::{FieldError, ReadField, read_all};
+pub use sequence::Sequence;

@@ -1,0 +1,239 @@
+//! Names in record data.
+ghost use Rattle.std.specs.Prelude.{◌≡◌, ◌++◌, ◌+◌, ◌<◌, ◌≤◌, ℕ, List, length, OnOk, OnErr, None, Some, if◌then◌else◌, refl};
+ghost use Rattle.domain_label.specs.Lowercase.{lowercase_labels};
+ghost use Rattle.domain_label.specs.Wire.{wire};
+ghost use Rattle.domain_list.specs.Order.{lowercase_composed_order};
+ghost use Rattle.domain_parsed.specs.ParsedNames.{parsed_labels};
+ghost use Rattle.domain_rdata.specs.ReadBack.{Appended, Exceeds};
+ghost use Rattle.domain_rdata.specs.RecordData.{NameOctets};
+ghost use Rattle.domain_fields.specs.FieldLaws.{fixed_size, canonical_size, name_size, wire_octets};
+ghost use Rattle.domain_fields.specs.Names.{NameFieldAt, NoNameField, name_reading};
+ghost use Rattle.domain_fields.specs.Reading.{any_reading};
+
+use crate::field::DataField;
+use crate::read::ReadField;
+use domain_list::{Absolute, NameLabels};
+use domain_name::Name;
+use domain_parsed::ParsedName;
+use domain_rdata::Composer;
+use domain_traits::ToName;
+use domain_wire::ParseError;
+use octseq::{Octets, Parser};
+use std::cmp::Ordering;
+
+/// An absolute name that record data may have.
+pub trait DataName: Absolute {
+    /// Appends octets that the target may write for the name, or nothing, as `append_compressed_name`.
+    fn append_name<Target: Composer>(&self, target: &mut Target) -> Result<(), Target::AppendError>
+        ensures ok { OnOk result (Appended (Target.may_append target.old (Self.labels self.now)) (Target.octets target.old) (Target.octets target.new)) }
+        ensures unchanged { OnErr result (Target.octets target.new ≡ Target.octets target.old) }
+        ensures full { OnErr result (Exceeds (Target.may_append target.old (Self.labels self.now)) (Target.octets target.old) (Target.capacity target.old)) }
+        ensures capacity { Target.capacity target.old ≤ Target.capacity target.new };
+
+    /// Appends the name with no pointer (RFC 1035, 3.1), or nothing.
+    fn append_uncompressed<Target: Composer>(
+        &self,
+        target: &mut Target,
+    ) -> Result<(), Target::AppendError>
+        ensures ok { OnOk result (Target.octets target.new ≡ Target.octets target.old ++ wire (Self.labels self.now)) }
+        ensures unchanged { OnErr result (Target.octets target.new ≡ Target.octets target.old) }
+        ensures full { OnErr result (Target.capacity target.old < length (Target.octets target.old) + length (wire (Self.labels self.now))) }
+        ensures capacity { Target.capacity target.old ≤ Target.capacity target.new };
+
+    /// Appends the name in lowercase with no pointer (RFC 4034, 6.2), or nothing.
+    fn append_lowercase<Target: Composer>(
+        &self,
+        target: &mut Target,
+    ) -> Result<(), Target::AppendError>
+        ensures ok { OnOk result (Target.octets target.new ≡ Target.octets target.old ++ wire (lowercase_labels (Self.labels self.now))) }
+        ensures unchanged { OnErr result (Target.octets target.new ≡ Target.octets target.old) }
+        ensures full { OnErr result (Target.capacity target.old < length (Target.octets target.old) + length (wire (lowercase_labels (Self.labels self.now)))) }
+        ensures capacity { Target.capacity target.old ≤ Target.capacity target.new };
+
+    /// The order of the octets of the two names in lowercase with no pointer.
+    fn lowercase_cmp(&self, other: &Self) -> Ordering
+        ensures { result ≡ lowercase_composed_order (Self.labels self.now) (Self.labels other.now) };
+}
+
+impl<Octs: Octets> DataName for ParsedName<Octs> {
+    fn append_name<Target: Composer>(
+        &self,
+        target: &mut Target,
+    ) -> Result<(), Target::AppendError> {
+        target.append_compressed_name(self)
+    }
+
+    fn append_uncompressed<Target: Composer>(
+        &self,
+        target: &mut Target,
+    ) -> Result<(), Target::AppendError> {
+        self.compose(target)
+    }
+
+    fn append_lowercase<Target: Composer>(
+        &self,
+        target: &mut Target,
+    ) -> Result<(), Target::AppendError> {
+        self.compose_canonical(target)
+    }
+
+    fn lowercase_cmp(&self, other: &ParsedName<Octs>) -> Ordering {
+        self.lowercase_composed_cmp(other)
+    }
+}
+
+impl<Octs: Octets> DataName for Name<Octs> {
+    fn append_name<Target: Composer>(
+        &self,
+        target: &mut Target,
+    ) -> Result<(), Target::AppendError> {
+        target.append_compressed_name(self)
+    }
+
+    fn append_uncompressed<Target: Composer>(
+        &self,
+        target: &mut Target,
+    ) -> Result<(), Target::AppendError> {
+        self.compose(target)
+    }
+
+    fn append_lowercase<Target: Composer>(
+        &self,
+        target: &mut Target,
+    ) -> Result<(), Target::AppendError> {
+        self.compose_canonical(target)
+    }
+
+    fn lowercase_cmp(&self, other: &Name<Octs>) -> Ordering {
+        self.lowercase_composed_cmp(other)
+    }
+}
+
+/// A name that may be compressed: of the types that RFC 1035 defines (RFC 3597, 4).
+#[derive(Clone, Copy, Debug, Drop, PartialEq, Eq)]
+pub struct NameField<N> {
+    pub name: N,
+}
+
+/// A name, which may have pointers to what is before it in the message.
+impl<'a> ReadField<'a, ParseError> for NameField<ParsedName<&'a [u8]>> {
+    ghost View = { List (List ℕ) };
+
+    ghost model = { λ it. parsed_labels it.name };
+
+    ghost encodes = { NameFieldAt };
+
+    ghost fails_with = { NoNameField };
+
+    fn read_field(parser: &mut Parser<'a>) -> Result<NameField<ParsedName<&'a [u8]>>, ParseError> {
+        match ParsedName::parse(parser) {
+            Ok(name) => Ok(NameField { name }),
+            Err(e) => Err(e),
+        }
+    }
+
+    ghost lawful = { any_reading name_reading };
+}
+
+impl<N: DataName> DataField for NameField<N> {
+    ghost uncompressed = { λ it. wire (N.labels it.name) };
+
+    ghost composed = { λ it c t s. NameOctets (N.labels it.name) c t s };
+
+    ghost canonical = { λ it. wire (lowercase_labels (N.labels it.name)) };
+
+    ghost known_len = { λ it c. if c then None else Some (length (wire (N.labels it.name))) };
+
+    fn field_len(&self, compress: bool) -> Option<u16> {
+        if compress {
+            return None;
+        }
+        Some(self.name.compose_len())
+    }
+
+    fn compose_field<Target: Composer>(
+        &self,
+        target: &mut Target,
+    ) -> Result<(), Target::AppendError> {
+        self.name.append_name(target)
+    }
+
+    fn compose_canonical_field<Target: Composer>(
+        &self,
+        target: &mut Target,
+    ) -> Result<(), Target::AppendError> {
+        self.name.append_lowercase(target)
+    }
+
+    ghost plain = { λ it c t. wire_octets (N.labels it.name) c t (N.absolute it.name) };
+
+    ghost flat = { λ it t s name. name.flat refl };
+
+    ghost sized = { λ it c n t s known name. name_size (N.labels it.name) c n t s known name };
+
+    ghost canonical_sized = { λ it n known. canonical_size (N.labels it.name) n known };
+}
+
+/// A name that is never compressed: of all other types (RFC 3597, 4).
+#[derive(Clone, Copy, Debug, Drop, PartialEq, Eq)]
+pub struct UncompressedNameField<N> {
+    pub name: N,
+}
+
+/// A name, whose pointers are followed where a sender wrote some against the standard.
+impl<'a> ReadField<'a, ParseError> for UncompressedNameField<ParsedName<&'a [u8]>> {
+    ghost View = { List (List ℕ) };
+
+    ghost model = { λ it. parsed_labels it.name };
+
+    ghost encodes = { NameFieldAt };
+
+    ghost fails_with = { NoNameField };
+
+    fn read_field(
+        parser: &mut Parser<'a>,
+    ) -> Result<UncompressedNameField<ParsedName<&'a [u8]>>, ParseError> {
+        match ParsedName::parse(parser) {
+            Ok(name) => Ok(UncompressedNameField { name }),
+            Err(e) => Err(e),
+        }
+    }
+
+    ghost lawful = { any_reading name_reading };
+}
+
+impl<N: DataName> DataField for UncompressedNameField<N> {
+    ghost uncompressed = { λ it. wire (N.labels it.name) };
+
+    ghost composed = { λ it _ _ s. s ≡ wire (N.labels it.name) };
+
+    ghost canonical = { λ it. wire (lowercase_labels (N.labels it.name)) };
+
+    ghost known_len = { λ it _. Some (length (wire (N.labels it.name))) };
+
+    fn field_len(&self, _compress: bool) -> Option<u16> {
+        Some(self.name.compose_len())
+    }
+
+    fn compose_field<Target: Composer>(
+        &self,
+        target: &mut Target,
+    ) -> Result<(), Target::AppendError> {
+        self.name.append_uncompressed(target)
+    }
+
+    fn compose_canonical_field<Target: Composer>(
+        &self,
+        target: &mut Target,
+    ) -> Result<(), Target::AppendError> {
+        self.name.append_lowercase(target)
+    }
+
+    ghost plain = { λ _ _ _. refl };
+
+    ghost flat = { λ _ _ _ same. same };
+
+    ghost sized = { λ it _ n t s known is. fixed_size (wire (N.labels it.name)) s n known is };
+
+    ghost canonical_sized = { λ it n known. canonical_size (N.labels it.name) n known };
+}

@@ -1,0 +1,105 @@
+//! One field after another.
+ghost use Rattle.std.specs.Prelude.{◌++◌, false};
+ghost use Rattle.domain_fields.specs.Sequences.{BothComposed, BothAt, NotBoth, both_reading, both_len, both_plain, both_flat, both_sized, both_canonical};
+
+use crate::field::DataField;
+use crate::read::{FieldError, ReadField};
+use domain_rdata::Composer;
+use octseq::Parser;
+
+/// A field, and the fields after it. The data of a type with three fields is `Sequence<A, Sequence<B, C>>`.
+#[derive(Clone, Copy, Debug, Drop, PartialEq, Eq)]
+pub struct Sequence<A, B> {
+    pub first: A,
+    pub rest: B,
+}
+
+/// The first field, and at its end the rest. The first error decides.
+impl<'a, E: FieldError, A: ReadField<'a, E> + Drop, B: ReadField<'a, E> + Drop> ReadField<'a, E>
+    for Sequence<A, B> {
+    ghost View = { A.View × B.View };
+
+    ghost model = { λ it. (A.model it.first, B.model it.rest) };
+
+    ghost encodes = { BothAt A.encodes B.encodes };
+
+    ghost fails_with = { NotBoth A.encodes A.fails_with B.fails_with };
+
+    fn read_field(parser: &mut Parser<'a>) -> Result<Sequence<A, B>, E> {
+        let mut ahead = *parser;
+        let first = match A::read_field(&mut ahead) {
+            Ok(first) => first,
+            Err(e) => return Err(e),
+        };
+        let rest = match B::read_field(&mut ahead) {
+            Ok(rest) => rest,
+            Err(e) => return Err(e),
+        };
+        *parser = ahead;
+        Ok(Sequence { first, rest })
+    }
+
+    ghost lawful = { both_reading E.said A.encodes B.encodes A.fails_with B.fails_with A.lawful B.lawful };
+}
+
+/// The octets of the first field, and then those of the rest.
+impl<A: DataField, B: DataField> DataField for Sequence<A, B> {
+    ghost uncompressed = { λ it. A.uncompressed it.first ++ B.uncompressed it.rest };
+
+    ghost composed = { λ it c. BothComposed (A.composed it.first c) (B.composed it.rest c) };
+
+    ghost canonical = { λ it. A.canonical it.first ++ B.canonical it.rest };
+
+    ghost known_len = { λ it c. both_len (A.known_len it.first c) (B.known_len it.rest c) };
+
+    fn field_len(&self, compress: bool) -> Option<u16> {
+        let Some(first) = self.first.field_len(compress) else {
+            return None;
+        };
+        let Some(rest) = self.rest.field_len(compress) else {
+            return None;
+        };
+        if u32::from(first) + u32::from(rest) <= 65535 {
+            return Some(first + rest);
+        }
+        None
+    }
+
+    fn compose_field<Target: Composer>(
+        &self,
+        target: &mut Target,
+    ) -> Result<(), Target::AppendError> {
+        let start = target.as_slice().len();
+        if let Err(e) = self.first.compose_field(target) {
+            return Err(e);
+        }
+        if let Err(e) = self.rest.compose_field(target) {
+            target.truncate(start);
+            return Err(e);
+        }
+        Ok(())
+    }
+
+    fn compose_canonical_field<Target: Composer>(
+        &self,
+        target: &mut Target,
+    ) -> Result<(), Target::AppendError> {
+        let start = target.as_slice().len();
+        if let Err(e) = self.first.compose_canonical_field(target) {
+            return Err(e);
+        }
+        if let Err(e) = self.rest.compose_canonical_field(target) {
+            target.truncate(start);
+            return Err(e);
+        }
+        Ok(())
+    }
+
+    ghost plain = { λ it c t. both_plain (A.composed it.first c) (B.composed it.rest c) t (A.uncompressed it.first) (B.uncompressed it.rest) (A.plain it.first c t) (B.plain it.rest c (t ++ A.uncompressed it.first)) };
+
+    ghost flat = { λ it t s both. both_flat (A.composed it.first false) (B.composed it.rest false) (A.uncompressed it.first) (B.uncompressed it.rest) t s (A.flat it.first) (B.flat it.rest) both };
+
+    ghost sized = { λ it c n t s known both. both_sized (A.composed it.first c) (B.composed it.rest c) (A.known_len it.first c) (B.known_len it.rest c) n t s (λ k t s. A.sized it.first c k t s) (λ k t s. B.sized it.rest c k t s) known both };
+
+    ghost canonical_sized = { λ it n known. both_canonical (A.canonical it.first) (B.canonical it.rest) (A.known_len it.first false) (B.known_len it.rest false) n (A.canonical_sized it.first) (B.canonical_sized it.rest) known };
+}
