@@ -37,7 +37,7 @@ impl<'a> Fields<'a> {
         }
     }
 
-    /// The field at a place, nothing where there is none. The word is at 0.
+    /// The field at an offset, nothing where there is none. The word is at 0.
     pub fn at(&self, place: usize) -> &'a [u8] {
         match self.fields.get(place) {
             Some(field) => *field,

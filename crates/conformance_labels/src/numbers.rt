@@ -7,7 +7,7 @@ use domain_wire::{Compose, Ipv4Addr, Ipv6Addr, Parse, ParseError, compose_vec, p
 use octseq::{OctetsBuilder, Parser};
 use std::fmt::Display;
 
-/// A value that was parsed, or the error, and the parser's place.
+/// A value that was parsed, or the error, and the parser's position.
 fn put_parsed<T: Display + Drop>(out: &mut Answer, value: Result<T, ParseError>, place: usize) {
     match value {
         Ok(value) => out.put_text(value),
@@ -21,7 +21,7 @@ fn put_place(out: &mut Answer, place: usize) {
     out.put(b";");
 }
 
-/// A number of a type at the parser's place.
+/// A number of a type at the parser's position.
 fn put_number<'a, T: Parse<'a> + Display + Drop>(out: &mut Answer, parser: Parser<'a>) {
     let mut parser = parser;
     let value = T::parse(&mut parser);

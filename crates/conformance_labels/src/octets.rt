@@ -38,7 +38,7 @@ pub fn put_truncate(out: &mut Answer, octets: &[u8], len: usize) {
     }
 }
 
-/// Writes one octet at a place of octets of any kind.
+/// Writes one octet at an offset of octets of any kind.
 fn put_written<T: OctetsMut + Drop>(out: &mut Answer, octets: T, place: usize, octet: u8) {
     let mut octets = octets;
     match octets.as_slice_mut().get_mut(place) {

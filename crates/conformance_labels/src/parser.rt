@@ -153,7 +153,7 @@ fn put_done(out: &mut Answer, done: Result<(), ShortInput>) {
     }
 }
 
-/// A parser's place, and the octets that are left in it.
+/// A parser's offset, and the octets that are left in it.
 fn put_parser(out: &mut Answer, parser: Result<Parser<'_>, ShortInput>) {
     match parser {
         Ok(parser) => {

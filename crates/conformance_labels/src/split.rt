@@ -91,7 +91,7 @@ pub fn put_labelfill(out: &mut Answer, octets: &[u8]) {
     out.put_hex(copy.as_slice());
 }
 
-/// `restfill OCTETS`: each octet behind the label is written over with a star.
+/// `restfill OCTETS`: each octet after the label is written over with a star.
 pub fn put_restfill(out: &mut Answer, octets: &[u8]) {
     let mut copy = Vec::new(out.alloc());
     if copy.extend_from_slice(octets).is_err() {

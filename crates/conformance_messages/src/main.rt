@@ -34,7 +34,7 @@ fn respond(line: &[u8], out: &mut Answer) {
     }
 }
 
-/// A word with octets behind it.
+/// A word with octets after it.
 fn respond_to_octets(word: &[u8], octets: &[u8], out: &mut Answer) {
     if is(word, b"header") {
         put_header(out, octets);

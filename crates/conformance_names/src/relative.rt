@@ -71,7 +71,7 @@ pub fn put_relwalk(out: &mut Answer, octets: &[u8]) {
     gives_labels(out, &name);
 }
 
-/// The labels of a reference to a name, written one behind the other, are the name's octets.
+/// The labels of a reference to a name, written one after the other, are the name's octets.
 fn gives_labels<'a>(out: &mut Answer, name: &'a RelativeName<&'a [u8]>) {
     let wire = wire_of(out, name.into_iter());
     out.same(wire.as_slice(), name.as_slice(), b"into_iter");

@@ -96,7 +96,7 @@ fn put_raw<T: Composer>(out: &mut Answer, target: &mut CompressComposer<T>, digi
     }
 }
 
-/// Octets over those that stand at a place.
+/// Octets over those that stand at an offset.
 fn put_over<T: Composer>(out: &mut Answer, target: &mut CompressComposer<T>, field: &[u8]) {
     let (place, digits) = split_once(field, b',');
     let (Ok(place), Ok(octets)) = (
@@ -224,7 +224,7 @@ fn put_data<T: Composer>(
     }
 }
 
-/// The data at a place, up to the end, is the name behind its length.
+/// The data at an offset, up to the end, is the name after its length.
 fn put_taken_data(out: &mut Answer, message: &[u8], start: usize, name: Name<&[u8]>) {
     let mut parser = Parser::from_ref(message);
     out.agree(parser.seek(start).is_ok(), b"compose_len_rdata");
@@ -298,7 +298,7 @@ fn put_refused(out: &mut Answer, room: Option<usize>) {
     }
 }
 
-/// Each name that is left is read at its place, up to its end.
+/// Each name that is left is read at its offset, up to its end.
 fn are_read_back(out: &mut Answer, message: &[u8], names: &mut Vec<Written>) {
     let left = names
         .iter()

@@ -11,7 +11,7 @@ use domain_traits::{FlattenInto, ToName};
 use domain_wire::ParseError;
 use octseq::Octets;
 
-/// The name at a place of a message.
+/// The name at an offset of a message.
 pub fn name_at(message: &[u8], place: usize) -> Option<ParsedName<&[u8]>> {
     let mut parser = parser_at(message, place, message.len())?;
     match ParsedName::parse(&mut parser) {

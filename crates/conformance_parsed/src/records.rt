@@ -173,7 +173,7 @@ pub fn put_longdata(out: &mut Answer, len: usize) {
             out.put_number_after(b"ok ", data.data().len());
             is_read(out, octets.as_slice());
             is_copied(out, data);
-            is_behind_its_length(out, data);
+            is_after_its_length(out, data);
         }
         Err(error) => {
             out.put_text_after(b"err ", error);
@@ -183,7 +183,7 @@ pub fn put_longdata(out: &mut Answer, len: usize) {
 }
 
 /// What is composed with its length is two octets that tell it, and the data.
-fn is_behind_its_length(out: &mut Answer, data: Data<'_>) {
+fn is_after_its_length(out: &mut Answer, data: Data<'_>) {
     let mut composed: Vec<u8> = Vec::new(out.alloc());
     if data.compose_len_rdata(&mut composed).is_err() {
         return out.fail(Fail::Memory);

@@ -26,7 +26,7 @@ struct Plan<'a> {
     last: Last<'a>,
 }
 
-/// The octets behind the word of each call, none where there is no argument.
+/// The octets after the word of each call, none where there is no argument.
 fn arguments_of(out: &mut Answer, line: &[u8]) -> Vec<Vec<u8>> {
     let mut arguments = Vec::new(out.alloc());
     for field in line.split(|octet| *octet == b';') {
@@ -158,7 +158,7 @@ fn plan_of<'a>(
     let mut last = Last::Nothing;
     for (at, field) in line.split(|octet| *octet == b';').enumerate() {
         if !matches!(last, Last::Nothing) {
-            // The builder is gone: no call stands behind one that takes it.
+            // The builder is gone: no call stands after one that takes it.
             out.fail(Fail::Bad);
         }
         let (word, _digits) = split_once(field, b':');
@@ -468,7 +468,7 @@ fn takes_symbols_alike(
     out.agree(one.in_label() == other.in_label(), b"append_symbols");
 }
 
-/// `absolute NAME`: the root behind a relative name, over a `Vec` and over an array of 17 octets.
+/// `absolute NAME`: the root after a relative name, over a `Vec` and over an array of 17 octets.
 pub fn put_absolute(out: &mut Answer, octets: &[u8]) {
     let Ok(owned) = Vec::from_slice(out.alloc(), octets) else {
         return out.fail(Fail::Memory);

@@ -1,5 +1,5 @@
 //! Shows domain names: `dnsnames at PLACE` reads a message from standard input and prints the name that
-//! stands at PLACE, with `--pointers N` behind it through at most N pointers. `dnsnames list` prints a line
+//! stands at PLACE, with `--pointers N` after it through at most N pointers. `dnsnames list` prints a line
 //! for each question and record of the message, and `dnsnames text NAME` the wire format of a name.
 #![tactic(auto)]
 

@@ -3,7 +3,7 @@ use Rattle.std.specs.Prelude.{◌≡◌, ◌⊎◌, ℕ, zero, suc, ◌+◌, ◌
 use Rattle.std.specs.Str.{chars, IsUtf8}
 use Rattle.domain_label.specs.Wire.{wire, IsAbsoluteWire, IsRelativeWire}
 use Rattle.domain_label.specs.Text.{text_with_final_dot, displayed}
-use Rattle.domain_builder.specs.TextGrammar.{SpellsName, SpellsNoName}
+use Rattle.domain_builder.specs.TextGrammar.{IsTextOfName, IsTextOfNoName}
 use Rattle.domain_builder.specs.declared.name_symbol.TextFault.{TextFault}
 use Rattle.domain_flat.specs.Faults.{AbsoluteFault, RelativeFault}
 use Rattle.domain_flat.specs.declared.error.NameErrorKind.{NameErrorKind}
@@ -52,8 +52,8 @@ SkipsName m p status old new =
 -- and nothing changed. A text that isn't UTF-8 has the number of a character that is no octet (12).
 abbrev pub ReadsText : List ℕ → ℕ → List ℕ → List ℕ → ℕ → ℕ → Type 0
 ReadsText t status old new old_len len =
-    (IsUtf8 t × (ls : List (List ℕ)) × SpellsName (chars t) ls × Gives (wire ls) status old new len)
-    ⊎ (IsUtf8 t × (f : TextFault) × SpellsNoName (chars t) f × (status ≡ text_number f) × (new ≡ old) × (len ≡ old_len))
+    (IsUtf8 t × (ls : List (List ℕ)) × IsTextOfName (chars t) ls × Gives (wire ls) status old new len)
+    ⊎ (IsUtf8 t × (f : TextFault) × IsTextOfNoName (chars t) f × (status ≡ text_number f) × (new ≡ old) × (len ≡ old_len))
     ⊎ ((IsUtf8 t → ⊥) × (status ≡ 12) × (new ≡ old) × (len ≡ old_len))
 
 -- These octets, made of the name o, were given; or o is no absolute name (9), and nothing changed.

@@ -3,7 +3,7 @@ ghost use Rattle.std.specs.Prelude.{◌≡◌, IfOk, IfErr, ℕ, List};
 ghost use Rattle.std.specs.Str.{chars};
 ghost use Rattle.domain_builder.specs.TextErrors.{label_fault, presentation_fault};
 ghost use Rattle.domain_builder.specs.declared.name_symbol.TextFault.{TextFault};
-ghost use Rattle.domain_builder.specs.TextGrammar.{SpellsName, SpellsNoName};
+ghost use Rattle.domain_builder.specs.TextGrammar.{IsTextOfName, IsTextOfNoName};
 ghost use Rattle.domain_label.specs.Text.{text_with_final_dot, displayed};
 ghost use Rattle.domain_label.specs.Wire.{labels_in, IsAbsolute};
 ghost use Rattle.domain_name.specs.Names.{name_labels};
@@ -45,8 +45,8 @@ fn number_of(kind: PresentationErrorKind) -> u32
 
 /// The name that a text spells, or the number of its fault.
 fn name_of(text: &str) -> Result<Name<ArrayVec<u8, 255>>, u32>
-    ensures name { IfOk result (λ name. SpellsName (chars text.now) (name_labels name)) }
-    ensures fault { IfErr result (λ number. (f : TextFault) × SpellsNoName (chars text.now) f × (number ≡ text_number f)) }
+    ensures name { IfOk result (λ name. IsTextOfName (chars text.now) (name_labels name)) }
+    ensures fault { IfErr result (λ number. (f : TextFault) × IsTextOfNoName (chars text.now) f × (number ≡ text_number f)) }
 {
     match text.parse::<Name<ArrayVec<u8, 255>>>() {
         Ok(name) => Ok(name),

@@ -24,7 +24,7 @@ pub mod scan {
 /// A domain name is a list of labels, the most special one first and the root label last, as `www`,
 /// `example`, `com` and the root. A `Label` is one of them. A `Name` is a whole name in one piece, a
 /// `RelativeName` one that another has to follow; a `ParsedName` is a name in a message, whose labels may
-/// stand in several places, and a `Chain` is two names, one behind the other. All have the calls of the
+/// stand in several places, and a `Chain` is two names, one after the other. All have the calls of the
 /// traits here, which one line brings: `use domain::base::name::*;`.
 ///
 /// docs/NAMES.md tells what names are, docs/CALLING.md how to use them.

@@ -17,8 +17,8 @@ length-closed ls (c ∷ cs) = grind (arith, common_steps, wire_append ls ((c ∷
 pub size_shown : (b : BuilderState) → size b ≡ length (encoded b)
 size_shown b = length-closed b.labels b.open_label
 
-pub behind : (s : List ℕ) (x : ℕ) (t : List ℕ) → drop (length s + 1) (s ++ x ∷ t) ≡ t
-behind s x t =
+pub after : (s : List ℕ) (x : ℕ) (t : List ℕ) → drop (length s + 1) (s ++ x ∷ t) ≡ t
+after s x t =
     let e : s ++ x ∷ t ≡ (s ++ x ∷ []) ++ t = sym (append_assoc s (x ∷ []) t) in
     let n : length s + 1 ≡ length (s ++ x ∷ []) = sym (length-append s (x ∷ [])) in
     rw (e, n) (all_before (s ++ x ∷ []) t)
@@ -26,7 +26,7 @@ behind s x t =
     all_before : (u t : List ℕ) → drop (length u) (u ++ t) ≡ t
     all_before u t = grind (arith, common_steps)
 
--- the view of the octets and the place that labels make is those labels
+-- the view of the octets and the offset that labels make is those labels
 pub view-shown : (b : BuilderState) → view_of (encoded b) (head_of b) ≡ b
 view-shown b = parts b.labels b.open_label
   where
@@ -34,10 +34,10 @@ view-shown b = parts b.labels b.open_label
     parts ls [] = rw (append-nil (wire ls), labels_in_wire ls) refl
     parts ls (c ∷ cs) =
         let front : take (length (wire ls)) (wire ls ++ 0 ∷ c ∷ cs) ≡ wire ls = grind (arith, common_steps) in
-        let back : drop (length (wire ls) + 1) (wire ls ++ 0 ∷ c ∷ cs) ≡ c ∷ cs = behind (wire ls) 0 (c ∷ cs) in
+        let back : drop (length (wire ls) + 1) (wire ls ++ 0 ∷ c ∷ cs) ≡ c ∷ cs = after (wire ls) 0 (c ∷ cs) in
         rw (front, back, labels_in_wire ls) refl
 
--- the octets and the place that labels make are those of a builder
+-- the octets and the offset that labels make are those of a builder
 pub inside_shown : (b : BuilderState) → IsRelative b.labels → length b.open_label ≤ 63 → size b ≤ 254 → IsInside (encoded b) (head_of b)
 inside_shown b ok short small =
     let e = view-shown b in
@@ -69,7 +69,7 @@ pub nothing_pushed : (b : BuilderState) (s : List ℕ) → length s ≤ 0 → pu
 nothing_pushed b [] h = ap (λ (o : List ℕ). record { labels = b.labels; open_label = o }) (append-nil b.open_label)
 nothing_pushed b (x ∷ xs) h = absurd (omega arith)
 
--- octets and a place that are those of labels within the limits
+-- octets and an offset that are those of labels within the limits
 pub becomes : (b : BuilderState) (s : List ℕ) (h : Option ℕ) → s ≡ encoded b → h ≡ head_of b → IsRelative b.labels → length b.open_label ≤ 63 → size b ≤ 254 → IsInside s h × (view_of s h ≡ b)
 becomes b s h es eh ok short small = rw (es, eh) (inside_shown b ok short small, view-shown b)
 
@@ -113,7 +113,7 @@ add_new s t x (Some h) b v i o e some short small = absurd (cc)
 pub same_octets : (s t : List ℕ) (h : Option ℕ) (b : BuilderState) → view_of s h ≡ b → IsInside s h → t ≡ s → IsInside t h × (view_of t h ≡ b)
 same_octets s t h b v i e = rw e (i, v)
 
--- the same, where the octets came in u and the place from n
+-- the same, where the octets came in u and the offset from n
 pub add_headed : (s t x u n : List ℕ) (h : Option ℕ) (b : BuilderState) → n ≡ s → u ≡ 0 ∷ x → view_of s h ≡ b → IsInside s h → is_some h ≡ false → t ≡ s ++ u → 0 < length x → length (pushed b x).open_label ≤ 63 → size (pushed b x) ≤ 254 → IsInside t (Some (length n)) × (view_of t (Some (length n)) ≡ pushed b x)
 add_headed s t x u n h b en eu v i o e some short small = rw en (add_new s t x h b v i o (e ∙ ap (λ (w : List ℕ). s ++ w) eu) some short small)
 
@@ -150,7 +150,7 @@ pub record IsBuilt (b : BuilderState) : Type 0 where
 pub built_of : (s : List ℕ) (h : Option ℕ) (b : BuilderState) → view_of s h ≡ b → IsInside s h → IsBuilt b
 built_of s h b v i = subst IsBuilt v (record { labels = i.labels; label_short = i.label_short; name_short = rw (size_shown (view_of s h), ← i.octets) i.name_short })
 
--- a write at the place of the length finishes the label
+-- a write at the offset of the length finishes the label
 pub set_closes : (ls : List (List ℕ)) (c : ℕ) (cs u : List ℕ) → set ((wire ls ++ 0 ∷ c ∷ cs) ++ u) (length (wire ls)) (length (c ∷ cs)) ≡ wire (closed_with ls (c ∷ cs)) ++ u
 set_closes ls c cs u =
     ap (λ (w : List ℕ). set w (length (wire ls)) (length (c ∷ cs))) (append_assoc (wire ls) (0 ∷ c ∷ cs) u)
@@ -236,7 +236,7 @@ label_closed s u t x n y (Some h) b en v i eu ey e some short small =
 pub built_relative : (s : List ℕ) (h : Option ℕ) (b : BuilderState) → view_of s h ≡ b → IsInside s h → IsRelativeName (closed b)
 built_relative s h b v i = let k = built_of s h b v i in (IsRelative-closed b.labels b.open_label k.labels k.label_short, k.name_short)
 
--- the octets with the root behind finished labels
+-- the octets with the root after finished labels
 pub root_octets : (s t : List ℕ) (h : Option ℕ) (b : BuilderState) → view_of s h ≡ ended b → IsInside s h → t ≡ s ++ 0 ∷ [] → t ≡ wire (closed b ++ Root)
 root_octets s t h b v i e =
     let whole : s ≡ wire (closed b) = i.octets ∙ ap encoded v ∙ append-nil (wire (closed b)) in
@@ -284,9 +284,9 @@ relative_of s ls e r = (subst IsRelativeWire (sym e) (wire_relative ls r), ap la
 pub absolute_of : (s : List ℕ) (ls : List (List ℕ)) → s ≡ wire ls → IsAbsoluteName ls → IsAbsoluteWire s × (labels_in s ≡ ls)
 absolute_of s ls e a = (subst IsAbsoluteWire (sym e) (wire_absolute ls a), ap labels_in e ∙ labels_in_wire ls)
 
--- an absolute name behind a relative one
-pub absolute_behind : (s x t : List ℕ) → IsRelativeWire s → IsAbsoluteWire x → length s + length x ≤ 255 → t ≡ s ++ x → IsAbsoluteWire t × (labels_in t ≡ labels_in s ++ labels_in x)
-absolute_behind s x t r a small e =
+-- an absolute name after a relative one
+pub absolute_after : (s x t : List ℕ) → IsRelativeWire s → IsAbsoluteWire x → length s + length x ≤ 255 → t ≡ s ++ x → IsAbsoluteWire t × (labels_in t ≡ labels_in s ++ labels_in x)
+absolute_after s x t r a small e =
     let ls : List (List ℕ) = labels_in s ++ labels_in x in
     let joined : t ≡ wire ls = e ∙ ap (λ (y : List ℕ). y ++ x) (sym r.0) ∙ ap (λ (y : List ℕ). wire (labels_in s) ++ y) (sym a.0) ∙ sym (wire_append (labels_in s) (labels_in x)) in
     let short : length (wire ls) ≤ 255 = omega (arith, ap length joined, ap length e, length-append s x, small) in

@@ -19,7 +19,7 @@ from_last os i h =
 pub one_more : (f : ℕ → List (List ℕ)) (os : List ℕ) (i : ℕ) → i < length os → flat_map f (reverse (drop i os)) ≡ flat_map f (reverse (drop (i + 1) os)) ++ (f (get_or os i 0) ++ [])
 one_more f os i h = ap (flat_map f) (from_last os i h) ∙ flat_map-append f (reverse (drop (i + 1) os)) (get_or os i 0 ∷ [])
 
--- a label more behind finished ones
+-- a label more after finished ones
 pub labelled_finished : (b : BuilderState) (ls : List (List ℕ)) (s : List ℕ) → b ≡ finished ls → 0 < length s → labelled b s ≡ finished (ls ++ s ∷ [])
 labelled_finished b ls [] e h = absurd (omega arith)
 labelled_finished b ls (c ∷ s) e h = ap (λ (x : BuilderState). labelled x (c ∷ s)) e

@@ -13,12 +13,12 @@ abbrev pub room : Option ℕ → Held → ℕ
 room None held = held.capacity
 room (Some n) held = n
 
--- What octets and the place of an open label's length octet say.
+-- What octets and the offset of an open label's length octet say.
 abbrev pub view_of : List ℕ → Option ℕ → BuilderState
 view_of s None = record { labels = labels_in s; open_label = [] }
 view_of s (Some h) = record { labels = labels_in (take h s); open_label = drop (h + 1) s }
 
--- The place of the open label's length octet.
+-- The offset of the open label's length octet.
 abbrev pub head_of : BuilderState → Option ℕ
 head_of b = place (length (wire b.labels)) b.open_label
   where

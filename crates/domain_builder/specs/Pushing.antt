@@ -49,15 +49,15 @@ TakesSymbols room b ps r new =
     MatchResult r (λ _. Makes b ps new) (λ e. MatchFromStr e (StopsAt b ps new) (LacksRoom room b ps new))
 
 -- What a refusal of octets is told as, where the octets are those of a text.
-abbrev pub PushTold : PushError → FromStrError → Type 0
-PushTold LongLabel e = MatchFromStr e (λ f. f ≡ fault.LongLabel) ⊥
-PushTold LongName e = MatchFromStr e (λ f. f ≡ fault.LongName) ⊥
-PushTold ShortBuf e = e ≡ short.ShortBuf
+abbrev pub PushErrorBecomes : PushError → FromStrError → Type 0
+PushErrorBecomes LongLabel e = MatchFromStr e (λ f. f ≡ fault.LongLabel) ⊥
+PushErrorBecomes LongName e = MatchFromStr e (λ f. f ≡ fault.LongName) ⊥
+PushErrorBecomes ShortBuf e = e ≡ short.ShortBuf
 
 -- The same of a refusal to add a name.
-abbrev pub PushNameTold : PushNameError → FromStrError → Type 0
-PushNameTold name.LongName e = MatchFromStr e (λ f. f ≡ fault.LongName) ⊥
-PushNameTold name.ShortBuf e = e ≡ short.ShortBuf
+abbrev pub PushNameErrorBecomes : PushNameError → FromStrError → Type 0
+PushNameErrorBecomes name.LongName e = MatchFromStr e (λ f. f ≡ fault.LongName) ⊥
+PushNameErrorBecomes name.ShortBuf e = e ≡ short.ShortBuf
 
 -- A call that makes so many octets, where so many fit without new memory.
 abbrev pub NameFits : (whole room : ℕ) → Result (Unit {0}) PushNameError → Type 0

@@ -18,7 +18,7 @@ use std::marker::Model;
 #[derive(Drop)]
 pub struct LabelsBuilder<B: OctetsBuilder + OctetsMut> {
     pub(crate) builder: B,
-    /// The place of the open label's length octet.
+    /// The offset of the open label's length octet.
     pub(crate) head: Option<usize>,
 }
 
@@ -377,7 +377,7 @@ where
         self.into_builder().freeze()
     }
 
-    /// Finishes the open label and gives the labels, and behind them those of an absolute name whose wire
+    /// Finishes the open label and gives the labels, and after them those of an absolute name whose wire
     /// format is `origin`, in their wire format.
     #[inline(always)]
     pub fn finish_with(self, origin: &[u8]) -> Result<B::Octets, ShortBuf>
@@ -392,7 +392,7 @@ where
         Ok(builder.freeze())
     }
 
-    /// Finishes the open label and gives the labels, and behind them those of an absolute name of any kind,
+    /// Finishes the open label and gives the labels, and after them those of an absolute name of any kind,
     /// in one piece that is appended once.
     pub fn append_origin<'a, N: AbsoluteLabels<'a>>(
         self,
@@ -410,7 +410,7 @@ where
         self.append_origin_wire(&octets[..len])
     }
 
-    /// Finishes the open label and gives the labels, and behind them those of an absolute name whose wire
+    /// Finishes the open label and gives the labels, and after them those of an absolute name whose wire
     /// format is `origin`.
     #[inline(always)]
     fn append_origin_wire(self, origin: &[u8]) -> Result<B::Octets, PushNameError>
@@ -475,7 +475,7 @@ fn hex_character(nibble: u8) -> u8
     }
 }
 
-/// Appends a head and then the octets behind it, or nothing. One octet goes out together with its head.
+/// Appends a head and then the octets after it, or nothing. One octet goes out together with its head.
 #[inline(always)]
 fn append_headed<B: OctetsBuilder + OctetsMut>(
     builder: &mut B,
@@ -500,7 +500,7 @@ fn append_headed<B: OctetsBuilder + OctetsMut>(
     Ok(())
 }
 
-/// Appends an absolute name behind a relative one, both in their wire format, or nothing.
+/// Appends an absolute name after a relative one, both in their wire format, or nothing.
 #[inline(always)]
 pub fn append_absolute<B: OctetsBuilder>(builder: &mut B, origin: &[u8]) -> Result<(), ShortBuf>
     requires relative { IsRelativeWire (B.octets builder.old) }
@@ -518,7 +518,7 @@ pub fn append_absolute<B: OctetsBuilder>(builder: &mut B, origin: &[u8]) -> Resu
     Ok(())
 }
 
-/// Writes the length of the open label, if there is one, whose octets end at a place.
+/// Writes the length of the open label, if there is one, whose octets end at an offset.
 #[inline(always)]
 fn close<T: OctetsMut>(octets: &mut T, head: Option<usize>, end: usize)
     requires open { IfSome head (λ h. (h < end) × (end ≤ h + 64)) }

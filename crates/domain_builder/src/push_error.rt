@@ -47,9 +47,9 @@ impl From<ShortBuf> for PushError {
 }
 
 impl From<PushError> for FromStrError {
-    ghost use Rattle.domain_builder.specs.Pushing.{PushTold};
+    ghost use Rattle.domain_builder.specs.Pushing.{PushErrorBecomes};
 
-    ghost from_gives = { λ push e. PushTold push e };
+    ghost from_gives = { λ push e. PushErrorBecomes push e };
 
     fn from(push: PushError) -> Self {
         match push {
@@ -98,9 +98,9 @@ impl From<ShortBuf> for PushNameError {
 }
 
 impl From<PushNameError> for FromStrError {
-    ghost use Rattle.domain_builder.specs.Pushing.{PushNameTold};
+    ghost use Rattle.domain_builder.specs.Pushing.{PushNameErrorBecomes};
 
-    ghost from_gives = { λ push e. PushNameTold push e };
+    ghost from_gives = { λ push e. PushNameErrorBecomes push e };
 
     fn from(push: PushNameError) -> Self {
         match push {

@@ -31,7 +31,7 @@ where
     octets_of(octets.as_slice(), alloc)
 }
 
-/// The labels, and behind them a zone of `arpa`.
+/// The labels, and after them a zone of `arpa`.
 fn under(mut labels: LabelsBuilder<ArrayVec<u8, 255>>, zone: &[u8]) -> ArrayVec<u8, 255>
     requires few { size labels.built ≤ 128 }
     requires short { length zone.now ≤ 63 }

@@ -1,4 +1,4 @@
--- Comparing a name with the one that is read at a place, label by label.
+-- Comparing a name with the one that is read at an offset, label by label.
 use Rattle.std.proofs.Common.{◌≡◌, ℕ, ◌+◌, ◌-◌, ◌≤◌, ◌<◌, ◌⊎◌, List, [], ◌∷◌, ◌++◌, length, drop, take, drop-drop, refl, sym, ap, subst, ◌∙◌, arith, slice_index, slice_range, add-one, length-append}
 use Rattle.std.proofs.lemmas.List.{length-map, map-append}
 use Rattle.std.proofs.Math.Seq.{take-append_seam}
@@ -14,7 +14,7 @@ use Rattle.domain_reading.specs.Heads.{BrokenAt}
 use Rattle.domain_reading.specs.declared.fault.NameFault.{NameFault}
 use Rattle.domain_reading.specs.declared.fault.NameFault.TheVariants.{TooManyPointers}
 use Rattle.domain_reading.proofs.WhileReading.{broken_fault}
-use Rattle.domain_reading.proofs.Reading.{reads_once, behind_label}
+use Rattle.domain_reading.proofs.Reading.{reads_once, after_label}
 use Rattle.domain_reading.proofs.NameOrFault.{walk_reads, walk_rest, names_or_fault}
 use Rattle.domain_rdata.specs.ReadBack.{StandsAt}
 use Rattle.domain_compress.specs.Ends.{first_label}
@@ -26,10 +26,10 @@ use Rattle.domain_compress.proofs.Searching.{Ahead, ahead_of, size_some, one_cut
 pub record Along (t : List ℕ) (p : ℕ) (name : List ℕ) (at passed pointers : ℕ) : Type 0 where
   pub walked : List (List ℕ)
   pub before : List (List ℕ)
-  pub behind : List (List ℕ)
+  pub after : List (List ℕ)
   pub walk : Followed 255 t p pointers walked at
-  pub meets : Meets name passed before behind
-  pub absolute : IsAbsolute behind
+  pub meets : Meets name passed before after
+  pub absolute : IsAbsolute after
   pub same : lowercase_labels walked ≡ lowercase_labels before
   pub few : pointers ≤ 255
 
@@ -37,7 +37,7 @@ pub along_start : (t : List ℕ) (p : ℕ) (name : List ℕ) → IsAbsoluteWire 
 along_start t p name w = record {
   walked = [];
   before = [];
-  behind = labels_in name;
+  after = labels_in name;
   walk = start;
   meets = meets_start name (absolute_wire w);
   absolute = w.1.0;
@@ -45,10 +45,10 @@ along_start t p name w = record {
   few = omega arith;
 }
 
-pub ahead_along : {t : List ℕ} {p at passed pointers : ℕ} (name : List ℕ) → IsAbsoluteWire name → (a : Along t p name at passed pointers) → Ahead name passed a.behind
+pub ahead_along : {t : List ℕ} {p at passed pointers : ℕ} (name : List ℕ) → IsAbsoluteWire name → (a : Along t p name at passed pointers) → Ahead name passed a.after
 ahead_along {passed = passed} name w a =
-    let b = size_some a.behind a.absolute in
-    ahead_of name passed a.before a.behind w a.meets a.absolute b.0 b.1 b.2
+    let b = size_some a.after a.absolute in
+    ahead_of name passed a.before a.after w a.meets a.absolute b.0 b.1 b.2
 
 low_first : (ls : List (List ℕ)) → first_label (lowercase_labels ls) ≡ lowercase (first_label ls)
 low_first [] = refl
@@ -61,7 +61,7 @@ pub same_length : (a b : List ℕ) → lowercase a ≡ lowercase b → length a 
 same_length a b e = sym (length-map a _) ∙ (ap length e ∙ length-map b _)
 
 -- The head and the octets of the first label that is left in the name.
-pub name_head : (name : List ℕ) (passed : ℕ) (before behind : List (List ℕ)) → Meets name passed before behind → IsAbsolute behind → slice_index name passed ≡ length (first_label behind)
+pub name_head : (name : List ℕ) (passed : ℕ) (before after : List (List ℕ)) → Meets name passed before after → IsAbsolute after → slice_index name passed ≡ length (first_label after)
 name_head name passed before [] m a = absurd a
 name_head name passed before (y ∷ ys) m a = read_at name passed before y ys m
 
@@ -71,27 +71,27 @@ label_octets name passed y before ys m =
     let k : passed + 1 + length y - (passed + 1) ≡ length y = omega arith in
     ap (λ n. take n (drop (passed + 1) name)) k ∙ (ap (take (length y)) (sym (drop-drop 1 passed name)) ∙ (ap (λ o. take (length y) (drop 1 o)) d ∙ take-append_seam y (wire ys)))
 
-name_label : (name : List ℕ) (passed : ℕ) (before behind : List (List ℕ)) → Meets name passed before behind → IsAbsolute behind → slice_range name (passed + 1) (passed + 1 + length (first_label behind)) ≡ first_label behind
+name_label : (name : List ℕ) (passed : ℕ) (before after : List (List ℕ)) → Meets name passed before after → IsAbsolute after → slice_range name (passed + 1) (passed + 1 + length (first_label after)) ≡ first_label after
 name_label name passed before [] m a = absurd a
 name_label name passed before (y ∷ ys) m a = label_octets name passed y before ys m
 
 -- What is read where the walk stands, if the whole name is read from its start.
-pub record RestThere (t : List ℕ) (at : ℕ) (behind : List (List ℕ)) : Type 0 where
+pub record RestThere (t : List ℕ) (at : ℕ) (after : List (List ℕ)) : Type 0 where
   pub pointers : ℕ
   pub rest : List (List ℕ)
   pub reads : Reads t at pointers rest
-  pub same : lowercase_labels rest ≡ lowercase_labels behind
+  pub same : lowercase_labels rest ≡ lowercase_labels after
 
-pub rest_there : {t : List ℕ} {p at passed pointers : ℕ} (name : List ℕ) → (a : Along t p name at passed pointers) → StandsAt t p (labels_in name) → RestThere t at a.behind
+pub rest_there : {t : List ℕ} {p at passed pointers : ℕ} (name : List ℕ) → (a : Along t p name at passed pointers) → StandsAt t p (labels_in name) → RestThere t at a.after
 rest_there {passed = passed} name a s =
     let r = walk_rest a.walk s.1.reads in
-    let parts : lowercase_labels a.walked ++ lowercase_labels r.rest ≡ lowercase_labels a.before ++ lowercase_labels a.behind =
-    sym (map-append lowercase a.walked r.rest) ∙ (ap lowercase_labels (sym r.list) ∙ (s.2 ∙ (ap lowercase_labels (meets_labels name passed a.before a.behind a.meets) ∙ map-append lowercase a.before a.behind))) in
+    let parts : lowercase_labels a.walked ++ lowercase_labels r.rest ≡ lowercase_labels a.before ++ lowercase_labels a.after =
+    sym (map-append lowercase a.walked r.rest) ∙ (ap lowercase_labels (sym r.list) ∙ (s.2 ∙ (ap lowercase_labels (meets_labels name passed a.before a.after a.meets) ∙ map-append lowercase a.before a.after))) in
     record {
       pointers = r.pointers;
       rest = r.rest;
       reads = r.reads;
-      same = one_cut (lowercase_labels a.walked) (lowercase_labels r.rest) (lowercase_labels a.before) (lowercase_labels a.behind) parts (ap length a.same);
+      same = one_cut (lowercase_labels a.walked) (lowercase_labels r.rest) (lowercase_labels a.before) (lowercase_labels a.after) parts (ap length a.same);
     }
 
 -- The name isn't read there, since the walk can't go on.
@@ -108,31 +108,31 @@ pub not_root : {t : List ℕ} {p at passed pointers : ℕ} (name : List ℕ) →
 not_root {passed = passed} name a x some s =
     let r = rest_there name a s in
     let none : first_label r.rest ≡ [] = ap first_label (reads_once r.reads (root x)).1 in
-    some (name_head name passed a.before a.behind a.meets a.absolute ∙ (sym (same_length _ _ (same_first r.rest a.behind r.same)) ∙ ap length none))
+    some (name_head name passed a.before a.after a.meets a.absolute ∙ (sym (same_length _ _ (same_first r.rest a.after r.same)) ∙ ap length none))
 
-there_first : {t : List ℕ} {p at passed pointers : ℕ} {l : List ℕ} (name : List ℕ) → (a : Along t p name at passed pointers) → LabelAt t at l → StandsAt t p (labels_in name) → lowercase l ≡ lowercase (first_label a.behind)
+there_first : {t : List ℕ} {p at passed pointers : ℕ} {l : List ℕ} (name : List ℕ) → (a : Along t p name at passed pointers) → LabelAt t at l → StandsAt t p (labels_in name) → lowercase l ≡ lowercase (first_label a.after)
 there_first {l = l} name a x s =
     let r = rest_there name a s in
-    let first : first_label r.rest ≡ l = ap first_label (behind_label x r.reads).list in
-    ap lowercase (sym first) ∙ same_first r.rest a.behind r.same
+    let first : first_label r.rest ≡ l = ap first_label (after_label x r.reads).list in
+    ap lowercase (sym first) ∙ same_first r.rest a.after r.same
 
 -- A label of another length stands there.
 pub not_long : {t : List ℕ} {p at passed pointers len : ℕ} (name : List ℕ) → Along t p name at passed pointers → (l : List ℕ) × (length l ≡ len) × LabelAt t at l → (slice_index name passed ≡ len → ⊥) → StandsAt t p (labels_in name) → ⊥
 not_long {passed = passed} name a x differs s =
-    differs (name_head name passed a.before a.behind a.meets a.absolute ∙ (sym (same_length _ _ (there_first name a x.2 s)) ∙ x.1))
+    differs (name_head name passed a.before a.after a.meets a.absolute ∙ (sym (same_length _ _ (there_first name a x.2 s)) ∙ x.1))
 
 -- The octets of two labels of one length.
 pub record TwoLabels (t : List ℕ) (name : List ℕ) (at passed len : ℕ) (l y : List ℕ) : Type 0 where
   pub there : slice_range t (at + 1) (at + 1 + len) ≡ l
   pub here : slice_range name (passed + 1) (passed + 1 + len) ≡ y
 
-two_labels : {t : List ℕ} {p at passed pointers len : ℕ} {l : List ℕ} (name : List ℕ) → (a : Along t p name at passed pointers) → length l ≡ len → LabelAt t at l → slice_index name passed ≡ len → TwoLabels t name at passed len l (first_label a.behind)
+two_labels : {t : List ℕ} {p at passed pointers len : ℕ} {l : List ℕ} (name : List ℕ) → (a : Along t p name at passed pointers) → length l ≡ len → LabelAt t at l → slice_index name passed ≡ len → TwoLabels t name at passed len l (first_label a.after)
 two_labels {t} {at = at} {passed = passed} {l = l} name a size x head =
     let P : ℕ → Type 0 = λ n. slice_range t (at + 1) (at + 1 + n) ≡ l in
-    let Q : ℕ → Type 0 = λ n. slice_range name (passed + 1) (passed + 1 + n) ≡ first_label a.behind in
+    let Q : ℕ → Type 0 = λ n. slice_range name (passed + 1) (passed + 1 + n) ≡ first_label a.after in
     record {
       there = subst P size x.octets;
-      here = subst Q (sym (name_head name passed a.before a.behind a.meets a.absolute) ∙ head) (name_label name passed a.before a.behind a.meets a.absolute);
+      here = subst Q (sym (name_head name passed a.before a.after a.meets a.absolute) ∙ head) (name_label name passed a.before a.after a.meets a.absolute);
     }
 
 -- Another label stands there.
@@ -141,7 +141,7 @@ not_same name n a x head size differs s =
     let two = two_labels {len = n} name a (x.1 ∙ sym size) x.2 (head ∙ sym size) in
     differs (ap lowercase two.there ∙ (there_first name a x.2 s ∙ ap lowercase (sym two.here)))
 
-step_label : {t : List ℕ} {p at passed pointers : ℕ} {l : List ℕ} (name : List ℕ) (walked before behind : List (List ℕ)) → Followed 255 t p pointers walked at → Meets name passed before behind → IsAbsolute behind → lowercase_labels walked ≡ lowercase_labels before → pointers ≤ 255 → IsAbsoluteWire name → LabelAt t at l → lowercase l ≡ lowercase (first_label behind) → Along t p name (at + 1 + length l) (passed + 1 + length l) pointers
+step_label : {t : List ℕ} {p at passed pointers : ℕ} {l : List ℕ} (name : List ℕ) (walked before after : List (List ℕ)) → Followed 255 t p pointers walked at → Meets name passed before after → IsAbsolute after → lowercase_labels walked ≡ lowercase_labels before → pointers ≤ 255 → IsAbsoluteWire name → LabelAt t at l → lowercase l ≡ lowercase (first_label after) → Along t p name (at + 1 + length l) (passed + 1 + length l) pointers
 step_label name walked before [] walk m a same few w x e = absurd a
 step_label {l = l} name walked before ([] ∷ ys) walk m a same few w x e = absurd (omega (arith, x.nonempty, same_length l [] e))
 step_label {t} {p} {at} {passed} {pointers} {l} name walked before ((c ∷ y) ∷ ys) walk m a same few w x e =
@@ -156,7 +156,7 @@ step_label {t} {p} {at} {passed} {pointers} {l} name walked before ((c ∷ y) �
     record {
       walked = walked ++ l ∷ [];
       before = before ++ (c ∷ y) ∷ [];
-      behind = ys;
+      after = ys;
       walk = past_label walk x (omega (arith, walked_size, m.at, all, whole, w.1.1, size, left));
       meets = subst P (sym size) next;
       absolute = a.1;
@@ -169,13 +169,13 @@ pub along_label : {t : List ℕ} {p at passed pointers len : ℕ} (name : List �
 along_label {t} {p} {at} {passed} {pointers} name n w a x head size e =
     let two = two_labels {len = n} name a (x.1 ∙ sym size) x.2 (head ∙ sym size) in
     let P : ℕ → Type 0 = λ n. Along t p name (at + 1 + n) (passed + 1 + n) pointers in
-    subst P (x.1 ∙ sym size) (step_label name a.walked a.before a.behind a.walk a.meets a.absolute a.same a.few w x.2 (ap lowercase (sym two.there) ∙ (e ∙ ap lowercase two.here)))
+    subst P (x.1 ∙ sym size) (step_label name a.walked a.before a.after a.walk a.meets a.absolute a.same a.few w x.2 (ap lowercase (sym two.there) ∙ (e ∙ ap lowercase two.here)))
 
 pub along_pointer : {t : List ℕ} {p at passed pointers q : ℕ} (name : List ℕ) → Along t p name at passed pointers → PointerAt t at q → q < at → pointers < 255 → Along t p name q passed (pointers + 1)
 along_pointer name a x lt few = record {
   walked = a.walked;
   before = a.before;
-  behind = a.behind;
+  after = a.after;
   walk = rw add-one (past_pointer a.walk x lt few);
   meets = a.meets;
   absolute = a.absolute;
@@ -183,7 +183,7 @@ along_pointer name a x lt few = record {
   few = omega (arith, few);
 }
 
-root_left : (behind : List (List ℕ)) → IsAbsolute behind → length (first_label behind) ≡ 0 → behind ≡ Root
+root_left : (after : List (List ℕ)) → IsAbsolute after → length (first_label after) ≡ 0 → after ≡ Root
 root_left [] a h = absurd a
 root_left ([] ∷ ls) a h = ap (λ xs. [] ∷ xs) a
 root_left ((c ∷ l) ∷ ls) a h = absurd (omega (arith, h))
@@ -191,12 +191,12 @@ root_left ((c ∷ l) ∷ ls) a h = absurd (omega (arith, h))
 -- The root stands there, and in the name, too.
 pub along_all : {t : List ℕ} {p at passed pointers : ℕ} (name : List ℕ) → Along t p name at passed pointers → OctetAt t at 0 → slice_index name passed ≡ 0 → StandsThrough t p (labels_in name) pointers
 along_all {t} {p} {passed = passed} {pointers} name a x zero =
-    let left : a.behind ≡ Root = root_left a.behind a.absolute (sym (name_head name passed a.before a.behind a.meets a.absolute) ∙ zero) in
+    let left : a.after ≡ Root = root_left a.after a.absolute (sym (name_head name passed a.before a.after a.meets a.absolute) ∙ zero) in
     let P : ℕ → Type 0 = λ k. Reads t p k (a.walked ++ Root) in
     record {
       labels = a.walked ++ Root;
       reads = subst P (omega arith) (walk_reads a.walk (root x));
-      same = map-append lowercase a.walked Root ∙ (ap (λ z. z ++ Root) a.same ∙ (sym (map-append lowercase a.before Root) ∙ ap lowercase_labels (ap (λ z. a.before ++ z) (sym left) ∙ sym (meets_labels name passed a.before a.behind a.meets))));
+      same = map-append lowercase a.walked Root ∙ (ap (λ z. z ++ Root) a.same ∙ (sym (map-append lowercase a.before Root) ∙ ap lowercase_labels (ap (λ z. a.before ++ z) (sym left) ∙ sym (meets_labels name passed a.before a.after a.meets))));
       few = a.few;
     }
 

@@ -17,12 +17,12 @@ use Rattle.domain_compress.proofs.Pointing.{pointed_read, pointed_unread}
 
 before_relative : (t : List ℕ) (ws : List RememberedLabel) (name : List ℕ) (end : WrittenSuffix) → IsAbsoluteWire name → (f : SuffixFound t ws name end) → IsRelative f.before
 before_relative t ws name end w f =
-    let some : 0 < length f.behind = omega (arith, f.longest.more) in
-    begins_relative f.before f.behind (subst IsAbsolute f.longest.parts w.1.0) some
+    let some : 0 < length f.after = omega (arith, f.longest.more) in
+    begins_relative f.before f.after (subst IsAbsolute f.longest.parts w.1.0) some
 
 read_so : (t : List ℕ) (ws : List RememberedLabel) (name : List ℕ) (end : WrittenSuffix) → IsAbsoluteWire name → (f : SuffixFound t ws name end) → (end.pointers ≡ 255 → ⊥) → IsRead t (labels_in name) f.before end.place
 read_so t ws name end w f few =
-    pointed_read t (labels_in name) f.before f.behind end.place end.pointers w.1 f.longest.parts (before_relative t ws name end w f) f.through (omega (arith, few, f.through.few))
+    pointed_read t (labels_in name) f.before f.after end.place end.pointers w.1 f.longest.parts (before_relative t ws name end w f) f.through (omega (arith, few, f.through.few))
 
 -- The beginning and the pointer are what is to be written.
 pub planned : (t : List ℕ) (ws : List RememberedLabel) (name : List ℕ) (end : WrittenSuffix) → IsAbsoluteWire name → SuffixFound t ws name end → (end.pointers ≡ 255 → ⊥) → WritesPointer t ws name end.begin end.place
@@ -52,7 +52,7 @@ pointed_so t ws name begin offset t' p all =
 
 pub not_pointed : (t : List ℕ) (ws : List RememberedLabel) (name : List ℕ) (end : WrittenSuffix) → IsAbsoluteWire name → SuffixFound t ws name end → end.pointers ≡ 255 → Compresses t ws (labels_in name) (labels_in name) (wire (labels_in name))
 not_pointed t ws name end w f many =
-    unread f.longest (pointed_unread t (labels_in name) f.before f.behind end.place end.pointers (before_relative t ws name end w f) f.through many)
+    unread f.longest (pointed_unread t (labels_in name) f.before f.after end.place end.pointers (before_relative t ws name end w f) f.through many)
 
 pub exceeds_pointed : (t : List ℕ) (ws : List RememberedLabel) (name : List ℕ) (begin offset cap : ℕ) → WritesPointer t ws name begin offset → cap < length t + length (take begin name ++ pointer_to offset) → Exceeds (MayWrite t ws (labels_in name)) t cap
 exceeds_pointed t ws name begin offset cap p full = record {

@@ -19,7 +19,7 @@ use Rattle.domain_compress.proofs.Marking.{not_hashed, end_some}
 slice_more : (t u : List ℕ) (a b : ℕ) → b ≤ length t → slice_range (t ++ u) a b ≡ slice_range t a b
 slice_more t u a b h = grind (arith, common_steps)
 
--- A label stays where it stands behind more octets.
+-- A label stays where it stands after more octets.
 hash_more : (t u : List ℕ) (p h : ℕ) → HasHash t p h → HasHash (t ++ u) p h
 hash_more t u p h x =
     let head : slice_index (t ++ u) p ≡ slice_index t p = get_or_append_left t u 0 p (omega (arith, x.1)) in
@@ -34,13 +34,13 @@ both_true : (a b : Bool) → (a && b) ≡ true → (a ≡ true) × (b ≡ true)
 both_true true b e = (refl, e)
 both_true false b e = absurd (false≢true e)
 
--- One place more is remembered.
+-- One offset more is remembered.
 pub known_push : (t : List ℕ) (hashed stands : Bool) (new old : List Written) (w : Written) → IsKnown hashed t old → (stands ≡ true → IsHashed t w) → new ≡ old ++ w ∷ [] → IsKnown (hashed && stands) t new
 known_push t hashed stands new old w known here e both =
     let b = both_true hashed stands both in
     subst (λ ws. All (IsHashed t) ws) (sym e) (All-push (IsHashed t) old w (known b.0) (here b.1))
 
--- No end stands at a place whose hash isn't marked.
+-- No end stands at an offset whose hash isn't marked.
 pub skipped : (t name marks : List ℕ) (w : Written) (ws : List RememberedLabel) (best : Option WrittenSuffix) → IsAbsoluteWire name → AreMarked marks name → IsHashed t w → nat_eq (slice_index marks (slot_of w.hash)) 1 ≡ false → Longest t ws name best → Longest t (ws ++ remembered w ∷ []) name best
 skipped t name marks w ws best wire_form marked here none old =
     kept_end t name (remembered w) ws best wire_form
@@ -50,8 +50,8 @@ skipped t name marks w ws best wire_form marked here none old =
 pub known_first : (t : List ℕ) (rest more : List Written) (w : Written) → rest ≡ w ∷ more → All (IsHashed t) rest → IsHashed t w
 known_first t rest more w e all = (subst (λ ws. All (IsHashed t) ws) e all) 0 w (omega arith)
 
-pub known_behind : (t : List ℕ) (hashed : Bool) (rest more : List Written) (w : Written) → rest ≡ w ∷ more → IsKnown hashed t rest → IsKnown hashed t more
-known_behind t hashed rest more w e known = λ h. All-tail (IsHashed t) w more (subst (λ ws. All (IsHashed t) ws) e (known h))
+pub known_after : (t : List ℕ) (hashed : Bool) (rest more : List Written) (w : Written) → rest ≡ w ∷ more → IsKnown hashed t rest → IsKnown hashed t more
+known_after t hashed rest more w e known = λ h. All-tail (IsHashed t) w more (subst (λ ws. All (IsHashed t) ws) e (known h))
 
 -- What is known is known in one way.
 pub known_once : (hashed : Bool) (t : List ℕ) (ws : List Written) → (a b : IsKnown hashed t ws) → a ≡ b

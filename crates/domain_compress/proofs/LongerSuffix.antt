@@ -1,4 +1,4 @@
--- The longest end that stands at one of the places, with one place more.
+-- The longest end that stands at one of the offsets, with one place more.
 use Rattle.std.proofs.Common.{◌≡◌, ℕ, ◌≤◌, ◌<◌, inl, inr, List, [], ◌∷◌, ◌++◌, length, take, refl, sym, ap, subst, ◌∙◌, arith, length-append, append_assoc, append-nil, Option, None, Some}
 use Rattle.std.proofs.lemmas.Grind.{common_steps}
 use Rattle.std.proofs.lemmas.List.{length-map}
@@ -39,8 +39,8 @@ inside_name : (name : List ℕ) (xs ys : List (List ℕ)) → IsAbsoluteWire nam
 inside_name name xs [] w e more = absurd (omega (arith, more))
 inside_name name xs (y ∷ ys) w e more = omega (arith, ap length w.0, ap (λ ls. length (wire ls)) e, length-wire_append xs (y ∷ ys))
 
-longer_suffix : (xs ys before behind : List (List ℕ)) → xs ++ ys ≡ before ++ behind → length xs < length before → 1 < length behind → length behind < length ys
-longer_suffix xs ys before behind e lt more = omega (arith, lt, more, ap length e, length-append xs ys, length-append before behind)
+longer_suffix : (xs ys before after : List (List ℕ)) → xs ++ ys ≡ before ++ after → length xs < length before → 1 < length after → length after < length ys
+longer_suffix xs ys before after e lt more = omega (arith, lt, more, ap length e, length-append xs ys, length-append before after)
 
 pub kept_end : (t : List ℕ) (name : List ℕ) (w : RememberedLabel) (ws : List RememberedLabel) (best : Option WrittenSuffix) → IsAbsoluteWire name → ((xs ys : List (List ℕ)) → labels_in name ≡ xs ++ ys → 1 < length ys → length (wire xs) < begin_or_length best name → StandsAt t w.at ys → ⊥) → Longest t ws name best → Longest t (ws ++ w ∷ []) name best
 kept_end t name w ws None wire_form none old = λ xs ys e more. none_more t ys ws (w ∷ []) (old xs ys e more) (none xs ys e more (inside_name name xs ys wire_form e more), tt)
@@ -48,15 +48,15 @@ kept_end t name w ws (Some end) wire_form none old =
     let size = taken_size name end.begin old.before (omega (arith, old.inside)) old.octets in
     record {
       before = old.before;
-      behind = old.behind;
+      after = old.after;
       longest = record {
         parts = old.longest.parts;
         more = old.longest.more;
-        place = first_more t old.behind end.place ws (w ∷ []) old.longest.place;
+        place = first_more t old.after end.place ws (w ∷ []) old.longest.place;
         longest = λ xs ys e lt.
             let same = sym e ∙ old.longest.parts in
             none_more t ys ws (w ∷ []) (old.longest.longest xs ys e lt)
-            (none xs ys e (omega (arith, old.longest.more, longer_suffix xs ys old.before old.behind same lt old.longest.more)) (omega (arith, size, shorter xs old.before ys old.behind same lt)), tt);
+            (none xs ys e (omega (arith, old.longest.more, longer_suffix xs ys old.before old.after same lt old.longest.more)) (omega (arith, size, shorter xs old.before ys old.after same lt)), tt);
       };
       through = old.through;
       octets = old.octets;
@@ -69,7 +69,7 @@ none_before : (t : List ℕ) (name : List ℕ) (ws : List RememberedLabel) (best
 none_before t name ws None old xs ys e more lt = old xs ys e more
 none_before t name ws (Some end) old xs ys e more lt =
     let size = taken_size name end.begin old.before (omega (arith, old.inside)) old.octets in
-    old.longest.longest xs ys e (fewer xs old.before ys old.behind (sym e ∙ old.longest.parts) (omega (arith, size, lt)))
+    old.longest.longest xs ys e (fewer xs old.before ys old.after (sym e ∙ old.longest.parts) (omega (arith, size, lt)))
 
 -- At one place stand ends of one length only.
 one_length : (t : List ℕ) (p : ℕ) (xs ys : List (List ℕ)) → StandsAt t p xs → StandsAt t p ys → length xs ≡ length ys
@@ -80,21 +80,21 @@ one_length t p xs ys a b =
 pub longer_found : (t : List ℕ) (name : List ℕ) (w : RememberedLabel) (ws : List RememberedLabel) (best : Option WrittenSuffix) (end : WrittenSuffix) → IsAbsoluteWire name → w.at ≡ end.place → end.place < 16384 → SuffixAt t end.place name (begin_or_length best name) end.begin end.pointers → Longest t ws name best → SuffixFound t (ws ++ w ∷ []) name end
 longer_found t name w ws best end wire_form here lowercase x old =
     let size = taken_size name end.begin x.before (omega (arith, x.inside)) x.octets in
-    let short : length (wire x.behind) ≤ 255 = omega (arith, ap length wire_form.0, wire_form.1.1, ap (λ ls. length (wire ls)) x.parts, length-wire_append x.before x.behind) in
-    let stands : StandsAt t w.at x.behind = subst (λ p. StandsAt t p x.behind) (sym here) (stands_so x.behind short x.through) in
+    let short : length (wire x.after) ≤ 255 = omega (arith, ap length wire_form.0, wire_form.1.1, ap (λ ls. length (wire ls)) x.parts, length-wire_append x.before x.after) in
+    let stands : StandsAt t w.at x.after = subst (λ p. StandsAt t p x.after) (sym here) (stands_so x.after short x.through) in
     let none = none_before t name ws best old in
     record {
       before = x.before;
-      behind = x.behind;
+      after = x.after;
       longest = record {
         parts = x.parts;
         more = x.more;
-        place = subst (λ p. FirstRemembered t (ws ++ w ∷ []) x.behind p) here (first_here t x.behind w ws (none x.before x.behind x.parts x.more (omega (arith, size, x.earlier))) stands);
+        place = subst (λ p. FirstRemembered t (ws ++ w ∷ []) x.after p) here (first_here t x.after w ws (none x.before x.after x.parts x.more (omega (arith, size, x.earlier))) stands);
         longest = λ xs ys e lt.
             let same = sym e ∙ x.parts in
-            let longer = longer_suffix xs ys x.before x.behind same lt x.more in
-            none_more t ys ws (w ∷ []) (none xs ys e (omega (arith, x.more, longer)) (omega (arith, size, x.earlier, shorter xs x.before ys x.behind same lt)))
-            ((λ s. absurd (omega (arith, longer, one_length t w.at ys x.behind s stands))), tt);
+            let longer = longer_suffix xs ys x.before x.after same lt x.more in
+            none_more t ys ws (w ∷ []) (none xs ys e (omega (arith, x.more, longer)) (omega (arith, size, x.earlier, shorter xs x.before ys x.after same lt)))
+            ((λ s. absurd (omega (arith, longer, one_length t w.at ys x.after s stands))), tt);
       };
       through = x.through;
       octets = x.octets;
@@ -108,11 +108,11 @@ whole_found t name ws vs end zero f =
     let none : f.before ≡ [] = nil_from_wire f.before (taken_size name end.begin f.before (omega (arith, f.inside)) f.octets ∙ zero) in
     record {
       before = f.before;
-      behind = f.behind;
+      after = f.after;
       longest = record {
         parts = f.longest.parts;
         more = f.longest.more;
-        place = first_more t f.behind end.place ws vs f.longest.place;
+        place = first_more t f.after end.place ws vs f.longest.place;
         longest = λ xs ys e lt. absurd (omega (arith, lt, ap length none));
       };
       through = f.through;
@@ -121,7 +121,7 @@ whole_found t name ws vs end zero f =
       inside = f.inside;
     }
 
--- Of the places, those before the rest were seen.
+-- Of the offsets, those before the rest were seen.
 pub record Seen (t : List ℕ) (name : List ℕ) (all rest : List Written) (best : Option WrittenSuffix) : Type 0 where
   pub places_seen : List RememberedLabel
   pub split : all_remembered all ≡ places_seen ++ all_remembered rest

@@ -1,4 +1,4 @@
--- What a few octets at a place tell of the name there.
+-- What a few octets at an offset tell of the name there.
 use Rattle.std.proofs.Common.{◌≡◌, ℕ, ◌+◌, ◌-◌, ◌*◌, ◌/◌, ◌%◌, ◌^◌, ◌<◌, inl, inr, List, [], ◌∷◌, ◌++◌, fold, length, refl, sym, ap, subst, ◌∙◌, arith, slice_index, take, drop, drop-drop, slice_range, slice_set, get_or-set_same, get_or-set_other}
 use Rattle.std.proofs.Math.Seq.{take-append_seam}
 use Rattle.std.proofs.lemmas.Grind.{common_steps}
@@ -12,7 +12,7 @@ use Rattle.domain_reading.specs.Grammar.Reads.{root, label, pointer}
 use Rattle.domain_rdata.specs.ReadBack.{StandsAt}
 use Rattle.domain_compress.specs.Ends.{first_label, hash_step, label_hash, first_hash, slot_of, IsMarked}
 use Rattle.domain_compress.specs.Hashes.{hash_at, HasHash}
-use Rattle.domain_compress.specs.Pointed.{nothing_behind}
+use Rattle.domain_compress.specs.Pointed.{nothing_after}
 use Rattle.domain_compress.proofs.ComparedInMessage.{same_first, same_length}
 
 low_kind : (c : ℕ) → to_ascii_lowercase c % 32 ≡ c % 32
@@ -35,7 +35,7 @@ same_hash a b e =
 label_hash_at : (m l : List ℕ) (p : ℕ) → LabelAt m p l → hash_at m p ≡ label_hash l
 label_hash_at m l p x = ap (λ n. label_hash (slice_range m (p + 1) (p + 1 + n))) x.head ∙ ap label_hash x.octets
 
--- A label stands at the place itself, or a pointer.
+-- A label stands at the offset itself, or a pointer.
 pub record Glance (m : List ℕ) (p : ℕ) (l : List ℕ) : Type 0 where
   pub inside : p + 1 < length m
   pub all_inside : slice_index m p < 64 → p + slice_index m p < length m
@@ -70,7 +70,7 @@ name_label name at before ls y m =
     let tail : drop (at + 1) name ≡ y ++ wire ls = sym (drop-drop 1 at name) ∙ ap (drop 1) (meets_drop name at before (y ∷ ls) m) in
     ap (λ i. take i (drop (at + 1) name)) size ∙ (ap (take (length y)) tail ∙ take-append_seam y (wire ls))
 
-pub label_kind : (name : List ℕ) (at : ℕ) (before behind : List (List ℕ)) → Meets name at before behind → IsAbsolute behind → label_hash (slice_range name (at + 1) (at + 1 + slice_index name at)) ≡ first_hash behind
+pub label_kind : (name : List ℕ) (at : ℕ) (before after : List (List ℕ)) → Meets name at before after → IsAbsolute after → label_hash (slice_range name (at + 1) (at + 1 + slice_index name at)) ≡ first_hash after
 label_kind name at before [] m a = absurd a
 label_kind name at before (y ∷ ls) m a =
     ap (λ n. label_hash (slice_range name (at + 1) (at + 1 + n))) (read_at name at before y ls m) ∙ ap label_hash (name_label name at before ls y m)
@@ -91,7 +91,7 @@ marked_still marks k j inside e = elim (cases_lt j k) [
 
 end_absolute : (xs ys : List (List ℕ)) → IsAbsolute (xs ++ ys) → 0 < length ys → IsAbsolute ys
 end_absolute [] ys a some = a
-end_absolute ([] ∷ xs) ys a some = absurd (nothing_behind xs ys a some)
+end_absolute ([] ∷ xs) ys a some = absurd (nothing_after xs ys a some)
 end_absolute ((c ∷ l) ∷ xs) ys a some = end_absolute xs ys a.1 some
 
 some_label : (ys : List (List ℕ)) → IsAbsolute ys → 1 < length ys → 0 < length (first_label ys)

@@ -62,7 +62,7 @@ compresses_once t ws ls _ _ _ _ (unread f not) (pointer g x) = absurd (not (same
 compresses_once t ws ls _ _ _ _ (unread {a} {b} {p} f not) (flat none) = absurd (some_place t b p ws f.place (none a b f.parts f.more))
 compresses_once t ws ls _ _ _ _ (unread f not) (unread g also) = (refl, refl)
 
--- What is read stays behind more octets, and where octets are cut behind it.
+-- What is read stays after more octets, and where octets are cut after it.
 pub stands_more : (t u : List ℕ) (p : ℕ) (ls : List (List ℕ)) → StandsAt t p ls → StandsAt (t ++ u) p ls
 stands_more t u p ls s = (s.0, names_more u s.1, s.2)
 

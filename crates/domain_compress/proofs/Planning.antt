@@ -8,7 +8,7 @@ pub offsets_in_table : (table : List ℕ) → offsets (places_in_table table) �
 offsets_in_table [] = refl
 offsets_in_table (p ∷ table) = ap (λ t. p ∷ t) (offsets_in_table table)
 
--- The offsets of a table and of more places, up to some number.
+-- The offsets of a table and of more offsets, up to some number.
 pub offsets_more : (table : List ℕ) (old more : List RememberedLabel) → old ≡ places_in_table table → offsets (take 128 (old ++ more)) ≡ take 128 (table ++ offsets more)
 offsets_more table old more e =
     sym (take-map (λ (w : RememberedLabel). w.at) 128 (old ++ more)) ∙ ap (take 128) (map-append (λ (w : RememberedLabel). w.at) old more ∙ ap (λ t. t ++ offsets more) (ap offsets e ∙ offsets_in_table table))

@@ -9,18 +9,18 @@ use Rattle.domain_flat.proofs.LabelBounds.{Meets, meets_start, meets_take, meets
 use Rattle.domain_compress.specs.Ends.{first_label}
 use Rattle.domain_compress.specs.Written.{StandsThrough, SuffixAt}
 
--- Up to the place at, each end of the name has the property.
+-- Up to the offset at, each end of the name has the property.
 pub record Passed (P : List (List ℕ) → Type 0) (name : List ℕ) (at : ℕ) : Type 0 where
   pub before : List (List ℕ)
-  pub behind : List (List ℕ)
-  pub meets : Meets name at before behind
-  pub absolute : IsAbsolute behind
+  pub after : List (List ℕ)
+  pub meets : Meets name at before after
+  pub absolute : IsAbsolute after
   pub earlier : (xs ys : List (List ℕ)) → labels_in name ≡ xs ++ ys → length xs < length before → P ys
 
 pub passed_start : (P : List (List ℕ) → Type 0) (name : List ℕ) → IsAbsoluteWire name → Passed P name 0
 passed_start P name w = record {
   before = [];
-  behind = labels_in name;
+  after = labels_in name;
   meets = meets_start name (absolute_wire w);
   absolute = w.1.0;
   earlier = λ xs ys e h. absurd (omega (arith, h));
@@ -29,14 +29,14 @@ passed_start P name w = record {
 meets_length : (o : List ℕ) (i : ℕ) (xs ys : List (List ℕ)) → Meets o i xs ys → length o ≡ i + length (wire ys)
 meets_length o i xs ys m = omega (arith, m.at, ap length m.whole, length-append (wire xs) (wire ys))
 
-pub behind_all : (name : List ℕ) (at : ℕ) → take (length name - at) (drop at name) ≡ drop at name
-behind_all name at = grind (arith, common_steps)
+pub after_all : (name : List ℕ) (at : ℕ) → take (length name - at) (drop at name) ≡ drop at name
+after_all name at = grind (arith, common_steps)
 
--- What stands behind the place at.
-pub record Ahead (name : List ℕ) (at : ℕ) (behind : List (List ℕ)) : Type 0 where
+-- What stands after the offset at.
+pub record Ahead (name : List ℕ) (at : ℕ) (after : List (List ℕ)) : Type 0 where
   pub inside : at < length name
   pub wire_form : IsAbsoluteWire (drop at name)
-  pub spelled : labels_in (drop at name) ≡ behind
+  pub spelled : labels_in (drop at name) ≡ after
   pub head_fits : at + 1 + slice_index name at ≤ length name
 
 pub size_some : (ls : List (List ℕ)) → IsAbsolute ls → (l : List ℕ) × (rest : List (List ℕ)) × (ls ≡ l ∷ rest)
@@ -60,10 +60,10 @@ ahead_of name at xs ys w m a l rest e =
       head_fits = omega (arith, n, h);
     }
 
-pub ahead : {P : List (List ℕ) → Type 0} (name : List ℕ) (at : ℕ) → IsAbsoluteWire name → (s : Passed P name at) → Ahead name at s.behind
+pub ahead : {P : List (List ℕ) → Type 0} (name : List ℕ) (at : ℕ) → IsAbsoluteWire name → (s : Passed P name at) → Ahead name at s.after
 ahead name at w s =
-    let b = size_some s.behind s.absolute in
-    ahead_of name at s.before s.behind w s.meets s.absolute b.0 b.1 b.2
+    let b = size_some s.after s.absolute in
+    ahead_of name at s.before s.after w s.meets s.absolute b.0 b.1 b.2
 
 -- One cut of a list at one place.
 pub one_cut : (xs ys zs bs : List (List ℕ)) → xs ++ ys ≡ zs ++ bs → length xs ≡ length zs → ys ≡ bs
@@ -97,7 +97,7 @@ more_earlier P name before l rest whole earlier here xs ys e h =
           subst P (one_cut before (l ∷ rest) xs ys (sym whole ∙ e) same) here)
     ]
 
-next_of : (P : List (List ℕ) → Type 0) (name : List ℕ) (at : ℕ) (before behind : List (List ℕ)) → Meets name at before behind → IsAbsolute behind → ((xs ys : List (List ℕ)) → labels_in name ≡ xs ++ ys → length xs < length before → P ys) → P behind → (slice_index name at ≡ 0 → ⊥) → Passed P name (at + 1 + slice_index name at)
+next_of : (P : List (List ℕ) → Type 0) (name : List ℕ) (at : ℕ) (before after : List (List ℕ)) → Meets name at before after → IsAbsolute after → ((xs ys : List (List ℕ)) → labels_in name ≡ xs ++ ys → length xs < length before → P ys) → P after → (slice_index name at ≡ 0 → ⊥) → Passed P name (at + 1 + slice_index name at)
 next_of P name at before [] m a earlier here some = absurd a
 next_of P name at before ([] ∷ rest) m a earlier here some = absurd (some (read_at name at before [] rest m))
 next_of P name at before ((c ∷ l) ∷ rest) m a earlier here some =
@@ -105,21 +105,21 @@ next_of P name at before ((c ∷ l) ∷ rest) m a earlier here some =
     let Q : ℕ → Type 0 = λ k. Passed P name (at + 1 + k) in
     subst Q (sym h) (record {
       before = before ++ (c ∷ l) ∷ [];
-      behind = rest;
+      after = rest;
       meets = meets_next name at before (c ∷ l) rest m;
       absolute = a.1;
       earlier = more_earlier P name before (c ∷ l) rest (meets_labels name at before ((c ∷ l) ∷ rest) m) earlier here;
     })
 
 -- Each label more, the property may become a weaker one.
-pub passed_more : {P Q : List (List ℕ) → Type 0} (name : List ℕ) (at : ℕ) → ((ys : List (List ℕ)) → P ys → Q ys) → (s : Passed P name at) → Q s.behind → (slice_index name at ≡ 0 → ⊥) → Passed Q name (at + 1 + slice_index name at)
+pub passed_more : {P Q : List (List ℕ) → Type 0} (name : List ℕ) (at : ℕ) → ((ys : List (List ℕ)) → P ys → Q ys) → (s : Passed P name at) → Q s.after → (slice_index name at ≡ 0 → ⊥) → Passed Q name (at + 1 + slice_index name at)
 passed_more {P} {Q} name at weaker s here some =
-    next_of Q name at s.before s.behind s.meets s.absolute (λ xs ys e h. weaker ys (s.earlier xs ys e h)) here some
+    next_of Q name at s.before s.after s.meets s.absolute (λ xs ys e h. weaker ys (s.earlier xs ys e h)) here some
 
-pub passed_next : {P : List (List ℕ) → Type 0} (name : List ℕ) (at : ℕ) → (s : Passed P name at) → P s.behind → (slice_index name at ≡ 0 → ⊥) → Passed P name (at + 1 + slice_index name at)
+pub passed_next : {P : List (List ℕ) → Type 0} (name : List ℕ) (at : ℕ) → (s : Passed P name at) → P s.after → (slice_index name at ≡ 0 → ⊥) → Passed P name (at + 1 + slice_index name at)
 passed_next {P} name at s here some = passed_more {P = P} {Q = P} name at (λ ys p. p) s here some
 
-root_left : (name : List ℕ) (at : ℕ) (before behind : List (List ℕ)) → Meets name at before behind → IsAbsolute behind → slice_index name at ≡ 0 → length behind ≡ 1
+root_left : (name : List ℕ) (at : ℕ) (before after : List (List ℕ)) → Meets name at before after → IsAbsolute after → slice_index name at ≡ 0 → length after ≡ 1
 root_left name at before [] m a zero = absurd a
 root_left name at before ([] ∷ rest) m a zero = ap (λ r. length ([] ∷ r)) a
 root_left name at before ((c ∷ l) ∷ rest) m a zero = absurd (omega (arith, zero, read_at name at before (c ∷ l) rest m))
@@ -127,33 +127,33 @@ root_left name at before ((c ∷ l) ∷ rest) m a zero = absurd (omega (arith, z
 -- Each end but the root has the property.
 pub passed_all : {P : List (List ℕ) → Type 0} (name : List ℕ) (at : ℕ) → Passed P name at → slice_index name at ≡ 0 → (xs ys : List (List ℕ)) → labels_in name ≡ xs ++ ys → 1 < length ys → P ys
 passed_all name at s zero xs ys e more =
-    let one = root_left name at s.before s.behind s.meets s.absolute zero in
-    let whole = meets_labels name at s.before s.behind s.meets in
-    s.earlier xs ys e (omega (arith, more, one, ap length (sym whole ∙ e), length-append s.before s.behind, length-append xs ys))
+    let one = root_left name at s.before s.after s.meets s.absolute zero in
+    let whole = meets_labels name at s.before s.after s.meets in
+    s.earlier xs ys e (omega (arith, more, one, ap length (sym whole ∙ e), length-append s.before s.after, length-append xs ys))
 
--- Each end that begins before the place has it.
+-- Each end that begins before the offset has it.
 pub passed_upto : {P : List (List ℕ) → Type 0} (name : List ℕ) (at upto : ℕ) → Passed P name at → upto ≤ at → (xs ys : List (List ℕ)) → labels_in name ≡ xs ++ ys → length (wire xs) < upto → P ys
 passed_upto name at upto s le xs ys e lt =
-    s.earlier xs ys e (fewer xs s.before ys s.behind (sym e ∙ meets_labels name at s.before s.behind s.meets) (omega (arith, le, lt, s.meets.at)))
+    s.earlier xs ys e (fewer xs s.before ys s.after (sym e ∙ meets_labels name at s.before s.after s.meets) (omega (arith, le, lt, s.meets.at)))
 
-pub more_left : (name : List ℕ) (at : ℕ) (before behind : List (List ℕ)) → Meets name at before behind → IsAbsolute behind → (slice_index name at ≡ 0 → ⊥) → (1 < length behind) × (at + 2 ≤ length name)
+pub more_left : (name : List ℕ) (at : ℕ) (before after : List (List ℕ)) → Meets name at before after → IsAbsolute after → (slice_index name at ≡ 0 → ⊥) → (1 < length after) × (at + 2 ≤ length name)
 more_left name at before [] m a some = absurd a
 more_left name at before ([] ∷ rest) m a some = absurd (some (read_at name at before [] rest m))
 more_left name at before ((c ∷ l) ∷ []) m a some = absurd a.1
 more_left name at before ((c ∷ l) ∷ r ∷ rest) m a some = (omega arith, omega (arith, meets_length name at before ((c ∷ l) ∷ r ∷ rest) m, length-append l (wire (r ∷ rest))))
 
--- An end of the name that stands at a place.
+-- An end of the name that stands at an offset.
 pub end_stands : {P : List (List ℕ) → Type 0} (t name : List ℕ) (p at k upto : ℕ) → IsAbsoluteWire name → (s : Passed P name at) → at < upto → (slice_index name at ≡ 0 → ⊥) → StandsThrough t p (labels_in (drop at name)) k → SuffixAt t p name upto at k
 end_stands t name p at k upto w s lt some through =
-    let more = more_left name at s.before s.behind s.meets s.absolute some in
+    let more = more_left name at s.before s.after s.meets s.absolute some in
     let Q : List (List ℕ) → Type 0 = λ b. StandsThrough t p b k in
     record {
       before = s.before;
-      behind = s.behind;
-      parts = meets_labels name at s.before s.behind s.meets;
+      after = s.after;
+      parts = meets_labels name at s.before s.after s.meets;
       more = more.0;
       through = subst Q (ahead name at w s).spelled through;
-      octets = meets_take name at s.before s.behind s.meets;
+      octets = meets_take name at s.before s.after s.meets;
       inside = more.1;
       earlier = lt;
     }

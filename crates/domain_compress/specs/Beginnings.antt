@@ -3,7 +3,7 @@ use Rattle.std.specs.Prelude.{◌≡◌, ℕ, ◌≤◌, List, ◌++◌, length,
 use Rattle.domain_label.specs.Wire.{wire, labels_in, IsWire}
 use Rattle.domain_compress.specs.Compressing.{RememberedLabel, Compresses}
 
--- The labels before the place at, and a pointer, were written behind t for the name.
+-- The labels before the offset at, and a pointer, were written after t for the name.
 pub record PointerWritten (t : List ℕ) (ws : List RememberedLabel) (name : List ℕ) (at : ℕ) (t' : List ℕ) : Type 0 where
   pub labels : List (List ℕ)
   pub octets : List ℕ

@@ -8,6 +8,6 @@ use Rattle.domain_compress.specs.Written.{all_remembered}
 abbrev pub target_of : {T E : Type 0} {g : _} {h : _} {i : _} {j : _} {k : _} → CompressComposer T E g h i j k → T
 target_of c = c.target
 
--- the places that it remembers
+-- the offsets that it remembers
 abbrev pub remembered_labels : {T E : Type 0} {g : _} {h : _} {i : _} {j : _} {k : _} → CompressComposer T E g h i j k → List RememberedLabel
 remembered_labels c = all_remembered c.written.items

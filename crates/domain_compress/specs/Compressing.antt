@@ -3,7 +3,7 @@ use Rattle.std.specs.Prelude.{◌≡◌, ℕ, ◌+◌, ◌/◌, ◌%◌, ◌<◌
 use Rattle.domain_label.specs.Wire.{wire}
 use Rattle.domain_rdata.specs.ReadBack.{StandsAt}
 
--- A place at which a label was written, and the end of the name that it was written for.
+-- An offset at which a label was written, and the end of the name that it was written for.
 pub record RememberedLabel : Type 0 where
   pub at : ℕ
   pub end : ℕ
@@ -22,7 +22,7 @@ abbrev pub FirstRemembered : List ℕ → List RememberedLabel → List (List �
 FirstRemembered t [] b p = ⊥
 FirstRemembered t (w ∷ ws) b p = (StandsAt t w.at b × (p ≡ w.at)) ⊎ ((StandsAt t w.at b → ⊥) × FirstRemembered t ws b p)
 
--- ls is a and then b, which isn't the root alone. b is the longest end of ls that stands at one of the places,
+-- ls is a and then b, which isn't the root alone. b is the longest end of ls that stands at one of the offsets,
 -- and p is the first of these.
 pub record LongestSuffix (t : List ℕ) (ws : List RememberedLabel) (ls a b : List (List ℕ)) (p : ℕ) : Type 0 where
   pub parts : ls ≡ a ++ b
@@ -34,32 +34,32 @@ pub record LongestSuffix (t : List ℕ) (ws : List RememberedLabel) (ls a b : Li
 abbrev pub NoSuffix : List ℕ → List RememberedLabel → List (List ℕ) → Type 0
 NoSuffix t ws ls = (xs ys : List (List ℕ)) → ls ≡ xs ++ ys → 1 < length ys → NoneRemembered t ws ys
 
--- Behind t, a and a pointer to p are read as a name that equals ls without case.
+-- After t, a and a pointer to p are read as a name that equals ls without case.
 abbrev pub IsRead : List ℕ → List (List ℕ) → List (List ℕ) → ℕ → Type 0
 IsRead t ls a p = StandsAt (t ++ (wire a ++ pointer_to p)) (length t) ls
 
--- What is written behind t for the name ls: the labels, and all octets.
+-- What is written after t for the name ls: the labels, and all octets.
 pub data Compresses (t : List ℕ) (ws : List RememberedLabel) (ls : List (List ℕ)) : List (List ℕ) → List ℕ → Type 0 where
   pointer : {a b : List (List ℕ)} {p : ℕ} → LongestSuffix t ws ls a b p → IsRead t ls a p → Compresses t ws ls a (wire a ++ pointer_to p)
   flat : NoSuffix t ws ls → Compresses t ws ls ls (wire ls)
   unread : {a b : List (List ℕ)} {p : ℕ} → LongestSuffix t ws ls a b p → (IsRead t ls a p → ⊥) → Compresses t ws ls ls (wire ls)
 
--- The places of these labels, the root left out, from the place p on; a pointer leads to places below 16,384
+-- The offsets of these labels, the root left out, from the offset p on; a pointer leads to offsets below 16,384
 -- only.
 abbrev pub remembered_from : ℕ → ℕ → List (List ℕ) → List RememberedLabel
 remembered_from p end [] = []
 remembered_from p end (l ∷ ls) =
     if nat_lt 0 (length l) then (if nat_lt p 16384 then record { at = p; end = end } ∷ remembered_from (p + 1 + length l) end ls else []) else []
 
--- The places ws, and those of the labels that were written behind t, up to 128 in all.
+-- The offsets ws, and those of the labels that were written after t, up to 128 in all.
 abbrev pub more_remembered : List RememberedLabel → List ℕ → List (List ℕ) → List ℕ → List RememberedLabel
 more_remembered ws t labels s = take 128 (ws ++ remembered_from (length t) (length t + length s) labels)
 
--- The places of names that end within the first n octets.
+-- The offsets of names that end within the first n octets.
 abbrev pub remembered_within : ℕ → List RememberedLabel → List RememberedLabel
 remembered_within n = filter (λ w. nat_le w.end n)
 
--- The octets t and the places ws become t' and ws': the name ls was written.
+-- The octets t and the offsets ws become t' and ws': the name ls was written.
 pub record Adds (t : List ℕ) (ws : List RememberedLabel) (ls : List (List ℕ)) (t' : List ℕ) (ws' : List RememberedLabel) : Type 0 where
   pub labels : List (List ℕ)
   pub octets : List ℕ

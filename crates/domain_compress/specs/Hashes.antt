@@ -1,4 +1,4 @@
--- What is remembered of the label at a place.
+-- What is remembered of the label at an offset.
 use Rattle.std.specs.Prelude.{◌≡◌, ℕ, ◌+◌, ◌<◌, List, length, slice_index, slice_range, Bool, true}
 use Rattle.std.specs.List.{All}
 use Rattle.domain_compress.specs.declared.written.Written.{Written}

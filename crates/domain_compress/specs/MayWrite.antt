@@ -3,7 +3,7 @@ use Rattle.std.specs.Prelude.{ℕ, List}
 use Rattle.domain_rdata.specs.ReadBack.{Appended}
 use Rattle.domain_compress.specs.Compressing.{RememberedLabel, Compresses, Adds}
 
--- The octets that may be written behind t for the name ls.
+-- The octets that may be written after t for the name ls.
 abbrev pub MayWrite : List ℕ → List RememberedLabel → List (List ℕ) → List ℕ → Type 0
 MayWrite t ws ls s = (labels : List (List ℕ)) × Compresses t ws ls labels s
 

@@ -1,4 +1,4 @@
--- What is to be written for a name, where the places are a table of offsets.
+-- What is to be written for a name, where the offsets are a table of offsets.
 use Rattle.std.specs.Prelude.{◌≡◌, ℕ, ◌+◌, ◌≤◌, ◌<◌, List, ◌++◌, length, take, map}
 use Rattle.domain_label.specs.Wire.{wire, labels_in, IsWire}
 use Rattle.domain_compress.specs.Compressing.{RememberedLabel, pointer_to, Compresses}
@@ -11,11 +11,11 @@ place_in_table offset = record { at = offset; end = 0 }
 abbrev pub places_in_table : List ℕ → List RememberedLabel
 places_in_table = map place_in_table
 
--- the table of the places
+-- the table of the offsets
 abbrev pub offsets : List RememberedLabel → List ℕ
 offsets = map (λ w. w.at)
 
--- Behind t the first octets of the name, up to begin, and a pointer to the offset are to be written for it.
+-- After t the first octets of the name, up to begin, and a pointer to the offset are to be written for it.
 pub record WritesPointer (t : List ℕ) (ws : List RememberedLabel) (name : List ℕ) (begin offset : ℕ) : Type 0 where
   pub labels : List (List ℕ)
   pub compresses : Compresses t ws (labels_in name) labels (take begin name ++ pointer_to offset)

@@ -26,8 +26,8 @@ label_plain t l u some few = record {
   octets = label_slice t l u (length l);
 }
 
-flat_behind : (t l u : List ℕ) (a : List (List ℕ)) → 0 < length l → length l ≤ 63 → Flat ((t ++ length l ∷ l) ++ (wire a ++ u)) (length (t ++ length l ∷ l)) a (length (t ++ length l ∷ l) + length (wire a)) → Flat (t ++ (wire (l ∷ a) ++ u)) (length t) (l ∷ a) (length t + length (wire (l ∷ a)))
-flat_behind t l u a some few tail =
+flat_after : (t l u : List ℕ) (a : List (List ℕ)) → 0 < length l → length l ≤ 63 → Flat ((t ++ length l ∷ l) ++ (wire a ++ u)) (length (t ++ length l ∷ l)) a (length (t ++ length l ∷ l) + length (wire a)) → Flat (t ++ (wire (l ∷ a) ++ u)) (length t) (l ∷ a) (length t + length (wire (l ∷ a)))
+flat_after t l u a some few tail =
     let whole : (t ++ length l ∷ l) ++ (wire a ++ u) ≡ t ++ (length l ∷ ((l ++ wire a) ++ u)) = append_assoc t (length l ∷ l) (wire a ++ u) ∙ ap (λ xs. t ++ (length l ∷ xs)) (sym (append_assoc l (wire a) u)) in
     let place : length (t ++ length l ∷ l) ≡ length t + 1 + length l = omega (arith, length-append t (length l ∷ l)) in
     let end : length t + 1 + length l + length (wire a) ≡ length t + length (wire (l ∷ a)) = omega (arith, length-append l (wire a)) in
@@ -40,18 +40,18 @@ flat_behind t l u a some few tail =
 pub flat_plain : (a : List (List ℕ)) (t u : List ℕ) → IsRelative a → Flat (t ++ (wire a ++ u)) (length t) a (length t + length (wire a))
 flat_plain [] t u r = omega arith
 flat_plain ([] ∷ a) t u r = absurd r
-flat_plain ((c ∷ l) ∷ a) t u r = flat_behind t (c ∷ l) u a (omega arith) r.0 (flat_plain a (t ++ length (c ∷ l) ∷ c ∷ l) u r.1)
+flat_plain ((c ∷ l) ∷ a) t u r = flat_after t (c ∷ l) u a (omega arith) r.0 (flat_plain a (t ++ length (c ∷ l) ∷ c ∷ l) u r.1)
 
 -- A list that has no label has none after another.
-pub nothing_behind : (a b : List (List ℕ)) → a ++ b ≡ [] → 0 < length b → ⊥
-nothing_behind a b h some =
+pub nothing_after : (a b : List (List ℕ)) → a ++ b ≡ [] → 0 < length b → ⊥
+nothing_after a b h some =
     let e : length (a ++ b) ≡ 0 = ap length h in
     omega (arith, length-append a b, e)
 
 -- What stands before the end of an absolute list is relative.
 pub begins_relative : (a b : List (List ℕ)) → IsAbsolute (a ++ b) → 0 < length b → IsRelative a
 begins_relative [] b h some = tt
-begins_relative ([] ∷ a) b h some = absurd (nothing_behind a b h some)
+begins_relative ([] ∷ a) b h some = absurd (nothing_after a b h some)
 begins_relative ((c ∷ l) ∷ a) b h some = (h.0, begins_relative a b h.1 some)
 
 pointer_plain : (x : List ℕ) (p : ℕ) → PointerAt (x ++ pointer_to p) (length x) p
@@ -64,9 +64,9 @@ pointer_plain x p =
       target = omega (arith, first, second);
     }
 
--- A pointer stands behind the labels that were written before it.
-pub pointer_behind : (t : List ℕ) (a : List (List ℕ)) (p : ℕ) → PointerAt (t ++ (wire a ++ pointer_to p)) (length t + length (wire a)) p
-pointer_behind t a p =
+-- A pointer stands after the labels that were written before it.
+pub pointer_after : (t : List ℕ) (a : List (List ℕ)) (p : ℕ) → PointerAt (t ++ (wire a ++ pointer_to p)) (length t + length (wire a)) p
+pointer_after t a p =
     let P : List ℕ → Type 0 = λ m. PointerAt m (length t + length (wire a)) p in
     let Q : ℕ → Type 0 = λ n. PointerAt ((t ++ wire a) ++ pointer_to p) n p in
     subst P (append_assoc t (wire a) (pointer_to p)) (subst Q (length-append t (wire a)) (pointer_plain (t ++ wire a) p))
@@ -82,8 +82,8 @@ pointed t ws ls a b p name found read =
     let some : 0 < length b = omega (arith, found.more) in
     let rel : IsRelative a = begins_relative a b (subst IsAbsolute found.parts name.0) some in
     let s = wire a ++ pointer_to p in
-    let behind = pointer_behind t a p in
-    let front : Encoding (t ++ s) (length t) a (stop_pointer p) (length t + length s) = record { stop = length t + length (wire a); flat = flat_plain a t (pointer_to p) rel; ends = (behind, omega (arith, length-append (wire a) (pointer_to p))) } in
+    let after = pointer_after t a p in
+    let front : Encoding (t ++ s) (length t) a (stop_pointer p) (length t + length s) = record { stop = length t + length (wire a); flat = flat_plain a t (pointer_to p) rel; ends = (after, omega (arith, length-append (wire a) (pointer_to p))) } in
     record {
       short = omega (arith, length-append (wire a) (pointer_to p), ap (λ xs. length (wire xs)) found.parts, length-wire_append a b, end_size b found.more);
       stands = read;

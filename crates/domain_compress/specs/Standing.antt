@@ -1,13 +1,13 @@
--- Names that are read whatever is written before a place of the message.
+-- Names that are read whatever is written before an offset of the message.
 use Rattle.std.specs.Prelude.{ℕ, ◌≤◌, List, length, take}
 use Rattle.std.specs.List.{All}
-use Rattle.domain_reading.specs.Touched.{ReadsBehind}
+use Rattle.domain_reading.specs.Touched.{ReadsFrom}
 use Rattle.domain_compress.specs.Compressing.{RememberedLabel}
 
--- Labels are read at the place w, from octets between n and the end of the name that was written there.
+-- Labels are read at the offset w, from octets between n and the end of the name that was written there.
 pub record RememberedStands (n : ℕ) (t : List ℕ) (w : RememberedLabel) : Type 0 where
   pub labels : List (List ℕ)
-  pub reads : ReadsBehind n (take w.end t) w.at labels
+  pub reads : ReadsFrom n (take w.end t) w.at labels
   pub inside : w.end ≤ length t
 
 -- So they are at each of the places.

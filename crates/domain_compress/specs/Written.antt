@@ -16,20 +16,20 @@ remembered w = record { at = w.place; end = w.end }
 abbrev pub all_remembered : List Written → List RememberedLabel
 all_remembered = map remembered
 
--- The name that is read at the place p of t equals ls without case, and k pointers lead along it.
+-- The name that is read at the offset p of t equals ls without case, and k pointers lead along it.
 pub record StandsThrough (t : List ℕ) (p : ℕ) (ls : List (List ℕ)) (k : ℕ) : Type 0 where
   pub labels : List (List ℕ)
   pub reads : Reads t p k labels
   pub same : lowercase_labels labels ≡ lowercase_labels ls
   pub few : k ≤ 255
 
--- The end of the name that begins at the place at of its wire format, before upto, stands at p.
+-- The end of the name that begins at the offset at of its wire format, before upto, stands at p.
 pub record SuffixAt (t : List ℕ) (p : ℕ) (name : List ℕ) (upto at k : ℕ) : Type 0 where
   pub before : List (List ℕ)
-  pub behind : List (List ℕ)
-  pub parts : labels_in name ≡ before ++ behind
-  pub more : 1 < length behind
-  pub through : StandsThrough t p behind k
+  pub after : List (List ℕ)
+  pub parts : labels_in name ≡ before ++ after
+  pub more : 1 < length after
+  pub through : StandsThrough t p after k
   pub octets : take at name ≡ wire before
   pub inside : at + 2 ≤ length name
   pub earlier : at < upto
@@ -38,18 +38,18 @@ pub record SuffixAt (t : List ℕ) (p : ℕ) (name : List ℕ) (upto at k : ℕ)
 abbrev pub NoSuffixAt : List ℕ → ℕ → List ℕ → ℕ → Type 0
 NoSuffixAt t p name upto = (xs ys : List (List ℕ)) → labels_in name ≡ xs ++ ys → 1 < length ys → length (wire xs) < upto → StandsAt t p ys → ⊥
 
--- The labels of the wire format up to where the end begins are before, and those behind are the longest end that
--- stands anywhere, at its place first.
+-- The labels of the wire format up to where the end begins are before, and those after are the longest end that
+-- stands anywhere, at its offset first.
 pub record SuffixFound (t : List ℕ) (ws : List RememberedLabel) (name : List ℕ) (end : WrittenSuffix) : Type 0 where
   pub before : List (List ℕ)
-  pub behind : List (List ℕ)
-  pub longest : LongestSuffix t ws (labels_in name) before behind end.place
-  pub through : StandsThrough t end.place behind end.pointers
+  pub after : List (List ℕ)
+  pub longest : LongestSuffix t ws (labels_in name) before after end.place
+  pub through : StandsThrough t end.place after end.pointers
   pub octets : take end.begin name ≡ wire before
   pub low : end.place < 16384
   pub inside : end.begin + 2 ≤ length name
 
--- The longest end of the name that stands at one of the places, if any does.
+-- The longest end of the name that stands at one of the offsets, if any does.
 abbrev pub Longest : List ℕ → List RememberedLabel → List ℕ → Option WrittenSuffix → Type 0
 Longest t ws name None = NoSuffix t ws (labels_in name)
 Longest t ws name (Some end) = SuffixFound t ws name end

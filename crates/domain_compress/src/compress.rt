@@ -19,10 +19,10 @@ use octseq::{Octets, OctetsBuilder, OctetsMut, Truncate};
 /// A composer that writes a name shorter where an end of it was written before (RFC 1035, 4.1.4).
 ///
 /// It appends to a target, which is any other composer, and remembers where labels of names were written: at
-/// most 128 places, those before the octet 16,384, to which a pointer can lead. Pointers count from the first
+/// most 128 offsets, those before the octet 16,384, to which a pointer can lead. Pointers count from the first
 /// octet of the target, so the message begins there. For a name it takes the longest end of it, other than the
-/// root, that is read without case at a place that it remembers, and writes the labels before it and a pointer
-/// to the first such place. Where there is none, or a reader would have to follow more than 255 pointers, the
+/// root, that is read without case at an offset that it remembers, and writes the labels before it and a pointer
+/// to the first such offset. Where there is none, or a reader would have to follow more than 255 pointers, the
 /// name is written flat. Either way it is read back as an equal name.
 ///
 /// What the target held before is never pointed to. Octets that are written over through `as_slice_mut` are
@@ -40,7 +40,7 @@ pub struct CompressComposer<T: Composer> {
 impl<T: Composer> CompressComposer<T> {
     ghost use Rattle.domain_compress.specs.Composers.{remembered_labels, target_of};
 
-    /// A composer of messages that begin with what the target holds. No place in that is remembered.
+    /// A composer of messages that begin with what the target holds. No offset in that is remembered.
     pub fn new(target: T) -> Self
         ensures target { target_of result ≡ target }
         ensures places { remembered_labels result ≡ [] }
@@ -87,14 +87,14 @@ impl<T: Composer> OctetsMut for CompressComposer<T> {
 impl<T: Composer> Truncate for CompressComposer<T> {
     ghost use Rattle.domain_compress.specs.Composers.{remembered_labels};
 
-    /// Keeps the first `len` octets, all where `len` is larger, and forgets the places of names that ended past
+    /// Keeps the first `len` octets, all where `len` is larger, and forgets the offsets of names that ended past
     /// them.
     fn truncate(&mut self, len: usize)
         ensures octets { T.octets self.new.target ≡ take len (T.octets self.old.target) }
         ensures capacity { T.capacity self.new.target ≡ T.capacity self.old.target }
         ensures places { remembered_labels self.new ≡ remembered_within len (remembered_labels self.old) }
     {
-        // While octets go away under the places, no hash counts.
+        // While octets go away under the offsets, no hash counts.
         self.hashed = false;
         self.target.truncate(len);
         self.hashed = forget(&mut self.written, self.target.as_slice(), len);
@@ -108,7 +108,7 @@ impl<T: Composer> OctetsBuilder for CompressComposer<T> {
 
     ghost limit = { T.limit };
 
-    /// Appends all of the octets, or none, as the target does. The places stay.
+    /// Appends all of the octets, or none, as the target does. The offsets stay.
     fn append_slice(&mut self, slice: &[u8]) -> Result<(), T::AppendError>
         ensures ok { OnOk result (T.octets self.new.target ≡ T.octets self.old.target ++ slice.now) }
         ensures unchanged { OnErr result (T.octets self.new.target ≡ T.octets self.old.target) }
@@ -141,11 +141,11 @@ impl<T: Composer> Composer for CompressComposer<T> {
 
     ghost appends = { λ c ls d. Adds (T.octets c.target) (remembered_labels c) ls (T.octets d.target) (remembered_labels d) };
 
-    /// Appends the labels before the longest end of the name that stands at a place that is remembered, and a
-    /// pointer to the first such place; or the wire format. The places of the labels that were written are
+    /// Appends the labels before the longest end of the name that stands at an offset that is remembered, and a
+    /// pointer to the first such offset; or the wire format. The offsets of the labels that were written are
     /// remembered.
     ///
-    /// It is refused only where these octets exceed the spare capacity of the target. Octets and places are
+    /// It is refused only where these octets exceed the spare capacity of the target. Octets and offsets are
     /// then as before.
     fn append_flat_name(&mut self, name: &[u8]) -> Result<(), T::AppendError>
         requires { IsAbsoluteWire name.now }

@@ -1,4 +1,4 @@
-//! Passing over places where no end of a name can stand, by a hash of the first label there.
+//! Passing over offsets where no end of a name can stand, by a hash of the first label there.
 ghost use Rattle.std.specs.Prelude.{◌≡◌, ◌<◌, ℕ, List, length, slice_index, nat_eq, IsTrue, true};
 ghost use Rattle.domain_label.specs.Wire.{IsAbsoluteWire};
 ghost use Rattle.domain_rdata.specs.ReadBack.{StandsAt};
@@ -47,7 +47,7 @@ pub(crate) fn mark_firsts(marks: &mut [u8; 256], name: &[u8])
     }
 }
 
-/// The hash of the label at the place, and whether a label stands there at all, with another octet behind it.
+/// The hash of the label at the offset, and whether a label stands there at all, with another octet after it.
 pub(crate) fn hash_there(octets: &[u8], place: usize) -> (bool, u16)
     requires { place < 16384 }
     ensures { result.0 ≡ true → HasHash octets.now place result.1 }
@@ -64,7 +64,7 @@ pub(crate) fn hash_there(octets: &[u8], place: usize) -> (bool, u16)
     (true, hash(&octets[start..end]))
 }
 
-/// Whether a name whose first label has a marked hash may stand at the place. Where a pointer stands it may.
+/// Whether a name whose first label has a marked hash may stand at the offset. Where a pointer stands it may.
 pub(crate) fn may_stand(octets: &[u8], place: usize, marks: &[u8; 256]) -> bool
     requires { place < 16384 }
     ensures { (ls : List (List ℕ)) → 0 < length (first_label ls) → IsMarked marks.now ls → StandsAt octets.now place ls → IsTrue result }

@@ -15,7 +15,7 @@ use arrayvec::ArrayVec;
 /// The most pointers that lead along a name.
 const MAX_POINTERS: u8 = 255;
 
-/// The beginning of a name that is to be written, and where a pointer behind it leads to.
+/// The beginning of a name that is to be written, and where a pointer after it leads to.
 #[derive(Clone, Copy, Debug)]
 pub struct Beginning {
     /// How many octets of the name stand before the end that a pointer stands for.
@@ -49,7 +49,7 @@ pub(crate) fn find_beginning(
     })
 }
 
-/// The first `begin` octets of a name, and a pointer to an offset behind them (RFC 1035, 4.1.4).
+/// The first `begin` octets of a name, and a pointer to an offset after them (RFC 1035, 4.1.4).
 pub fn pointed(name: &[u8], begin: usize, offset: u16) -> ArrayVec<u8, 255>
     requires low { offset < 16384 }
     requires inside { begin + 2 ≤ length name.now }
@@ -83,7 +83,7 @@ fn written_at(table: &[u16]) -> ArrayVec<Written, 128>
     written
 }
 
-/// How a name is to be written behind octets, for callers that keep octets and offsets themselves: the beginning of
+/// How a name is to be written after octets, for callers that keep octets and offsets themselves: the beginning of
 /// the name before its longest end, other than the root, that is read without case at an offset of the table, and the
 /// first such offset.
 ///
@@ -111,7 +111,7 @@ fn offsets_of(written: &[Written]) -> ArrayVec<u16, 128>
     table
 }
 
-/// The table, and behind it the offsets of these labels, but for the root, that were written from `start` on: those
+/// The table, and after it the offsets of these labels, but for the root, that were written from `start` on: those
 /// below 16,384, to which a pointer can lead, and up to 128 in all.
 pub fn more_offsets(table: &[u16], labels: &[u8], start: usize) -> ArrayVec<u16, 128>
     requires few { length table.now ≤ 128 }

@@ -9,7 +9,7 @@ use crate::marks::hash_there;
 use crate::written::Written;
 use arrayvec::ArrayVec;
 
-/// A pointer leads to places below this one.
+/// A pointer leads to offsets below this one.
 const PLACES_END: usize = 16384;
 
 /// Remembers where these labels stand, but for the root, that were written from `start` on for a name that ends
@@ -37,7 +37,7 @@ pub(crate) fn remember(
         if len == 0 {
             return holds;
         }
-        // Past the end none of the label's places counts, and the sum below can't wrap before it.
+        // Past the end none of the label's offsets counts, and the sum below can't wrap before it.
         if start >= PLACES_END {
             return holds;
         }
@@ -59,7 +59,7 @@ pub(crate) fn remember(
     holds
 }
 
-/// Forgets the places of names that end past `len`, and reads the hashes of the others anew. Tells whether they
+/// Forgets the offsets of names that end past `len`, and reads the hashes of the others anew. Tells whether they
 /// are those of the labels in the octets.
 pub(crate) fn forget(written: &mut ArrayVec<Written, 128>, octets: &[u8], len: usize) -> bool
     ensures known { IsKnown result octets.now written.new.items }

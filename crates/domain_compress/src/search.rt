@@ -14,7 +14,7 @@ use domain_reading::heads::Heads;
 use std::marker::Brand;
 use std::sync::ledger::{Blank, Ledger};
 
-/// How many pointers lead along the name at the place, where it is this one without case.
+/// How many pointers lead along the name at the offset, where it is this one without case.
 fn pointers_at(octets: &[u8], place: usize, name: &[u8]) -> Option<u8>
     requires { IsAbsoluteWire name.now }
     ensures none { IsNone result → StandsAt octets.now place (labels_in name.now) → ⊥ }
@@ -77,7 +77,7 @@ fn pointers_at_with<L: Ledger>(octets: &[u8], place: usize, name: &[u8], blank: 
     }
 }
 
-/// The first end of the name that is read at the place, without case, of those that begin before `upto`; and
+/// The first end of the name that is read at the offset, without case, of those that begin before `upto`; and
 /// through how many pointers. The root alone is no end.
 fn suffix_at(octets: &[u8], place: usize, name: &[u8], upto: usize) -> Option<(usize, u8)>
     requires { IsAbsoluteWire name.now }
@@ -107,7 +107,7 @@ fn begin_or_len(end: Option<WrittenSuffix>, name: &[u8]) -> usize
     }
 }
 
-/// The longer one of the longest end that was found so far and the one that is read at a further place.
+/// The longer one of the longest end that was found so far and the one that is read at a further offset.
 fn better_suffix(
     octets: &[u8],
     written: Written,
@@ -128,10 +128,10 @@ fn better_suffix(
     }
 }
 
-/// The longest end of the name that is read at one of the places, without case, and the first of these. The
+/// The longest end of the name that is read at one of the offsets, without case, and the first of these. The
 /// root alone is no end.
 ///
-/// It goes over the places once. What stands at most of them begins with a label of another hash than any end
+/// It goes over the offsets once. What stands at most of them begins with a label of another hash than any end
 /// of the name: where the hashes count, the octets aren't read there.
 pub(crate) fn longest_suffix(
     octets: &[u8],

@@ -20,12 +20,12 @@ impl Default for Written {
     }
 }
 
-/// An end of a name that stands at a place of the octets.
+/// An end of a name that stands at an offset of the octets.
 #[derive(Clone, Copy)]
 pub(crate) struct WrittenSuffix {
     /// Where it begins in the octets of the name.
     pub(crate) begin: usize,
-    /// The place.
+    /// The offset.
     pub(crate) place: u16,
     /// How many pointers lead along it there.
     pub(crate) pointers: u8,

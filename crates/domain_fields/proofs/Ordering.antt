@@ -19,16 +19,16 @@ then_then Greater r a b h = refl
 same_number : (x y : ℕ) → nat_cmp x y ≡ Equal → x ≡ y
 same_number x y e = subst (λ o. MatchOrdering o (x < y) (x ≡ y) (y < x)) e (ranks x y)
 
--- Octets that none of the other octets go on from are compared first, and then what is behind both.
+-- Octets that none of the other octets go on from are compared first, and then what is after both.
 pub apart_cmp : (x y s t : List ℕ) → ((a b : List ℕ) → x ++ a ≡ y ++ b → x ≡ y) → slice_cmp nat_cmp (x ++ s) (y ++ t) ≡ ordering_then (slice_cmp nat_cmp x y) (slice_cmp nat_cmp s t)
 apart_cmp [] [] s t apart = refl
 apart_cmp [] (d ∷ y) s t apart = let e : [] ≡ d ∷ y = apart (d ∷ y) [] (sym (append-nil (d ∷ y))) in absurd (omega (arith, ap length e))
 apart_cmp (c ∷ x) [] s t apart = let e : c ∷ x ≡ [] = apart [] (c ∷ x) (append-nil (c ∷ x)) in absurd (omega (arith, ap length e))
 apart_cmp (c ∷ x) (d ∷ y) s t apart =
-    then_then (nat_cmp c d) (slice_cmp nat_cmp (x ++ s) (y ++ t)) (slice_cmp nat_cmp x y) (slice_cmp nat_cmp s t) (λ same. apart_cmp x y s t (behind c d x y (same_number c d same) apart))
+    then_then (nat_cmp c d) (slice_cmp nat_cmp (x ++ s) (y ++ t)) (slice_cmp nat_cmp x y) (slice_cmp nat_cmp s t) (λ same. apart_cmp x y s t (after c d x y (same_number c d same) apart))
   where
-    behind : (c d : ℕ) (x y : List ℕ) → c ≡ d → ((a b : List ℕ) → c ∷ (x ++ a) ≡ d ∷ (y ++ b) → c ∷ x ≡ d ∷ y) → (a b : List ℕ) → x ++ a ≡ y ++ b → x ≡ y
-    behind c d x y e apart a b f = let g : c ∷ x ≡ d ∷ y = apart a b (cc) in cc
+    after : (c d : ℕ) (x y : List ℕ) → c ≡ d → ((a b : List ℕ) → c ∷ (x ++ a) ≡ d ∷ (y ++ b) → c ∷ x ≡ d ∷ y) → (a b : List ℕ) → x ++ a ≡ y ++ b → x ≡ y
+    after c d x y e apart a b f = let g : c ∷ x ≡ d ∷ y = apart a b (cc) in cc
 
 -- as many octets
 pub as_many_cmp : (x y s t : List ℕ) → length x ≡ length y → slice_cmp nat_cmp (x ++ s) (y ++ t) ≡ ordering_then (slice_cmp nat_cmp x y) (slice_cmp nat_cmp s t)
@@ -51,7 +51,7 @@ names_followed xs ys r e a b s t =
 grouped : (a b c d s t : List ℕ) → slice_cmp nat_cmp ((a ++ c) ++ s) ((b ++ d) ++ t) ≡ slice_cmp nat_cmp (a ++ (c ++ s)) (b ++ (d ++ t))
 grouped a b c d s t = ap (λ l. slice_cmp nat_cmp l ((b ++ d) ++ t)) (append_assoc a c s) ∙ ap (λ l. slice_cmp nat_cmp (a ++ (c ++ s)) l) (append_assoc b d t)
 
--- one field behind another that is the same in both
+-- one field after another that is the same in both
 pub rest_order : (a b c d : List ℕ) (two : Ordering) → ((s t : List ℕ) → slice_cmp nat_cmp (a ++ s) (b ++ t) ≡ slice_cmp nat_cmp s t) → two ≡ slice_cmp nat_cmp c d → two ≡ slice_cmp nat_cmp (a ++ c) (b ++ d)
 rest_order a b c d two first rest = rest ∙ sym (first c d)
 
@@ -63,7 +63,7 @@ kept Less r differs = refl
 kept Equal r differs = absurd (differs refl)
 kept Greater r differs = refl
 
--- one field behind another that differs
+-- one field after another that differs
 pub first_order : (a b c d : List ℕ) (one : Ordering) → ((s t : List ℕ) → slice_cmp nat_cmp (a ++ s) (b ++ t) ≡ ordering_then one (slice_cmp nat_cmp s t)) → (one ≡ Equal → ⊥) → one ≡ slice_cmp nat_cmp (a ++ c) (b ++ d)
 first_order a b c d one first differs = sym (first c d ∙ kept one (slice_cmp nat_cmp c d) differs)
 

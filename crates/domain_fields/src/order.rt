@@ -14,7 +14,7 @@ pub trait OrderedField: DataField {
     /// The order of the octets of the canonical forms from the left; what begins another comes first (RFC 4034, 6.3).
     fn canonical_field_cmp(&self, other: &Self) -> Ordering
         ensures order { result ≡ slice_cmp nat_cmp (Self.canonical self.now) (Self.canonical other.now) }
-        // With other fields behind them, these are looked at only where the two are the same.
+        // With other fields after them, these are looked at only where the two are the same.
         ensures followed { (s t : List ℕ) → slice_cmp nat_cmp (Self.canonical self.now ++ s) (Self.canonical other.now ++ t) ≡ ordering_then result (slice_cmp nat_cmp s t) };
 }
 

@@ -13,10 +13,10 @@ pub passed_none : (o : List ℕ) → LabelsBefore o [] o
 passed_none o = record { labels = tt; parts = refl }
 
 -- one more label is passed
-pub passed_more : (o : List ℕ) (fs : List (List ℕ)) (rest l behind : List ℕ) → LabelsBefore o fs rest → BeginsWithLabel rest l behind → (l ≡ [] → ⊥) → LabelsBefore o (fs ++ l ∷ []) behind
-passed_more o fs rest l behind p b some = record {
+pub passed_more : (o : List ℕ) (fs : List (List ℕ)) (rest l after : List ℕ) → LabelsBefore o fs rest → BeginsWithLabel rest l after → (l ≡ [] → ⊥) → LabelsBefore o (fs ++ l ∷ []) after
+passed_more o fs rest l after p b some = record {
   labels = relative_then_relative fs (l ∷ []) p.labels (one_relative l b.0 some);
-  parts = p.parts ∙ (ap (λ r. wire fs ++ r) b.1 ∙ (ap (λ r. wire fs ++ length l ∷ (r ++ behind)) (sym (append-nil l)) ∙ (sym (append_assoc (wire fs) (wire (l ∷ [])) behind) ∙ ap (λ r. r ++ behind) (sym (wire_append fs (l ∷ []))))));
+  parts = p.parts ∙ (ap (λ r. wire fs ++ r) b.1 ∙ (ap (λ r. wire fs ++ length l ∷ (r ++ after)) (sym (append-nil l)) ∙ (sym (append_assoc (wire fs) (wire (l ∷ [])) after) ∙ ap (λ r. r ++ after) (sym (wire_append fs (l ∷ []))))));
 }
 
 -- a root ends an absolute name
@@ -189,7 +189,7 @@ absolute_once ((c ∷ k) ∷ xs) ((d ∷ l) ∷ ys) a b x y e =
     let both = same_front (c ∷ k) (d ∷ l) (wire xs ++ a) (wire ys ++ b) n (sym (append_assoc (c ∷ k) (wire xs) a) ∙ (t ∙ append_assoc (d ∷ l) (wire ys) b)) in
     ap (λ r. (c ∷ k) ∷ r) (absolute_once xs ys a b x.1 y.1 both.1) ∙ ap (λ l'. l' ∷ ys) both.0
 
--- the octets of the name that stands at a place
+-- the octets of the name that stands at an offset
 pub name_slice : (m : List ℕ) (p n : ℕ) (ls : List (List ℕ)) (rest : List ℕ) → drop p m ≡ wire ls ++ rest → n ≡ length (wire ls) → slice_range m p (p + n) ≡ wire ls
 name_slice m p n ls rest e len =
     let k : p + n - p ≡ length (wire ls) = omega (arith, len) in
@@ -197,4 +197,4 @@ name_slice m p n ls rest e len =
 
 -- a name stands inside the message
 pub name_inside : (m : List ℕ) (p e : ℕ) (ls : List (List ℕ)) → NameAt m p ls e → p < length m
-name_inside m p e ls at = omega (arith, some_octets ls at.behind at.name.0, ap length at.octets, length-drop p m)
+name_inside m p e ls at = omega (arith, some_octets ls at.after at.name.0, ap length at.octets, length-drop p m)

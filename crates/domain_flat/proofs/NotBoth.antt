@@ -52,7 +52,7 @@ relative_not_both o relative.CompressedName n f = goes_on_relative o f.1.0 f.1.1
 relative_not_both o relative.ShortInput n f = goes_on_relative o f.1.0 f.1.1 (labels_in o) relative.ShortInput f.1.2 n.1.0 (sym n.0) f.1.3
 relative_not_both o relative.AbsoluteName n f = goes_on_relative o f.1.0 f.1.1 (labels_in o) relative.AbsoluteName f.1.2 n.1.0 (sym n.0) f.1.3
 
--- ---- the name at a place
+-- ---- the name at an offset
 
 goes_on_here : (o : List ℕ) (fs : List (List ℕ)) (rest : List ℕ) (ls : List (List ℕ)) (tail : List ℕ) (r : Refusal) → LabelsBefore o fs rest → IsAbsolute ls → length (wire ls) ≤ 255 → o ≡ wire ls ++ tail → StartFaultAt fs rest r → ⊥
 goes_on_here o fs rest ls tail r p a short e (inl f) = fault_not_absolute o fs rest f.0 ls tail p f.1 a e
@@ -61,9 +61,9 @@ goes_on_here o fs rest ls tail r p a short e (inr f) =
     omega (arith, f.2, short, ap (λ x. length (wire x)) d.0, length-wire_append fs Root)
 
 pub start_not_both : (m : List ℕ) (p e : ℕ) (ls : List (List ℕ)) (r : Refusal) → NameAt m p ls e → StartFault (drop p m) r → ⊥
-start_not_both m p e ls r n f = goes_on_here (drop p m) f.0 f.1 ls n.behind r f.2 n.name.0 n.name.1 n.octets f.3
+start_not_both m p e ls r n f = goes_on_here (drop p m) f.0 f.1 ls n.after r f.2 n.name.0 n.name.1 n.octets f.3
 
 pub one_name : (m : List ℕ) (p e f : ℕ) (xs ys : List (List ℕ)) → NameAt m p xs e → NameAt m p ys f → (xs ≡ ys) × (e ≡ f)
 one_name m p e f xs ys a b =
-    let same : xs ≡ ys = absolute_once xs ys a.behind b.behind a.name.0 b.name.0 (sym a.octets ∙ b.octets) in
+    let same : xs ≡ ys = absolute_once xs ys a.after b.after a.name.0 b.name.0 (sym a.octets ∙ b.octets) in
     (same, a.end ∙ ap (λ ls. p + length (wire ls)) same ∙ sym b.end)

@@ -15,7 +15,7 @@ cut_none ls = record { parts = refl; place = refl }
 pub cut_all : (ls : List (List ℕ)) (n : ℕ) → length (wire ls) ≡ n → SplitsAt ls n ls []
 cut_all ls n e = record { parts = sym (append-nil ls); place = e }
 
--- of two cuts, the later one is behind the earlier one
+-- of two cuts, the later one is after the earlier one
 within : (xs ys xs' ys' : List (List ℕ)) → xs ++ ys ≡ xs' ++ ys' → length (wire xs) ≤ length (wire xs') → (zs : List (List ℕ)) × (xs' ≡ xs ++ zs) × (ys ≡ zs ++ ys')
 within [] ys xs' ys' e n = (xs', refl, e)
 within (x ∷ xs) ys [] ys' e n = absurd (omega (arith, n))
@@ -54,10 +54,10 @@ cut_len : (o : List ℕ) (p : ℕ) (xs ys : List (List ℕ)) → wire (labels_in
 cut_len o p xs ys w c = omega (arith, ap length (cut_wire o p xs ys w c), c.place, length-append (wire xs) (wire ys))
 
 -- the parts of an absolute name, cut where a label begins
-pub record AbsoluteParts (o : List ℕ) (p : ℕ) (before behind : List ℕ) : Type 0 where
+pub record AbsoluteParts (o : List ℕ) (p : ℕ) (before after : List ℕ) : Type 0 where
   pub front : IsRelativeWire before
-  pub back : IsAbsoluteWire behind
-  pub parts : labels_in before ++ labels_in behind ≡ labels_in o
+  pub back : IsAbsoluteWire after
+  pub parts : labels_in before ++ labels_in after ≡ labels_in o
   pub place : length (wire (labels_in before)) ≡ p
 
 pub absolute_parts : (o : List ℕ) (p : ℕ) → IsAbsoluteWire o → IsLabelStart (labels_in o) p → AbsoluteParts o p (take p o) (drop p o)
@@ -78,10 +78,10 @@ absolute_parts o p w s =
     }
 
 -- the parts of a relative name
-pub record RelativeParts (o : List ℕ) (p : ℕ) (before behind : List ℕ) : Type 0 where
+pub record RelativeParts (o : List ℕ) (p : ℕ) (before after : List ℕ) : Type 0 where
   pub front : IsRelativeWire before
-  pub back : IsRelativeWire behind
-  pub parts : labels_in before ++ labels_in behind ≡ labels_in o
+  pub back : IsRelativeWire after
+  pub parts : labels_in before ++ labels_in after ≡ labels_in o
   pub place : length (wire (labels_in before)) ≡ p
 
 pub relative_parts : (o : List ℕ) (p : ℕ) → IsRelativeWire o → IsLabelEnd (labels_in o) p → RelativeParts o p (take p o) (drop p o)
@@ -150,7 +150,7 @@ next_place o i place xs ys (z ∷ zs) ys' m e n h =
     let there : Meets o i xs (z ∷ (zs ++ ys')) = subst (λ r. Meets o i xs r) e m in
     omega (arith, read_at o i xs z (zs ++ ys') there, n, length-append z (wire zs))
 
--- from a label that begins before a place where one begins or the list ends, one comes at most to it
+-- from a label that begins before an offset where one begins or the list ends, one comes at most to it
 pub step_stays : (o : List ℕ) (i place : ℕ) → IsSeam o i → IsLabelEnd (labels_in o) place → i < place → i + 1 + slice_index_or o i 0 ≤ place
 step_stays o i place s t h =
     let c = seam_cut o i s in
@@ -161,17 +161,17 @@ step_stays o i place s t h =
 pub end_inside : (o : List ℕ) (place : ℕ) → IsWire o → IsLabelEnd (labels_in o) place → place ≤ length o
 end_inside o place w t = omega (arith, cut_len o place t.0 t.1 w.0 t.2)
 
--- where the walk has come to the place, or to the end, it tells
+-- where the walk has come to the offset, or to the end, it tells
 pub walk_tells : (o : List ℕ) (i place : ℕ) → IsWire o → IsSeam o i → i ≤ length o → (IsLabelEnd (labels_in o) place → i ≤ place) → (place ≤ i) ⊎ (length o ≤ i) → (IsTrue (nat_eq i place) → IsLabelEnd (labels_in o) place) × (IsLabelEnd (labels_in o) place → IsTrue (nat_eq i place))
 walk_tells o i place w s n before stop = (
   λ h. let e : i ≡ place = eqb-true i place h in let here : IsLabelEnd (labels_in o) i = (labels_in (take i o), labels_in (drop i o), seam_cut o i s) in subst (IsLabelEnd (labels_in o)) e here,
   λ t. eq-eqb i place (⊎_elim (λ a. omega (arith, a, before t)) (λ b. omega (arith, b, before t, n, end_inside o place w t)) stop),
 )
 
--- ---- behind the first label
+-- ---- after the first label
 
-pub relative_behind : (o r l : List ℕ) (rest : List (List ℕ)) → IsRelativeWire o → labels_in o ≡ l ∷ rest → labels_in r ≡ rest → wire (labels_in r) ≡ r → IsRelativeWire r
-relative_behind o r l rest w first same whole =
+pub relative_after : (o r l : List ℕ) (rest : List (List ℕ)) → IsRelativeWire o → labels_in o ≡ l ∷ rest → labels_in r ≡ rest → wire (labels_in r) ≡ r → IsRelativeWire r
+relative_after o r l rest w first same whole =
     let e : labels_in o ≡ l ∷ labels_in r = first ∙ ap (λ x. l ∷ x) (sym same) in
     let a = relative_cut (l ∷ []) (labels_in r) (subst IsRelative e w.1.0) in
     let n : length (wire (labels_in o)) ≡ suc (length l + length (wire (labels_in r))) = ap (λ x. length (wire x)) e ∙ ap suc (length-append l (wire (labels_in r))) in
@@ -181,8 +181,8 @@ absolute_tail : (l : List ℕ) (ls : List (List ℕ)) → IsAbsolute (l ∷ ls) 
 absolute_tail [] ls a more = absurd (more (ap (λ r. [] ∷ r) a))
 absolute_tail (c ∷ l) ls a more = a.1
 
-pub absolute_behind : (o r l : List ℕ) (rest : List (List ℕ)) → IsAbsoluteWire o → (labels_in o ≡ Root → ⊥) → labels_in o ≡ l ∷ rest → labels_in r ≡ rest → wire (labels_in r) ≡ r → IsAbsoluteWire r
-absolute_behind o r l rest w more first same whole =
+pub absolute_after : (o r l : List ℕ) (rest : List (List ℕ)) → IsAbsoluteWire o → (labels_in o ≡ Root → ⊥) → labels_in o ≡ l ∷ rest → labels_in r ≡ rest → wire (labels_in r) ≡ r → IsAbsoluteWire r
+absolute_after o r l rest w more first same whole =
     let e : labels_in o ≡ l ∷ labels_in r = first ∙ ap (λ x. l ∷ x) (sym same) in
     let a = absolute_tail l (labels_in r) (subst IsAbsolute e w.1.0) (λ root. more (e ∙ root)) in
     let n : length (wire (labels_in o)) ≡ suc (length l + length (wire (labels_in r))) = ap (λ x. length (wire x)) e ∙ ap suc (length-append l (wire (labels_in r))) in
@@ -227,11 +227,11 @@ last_empty ([] ∷ f ∷ front) l a = cc
 last_empty ((c ∷ k) ∷ front) l a = last_empty front l a.1
 
 -- a front that lacks one octet lacks the root alone
-pub lacks_root : (ls front behind : List (List ℕ)) → IsAbsolute ls → ls ≡ front ++ behind → length (wire front) + 1 ≡ length (wire ls) → front ++ Root ≡ ls
-lacks_root ls front behind a e n =
+pub lacks_root : (ls front after : List (List ℕ)) → IsAbsolute ls → ls ≡ front ++ after → length (wire front) + 1 ≡ length (wire ls) → front ++ Root ≡ ls
+lacks_root ls front after a e n =
     let r = root_last ls a in
     let len : length (wire ls) ≡ length (wire r.0) + 1 = ap (λ x. length (wire x)) r.1 ∙ length-wire_append r.0 Root in
-    let z = within r.0 Root front behind (sym r.1 ∙ e) (omega (arith, len, n)) in
+    let z = within r.0 Root front after (sym r.1 ∙ e) (omega (arith, len, n)) in
     ap (λ x. x ++ Root) (z.1 ∙ (ap (λ k. r.0 ++ k) (nil_from_wire z.0 (omega (arith, len, n, ap (λ x. length (wire x)) z.1, length-wire_append r.0 z.0))) ∙ append-nil r.0)) ∙ sym r.1
 
 -- a last label is the root

@@ -1,4 +1,4 @@
--- The places at which the labels of a wire format begin.
+-- The offsets at which the labels of a wire format begin.
 use Rattle.std.proofs.Common.{◌≡◌, ℕ, suc, ◌+◌, ◌-◌, ◌≤◌, ◌<◌, List, [], ◌∷◌, ◌++◌, length, take, drop, refl, sym, ◌∙◌, ap, subst, arith, length-append, slice_index_or}
 use Rattle.std.proofs.lemmas.List.{take_more}
 use Rattle.domain_label.specs.Wire.{wire, labels_in, AreLabels, IsWire}
@@ -11,7 +11,7 @@ pub length-starts : (p : ℕ) (ls : List (List ℕ)) → length (label_starts p 
 length-starts p [] = refl
 length-starts p (l ∷ ls) = ap suc (length-starts (p + 1 + length l) ls)
 
--- the last label begins behind all others
+-- the last label begins after all others
 pub starts_last : (p : ℕ) (xs : List (List ℕ)) (y : List ℕ) → label_starts p (xs ++ y ∷ []) ≡ label_starts p xs ++ (p + length (wire xs)) ∷ []
 starts_last p [] y = let e : p ≡ p + 0 = omega arith in ap (λ q. q ∷ []) e
 starts_last p (x ∷ xs) y =

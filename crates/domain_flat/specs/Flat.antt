@@ -10,8 +10,8 @@ pub record LabelsBefore (o : List ℕ) (fs : List (List ℕ)) (rest : List ℕ) 
 -- The name ls is at p in m without a pointer, and e is the offset after it.
 pub record NameAt (m : List ℕ) (p : ℕ) (ls : List (List ℕ)) (e : ℕ) : Type 0 where
   pub name : IsAbsoluteName ls
-  pub behind : List ℕ
-  pub octets : drop p m ≡ wire ls ++ behind
+  pub after : List ℕ
+  pub octets : drop p m ≡ wire ls ++ after
   pub end : e ≡ p + length (wire ls)
 
 -- The wire format o is a label l, and then the wire format r.
@@ -41,7 +41,7 @@ IsLabelEnd ls p = (xs : List (List ℕ)) × (ys : List (List ℕ)) × SplitsAt l
 
 -- part is what ls has between the offsets p and q of its wire format.
 abbrev pub IsPartOf : List (List ℕ) → ℕ → ℕ → List (List ℕ) → Type 0
-IsPartOf ls p q part = (before : List (List ℕ)) × (behind : List (List ℕ)) × SplitsAt ls p before (part ++ behind) × (p + length (wire part) ≡ q)
+IsPartOf ls p q part = (before : List (List ℕ)) × (after : List (List ℕ)) × SplitsAt ls p before (part ++ after) × (p + length (wire part) ≡ q)
 
 -- The list, the list without its first label, and so on to the last label alone.
 abbrev pub suffix_lists : List (List ℕ) → List (List (List ℕ))

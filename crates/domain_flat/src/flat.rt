@@ -24,11 +24,11 @@ fn pass_labels(octets: &[u8]) -> Result<&[u8], SplitLabelError>
 {
     let mut rest = octets;
     while !rest.is_empty() {
-        let (label, behind) = Label::split_from(rest)?;
+        let (label, after) = Label::split_from(rest)?;
         if label.is_root() {
             break;
         }
-        rest = behind;
+        rest = after;
     }
     Ok(rest)
 }

@@ -113,7 +113,7 @@ fn find_starts(octets: &[u8], starts: &mut [u8; MAX_LABELS]) -> Option<u8>
 fn split_around(octets: &[u8], place: usize) -> (&[u8], &[u8])
     requires { place < length octets.now }
     ensures before { result.0.now ≡ take place octets.now }
-    ensures behind { result.1.now ≡ drop (place + 1) octets.now }
+    ensures after { result.1.now ≡ drop (place + 1) octets.now }
 {
     (&octets[..place], &octets[place + 1..])
 }

@@ -9,7 +9,7 @@ use Rattle.domain_header.specs.Mnemonics.{Row, NumberOf}
 use Rattle.domain_header.specs.Numbered.{IsDecimal, IsNumbered, Named}
 use Rattle.domain_header.specs.Numbered.Named.{by_number, nothing}
 
--- the number is behind as many octets as the word has
+-- the number is after as many octets as the word has
 pub rest_of : (word text : List ℕ) (n : ℕ) → IsNumbered word text n → IsDecimal (drop (length word) text) n
 rest_of word text n is =
     let size : length is.first ≡ length word = sym (length-map is.first to_ascii_lowercase) ∙ (ap length is.same ∙ length-map word to_ascii_lowercase) in
@@ -27,6 +27,6 @@ numbered word text (Some n) same is = record {
 }
 
 -- the text names no mnemonic
-pub named_behind : (rows : List Row) (word text : List ℕ) (found : Option ℕ) → NumberOf text rows None → IfSome found (IsNumbered word text) → (IsNone found → (n : ℕ) → IsNumbered word text n → ⊥) → Named rows word text found
-named_behind rows word text None other some none = nothing other (none refl)
-named_behind rows word text (Some n) other some none = by_number other some
+pub named_after : (rows : List Row) (word text : List ℕ) (found : Option ℕ) → NumberOf text rows None → IfSome found (IsNumbered word text) → (IsNone found → (n : ℕ) → IsNumbered word text n → ⊥) → Named rows word text found
+named_after rows word text None other some none = nothing other (none refl)
+named_after rows word text (Some n) other some none = by_number other some

@@ -18,7 +18,7 @@ pub record IsNumbered (word text : List ℕ) (n : ℕ) : Type 0 where
   pub same : lowercase first ≡ lowercase word
   pub number : IsDecimal rest n
 
--- The number that a text names: that of its row, else that behind the word. None: it names none.
+-- The number that a text names: that of its row, else that after the word. None: it names none.
 pub data Named (rows : List Row) (word text : List ℕ) : Option ℕ → Type 0 where
   by_mnemonic : {n : ℕ} → NumberOf text rows (Some n) → Named rows word text (Some n)
   by_number : {n : ℕ} → NumberOf text rows None → IsNumbered word text n → Named rows word text (Some n)

@@ -27,9 +27,9 @@ fn decimal_number(text: &[u8]) -> Option<u16>
     Some(number as u16)
 }
 
-/// Returns the number behind the word (RFC 3597, 5), ignoring ASCII case in the word. `None` exactly if the text doesn't
+/// Returns the number after the word (RFC 3597, 5), ignoring ASCII case in the word. `None` exactly if the text doesn't
 /// begin with the word, or what follows isn't a number of at most 16 bits in decimal digits.
-pub fn number_behind(word: &str, text: &str) -> Option<u16>
+pub fn number_after(word: &str, text: &str) -> Option<u16>
     ensures some { IfSome result (λ n. IsNumbered word.now text.now n) }
     ensures none { IsNone result → (n : ℕ) → IsNumbered word.now text.now n → ⊥ }
 {
@@ -43,13 +43,13 @@ pub fn number_behind(word: &str, text: &str) -> Option<u16>
     decimal_number(rest)
 }
 
-/// Returns the number that a text names: that of its mnemonic in the table, ignoring ASCII case, else the number behind
+/// Returns the number that a text names: that of its mnemonic in the table, ignoring ASCII case, else the number after
 /// the word. `None` exactly if it names none.
 pub fn named_number(table: &[Mnemonic], word: &str, text: &str) -> Option<u16>
     ensures { Named (rows_of table.now) word.now text.now result }
 {
     match mnemonic_number(table, text) {
         Some(number) => Some(number),
-        None => number_behind(word, text),
+        None => number_after(word, text),
     }
 }

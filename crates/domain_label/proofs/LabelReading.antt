@@ -124,7 +124,7 @@ Here None left b rest = rest ≡ []
 Here (Some why) zero b rest = (rest ≢ []) × (why ≡ LongLabel)
 Here (Some why) (suc left) b rest = NoOctet b rest why
 
--- the same behind the octets l
+-- the same after the octets l
 abbrev Ends : List ℕ → ℕ → Bool → List ℕ → Option LabelFromStrErrorKind → Type 0
 Ends [] left b rest o = Here o left b rest
 Ends (c ∷ l) zero b rest o = ⊥
@@ -200,11 +200,11 @@ ends_refused : (l : List ℕ) (left : ℕ) (b : Bool) (rest : List ℕ) (why : L
 ends_refused [] zero b rest why h = inr (refl, h.0, h.1)
 ends_refused [] (suc left) b rest why h = inl (omega arith, h)
 ends_refused (c ∷ l) zero b rest why h = absurd h
-ends_refused (c ∷ l) (suc left) b rest why h = behind (ends_refused l left false rest why h)
+ends_refused (c ∷ l) (suc left) b rest why h = after (ends_refused l left false rest why h)
   where
-    behind : Refused left false l rest why → Refused (suc left) b (c ∷ l) rest why
-    behind (inl g) = inl (omega (arith, g.0), subst (λ (z : Bool). NoOctet z rest why) (still_false l) g.1)
-    behind (inr g) = inr (omega (arith, g.0), g.1, g.2)
+    after : Refused left false l rest why → Refused (suc left) b (c ∷ l) rest why
+    after (inl g) = inl (omega (arith, g.0), subst (λ (z : Bool). NoOctet z rest why) (still_false l) g.1)
+    after (inr g) = inr (omega (arith, g.0), g.1, g.2)
 
 text_ends : (cs l : List ℕ) → IsOwnedLabelText cs l → Ends l 63 true [] None
 text_ends cs l t = whole_ends l 63 true [] t.1 refl

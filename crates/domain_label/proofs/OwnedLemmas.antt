@@ -23,7 +23,7 @@ long-low len h =
     elim (cases_lt len 65) [
       | inl before ↦ omega (arith, h, (lowercase_is len).1 before)
       | inr from ↦ elim (cases_lt 90 len) [
-        | inl behind ↦ omega (arith, h, (lowercase_is len).2 behind)
+        | inl after ↦ omega (arith, h, (lowercase_is len).2 after)
         | inr to ↦ omega (arith, h, (lowercase_is len).0 (from, to))
       ]
     ]
@@ -40,7 +40,7 @@ front-low (len ∷ o) =
           rw same (front-short len (lowercase o) small ∙ (take-map to_ascii_lowercase len o ∙ rw (front-short len o small) refl))
     ]
 
--- as many octets as the first len of o, in their place, are then the first len
+-- as many octets as the first len of o, in their offset, are then the first len
 take-written : (len : ℕ) (o ws : List ℕ) → length ws ≡ length (take len o)
     → take len (ws ++ drop (length ws) o) ≡ ws
 take-written len o ws e =

@@ -168,7 +168,7 @@ within_255 n = at (leb_tells n 255)
     at (inl a) = inl a.1
     at (inr a) = inr a.1
 
--- what the characters behind a backslash make
+-- what the characters after a backslash make
 abbrev pub SymbolOrFault : List ℕ → Type 0
 SymbolOrFault cs = ((s : Symbol) × (rest : List ℕ) × HasSpelling s × (cs ≡ spelling s ++ rest)) ⊎ ((e : SymbolCharsError) × IsBroken cs e)
 
@@ -199,9 +199,9 @@ second a (b ∷ cs) d = at (digit_or_not b)
     at (inl f) = third a b cs d f
     at (inr n) = inr (BadEscape, (a ∷ [], b, cs, refl, (d, tt), n))
 
-behind : (cs : List ℕ) → SymbolOrFault (92 ∷ cs)
-behind [] = inr (ShortInput, ([], refl, omega arith, tt))
-behind (a ∷ cs) = at (digit_or_not a) (printable_or_not a)
+after : (cs : List ℕ) → SymbolOrFault (92 ∷ cs)
+after [] = inr (ShortInput, ([], refl, omega arith, tt))
+after (a ∷ cs) = at (digit_or_not a) (printable_or_not a)
   where
     at : IsDigit a ⊎ IsNoDigit a → IsPrintable a ⊎ IsNotPrintable a → SymbolOrFault (92 ∷ a ∷ cs)
     at (inl d) p = second a cs d
@@ -212,7 +212,7 @@ pub first : (c : ℕ) (cs : List ℕ) → SymbolOrFault (c ∷ cs)
 first c cs = at (backslash_or_not c)
   where
     at : (c ≡ 92) ⊎ (c ≢ 92) → SymbolOrFault (c ∷ cs)
-    at (inl e) = subst (λ (x : ℕ). SymbolOrFault (x ∷ cs)) (sym e) (behind cs)
+    at (inl e) = subst (λ (x : ℕ). SymbolOrFault (x ∷ cs)) (sym e) (after cs)
     at (inr n) = inl (Char c, cs, n, refl)
 
 shorter : (s : Symbol) (cs rest : List ℕ) → cs ≡ spelling s ++ rest → length rest < length cs

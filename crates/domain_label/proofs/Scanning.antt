@@ -68,7 +68,7 @@ module _ {I : Type 0} (steps : I → Option ℕ → I → Type 0) where
   gives_items (Ok y ∷ items) s cs on h reads = (λ t step. none_spelled y cs reads.1.0 (step.on on cs h).0 reads.1.1, λ x t step. symbol_item y items cs reads (λ u ds o k r. gives_items items u ds o k r) x t (step.on on cs h))
   gives_items (Err f ∷ items) s cs on h reads = (λ t step. none_broken cs f (step.on on cs h).0 reads.0, λ x t step. broken_item f items cs reads x t (step.on on cs h))
 
--- what a call gives at the end, behind a backslash, and at another character
+-- what a call gives at the end, after a backslash, and at another character
 module _ {I : Type 0} (steps : I → Option ℕ → I → Type 0) (s t : Symbols I) (next : I) where
   pub at_end : s.done ≡ false → t.done ≡ true → steps s.chars None next → SymbolSteps steps s None t
   at_end on over step = record { over = λ p. absurd (cc); on = λ _ cs h. (given_none steps s.chars next cs h step, over) }

@@ -34,7 +34,7 @@ pub split_once : (o : List ℕ) (d e : SplitLabelError) → SplitFault o d → S
 split_once [] d e f g = f ∙ sym g
 split_once (head ∷ rest) d e f g = head_once head rest d e f g
 
--- lists of one length with more behind them are the same where the whole is
+-- lists of one length with more after them are the same where the whole is
 pub same_front : (a b r s : List ℕ) → length a ≡ length b → a ++ r ≡ b ++ s → (a ≡ b) × (r ≡ s)
 same_front a b r s n e =
     let left : a ≡ b = sym (take-append_seam a r) ∙ (ap (take (length a)) e ∙ (ap (λ k. take k (b ++ s)) n ∙ take-append_seam b s)) in

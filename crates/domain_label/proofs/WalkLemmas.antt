@@ -119,7 +119,7 @@ drop-past s p h = none (drop p s) (length-drop p s) where
   none [] e = refl
   none (x ∷ o) e = absurd (omega (arith, e, h))
 
--- the places of the heads that a walk reads among the first n
+-- the offsets of the heads that a walk reads among the first n
 abbrev remembered_past : ℕ → Step → (ℕ → List ℕ) → List ℕ
 remembered_past p (past_label l next) from = p ∷ from next
 remembered_past p at_root from = p ∷ []
@@ -166,7 +166,7 @@ same-places s zero k p w v = absurd w
 same-places s (suc n) zero p w v = absurd v
 same-places s (suc n) (suc k) p w v = same-past s p n k (step_at s p) (λ q. same-places s n k q) w v
 
--- a walk that reads fewer heads never comes to the place p
+-- a walk that reads fewer heads never comes to the offset p
 apart-past : (s : List ℕ) (p q m most : ℕ) (t : Step) → (p == q) ≡ false
     → ((r : ℕ) → WalkEnds s r m → length (places s r m) < most → AllByRecursion (λ y. (p == y) ≡ false) (places s r m))
     → WherePast t (λ r. WalkEnds s r m) → length (remembered_past q t (λ r. places s r m)) < most
@@ -190,7 +190,7 @@ apart s p n zero q v w h = absurd w
 apart s p n (suc m) q v w h =
     apart-past s p q m (length (places s p n)) (step_at s q) (apart-here s p n q (suc m) v w h) (λ r. apart s p n m r v) w h
 
--- so no place is read twice
+-- so no offset is read twice
 distinct-past : (s : List ℕ) (p n : ℕ) (t : Step) → WalkEnds s p (suc n)
     → length (remembered_past p t (λ q. places s q n)) ≡ length (places s p (suc n))
     → ((q : ℕ) → WalkEnds s q n → IsDistinct ◌==◌ (places s q n))

@@ -11,7 +11,7 @@ use Rattle.domain_label.specs.Wire.{wire, wire_label, AreLabels}
 use Rattle.domain_label.proofs.CanonicalForm.{lowercase_wire}
 use Rattle.domain_label.proofs.WireLaws.{wire_append, length-wire_append}
 
--- a label behind the first octets
+-- a label after the first octets
 pub label_put : (o s l : List ℕ) (at j k n : ℕ) → length o ≡ 255 → at + length (wire_label l) ≤ 255 → s ≡ l → k ≡ length l → n ≡ length l → take (at + 1 + k) (put_mid (at + 1) j (slice_set o at n) s) ≡ take at o ++ wire_label l
 label_put o s l at j k n big few e f h =
     let inside : at < length o = omega (arith, big, few) in
@@ -23,7 +23,7 @@ label_put o s l at j k n big few e f h =
 pub lowered_front : (old new : List ℕ) (n : ℕ) (ls : List (List ℕ)) → new ≡ lowercase old → take n old ≡ wire ls → AreLabels ls → take n new ≡ wire (lowercase_labels ls)
 lowered_front old new n ls e h a = ap (take n) e ∙ (take-map to_ascii_lowercase n old ∙ (ap lowercase h ∙ lowercase_wire ls a))
 
--- the first octets of a buffer are what they were, where octets were put behind them
+-- the first octets of a buffer are what they were, where octets were put after them
 pub front_kept : (o new s : List ℕ) (len end : ℕ) → len ≤ length o → len ≤ end → take end new ≡ take len o ++ s → take len new ≡ take len o
 front_kept o new s len end inside after put =
     let size : length (take len o) ≡ len = length-take-le len o inside in

@@ -14,7 +14,7 @@ before_chain_relative ls rs l r = omega (arith, before_relative (ls ++ rs) (rela
 -- a relative name leaves an octet for a root
 pub root_fits : (ls rs : List (List ℕ)) → IsRelativeName ls → rs ≡ Root → before_root (ls ++ rs) ≤ 254
 root_fits ls rs r e =
-    let P : List (List ℕ) → Type 0 = λ behind. before_root (ls ++ behind) ≤ 254 in
+    let P : List (List ℕ) → Type 0 = λ after. before_root (ls ++ after) ≤ 254 in
     subst P (sym e) (omega (arith, before_chain_absolute ls Root r.0 refl, r.1))
 
 -- a chain's list is absolute exactly where its right list is

@@ -44,9 +44,9 @@ last_octets f r u v j e n =
 drop_low : (j : ℕ) (r : List ℕ) → lowercase (drop j r) ≡ drop j (lowercase r)
 drop_low j r = sym (drop-map to_ascii_lowercase j r)
 
-pub labels_behind : (us ps : List (List ℕ)) → AreLabels (us ++ ps) → AreLabels ps
-labels_behind [] ps a = a
-labels_behind (u ∷ us) ps a = labels_behind us ps a.1
+pub labels_after : (us ps : List (List ℕ)) → AreLabels (us ++ ps) → AreLabels ps
+labels_after [] ps a = a
+labels_after (u ∷ us) ps a = labels_after us ps a.1
 
 pub ends_alike : (xs ys : List (List ℕ)) (o p : List ℕ) (n : ℕ) → o ≡ wire xs → p ≡ wire ys → AreLabels xs → AreLabels ys → OctetSuffixesEqual o p n → SuffixesEqual xs ys n
 ends_alike xs ys o p n e f a b (h, g, t) = λ us ps vs qs c d same le.
@@ -55,7 +55,7 @@ ends_alike xs ys o p n e f a b (h, g, t) = λ us ps vs qs c d same le.
     let left : drop j t.o_end ≡ wire ps = last_octets h t.o_end (wire us) (wire ps) j (sym t.o_is ∙ (e ∙ (ap (λ ls. wire ls) c ∙ wire_append us ps))) (omega (arith, t.size)) in
     let right : drop j t.p_end ≡ wire qs = last_octets g t.p_end (wire vs) (wire qs) j (sym t.p_is ∙ (f ∙ (ap (λ ls. wire ls) d ∙ wire_append vs qs))) (omega (arith, long)) in
     let octets : lowercase (wire ps) ≡ lowercase (wire qs) = ap (λ r. lowercase r) (sym left) ∙ (drop_low j t.o_end ∙ (ap (λ r. drop j r) t.alike ∙ (sym (drop_low j t.p_end) ∙ ap (λ r. lowercase r) right))) in
-    wire_once (lowercase_labels ps) (lowercase_labels qs) (sym (lowercase_wire ps (labels_behind us ps (subst (λ ls. AreLabels ls) c a))) ∙ (octets ∙ lowercase_wire qs (labels_behind vs qs (subst (λ ls. AreLabels ls) d b))))
+    wire_once (lowercase_labels ps) (lowercase_labels qs) (sym (lowercase_wire ps (labels_after us ps (subst (λ ls. AreLabels ls) c a))) ∙ (octets ∙ lowercase_wire qs (labels_after vs qs (subst (λ ls. AreLabels ls) d b))))
 
 -- of no octets nothing is asked
 pub none_alike : (xs ys : List (List ℕ)) → SuffixesEqual xs ys 0

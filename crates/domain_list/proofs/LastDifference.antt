@@ -21,7 +21,7 @@ abbrev pub EndsIn : List (List ℕ) → Option Label → Type 0
 EndsIn us None = us ≡ []
 EndsIn us (Some x) = (f : List (List ℕ)) × (us ≡ f ++ label_octets x ∷ [])
 
--- x, behind which m octets are left, reaches further to the front than n octets from the end
+-- x, after which m octets are left, reaches further to the front than n octets from the end
 abbrev pub Reaches : Option Label → ℕ → ℕ → Type 0
 Reaches None m n = Unit {0}
 Reaches (Some x) m n = n ≤ m + length (label_octets x)
@@ -46,7 +46,7 @@ pub record Met (xs ys ps qs : List (List ℕ)) (x y : Option Label) (m n : ℕ) 
   pub m_is : m ≡ length (wire ps)
   pub n_is : n ≡ length (wire qs)
   pub level : m ≡ n → Differ x y
-  pub behind : n < m → (zs ≡ []) × (ws ≡ []) × Reaches y n m
+  pub after : n < m → (zs ≡ []) × (ws ≡ []) × Reaches y n m
   pub ahead : m < n → (zs ≡ []) × (ws ≡ []) × Reaches x m n
 
 differ_sym : (x y : Option Label) → Differ x y → Differ y x
@@ -69,8 +69,8 @@ swapped {x = x} {y} t = record {
   m_is = t.n_is;
   n_is = t.m_is;
   level = λ e. differ_sym x y (t.level (sym e));
-  behind = λ h. let b = t.ahead h in (b.1, b.0, b.2);
-  ahead = λ h. let b = t.behind h in (b.1, b.0, b.2);
+  after = λ h. let b = t.ahead h in (b.1, b.0, b.2);
+  ahead = λ h. let b = t.after h in (b.1, b.0, b.2);
 }
 
 pub met_start : (xs ys : List (List ℕ)) (m n : ℕ) → m ≡ length (wire xs) → n ≡ length (wire ys) → Met xs ys xs ys None None m n
@@ -87,7 +87,7 @@ met_start xs ys m n e f = record {
   m_is = e;
   n_is = f;
   level = λ _. tt;
-  behind = λ _. (refl, refl, tt);
+  after = λ _. (refl, refl, tt);
   ahead = λ _. (refl, refl, tt);
 }
 
@@ -117,7 +117,7 @@ apart_now p (Some y) m' m n e f r = shorter_differs (label_octets p) (label_octe
 pub met_left : {xs ys ps qs : List (List ℕ)} {x y : Option Label} {m n : ℕ} (k : ℕ) (ps' : List (List ℕ)) (p : Label) → Met xs ys ps qs x y m n → n < m → ps ≡ label_octets p ∷ ps' → k ≡ length (label_octets p) → Met xs ys ps' qs (Some p) y (m - (k + 1)) n
 met_left {xs} {ps = ps} {y = y} {m} {n} k ps' p t more e size =
     let l = label_octets p in
-    let b = t.behind more in
+    let b = t.after more in
     let s = sized m k ps ps' l t.m_is e size in
     record {
       us = t.us ++ (t.zs ++ l ∷ []);
@@ -132,7 +132,7 @@ met_left {xs} {ps = ps} {y = y} {m} {n} k ps' p t more e size =
       m_is = s.0;
       n_is = t.n_is;
       level = λ f. apart_now p y (m - (k + 1)) m n s.1 f b.2;
-      behind = λ h. (refl, b.1, reaches_less y n m (m - (k + 1)) (omega arith) b.2);
+      after = λ h. (refl, b.1, reaches_less y n m (m - (k + 1)) (omega arith) b.2);
       ahead = λ h. (refl, b.1, omega (arith, s.1));
     }
 
@@ -161,7 +161,7 @@ met_same {xs} {ys} {ps} {qs} {m = m} {n} j k ps' qs' p q t eq e f jl kl same =
       m_is = s.0;
       n_is = u.0;
       level = λ _. t.level eq;
-      behind = λ h. absurd (omega (arith, h, eq, long));
+      after = λ h. absurd (omega (arith, h, eq, long));
       ahead = λ h. absurd (omega (arith, h, eq, long));
     }
 
@@ -185,7 +185,7 @@ met_apart {xs} {ys} {ps} {qs} {m = m} {n} j k ps' qs' p q t eq e f jl kl apart =
       m_is = s.0;
       n_is = u.0;
       level = λ _. apart;
-      behind = λ h. (refl, refl, omega (arith, s.1, u.1, eq));
+      after = λ h. (refl, refl, omega (arith, s.1, u.1, eq));
       ahead = λ h. (refl, refl, omega (arith, s.1, u.1, eq));
     }
 

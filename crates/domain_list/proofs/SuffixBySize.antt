@@ -11,15 +11,15 @@ pub front_size : (xs ys front : List (List ℕ)) → lowercase_labels xs ≡ fro
 front_size xs ys front e =
     omega (arith, lowercase_size xs, lowercase_size ys, ap (λ ls. length (wire ls)) e, ap (λ o. length o) (wire_append front (lowercase_labels ys)), length-append (wire front) (wire (lowercase_labels ys)))
 
-behind_first : (x : List ℕ) (xs ys front : List (List ℕ)) → lowercase_labels (x ∷ xs) ≡ front ++ lowercase_labels ys → length (wire ys) < length (wire (x ∷ xs)) → EndsWith xs ys
-behind_first x xs ys [] e more = absurd (omega (arith, more, front_size (x ∷ xs) ys [] e))
-behind_first x xs ys (f ∷ front) e more = (front, cc)
+after_first : (x : List ℕ) (xs ys front : List (List ℕ)) → lowercase_labels (x ∷ xs) ≡ front ++ lowercase_labels ys → length (wire ys) < length (wire (x ∷ xs)) → EndsWith xs ys
+after_first x xs ys [] e more = absurd (omega (arith, more, front_size (x ∷ xs) ys [] e))
+after_first x xs ys (f ∷ front) e more = (front, cc)
 
 -- a label is passed over
 pub passed_first : (xs ys rest : List (List ℕ)) (x : List ℕ) → xs ≡ x ∷ rest → length (wire ys) < length (wire xs) → EndsWith rest ys ↔ EndsWith xs ys
 passed_first xs ys rest x e more = rw e (
   λ p. (lowercase x ∷ p.0, ap (λ r. lowercase x ∷ r) p.1),
-  λ p. behind_first x rest ys p.0 p.1 (omega (arith, more, ap (λ ls. length (wire ls)) e)),
+  λ p. after_first x rest ys p.0 p.1 (omega (arith, more, ap (λ ls. length (wire ls)) e)),
 )
 
 no_front : (xs ys front : List (List ℕ)) → lowercase_labels xs ≡ front ++ lowercase_labels ys → length (wire xs) ≤ length (wire ys) → lowercase_labels xs ≡ lowercase_labels ys

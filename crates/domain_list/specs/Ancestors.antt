@@ -6,8 +6,8 @@ use Rattle.domain_list.specs.Ends.{EndsWith}
 use Rattle.domain_list.specs.Order.{canonical_order}
 
 -- The order distinguishes exactly the names that differ by more than case.
-abbrev pub TellsApart : Type 0
-TellsApart = (a b : List (List ℕ)) → (canonical_order a b ≡ Equal) ↔ (lowercase_labels a ≡ lowercase_labels b)
+abbrev pub OrderDecidesEquality : Type 0
+OrderDecidesEquality = (a b : List (List ℕ)) → (canonical_order a b ≡ Equal) ↔ (lowercase_labels a ≡ lowercase_labels b)
 
 -- What is neither less than x nor greater than z, which both end with an ancestor, ends with it, too.
 abbrev pub DescendantsAreAdjacent : Type 0

@@ -8,7 +8,7 @@ use Rattle.domain_list.specs.Ends.{EndsWith}
 use Rattle.domain_flat.specs.Flat.{SplitsAt, IsLabelStart, IsLabelEnd}
 use Rattle.domain_flat.proofs.Splits.{cut_drop, cut_within, end_start, root_long}
 use Rattle.domain_label.proofs.CanonicalForm.{lowercase_size, lowercase_wires}
-use Rattle.domain_list.proofs.EqualSuffixLabels.{labels_behind}
+use Rattle.domain_list.proofs.EqualSuffixLabels.{labels_after}
 use Rattle.domain_name.specs.Names.{IsStripped}
 
 same_size : (xs ys : List (List ℕ)) → lowercase_labels xs ≡ lowercase_labels ys → length (wire xs) ≡ length (wire ys)
@@ -47,16 +47,16 @@ absolute_suffix_begins o bs n w a e m =
     end_start (labels_in o) n (omega (arith, m, octets_size o w, root_long bs a)) (suffix_begins o bs n w e m)
 
 -- what stands before them is the list without them
-pub stripped : (o : List ℕ) (bs rest behind : List (List ℕ)) (n : ℕ) → IsWire o → EndsWith (labels_in o) bs → n + length (wire bs) ≡ length o → labels_in o ≡ rest ++ behind → length (wire rest) ≡ n → IsStripped (labels_in o) bs rest
-stripped o bs rest behind n w e m parts place =
+pub stripped : (o : List ℕ) (bs rest after : List (List ℕ)) (n : ℕ) → IsWire o → EndsWith (labels_in o) bs → n + length (wire bs) ≡ length o → labels_in o ≡ rest ++ after → length (wire rest) ≡ n → IsStripped (labels_in o) bs rest
+stripped o bs rest after n w e m parts place =
     let r = parted (labels_in o) e.0 (lowercase_labels bs) e.1 in
     let size = two_sizes (labels_in o) r.0 r.1 r.2 in
     let here : SplitsAt (labels_in o) n r.0 r.1 = record { parts = r.2; place = omega (arith, m, octets_size o w, size, same_size r.1 bs r.3) } in
-    let there : SplitsAt (labels_in o) n rest behind = record { parts = parts; place = place } in
-    let z = cut_within (labels_in o) n n r.0 r.1 rest behind here there (omega arith) in
+    let there : SplitsAt (labels_in o) n rest after = record { parts = parts; place = place } in
+    let z = cut_within (labels_in o) n n r.0 r.1 rest after here there (omega arith) in
     let none : z.0 ≡ [] = nil_from_wire z.0 (omega (arith, m, place, octets_size o w, size, same_size r.1 bs r.3, two_sizes rest r.0 z.0 z.1)) in
-    let same : r.1 ≡ behind = z.2 ∙ ap (λ x. x ++ behind) none in
-    record { suffix = behind; parts = parts; same = ap lowercase_labels (sym same) ∙ r.3 }
+    let same : r.1 ≡ after = z.2 ∙ ap (λ x. x ++ after) none in
+    record { suffix = after; parts = parts; same = ap lowercase_labels (sym same) ∙ r.3 }
 
 -- the wire format of a name
 pub name_wire : (ls : List (List ℕ)) → IsName ls → IsWire (wire ls)
@@ -70,12 +70,12 @@ suffix_same o s n w v e m =
     let r = parted (labels_in o) e.0 (lowercase_labels (labels_in s)) e.1 in
     let size : length (wire r.1) ≡ length s = same_size r.1 (labels_in s) r.3 ∙ octets_size s v in
     let here : SplitsAt (labels_in o) n r.0 r.1 = record { parts = r.2; place = omega (arith, m, octets_size o w, two_sizes (labels_in o) r.0 r.1 r.2, size) } in
-    let same = (lowercase_wires r.1 (labels_in s) (labels_behind r.0 r.1 (subst AreLabels r.2 w.1)) v.1).1 r.3 in
+    let same = (lowercase_wires r.1 (labels_in s) (labels_after r.0 r.1 (subst AreLabels r.2 w.1)) v.1).1 r.3 in
     ap lowercase (cut_drop o n r.0 r.1 w.0 here) ∙ (same ∙ ap lowercase v.0)
 
 -- and where a label begins before such octets, they are last labels
 pub same_suffix : (o s : List ℕ) (n : ℕ) → IsWire o → IsWire s → lowercase (drop n o) ≡ lowercase s → IsLabelEnd (labels_in o) n → EndsWith (labels_in o) (labels_in s)
 same_suffix o s n w v e (xs, ys, c) =
     let octets : lowercase (wire ys) ≡ lowercase (wire (labels_in s)) = ap lowercase (sym (cut_drop o n xs ys w.0 c)) ∙ (e ∙ ap lowercase (sym v.0)) in
-    let same : lowercase_labels ys ≡ lowercase_labels (labels_in s) = (lowercase_wires ys (labels_in s) (labels_behind xs ys (subst AreLabels c.parts w.1)) v.1).0 octets in
+    let same : lowercase_labels ys ≡ lowercase_labels (labels_in s) = (lowercase_wires ys (labels_in s) (labels_after xs ys (subst AreLabels c.parts w.1)) v.1).0 octets in
     (lowercase_labels xs, ap lowercase_labels c.parts ∙ (map-append lowercase xs ys ∙ ap (λ r. lowercase_labels xs ++ r) same))

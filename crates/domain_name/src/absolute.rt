@@ -311,8 +311,8 @@ impl<Octs: Octets> Name<Octs> {
         ensures parts { relative_labels result.0 ++ name_labels result.1 ≡ name_labels self.now }
         ensures place { length (wire (relative_labels result.0)) ≡ mid }
     {
-        let (before, behind) = self.octets.as_slice().split_at(mid);
-        (RelativeName::from_wire(before), Name { octets: behind })
+        let (before, after) = self.octets.as_slice().split_at(mid);
+        (RelativeName::from_wire(before), Name { octets: after })
     }
 
     /// The labels from an offset of the wire format on, where `is_label_start` is true there.
@@ -320,8 +320,8 @@ impl<Octs: Octets> Name<Octs> {
         requires { IsLabelStart (name_labels self.now) begin }
         ensures { (before : List (List ℕ)) × SplitsAt (name_labels self.now) begin before (name_labels result) }
     {
-        let (_, behind) = self.split(begin);
-        behind
+        let (_, after) = self.split(begin);
+        after
     }
 
     /// The same as `slice_from`.
@@ -371,7 +371,7 @@ impl<Octs: Truncate> Name<Octs> {
     /// The labels before an offset of the wire format, where `is_label_start` is true there.
     pub fn truncate(self, len: usize) -> RelativeName<Octs>
         requires { IsLabelStart (name_labels self) len }
-        ensures parts { (behind : List (List ℕ)) × (name_labels self ≡ relative_labels result ++ behind) }
+        ensures parts { (after : List (List ℕ)) × (name_labels self ≡ relative_labels result ++ after) }
         ensures place { length (wire (relative_labels result)) ≡ len }
     {
         let mut octets = self.into_octets();

@@ -293,10 +293,10 @@ impl<Octs: Octets> RelativeName<Octs> {
         ensures parts { relative_labels result.0 ++ relative_labels result.1 ≡ relative_labels self.now }
         ensures place { length (wire (relative_labels result.0)) ≡ mid }
     {
-        let (before, behind) = self.octets.as_slice().split_at(mid);
+        let (before, after) = self.octets.as_slice().split_at(mid);
         (
             RelativeName { octets: before },
-            RelativeName { octets: behind },
+            RelativeName { octets: after },
         )
     }
 }
@@ -328,7 +328,7 @@ impl<Octs: Truncate> RelativeName<Octs> {
     /// Keeps the labels before an offset of the wire format where `is_label_start` is true.
     pub fn truncate(&mut self, len: usize)
         requires { IsLabelEnd (relative_labels self.old) len }
-        ensures parts { (behind : List (List ℕ)) × (relative_labels self.old ≡ relative_labels self.new ++ behind) }
+        ensures parts { (after : List (List ℕ)) × (relative_labels self.old ≡ relative_labels self.new ++ after) }
         ensures place { length (wire (relative_labels self.new)) ≡ len }
     {
         self.octets.truncate(len);

@@ -7,9 +7,9 @@ ghost use Rattle.domain_label.specs.Wire.{wire, Root};
 ghost use Rattle.domain_label.specs.declared.symbol.Symbol.{Symbol};
 ghost use Rattle.domain_builder.specs.BuilderState.{finished};
 ghost use Rattle.domain_builder.specs.NameSymbols.{symbols_in_name};
-ghost use Rattle.domain_builder.specs.TextGrammar.{IsNameText, SpellsName, SpellsNoName, SpellsRelative, SpellsNoRelative};
+ghost use Rattle.domain_builder.specs.TextGrammar.{IsNameText, IsTextOfName, IsTextOfNoName, IsTextOfRelative, IsTextOfNoRelative};
 ghost use Rattle.domain_builder.specs.Reverse.{reverse_name};
-ghost use Rattle.domain_builder.specs.TextErrors.{NoNameMade, NoNameRead, NoRelativeRead, LacksCapacity, RelativeLacksCapacity, Tells, RelativeTells};
+ghost use Rattle.domain_builder.specs.TextErrors.{NoNameMade, NoNameRead, NoRelativeRead, LacksCapacity, RelativeLacksCapacity, IsErrorOfText, IsErrorOfRelativeText};
 ghost use Rattle.domain_builder.specs.declared.name_symbol.TextFault.{TextFault};
 ghost use Rattle.domain_builder.specs.declared.push_error.PushError.TheVariants.{ShortBuf};
 ghost use Rattle.domain_builder.specs.Inside.{room};
@@ -50,12 +50,12 @@ where
     ) -> Result<Self, FromStrError>
         requires can { I.can_next chars }
         requires ends { IsFinite (I.remaining chars) }
-        ensures ok { (cs : List ℕ) → AlwaysYields I.next_gives (λ c. c) chars cs → IfOk result (λ name. SpellsName cs (name_labels name)) }
+        ensures ok { (cs : List ℕ) → AlwaysYields I.next_gives (λ c. c) chars cs → IfOk result (λ name. IsTextOfName cs (name_labels name)) }
         ensures err { (cs : List ℕ) → AlwaysYields I.next_gives (λ c. c) chars cs → IfErr result (NoNameRead Octs.Builder.ROOM cs) }
-        ensures accepts { (cs : List ℕ) (ls : List (List ℕ)) → AlwaysYields I.next_gives (λ c. c) chars cs → SpellsName cs ls →
+        ensures accepts { (cs : List ℕ) (ls : List (List ℕ)) → AlwaysYields I.next_gives (λ c. c) chars cs → IsTextOfName cs ls →
             MatchResult result (λ name. name_labels name ≡ ls) (LacksCapacity Octs.Builder.ROOM ls) }
-        ensures exact { (cs : List ℕ) (f : TextFault) → AlwaysYields I.next_gives (λ c. c) chars cs → SpellsNoName cs f →
-            MatchResult result (λ _. ⊥) (Tells f) }
+        ensures exact { (cs : List ℕ) (f : TextFault) → AlwaysYields I.next_gives (λ c. c) chars cs → IsTextOfNoName cs f →
+            MatchResult result (λ _. ⊥) (IsErrorOfText f) }
     {
         match absolute_from_chars(alloc, chars) {
             Ok(octets) => Ok(Name::from_wire(octets)),
@@ -105,10 +105,10 @@ impl Name<Vec<u8>> {
     /// Reads an absolute name from text, as `from_chars` does. `ShortBuf` only where an allocation failed.
     #[inline(always)]
     pub fn vec_from_str(alloc: Global, text: &str) -> Result<Self, FromStrError>
-        ensures ok { IfOk result (λ name. SpellsName (chars text.now) (name_labels name)) }
+        ensures ok { IfOk result (λ name. IsTextOfName (chars text.now) (name_labels name)) }
         ensures err { IfErr result (NoNameRead None (chars text.now)) }
-        ensures accepts { (ls : List (List ℕ)) → SpellsName (chars text.now) ls → MatchResult result (λ name. name_labels name ≡ ls) (LacksCapacity None ls) }
-        ensures exact { (f : TextFault) → SpellsNoName (chars text.now) f → MatchResult result (λ _. ⊥) (Tells f) }
+        ensures accepts { (ls : List (List ℕ)) → IsTextOfName (chars text.now) ls → MatchResult result (λ name. name_labels name ≡ ls) (LacksCapacity None ls) }
+        ensures exact { (f : TextFault) → IsTextOfNoName (chars text.now) f → MatchResult result (λ _. ⊥) (IsErrorOfText f) }
     {
         match absolute_from_str(alloc, text) {
             Ok(octets) => Ok(Name::from_wire(octets)),
@@ -153,12 +153,12 @@ where
     ) -> Result<Self, RelativeFromStrError>
         requires can { I.can_next chars }
         requires ends { IsFinite (I.remaining chars) }
-        ensures ok { (cs : List ℕ) → AlwaysYields I.next_gives (λ c. c) chars cs → IfOk result (λ name. SpellsRelative cs (relative_labels name)) }
+        ensures ok { (cs : List ℕ) → AlwaysYields I.next_gives (λ c. c) chars cs → IfOk result (λ name. IsTextOfRelative cs (relative_labels name)) }
         ensures err { (cs : List ℕ) → AlwaysYields I.next_gives (λ c. c) chars cs → IfErr result (NoRelativeRead Octs.Builder.ROOM cs) }
-        ensures accepts { (cs : List ℕ) (ls : List (List ℕ)) → AlwaysYields I.next_gives (λ c. c) chars cs → SpellsRelative cs ls →
+        ensures accepts { (cs : List ℕ) (ls : List (List ℕ)) → AlwaysYields I.next_gives (λ c. c) chars cs → IsTextOfRelative cs ls →
             MatchResult result (λ name. relative_labels name ≡ ls) (RelativeLacksCapacity Octs.Builder.ROOM ls) }
-        ensures exact { (cs : List ℕ) (why : Option TextFault) → AlwaysYields I.next_gives (λ c. c) chars cs → SpellsNoRelative cs why →
-            MatchResult result (λ _. ⊥) (RelativeTells why) }
+        ensures exact { (cs : List ℕ) (why : Option TextFault) → AlwaysYields I.next_gives (λ c. c) chars cs → IsTextOfNoRelative cs why →
+            MatchResult result (λ _. ⊥) (IsErrorOfRelativeText why) }
     {
         match relative_from_chars(alloc, chars) {
             Ok(octets) => Ok(RelativeName::from_wire(octets)),
@@ -171,10 +171,10 @@ impl RelativeName<Vec<u8>> {
     /// Reads a relative name from text, as `from_chars` does. `ShortBuf` only where an allocation failed.
     #[inline(always)]
     pub fn vec_from_str(alloc: Global, text: &str) -> Result<Self, RelativeFromStrError>
-        ensures ok { IfOk result (λ name. SpellsRelative (chars text.now) (relative_labels name)) }
+        ensures ok { IfOk result (λ name. IsTextOfRelative (chars text.now) (relative_labels name)) }
         ensures err { IfErr result (NoRelativeRead None (chars text.now)) }
-        ensures accepts { (ls : List (List ℕ)) → SpellsRelative (chars text.now) ls → MatchResult result (λ name. relative_labels name ≡ ls) (RelativeLacksCapacity None ls) }
-        ensures exact { (why : Option TextFault) → SpellsNoRelative (chars text.now) why → MatchResult result (λ _. ⊥) (RelativeTells why) }
+        ensures accepts { (ls : List (List ℕ)) → IsTextOfRelative (chars text.now) ls → MatchResult result (λ name. relative_labels name ≡ ls) (RelativeLacksCapacity None ls) }
+        ensures exact { (why : Option TextFault) → IsTextOfNoRelative (chars text.now) why → MatchResult result (λ _. ⊥) (IsErrorOfRelativeText why) }
     {
         match relative_from_str(alloc, text) {
             Ok(octets) => Ok(RelativeName::from_wire(octets)),

@@ -66,7 +66,7 @@ many_labels = many_from
 pub not_so : {b : Bool} {P : Type 0} → (IsTrue b ↔ P) → b ≡ false → P → ⊥
 not_so tells f p = false≢true (sym f ∙ tells.1 p)
 
--- what is left behind the first label
+-- what is left after the first label
 pub record Rest (l : List ℕ) (ls : List (List ℕ)) (n : ℕ) : Type 0 where
   pub nonempty : 0 < length l
   pub short : length l < 64

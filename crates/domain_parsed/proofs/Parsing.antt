@@ -1,4 +1,4 @@
--- From a reading of the parser's message to the name and the parser behind it.
+-- From a reading of the parser's message to the name and the parser after it.
 use Rattle.std.proofs.Common.{◌≡◌, ℕ, ◌+◌, ◌≤◌, ◌↔◌, List, [], ◌∷◌, ◌++◌, length, refl, sym, subst, arith, ◌∙◌, Bool, true, false, unwrap_or, slice_range, drop, Result, Ok, Err, IsOk, IsErr, IsErrAnd, MatchResult}
 use Rattle.std.proofs.lemmas.Grind.{common_steps}
 use Rattle.std.proofs.lemmas.List.{take-append-drop}
@@ -26,7 +26,7 @@ pub ok_not_err : {T E : Type 0} (r : Result T E) → IsErr r → IsOk r → ⊥
 ok_not_err (Ok x) e o = cc
 ok_not_err (Err x) e o = cc
 
--- what a refused reading of the parser's message and place says of the parser
+-- what a refused reading of the parser's message and offset says of the parser
 pub no_name : {n : ℕ} {m : List ℕ} {p : ℕ} {e : NameFault} (parser : Parser) → m ≡ message parser → p ≡ position parser → NameFaultAt n m p e → (ls : List (List ℕ)) → Names n (message parser) (position parser) ls → ⊥
 no_name {n} {m} {p} {e} parser a b f ls x =
     names_or_fault x (subst (λ p. NameFaultAt n (message parser) p e) b (subst (λ m. NameFaultAt n m p e) a f))
@@ -44,7 +44,7 @@ read_here {n} {m} {p} {w} {t} {before} {now} parser a b r =
 slice_more : (m u : List ℕ) (a b : ℕ) → b ≤ length m → slice_range (m ++ u) a b ≡ slice_range m a b
 slice_more m u a b h = grind (arith, common_steps)
 
--- what was read in the message stands in octets that go on behind it
+-- what was read in the message stands in octets that go on after it
 pub record HeldAs (octets : List ℕ) (w : Progress) (table : List ℕ) (labels : List (List ℕ)) : Type 0 where
   pub holds : Holds octets w table
   pub same : labels_at_entries octets w.base (slice_range table 0 w.count) ≡ labels
@@ -96,15 +96,15 @@ front_base {p = p} {fs = fs} x = here (no_pointer_from fs p x.flat x.ends.0)
 
 pub plainly_named : {parser : Parser} {ls : List (List ℕ)} (n : ℕ) → StandsUncompressed parser ls → Names n (message parser) (position parser) ls
 plainly_named {parser} {ls} n x =
-    let a = names_within n (plain_names x.before x.behind ls x.name) (omega arith) in
+    let a = names_within n (plain_names x.before x.after ls x.name) (omega arith) in
     subst (λ p. Names n (message parser) p ls) (sym x.here) (subst (λ m. Names n m (length x.before) ls) (sym x.octets) a)
 
 pub plainly_front : {parser : Parser} {ls : List (List ℕ)} → StandsUncompressed parser ls → (fs : List (List ℕ)) × Encoding (message parser) (position parser) fs stop_root (position parser + length (wire ls))
 plainly_front {parser} {ls} x =
-    let a = plain_front x.before x.behind ls x.name in
+    let a = plain_front x.before x.after ls x.name in
     (a.0, subst (λ p. Encoding (message parser) p a.0 stop_root (p + length (wire ls))) (sym x.here) (subst (λ m. Encoding m (length x.before) a.0 stop_root (length x.before + length (wire ls))) (sym x.octets) a.1))
 
--- a name that lies plainly is read, lies in one piece, and the parser is moved behind it
+-- a name that lies plainly is read, lies in one piece, and the parser is moved after it
 pub plainly_read : {n : ℕ} {parser : Parser} {ls : List (List ℕ)} {w : Progress} {t : List ℕ} {before now : ℕ} → StandsUncompressed parser ls → (r : NameRead n (message parser) (position parser) w t before now) → (r.labels ≡ ls) × (w.compressed ≡ false) × (unwrap_or w.end (w.at + 1) ≡ position parser + length (wire ls))
 plainly_read {n} {parser} {w = w} x r =
     let f = plainly_front x in (

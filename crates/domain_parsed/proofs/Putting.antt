@@ -10,7 +10,7 @@ use Rattle.domain_label.specs.Wire.{wire, wire_label, Root}
 use Rattle.domain_reading.specs.Labels.{read_from, IsWholeFrom}
 use Rattle.domain_reading.specs.Grammar.{Reads, FirstLabelAt, here, past, Names}
 use Rattle.domain_reading.specs.Offsets.{label_at}
-use Rattle.domain_reading.proofs.Reading.{reads_more, behind_pointer}
+use Rattle.domain_reading.proofs.Reading.{reads_more, after_pointer}
 use Rattle.domain_reading.proofs.LabelsAt.{read_reads, reads_whole, labels_few, slice_join, slice_one}
 
 -- ---- the name at its first label
@@ -24,7 +24,7 @@ pub record BaseReads (m : List ℕ) (b k : ℕ) (ls : List (List ℕ)) : Type 0 
 pub reads_base : {m : List ℕ} {p b k : ℕ} {ls : List (List ℕ)} → Reads m p k ls → FirstLabelAt m p b → BaseReads m b k ls
 reads_base {k = k} r (here f) = record { pointers = k; reads = r; few = omega arith }
 reads_base {m} {b = b} {k} {ls} r (past x lt base) =
-    let rest = (behind_pointer x r).1 in
+    let rest = (after_pointer x r).1 in
     let t = reads_base rest.reads base in
     record {
       pointers = t.pointers;

@@ -4,11 +4,11 @@ use Rattle.domain_label.specs.Wire.{wire, IsRelativeName}
 use Rattle.domain_reading.specs.Offsets.{IsLabelOffset, label_at}
 use Rattle.domain_reading.proofs.LabelsAt.{slice_join, slice_one}
 
--- a label with its length octet stands from its place on
-pub record Standing (m l : List ℕ) (start behind : ℕ) : Type 0 where
-  pub ordered : start ≤ behind
-  pub inside : behind ≤ length m
-  pub stands : slice_range m start behind ≡ wire (l ∷ [])
+-- a label with its length octet stands from its offset on
+pub record Standing (m l : List ℕ) (start after : ℕ) : Type 0 where
+  pub ordered : start ≤ after
+  pub inside : after ≤ length m
+  pub stands : slice_range m start after ≡ wire (l ∷ [])
 
 pub standing : (m l : List ℕ) (p len : ℕ) → IsLabelOffset m p → slice_index m p ≡ length l → label_at m p ≡ l → len ≡ length l + 1 → Standing m l p (p + len)
 standing m l p len is head octets e =

@@ -12,7 +12,7 @@ parsed_octets {g = g} n = g.octets n.octets
 
 -- its labels, the root among them: those at the offsets that remain
 abbrev pub parsed_labels : {O : Type 0} {g : Ghosts O} → ParsedName O g → List (List ℕ)
-parsed_labels {g = g} n = labels_at_entries (g.octets n.octets) n.base (slice_range n.places n.dropped n.count)
+parsed_labels {g = g} n = labels_at_entries (g.octets n.octets) n.base (slice_range n.entries n.dropped n.count)
 
 -- what `is_compressed` returns
 abbrev pub may_be_compressed : {O : Type 0} {g : Ghosts O} → ParsedName O g → Bool
@@ -20,7 +20,7 @@ may_be_compressed n = n.compressed
 
 -- the labels that an iterator still gives
 abbrev pub labels_left : ParsedNameIter → List (List ℕ)
-labels_left it = labels_at_entries it.octets.now it.base it.places.now
+labels_left it = labels_at_entries it.octets.now it.base it.entries.now
 
 -- what contracts say of a name: the octets of its message, `is_compressed` and its labels
 abbrev pub parsed_model : {O : Type 0} {g : Ghosts O} → ParsedName O g → List ℕ × Bool × List (List ℕ)

@@ -9,14 +9,14 @@ use domain_reading::progress::Progress;
 use domain_reading::standing::MAX_LABELS;
 
 /// Finds the labels of a name in uncompressed wire format, and writes their offsets to the beginning of the table.
-pub(crate) fn read_flat(octets: &[u8], places: &mut [u16; MAX_LABELS]) -> Progress
+pub(crate) fn read_flat(octets: &[u8], entries: &mut [u16; MAX_LABELS]) -> Progress
     requires { IsAbsoluteWire octets.now }
-    ensures held { Holds octets.now result places.new }
-    ensures labels { labels_at_entries octets.now result.base (slice_range places.new 0 result.count) ≡ labels_in octets.now }
+    ensures held { Holds octets.now result entries.new }
+    ensures labels { labels_at_entries octets.now result.base (slice_range entries.new 0 result.count) ≡ labels_in octets.now }
     ensures contiguous { result.compressed ≡ false }
 {
     let mut progress = Progress::new(0);
-    let Ok(()) = read_name(octets, &mut progress, places, 0) else {
+    let Ok(()) = read_name(octets, &mut progress, entries, 0) else {
         unreachable!();
     };
     progress

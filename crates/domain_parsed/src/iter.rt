@@ -16,9 +16,9 @@ use std::sync::ledger::{Blank, Ledger};
 pub struct ParsedNameIter<'a> {
     octets: &'a [u8],
     base: usize,
-    places: &'a [u16],
+    entries: &'a [u16],
     of: PhantomData<Label<'a>>,
-    ghost stand: { AreLabelOffsets octets.now base places.now },
+    ghost stand: { AreLabelOffsets octets.now base entries.now },
 }
 
 impl<'a> ParsedNameIter<'a> {
@@ -28,14 +28,14 @@ impl<'a> ParsedNameIter<'a> {
 
     /// The labels at the offsets that a table has.
     #[inline(always)]
-    pub(crate) fn new(octets: &'a [u8], base: usize, places: &'a [u16]) -> Self
-        requires { AreLabelOffsets octets.now base places.now }
-        ensures { labels_left result ≡ labels_at_entries octets.now base places.now }
+    pub(crate) fn new(octets: &'a [u8], base: usize, entries: &'a [u16]) -> Self
+        requires { AreLabelOffsets octets.now base entries.now }
+        ensures { labels_left result ≡ labels_at_entries octets.now base entries.now }
     {
         ParsedNameIter {
             octets,
             base,
-            places,
+            entries,
             of: PhantomData,
         }
     }
@@ -46,10 +46,10 @@ impl<'a> ParsedNameIter<'a> {
         ensures first { YieldsFirstBy label_octets labels_left self.old result self.new }
         ensures counted { MatchOption result (heads.new ≡ heads.old) (λ _. heads.new ≡ heads.old + 1) }
     {
-        let (first, rest) = self.places.split_first()?;
-        let place = entry_offset(self.base, *first);
-        let label = read_label(self.octets, place, heads);
-        self.places = rest;
+        let (first, rest) = self.entries.split_first()?;
+        let offset = entry_offset(self.base, *first);
+        let label = read_label(self.octets, offset, heads);
+        self.entries = rest;
         Some(label)
     }
 
@@ -59,10 +59,10 @@ impl<'a> ParsedNameIter<'a> {
         ensures last { YieldsLastBy label_octets labels_left self.old result self.new }
         ensures counted { MatchOption result (heads.new ≡ heads.old) (λ _. heads.new ≡ heads.old + 1) }
     {
-        let (last, front) = self.places.split_last()?;
-        let place = entry_offset(self.base, *last);
-        let label = read_label(self.octets, place, heads);
-        self.places = front;
+        let (last, front) = self.entries.split_last()?;
+        let offset = entry_offset(self.base, *last);
+        let label = read_label(self.octets, offset, heads);
+        self.entries = front;
         Some(label)
     }
 

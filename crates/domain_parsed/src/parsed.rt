@@ -46,7 +46,7 @@ pub struct ParsedName<Octs: Octets> {
     /// The offset of the label that was the first when the name was read.
     base: usize,
     /// One entry for each label, in the name's order; `entry_offset` makes its offset of it.
-    places: [u16; MAX_LABELS],
+    entries: [u16; MAX_LABELS],
     /// How many labels have an entry in the table.
     count: u8,
     /// How many of them `parent` and `split_first` removed.
@@ -60,14 +60,14 @@ pub struct ParsedName<Octs: Octets> {
     // absolute name.
     ghost some: { dropped < count },
     ghost few: { count ≤ 128 },
-    ghost stand: { AreLabelOffsets (Octs.octets octets) base (slice_range places dropped count) },
-    ghost absolute: { IsAbsoluteName (labels_at_entries (Octs.octets octets) base (slice_range places dropped count)) } by { IsAbsoluteName_prop (labels_at_entries (Octs.octets octets) base (slice_range places dropped count)) },
+    ghost stand: { AreLabelOffsets (Octs.octets octets) base (slice_range entries dropped count) },
+    ghost absolute: { IsAbsoluteName (labels_at_entries (Octs.octets octets) base (slice_range entries dropped count)) } by { IsAbsoluteName_prop (labels_at_entries (Octs.octets octets) base (slice_range entries dropped count)) },
     // `name_len` is its size, and it had at most 255 octets; with the flag false it stands in a row.
-    ghost sized: { name_len ≡ length (wire (labels_at_entries (Octs.octets octets) base (slice_range places dropped count))) },
+    ghost sized: { name_len ≡ length (wire (labels_at_entries (Octs.octets octets) base (slice_range entries dropped count))) },
     ghost short: { passed + name_len ≤ 255 },
-    ghost reads: { dropped ≡ 0 → read_from 383 (Octs.octets octets) base ≡ labels_at_entries (Octs.octets octets) base (slice_range places dropped count) },
+    ghost reads: { dropped ≡ 0 → read_from 383 (Octs.octets octets) base ≡ labels_at_entries (Octs.octets octets) base (slice_range entries dropped count) },
     ghost whole: { IsWholeFrom 383 (Octs.octets octets) base } by { IsWholeFrom_prop 383 (Octs.octets octets) base },
-    ghost flat: { compressed ≡ false → slice_range (Octs.octets octets) (base + passed) (base + passed + name_len) ≡ wire (labels_at_entries (Octs.octets octets) base (slice_range places dropped count)) },
+    ghost flat: { compressed ≡ false → slice_range (Octs.octets octets) (base + passed) (base + passed + name_len) ≡ wire (labels_at_entries (Octs.octets octets) base (slice_range entries dropped count)) },
 }
 
 impl<Octs: Octets + Copy> Copy for ParsedName<Octs> {}
@@ -108,7 +108,7 @@ impl<'a> ParsedName<&'a [u8]> {
     /// ```rust
     /// pub fn question<'a>(parser: &mut Parser<'a>) -> Result<(ParsedName<&'a [u8]>, u16, u16), ParseError>
     ///     ensures name { IfOk result (λ read. Names 255 (message parser.old) (position parser.old) (parsed_labels read.0)) }
-    ///     ensures behind { IfOk result (λ read. (e : ℕ) × EncodingEnds (message parser.old) (position parser.old) e
+    ///     ensures after { IfOk result (λ read. (e : ℕ) × EncodingEnds (message parser.old) (position parser.old) e
     ///         × (read.1 ≡ from_be_bytes w16 (slice_range (message parser.old) e (e + 2)))
     ///         × (read.2 ≡ from_be_bytes w16 (slice_range (message parser.old) (e + 2) (e + 4)))
     ///         × MovesTo parser.old parser.new (e + 4)) }
@@ -190,13 +190,13 @@ impl<'a> ParsedName<&'a [u8]> {
         ensures counted { MatchResult result (λ name. CountsName limit (message parser.old) (position parser.old) (parsed_labels name) heads.old heads.new) (λ e. CountsFault limit (message parser.old) (position parser.old) (refusal e) heads.old heads.new) }
         ensures few_heads { heads.new ≤ heads.old + 128 + limit }
     {
-        let mut places = [0; MAX_LABELS];
+        let mut entries = [0; MAX_LABELS];
         let mut found = Progress::new(parser.pos());
-        read_name_counted(parser.as_slice(), &mut found, &mut places, limit, heads)?;
+        read_name_counted(parser.as_slice(), &mut found, &mut entries, limit, heads)?;
         let Ok(()) = parser.seek(found.end_offset()) else {
             unreachable!();
         };
-        Ok(ParsedName::of(parser.octets_ref(), &found, places))
+        Ok(ParsedName::of(parser.octets_ref(), &found, entries))
     }
 
     /// The same as `parse_with_limit`, with the `NameFault` as the error, for callers that treat the four
@@ -212,13 +212,13 @@ impl<'a> ParsedName<&'a [u8]> {
         ensures err { IfErr result (λ fault. NameFaultAt limit (message parser.old) (position parser.old) fault) }
         ensures unchanged { OnErr result (parser.new ≡ parser.old) }
     {
-        let mut places = [0; MAX_LABELS];
+        let mut entries = [0; MAX_LABELS];
         let mut found = Progress::new(parser.pos());
-        read_name(parser.as_slice(), &mut found, &mut places, limit)?;
+        read_name(parser.as_slice(), &mut found, &mut entries, limit)?;
         let Ok(()) = parser.seek(found.end_offset()) else {
             unreachable!();
         };
-        Ok(ParsedName::of(parser.octets_ref(), &found, places))
+        Ok(ParsedName::of(parser.octets_ref(), &found, entries))
     }
 
     /// Moves the parser after the root or the first pointer of the name at its position.
@@ -268,16 +268,16 @@ impl<Octs: Octets> ParsedName<Octs> {
 
     /// The name whose labels were found in these octets.
     #[inline(always)]
-    fn of(octets: Octs, found: &Progress, places: [u16; MAX_LABELS]) -> Self
-        requires { Holds (Octs.octets octets) found.now places }
+    fn of(octets: Octs, found: &Progress, entries: [u16; MAX_LABELS]) -> Self
+        requires { Holds (Octs.octets octets) found.now entries }
         ensures octets { parsed_octets result ≡ Octs.octets octets }
-        ensures labels { parsed_labels result ≡ labels_at_entries (Octs.octets octets) found.now.base (slice_range places 0 found.now.count) }
+        ensures labels { parsed_labels result ≡ labels_at_entries (Octs.octets octets) found.now.base (slice_range entries 0 found.now.count) }
         ensures is_compressed { may_be_compressed result ≡ found.now.compressed }
     {
         ParsedName {
             octets,
             base: found.base,
-            places,
+            entries,
             count: found.count,
             dropped: 0,
             passed: 0,
@@ -310,7 +310,7 @@ impl<Octs: Octets> ParsedName<Octs> {
         ParsedName {
             octets: &self.octets,
             base: self.base,
-            places: self.places,
+            entries: self.entries,
             count: self.count,
             dropped: self.dropped,
             passed: self.passed,
@@ -329,7 +329,7 @@ impl<Octs: Octets> ParsedName<Octs> {
         ParsedName {
             octets: self.octets.as_slice(),
             base: self.base,
-            places: self.places,
+            entries: self.entries,
             count: self.count,
             dropped: self.dropped,
             passed: self.passed,
@@ -357,8 +357,8 @@ impl<Octs: Octets> ParsedName<Octs> {
     pub fn iter(&self) -> ParsedNameIter<'_>
         ensures { labels_left result ≡ parsed_labels self.now }
     {
-        let places = &self.places[usize::from(self.dropped)..usize::from(self.count)];
-        ParsedNameIter::new(self.octets.as_slice(), self.base, places)
+        let entries = &self.entries[usize::from(self.dropped)..usize::from(self.count)];
+        ParsedNameIter::new(self.octets.as_slice(), self.base, entries)
     }
 
     /// The name, then the name without its first label, and so on to the root.
@@ -440,7 +440,7 @@ impl<Octs: Octets> ParsedName<Octs> {
             return None;
         }
         let octets = self.octets.as_slice();
-        let start = entry_offset(self.base, self.places[usize::from(self.dropped)]);
+        let start = entry_offset(self.base, self.entries[usize::from(self.dropped)]);
         let len = label_at_offset(octets, start).len() as u16 + 1;
         self.dropped += 1;
         self.passed += len;
@@ -507,7 +507,7 @@ impl<'a, Octs: Octets> ParsedName<&'a Octs> {
         ParsedName {
             octets: octets.as_slice(),
             base: self.base,
-            places: self.places,
+            entries: self.entries,
             count: self.count,
             dropped: self.dropped,
             passed: self.passed,
@@ -525,9 +525,9 @@ impl<Octs: Octets> From<Name<Octs>> for ParsedName<Octs> {
     ghost from_gives = { λ flat name. (parsed_octets name ≡ name_octets flat) × (parsed_labels name ≡ name_labels flat) × (may_be_compressed name ≡ false) };
 
     fn from(flat: Name<Octs>) -> ParsedName<Octs> {
-        let mut places = [0; MAX_LABELS];
-        let progress = read_flat(flat.as_slice(), &mut places);
-        ParsedName::of(flat.into_octets(), &progress, places)
+        let mut entries = [0; MAX_LABELS];
+        let progress = read_flat(flat.as_slice(), &mut entries);
+        ParsedName::of(flat.into_octets(), &progress, entries)
     }
 }
 
@@ -542,7 +542,7 @@ impl ParsedName<Vec<u8>> {
         Ok(ParsedName {
             octets,
             base: self.base,
-            places: self.places,
+            entries: self.entries,
             count: self.count,
             dropped: self.dropped,
             passed: self.passed,
@@ -564,7 +564,7 @@ impl<const N: usize> ParsedName<ArrayVec<u8, N>> {
         Ok(ParsedName {
             octets,
             base: self.base,
-            places: self.places,
+            entries: self.entries,
             count: self.count,
             dropped: self.dropped,
             passed: self.passed,

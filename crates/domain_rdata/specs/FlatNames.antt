@@ -22,13 +22,13 @@ wire_reads_back t ls name =
 pub flat_reads_back : (t : List ℕ) (ls : List (List ℕ)) (s : List ℕ) → IsAbsoluteName ls → s ≡ wire ls → ReadsBack t ls s
 flat_reads_back t ls s name e = let P : List ℕ → Type 0 = λ x. ReadsBack t ls x in subst P (sym e) (wire_reads_back t ls name)
 
--- What stands for a name in data that isn't compressed may stand for it behind any octets, compressed or not.
+-- What stands for a name in data that isn't compressed may stand for it after any octets, compressed or not.
 pub flat_name_octets : (ls : List (List ℕ)) (compresses : Bool) (t u s : List ℕ) → IsAbsoluteName ls → NameOctets ls false t s → NameOctets ls compresses u s
 flat_name_octets ls compresses t u s name x = record {
   read = flat_reads_back u ls s name (x.flat refl);
   flat = λ _. x.flat refl;
 }
 
--- The wire format behind octets is what may be appended where nothing else is.
+-- The wire format after octets is what may be appended where nothing else is.
 pub flat_appended : (t u : List ℕ) (ls : List (List ℕ)) → u ≡ t ++ wire ls → Appended (λ s. s ≡ wire ls) t u
 flat_appended t u ls all = record { octets = wire ls; allowed = refl; all = all }

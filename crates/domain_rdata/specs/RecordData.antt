@@ -6,20 +6,20 @@ use Rattle.domain_rdata.specs.declared.record_data.ComposeRdataError.TheVariants
 use Rattle.domain_label.specs.Wire.{wire}
 use Rattle.domain_rdata.specs.ReadBack.{ReadsBack}
 
--- The octets of a name behind t: those of the wire format, and where names may be written shorter, any that
+-- The octets of a name after t: those of the wire format, and where names may be written shorter, any that
 -- are read back as an equal name and are no more.
 pub record NameOctets (ls : List (List ℕ)) (compresses : Bool) (t s : List ℕ) : Type 0 where
   pub read : ReadsBack t ls s
   pub flat : compresses ≡ false → s ≡ wire ls
 
--- This length in two octets and then n octets of data were appended, which may be composed behind the length.
-pub record Behind (May : List ℕ → List ℕ → Type 0) (old : List ℕ) (len n : ℕ) (new : List ℕ) : Type 0 where
+-- This length in two octets and then n octets of data were appended, which may be composed after the length.
+pub record DataAfterLength (May : List ℕ → List ℕ → Type 0) (old : List ℕ) (len n : ℕ) (new : List ℕ) : Type 0 where
   pub octets : List ℕ
   pub allowed : May (old ++ to_be_bytes w16 len) octets
   pub size : length octets ≡ n
   pub all : new ≡ old ++ to_be_bytes w16 len ++ octets
 
--- A length in two octets and then as many octets of data were appended, which may be composed behind this length.
+-- A length in two octets and then as many octets of data were appended, which may be composed after this length.
 pub record LengthAndData (May : List ℕ → List ℕ → Type 0) (old new : List ℕ) : Type 0 where
   pub octets : List ℕ
   pub allowed : May (old ++ to_be_bytes w16 (length octets)) octets

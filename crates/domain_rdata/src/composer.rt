@@ -79,7 +79,7 @@ pub trait Composer: OctetsBuilder + OctetsMut {
         self.append_flat_name(&wire_octets(name))
     }
 
-    /// Where a name was appended, octets that may be appended for it stand behind those before.
+    /// Where a name was appended, octets that may be appended for it stand after those before.
     ghost appended: { (c d : Self) (ls : List (List ℕ)) → appends c ls d → Appended (may_append c ls) (Self.octets c) (Self.octets d) };
 
     /// What may be appended is read as an equal name.

@@ -5,7 +5,7 @@ ghost use Rattle.domain_wire.specs.Values.{IsReading};
 ghost use Rattle.domain_wire.specs.declared.error.ParseError.{ParseError};
 ghost use Rattle.std.specs.Int.{w16, to_be_bytes};
 ghost use Rattle.domain_rdata.specs.ReadBack.{Appended, Exceeds};
-ghost use Rattle.domain_rdata.specs.RecordData.{Behind, LengthAndData, LengthAndCanonical, ExceedsWithLength, ComposeRefused, CanonicalRefused};
+ghost use Rattle.domain_rdata.specs.RecordData.{DataAfterLength, LengthAndData, LengthAndCanonical, ExceedsWithLength, ComposeRefused, CanonicalRefused};
 ghost use Rattle.domain_rdata.specs.Rtypes.{rtype_number};
 
 use crate::composer::Composer;
@@ -44,7 +44,7 @@ impl<E: fmt::Debug + Drop> Error for ComposeRdataError<E> {}
 /// The most octets of record data: a length of 16 bits tells no more.
 const MOST_OCTETS: usize = 65535;
 
-/// Writes a length over the two octets at a place.
+/// Writes a length over the two octets at an offset.
 fn write_length(octets: &mut [u8], place: usize, len: u16)
     requires { place + 2 ≤ length octets.old }
     ensures { octets.new ≡ take place octets.old ++ (to_be_bytes w16 len ++ drop (place + 2) octets.old) }
@@ -128,7 +128,7 @@ pub trait ComposeRecordData: RecordData {
         let Some(len) = self.rdlen(target.can_compress()) else {
             return compose_measured(self, target);
         };
-        match compose_behind(self, target, len) {
+        match compose_after(self, target, len) {
             Ok(_len) => Ok(()),
             Err(e) => Err(ComposeRdataError::Append(e)),
         }
@@ -180,13 +180,13 @@ pub trait ComposeRecordData: RecordData {
     ghost flat: { (it : Self) (compresses : Bool) (t u s : List ℕ) → composed it false t s → composed it compresses u s };
 }
 
-/// Appends a length, and behind it the data, or nothing; and tells how many octets the data has.
-fn compose_behind<Data: ComposeRecordData, Target: Composer>(
+/// Appends a length, and after it the data, or nothing; and tells how many octets the data has.
+fn compose_after<Data: ComposeRecordData, Target: Composer>(
     rdata: &Data,
     target: &mut Target,
     len: u16,
 ) -> Result<usize, Target::AppendError>
-    ensures ok { IfOk result (λ n. Behind (Data.composed rdata.now Target.compresses) (Target.octets target.old) len n (Target.octets target.new)) }
+    ensures ok { IfOk result (λ n. DataAfterLength (Data.composed rdata.now Target.compresses) (Target.octets target.old) len n (Target.octets target.new)) }
     ensures unchanged { OnErr result (Target.octets target.new ≡ Target.octets target.old) }
     ensures full { OnErr result (ExceedsWithLength (Data.composed rdata.now Target.compresses) (Target.octets target.old) (Target.capacity target.old)) }
     ensures capacity { Target.capacity target.old ≤ Target.capacity target.new }
@@ -205,7 +205,7 @@ fn compose_behind<Data: ComposeRecordData, Target: Composer>(
 /// Appends data whose length isn't known before it is composed, with its length in front, or nothing.
 ///
 /// A target that writes names shorter may lead to any octets that stand before, the length too. So the
-/// data is composed once to be measured, and again behind its length. What it has then may be another
+/// data is composed once to be measured, and again after its length. What it has then may be another
 /// number of octets, where the target was written over so that names are read through the length.
 fn compose_measured<Data: ComposeRecordData, Target: Composer>(
     rdata: &Data,
@@ -217,7 +217,7 @@ fn compose_measured<Data: ComposeRecordData, Target: Composer>(
     ensures capacity { Target.capacity target.old ≤ Target.capacity target.new }
 {
     let start = target.as_slice().len();
-    let len = match compose_behind(rdata, target, 0) {
+    let len = match compose_after(rdata, target, 0) {
         Ok(len) => len,
         Err(e) => return Err(ComposeRdataError::Append(e)),
     };
@@ -230,7 +230,7 @@ fn compose_measured<Data: ComposeRecordData, Target: Composer>(
         return Ok(());
     }
     target.truncate(start);
-    let again = match compose_behind(rdata, target, len as u16) {
+    let again = match compose_after(rdata, target, len as u16) {
         Ok(again) => again,
         Err(e) => return Err(ComposeRdataError::Append(e)),
     };
@@ -317,14 +317,14 @@ pub trait ParseRecordData<'a>: RecordData + Sized {
     /// Whether records of the type with this number have such data.
     ghost reads_type: { ℕ → Bool };
 
-    /// Data of this type that is seen so stands in the octets at the first place, and the second place
-    /// is behind it.
+    /// Data of this type that is seen so is in the octets at the first offset, and the second offset
+    /// is after it.
     ghost encodes: { ℕ → List ℕ → ℕ → View → ℕ → Type 0 };
 
-    /// No data of this type stands in the octets at the place, and the error tells why.
+    /// No data of this type is in the octets at the offset, and the error says why.
     ghost fails_with: { ℕ → List ℕ → ℕ → ParseError → Type 0 };
 
-    /// Reads data from the place of the parser on, to its end, and moves the parser behind it.
+    /// Reads data from the parser's position on, to its end, and moves the parser after it.
     ///
     /// `None` exactly where records of this type have other data. `None` and a refusal leave the parser
     /// where it stood.
@@ -337,7 +337,7 @@ pub trait ParseRecordData<'a>: RecordData + Sized {
         ensures err { IfErr result (λ e. fails_with (rtype_number rtype) (message parser.old) (position parser.old) e) }
         ensures unchanged { OnErr result (parser.new ≡ parser.old) };
 
-    /// At each place stands one value or one fault is told, and never both.
+    /// At each offset there is one value or one error, and never both.
     ghost lawful: { (rtype : ℕ) → IsReading (encodes rtype) (fails_with rtype) };
 }
 
@@ -350,14 +350,14 @@ pub trait ParseAnyRecordData<'a>: RecordData + Sized {
     /// What contracts see of this data.
     ghost model: { Self → View };
 
-    /// Data of this type that is seen so stands in the octets at the first place, and the second place
-    /// is behind it.
+    /// Data of this type that is seen so is in the octets at the first offset, and the second offset
+    /// is after it.
     ghost encodes: { ℕ → List ℕ → ℕ → View → ℕ → Type 0 };
 
-    /// No data of this type stands in the octets at the place, and the error tells why.
+    /// No data of this type is in the octets at the offset, and the error says why.
     ghost fails_with: { ℕ → List ℕ → ℕ → ParseError → Type 0 };
 
-    /// Reads data from the place of the parser on, to its end, and moves the parser behind it.
+    /// Reads data from the parser's position on, to its end, and moves the parser after it.
     ///
     /// A refusal leaves the parser where it stood.
     fn parse_any_rdata(rtype: Rtype, parser: &mut Parser<'a>) -> Result<Self, ParseError>
@@ -367,6 +367,6 @@ pub trait ParseAnyRecordData<'a>: RecordData + Sized {
         ensures err { IfErr result (λ e. fails_with (rtype_number rtype) (message parser.old) (position parser.old) e) }
         ensures unchanged { OnErr result (parser.new ≡ parser.old) };
 
-    /// At each place stands one value or one fault is told, and never both.
+    /// At each offset there is one value or one error, and never both.
     ghost lawful: { (rtype : ℕ) → IsReading (encodes rtype) (fails_with rtype) };
 }

@@ -1,4 +1,4 @@
--- The labels of a name, as a function of the message and the place.
+-- The labels of a name, as a function of the message and the offset.
 use Rattle.std.proofs.Common.{◌≡◌, ℕ, zero, suc, ◌+◌, ◌*◌, ◌-◌, ◌≤◌, ◌<◌, List, [], ◌∷◌, ◌++◌, length, refl, sym, ap, subst, arith, ◌∙◌, true, false, nat_eq, nat_lt, take, drop, slice_range, slice_index, length-append}
 use Rattle.std.proofs.lemmas.Grind.{common_steps}
 use Rattle.std.proofs.lemmas.List.Folds.{drop_split}

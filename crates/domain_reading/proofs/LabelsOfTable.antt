@@ -1,4 +1,4 @@
--- The labels that stand at the places of a table.
+-- The labels that stand at the offsets of a table.
 use Rattle.std.proofs.Common.{◌≡◌, ℕ, suc, ◌+◌, ◌-◌, ◌≤◌, ◌<◌, List, [], ◌∷◌, ◌++◌, length, refl, sym, ap, subst, arith, ◌∙◌, Bool, true, false, nat_lt, cond, take, set, slice_range, slice_index, length-append}
 use Rattle.std.proofs.lemmas.Grind.{common_steps}
 use Rattle.std.proofs.lemmas.List.{take_more_set}
@@ -29,7 +29,7 @@ unfolding labels_at_entries
 length-labels m base [] = refl
 length-labels m base (e ∷ es) = ap suc (length-labels m base es)
 
--- the places of a table without its first entry, and without its last one
+-- the offsets of a table without its first entry, and without its last one
 pub stand_first : (m : List ℕ) (base e : ℕ) (es : List ℕ) → AreLabelOffsets m base (e ∷ es) → IsLabelOffset m (entry_offset base e)
 stand_first m base e es a = All-head (λ e. IsLabelOffset m (entry_offset base e)) e es a
 
@@ -42,7 +42,7 @@ stand_last m base e (x ∷ xs) a =
     let r = stand_last m base e xs (stand_rest m base x (xs ++ e ∷ []) a) in
     (All-cons (λ e. IsLabelOffset m (entry_offset base e)) x xs (stand_first m base x (xs ++ e ∷ []) a) r.0, r.1)
 
--- ---- a message with more octets behind it
+-- ---- a message with more octets after it
 
 place_more : (m u : List ℕ) (p : ℕ) → IsLabelOffset m p → IsLabelOffset (m ++ u) p × (label_at (m ++ u) p ≡ label_at m p)
 place_more m u p h =
@@ -63,7 +63,7 @@ more_stand m u base (e ∷ es) a =
       same = labels_first (m ++ u) base e es ∙ (ap (λ l. l ∷ labels_at_entries (m ++ u) base es) first.1 ∙ ap (λ ls. label_at m (entry_offset base e) ∷ ls) rest.same) ∙ sym (labels_first m base e es);
     }
 
--- ---- what stands at a place
+-- ---- what stands at an offset
 
 pub label_place : (m l : List ℕ) (p : ℕ) → LabelAt m p l → IsLabelOffset m p × (label_at m p ≡ l)
 label_place m l p x = rw x.head ((x.short, x.inside), x.octets)

@@ -1,4 +1,4 @@
--- Walks along a name: at each place there is a name or a fault, never both, and the fault is one.
+-- Walks along a name: at each offset there is a name or a fault, never both, and the fault is one.
 use Rattle.std.proofs.Common.{◌≡◌, ℕ, zero, suc, ◌+◌, ◌*◌, ◌-◌, ◌≤◌, ◌<◌, ◌⊎◌, inl, inr, List, [], ◌∷◌, ◌++◌, length, refl, sym, ap, subst, arith, ◌∙◌, slice_range, slice_index, zero-add, append_assoc, length-append}
 use Rattle.std.proofs.lemmas.Grind.{common_steps}
 use Rattle.std.proofs.lemmas.Bool.{cases_lt}
@@ -8,7 +8,7 @@ use Rattle.domain_reading.specs.Faults.{Followed, start, past_label, past_pointe
 use Rattle.domain_reading.specs.declared.fault.NameFault.{NameFault}
 use Rattle.domain_reading.specs.declared.fault.NameFault.TheVariants.{ShortInput, BadLabelType, TooManyPointers, LongName}
 use Rattle.domain_label.proofs.WireLaws.{length-wire_append}
-use Rattle.domain_reading.proofs.Reading.{label_once, pointer_once, reads_some, RestAt, behind_label, behind_pointer}
+use Rattle.domain_reading.proofs.Reading.{label_once, pointer_once, reads_some, RestAt, after_label, after_pointer}
 
 -- a name read where a walk stands is read from the walk's start
 pub walk_reads : {n : ℕ} {m : List ℕ} {p k r : ℕ} {fs : List (List ℕ)} {j : ℕ} {ls : List (List ℕ)} → Followed n m p k fs r → Reads m r j ls → Reads m p (k + j) (fs ++ ls)
@@ -24,11 +24,11 @@ pub walk_rest : {n : ℕ} {m : List ℕ} {p k r : ℕ} {fs : List (List ℕ)} {j
 walk_rest {j = j} {ls = ls} start r = record { pointers = j; rest = ls; reads = r; count = omega arith; list = refl }
 walk_rest (past_label {fs = fs} {l = l} w x few) r =
     let a = walk_rest w r in
-    let b = behind_label x a.reads in
+    let b = after_label x a.reads in
     record { pointers = b.pointers; rest = b.rest; reads = b.reads; count = omega arith; list = a.list ∙ ap (λ ys. fs ++ ys) b.list ∙ sym (append_assoc fs (l ∷ []) b.rest) }
 walk_rest (past_pointer {fs = fs} w x lt few) r =
     let a = walk_rest w r in
-    let b = behind_pointer x a.reads in
+    let b = after_pointer x a.reads in
     record { pointers = b.1.pointers; rest = b.1.rest; reads = b.1.reads; count = omega arith; list = a.list ∙ ap (λ ys. fs ++ ys) b.1.list }
 
 -- where a walk cannot go on, nothing short is read
@@ -40,10 +40,10 @@ fault_reads_not k fs BadLabelType f (root x) few short = omega arith
 fault_reads_not k fs BadLabelType f (label x r) few short = omega arith
 fault_reads_not k fs BadLabelType f (pointer x lt r) few short = omega arith
 fault_reads_not k fs TooManyPointers f r few short =
-    let b = behind_pointer f.1 r in
+    let b = after_pointer f.1 r in
     omega (arith, b.1.count, b.0)
 fault_reads_not {ls = ls} k fs LongName f r few short =
-    let b = behind_label f.1 r in
+    let b = after_label f.1 r in
     let len : length (wire ls) ≡ length (wire (f.0 ∷ b.rest)) = ap (λ xs. length (wire xs)) b.list in
     omega (arith, len, length-append f.0 (wire b.rest), reads_some b.reads)
 
@@ -56,7 +56,7 @@ names_or_fault {ls = ls} {e} x f =
 
 -- ---- one of the two always holds
 
--- what stands at a place, with what follows from it
+-- what stands at an offset, with what follows from it
 pub data HeadAt (m : List ℕ) (r : ℕ) : Type 0 where
   is_root : OctetAt m r 0 → HeadAt m r
   is_label : (l : List ℕ) → LabelAt m r l → HeadAt m r
@@ -147,7 +147,7 @@ decide_from (suc fuel) n {m} {p} {k} {r} {fs} w enough = elim (head_at m r) [
   | is_bad i a b ↦ faults BadLabelType w (i, a, b)
 ]
 
--- at each place a name can be read, or there is a fault
+-- at each offset a name can be read, or there is a fault
 pub name_or_fault : (n : ℕ) (m : List ℕ) (p : ℕ) → NameOrFault n m p
 name_or_fault n m p = decide_from (n + 255) n start (omega arith)
 
@@ -164,7 +164,7 @@ onward start o = o
 onward (past_label w x few) o = onward w (on_label x few o)
 onward (past_pointer w x lt few) o = onward w (on_pointer x lt few o)
 
--- two faults at one place are one
+-- two faults at one offset are one
 fault_once : (n : ℕ) (m : List ℕ) (k r : ℕ) (fs : List (List ℕ)) (d e : NameFault) → StepFaultAt n m k fs r d → StepFaultAt n m k fs r e → d ≡ e
 fault_once n m k r fs ShortInput ShortInput f g = refl
 fault_once n m k r fs ShortInput BadLabelType f g = absurd (grind (arith, g.0, g.1, g.2))
@@ -212,6 +212,6 @@ onward_once d e (on_pointer x lt few o) (on_label y more u) f g = absurd (omega 
 onward_once {n} {m} {i} {j} {s} {t} {gs} {hs} d e {k} {r} {fs} (on_pointer x lt few o) (on_pointer y lu more u) f g =
     onward_once d e o (subst (λ q. Onward n m j hs t (suc k) fs q) (pointer_once y x) u) f g
 
--- a place has at most one fault, and one walk leads to it
+-- an offset has at most one fault, and one walk leads to it
 pub one_fault : {n : ℕ} {m : List ℕ} {p : ℕ} {d e : NameFault} (f : NameFaultAt n m p d) (g : NameFaultAt n m p e) → (d ≡ e) × (f.pointers ≡ g.pointers) × (f.passed ≡ g.passed)
 one_fault {d = d} {e} f g = onward_once d e (onward f.walk stops) (onward g.walk stops) f.at g.at

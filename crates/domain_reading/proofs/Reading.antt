@@ -1,20 +1,20 @@
--- What is read at a place: one list, an absolute name, and no octet behind the message changes it.
+-- What is read at an offset: one list, an absolute name, and no octet after the message changes it.
 use Rattle.std.proofs.Common.{◌≡◌, ℕ, suc, ◌+◌, ◌≤◌, ◌<◌, List, [], ◌∷◌, ◌++◌, length, refl, sym, ap, subst, arith, ◌∙◌, slice_range, length-append}
 use Rattle.std.proofs.lemmas.Grind.{common_steps}
 use Rattle.domain_label.specs.Wire.{wire, IsAbsolute, IsAbsoluteName}
 use Rattle.domain_reading.specs.Grammar.{OctetAt, LabelAt, PointerAt, Reads, root, label, pointer, Names}
 
--- two labels that stand at one place are equal
+-- two labels that stand at one offset are equal
 pub label_once : {m : List ℕ} {p : ℕ} {a b : List ℕ} → LabelAt m p a → LabelAt m p b → a ≡ b
 label_once {m} {p} {a} {b} x y =
     let n : length a ≡ length b = cc in
     sym x.octets ∙ ap (λ n. slice_range m (p + 1) (p + 1 + n)) n ∙ y.octets
 
--- two pointers that stand at one place lead to one place
+-- two pointers that stand at one offset lead to one offset
 pub pointer_once : {m : List ℕ} {p a b : ℕ} → PointerAt m p a → PointerAt m p b → a ≡ b
 pointer_once x y = omega arith
 
--- a place reads at most one list, through one number of pointers
+-- an offset reads at most one list, through one number of pointers
 pub reads_once : {m : List ℕ} {p j k : ℕ} {xs ys : List (List ℕ)} → Reads m p j xs → Reads m p k ys → (j ≡ k) × (xs ≡ ys)
 reads_once (root x) (root y) = (refl, refl)
 reads_once (root x) (label y s) = absurd (omega arith)
@@ -32,7 +32,7 @@ reads_once {m} (pointer x lt r) (pointer {k = k} {ls = ls} y lu s) =
     let same = reads_once r (subst (λ q. Reads m q k ls) (sym e) s) in
     (ap suc same.0, same.1)
 
--- ---- a message with more octets behind it
+-- ---- a message with more octets after it
 
 pub octet_more : {m : List ℕ} {p o : ℕ} (u : List ℕ) → OctetAt m p o → OctetAt (m ++ u) p o
 octet_more u x = record { inside = omega (arith, length-append {A = ℕ}); octet = grind (arith, common_steps) }
@@ -59,7 +59,7 @@ reads_more u (root x) = root (octet_more u x)
 reads_more u (label x r) = label (label_more u x) (reads_more u r)
 reads_more u (pointer x lt r) = pointer (pointer_more u x) lt (reads_more u r)
 
--- ---- what is behind the first head
+-- ---- what is after the first head
 
 -- what is read at r, of a name that is read as ls through n pointers
 pub record RestAt (m : List ℕ) (r k n : ℕ) (fs ls : List (List ℕ)) : Type 0 where
@@ -69,17 +69,17 @@ pub record RestAt (m : List ℕ) (r k n : ℕ) (fs ls : List (List ℕ)) : Type 
   pub count : n ≡ k + pointers
   pub list : ls ≡ fs ++ rest
 
-pub behind_label : {m : List ℕ} {p j : ℕ} {l : List ℕ} {ls : List (List ℕ)} → LabelAt m p l → Reads m p j ls → RestAt m (p + 1 + length l) 0 j (l ∷ []) ls
-behind_label x (root y) = absurd (omega arith)
-behind_label {m} {p} {j} {l} x (label {rest = rest} y r) =
+pub after_label : {m : List ℕ} {p j : ℕ} {l : List ℕ} {ls : List (List ℕ)} → LabelAt m p l → Reads m p j ls → RestAt m (p + 1 + length l) 0 j (l ∷ []) ls
+after_label x (root y) = absurd (omega arith)
+after_label {m} {p} {j} {l} x (label {rest = rest} y r) =
     let e = label_once y x in
     record { pointers = j; rest = rest; reads = subst (λ a. Reads m (p + 1 + length a) j rest) e r; count = omega arith; list = ap (λ a. a ∷ rest) e }
-behind_label x (pointer y lt r) = absurd (omega arith)
+after_label x (pointer y lt r) = absurd (omega arith)
 
-pub behind_pointer : {m : List ℕ} {p q j : ℕ} {ls : List (List ℕ)} → PointerAt m p q → Reads m p j ls → (q < p) × RestAt m q 1 j [] ls
-behind_pointer x (root y) = absurd (omega arith)
-behind_pointer x (label y r) = absurd (omega arith)
-behind_pointer {m} {p} {q} x (pointer {q = q'} {k = k} {ls = ls} y lt r) =
+pub after_pointer : {m : List ℕ} {p q j : ℕ} {ls : List (List ℕ)} → PointerAt m p q → Reads m p j ls → (q < p) × RestAt m q 1 j [] ls
+after_pointer x (root y) = absurd (omega arith)
+after_pointer x (label y r) = absurd (omega arith)
+after_pointer {m} {p} {q} x (pointer {q = q'} {k = k} {ls = ls} y lt r) =
     let e = pointer_once y x in
     (subst (λ a. a < p) e lt, record { pointers = k; rest = ls; reads = subst (λ a. Reads m a k ls) e r; count = omega arith; list = refl })
 

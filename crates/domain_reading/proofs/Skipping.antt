@@ -74,7 +74,7 @@ skip_from (suc fuel) {m} {p} {at} {len} s enough = elim (head_at m at) [
 pub skips_or_not : (m : List ℕ) (p : ℕ) → ((e : ℕ) × Skips m p e) ⊎ ((d : NameFault) × SkipFault m p d)
 skips_or_not m p = skip_from 256 (skip_start m p) (omega arith)
 
--- ---- the quick walk, which stands at a place of the message or past its end
+-- ---- the quick walk, which stands at an offset of the message or past its end
 
 pub record Quick (m : List ℕ) (p at : ℕ) : Type 0 where
   pub on : p ≤ at

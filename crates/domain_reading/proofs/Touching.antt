@@ -3,7 +3,7 @@ use Rattle.std.proofs.Common.{◌≡◌, ℕ, ◌+◌, ◌-◌, ◌≤◌, ◌<�
 use Rattle.std.proofs.lemmas.Grind.{common_steps}
 use Rattle.std.proofs.lemmas.List.{ext_get_or}
 use Rattle.domain_reading.specs.Grammar.{LabelAt, PointerAt, Reads, root, label, pointer, Names, Flat}
-use Rattle.domain_reading.specs.Touched.{Touches, IsKept, ReadsBehind}
+use Rattle.domain_reading.specs.Touched.{Touches, IsKept, ReadsFrom}
 use Rattle.domain_reading.proofs.Reading.{reads_once}
 
 -- the octets that a name is read from are in the message
@@ -46,7 +46,7 @@ pointer_kept {m} {p} w x same =
       target = omega (arith, x.target, first.1, second.1);
     }
 
--- the same labels, from octets of the same places
+-- the same labels, from octets of the same offsets
 pub record ReadsSo {m : List ℕ} {p k : ℕ} {ls : List (List ℕ)} (w : List ℕ) (r : Reads m p k ls) : Type 0 where
   pub reads : Reads w p k ls
   pub touches : (i : ℕ) → Touches reads i → Touches r i
@@ -69,14 +69,14 @@ reads_kept w (pointer x lt r) same =
       touches = λ i h. elim h [ inl here ↦ inl here | inr there ↦ inr (rest.touches i there) ];
     }
 
--- A name is read from its place on where no pointer is followed.
+-- A name is read from its offset on where no pointer is followed.
 pub touches_flat : {m : List ℕ} {p k : ℕ} {ls : List (List ℕ)} → (r : Reads m p k ls) → k ≡ 0 → (i : ℕ) → Touches r i → p ≤ i
 touches_flat (root x) e i h = omega (arith, h)
 touches_flat (label x r) e i (inl h) = h.0
 touches_flat (label x r) e i (inr h) = omega (arith, touches_flat r e i h)
 touches_flat (pointer x lt r) e i h = absurd (omega (arith, e))
 
--- ---- octets before a place that are written over
+-- ---- octets before an offset that are written over
 
 drop_kept : (n : ℕ) (m w : List ℕ) → drop n w ≡ drop n m → (i : ℕ) → n ≤ i → i < length m → IsKept m w i
 drop_kept n m w e i ge lt =
@@ -85,22 +85,22 @@ drop_kept n m w e i ge lt =
     let at : (o : List ℕ) → slice_index (drop n o) (i - n) ≡ slice_index o i = λ o. grind (arith, common_steps) in
     (omega (arith, size), sym (at w) ∙ (ap (λ o. slice_index o (i - n)) e ∙ at m))
 
-drop_reads : {n : ℕ} {m : List ℕ} {p : ℕ} {ls : List (List ℕ)} (w : List ℕ) → (x : ReadsBehind n m p ls) → drop n w ≡ drop n m → ReadsSo w x.reads
-drop_reads {n} {m} w x e = reads_kept w x.reads (λ i h. drop_kept n m w e i (x.behind i h) (touches_inside x.reads i h))
+drop_reads : {n : ℕ} {m : List ℕ} {p : ℕ} {ls : List (List ℕ)} (w : List ℕ) → (x : ReadsFrom n m p ls) → drop n w ≡ drop n m → ReadsSo w x.reads
+drop_reads {n} {m} w x e = reads_kept w x.reads (λ i h. drop_kept n m w e i (x.after i h) (touches_inside x.reads i h))
 
--- What is read from the place n on is read whatever stands before it.
-pub behind_kept : {n : ℕ} {m : List ℕ} {p : ℕ} {ls : List (List ℕ)} (w : List ℕ) → ReadsBehind n m p ls → drop n w ≡ drop n m → ReadsBehind n w p ls
-behind_kept w x e =
+-- What is read from the offset n on is read whatever stands before it.
+pub after_kept : {n : ℕ} {m : List ℕ} {p : ℕ} {ls : List (List ℕ)} (w : List ℕ) → ReadsFrom n m p ls → drop n w ≡ drop n m → ReadsFrom n w p ls
+after_kept w x e =
     let so = drop_reads w x e in
-    record { pointers = x.pointers; reads = so.reads; behind = λ i h. x.behind i (so.touches i h) }
+    record { pointers = x.pointers; reads = so.reads; after = λ i h. x.after i (so.touches i h) }
 
-pub behind_more : {n : ℕ} {m : List ℕ} {p : ℕ} {ls : List (List ℕ)} (u : List ℕ) → ReadsBehind n m p ls → ReadsBehind n (m ++ u) p ls
-behind_more {n} {m} u x =
+pub after_more : {n : ℕ} {m : List ℕ} {p : ℕ} {ls : List (List ℕ)} (u : List ℕ) → ReadsFrom n m p ls → ReadsFrom n (m ++ u) p ls
+after_more {n} {m} u x =
     let so = reads_kept (m ++ u) x.reads (λ i h. let lt = touches_inside x.reads i h in (omega (arith, lt, length-append m u), grind (arith, common_steps))) in
-    record { pointers = x.pointers; reads = so.reads; behind = λ i h. x.behind i (so.touches i h) }
+    record { pointers = x.pointers; reads = so.reads; after = λ i h. x.after i (so.touches i h) }
 
--- A name that is read from the place n on is a name whatever stands before it.
-pub names_kept : {n j : ℕ} {m : List ℕ} {p : ℕ} {xs ls : List (List ℕ)} (w : List ℕ) → ReadsBehind n m p xs → drop n w ≡ drop n m → Names j m p ls → Names j w p ls
+-- A name that is read from the offset n on is a name whatever stands before it.
+pub names_kept : {n j : ℕ} {m : List ℕ} {p : ℕ} {xs ls : List (List ℕ)} (w : List ℕ) → ReadsFrom n m p xs → drop n w ≡ drop n m → Names j m p ls → Names j w p ls
 names_kept {n} {j} {m} {p} {xs} {ls} w x e name =
     let same = reads_once x.reads name.reads in
     let so = drop_reads w x e in
@@ -111,34 +111,34 @@ names_kept {n} {j} {m} {p} {xs} {ls} w x e name =
       short = name.short;
     }
 
--- A name that is read through no pointer is read from its place on.
-pub names_behind : {m : List ℕ} {p : ℕ} {ls : List (List ℕ)} → Names 0 m p ls → ReadsBehind p m p ls
-names_behind x = record { pointers = x.pointers; reads = x.reads; behind = touches_flat x.reads (omega (arith, x.few_pointers)) }
+-- A name that is read through no pointer is read from its offset on.
+pub names_after : {m : List ℕ} {p : ℕ} {ls : List (List ℕ)} → Names 0 m p ls → ReadsFrom p m p ls
+names_after x = record { pointers = x.pointers; reads = x.reads; after = touches_flat x.reads (omega (arith, x.few_pointers)) }
 
--- ---- what is read behind labels and a pointer
+-- ---- what is read after labels and a pointer
 
-pub behind_from : {n : ℕ} {m : List ℕ} {p : ℕ} {ls : List (List ℕ)} (k : ℕ) → ReadsBehind n m p ls → k ≤ n → ReadsBehind k m p ls
-behind_from k x le = record { pointers = x.pointers; reads = x.reads; behind = λ i h. omega (arith, x.behind i h, le) }
+pub after_from : {n : ℕ} {m : List ℕ} {p : ℕ} {ls : List (List ℕ)} (k : ℕ) → ReadsFrom n m p ls → k ≤ n → ReadsFrom k m p ls
+after_from k x le = record { pointers = x.pointers; reads = x.reads; after = λ i h. omega (arith, x.after i h, le) }
 
-pub label_behind : {n : ℕ} {m : List ℕ} {p : ℕ} {l : List ℕ} {ls : List (List ℕ)} → n ≤ p → LabelAt m p l → ReadsBehind n m (p + 1 + length l) ls → ReadsBehind n m p (l ∷ ls)
-label_behind le x rest = record {
+pub label_after : {n : ℕ} {m : List ℕ} {p : ℕ} {l : List ℕ} {ls : List (List ℕ)} → n ≤ p → LabelAt m p l → ReadsFrom n m (p + 1 + length l) ls → ReadsFrom n m p (l ∷ ls)
+label_after le x rest = record {
   pointers = rest.pointers;
   reads = label x rest.reads;
-  behind = λ i h. elim h [ inl here ↦ omega (arith, le, here.0) | inr there ↦ rest.behind i there ];
+  after = λ i h. elim h [ inl here ↦ omega (arith, le, here.0) | inr there ↦ rest.after i there ];
 }
 
-pub labels_behind : {n : ℕ} {m : List ℕ} {r : ℕ} {ls : List (List ℕ)} (a : List (List ℕ)) (p : ℕ) → n ≤ p → Flat m p a r → ReadsBehind n m r ls → ReadsBehind n m p (a ++ ls)
-labels_behind {n} {m} {r} {ls} [] p le f x = subst (λ q. ReadsBehind n m q ls) (sym f) x
-labels_behind (l ∷ a) p le f x = label_behind le f.0 (labels_behind a (p + 1 + length l) (omega (arith, le)) f.1 x)
+pub labels_after : {n : ℕ} {m : List ℕ} {r : ℕ} {ls : List (List ℕ)} (a : List (List ℕ)) (p : ℕ) → n ≤ p → Flat m p a r → ReadsFrom n m r ls → ReadsFrom n m p (a ++ ls)
+labels_after {n} {m} {r} {ls} [] p le f x = subst (λ q. ReadsFrom n m q ls) (sym f) x
+labels_after (l ∷ a) p le f x = label_after le f.0 (labels_after a (p + 1 + length l) (omega (arith, le)) f.1 x)
 
 pub reads_inside : {m : List ℕ} {p k : ℕ} {ls : List (List ℕ)} → Reads m p k ls → p < length m
 reads_inside (root x) = x.inside
 reads_inside (label x r) = omega (arith, x.inside)
 reads_inside (pointer x lt r) = omega (arith, x.inside)
 
-pub pointer_behind : {n : ℕ} {m : List ℕ} {p q : ℕ} {ls : List (List ℕ)} → n ≤ p → PointerAt m p q → q < p → ReadsBehind n m q ls → ReadsBehind n m p ls
-pointer_behind le x lt rest = record {
+pub pointer_after : {n : ℕ} {m : List ℕ} {p q : ℕ} {ls : List (List ℕ)} → n ≤ p → PointerAt m p q → q < p → ReadsFrom n m q ls → ReadsFrom n m p ls
+pointer_after le x lt rest = record {
   pointers = suc rest.pointers;
   reads = pointer x lt rest.reads;
-  behind = λ i h. elim h [ inl here ↦ omega (arith, le, here.0) | inr there ↦ rest.behind i there ];
+  after = λ i h. elim h [ inl here ↦ omega (arith, le, here.0) | inr there ↦ rest.after i there ];
 }

@@ -22,7 +22,7 @@ label_plain t l u some few = record {
   octets = label_slice t l u (length l);
 }
 
--- the labels of an absolute list stand one behind the other, and the root behind them
+-- the labels of an absolute list stand one after the other, and the root after them
 pub record UncompressedAt (m : List ℕ) (p : ℕ) (ls : List (List ℕ)) : Type 0 where
   pub labels : List (List ℕ)
   pub stop : ℕ
@@ -36,11 +36,11 @@ plain_root t u ls e = subst (λ ls. UncompressedAt (t ++ (wire ([] ∷ ls) ++ u)
     (let x : OctetAt (t ++ (0 ∷ u)) (length t) 0 = record { inside = omega (arith, length-append t (0 ∷ u)); octet = grind (arith, common_steps) } in
     record { labels = []; stop = length t; flat = refl; root_there = x; reads = root x; end = omega arith })
 
-plain_behind : (t l u : List ℕ) (ls : List (List ℕ)) → 0 < length l → length l ≤ 63 → UncompressedAt ((t ++ length l ∷ l) ++ (wire ls ++ u)) (length (t ++ length l ∷ l)) ls → UncompressedAt (t ++ (wire (l ∷ ls) ++ u)) (length t) (l ∷ ls)
-plain_behind t l u ls some few tail =
+plain_after : (t l u : List ℕ) (ls : List (List ℕ)) → 0 < length l → length l ≤ 63 → UncompressedAt ((t ++ length l ∷ l) ++ (wire ls ++ u)) (length (t ++ length l ∷ l)) ls → UncompressedAt (t ++ (wire (l ∷ ls) ++ u)) (length t) (l ∷ ls)
+plain_after t l u ls some few tail =
     let whole : (t ++ length l ∷ l) ++ (wire ls ++ u) ≡ t ++ (length l ∷ ((l ++ wire ls) ++ u)) = append_assoc t (length l ∷ l) (wire ls ++ u) ∙ ap (λ xs. t ++ (length l ∷ xs)) (sym (append_assoc l (wire ls) u)) in
-    let place : length (t ++ length l ∷ l) ≡ length t + 1 + length l = omega (arith, length-append t (length l ∷ l)) in
-    let moved = subst (λ p. UncompressedAt (t ++ (length l ∷ ((l ++ wire ls) ++ u))) p ls) place (subst (λ m. UncompressedAt m (length (t ++ length l ∷ l)) ls) whole tail) in
+    let offset : length (t ++ length l ∷ l) ≡ length t + 1 + length l = omega (arith, length-append t (length l ∷ l)) in
+    let moved = subst (λ p. UncompressedAt (t ++ (length l ∷ ((l ++ wire ls) ++ u))) p ls) offset (subst (λ m. UncompressedAt m (length (t ++ length l ∷ l)) ls) whole tail) in
     let here = subst (λ xs. LabelAt (t ++ (length l ∷ xs)) (length t) l) (sym (append_assoc l (wire ls) u)) (label_plain t l (wire ls ++ u) some few) in
     record {
       labels = l ∷ moved.labels;
@@ -54,7 +54,7 @@ plain_behind t l u ls some few tail =
 plain_from : (ls : List (List ℕ)) (t u : List ℕ) → IsAbsolute ls → UncompressedAt (t ++ (wire ls ++ u)) (length t) ls
 plain_from [] t u a = absurd a
 plain_from ([] ∷ ls) t u a = plain_root t u ls a
-plain_from ((c ∷ l) ∷ ls) t u a = plain_behind t (c ∷ l) u ls (omega arith) a.0 (plain_from ls (t ++ length (c ∷ l) ∷ c ∷ l) u a.1)
+plain_from ((c ∷ l) ∷ ls) t u a = plain_after t (c ∷ l) u ls (omega arith) a.0 (plain_from ls (t ++ length (c ∷ l) ∷ c ∷ l) u a.1)
 
 pub uncompressed_at : (t u : List ℕ) (ls : List (List ℕ)) → IsAbsolute ls → UncompressedAt (t ++ wire ls ++ u) (length t) ls
 uncompressed_at t u ls a = subst (λ m. UncompressedAt m (length t) ls) (sym (append_assoc t (wire ls) u)) (plain_from ls t u a)

@@ -36,8 +36,8 @@ IsErrorOfSkip parser e = (f : NameFault) × (refusal e ≡ error_of f) × SkipFa
 pub record StandsUncompressed (parser : Parser) (ls : List (List ℕ)) : Type 0 where
   pub name : IsAbsoluteName ls
   pub before : List ℕ
-  pub behind : List ℕ
-  pub octets : message parser ≡ before ++ wire ls ++ behind
+  pub after : List ℕ
+  pub octets : message parser ≡ before ++ wire ls ++ after
   pub here : position parser ≡ length before
 
 -- The count grew by one for each label of ls, the name at p of at most n pointers, and for each of its pointers.

@@ -15,7 +15,7 @@ abbrev pub IsKept : List ℕ → List ℕ → ℕ → Type 0
 IsKept m w i = (i < length w) × (slice_index w i ≡ slice_index m i)
 
 -- A list of labels is read at p, from octets at n and after it alone.
-pub record ReadsBehind (n : ℕ) (m : List ℕ) (p : ℕ) (ls : List (List ℕ)) : Type 0 where
+pub record ReadsFrom (n : ℕ) (m : List ℕ) (p : ℕ) (ls : List (List ℕ)) : Type 0 where
   pub pointers : ℕ
   pub reads : Reads m p pointers ls
-  pub behind : (i : ℕ) → Touches reads i → n ≤ i
+  pub after : (i : ℕ) → Touches reads i → n ≤ i

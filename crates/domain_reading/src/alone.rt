@@ -29,22 +29,22 @@ use std::sync::ledger::{Blank, Ledger};
 pub fn read_name(
     message: &[u8],
     progress: &mut Progress,
-    places: &mut [u16; MAX_LABELS],
+    entries: &mut [u16; MAX_LABELS],
     limit: u8,
 ) -> Result<(), NameFault>
     requires { progress.old ≡ beginning progress.old.at }
-    ensures name { OnOk result ((n : ℕ) × NameRead limit message.now progress.old.at progress.new places.new 0 n × (n ≤ 128 + limit)) }
+    ensures name { OnOk result ((n : ℕ) × NameRead limit message.now progress.old.at progress.new entries.new 0 n × (n ≤ 128 + limit)) }
     ensures inside { OnOk result (progress.new.at < length message.now) }
     ensures fault { IfErr result (λ fault. (f : NameFaultAt limit message.now progress.old.at fault) × (length f.passed + f.pointers + 1 ≤ 128 + limit)) }
 {
-    read_name_with::<Brand>(message, progress, places, limit, Blank::new(1))
+    read_name_with::<Brand>(message, progress, entries, limit, Blank::new(1))
 }
 
 #[inline(always)]
 fn read_name_with<L: Ledger>(
     message: &[u8],
     progress: &mut Progress,
-    places: &mut [u16; MAX_LABELS],
+    entries: &mut [u16; MAX_LABELS],
     limit: u8,
     blank: Blank,
 ) -> Result<(), NameFault>
@@ -52,14 +52,14 @@ fn read_name_with<L: Ledger>(
     requires ledger { blank.name ≡ L.name }
     requires parts { blank.parts ≡ L.parts }
     requires some { 0 < blank.parts }
-    ensures name { OnOk result ((n : ℕ) × NameRead limit message.now progress.old.at progress.new places.new 0 n × (n ≤ 128 + limit)) }
+    ensures name { OnOk result ((n : ℕ) × NameRead limit message.now progress.old.at progress.new entries.new 0 n × (n ≤ 128 + limit)) }
     ensures inside { OnOk result (progress.new.at < length message.now) }
     ensures fault { IfErr result (λ fault. (f : NameFaultAt limit message.now progress.old.at fault) × (length f.passed + f.pointers + 1 ≤ 128 + limit)) }
 {
     read_name_counted(
         message,
         progress,
-        places,
+        entries,
         limit,
         &mut Heads::<L>::new(blank),
     )
@@ -115,19 +115,19 @@ pub fn encoding_end(message: &[u8], pos: usize) -> Result<usize, NameFault>
 }
 
 /// The label at an offset.
-pub fn label_at_offset<'a>(octets: &'a [u8], place: usize) -> Label<'a>
-    requires { IsLabelOffset octets.now place }
-    ensures { label_octets result ≡ label_at octets.now place }
+pub fn label_at_offset<'a>(octets: &'a [u8], offset: usize) -> Label<'a>
+    requires { IsLabelOffset octets.now offset }
+    ensures { label_octets result ≡ label_at octets.now offset }
 {
-    label_at_offset_with::<Brand>(octets, place, Blank::new(1))
+    label_at_offset_with::<Brand>(octets, offset, Blank::new(1))
 }
 
-fn label_at_offset_with<'a, L: Ledger>(octets: &'a [u8], place: usize, blank: Blank) -> Label<'a>
-    requires stands { IsLabelOffset octets.now place }
+fn label_at_offset_with<'a, L: Ledger>(octets: &'a [u8], offset: usize, blank: Blank) -> Label<'a>
+    requires stands { IsLabelOffset octets.now offset }
     requires ledger { blank.name ≡ L.name }
     requires parts { blank.parts ≡ L.parts }
     requires some { 0 < blank.parts }
-    ensures { label_octets result ≡ label_at octets.now place }
+    ensures { label_octets result ≡ label_at octets.now offset }
 {
-    read_label(octets, place, &mut Heads::<L>::new(blank))
+    read_label(octets, offset, &mut Heads::<L>::new(blank))
 }

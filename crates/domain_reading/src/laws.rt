@@ -4,7 +4,7 @@ ghost use Rattle.domain_label.specs.Wire.{wire, IsAbsoluteName};
 ghost use Rattle.domain_reading.specs.Grammar.{PointerAt, Reads, Names, Flat, Encoding, EncodingEnds, Stop, root, FirstLabelAt};
 ghost use Rattle.domain_reading.specs.Faults.{NameFaultAt, Skips, SkipFault};
 ghost use Rattle.domain_reading.specs.Labels.{labels_at};
-ghost use Rattle.domain_reading.specs.Touched.{Touches, IsKept, ReadsBehind};
+ghost use Rattle.domain_reading.specs.Touched.{Touches, IsKept, ReadsFrom};
 ghost use Rattle.domain_reading.specs.declared.fault.NameFault.{NameFault};
 
 /// Facts on names in messages. The call does nothing: its contract is the facts.
@@ -43,10 +43,10 @@ pub fn reads_laws()
 pub fn overwriting_laws()
     ensures kept { (m w : List ℕ) (p k : ℕ) (ls : List (List ℕ)) (r : Reads m p k ls) → ((i : ℕ) → Touches r i → IsKept m w i) → Reads w p k ls }
     ensures inside { (m : List ℕ) (p k : ℕ) (ls : List (List ℕ)) (r : Reads m p k ls) (i : ℕ) → Touches r i → i < length m }
-    ensures behind { (n : ℕ) (m w : List ℕ) (p : ℕ) (ls : List (List ℕ)) → ReadsBehind n m p ls → drop n w ≡ drop n m → ReadsBehind n w p ls }
-    ensures more { (n : ℕ) (m u : List ℕ) (p : ℕ) (ls : List (List ℕ)) → ReadsBehind n m p ls → ReadsBehind n (m ++ u) p ls }
-    ensures name { (n k : ℕ) (m w : List ℕ) (p : ℕ) (xs ls : List (List ℕ)) → ReadsBehind n m p xs → drop n w ≡ drop n m → Names k m p ls → Names k w p ls }
-    ensures flat { (m : List ℕ) (p : ℕ) (ls : List (List ℕ)) → Names 0 m p ls → ReadsBehind p m p ls }
-    ensures labels { (n : ℕ) (m : List ℕ) (p r : ℕ) (fs ls : List (List ℕ)) → n ≤ p → Flat m p fs r → ReadsBehind n m r ls → ReadsBehind n m p (fs ++ ls) }
-    ensures pointer { (n : ℕ) (m : List ℕ) (p q : ℕ) (ls : List (List ℕ)) → n ≤ p → PointerAt m p q → q < p → ReadsBehind n m q ls → ReadsBehind n m p ls }
+    ensures after { (n : ℕ) (m w : List ℕ) (p : ℕ) (ls : List (List ℕ)) → ReadsFrom n m p ls → drop n w ≡ drop n m → ReadsFrom n w p ls }
+    ensures more { (n : ℕ) (m u : List ℕ) (p : ℕ) (ls : List (List ℕ)) → ReadsFrom n m p ls → ReadsFrom n (m ++ u) p ls }
+    ensures name { (n k : ℕ) (m w : List ℕ) (p : ℕ) (xs ls : List (List ℕ)) → ReadsFrom n m p xs → drop n w ≡ drop n m → Names k m p ls → Names k w p ls }
+    ensures flat { (m : List ℕ) (p : ℕ) (ls : List (List ℕ)) → Names 0 m p ls → ReadsFrom p m p ls }
+    ensures labels { (n : ℕ) (m : List ℕ) (p r : ℕ) (fs ls : List (List ℕ)) → n ≤ p → Flat m p fs r → ReadsFrom n m r ls → ReadsFrom n m p (fs ++ ls) }
+    ensures pointer { (n : ℕ) (m : List ℕ) (p q : ℕ) (ls : List (List ℕ)) → n ≤ p → PointerAt m p q → q < p → ReadsFrom n m q ls → ReadsFrom n m p ls }
 {}

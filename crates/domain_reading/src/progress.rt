@@ -48,18 +48,18 @@ impl Progress {
 
     /// Adds the offset of the next label to the table.
     #[inline(always)]
-    pub fn note_offset(&mut self, places: &mut [u16; MAX_LABELS])
+    pub fn note_offset(&mut self, entries: &mut [u16; MAX_LABELS])
         requires few { self.old.count < 128 }
         requires low { self.old.compressed ≡ true → self.old.at < 2 ^ 15 }
         ensures moved { self.new ≡ noted self.old }
-        ensures table { places.new ≡ table_noted self.old places.old }
+        ensures table { entries.new ≡ table_noted self.old entries.old }
     {
         let entry = if self.compressed {
             self.at as u16 + FAR
         } else {
             self.len
         };
-        places[usize::from(self.count)] = entry;
+        entries[usize::from(self.count)] = entry;
         self.count += 1;
     }
 
@@ -69,20 +69,20 @@ impl Progress {
     pub fn pass_label(
         &mut self,
         octets: u8,
-        places: &mut [u16; MAX_LABELS],
+        entries: &mut [u16; MAX_LABELS],
     ) -> Result<(), NameFault>
         requires room { self.old.at + 1 + octets < 2 ^ 64 }
         requires short { self.old.len ≤ 254 }
         requires few { self.old.count < 128 }
         requires low { self.old.compressed ≡ true → self.old.at < 2 ^ 15 }
-        ensures moved { MatchResult result (λ _. (self.new ≡ label_passed self.old octets) × (places.new ≡ table_noted self.old places.old)) (λ _. (self.new ≡ self.old) × (places.new ≡ places.old)) }
+        ensures moved { MatchResult result (λ _. (self.new ≡ label_passed self.old octets) × (entries.new ≡ table_noted self.old entries.old)) (λ _. (self.new ≡ self.old) × (entries.new ≡ entries.old)) }
         ensures long { MatchResult result (λ _. self.old.len + 1 + octets ≤ 254) (λ fault. (fault ≡ NameFault.LongName) × (254 < self.old.len + 1 + octets)) }
     {
         let len = self.len + 1 + u16::from(octets);
         if len > Progress::MAX_BEFORE_ROOT {
             return Err(NameFault::LongName);
         }
-        self.note_offset(places);
+        self.note_offset(entries);
         self.len = len;
         self.at = self.at + 1 + usize::from(octets);
         Ok(())

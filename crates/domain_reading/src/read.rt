@@ -25,12 +25,12 @@ const MAX_NAME_LEN: usize = 255;
 pub fn read_name_counted<L: Ledger>(
     message: &[u8],
     progress: &mut Progress,
-    places: &mut [u16; MAX_LABELS],
+    entries: &mut [u16; MAX_LABELS],
     limit: u8,
     heads: &mut Heads<L>,
 ) -> Result<(), NameFault>
     requires { progress.old ≡ beginning progress.old.at }
-    ensures name { OnOk result (NameRead limit message.now progress.old.at progress.new places.new heads.old heads.new) }
+    ensures name { OnOk result (NameRead limit message.now progress.old.at progress.new entries.new heads.old heads.new) }
     ensures inside { OnOk result (progress.new.at < length message.now) }
     ensures fault { IfErr result (λ fault. (f : NameFaultAt limit message.now progress.old.at fault) × (heads.new ≡ heads.old + length f.passed + f.pointers + 1)) }
     ensures few_heads { heads.new ≤ heads.old + 128 + limit }
@@ -39,10 +39,10 @@ pub fn read_name_counted<L: Ledger>(
     'heads: loop {
         match read_head(message, progress.at, heads)? {
             Head::Root => {
-                progress.note_offset(places);
+                progress.note_offset(entries);
                 return Ok(());
             }
-            Head::Label(octets) => progress.pass_label(octets, places)?,
+            Head::Label(octets) => progress.pass_label(octets, entries)?,
             Head::Pointer(target) => progress.follow(target, limit)?,
         }
     }

@@ -29,20 +29,20 @@ pub fn entry_offset(base: usize, entry: u16) -> usize
 
 /// The label at an offset, which is counted.
 #[inline(always)]
-pub fn read_label<'a, L: Ledger>(octets: &'a [u8], place: usize, heads: &mut Heads<L>) -> Label<'a>
-    requires { IsLabelOffset octets.now place }
-    ensures label { label_octets result ≡ label_at octets.now place }
+pub fn read_label<'a, L: Ledger>(octets: &'a [u8], offset: usize, heads: &mut Heads<L>) -> Label<'a>
+    requires { IsLabelOffset octets.now offset }
+    ensures label { label_octets result ≡ label_at octets.now offset }
     ensures counted { heads.new ≡ heads.old + 1 }
 {
-    let Ok(head) = read_head(octets, place, heads) else {
+    let Ok(head) = read_head(octets, offset, heads) else {
         unreachable!();
     };
     match head {
         Head::Root => Label::root(),
         Head::Label(len) => {
-            let start = place + 1;
-            let behind = start + usize::from(len);
-            let Ok(label) = Label::from_slice(&octets[start..behind]) else {
+            let start = offset + 1;
+            let after = start + usize::from(len);
+            let Ok(label) = Label::from_slice(&octets[start..after]) else {
                 unreachable!();
             };
             label

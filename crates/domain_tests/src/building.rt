@@ -75,7 +75,7 @@ fn texts_are_read_or_refused(rt: HostRuntime) {
     assert!(rt; count <= MOST_REFUSED);
 }
 
-/// The name of an address, and a relative name with the root behind it.
+/// The name of an address, and a relative name with the root after it.
 fn make_names(rt: &impl Abort, alloc: Global) -> u8 {
     let address = IpAddr::from([192u8, 0, 2, 1]);
     let wanted = b"\x011\x012\x010\x03192\x07in-addr\x04arpa\0".as_slice();
@@ -113,7 +113,7 @@ fn insist(rt: &impl Abort, builder: &mut NameBuilder<Vec<u8>>, call: BuilderCall
 }
 
 #[test]
-fn builders_go_on_behind_a_refused_call(rt: HostRuntime) {
+fn builders_go_on_after_a_refused_call(rt: HostRuntime) {
     let mut builder = NameBuilder::new_vec(rt.alloc());
     let mut count: u8 = 0;
     for call in [

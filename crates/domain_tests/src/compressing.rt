@@ -65,7 +65,7 @@ fn appended(rt: &impl Abort, target: &mut Target, octets: &[u8]) -> bool {
     target.append_compressed_name(&absolute(rt, octets)).is_ok()
 }
 
-/// The name is read at the place, without case. The place behind it is answered.
+/// The name is read at the offset, without case. The offset after it is answered.
 fn read_back(rt: &impl Abort, message: &[u8], place: usize, octets: &[u8]) -> usize {
     let mut parser = Parser::from_ref(message);
     assert!(rt; parser.seek(place).is_ok());

@@ -8,10 +8,10 @@ use std::io;
 use std::io::{ErrorKind, Read, Write};
 use std::process::Abort;
 
-/// The name at place 15 of the message, as it is shown.
+/// The name at offset 15 of the message, as it is shown.
 const LINE: &[u8] = b"www.Example.com.\n";
 
-/// A reader that gives one octet at a time, and fails behind a number of them.
+/// A reader that gives one octet at a time, and fails after a number of them.
 #[derive(Drop)]
 pub struct FailingReader<'a> {
     pub octets: &'a [u8],
@@ -34,7 +34,7 @@ impl Read for FailingReader<'_> {
     }
 }
 
-/// A reader of the message that fails behind a number of octets.
+/// A reader of the message that fails after a number of octets.
 fn failing_reader(fails_after: usize, kind: ErrorKind) -> FailingReader<'static> {
     FailingReader {
         octets: SCATTERED,

@@ -26,7 +26,7 @@ pub fn relative<'a>(rt: &impl Abort, octets: &'a [u8]) -> RelativeName<&'a [u8]>
     }
 }
 
-/// The name at a place of a message.
+/// The name at an offset of a message.
 pub fn parsed<'a>(rt: &impl Abort, octets: &'a [u8], place: usize) -> ParsedName<&'a [u8]> {
     let mut parser = Parser::from_ref(octets);
     assert!(rt; parser.advance(place).is_ok());

@@ -7,7 +7,7 @@ use octseq::Parser;
 use std::marker::Brand;
 use std::sync::ledger::{Blank, Ledger};
 
-/// The lengths of the first and the last label of the name at a place, of at most so many pointers.
+/// The lengths of the first and the last label of the name at an offset, of at most so many pointers.
 fn ends_counted<L: Ledger>(
     octets: &[u8],
     place: usize,

@@ -10,7 +10,7 @@ use Rattle.domain_label.specs.Spelling.{spelling, HasSpelling, IsPrintable, IsNo
 use Rattle.domain_label.proofs.ReadOnce.{none_spelled, none_broken}
 use Rattle.domain_text_grammar.specs.NameSymbols.{name_symbols, symbol_in_name}
 use Rattle.domain_text_grammar.specs.Laws.{AreBytes}
-use Rattle.domain_text_grammar.specs.TextGrammar.{AreOctets, CanBegin, IsLabelText, Joined, IsTextSoFar, SpellsName, SpellsRelative}
+use Rattle.domain_text_grammar.specs.TextGrammar.{AreOctets, CanBegin, IsLabelText, Joined, IsTextSoFar, IsTextOfName, IsTextOfRelative}
 use Rattle.domain_text_grammar.specs.declared.name_symbol.NameSymbol.{NameSymbol}
 use Rattle.domain_text_grammar.specs.declared.name_symbol.NameSymbol.TheVariants.{Dot, Octet}
 use Rattle.domain_text_grammar.proofs.Grammar.{begins_texts}
@@ -120,7 +120,7 @@ encoded_label c l short = record {
 dot_reads : (rest : List ℕ) (items : List Item) → ReadsSymbols rest items → ReadsSymbols (46 ∷ rest) (Ok (Char 46) ∷ items)
 dot_reads rest items r = (omega arith, (rest, refl, r))
 
--- ---- each label and a dot behind it
+-- ---- each label and a dot after it
 pub record Dots (ls : List (List ℕ)) : Type 0 where
   pub items : List Item
   pub labels : List (List ℕ)
@@ -150,13 +150,13 @@ no_items : (i : Item) (items : List Item) → ReadsSymbols [] (i ∷ items) → 
 no_items (Ok s) items r = none_spelled s [] r.1.0 refl r.1.1
 no_items (Err f) items r = none_broken [] f refl r.0
 
-pub dotted_spells : (ls : List (List ℕ)) → IsAbsoluteName ls → AreBytes ls → SpellsName (text_with_final_dot ls) ls
+pub dotted_spells : (ls : List (List ℕ)) → IsAbsoluteName ls → AreBytes ls → IsTextOfName (text_with_final_dot ls) ls
 dotted_spells ls n b = at d.items d.labels (flat_map with_dot ls) d.reads d.begins d.all
   where
     d : Dots ls
     d = dots ls n.0 b
 
-    at : (items : List Item) (ks : List (List ℕ)) (cs : List ℕ) → ReadsSymbols cs items → IsTextSoFar (name_symbols items) ks [] → ls ≡ ks ++ Root → SpellsName (or_dot cs) ls
+    at : (items : List Item) (ks : List (List ℕ)) (cs : List ℕ) → ReadsSymbols cs items → IsTextSoFar (name_symbols items) ks [] → ls ≡ ks ++ Root → IsTextOfName (or_dot cs) ls
     at [] [] [] r g e = (Ok (Char 46) ∷ [], dot_reads [] [] refl, inl (refl, e))
     at [] [] (c ∷ cs) r g e = absurd (cc r)
     at [] (k ∷ ks) cs r g e = absurd (no_dot g.0 g.1 g.3)
@@ -190,7 +190,7 @@ joins ((c ∷ l) ∷ m ∷ ls) a b =
     joined_text [] ls a = absurd a
     joined_text (d ∷ m) ls a = refl
 
-pub text_spells : (ls : List (List ℕ)) → IsRelativeName ls → AreBytes ls → SpellsRelative (text ls) ls
+pub text_spells : (ls : List (List ℕ)) → IsRelativeName ls → AreBytes ls → IsTextOfRelative (text ls) ls
 text_spells ls n b = let j = joins ls n.0 b in (j.items, j.reads, (j.joined, n.1))
 
 -- ---- labels joined by dots, without the root
@@ -227,17 +227,17 @@ some_parts : (k : List ℕ) (ks : List (List ℕ)) → Joined [] (k ∷ ks) → 
 some_parts k [] h = h.start
 some_parts k (m ∷ ks) h = no_dot h.0 h.1 h.3
 
-pub shown_spells : (ls : List (List ℕ)) → IsAbsoluteName ls → AreBytes ls → SpellsName (displayed ls) ls
+pub shown_spells : (ls : List (List ℕ)) → IsAbsoluteName ls → AreBytes ls → IsTextOfName (displayed ls) ls
 shown_spells ls n b = at f.labels f.all f.joined (joins f.labels f.relative f.bytes)
   where
     f : Front ls
     f = front ls n.0 b
 
-    some : (k : List ℕ) (ks : List (List ℕ)) (items : List Item) (cs : List ℕ) → ls ≡ (k ∷ ks) ++ Root → ReadsSymbols cs items → Joined (name_symbols items) (k ∷ ks) → SpellsName (or_dot cs) ls
+    some : (k : List ℕ) (ks : List (List ℕ)) (items : List Item) (cs : List ℕ) → ls ≡ (k ∷ ks) ++ Root → ReadsSymbols cs items → Joined (name_symbols items) (k ∷ ks) → IsTextOfName (or_dot cs) ls
     some k ks [] cs e r g = absurd (some_parts k ks g)
     some k ks (i ∷ items) [] e r g = absurd (no_items i items r)
     some k ks (i ∷ items) (c ∷ cs) e r g = (i ∷ items, r, inr (k ∷ ks, record { some = omega arith; text = name_symbols (i ∷ items); joined = g; dot = inl refl }, e, n.1))
 
-    at : (ks : List (List ℕ)) → ls ≡ ks ++ Root → text ls ≡ text ks → Joins ks → SpellsName (displayed ls) ls
-    at [] e t j = subst (λ (x : List ℕ). SpellsName (or_dot x) ls) (sym t) (Ok (Char 46) ∷ [], dot_reads [] [] refl, inl (refl, e))
-    at (k ∷ ks) e t j = subst (λ (x : List ℕ). SpellsName (or_dot x) ls) (sym t) (some k ks j.items (text (k ∷ ks)) e j.reads j.joined)
+    at : (ks : List (List ℕ)) → ls ≡ ks ++ Root → text ls ≡ text ks → Joins ks → IsTextOfName (displayed ls) ls
+    at [] e t j = subst (λ (x : List ℕ). IsTextOfName (or_dot x) ls) (sym t) (Ok (Char 46) ∷ [], dot_reads [] [] refl, inl (refl, e))
+    at (k ∷ ks) e t j = subst (λ (x : List ℕ). IsTextOfName (or_dot x) ls) (sym t) (some k ks j.items (text (k ∷ ks)) e j.reads j.joined)

@@ -63,25 +63,25 @@ dot_follows : (ls : List (List ℕ)) (l : List ℕ) → 0 < length l → (symbol
 dot_follows ls [] h = absurd (omega arith)
 dot_follows ls (c ∷ l) h = (refl, refl)
 
--- what a text begins with, behind labels
-behind_made : (ps : List NameSymbol) (ls fs : List (List ℕ)) (o : List ℕ) → IsTextSoFar ps fs o → size (built (ls ++ fs) o) ≤ 254 → Makes (built ls []) ps (built (ls ++ fs) o)
-behind_made ps ls [] [] h n = subst (λ (x : List NameSymbol). Makes (built ls []) x (built (ls ++ []) [])) (sym h) (ap (λ (x : List (List ℕ)). built x []) (append-nil ls))
-behind_made ps ls [] (c ∷ o) h n =
+-- what a text begins with, after labels
+after_made : (ps : List NameSymbol) (ls fs : List (List ℕ)) (o : List ℕ) → IsTextSoFar ps fs o → size (built (ls ++ fs) o) ≤ 254 → Makes (built ls []) ps (built (ls ++ fs) o)
+after_made ps ls [] [] h n = subst (λ (x : List NameSymbol). Makes (built ls []) x (built (ls ++ []) [])) (sym h) (ap (λ (x : List (List ℕ)). built x []) (append-nil ls))
+after_made ps ls [] (c ∷ o) h n =
     let e : ls ++ [] ≡ ls = append-nil ls in
     subst (λ (x : List (List ℕ)). Makes (built ls []) ps (built x (c ∷ o))) (sym e) (label_made ps (c ∷ o) ls h (subst (λ (x : List (List ℕ)). size (built x (c ∷ o)) ≤ 254) e n))
-behind_made ps ls (l ∷ fs) o h n =
+after_made ps ls (l ∷ fs) o h n =
     let some : 0 < length l = label_some h.0 l h.2 in
     let e : (ls ++ l ∷ []) ++ fs ≡ ls ++ l ∷ fs = append_assoc ls (l ∷ []) fs in
     let k : length (wire (ls ++ l ∷ fs)) ≡ length (wire ls) + length (wire (l ∷ fs)) = length-wire_append ls (l ∷ fs) in
     let j : length (wire (l ∷ fs)) ≡ 1 + length l + length (wire fs) = omega (arith, length-append l (wire fs)) in
     let small : size (built ls l) ≤ 254 = omega (arith, size_some ls l some, labels_le (ls ++ l ∷ fs) o, k, j, n) in
     let dot = dot_follows ls l some in
-    let more : Makes (built (ls ++ l ∷ []) []) h.1 (built (ls ++ l ∷ fs) o) = subst (λ (x : List (List ℕ)). Makes (built (ls ++ l ∷ []) []) h.1 (built x o)) e (behind_made h.1 (ls ++ l ∷ []) fs o h.4 (subst (λ (x : List (List ℕ)). size (built x o) ≤ 254) (sym e) n)) in
+    let more : Makes (built (ls ++ l ∷ []) []) h.1 (built (ls ++ l ∷ fs) o) = subst (λ (x : List (List ℕ)). Makes (built (ls ++ l ∷ []) []) h.1 (built x o)) e (after_made h.1 (ls ++ l ∷ []) fs o h.4 (subst (λ (x : List (List ℕ)). size (built x o) ≤ 254) (sym e) n)) in
     let rest : Makes (built ls l) (Dot ∷ h.1) (built (ls ++ l ∷ fs) o) = (dot.0, subst (λ (x : BuilderState). Makes x h.1 (built (ls ++ l ∷ fs) o)) (sym dot.1) more) in
     subst (λ (x : List NameSymbol). Makes (built ls []) x (built (ls ++ l ∷ fs) o)) (sym h.3) (makes-append h.0 (Dot ∷ h.1) (built ls []) (built ls l) (built (ls ++ l ∷ fs) o) (label_made h.0 l ls h.2 small) rest)
 
 pub begins_made : (ps : List NameSymbol) (b : BuilderState) → IsTextSoFar ps b.labels b.open_label → size b ≤ 254 → Makes empty_state ps b
-begins_made ps b h n = behind_made ps [] b.labels b.open_label h n
+begins_made ps b h n = after_made ps [] b.labels b.open_label h n
 
 -- ---- from what is made to the grammar
 
@@ -157,7 +157,7 @@ joined_begins text (l ∷ m ∷ ls) h =
     let k = joined_begins h.1 (m ∷ ls) h.4 in
     record { built = built (l ∷ k.built.labels) k.built.open_label; begins = (h.0, h.1, h.2, h.3, k.begins); labels = closed-cons l k.built.labels k.built.open_label ∙ ap (λ (x : List (List ℕ)). l ∷ x) k.labels }
 
--- a text that begins so is a text of labels, with a dot behind the last where none is open
+-- a text that begins so is a text of labels, with a dot after the last where none is open
 pub begins_joined : (ps : List NameSymbol) (fs : List (List ℕ)) (o : List ℕ) → IsTextSoFar ps fs o → 0 < length o → Joined ps (closed_with fs o)
 begins_joined ps [] [] h n = absurd (omega arith)
 begins_joined ps [] (c ∷ o) h n = h

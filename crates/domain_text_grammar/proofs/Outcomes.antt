@@ -4,10 +4,10 @@ use Rattle.octseq.specs.Capacity.{MayExceedCapacity}
 use Rattle.domain_label.specs.Wire.{wire}
 use Rattle.domain_label.specs.Spelling.{ReadsSymbols}
 use Rattle.domain_label.proofs.ReadOnce.{read_once}
-use Rattle.domain_text_grammar.specs.Laws.{SpellsOneName, SpellsOneRelative}
+use Rattle.domain_text_grammar.specs.Laws.{IsTextOfOneName, IsTextOfOneRelative}
 use Rattle.domain_text_grammar.specs.NameSymbols.{name_symbols}
 use Rattle.domain_label.specs.Spelling.{JustOne}
-use Rattle.domain_text_grammar.specs.TextGrammar.{IsNameText, NotANameText, IsRelativeText, NoRelative, SpellsName, SpellsNoName, SpellsRelative, SpellsNoRelative}
+use Rattle.domain_text_grammar.specs.TextGrammar.{IsNameText, NotANameText, IsRelativeText, NoRelative, IsTextOfName, IsTextOfNoName, IsTextOfRelative, IsTextOfNoRelative}
 use Rattle.domain_text_grammar.specs.TextErrors.{MatchFromStr, MatchRelativeFromStr, NoNameMade, NoRelativeMade, presentation_fault, presentation_error_kind}
 use Rattle.domain_text_grammar.specs.declared.name_symbol.TextFault.{TextFault}
 use Rattle.domain_text_grammar.specs.declared.name_symbol.NameSymbol.{NameSymbol}
@@ -62,33 +62,33 @@ one_spelled : {A B : Type 0} (P : List NameSymbol → A → Type 0) (Q : List Na
 one_spelled P Q cs (inl h) = inl (spelled_one P cs h.0, λ b s. h.1 b (spelled_parts Q cs b s))
 one_spelled P Q cs (inr h) = inr (spelled_one Q cs h.0, λ a s. h.1 a (spelled_parts P cs a s))
 
-pub spells_one_name : (cs : List ℕ) → SpellsOneName cs
+pub spells_one_name : (cs : List ℕ) → IsTextOfOneName cs
 unfolding Spelled
 spells_one_name cs = one_spelled IsNameText NotANameText cs (one_name (name_symbols (items_of cs)))
 
-pub spells_one_relative : (cs : List ℕ) → SpellsOneRelative cs
+pub spells_one_relative : (cs : List ℕ) → IsTextOfOneRelative cs
 unfolding Spelled
 spells_one_relative cs = one_spelled IsRelativeText NoRelative cs (one_relative (name_symbols (items_of cs)))
 
 -- ---- absolute names
 
 module _ {N : Type 0} (labels : N → List (List ℕ)) (room : Option ℕ) (cs : List ℕ) (r : Result N FromStrError) (h : MatchResult r (λ n. IsNameText (name_symbols (items_of cs)) (labels n)) (λ e. NoNameMade room (name_symbols (items_of cs)) e)) where
-  pub name_ok : IfOk r (λ n. SpellsName cs (labels n))
+  pub name_ok : IfOk r (λ n. IsTextOfName cs (labels n))
   name_ok = at r h
     where
-      at : (r : Result N FromStrError) → MatchResult r (λ n. IsNameText (name_symbols (items_of cs)) (labels n)) (λ e. NoNameMade room (name_symbols (items_of cs)) e) → IfOk r (λ n. SpellsName cs (labels n))
+      at : (r : Result N FromStrError) → MatchResult r (λ n. IsNameText (name_symbols (items_of cs)) (labels n)) (λ e. NoNameMade room (name_symbols (items_of cs)) e) → IfOk r (λ n. IsTextOfName cs (labels n))
       at (Ok n) h = (items_of cs, items_read cs, h)
       at (Err e) h = tt
 
-  pub name_err : IfErr r (λ e. MatchFromStr e (SpellsNoName cs) ((ls : List (List ℕ)) × SpellsName cs ls × MayExceedCapacity room (length (wire ls))))
+  pub name_err : IfErr r (λ e. MatchFromStr e (IsTextOfNoName cs) ((ls : List (List ℕ)) × IsTextOfName cs ls × MayExceedCapacity room (length (wire ls))))
   name_err = at r h
     where
-      at : (r : Result N FromStrError) → MatchResult r (λ n. IsNameText (name_symbols (items_of cs)) (labels n)) (λ e. NoNameMade room (name_symbols (items_of cs)) e) → IfErr r (λ e. MatchFromStr e (SpellsNoName cs) ((ls : List (List ℕ)) × SpellsName cs ls × MayExceedCapacity room (length (wire ls))))
+      at : (r : Result N FromStrError) → MatchResult r (λ n. IsNameText (name_symbols (items_of cs)) (labels n)) (λ e. NoNameMade room (name_symbols (items_of cs)) e) → IfErr r (λ e. MatchFromStr e (IsTextOfNoName cs) ((ls : List (List ℕ)) × IsTextOfName cs ls × MayExceedCapacity room (length (wire ls))))
       at (Ok n) h = tt
       at (Err (Presentation p)) h = (items_of cs, items_read cs, h)
       at (Err ShortBuf) h = (h.0, (items_of cs, items_read cs, h.1), h.2)
 
-  pub name_accepts : (ls : List (List ℕ)) → SpellsName cs ls → MatchResult r (λ n. labels n ≡ ls) (λ e. MatchFromStr e (λ _. ⊥) (MayExceedCapacity room (length (wire ls))))
+  pub name_accepts : (ls : List (List ℕ)) → IsTextOfName cs ls → MatchResult r (λ n. labels n ≡ ls) (λ e. MatchFromStr e (λ _. ⊥) (MayExceedCapacity room (length (wire ls))))
   name_accepts ls s = at r h (subst (λ (z : List Item). IsNameText (name_symbols z) ls) (same_items cs s.0 s.1) s.2)
     where
       at : (r : Result N FromStrError) → MatchResult r (λ n. IsNameText (name_symbols (items_of cs)) (labels n)) (λ e. NoNameMade room (name_symbols (items_of cs)) e) → IsNameText (name_symbols (items_of cs)) ls → MatchResult r (λ n. labels n ≡ ls) (λ e. MatchFromStr e (λ _. ⊥) (MayExceedCapacity room (length (wire ls))))
@@ -96,7 +96,7 @@ module _ {N : Type 0} (labels : N → List (List ℕ)) (room : Option ℕ) (cs :
       at (Err (Presentation p)) h t = never_both (IsNameText (name_symbols (items_of cs))) (NotANameText (name_symbols (items_of cs))) (one_name (name_symbols (items_of cs))) ls (presentation_fault (presentation_error_kind p)) t h
       at (Err ShortBuf) h t = subst (λ (z : List (List ℕ)). MayExceedCapacity room (length (wire z))) (two_of (IsNameText (name_symbols (items_of cs))) (NotANameText (name_symbols (items_of cs))) (one_name (name_symbols (items_of cs))) h.0 ls h.1 t) h.2
 
-  pub name_exact : (f : TextFault) → SpellsNoName cs f → MatchResult r (λ _. ⊥) (λ e. MatchFromStr e (λ told. told ≡ f) ⊥)
+  pub name_exact : (f : TextFault) → IsTextOfNoName cs f → MatchResult r (λ _. ⊥) (λ e. MatchFromStr e (λ told. told ≡ f) ⊥)
   name_exact f s = at r h (subst (λ (z : List Item). NotANameText (name_symbols z) f) (same_items cs s.0 s.1) s.2)
     where
       at : (r : Result N FromStrError) → MatchResult r (λ n. IsNameText (name_symbols (items_of cs)) (labels n)) (λ e. NoNameMade room (name_symbols (items_of cs)) e) → NotANameText (name_symbols (items_of cs)) f → MatchResult r (λ _. ⊥) (λ e. MatchFromStr e (λ told. told ≡ f) ⊥)
@@ -107,23 +107,23 @@ module _ {N : Type 0} (labels : N → List (List ℕ)) (room : Option ℕ) (cs :
 -- ---- relative names
 
 module _ {N : Type 0} (labels : N → List (List ℕ)) (room : Option ℕ) (cs : List ℕ) (r : Result N RelativeFromStrError) (h : MatchResult r (λ n. IsRelativeText (name_symbols (items_of cs)) (labels n)) (λ e. NoRelativeMade room (name_symbols (items_of cs)) e)) where
-  pub relative_ok : IfOk r (λ n. SpellsRelative cs (labels n))
+  pub relative_ok : IfOk r (λ n. IsTextOfRelative cs (labels n))
   relative_ok = at r h
     where
-      at : (r : Result N RelativeFromStrError) → MatchResult r (λ n. IsRelativeText (name_symbols (items_of cs)) (labels n)) (λ e. NoRelativeMade room (name_symbols (items_of cs)) e) → IfOk r (λ n. SpellsRelative cs (labels n))
+      at : (r : Result N RelativeFromStrError) → MatchResult r (λ n. IsRelativeText (name_symbols (items_of cs)) (labels n)) (λ e. NoRelativeMade room (name_symbols (items_of cs)) e) → IfOk r (λ n. IsTextOfRelative cs (labels n))
       at (Ok n) h = (items_of cs, items_read cs, h)
       at (Err e) h = tt
 
-  pub relative_err : IfErr r (λ e. MatchRelativeFromStr e (SpellsNoRelative cs) ((ls : List (List ℕ)) × SpellsRelative cs ls × MayExceedCapacity room (length (wire ls))))
+  pub relative_err : IfErr r (λ e. MatchRelativeFromStr e (IsTextOfNoRelative cs) ((ls : List (List ℕ)) × IsTextOfRelative cs ls × MayExceedCapacity room (length (wire ls))))
   relative_err = at r h
     where
-      at : (r : Result N RelativeFromStrError) → MatchResult r (λ n. IsRelativeText (name_symbols (items_of cs)) (labels n)) (λ e. NoRelativeMade room (name_symbols (items_of cs)) e) → IfErr r (λ e. MatchRelativeFromStr e (SpellsNoRelative cs) ((ls : List (List ℕ)) × SpellsRelative cs ls × MayExceedCapacity room (length (wire ls))))
+      at : (r : Result N RelativeFromStrError) → MatchResult r (λ n. IsRelativeText (name_symbols (items_of cs)) (labels n)) (λ e. NoRelativeMade room (name_symbols (items_of cs)) e) → IfErr r (λ e. MatchRelativeFromStr e (IsTextOfNoRelative cs) ((ls : List (List ℕ)) × IsTextOfRelative cs ls × MayExceedCapacity room (length (wire ls))))
       at (Ok n) h = tt
       at (Err AbsoluteName) h = (items_of cs, items_read cs, h)
       at (Err (FromStr (Presentation p))) h = (items_of cs, items_read cs, h)
       at (Err (FromStr ShortBuf)) h = (h.0, (items_of cs, items_read cs, h.1), h.2)
 
-  pub relative_accepts : (ls : List (List ℕ)) → SpellsRelative cs ls → MatchResult r (λ n. labels n ≡ ls) (λ e. MatchRelativeFromStr e (λ _. ⊥) (MayExceedCapacity room (length (wire ls))))
+  pub relative_accepts : (ls : List (List ℕ)) → IsTextOfRelative cs ls → MatchResult r (λ n. labels n ≡ ls) (λ e. MatchRelativeFromStr e (λ _. ⊥) (MayExceedCapacity room (length (wire ls))))
   relative_accepts ls s = at r h (subst (λ (z : List Item). IsRelativeText (name_symbols z) ls) (same_items cs s.0 s.1) s.2)
     where
       at : (r : Result N RelativeFromStrError) → MatchResult r (λ n. IsRelativeText (name_symbols (items_of cs)) (labels n)) (λ e. NoRelativeMade room (name_symbols (items_of cs)) e) → IsRelativeText (name_symbols (items_of cs)) ls → MatchResult r (λ n. labels n ≡ ls) (λ e. MatchRelativeFromStr e (λ _. ⊥) (MayExceedCapacity room (length (wire ls))))
@@ -132,7 +132,7 @@ module _ {N : Type 0} (labels : N → List (List ℕ)) (room : Option ℕ) (cs :
       at (Err (FromStr (Presentation p))) h t = never_both (IsRelativeText (name_symbols (items_of cs))) (NoRelative (name_symbols (items_of cs))) (one_relative (name_symbols (items_of cs))) ls (Some (presentation_fault (presentation_error_kind p))) t h
       at (Err (FromStr ShortBuf)) h t = subst (λ (z : List (List ℕ)). MayExceedCapacity room (length (wire z))) (two_of (IsRelativeText (name_symbols (items_of cs))) (NoRelative (name_symbols (items_of cs))) (one_relative (name_symbols (items_of cs))) h.0 ls h.1 t) h.2
 
-  pub relative_exact : (why : Option TextFault) → SpellsNoRelative cs why → MatchResult r (λ _. ⊥) (λ e. MatchRelativeFromStr e (λ told. told ≡ why) ⊥)
+  pub relative_exact : (why : Option TextFault) → IsTextOfNoRelative cs why → MatchResult r (λ _. ⊥) (λ e. MatchRelativeFromStr e (λ told. told ≡ why) ⊥)
   relative_exact why s = at r h (subst (λ (z : List Item). NoRelative (name_symbols z) why) (same_items cs s.0 s.1) s.2)
     where
       at : (r : Result N RelativeFromStrError) → MatchResult r (λ n. IsRelativeText (name_symbols (items_of cs)) (labels n)) (λ e. NoRelativeMade room (name_symbols (items_of cs)) e) → NoRelative (name_symbols (items_of cs)) why → MatchResult r (λ _. ⊥) (λ e. MatchRelativeFromStr e (λ told. told ≡ why) ⊥)

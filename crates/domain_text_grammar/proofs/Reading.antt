@@ -59,7 +59,7 @@ read_all all rest b m r e = subst (λ (z : List Item). Makes b (name_symbols z) 
 pub name_empty : (all : List Item) → all ≡ [] → NotANameText (name_symbols all) ShortInput
 name_empty all e = inl (ap name_symbols e, refl)
 
--- a dot alone, and one with anything behind it
+-- a dot alone, and one with anything after it
 pub name_dot : (all rest : List Item) (x : Item) (b : BuilderState) → b ≡ empty_state → all ≡ x ∷ rest → rest ≡ [] → name_symbol x ≡ Dot → IsNameText (name_symbols all) (closed b ++ Root)
 name_dot all rest x b n e r d = inl (ap name_symbols (e ∙ ap (λ (z : List Item). x ∷ z) r) ∙ ap (λ (p : NameSymbol). p ∷ []) d, ap (λ (z : BuilderState). closed z ++ Root) n)
 
@@ -72,7 +72,7 @@ name_dot_first all rest more x y e r d =
 not_dot : (ps qs : List NameSymbol) (p : NameSymbol) → ps ≡ p ∷ qs → p ≢ Dot → ps ≢ Dot ∷ []
 not_dot ps qs p e other alone = let same : p ≡ Dot = cc in other same
 
--- the first part refused, and what comes of those behind it
+-- the first part refused, and what comes of those after it
 pub name_first_refused : (all rest : List Item) (x : Item) (b : BuilderState) (f : TextFault) → b ≡ empty_state → all ≡ x ∷ rest → name_symbol x ≢ Dot → symbol_fault b (name_symbol x) ≡ Some f → NotANameText (name_symbols all) f
 name_first_refused all rest x b f n e other r =
     stopped_name (name_symbols all) empty_state f (not_dot (name_symbols all) (name_symbols rest) (name_symbol x) (ap name_symbols e) other)

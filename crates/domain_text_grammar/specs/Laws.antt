@@ -5,7 +5,7 @@ use Rattle.domain_label.specs.Text.{text_with_final_dot, displayed, text}
 use Rattle.domain_label.specs.Wire.{IsAbsoluteName, IsRelativeName}
 use Rattle.domain_label.specs.Spelling.{JustOne}
 use Rattle.domain_text_grammar.specs.BuilderState.{BuilderState, empty_state, size, Makes, StopsAt}
-use Rattle.domain_text_grammar.specs.TextGrammar.{IsTextSoFar, FirstFault, IsNameText, NotANameText, IsRelativeText, NoRelative, SpellsName, SpellsNoName, SpellsRelative, SpellsNoRelative}
+use Rattle.domain_text_grammar.specs.TextGrammar.{IsTextSoFar, FirstFault, IsNameText, NotANameText, IsRelativeText, NoRelative, IsTextOfName, IsTextOfNoName, IsTextOfRelative, IsTextOfNoRelative}
 use Rattle.domain_text_grammar.specs.declared.name_symbol.TextFault.{TextFault}
 use Rattle.domain_text_grammar.specs.declared.name_symbol.NameSymbol.{NameSymbol}
 
@@ -23,16 +23,16 @@ OneRelative ps =
 
 -- The same of characters: they are the text of one name and have no fault, or have one fault and are the
 -- text of no name.
-abbrev pub SpellsOneName : List ℕ → Type 0
-SpellsOneName cs =
-    (JustOne (SpellsName cs) × ((f : TextFault) → SpellsNoName cs f → ⊥))
-    ⊎ (JustOne (SpellsNoName cs) × ((ls : List (List ℕ)) → SpellsName cs ls → ⊥))
+abbrev pub IsTextOfOneName : List ℕ → Type 0
+IsTextOfOneName cs =
+    (JustOne (IsTextOfName cs) × ((f : TextFault) → IsTextOfNoName cs f → ⊥))
+    ⊎ (JustOne (IsTextOfNoName cs) × ((ls : List (List ℕ)) → IsTextOfName cs ls → ⊥))
 
 -- The same of relative names.
-abbrev pub SpellsOneRelative : List ℕ → Type 0
-SpellsOneRelative cs =
-    (JustOne (SpellsRelative cs) × ((why : Option TextFault) → SpellsNoRelative cs why → ⊥))
-    ⊎ (JustOne (SpellsNoRelative cs) × ((ls : List (List ℕ)) → SpellsRelative cs ls → ⊥))
+abbrev pub IsTextOfOneRelative : List ℕ → Type 0
+IsTextOfOneRelative cs =
+    (JustOne (IsTextOfRelative cs) × ((why : Option TextFault) → IsTextOfNoRelative cs why → ⊥))
+    ⊎ (JustOne (IsTextOfNoRelative cs) × ((ls : List (List ℕ)) → IsTextOfRelative cs ls → ⊥))
 
 -- Parts one after another make of nothing what a text that begins with them has, and stop where it has
 -- its first fault.
@@ -45,9 +45,9 @@ AppendsByGrammar ps =
 abbrev pub AreBytes : List (List ℕ) → Type 0
 AreBytes = AllByRecursion (AllByRecursion (λ c. c < 256))
 
--- The texts that a name shows, a dot behind each label or between two, are read as that name.
+-- The texts that a name shows, a dot after each label or between two, are read as that name.
 abbrev pub ReadsShown : List (List ℕ) → Type 0
 ReadsShown ls =
     AreBytes ls →
-    (IsAbsoluteName ls → SpellsName (text_with_final_dot ls) ls × SpellsName (displayed ls) ls)
-    × (IsRelativeName ls → SpellsRelative (text ls) ls)
+    (IsAbsoluteName ls → IsTextOfName (text_with_final_dot ls) ls × IsTextOfName (displayed ls) ls)
+    × (IsRelativeName ls → IsTextOfRelative (text ls) ls)

@@ -2,7 +2,7 @@
 use Rattle.std.specs.Prelude.{Result, IfOk, IfErr, MatchResult, ◌≡◌, ℕ, List, length, Option, None, Some}
 use Rattle.octseq.specs.Capacity.{MayExceedCapacity}
 use Rattle.domain_label.specs.Wire.{wire}
-use Rattle.domain_text_grammar.specs.TextGrammar.{IsNameText, NotANameText, IsRelativeText, NoRelative, SpellsName, SpellsNoName, SpellsRelative, SpellsNoRelative}
+use Rattle.domain_text_grammar.specs.TextGrammar.{IsNameText, NotANameText, IsRelativeText, NoRelative, IsTextOfName, IsTextOfNoName, IsTextOfRelative, IsTextOfNoRelative}
 use Rattle.domain_text_grammar.specs.declared.name_symbol.NameSymbol.{NameSymbol}
 use Rattle.domain_label.specs.declared.symbol.SymbolCharsError.{SymbolCharsError}
 use Rattle.domain_label.specs.declared.symbol.SymbolCharsError.TheVariants as broken
@@ -68,11 +68,11 @@ NoRelativeMade room ps e = MatchRelativeFromStr e (NoRelative ps) ((ls : List (L
 -- Why no name was read of the characters cs: a fault of theirs, or else the octets of the name that they
 -- are the text of lack room.
 abbrev pub NoNameRead : Option ℕ → List ℕ → FromStrError → Type 0
-NoNameRead room cs e = MatchFromStr e (SpellsNoName cs) ((ls : List (List ℕ)) × SpellsName cs ls × MayExceedCapacity room (length (wire ls)))
+NoNameRead room cs e = MatchFromStr e (IsTextOfNoName cs) ((ls : List (List ℕ)) × IsTextOfName cs ls × MayExceedCapacity room (length (wire ls)))
 
 -- The same of relative names.
 abbrev pub NoRelativeRead : Option ℕ → List ℕ → RelativeFromStrError → Type 0
-NoRelativeRead room cs e = MatchRelativeFromStr e (SpellsNoRelative cs) ((ls : List (List ℕ)) × SpellsRelative cs ls × MayExceedCapacity room (length (wire ls)))
+NoRelativeRead room cs e = MatchRelativeFromStr e (IsTextOfNoRelative cs) ((ls : List (List ℕ)) × IsTextOfRelative cs ls × MayExceedCapacity room (length (wire ls)))
 
 -- The error is a want of room for these labels.
 abbrev pub LacksCapacity : Option ℕ → List (List ℕ) → FromStrError → Type 0
@@ -83,24 +83,24 @@ abbrev pub RelativeLacksCapacity : Option ℕ → List (List ℕ) → RelativeFr
 RelativeLacksCapacity room ls e = MatchRelativeFromStr e (λ _. ⊥) (MayExceedCapacity room (length (wire ls)))
 
 -- The error is this fault, or where it is None a dot at the end.
-abbrev pub Tells : TextFault → FromStrError → Type 0
-Tells f e = MatchFromStr e (λ told. told ≡ f) ⊥
+abbrev pub IsErrorOfText : TextFault → FromStrError → Type 0
+IsErrorOfText f e = MatchFromStr e (λ told. told ≡ f) ⊥
 
 -- The same of relative names.
-abbrev pub RelativeTells : Option TextFault → RelativeFromStrError → Type 0
-RelativeTells why e = MatchRelativeFromStr e (λ told. told ≡ why) ⊥
+abbrev pub IsErrorOfRelativeText : Option TextFault → RelativeFromStrError → Type 0
+IsErrorOfRelativeText why e = MatchRelativeFromStr e (λ told. told ≡ why) ⊥
 
 -- What reading a name of the characters cs gives: the name that they are the text of, or their fault, or
 -- else a want of room.
 pub record ReadsNameText {N : Type 0} (labels : N → List (List ℕ)) (room : Option ℕ) (cs : List ℕ) (r : Result N FromStrError) : Type 0 where
-  pub ok : IfOk r (λ n. SpellsName cs (labels n))
+  pub ok : IfOk r (λ n. IsTextOfName cs (labels n))
   pub err : IfErr r (NoNameRead room cs)
-  pub accepts : (ls : List (List ℕ)) → SpellsName cs ls → MatchResult r (λ n. labels n ≡ ls) (LacksCapacity room ls)
-  pub exact : (f : TextFault) → SpellsNoName cs f → MatchResult r (λ _. ⊥) (Tells f)
+  pub accepts : (ls : List (List ℕ)) → IsTextOfName cs ls → MatchResult r (λ n. labels n ≡ ls) (LacksCapacity room ls)
+  pub exact : (f : TextFault) → IsTextOfNoName cs f → MatchResult r (λ _. ⊥) (IsErrorOfText f)
 
 -- The same of relative names.
 pub record ReadsRelativeText {N : Type 0} (labels : N → List (List ℕ)) (room : Option ℕ) (cs : List ℕ) (r : Result N RelativeFromStrError) : Type 0 where
-  pub ok : IfOk r (λ n. SpellsRelative cs (labels n))
+  pub ok : IfOk r (λ n. IsTextOfRelative cs (labels n))
   pub err : IfErr r (NoRelativeRead room cs)
-  pub accepts : (ls : List (List ℕ)) → SpellsRelative cs ls → MatchResult r (λ n. labels n ≡ ls) (RelativeLacksCapacity room ls)
-  pub exact : (why : Option TextFault) → SpellsNoRelative cs why → MatchResult r (λ _. ⊥) (RelativeTells why)
+  pub accepts : (ls : List (List ℕ)) → IsTextOfRelative cs ls → MatchResult r (λ n. labels n ≡ ls) (RelativeLacksCapacity room ls)
+  pub exact : (why : Option TextFault) → IsTextOfNoRelative cs why → MatchResult r (λ _. ⊥) (IsErrorOfRelativeText why)

@@ -47,7 +47,7 @@ Joined ps (l ∷ m ∷ ls) = (a : List NameSymbol) × (b : List NameSymbol) × I
 abbrev pub IsRelativeText : List NameSymbol → List (List ℕ) → Type 0
 IsRelativeText ps ls = Joined ps ls × (length (wire ls) ≤ 254)
 
--- Texts of labels with at most one dot behind the last.
+-- Texts of labels with at most one dot after the last.
 pub record AreLabelTexts (ps : List NameSymbol) (ls : List (List ℕ)) : Type 0 where
   pub some : 0 < length ls
   pub text : List NameSymbol
@@ -60,7 +60,7 @@ IsNameText ps ls =
     ((ps ≡ Dot ∷ []) × (ls ≡ Root))
     ⊎ ((ks : List (List ℕ)) × AreLabelTexts ps ks × (ls ≡ ks ++ Root) × (length (wire ls) ≤ 255))
 
--- A text begins with texts of the labels fs, a dot behind each, and then with nothing, or with the octets
+-- A text begins with texts of the labels fs, a dot after each, and then with nothing, or with the octets
 -- o of a label that isn't ended.
 abbrev pub IsTextSoFar : List NameSymbol → List (List ℕ) → List ℕ → Type 0
 IsTextSoFar ps [] [] = ps ≡ []
@@ -82,7 +82,7 @@ pub record FirstFault (ps : List NameSymbol) (f : TextFault) : Type 0 where
 abbrev pub NotANameText : List NameSymbol → TextFault → Type 0
 NotANameText ps f = ((ps ≡ []) × (f ≡ ShortInput)) ⊎ ((ps ≢ Dot ∷ []) × FirstFault ps f)
 
--- The text of a relative name of some labels, and a dot behind it.
+-- The text of a relative name of some labels, and a dot after it.
 pub record EndsInDot (ps : List NameSymbol) : Type 0 where
   pub labels : List (List ℕ)
   pub some : 0 < length labels
@@ -92,22 +92,22 @@ pub record EndsInDot (ps : List NameSymbol) : Type 0 where
   pub dot : ps ≡ text ++ Dot ∷ []
 
 -- The characters cs are the text of the name ls, and have the fault f.
-abbrev pub SpellsName : List ℕ → List (List ℕ) → Type 0
-SpellsName cs ls = (items : List (Result Symbol SymbolCharsError)) × ReadsSymbols cs items × IsNameText (name_symbols items) ls
+abbrev pub IsTextOfName : List ℕ → List (List ℕ) → Type 0
+IsTextOfName cs ls = (items : List (Result Symbol SymbolCharsError)) × ReadsSymbols cs items × IsNameText (name_symbols items) ls
 
 -- The characters cs are the text of no absolute name, and have the fault f.
-abbrev pub SpellsNoName : List ℕ → TextFault → Type 0
-SpellsNoName cs f = (items : List (Result Symbol SymbolCharsError)) × ReadsSymbols cs items × NotANameText (name_symbols items) f
+abbrev pub IsTextOfNoName : List ℕ → TextFault → Type 0
+IsTextOfNoName cs f = (items : List (Result Symbol SymbolCharsError)) × ReadsSymbols cs items × NotANameText (name_symbols items) f
 
 -- The characters cs are the text of the relative name ls.
-abbrev pub SpellsRelative : List ℕ → List (List ℕ) → Type 0
-SpellsRelative cs ls = (items : List (Result Symbol SymbolCharsError)) × ReadsSymbols cs items × IsRelativeText (name_symbols items) ls
+abbrev pub IsTextOfRelative : List ℕ → List (List ℕ) → Type 0
+IsTextOfRelative cs ls = (items : List (Result Symbol SymbolCharsError)) × ReadsSymbols cs items × IsRelativeText (name_symbols items) ls
 
--- Why a text is no relative name: a first fault, or None where it ends in a dot behind a label.
+-- Why a text is no relative name: a first fault, or None where it ends in a dot after a label.
 abbrev pub NoRelative : List NameSymbol → Option TextFault → Type 0
 NoRelative ps (Some f) = FirstFault ps f
 NoRelative ps None = EndsInDot ps
 
 -- The same of the characters cs.
-abbrev pub SpellsNoRelative : List ℕ → Option TextFault → Type 0
-SpellsNoRelative cs why = (items : List (Result Symbol SymbolCharsError)) × ReadsSymbols cs items × NoRelative (name_symbols items) why
+abbrev pub IsTextOfNoRelative : List ℕ → Option TextFault → Type 0
+IsTextOfNoRelative cs why = (items : List (Result Symbol SymbolCharsError)) × ReadsSymbols cs items × NoRelative (name_symbols items) why

@@ -29,10 +29,10 @@ size_closed s head (suc n) i none = absurd (omega arith)
 pub view_pushed : (s : List ℕ) (head n c : ℕ) → IsBuffer s head n → head + n ≤ 252 → buffer_view (set s (head + 1 + n) c) head (n + 1) ≡ pushed (buffer_view s head n) (c ∷ [])
 view_pushed s head n c i fits =
     let front : take head (set s (head + 1 + n) c) ≡ take head s = take-set-le head s (head + 1 + n) c (omega arith) in
-    let behind : drop (head + 1) (set s (head + 1 + n) c) ≡ set (drop (head + 1) s) n c = drop-set-add (head + 1) s n c in
+    let after : drop (head + 1) (set s (head + 1 + n) c) ≡ set (drop (head + 1) s) n c = drop-set-add (head + 1) s n c in
     let more : take (n + 1) (set (drop (head + 1) s) n c) ≡ take n (drop (head + 1) s) ++ c ∷ [] = take_more_set (drop (head + 1) s) n c (omega (arith, length-drop (head + 1) s, i.whole)) in
     ap (λ (x : List ℕ). built (labels_in x) (take (n + 1) (drop (head + 1) (set s (head + 1 + n) c)))) front
-    ∙ ap (λ (x : List ℕ). built (labels_in (take head s)) (take (n + 1) x)) behind
+    ∙ ap (λ (x : List ℕ). built (labels_in (take head s)) (take (n + 1) x)) after
     ∙ ap (λ (x : List ℕ). built (labels_in (take head s)) x) more
 
 pub inside_pushed : (s : List ℕ) (head n c : ℕ) → IsBuffer s head n → head + n ≤ 252 → n < 63 → IsBuffer (set s (head + 1 + n) c) head (n + 1)
@@ -62,11 +62,11 @@ open_pushed s head n c i = length-append (take n (drop (head + 1) s)) (c ∷ [])
 front_ended : (s : List ℕ) (head n : ℕ) → head < length s → take (head + 1 + n) (set s head n) ≡ take head s ++ n ∷ take n (drop (head + 1) s)
 front_ended s head n within =
     let place : head + 1 + n ≡ head + suc n = omega (arith, add-one n) in
-    let behind : drop head (set s head n) ≡ n ∷ drop (head + 1) s = drop-set s head n within in
+    let after : drop head (set s head n) ≡ n ∷ drop (head + 1) s = drop-set s head n within in
     ap (λ (k : ℕ). take k (set s head n)) place
     ∙ take-add head (suc n) (set s head n)
     ∙ ap (λ (x : List ℕ). x ++ take (suc n) (drop head (set s head n))) (take-set-le head s head n (omega arith))
-    ∙ ap (λ (x : List ℕ). take head s ++ take (suc n) x) behind
+    ∙ ap (λ (x : List ℕ). take head s ++ take (suc n) x) after
 
 wire_ended : (s : List ℕ) (head n : ℕ) → IsBuffer s head n → 0 < n → take (head + 1 + n) (set s head n) ≡ wire (labels_in (take head s) ++ take n (drop (head + 1) s) ∷ [])
 wire_ended s head n i some =
@@ -106,7 +106,7 @@ inside_ended s head n i some =
       open_fits = λ bad. absurd (omega (arith, bad));
     }
 
--- an octet written at the place of the next length octet
+-- an octet written at the offset of the next length octet
 pub inside_headed : (s : List ℕ) (head n v : ℕ) → IsBuffer s head n → IsBuffer (set s head v) head n
 inside_headed s head n v i =
     let front : take head (set s head v) ≡ take head s = take-set-le head s head v (omega arith) in

@@ -80,11 +80,11 @@ is_label_text (c ∷ l) some short a = record { octets = are_octets (c ∷ l) a;
 
 -- ---- labels that are ended one after another
 
--- How far they are ended: up to the place `head`, where the next length octet will stand. The text behind lies
--- where the octets of the labels will be, and up to the place `at` it has no dot.
+-- How far they are ended: up to the offset `head`, where the next length octet will stand. The text after lies
+-- where the octets of the labels will be, and up to the offset `at` it has no dot.
 pub record IsEnded (octets text : List ℕ) (head at : ℕ) : Type 0 where
   pub front : IsBuffer octets head 0
-  pub behind : take (length text - head) (drop (head + 1) octets) ≡ drop head text
+  pub after : take (length text - head) (drop (head + 1) octets) ≡ drop head text
   pub passed : head ≤ at
   pub inside : at ≤ length text
   pub made : Makes empty_state (text_parts (take head text)) (buffer_view octets head 0)
@@ -93,7 +93,7 @@ pub record IsEnded (octets text : List ℕ) (head at : ℕ) : Type 0 where
 pub none_ended : (octets text : List ℕ) → length octets ≡ 255 → take (length text) (drop 1 octets) ≡ text → IsEnded octets text 0 0
 none_ended octets text whole there = record {
   front = record { whole = whole; wire = refl; labels = tt; label_short = omega arith; fits = omega arith; open_fits = λ bad. absurd (omega (arith, bad)) };
-  behind = (let k : length text - 0 ≡ length text = omega arith in ap (λ n. take n (drop 1 octets)) k) ∙ there;
+  after = (let k : length text - 0 ≡ length text = omega arith in ap (λ n. take n (drop 1 octets)) k) ∙ there;
   passed = omega arith;
   inside = omega arith;
   made = refl;
@@ -108,23 +108,23 @@ letter_passed octets text head at e plain more letter =
     (let k : at + 1 - head ≡ at - head + 1 = omega (arith, e.passed) in ap (λ i. take i (drop head text)) k) ∙ (take_more (drop head text) (at - head) 0 rest ∙ ap (λ c. take (at - head) (drop head text) ++ c ∷ []) here) in
     record {
       front = e.front;
-      behind = e.behind;
+      after = e.after;
       passed = omega (arith, e.passed);
       inside = omega (arith, more);
       made = e.made;
       label = subst (AllByRecursion IsInLabel) (sym longer) (all_more IsInLabel (take (at - head) (drop head text)) (get_or text at 0) e.label (all_at IsPlain text at plain more, letter));
     }
 
--- the text up to a place, label by label
+-- the text up to an offset, label by label
 up_to : (text : List ℕ) (head at : ℕ) → head ≤ at → take at text ≡ take head text ++ take (at - head) (drop head text)
 up_to text head at le = (let k : at ≡ head + (at - head) = omega (arith, le) in ap (λ i. take i text) k) ∙ take-add head (at - head) text
 
--- the octets behind the head are those of the text
+-- the octets after the head are those of the text
 open_octets : (octets text : List ℕ) (head at : ℕ) → IsEnded octets text head at → take (at - head) (drop (head + 1) octets) ≡ take (at - head) (drop head text)
 open_octets octets text head at e =
     let k : length text - head ≡ (at - head) + (length text - at) = omega (arith, e.passed, e.inside) in
     let shorter : take (at - head) (take ((at - head) + (length text - at)) (drop (head + 1) octets)) ≡ take (at - head) (drop (head + 1) octets) = grind (arith, common_steps) in
-    sym shorter ∙ (ap (λ n. take (at - head) (take n (drop (head + 1) octets))) (sym k) ∙ ap (take (at - head)) e.behind)
+    sym shorter ∙ (ap (λ n. take (at - head) (take n (drop (head + 1) octets))) (sym k) ∙ ap (take (at - head)) e.after)
 
 -- a buffer with an open label
 pub opened : (octets : List ℕ) (head n : ℕ) → IsBuffer octets head 0 → n ≤ 63 → head + n ≤ 253 → IsBuffer octets head n
@@ -147,7 +147,7 @@ label_opened octets text head at e short fits = made (at - head) refl
         subst (λ o. Makes (built ls []) (text_parts l) (built ls o)) (sym (open_octets octets text head at e))
         (label_made (text_parts l) l ls (is_label_text l some (omega (arith, long, fits)) e.label) (omega (arith, size_some ls l some, small)))
 
--- up to the place, all is made
+-- up to the offset, all is made
 pub all_made : (octets text : List ℕ) (head at : ℕ) → IsEnded octets text head at → length text ≤ 253 → at - head ≤ 63 → Makes empty_state (text_parts (take at text)) (buffer_view octets head (at - head))
 all_made octets text head at e short fits =
     subst (λ z. Makes empty_state z (buffer_view octets head (at - head))) (sym (ap text_parts (up_to text head at e.passed) ∙ parts_joined (take head text) (take (at - head) (drop head text))))
@@ -161,12 +161,12 @@ dot_taken ls (c ∷ o) some = refl
 dot_part : (c : ℕ) → c ≡ 46 → name_symbol (Ok (Char c)) ≡ Dot
 dot_part c e = ap (λ x. name_symbol (Ok (Char x))) e
 
-behind_dot : (octets text : List ℕ) (head at : ℕ) → IsEnded octets text head at → at < length text → take (length text - (at + 1)) (drop (at + 2) octets) ≡ drop (at + 1) text
-behind_dot octets text head at e more =
+after_dot : (octets text : List ℕ) (head at : ℕ) → IsEnded octets text head at → at < length text → take (length text - (at + 1)) (drop (at + 2) octets) ≡ drop (at + 1) text
+after_dot octets text head at e more =
     let m : ℕ = at + 1 - head in
     let n : ℕ = length text - (at + 1) in
     let k : length text - head ≡ m + n = omega (arith, e.passed, more) in
-    let there : drop m (take (m + n) (drop (head + 1) octets)) ≡ drop m (drop head text) = ap (λ i. drop m (take i (drop (head + 1) octets))) (sym k) ∙ ap (drop m) e.behind in
+    let there : drop m (take (m + n) (drop (head + 1) octets)) ≡ drop m (drop head text) = ap (λ i. drop m (take i (drop (head + 1) octets))) (sym k) ∙ ap (drop m) e.after in
     let front : head + 1 + m ≡ at + 2 = omega (arith, e.passed) in
     let back : head + m ≡ at + 1 = omega (arith, e.passed) in
     ap (λ i. take n (drop i octets)) (sym front)
@@ -185,7 +185,7 @@ dot_ended octets text head at e short more dot some fits =
     subst (λ p. Makes (buffer_view octets head n) (p ∷ []) (buffer_view (set octets head n) (at + 1) 0)) (sym (dot_part (get_or text at 0) dot)) (dot_taken (labels_in (take head octets)) (take n (drop (head + 1) octets)) long, view) in
     record {
       front = subst (λ i. IsBuffer (set octets head n) i 0) next (inside_ended octets head n o (omega (arith, some)));
-      behind = ap (take (length text - (at + 1))) (drop-set-lt (at + 1 + 1) octets head n (omega (arith, e.passed)) ∙ (let k : at + 1 + 1 ≡ at + 2 = omega arith in ap (λ i. drop i octets) k)) ∙ behind_dot octets text head at e more;
+      after = ap (take (length text - (at + 1))) (drop-set-lt (at + 1 + 1) octets head n (omega (arith, e.passed)) ∙ (let k : at + 1 + 1 ≡ at + 2 = omega arith in ap (λ i. drop i octets) k)) ∙ after_dot octets text head at e more;
       passed = omega arith;
       inside = omega (arith, more);
       made = subst (λ z. Makes empty_state z (buffer_view (set octets head n) (at + 1) 0)) (sym (ap text_parts (take_more text at 0 more) ∙ parts_joined (take at text) (get_or text at 0 ∷ [])))
@@ -195,7 +195,7 @@ dot_ended octets text head at e short more dot some fits =
 
 -- ---- faults
 
--- a text is what is before a place, the character there, and the rest
+-- a text is what is before an offset, the character there, and the rest
 whole_at : (text : List ℕ) (at : ℕ) → at < length text → text_parts text ≡ text_parts (take at text) ++ name_symbol (Ok (Char (get_or text at 0))) ∷ text_parts (drop (at + 1) text)
 whole_at text at more =
     ap text_parts (sym (take-append-drop at text) ∙ ap (λ z. take at text ++ z) (drop_more text at 0 more)) ∙ parts_joined (take at text) (get_or text at 0 ∷ drop (at + 1) text)
@@ -222,7 +222,7 @@ long_label_there octets text head at e short long =
     let cut : take 63 (take (at - head) (drop head text)) ≡ take (to - head) (drop head text) = (let k : to - head ≡ 63 = omega arith in ap (λ n. take n (take (at - head) (drop head text))) (sym k) ∙ (grind (arith, common_steps))) in
     let f : IsEnded octets text head to = record {
       front = e.front;
-      behind = e.behind;
+      after = e.after;
       passed = omega arith;
       inside = omega (arith, inside);
       made = e.made;

@@ -3,12 +3,12 @@ use Rattle.std.specs.Prelude.{◌≡◌, ℕ, ◌+◌, ◌<◌, ◌≤◌, List,
 use Rattle.domain_label.specs.Wire.{wire, labels_in, IsRelative}
 use Rattle.domain_text_grammar.specs.BuilderState.{BuilderState}
 
--- The wire format of the finished labels lies before `head`, and the octets of the open label behind the
--- place of its length octet.
+-- The wire format of the finished labels lies before `head`, and the octets of the open label after the
+-- offset of its length octet.
 abbrev pub buffer_view : List ℕ → ℕ → ℕ → BuilderState
 buffer_view octets head open_len = record { labels = labels_in (take head octets); open_label = take open_len (drop (head + 1) octets) }
 
--- The buffer has 255 octets; the finished labels are a relative name, and the open label fits behind them.
+-- The buffer has 255 octets; the finished labels are a relative name, and the open label fits after them.
 pub record IsBuffer (octets : List ℕ) (head : ℕ) (open_len : ℕ) : Type 0 where
   pub whole : length octets ≡ 255
   pub wire : wire (labels_in (take head octets)) ≡ take head octets

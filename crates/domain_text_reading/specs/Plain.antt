@@ -7,7 +7,7 @@ use Rattle.domain_label.specs.Spelling.{IsPrintable}
 abbrev pub IsPlain : ℕ → Type 0
 IsPlain c = IsPrintable c × (c ≢ 92)
 
--- From 2 to 253 of them. So the text isn't a dot alone, and fits into a name behind its first length octet.
+-- From 2 to 253 of them. So the text isn't a dot alone, and fits into a name after its first length octet.
 pub record IsPlainText (cs : List ℕ) : Type 0 where
   pub some : 1 < length cs
   pub short : length cs ≤ 253

@@ -21,7 +21,7 @@ use std::marker::Model;
 /// then stay in registers.
 #[derive(Clone, Copy)]
 struct Ends {
-    /// The place of the length octet of the next label, or of the root.
+    /// The offset of the length octet of the next label, or of the root.
     head: usize,
     open_len: usize,
 }
@@ -108,8 +108,8 @@ fn add_symbol(octets: &mut [u8; 255], ends: &mut Ends, part: NameSymbol) -> Resu
     }
 }
 
-/// Ends the labels of a plain text that lies behind the place of the first length octet. A label's length takes
-/// the place of the dot before it.
+/// Ends the labels of a plain text that lies after the offset of the first length octet. A label's length takes
+/// the offset of the dot before it.
 #[inline(always)]
 fn end_plain(octets: &mut [u8; 255], text: &[u8]) -> Result<Ends, TextFault>
     requires plain { IsPlainText text.now }

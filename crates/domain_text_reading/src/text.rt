@@ -9,8 +9,8 @@ ghost use Rattle.domain_label.specs.declared.symbol.SymbolCharsError.{SymbolChar
 ghost use Rattle.domain_text_grammar.specs.BuilderState.{BuilderState, empty_state, closed, Makes, StopsAt};
 ghost use Rattle.domain_text_grammar.specs.NameSymbols.{name_symbols, symbols_in_name, IsDot};
 ghost use Rattle.domain_text_reading.specs.Plain.{IsPlainText};
-ghost use Rattle.domain_text_grammar.specs.TextGrammar.{IsNameText, NotANameText, IsRelativeText, NoRelative, SpellsName, SpellsNoName, SpellsRelative, SpellsNoRelative};
-ghost use Rattle.domain_text_grammar.specs.TextErrors.{NoNameMade, NoRelativeMade, NoNameRead, NoRelativeRead, LacksCapacity, RelativeLacksCapacity, Tells, RelativeTells};
+ghost use Rattle.domain_text_grammar.specs.TextGrammar.{IsNameText, NotANameText, IsRelativeText, NoRelative, IsTextOfName, IsTextOfNoName, IsTextOfRelative, IsTextOfNoRelative};
+ghost use Rattle.domain_text_grammar.specs.TextErrors.{NoNameMade, NoRelativeMade, NoNameRead, NoRelativeRead, LacksCapacity, RelativeLacksCapacity, IsErrorOfText, IsErrorOfRelativeText};
 ghost use Rattle.domain_text_grammar.specs.declared.name_symbol.TextFault.{TextFault};
 ghost use Rattle.domain_text_grammar.specs.declared.name_symbol.NameSymbol.{NameSymbol};
 
@@ -64,7 +64,7 @@ fn is_dot(part: NameSymbol) -> bool
     }
 }
 
-/// Refuses the text of a relative name that was read and ends in a dot behind a label. That is told as
+/// Refuses the text of a relative name that was read and ends in a dot after a label. That is told as
 /// `None`.
 #[inline(always)]
 fn refuse_final_dot(
@@ -217,12 +217,12 @@ where
     requires can { I.can_next chars }
     requires ends { IsFinite (I.remaining chars) }
     ensures wire { IfOk result (λ octets. IsAbsoluteWire (Octs.octets octets)) }
-    ensures ok { (cs : List ℕ) → AlwaysYields I.next_gives (λ c. c) chars cs → IfOk result (λ octets. SpellsName cs (labels_in (Octs.octets octets))) }
+    ensures ok { (cs : List ℕ) → AlwaysYields I.next_gives (λ c. c) chars cs → IfOk result (λ octets. IsTextOfName cs (labels_in (Octs.octets octets))) }
     ensures err { (cs : List ℕ) → AlwaysYields I.next_gives (λ c. c) chars cs → IfErr result (NoNameRead Octs.Builder.ROOM cs) }
-    ensures accepts { (cs : List ℕ) (ls : List (List ℕ)) → AlwaysYields I.next_gives (λ c. c) chars cs → SpellsName cs ls →
+    ensures accepts { (cs : List ℕ) (ls : List (List ℕ)) → AlwaysYields I.next_gives (λ c. c) chars cs → IsTextOfName cs ls →
         MatchResult result (λ octets. labels_in (Octs.octets octets) ≡ ls) (LacksCapacity Octs.Builder.ROOM ls) }
-    ensures exact { (cs : List ℕ) (f : TextFault) → AlwaysYields I.next_gives (λ c. c) chars cs → SpellsNoName cs f →
-        MatchResult result (λ _. ⊥) (Tells f) }
+    ensures exact { (cs : List ℕ) (f : TextFault) → AlwaysYields I.next_gives (λ c. c) chars cs → IsTextOfNoName cs f →
+        MatchResult result (λ _. ⊥) (IsErrorOfText f) }
 {
     absolute_from_items(alloc, Symbols::new(chars))
 }
@@ -238,12 +238,12 @@ where
     requires can { I.can_next chars }
     requires ends { IsFinite (I.remaining chars) }
     ensures wire { IfOk result (λ octets. IsRelativeWire (Octs.octets octets)) }
-    ensures ok { (cs : List ℕ) → AlwaysYields I.next_gives (λ c. c) chars cs → IfOk result (λ octets. SpellsRelative cs (labels_in (Octs.octets octets))) }
+    ensures ok { (cs : List ℕ) → AlwaysYields I.next_gives (λ c. c) chars cs → IfOk result (λ octets. IsTextOfRelative cs (labels_in (Octs.octets octets))) }
     ensures err { (cs : List ℕ) → AlwaysYields I.next_gives (λ c. c) chars cs → IfErr result (NoRelativeRead Octs.Builder.ROOM cs) }
-    ensures accepts { (cs : List ℕ) (ls : List (List ℕ)) → AlwaysYields I.next_gives (λ c. c) chars cs → SpellsRelative cs ls →
+    ensures accepts { (cs : List ℕ) (ls : List (List ℕ)) → AlwaysYields I.next_gives (λ c. c) chars cs → IsTextOfRelative cs ls →
         MatchResult result (λ octets. labels_in (Octs.octets octets) ≡ ls) (RelativeLacksCapacity Octs.Builder.ROOM ls) }
-    ensures exact { (cs : List ℕ) (why : Option TextFault) → AlwaysYields I.next_gives (λ c. c) chars cs → SpellsNoRelative cs why →
-        MatchResult result (λ _. ⊥) (RelativeTells why) }
+    ensures exact { (cs : List ℕ) (why : Option TextFault) → AlwaysYields I.next_gives (λ c. c) chars cs → IsTextOfNoRelative cs why →
+        MatchResult result (λ _. ⊥) (IsErrorOfRelativeText why) }
 {
     let mut buffer = NameBuffer::new();
     let read = read_relative_text(&mut buffer, Symbols::new(chars));
@@ -276,11 +276,11 @@ pub fn absolute_from_str<Octs: FromBuilder + Drop>(
 where
     Octs::Builder: EmptyBuilder + Drop,
     ensures wire { IfOk result (λ octets. IsAbsoluteWire (Octs.octets octets)) }
-    ensures ok { IfOk result (λ octets. SpellsName (chars text.now) (labels_in (Octs.octets octets))) }
+    ensures ok { IfOk result (λ octets. IsTextOfName (chars text.now) (labels_in (Octs.octets octets))) }
     ensures err { IfErr result (NoNameRead Octs.Builder.ROOM (chars text.now)) }
-    ensures accepts { (ls : List (List ℕ)) → SpellsName (chars text.now) ls →
+    ensures accepts { (ls : List (List ℕ)) → IsTextOfName (chars text.now) ls →
         MatchResult result (λ octets. labels_in (Octs.octets octets) ≡ ls) (LacksCapacity Octs.Builder.ROOM ls) }
-    ensures exact { (f : TextFault) → SpellsNoName (chars text.now) f → MatchResult result (λ _. ⊥) (Tells f) }
+    ensures exact { (f : TextFault) → IsTextOfNoName (chars text.now) f → MatchResult result (λ _. ⊥) (IsErrorOfText f) }
 {
     let mut buffer = NameBuffer::new();
     let read = read_name_str(&mut buffer, text);
@@ -296,11 +296,11 @@ pub fn relative_from_str<Octs: FromBuilder + Drop>(
 where
     Octs::Builder: EmptyBuilder + Drop,
     ensures wire { IfOk result (λ octets. IsRelativeWire (Octs.octets octets)) }
-    ensures ok { IfOk result (λ octets. SpellsRelative (chars text.now) (labels_in (Octs.octets octets))) }
+    ensures ok { IfOk result (λ octets. IsTextOfRelative (chars text.now) (labels_in (Octs.octets octets))) }
     ensures err { IfErr result (NoRelativeRead Octs.Builder.ROOM (chars text.now)) }
-    ensures accepts { (ls : List (List ℕ)) → SpellsRelative (chars text.now) ls →
+    ensures accepts { (ls : List (List ℕ)) → IsTextOfRelative (chars text.now) ls →
         MatchResult result (λ octets. labels_in (Octs.octets octets) ≡ ls) (RelativeLacksCapacity Octs.Builder.ROOM ls) }
-    ensures exact { (why : Option TextFault) → SpellsNoRelative (chars text.now) why → MatchResult result (λ _. ⊥) (RelativeTells why) }
+    ensures exact { (why : Option TextFault) → IsTextOfNoRelative (chars text.now) why → MatchResult result (λ _. ⊥) (IsErrorOfRelativeText why) }
 {
     let mut buffer = NameBuffer::new();
     let read = read_relative_str(&mut buffer, text);
@@ -358,11 +358,11 @@ pub fn absolute_into_array<const N: usize>(
 ) -> Result<(), FromStrError>
     requires empty { octets.old.items ≡ [] }
     ensures wire { OnOk result (IsAbsoluteWire octets.new.items) }
-    ensures ok { OnOk result (SpellsName (chars text.now) (labels_in octets.new.items)) }
+    ensures ok { OnOk result (IsTextOfName (chars text.now) (labels_in octets.new.items)) }
     ensures err { IfErr result (NoNameRead (Some N) (chars text.now)) }
-    ensures accepts { (ls : List (List ℕ)) → SpellsName (chars text.now) ls →
+    ensures accepts { (ls : List (List ℕ)) → IsTextOfName (chars text.now) ls →
         MatchResult result (λ _. labels_in octets.new.items ≡ ls) (LacksCapacity (Some N) ls) }
-    ensures exact { (f : TextFault) → SpellsNoName (chars text.now) f → MatchResult result (λ _. ⊥) (Tells f) }
+    ensures exact { (f : TextFault) → IsTextOfNoName (chars text.now) f → MatchResult result (λ _. ⊥) (IsErrorOfText f) }
 {
     let mut buffer = NameBuffer::new();
     let read = read_name_str(&mut buffer, text);
@@ -377,11 +377,11 @@ pub fn relative_into_array<const N: usize>(
 ) -> Result<(), RelativeFromStrError>
     requires empty { octets.old.items ≡ [] }
     ensures wire { OnOk result (IsRelativeWire octets.new.items) }
-    ensures ok { OnOk result (SpellsRelative (chars text.now) (labels_in octets.new.items)) }
+    ensures ok { OnOk result (IsTextOfRelative (chars text.now) (labels_in octets.new.items)) }
     ensures err { IfErr result (NoRelativeRead (Some N) (chars text.now)) }
-    ensures accepts { (ls : List (List ℕ)) → SpellsRelative (chars text.now) ls →
+    ensures accepts { (ls : List (List ℕ)) → IsTextOfRelative (chars text.now) ls →
         MatchResult result (λ _. labels_in octets.new.items ≡ ls) (RelativeLacksCapacity (Some N) ls) }
-    ensures exact { (why : Option TextFault) → SpellsNoRelative (chars text.now) why → MatchResult result (λ _. ⊥) (RelativeTells why) }
+    ensures exact { (why : Option TextFault) → IsTextOfNoRelative (chars text.now) why → MatchResult result (λ _. ⊥) (IsErrorOfRelativeText why) }
 {
     let mut buffer = NameBuffer::new();
     let read = read_relative_str(&mut buffer, text);

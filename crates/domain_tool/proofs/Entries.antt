@@ -21,33 +21,33 @@ use Rattle.domain_tool.specs.Lines.NoRecord.{cut as cut_record}
 pub same_message : (old new : Parser) (n : ℕ) → MovesTo old new n → message new ≡ message old
 same_message old new n moved = ap (λ o. take new.end o.now) moved.octets ∙ ap (λ e. take e old.octets.now) moved.end
 
--- the name that was read, and the place behind it
+-- the name that was read, and the offset after it
 pub name_to : (old new : Parser) (ls : List (List ℕ)) → Names 255 (message old) (position old) ls → MovesPastName old new → NameTo (message old) (position old) ls (position new)
 name_to old new ls named moves = record {
   named = named;
   front = subst (λ e. EncodingEnds (message old) (position old) e) (sym moves.2.place) moves.1;
 }
 
-pub cut_question : (old behind : Parser) (ls : List (List ℕ)) (why : ParseError) → Names 255 (message old) (position old) ls → MovesPastName old behind → length (message behind) < position behind + 4 → why ≡ ShortInput → NoQuestion (message old) (position old) why
-cut_question old behind ls why named moves short told =
-    cut ls (position behind) (name_to old behind ls named moves) (omega (arith, short, ap length (same_message old behind moves.0 moves.2))) told
+pub cut_question : (old after : Parser) (ls : List (List ℕ)) (why : ParseError) → Names 255 (message old) (position old) ls → MovesPastName old after → length (message after) < position after + 4 → why ≡ ShortInput → NoQuestion (message old) (position old) why
+cut_question old after ls why named moves short told =
+    cut ls (position after) (name_to old after ls named moves) (omega (arith, short, ap length (same_message old after moves.0 moves.2))) told
 
-pub cut_record_head : (old behind : Parser) (ls : List (List ℕ)) (why : ParseError) → Names 255 (message old) (position old) ls → MovesPastName old behind → length (message behind) < position behind + 10 → why ≡ ShortInput → NoRecord (message old) (position old) why
-cut_record_head old behind ls why named moves short told =
-    cut_record ls (position behind) (name_to old behind ls named moves) (inl (omega (arith, short, ap length (same_message old behind moves.0 moves.2)))) told
+pub cut_record_head : (old after : Parser) (ls : List (List ℕ)) (why : ParseError) → Names 255 (message old) (position old) ls → MovesPastName old after → length (message after) < position after + 10 → why ≡ ShortInput → NoRecord (message old) (position old) why
+cut_record_head old after ls why named moves short told =
+    cut_record ls (position after) (name_to old after ls named moves) (inl (omega (arith, short, ap length (same_message old after moves.0 moves.2)))) told
 
--- the number that a parser reads stands at its place
+-- the number that a parser reads stands at its offset
 pub read16 : (p : Parser) (m : List ℕ) (at n : ℕ) → message p ≡ m → position p ≡ at → n ≡ from_be_bytes w16 (next p 2) → n ≡ number16 m at
 read16 p m at n same there e = e ∙ (ap (λ x. number16 x (position p)) same ∙ ap (number16 m) there)
 
 pub read32 : (p : Parser) (m : List ℕ) (at n : ℕ) → message p ≡ m → position p ≡ at → n ≡ from_be_bytes w32 (next p 4) → n ≡ number32 m at
 read32 p m at n same there e = e ∙ (ap (λ x. number32 x (position p)) same ∙ ap (number32 m) there)
 
--- the data behind a head is cut
+-- the data after a head is cut
 pub cut_data : (m : List ℕ) (p e : ℕ) (it : RecordHeader) (why : ParseError) → IsRecordHeader m p it e → length m < e + it.len → why ≡ ShortInput → NoRecord m p why
 cut_data m p e it why head short told =
     let end = head.end in let len = head.len in
-    cut_record (parsed_labels it.name) head.behind head.name (inr (omega (arith, short, end, len))) told
+    cut_record (parsed_labels it.name) head.after head.name (inr (omega (arith, short, end, len))) told
 
 -- a parser stands inside of its octets
 pub place_inside : (p : Parser) → position p ≤ length (message p)

@@ -1,4 +1,4 @@
--- Lines of entries, one behind the other.
+-- Lines of entries, one after the other.
 use Rattle.std.proofs.Common.{◌≡◌, ℕ, zero, suc, ◌+◌, ◌-◌, ◌<◌, ◌≤◌, List, length, [], ◌∷◌, ◌++◌, Option, Some, None, refl, sym, ap, subst, ◌∙◌, arith, replicate}
 use Rattle.std.proofs.lemmas.List.{append_assoc, append-nil}
 use Rattle.std.proofs.lemmas.Grind.{replicate_next}
@@ -86,7 +86,7 @@ writes_kept m ss p e (Some x) None new (text, listed, written) kept = absurd wri
 writes_kept m ss p e (Some x) (Some y) None (text, listed, written) kept = absurd kept
 writes_kept m ss p e (Some x) (Some y) (Some z) (text, listed, written) kept = (text, listed, kept ∙ written)
 
--- an entry that isn't there, behind so many that were written
+-- an entry that isn't there, after so many that were written
 pub writes_up_to : (m seen : List ℕ) (s : Section) (b n p q : ℕ) (old mid new : Option (List ℕ)) (e : ToolError) → WritesEntries m (replicate b s) p q old mid → b < n → seen ≡ m
     → IfRefused (Err e) (λ why. NoEntry seen s q why) → IfRefused (Err e) (λ _. Keeps mid new) → IfRefused (Err e) (λ why. WritesUpTo m s n p old new why)
 writes_up_to m seen s b n p q old mid new (Parse why) written few same missing kept = record {

@@ -1,4 +1,4 @@
--- The four sections of a message, one behind the other.
+-- The four sections of a message, one after the other.
 use Rattle.std.proofs.Common.{◌≡◌, ℕ, ◌≤◌, List, length, ◌++◌, Option, refl, sym, subst, replicate}
 use Rattle.std.specs.Prelude.{Result, Ok, Err, OnOk}
 use Rattle.std.specs.Io.KnownBytes.{Appends}
@@ -17,12 +17,12 @@ use Rattle.domain_tool.proofs.Listing.{writes_join, stops}
 pub counted_by : (m : List ℕ) (counts : Counts) → IsCounted m counts → counted_entries m ≡ replicate counts.questions Question ++ (replicate counts.answers Answer ++ (replicate counts.authority Authority ++ replicate counts.additional Additional))
 counted_by m counts c = rw c.questions (rw c.answers (rw c.authority (rw c.additional refl)))
 
--- a section behind those that were written
+-- a section after those that were written
 pub section_done : (m seen : List ℕ) (done : List Section) (s : Section) (n p q : ℕ) (old mid new : Option (List ℕ)) → seen ≡ m → WritesEntries m done 12 p old mid → WritesEntries seen (replicate n s) p q mid new → WritesEntries m (done ++ replicate n s) 12 q old new
 section_done m seen done s n p q old mid new same before here =
     writes_join m done (replicate n s) 12 p q old mid new before (subst (λ o. WritesEntries o (replicate n s) p q mid new) same here)
 
--- a section in which an entry isn't there, behind those that were written
+-- a section in which an entry isn't there, after those that were written
 pub section_stopped : (m seen : List ℕ) (done after : List Section) (s : Section) (n p : ℕ) (old mid new : Option (List ℕ)) (r : Result (Unit {0}) ToolError) → seen ≡ m → counted_entries m ≡ done ++ (replicate n s ++ after) → 12 ≤ length m
     → WritesEntries m done 12 p old mid → IfRefused r (λ why. WritesUpTo seen s n p mid new why) → IfRefused r (λ why. (text : List ℕ) × StopsListing m text why × Appends old new text)
 section_stopped m seen done after s n p old mid new (Ok _) same all header before up = tt

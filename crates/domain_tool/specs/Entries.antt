@@ -20,14 +20,14 @@ question_line it = 32 ∷ text_with_final_dot (parsed_labels it.name) ++ 32 ∷ 
 
 -- The name, type, class, TTL and length of a record are at p and end before e (RFC 1035, 4.1.3).
 pub record IsRecordHeader (m : List ℕ) (p : ℕ) (it : RecordHeader) (e : ℕ) : Type 0 where
-  pub behind : ℕ
-  pub name : NameTo m p (parsed_labels it.name) behind
-  pub rtype : it.rtype ≡ number16 m behind
-  pub class : it.class ≡ number16 m (behind + 2)
-  pub time_to_live : it.time_to_live ≡ number32 m (behind + 4)
-  pub len : it.len ≡ number16 m (behind + 8)
-  pub whole : behind + 10 ≤ length m
-  pub end : e ≡ behind + 10
+  pub after : ℕ
+  pub name : NameTo m p (parsed_labels it.name) after
+  pub rtype : it.rtype ≡ number16 m after
+  pub class : it.class ≡ number16 m (after + 2)
+  pub time_to_live : it.time_to_live ≡ number32 m (after + 4)
+  pub len : it.len ≡ number16 m (after + 8)
+  pub whole : after + 10 ≤ length m
+  pub end : e ≡ after + 10
 
 -- the line of a resource record without its first word: name, type, class, TTL and RDATA (RFC 1035, 4.1.3)
 abbrev pub record_line : Record → List ℕ

@@ -42,20 +42,20 @@ shown_record m q = 32 ∷ decimal (number32 m (q + 4)) ++ 32 ∷ unknown_text (s
 -- A question is at p and ends before e (RFC 1035, 4.1.2).
 pub record IsQuestion (m : List ℕ) (p : ℕ) (line : List ℕ) (e : ℕ) : Type 0 where
   pub labels : List (List ℕ)
-  pub behind : ℕ
-  pub name : NameTo m p labels behind
-  pub whole : behind + 4 ≤ length m
-  pub end : e ≡ behind + 4
-  pub shown : line ≡ shown_entry m labels behind
+  pub after : ℕ
+  pub name : NameTo m p labels after
+  pub whole : after + 4 ≤ length m
+  pub end : e ≡ after + 4
+  pub shown : line ≡ shown_entry m labels after
 
 -- A record is at p and ends before e (RFC 1035, 4.1.3).
 pub record IsRecord (m : List ℕ) (p : ℕ) (line : List ℕ) (e : ℕ) : Type 0 where
   pub labels : List (List ℕ)
-  pub behind : ℕ
-  pub name : NameTo m p labels behind
-  pub whole : behind + 10 + number16 m (behind + 8) ≤ length m
-  pub end : e ≡ behind + 10 + number16 m (behind + 8)
-  pub shown : line ≡ shown_entry m labels behind ++ shown_record m behind
+  pub after : ℕ
+  pub name : NameTo m p labels after
+  pub whole : after + 10 + number16 m (after + 8) ≤ length m
+  pub end : e ≡ after + 10 + number16 m (after + 8)
+  pub shown : line ≡ shown_entry m labels after ++ shown_record m after
 
 -- No question is at p, and why: no name is there, or the message ends before the question does.
 pub data NoQuestion (m : List ℕ) (p : ℕ) (why : ParseError) : Type 0 where

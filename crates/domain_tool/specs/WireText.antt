@@ -4,7 +4,7 @@ use Rattle.std.specs.Io.KnownBytes.{Appends}
 use Rattle.std.specs.List.{flat_map}
 use Rattle.domain_label.specs.Hex.{hex_digit}
 use Rattle.domain_label.specs.Wire.{wire}
-use Rattle.domain_builder.specs.TextGrammar.{SpellsName, SpellsNoName}
+use Rattle.domain_builder.specs.TextGrammar.{IsTextOfName, IsTextOfNoName}
 use Rattle.domain_builder.specs.TextErrors.{MatchFromStr}
 use Rattle.domain_builder.specs.declared.error.FromStrError.{FromStrError}
 use Rattle.domain_tool.specs.declared.tool.ToolError.{ToolError}
@@ -21,11 +21,11 @@ hexadecimal octets = flat_map octet_digits octets
 -- The characters are the text of a name (RFC 1035, 5.1). Its wire format was written in hexadecimal
 -- digits, with a newline, and nothing else.
 abbrev pub WritesWireOf : List ℕ → Option (List ℕ) → Option (List ℕ) → Type 0
-WritesWireOf cs old new = (ls : List (List ℕ)) × SpellsName cs ls × Appends old new (hexadecimal (wire ls) ++ 10 ∷ [])
+WritesWireOf cs old new = (ls : List (List ℕ)) × IsTextOfName cs ls × Appends old new (hexadecimal (wire ls) ++ 10 ∷ [])
 
 -- The characters are the text of no name, and the error is their first.
 abbrev pub HasTextFault : List ℕ → FromStrError → Type 0
-HasTextFault cs e = MatchFromStr e (SpellsNoName cs) ⊥
+HasTextFault cs e = MatchFromStr e (IsTextOfNoName cs) ⊥
 
 -- The text is none of a name, and P holds of the reason; or the output couldn't be written. Nothing else fails.
 abbrev pub IfTextRefused : Result (Unit {0}) ToolError → (FromStrError → Type 0) → Type 0

@@ -1,12 +1,12 @@
 -- Words that ask for the name at an offset.
 use Rattle.std.specs.Prelude.{◌≡◌, ℕ, List, [], ◌∷◌, codes}
-use Rattle.domain_tool.specs.Numerals.{TellsPlace, TellsPointers}
+use Rattle.domain_tool.specs.Numerals.{IsOffsetWord, IsLimitWord}
 
 -- The words are `at` and an offset, for a name through at most 255 pointers.
 pub record AsksAt (words : List (List ℕ)) (place pointers : ℕ) : Type 0 where
   pub word : List ℕ
   pub two : words ≡ codes "at" ∷ word ∷ []
-  pub tells : TellsPlace word place
+  pub tells : IsOffsetWord word place
   pub most : pointers ≡ 255
 
 -- The words are `at` and an offset, and `--pointers` and how many pointers the name may have at most.
@@ -14,5 +14,5 @@ pub record AsksWithin (words : List (List ℕ)) (place pointers : ℕ) : Type 0 
   pub word : List ℕ
   pub limit : List ℕ
   pub four : words ≡ codes "at" ∷ word ∷ codes "--pointers" ∷ limit ∷ []
-  pub tells : TellsPlace word place
-  pub limits : TellsPointers limit pointers
+  pub tells : IsOffsetWord word place
+  pub limits : IsLimitWord limit pointers

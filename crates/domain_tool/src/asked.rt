@@ -1,7 +1,7 @@
 //! What the words after the program's name ask for.
 ghost use Rattle.std.specs.Prelude.{◌≡◌, ℕ, map, slice_index, ◌↔◌, IsTrue, IsNone, IfSome};
 ghost use Rattle.domain_tool.specs.WordParts.{AsksWithin};
-ghost use Rattle.domain_tool.specs.Numerals.{TellsPlace, TellsPointers};
+ghost use Rattle.domain_tool.specs.Numerals.{IsOffsetWord, IsLimitWord};
 
 /// What words ask for.
 #[derive(Clone, Copy)]
@@ -66,8 +66,8 @@ fn limited(words: &[&str]) -> Option<(u32, u8)>
 
 /// The offset that a word is: one to ten decimal digits, at most 4,294,967,295.
 pub fn offset_of_word(word: &str) -> Option<u32>
-    ensures some { IfSome result (λ place. TellsPlace word.now place) }
-    ensures none { IsNone result → (place : ℕ) → TellsPlace word.now place → ⊥ }
+    ensures some { IfSome result (λ place. IsOffsetWord word.now place) }
+    ensures none { IsNone result → (place : ℕ) → IsOffsetWord word.now place → ⊥ }
 {
     let word_octets = word.as_bytes();
     if word_octets.len() > 10 || begins_with_plus(word_octets) {
@@ -78,8 +78,8 @@ pub fn offset_of_word(word: &str) -> Option<u32>
 
 /// The number of pointers that a word is: one to three decimal digits, at most 255.
 fn pointers_of(word: &str) -> Option<u8>
-    ensures some { IfSome result (λ pointers. TellsPointers word.now pointers) }
-    ensures none { IsNone result → (pointers : ℕ) → TellsPointers word.now pointers → ⊥ }
+    ensures some { IfSome result (λ pointers. IsLimitWord word.now pointers) }
+    ensures none { IsNone result → (pointers : ℕ) → IsLimitWord word.now pointers → ⊥ }
 {
     let word_octets = word.as_bytes();
     if word_octets.len() > 3 || begins_with_plus(word_octets) {

@@ -2,8 +2,8 @@
 ghost use Rattle.std.specs.Prelude.{Some, OnOk, IfOk, IfErr, MatchResult};
 ghost use Rattle.std.specs.Io.KnownBytes.{Keeps};
 ghost use Rattle.std.specs.Str.{chars};
-ghost use Rattle.domain_builder.specs.TextGrammar.{SpellsName, SpellsNoName};
-ghost use Rattle.domain_builder.specs.TextErrors.{Tells};
+ghost use Rattle.domain_builder.specs.TextGrammar.{IsTextOfName, IsTextOfNoName};
+ghost use Rattle.domain_builder.specs.TextErrors.{IsErrorOfText};
 ghost use Rattle.domain_builder.specs.declared.name_symbol.TextFault.{TextFault};
 ghost use Rattle.domain_name.specs.Names.{name_labels};
 ghost use Rattle.domain_tool.specs.WireText.{octet_digits, hexadecimal, HasTextFault, IfTextRefused, RefusesText, WritesWireOf};
@@ -19,9 +19,9 @@ use std::io::Write;
 
 /// The name that a text is. Each name fits.
 fn name_from_text(alloc: Global, text: &str) -> Result<Name<ArrayVec<u8, 255>>, FromStrError>
-    ensures ok { IfOk result (λ name. SpellsName (chars text.now) (name_labels name)) }
+    ensures ok { IfOk result (λ name. IsTextOfName (chars text.now) (name_labels name)) }
     ensures err { IfErr result (HasTextFault (chars text.now)) }
-    ensures exact { (f : TextFault) → SpellsNoName (chars text.now) f → MatchResult result (λ _. ⊥) (Tells f) }
+    ensures exact { (f : TextFault) → IsTextOfNoName (chars text.now) f → MatchResult result (λ _. ⊥) (IsErrorOfText f) }
 {
     Name::from_chars(alloc, text.chars())
 }
@@ -35,7 +35,7 @@ fn name_from_text(alloc: Global, text: &str) -> Result<Name<ArrayVec<u8, 255>>, 
 pub fn name_text<W: Write>(alloc: Global, text: &str, output: &mut W) -> Result<(), ToolError>
     ensures written { OnOk result (WritesWireOf (chars text.now) (W.contents output.old) (W.contents output.new)) }
     ensures err { IfTextRefused result (HasTextFault (chars text.now)) }
-    ensures exact { (f : TextFault) → SpellsNoName (chars text.now) f → RefusesText result (Tells f) }
+    ensures exact { (f : TextFault) → IsTextOfNoName (chars text.now) f → RefusesText result (IsErrorOfText f) }
     ensures nothing_written { IfTextRefused result (λ _. Keeps (W.contents output.old) (W.contents output.new)) }
 {
     let name = match name_from_text(alloc, text) {

@@ -72,16 +72,16 @@ whole_or_cut o ss e inside = never_cut ss inside.before inside.len inside.rest (
 -- the first string
 pub first_string : (len : ℕ) (o : List ℕ) → HasStrings (len ∷ o) → HasFirstString (len ∷ o) (take len o) (drop len o) × (len ≤ length o)
 first_string len o has =
-    let behind = cut_strings (length o) (drop len o) in
-    let whole : length (take len o) ∷ (take len o ++ string_octets behind) ≡ len ∷ o = has.0 in
+    let after = cut_strings (length o) (drop len o) in
+    let whole : length (take len o) ∷ (take len o ++ string_octets after) ≡ len ∷ o = has.0 in
     let size : length (take len o) ≡ len = cc in
-    let tail : take len o ++ string_octets behind ≡ o = cc in
-    let drops : drop (length (take len o)) (take len o ++ string_octets behind) ≡ string_octets behind = drop-append_seam (take len o) (string_octets behind) in
-    let rest : drop len o ≡ string_octets behind = sym (ap (drop len) tail) ∙ (ap (λ n. drop n (take len o ++ string_octets behind)) (sym size) ∙ drops) in
-    let there : strings_in (drop len o) ≡ behind = ap strings_in rest ∙ strings_written behind in (
+    let tail : take len o ++ string_octets after ≡ o = cc in
+    let drops : drop (length (take len o)) (take len o ++ string_octets after) ≡ string_octets after = drop-append_seam (take len o) (string_octets after) in
+    let rest : drop len o ≡ string_octets after = sym (ap (drop len) tail) ∙ (ap (λ n. drop n (take len o ++ string_octets after)) (sym size) ∙ drops) in
+    let there : strings_in (drop len o) ≡ after = ap strings_in rest ∙ strings_written after in (
       record {
         string = has.1.0;
-        rest = all_strings (drop len o) behind rest has.1.1;
+        rest = all_strings (drop len o) after rest has.1.1;
         parts = ap (λ r. take len o ∷ r) (sym there);
       },
       omega (arith, size, length-take len o),
@@ -93,8 +93,8 @@ head_and_tail [] n some e = absurd (omega (arith, some))
 head_and_tail (c ∷ o) n some e = ap (λ r. c ∷ r) (sym (take_all n o (omega (arith, e))))
 
 -- the string that stands next
-pub passed_next : (o rest after : List ℕ) (n len : ℕ) → (ss : List (List ℕ)) × StringsBefore o ss rest → 1 ≤ length rest → n ≡ length rest - 1 → len ≡ get_or rest 0 0 → len ≤ length (take n (drop 1 rest)) → len ≤ 255 → after ≡ drop len (take n (drop 1 rest)) → (ss : List (List ℕ)) × StringsBefore o ss after
-passed_next o rest after n len before some e head there short is =
+pub passed_next : (o rest next : List ℕ) (n len : ℕ) → (ss : List (List ℕ)) × StringsBefore o ss rest → 1 ≤ length rest → n ≡ length rest - 1 → len ≡ get_or rest 0 0 → len ≤ length (take n (drop 1 rest)) → len ≤ 255 → next ≡ drop len (take n (drop 1 rest)) → (ss : List (List ℕ)) × StringsBefore o ss next
+passed_next o rest next n len before some e head there short is =
     let parts : rest ≡ len ∷ take n (drop 1 rest) = head_and_tail rest n some e ∙ ap (λ k. k ∷ take n (drop 1 rest)) (sym head) in
     let next = passed_string o before.0 len (take n (drop 1 rest)) (subst (λ r. StringsBefore o before.0 r) parts before.1) there short in
     (before.0 ++ take len (take n (drop 1 rest)) ∷ [], subst (λ r. StringsBefore o (before.0 ++ take len (take n (drop 1 rest)) ∷ []) r) (sym is) next)
@@ -116,8 +116,8 @@ first_fits o n len has some e head =
     let parts : o ≡ len ∷ take n (drop 1 o) = head_and_tail o n some e ∙ ap (λ k. k ∷ take n (drop 1 o)) (sym head) in
     (first_string len (take n (drop 1 o)) (subst (λ x. HasStrings x) parts has)).1
 
--- what is behind the first string is shorter
-pub less_behind : (o s r : List ℕ) → HasStrings o → HasFirstString o s r → length r < length o
-less_behind o s r has first =
+-- what is after the first string is shorter
+pub less_after : (o s r : List ℕ) → HasStrings o → HasFirstString o s r → length r < length o
+less_after o s r has first =
     let whole : length s ∷ (s ++ string_octets (strings_in r)) ≡ o = ap string_octets (sym first.parts) ∙ has.0 in
     omega (arith, ap length whole, length-append s (string_octets (strings_in r)), ap length first.rest.0)

@@ -29,12 +29,12 @@ strings_in o = cut_strings (length o) o
 abbrev pub HasStrings : List ℕ → Type 0
 HasStrings o = (string_octets (strings_in o) ≡ o) × AreStrings (strings_in o)
 
--- o begins with the strings ss, and rest is behind them.
+-- o begins with the strings ss, and rest is after them.
 pub record StringsBefore (o : List ℕ) (ss : List (List ℕ)) (rest : List ℕ) : Type 0 where
   pub strings : AreStrings ss
   pub parts : o ≡ string_octets ss ++ rest
 
--- o ends inside of a string: behind whole strings a length octet tells more octets than are left.
+-- o ends inside of a string: after whole strings a length octet tells more octets than are left.
 pub record EndsInside (o : List ℕ) : Type 0 where
   pub before : List (List ℕ)
   pub len : ℕ

@@ -13,18 +13,18 @@ pub fn check_strings(octets: &[u8]) -> Result<(), ShortInput>
     ensures err { OnErr result (EndsInside octets.now) }
 {
     let mut rest = octets;
-    while let [len, behind @ ..] = rest {
+    while let [len, after @ ..] = rest {
         let len = usize::from(*len);
-        if behind.len() < len {
+        if after.len() < len {
             return Err(ShortInput);
         }
-        let (_, after) = behind.split_at(len);
-        rest = after;
+        let (_, next) = after.split_at(len);
+        rest = next;
     }
     Ok(())
 }
 
-/// The octets of the first of character strings, and the strings behind it.
+/// The octets of the first of character strings, and the strings after it.
 pub(crate) fn first_string(octets: &[u8]) -> Option<(&[u8], &[u8])>
     requires { HasStrings octets.now }
     ensures { MatchOption result (octets.now ≡ []) (λ parts. HasFirstString octets.now parts.0.now parts.1.now) }
@@ -35,7 +35,7 @@ pub(crate) fn first_string(octets: &[u8]) -> Option<(&[u8], &[u8])>
     Some(rest.split_at(usize::from(*len)))
 }
 
-/// The character strings in octets, one after another. Behind the last one it stays at `None`.
+/// The character strings in octets, one after another. After the last one it stays at `None`.
 #[derive(Clone, Copy, Debug)]
 pub struct TxtIter<'a> {
     octets: &'a [u8],

@@ -109,7 +109,7 @@ impl<Octs: Octets + Drop> Txt<Octs> {
     ghost use Rattle.domain_txt.specs.Errors.{HasTxtFault};
     ghost use Rattle.domain_txt.specs.Txts.{txt_holder};
 
-    /// The data of these octets: strings, each behind an octet that tells its length.
+    /// The data of these octets: strings, each after an octet that tells its length.
     ///
     /// `Empty` where there are none, `Long` where they are more than 65,535, `ShortInput` where they end inside of a
     /// string.
@@ -141,7 +141,7 @@ impl<Octs: Octets> Txt<Octs> {
         TxtIter::new(self.octets.as_slice())
     }
 
-    /// The octets of the data: each string behind an octet that tells its length.
+    /// The octets of the data: each string after an octet that tells its length.
     pub fn as_slice(&self) -> &[u8]
         ensures { result.now ≡ txt_octets self.now }
     {
@@ -174,9 +174,9 @@ impl<Octs: Octets> Txt<Octs> {
     {
         let mut text = Vec::new(alloc);
         let mut rest = self.octets.as_slice();
-        while let Some((string, behind)) = first_string(rest) {
+        while let Some((string, after)) = first_string(rest) {
             text.extend_from_slice(string)?;
-            rest = behind;
+            rest = after;
         }
         Ok(text)
     }
@@ -376,14 +376,14 @@ impl<Octs: Octets> fmt::Display for Txt<Octs> {
     ghost output = { λ it. Some (quoted_strings (txt_strings it)) };
 
     fn fmt<W: fmt::Write>(&self, f: &mut fmt::Formatter<W>) -> fmt::Result {
-        let Some((first, behind)) = first_string(self.octets.as_slice()) else {
+        let Some((first, after)) = first_string(self.octets.as_slice()) else {
             unreachable!();
         };
         write!(f, "{}", Quoted { octets: first })?;
-        let mut rest = behind;
-        while let Some((string, behind)) = first_string(rest) {
+        let mut rest = after;
+        while let Some((string, after)) = first_string(rest) {
             write!(f, " {}", Quoted { octets: string })?;
-            rest = behind;
+            rest = after;
         }
         Ok(())
     }

@@ -20,7 +20,7 @@ pub record IsReading {Seen : Type 0} (encodes : List ℕ → ℕ → Seen → �
 pub record FixedAt {Seen : Type 0} (len : ℕ) (value_of : List ℕ → Seen) (m : List ℕ) (p : ℕ) (model : Seen) (e : ℕ) : Type 0 where
   pub whole : p + len ≤ length m
   pub value : model ≡ value_of (slice_range m p (p + len))
-  pub behind : e ≡ p + len
+  pub after : e ≡ p + len
 
 -- fewer octets than a value has are left
 pub record ShortAt (len : ℕ) (m : List ℕ) (p : ℕ) (why : ParseError) : Type 0 where

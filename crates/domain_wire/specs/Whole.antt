@@ -19,6 +19,6 @@ OnlyWhole becomes value (octet ∷ octets) (Err e) = (trailing : FormError) × (
 
 -- what is returned of a reading that gave this and left the parser so: its error, its value, or that octets
 -- were left
-abbrev pub TellsWhole : {T E : Type 0} → (FormError → E → Type 0) → Result T E → Parser → Result T E → Type 0
-TellsWhole becomes (Err e) end result = result ≡ Err e
-TellsWhole becomes (Ok value) end result = OnlyWhole becomes value (left end) result
+abbrev pub IsResultOfAll : {T E : Type 0} → (FormError → E → Type 0) → Result T E → Parser → Result T E → Type 0
+IsResultOfAll becomes (Err e) end result = result ≡ Err e
+IsResultOfAll becomes (Ok value) end result = OnlyWhole becomes value (left end) result

@@ -8,7 +8,7 @@ ghost use Rattle.domain_wire.specs.declared.error.ParseError.{ParseError};
 ghost use Rattle.domain_wire.specs.declared.net.Ipv4Addr.{Ipv4Addr};
 ghost use Rattle.domain_wire.specs.declared.net.Ipv6Addr.{Ipv6Addr};
 ghost use Rattle.domain_wire.specs.Addresses.{ipv4_of, ipv6_of};
-ghost use Rattle.domain_wire.specs.Whole.{BeginsAt, TellsWhole};
+ghost use Rattle.domain_wire.specs.Whole.{BeginsAt, IsResultOfAll};
 ghost use Rattle.octseq.specs.declared.parse.Parser.{Parser};
 ghost use Rattle.std.specs.Fn.{FnOnceReturnsAtMut};
 
@@ -241,7 +241,7 @@ pub fn parse_slice<'a, T: Drop, E: From<FormError>, F: FnOnce(&mut Parser<'a>) -
     ensures { (start : Parser) × (told : _) × (end : Parser)
         × BeginsAt start octets.now
         × FnOnceReturnsAtMut F.FnOnce op start told end
-        × TellsWhole E.from_gives told end result }
+        × IsResultOfAll E.from_gives told end result }
 {
     let mut parser = Parser::from_ref(octets);
     let value = op(&mut parser)?;

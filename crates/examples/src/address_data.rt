@@ -84,7 +84,7 @@ impl<'a> ParseRecordData<'a> for AddressData {
     ghost lawful = { λ _. fixed_reading 4 ipv4_of };
 }
 
-/// The address at the parser's place, where the record is of that type. `ShortInput` where fewer than four octets
+/// The address at the parser's position, where the record is of that type. `ShortInput` where fewer than four octets
 /// are left of such a record; the parser then stays.
 pub fn read_address<'a>(
     rtype: Rtype,

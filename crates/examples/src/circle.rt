@@ -4,7 +4,7 @@ ghost use Rattle.std.specs.Str.{chars};
 ghost use Rattle.domain_label.specs.Text.{text_with_final_dot};
 ghost use Rattle.domain_label.specs.Wire.{IsAbsoluteName};
 ghost use Rattle.domain_builder.specs.Laws.{AreBytes};
-ghost use Rattle.domain_builder.specs.TextGrammar.{SpellsName};
+ghost use Rattle.domain_builder.specs.TextGrammar.{IsTextOfName};
 ghost use Rattle.domain_name.specs.Names.{name_labels};
 
 use arrayvec::ArrayVec;
@@ -12,7 +12,7 @@ use domain::base::name::*;
 use octseq::{OctetsBuilder, Parser};
 use std::alloc::Global;
 
-/// Puts a name behind the 12 octets of a header, reads it there, and gives it in one piece again.
+/// Puts a name after the 12 octets of a header, reads it there, and gives it in one piece again.
 pub fn put_and_read(alloc: Global, name: &Name<ArrayVec<u8, 255>>) -> Name<ArrayVec<u8, 255>>
     ensures { name_labels result ≡ name_labels name.now }
 {
@@ -39,7 +39,7 @@ pub fn put_and_read(alloc: Global, name: &Name<ArrayVec<u8, 255>>) -> Name<Array
 /// The name that a text spells, after it was put into a message and read there. The text that a name shows
 /// gives that name back.
 pub fn through_a_message(alloc: Global, text: &str) -> Result<Name<ArrayVec<u8, 255>>, FromStrError>
-    ensures spelled { IfOk result (λ name. SpellsName (chars text.now) (name_labels name)) }
+    ensures spelled { IfOk result (λ name. IsTextOfName (chars text.now) (name_labels name)) }
     ensures shown { (ls : List (List ℕ)) → IsAbsoluteName ls → AreBytes ls → chars text.now ≡ text_with_final_dot ls → IsOkAnd result (λ name. name_labels name ≡ ls) }
 {
     text_laws();

@@ -24,7 +24,7 @@ fn write_count<Octs: OctetsMut>(message: &mut Octs, count: u16)
     message.as_slice_mut()[6..8].copy_from_slice(&count.to_be_bytes());
 }
 
-/// A response of two records, and where the owner of the second is read; that of the first is read behind
+/// A response of two records, and where the owner of the second is read; that of the first is read after
 /// the header. The count of the records is written last, over octets of the header, and both owners are read
 /// as they were.
 pub fn two_records<'a, N: AbsoluteLabels<'a>, M: AbsoluteLabels<'a>>(

@@ -24,7 +24,7 @@ pub fn first_label<'a>(name: &'a Name<&[u8]>) -> Option<Label<'a>>
     name.iter().next()
 }
 
-/// The first label of a name, as a name. `None` where no label begins behind it, as for the root.
+/// The first label of a name, as a name. `None` where no label begins after it, as for the root.
 pub fn host<'a>(name: &'a Name<&'a [u8]>) -> Option<RelativeName<&'a [u8]>>
     ensures front { IfSome result (λ host. (zone : List (List ℕ)) × (name_labels name.now ≡ relative_labels host ++ zone)) }
     ensures first { IfSome result (λ host. (label : List ℕ) × (rest : List (List ℕ)) × (name_labels name.now ≡ label ∷ rest) × (length (wire (relative_labels host)) ≡ length label + 1)) }

@@ -7,7 +7,7 @@ ghost use Rattle.domain_name.specs.Names.{name_labels};
 use arrayvec::ArrayVec;
 use domain::base::name::*;
 
-/// The name of a host in a zone: a label, if it has octets, and behind it the labels of the zone.
+/// The name of a host in a zone: a label, if it has octets, and after it the labels of the zone.
 ///
 /// The error tells that the label has more than 63 octets, or the name more than 255.
 pub fn host_name<'a, N: AbsoluteLabels<'a>>(

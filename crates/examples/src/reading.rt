@@ -19,7 +19,7 @@ use std::sync::ledger::Ledger;
 /// The name at the parser's position, and the type and the class after it. An error leaves the parser as it was.
 pub fn question<'a>(parser: &mut Parser<'a>) -> Result<(ParsedName<&'a [u8]>, u16, u16), ParseError>
     ensures name { IfOk result (λ read. Names 255 (message parser.old) (position parser.old) (parsed_labels read.0)) }
-    ensures behind { IfOk result (λ read. (e : ℕ) × EncodingEnds (message parser.old) (position parser.old) e
+    ensures after { IfOk result (λ read. (e : ℕ) × EncodingEnds (message parser.old) (position parser.old) e
         × (read.1 ≡ from_be_bytes w16 (slice_range (message parser.old) e (e + 2)))
         × (read.2 ≡ from_be_bytes w16 (slice_range (message parser.old) (e + 2) (e + 4)))
         × MovesTo parser.old parser.new (e + 4)) }
@@ -62,7 +62,7 @@ pub fn top_label<'a>(name: &'a ParsedName<&[u8]>) -> Option<Label<'a>>
     labels.next_back()
 }
 
-/// A name for people to read: each label with a dot behind it, and the root as a dot.
+/// A name for people to read: each label with a dot after it, and the root as a dot.
 pub fn shown(name: &ParsedName<&[u8]>, alloc: Global) -> Result<String, AllocError>
     ensures { IfOk result (λ text. string_bytes text ≡ text_with_final_dot (parsed_labels name.now)) }
 {
@@ -70,7 +70,7 @@ pub fn shown(name: &ParsedName<&[u8]>, alloc: Global) -> Result<String, AllocErr
     format!(in alloc; "{dotted}")
 }
 
-/// The name at the parser's place where it has few pointers, with the heads that are read for it counted. They are
+/// The name at the parser's position where it has few pointers, with the heads that are read for it counted. They are
 /// 144 at most, whatever the message.
 pub fn plain_name<'a, L: Ledger>(
     parser: &mut Parser<'a>,

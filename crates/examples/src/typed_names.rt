@@ -1,7 +1,7 @@
 //! Names that a user writes, and why a text is none.
 ghost use Rattle.std.specs.Prelude.{◌≡◌, ◌⊎◌, ◌↔◌, IfOk, IfErr, IsTrue};
 ghost use Rattle.std.specs.Str.{chars};
-ghost use Rattle.domain_builder.specs.TextGrammar.{SpellsName, SpellsNoName};
+ghost use Rattle.domain_builder.specs.TextGrammar.{IsTextOfName, IsTextOfNoName};
 ghost use Rattle.domain_builder.specs.TextErrors.{MatchFromStr};
 ghost use Rattle.domain_builder.specs.declared.name_symbol.TextFault.TheVariants.{LongLabel, LongName};
 ghost use Rattle.domain_name.specs.Names.{name_labels};
@@ -12,8 +12,8 @@ use std::str::FromStr;
 
 /// The name that a user wrote. The array has room for each, so an error tells a fault of the text.
 pub fn typed_name(text: &str) -> Result<Name<ArrayVec<u8, 255>>, FromStrError>
-    ensures ok { IfOk result (λ name. SpellsName (chars text.now) (name_labels name)) }
-    ensures err { IfErr result (λ e. MatchFromStr e (SpellsNoName (chars text.now)) ⊥) }
+    ensures ok { IfOk result (λ name. IsTextOfName (chars text.now) (name_labels name)) }
+    ensures err { IfErr result (λ e. MatchFromStr e (IsTextOfNoName (chars text.now)) ⊥) }
 {
     Name::from_str(text)
 }

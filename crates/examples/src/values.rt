@@ -30,7 +30,7 @@ pub fn compose_two<A: Compose, B: Compose, Target: OctetsBuilder>(
     }
 }
 
-/// Reads two values, one behind the other, or neither.
+/// Reads two values, one after the other, or neither.
 pub fn parse_two<'a, A: Parse<'a> + Drop, B: Parse<'a> + Drop, E: From<ParseError>>(
     parser: &mut Parser<'a>,
 ) -> Result<(A, B), E>
@@ -51,7 +51,7 @@ pub fn parse_two<'a, A: Parse<'a> + Drop, B: Parse<'a> + Drop, E: From<ParseErro
     Ok((first, second))
 }
 
-/// The type and the class of a question, which stand behind its name.
+/// The type and the class of a question, which stand after its name.
 pub fn type_and_class(parser: &mut Parser<'_>) -> Result<(u16, u16), ParseError>
     ensures rtype { IfOk result (λ read. read.0 ≡ from_be_bytes w16 (next parser.old 2)) }
     ensures class { IfOk result (λ read. read.1 ≡ from_be_bytes w16 (slice_range (message parser.old) (position parser.old + 2) (position parser.old + 4))) }

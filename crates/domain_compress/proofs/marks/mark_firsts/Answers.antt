@@ -19,9 +19,9 @@ ends-preserved c =
     let marks = slice_set c.ends.marks c.slot.result 1 in
     let name = c.args.name.now in
     let here_label = ap (λ n. label_hash (slice_range name (c.ends.begin + 1) (c.ends.begin + 1 + n))) c.from.ensures in
-    let k : c.slot.result ≡ slot_of (first_hash s.behind) = c.slot.ensures ∙ ap slot_of (c.hash.ensures ∙ (here_label ∙ label_kind _ _ _ _ s.meets s.absolute)) in
+    let k : c.slot.result ≡ slot_of (first_hash s.after) = c.slot.ensures ∙ ap slot_of (c.hash.ensures ∙ (here_label ∙ label_kind _ _ _ _ s.meets s.absolute)) in
     let fits : c.slot.result < length c.ends.marks = omega (arith, c.slot.ensures, c.ends.invariant.whole) in
-    let here : IsMarked marks s.behind = subst (λ i. slice_index marks i ≡ 1) k (marked_here c.ends.marks c.slot.result fits) in
+    let here : IsMarked marks s.after = subst (λ i. slice_index marks i ≡ 1) k (marked_here c.ends.marks c.slot.result fits) in
     let P : ℕ → Type 0 = λ n. Passed (IsMarked marks) c.args.name.now (c.ends.begin + 1 + n) in
     record {
       passed = subst P (sym c.from.ensures) (passed_more _ _ (λ ys. marked_still c.ends.marks c.slot.result (slot_of (first_hash ys)) fits) s here c.ends-test.true);

@@ -3,7 +3,7 @@ use Rattle.std.proofs.lemmas.Bool.{false≢true}
 use Rattle.domain_rdata.specs.ReadBack.{StandsAt}
 use Rattle.domain_compress.specs.Written.{remembered}
 use Rattle.domain_compress.proofs.LongerSuffix.{kept_end, seen_start, seen_next, seen_whole}
-use Rattle.domain_compress.proofs.LabelHashes.{skipped, known_first, known_behind}
+use Rattle.domain_compress.proofs.LabelHashes.{skipped, known_first, known_after}
 use Rattle.domain_compress.proofs.Marking.{end_some}
 use Rattle.domain_compress.proofs.search.longest_suffix.Goals as goal
 
@@ -16,18 +16,18 @@ returns-then-end-eq0-clause-some c =
 
 pub places-preserved-else-end-eq0 : goal.places-preserved-else-end-eq0
 places-preserved-else-end-eq0 c =
-    record { seen = seen_next _ _ _ _ _ _ _ _ c.places.invariant.seen c.in-Some.ensures.cases.0 c.in-Some-best.ensures; known = known_behind _ _ _ _ _ c.in-Some.ensures.cases.0 c.places.invariant.known; marked = c.places.invariant.marked }
+    record { seen = seen_next _ _ _ _ _ _ _ _ c.places.invariant.seen c.in-Some.ensures.cases.0 c.in-Some-best.ensures; known = known_after _ _ _ _ _ c.in-Some.ensures.cases.0 c.places.invariant.known; marked = c.places.invariant.marked }
 
 pub places-preserved : goal.places-preserved
 places-preserved c =
-    record { seen = seen_next _ _ _ _ _ _ _ _ c.places.invariant.seen c.in-Some.ensures.cases.0 c.better_suffix-best.ensures; known = known_behind _ _ _ _ _ c.in-Some.ensures.cases.0 c.places.invariant.known; marked = c.places.invariant.marked }
+    record { seen = seen_next _ _ _ _ _ _ _ _ c.places.invariant.seen c.in-Some.ensures.cases.0 c.better_suffix-best.ensures; known = known_after _ _ _ _ _ c.in-Some.ensures.cases.0 c.places.invariant.known; marked = c.places.invariant.marked }
 
 pub places-preserved-then-not-is_marked : goal.places-preserved-then-not-is_marked
 places-preserved-then-not-is_marked c =
     let here = known_first _ _ _ _ c.in-Some.ensures.cases.0 (c.places.invariant.known c.if-hashed.true) in
     record {
       seen = seen_next _ _ _ _ _ _ _ _ c.places.invariant.seen c.in-Some.ensures.cases.0 (λ ws old. skipped _ _ _ c.in-Some.first.now ws _ c.requires.wire c.places.invariant.marked here (sym c.is_marked.ensures ∙ c.if-not-is_marked.true) old);
-      known = known_behind _ _ _ _ _ c.in-Some.ensures.cases.0 c.places.invariant.known;
+      known = known_after _ _ _ _ _ c.in-Some.ensures.cases.0 c.places.invariant.known;
       marked = c.places.invariant.marked;
     }
 
@@ -39,6 +39,6 @@ places-preserved-then-not-may_stand c =
           kept_end _ _ (remembered w) ws _ c.requires.wire
           (λ xs ys e more lt s. absurd (false≢true (c.if-not-may_stand.ensures ys (end_some _ xs ys c.requires.wire e more) (c.places.invariant.marked xs ys e more) (subst (λ p. StandsAt c.args.octets.now p ys) (sym c.from.ensures) s))))
           old);
-      known = known_behind _ _ _ _ _ c.in-Some.ensures.cases.0 c.places.invariant.known;
+      known = known_after _ _ _ _ _ c.in-Some.ensures.cases.0 c.places.invariant.known;
       marked = c.places.invariant.marked;
     }

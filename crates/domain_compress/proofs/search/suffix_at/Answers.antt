@@ -2,7 +2,7 @@ use Rattle.std.proofs.Common.{refl, ◌+◌, ℕ, List, sym, subst, arith}
 use Rattle.domain_label.specs.Wire.{labels_in, IsAbsoluteWire}
 use Rattle.domain_rdata.specs.ReadBack.{StandsAt}
 use Rattle.domain_compress.specs.Written.{StandsThrough}
-use Rattle.domain_compress.proofs.Searching.{Passed, passed_start, passed_next, passed_all, passed_upto, end_stands, ahead, behind_all}
+use Rattle.domain_compress.proofs.Searching.{Passed, passed_start, passed_next, passed_all, passed_upto, end_stands, ahead, after_all}
 use Rattle.domain_compress.proofs.search.suffix_at.Goals as goal
 
 pub ends-init : goal.ends-init
@@ -16,18 +16,18 @@ returns-then-name-begin-eq0-clause-none c = λ _ xs ys e more lt. passed_all _ _
 
 pub pointers_at-requires : goal.pointers_at-requires
 pointers_at-requires c =
-    subst IsAbsoluteWire (sym (behind_all c.args.name.now c.ends.begin)) (ahead _ _ c.requires c.ends.invariant).wire_form
+    subst IsAbsoluteWire (sym (after_all c.args.name.now c.ends.begin)) (ahead _ _ c.requires c.ends.invariant).wire_form
 
 pub returns-in-Some-clause-some : goal.returns-in-Some-clause-some
 returns-in-Some-clause-some c =
     let P : List ℕ → Type 0 = λ o. StandsThrough c.args.octets.now c.args.place (labels_in o) c.in-Some.pointers in
-    end_stands _ _ _ _ _ _ c.requires c.ends.invariant c.ends-test.true c.if-name-begin-eq0.false (subst P (behind_all c.args.name.now c.ends.begin) c.in-Some.ensures.through)
+    end_stands _ _ _ _ _ _ c.requires c.ends.invariant c.ends-test.true c.if-name-begin-eq0.false (subst P (after_all c.args.name.now c.ends.begin) c.in-Some.ensures.through)
 
 pub ends-preserved : goal.ends-preserved
 ends-preserved c =
     let None : List (List ℕ) → Type 0 = λ ys. StandsAt c.args.octets.now c.args.place ys → ⊥ in
     let P : ℕ → Type 0 = λ k. Passed None c.args.name.now (c.ends.begin + 1 + k) in
-    let here = subst None (ahead _ _ c.requires c.ends.invariant).spelled (subst (λ o. None (labels_in o)) (behind_all c.args.name.now c.ends.begin) (c.in_default.ensures.none refl)) in
+    let here = subst None (ahead _ _ c.requires c.ends.invariant).spelled (subst (λ o. None (labels_in o)) (after_all c.args.name.now c.ends.begin) (c.in_default.ensures.none refl)) in
     subst P (sym c.from.ensures) (passed_next _ _ c.ends.invariant here c.if-name-begin-eq0.false)
 
 pub returns-clause-none : goal.returns-clause-none

@@ -3,7 +3,7 @@ use Rattle.domain_label.specs.Text.{escaped_octet}
 use Rattle.domain_label.proofs.presentation.push_escaped.Goals as goal
 use Rattle.domain_label.proofs.presentation.push_escaped.Goals.{then-octet-eq32-via-then-octet-eq32, then-octet-eq32-via-else-octet-eq32+then-octet-eq46, then-octet-eq32-via-else-octet-eq32+else-octet-eq46+then-octet-eq92}
 
--- An octet behind a backslash.
+-- An octet after a backslash.
 escaped : (text mid end : List ℕ) (o : ℕ) → mid ≡ text ++ 92 ∷ [] → end ≡ mid ++ o ∷ [] → escaped_octet o ≡ 92 ∷ o ∷ [] → end ≡ text ++ escaped_octet o
 escaped text mid end o first second spelled =
     second ∙ (ap (λ t. t ++ o ∷ []) first ∙ (append_assoc text (92 ∷ []) (o ∷ []) ∙ ap (λ s. text ++ s) (sym spelled)))

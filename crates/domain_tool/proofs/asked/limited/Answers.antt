@@ -1,5 +1,5 @@
 use Rattle.std.proofs.Common.{◌≡◌, ℕ, List, [], ◌∷◌, map, slice_index_or, Bor, refl, sym, subst}
-use Rattle.domain_tool.specs.Numerals.{TellsPointers}
+use Rattle.domain_tool.specs.Numerals.{IsLimitWord}
 use Rattle.domain_tool.proofs.asked.limited.Goals as goal
 
 -- the fourth of four words
@@ -12,4 +12,4 @@ fourth (w ∷ x ∷ y ∷ z ∷ ws) d a b c e h = cc
 
 pub returns-in-None-pointers_of-clause-none : goal.returns-in-None-pointers_of-clause-none
 returns-in-None-pointers_of-clause-none c = λ none place pointers asks.
-    c.in-None-pointers_of.ensures.none refl pointers (subst (λ (w : List ℕ). TellsPointers w pointers) (sym (fourth c.args.words.now _ _ _ _ _ asks.four)) asks.limits)
+    c.in-None-pointers_of.ensures.none refl pointers (subst (λ (w : List ℕ). IsLimitWord w pointers) (sym (fourth c.args.words.now _ _ _ _ _ asks.four)) asks.limits)

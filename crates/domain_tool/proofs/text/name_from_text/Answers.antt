@@ -3,7 +3,7 @@ use Rattle.std.specs.Prelude.{Result, Ok, Err, IfErr}
 use Rattle.std.specs.Str.{chars}
 use Rattle.std.proofs.lemmas.Str.{Chars-gives, encodes-chars}
 use Rattle.domain_label.specs.Wire.{wire}
-use Rattle.domain_builder.specs.TextGrammar.{SpellsName}
+use Rattle.domain_builder.specs.TextGrammar.{IsTextOfName}
 use Rattle.domain_builder.specs.TextErrors.{NoNameRead}
 use Rattle.domain_builder.specs.declared.error.FromStrError.{FromStrError}
 use Rattle.domain_builder.specs.declared.error.FromStrError.TheVariants.{Presentation, ShortBuf}
@@ -11,7 +11,7 @@ use Rattle.domain_tool.specs.WireText.{HasTextFault}
 use Rattle.domain_tool.proofs.text.name_from_text.Goals as goal
 
 -- a name that a text spells has at most 255 octets
-few_octets : (cs : List ℕ) (ls : List (List ℕ)) → SpellsName cs ls → length (wire ls) ≤ 255
+few_octets : (cs : List ℕ) (ls : List (List ℕ)) → IsTextOfName cs ls → length (wire ls) ≤ 255
 few_octets cs ls (items, reads, inl root) = rw root.1 (omega arith)
 few_octets cs ls (items, reads, inr (ks, texts, whole, few)) = few
 

@@ -7,12 +7,12 @@ use Rattle.domain_reading.specs.ParseResult.{StandsUncompressed}
 use Rattle.domain_name.specs.Names.{name_labels}
 use Rattle.examples.proofs.circle.put_and_read.Goals as goal
 
--- a name behind twelve octets lies plainly there
+-- a name after twelve octets lies plainly there
 plainly : (old new : Parser) (header octets name : List ℕ) (ls : List (List ℕ)) → IsAbsoluteName ls → MovesTo old new 12 → message old ≡ octets → octets ≡ header ++ name → name ≡ wire ls → length header ≡ 12 → StandsUncompressed new ls
 plainly old new header octets name ls absolute moved all parts form twelve = record {
   name = absolute;
   before = header;
-  behind = [];
+  after = [];
   octets = ap (λ o. take new.end o.now) moved.octets ∙ (ap (λ e. take e old.octets.now) moved.end ∙ (all ∙ (parts ∙ (ap (λ w. header ++ w) form ∙ sym (append-nil (header ++ wire ls))))));
   here = moved.place ∙ sym twelve;
 }

@@ -6,12 +6,12 @@ use Rattle.examples.proofs.counts_last.two_records.Given as given
 use Rattle.examples.proofs.counts_last.two_records.Goals as goal
 
 -- Octets were appended, then a name's, and octets again; and what follows the header stayed.
-behind_header : (u t v w o a s b : List ℕ) → t ≡ u ++ a → v ≡ t ++ s → w ≡ v ++ b → drop 12 o ≡ drop 12 w → drop 12 o ≡ drop 12 (u ++ (a ++ (s ++ b)))
-behind_header u t v w o a s b first name second stays =
+after_header : (u t v w o a s b : List ℕ) → t ≡ u ++ a → v ≡ t ++ s → w ≡ v ++ b → drop 12 o ≡ drop 12 w → drop 12 o ≡ drop 12 (u ++ (a ++ (s ++ b)))
+after_header u t v w o a s b first name second stays =
     let all : w ≡ (u ++ a) ++ (s ++ b) = second ∙ ap (λ m. m ++ b) (name ∙ ap (λ m. m ++ s) first) ∙ append_assoc (u ++ a) s b in
     stays ∙ ap (drop 12) (all ∙ append_assoc u a (s ++ b))
 
--- Behind the header of twelve octets no place is remembered yet.
+-- After the header of twelve octets no offset is remembered yet.
 begun : (g : given.Over) (c : goal.After-into_target g) → (length c.append_slice.new.self.target.items ≡ 12) × AllRememberedStand 12 c.append_slice.new.self.target.items (remembered_labels c.append_slice.new.self)
 begun g c =
     let started = c.in_ok-append_slice.ensures in
@@ -28,7 +28,7 @@ returns-clause-first g c =
     let u = c.append_compressed_name.new.self.target.items in
     let adds = c.in_ok-append_compressed_name.ensures.appends in
     let next = c.in_ok-append_compressed_name-2.ensures.appends in
-    let same = behind_header u _ _ _ c.into_target.result.items _ _ _ c.in_ok-append_slice-2.ensures.ok next.all c.in_ok-append_slice-3.ensures.ok (ap (λ m. drop 12 m.items) c.into_target.ensures ∙ c.write_count.ensures.rest) in
+    let same = after_header u _ _ _ c.into_target.result.items _ _ _ c.in_ok-append_slice-2.ensures.ok next.all c.in_ok-append_slice-3.ensures.ok (ap (λ m. drop 12 m.items) c.into_target.ensures ∙ c.write_count.ensures.rest) in
     let P : ℕ → Type 0 = λ n. StandsAt c.into_target.result.items n (g.N.NameLabels.labels c.args.first.now) in
     subst P size (c.compress_laws.ensures.stays 12 _ u _ _ _ _ _ (g.met.N.Absolute.absolute c.args.first.now) few start.1 adds same)
 

@@ -2,7 +2,7 @@ use Rattle.std.proofs.Common.{◌≡◌, ℕ, List, ◌++◌, length, take, ap, 
 use Rattle.std.proofs.Math.Seq.{take-append_seam}
 use Rattle.domain_label.proofs.label.Label.compose.Goals as goal
 
--- Where the octets behind the length were refused and the length taken back, the octets are those before it.
+-- Where the octets after the length were refused and the length taken back, the octets are those before it.
 taken_back : (old before mid seen left cut : List ℕ) → seen ≡ old → mid ≡ old ++ before → left ≡ mid → cut ≡ take (length seen) left → cut ≡ old
 taken_back old before mid seen left cut same e kept taken =
     taken ∙ (ap (λ o. take (length o) left) same ∙ (ap (take (length old)) (kept ∙ e) ∙ take-append_seam old before))

@@ -1,4 +1,4 @@
--- `octets_mut` lends the octets behind the length octet as a slice. The borrow checker shows no
+-- `octets_mut` lends the octets after the length octet as a slice. The borrow checker shows no
 -- write-back clause for a part of a `[u8; 64]`, so this proof walks the code by hand.
 use mathlib.Core.Path.{◌≡◌, refl, sym, ap, ◌∙◌}
 use Prim.Native.Nat.{ℕ, ◌+◌, ◌-◌, ◌*◌, ◌≤◌}
@@ -53,7 +53,7 @@ module _ {M : Type 1} {𝓤 : Ura M} (𝓛 : Logic 𝓤) where
     abbrev p : ℕ
     p = start o
 
-    -- where the octets behind the length octet begin
+    -- where the octets after the length octet begin
     abbrev place : ℕ
     place = 1 + p
 
@@ -75,20 +75,20 @@ module _ {M : Type 1} {𝓤 : Ura M} (𝓛 : Logic 𝓤) where
     abbrev Rest : SProp 𝓤
     Rest = sep 𝓤 (sem 𝓛 (octets head p)) (sep 𝓤 (sem 𝓛 (octets back past)) (Left 𝓛 b o))
 
-    behind_head : length d.wire ≡ 64 → at p (mem u8).size (length head) ≡ place
-    behind_head long =
+    after_head : length d.wire ≡ 64 → at p (mem u8).size (length head) ≡ place
+    after_head long =
         at_mul p (mem u8).size (length head) ∙ ap (λ (k : ℕ). k * (mem u8).size + p) (length-take-le 1 d.wire (omega (arith, long)))
 
     count : m ≤ 63 → length d.wire ≡ 64 → length front ≡ m
     count within long =
-        let behind = length-drop 1 d.wire in length-take-le m (drop_list 1 d.wire) (omega (arith, long))
+        let tail = length-drop 1 d.wire in length-take-le m (drop_list 1 d.wire) (omega (arith, long))
 
     put : m ≤ 63 → length d.wire ≡ 64 → (ws : List ℕ) → length ws ≡ length front
         → ent 𝓤 (sep 𝓤 (sem 𝓛 (octets ws place)) Rest) (sem 𝓛 ((mem the_row).own_at (with_octets d ws) b o))
     put within long ws e =
         let counted = count within long in
         let one : length head ≡ 1 = length-take-le 1 d.wire (omega (arith, long)) in
-        let behind = length-drop 1 d.wire in
+        let tail = length-drop 1 d.wire in
         let after = length-drop m (drop_list 1 d.wire) in
         let inner = length-append ws back in
         let whole = length-append head (ws ++ back) in
@@ -97,7 +97,7 @@ module _ {M : Type 1} {𝓤 : Ura M} (𝓛 : Logic 𝓤) where
         move ! (0 ∷ 2 ∷ []) $
         rewrite ! 1 (λ (k : ℕ). ‵ (octets back (at place (mem u8).size k))) (sym e) refl $
         use2 𝓛 (‵ (octets (ws ++ back) place)) (join_app 𝓛 (mem u8) ws back b place) $
-        rewrite ! 0 (λ (k : ℕ). ‵ (octets (ws ++ back) k)) (sym (behind_head long)) refl $ move ! (1 ∷ 0 ∷ []) $
+        rewrite ! 0 (λ (k : ℕ). ‵ (octets (ws ++ back) k)) (sym (after_head long)) refl $ move ! (1 ∷ 0 ∷ []) $
         use2 𝓛 (‵ (octets (head ++ (ws ++ back)) p)) (join_app 𝓛 (mem u8) head (ws ++ back) b p) $
         rewrite ! 0 (λ (l : List ℕ). ‵ (octets l p)) same refl $
         by ! (octets_in 𝓛 b o (with_octets d ws) (sym (ap length same) ∙ omega (arith, long)))
@@ -120,10 +120,10 @@ module _ {M : Type 1} {𝓤 : Ura M} (𝓛 : Logic 𝓤) where
         rewrite ! 0 (λ (l : List ℕ). ‵ (octets l p)) (sym (take-append-drop 1 d.wire)) refl $
         use1 𝓛 (‵ (octets head p) ⊛ ‵ (octets (drop_list 1 d.wire) (at p (mem u8).size (length head)))) (cut_app 𝓛 (mem u8) head (drop_list 1 d.wire) b p) $
         split ! $ move ! (1 ∷ []) $
-        rewrite ! 0 (λ (k : ℕ). ‵ (octets (drop_list 1 d.wire) k)) (behind_head long) refl $
+        rewrite ! 0 (λ (k : ℕ). ‵ (octets (drop_list 1 d.wire) k)) (after_head long) refl $
         rewrite ! 0 (λ (l : List ℕ). ‵ (octets l place)) (sym (take-append-drop m (drop_list 1 d.wire))) refl $
         use1 𝓛 (‵ (octets front place) ⊛ ‵ (octets back past)) (cut_app 𝓛 (mem u8) front back b place) $
-        -- [the octets lent; those behind them; the length octet; what is left of the label; the borrow]
+        -- [the octets lent; those after them; the length octet; what is left of the label; the borrow]
         split ! $ move ! (1 ∷ 3 ∷ []) $ join ! $ move ! (2 ∷ 0 ∷ []) $ join ! $ move ! (2 ∷ 3 ∷ 4 ∷ 1 ∷ 0 ∷ []) $ group ! 5 $
         use1 𝓛 (later (some (lent (length front))))
         (lends_Elements 𝓛 the_row u8 (with_octets d) (named 0) κ q b o b place γ front room Rest (put within long) (the_row.coded.code d) (the_row.coded.code d)) $

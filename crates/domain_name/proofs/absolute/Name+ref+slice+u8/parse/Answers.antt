@@ -14,4 +14,4 @@ pub returns-clause-list : goal.returns-clause-list
 returns-clause-list c = λ ls e at.
     let n = c.in_ok-len.ensures.ok in
     let o = c.in_ok-octets.ensures.ok ∙ name_slice _ _ _ n.0 n.1 (sym c.peek_all.ensures ∙ n.3) n.4 in
-    ap labels_in o ∙ (labels_in_wire n.0 ∙ absolute_once n.0 ls n.1 at.behind n.2.0 at.name.0 (sym n.3 ∙ (c.peek_all.ensures ∙ at.octets)))
+    ap labels_in o ∙ (labels_in_wire n.0 ∙ absolute_once n.0 ls n.1 at.after n.2.0 at.name.0 (sym n.3 ∙ (c.peek_all.ensures ∙ at.octets)))

@@ -5,11 +5,11 @@ use Rattle.domain_parsed.proofs.iter.ParsedNameIter.next_back_counted.Goals as g
 pub returns-in_err-last-clause-last : goal.returns-in_err-last-clause-last
 returns-in_err-last-clause-last g c =
     let s = c.args.self.now in
-    let e = labels_over s.octets.now s.base s.places.now c.in_err-last.ensures.cases in
+    let e = labels_over s.octets.now s.base s.entries.now c.in_err-last.ensures.cases in
     rw c.from_residual.ensures (e, e)
 
-pub entry_offset-place-requires : goal.entry_offset-place-requires
-entry_offset-place-requires g c =
+pub entry_offset-offset-requires : goal.entry_offset-offset-requires
+entry_offset-offset-requires g c =
     let s = c.args.self.now in
     let t = taken_back s.octets.now s.base _ _ _ c.in_ok-last.ensures.cases.0 s.stand in
     omega (arith, t.here)
@@ -22,9 +22,9 @@ invariant_of-self g c =
 pub read_label-label-requires : goal.read_label-label-requires
 read_label-label-requires g c =
     let s = c.args.self.now in
-    rw c.entry_offset-place.ensures (taken_back s.octets.now s.base _ _ _ c.in_ok-last.ensures.cases.0 s.stand).here
+    rw c.entry_offset-offset.ensures (taken_back s.octets.now s.base _ _ _ c.in_ok-last.ensures.cases.0 s.stand).here
 
 pub returns-clause-last : goal.returns-clause-last
 returns-clause-last g c =
     let s = c.args.self.now in
-    labels_taken_back s.octets.now s.base _ _ _ _ _ c.in_ok-last.ensures.cases.0 c.entry_offset-place.ensures c.read_label-label.ensures.label
+    labels_taken_back s.octets.now s.base _ _ _ _ _ c.in_ok-last.ensures.cases.0 c.entry_offset-offset.ensures c.read_label-label.ensures.label

@@ -5,14 +5,14 @@ use Rattle.domain_parsed.proofs.iter.ParsedNameIter.next_counted.Goals as goal
 pub returns-in_err-first-clause-first : goal.returns-in_err-first-clause-first
 returns-in_err-first-clause-first g c =
     let s = c.args.self.now in
-    let e = labels_over s.octets.now s.base s.places.now c.in_err-first.ensures.cases in
+    let e = labels_over s.octets.now s.base s.entries.now c.in_err-first.ensures.cases in
     rw c.from_residual.ensures (e, e)
 
 pub returns-in_err-first-clause-counted : goal.returns-in_err-first-clause-counted
 returns-in_err-first-clause-counted g c = rw c.from_residual.ensures refl
 
-pub entry_offset-place-requires : goal.entry_offset-place-requires
-entry_offset-place-requires g c =
+pub entry_offset-offset-requires : goal.entry_offset-offset-requires
+entry_offset-offset-requires g c =
     let s = c.args.self.now in
     let t = taken s.octets.now s.base _ _ _ c.in_ok-first.ensures.cases.0 s.stand in
     omega (arith, t.here)
@@ -25,9 +25,9 @@ invariant_of-self g c =
 pub read_label-label-requires : goal.read_label-label-requires
 read_label-label-requires g c =
     let s = c.args.self.now in
-    rw c.entry_offset-place.ensures (taken s.octets.now s.base _ _ _ c.in_ok-first.ensures.cases.0 s.stand).here
+    rw c.entry_offset-offset.ensures (taken s.octets.now s.base _ _ _ c.in_ok-first.ensures.cases.0 s.stand).here
 
 pub returns-clause-first : goal.returns-clause-first
 returns-clause-first g c =
     let s = c.args.self.now in
-    labels_taken s.octets.now s.base _ _ _ _ _ c.in_ok-first.ensures.cases.0 c.entry_offset-place.ensures c.read_label-label.ensures.label
+    labels_taken s.octets.now s.base _ _ _ _ _ c.in_ok-first.ensures.cases.0 c.entry_offset-offset.ensures c.read_label-label.ensures.label

@@ -58,7 +58,7 @@ returns-clause-ok c =
     let all = ap length (same_message _ _ _ four ∙ after_three) in
     let inside = place_inside c.parse_u16_be-3.new.self in
     record {
-      behind = position c.parse.new.parser;
+      after = position c.parse.new.parser;
       name = name_to _ _ _ c.in-Ok.ensures.labels named;
       rtype = read16 c.parse.new.parser _ _ _ zero refl c.in-Ok-parse_u16_be.ensures.ok;
       class = read16 c.parse_u16_be.new.self _ (position c.parse.new.parser + 2) _ after_one first c.in-Ok-parse_u16_be-2.ensures.ok;

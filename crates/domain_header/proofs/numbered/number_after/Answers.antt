@@ -3,7 +3,7 @@ use Rattle.std.specs.Prelude.{IfSome}
 use Rattle.domain_label.specs.Lowercase.{lowercase}
 use Rattle.domain_header.specs.Numbered.{IsDecimal}
 use Rattle.domain_header.proofs.WordAndNumber.{rest_of, numbered}
-use Rattle.domain_header.proofs.numbered.number_behind.Goals as goal
+use Rattle.domain_header.proofs.numbered.number_after.Goals as goal
 
 pub returns-clause-some : goal.returns-clause-some
 returns-clause-some c =

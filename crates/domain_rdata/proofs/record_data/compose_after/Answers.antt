@@ -1,6 +1,6 @@
 use Rattle.std.proofs.Common.{rules}
 use Rattle.domain_rdata.proofs.Lengths.{refused_data, taken_back}
-use Rattle.domain_rdata.proofs.record_data.compose_behind.Goals as goal
+use Rattle.domain_rdata.proofs.record_data.compose_after.Goals as goal
 
 pub returns-in-Err-compose_rdata-clause-full : goal.returns-in-Err-compose_rdata-clause-full
 returns-in-Err-compose_rdata-clause-full g c =
