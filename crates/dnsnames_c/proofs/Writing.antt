@@ -6,9 +6,9 @@ use Rattle.domain_label.proofs.WireLaws.{absolute_wire}
 use Rattle.domain_compress.specs.Compressing.{Compresses, pointer_to}
 use Rattle.domain_compress.specs.Planned.{places_in_table, WritesPointer, WritesFlat}
 use Rattle.dnsnames_c.specs.Answers.{PutsAt}
-use Rattle.dnsnames_c.specs.Plans.{Writes, HasNoRoom}
+use Rattle.dnsnames_c.specs.Plans.{WritesName, HasNoRoom}
 
-pub writes_pointer : (o : List ℕ) (start : ℕ) (table name : List ℕ) (begin offset : ℕ) (s o' : List ℕ) → WritesPointer (take start o) (places_in_table table) name begin offset → s ≡ take begin name ++ pointer_to offset → start + length s ≤ length o → PutsAt start s o o' → Writes o start table name begin (start + length s) o'
+pub writes_pointer : (o : List ℕ) (start : ℕ) (table name : List ℕ) (begin offset : ℕ) (s o' : List ℕ) → WritesPointer (take start o) (places_in_table table) name begin offset → s ≡ take begin name ++ pointer_to offset → start + length s ≤ length o → PutsAt start s o o' → WritesName o start table name begin (start + length s) o'
 writes_pointer o start table name begin offset s o' w e fits puts = record {
   octets = s;
   compresses = subst (λ ls. Compresses (take start o) (places_in_table table) (labels_in name) ls s) (sym w.spelled) (subst (λ s. Compresses (take start o) (places_in_table table) (labels_in name) w.labels s) (sym e) w.compresses);
@@ -30,7 +30,7 @@ pointer_no_room o start table name begin offset s w e long = record {
 all_taken : (name : List ℕ) → take (length name) name ≡ name
 all_taken name = grind (arith, common_steps)
 
-pub writes_flat : (o : List ℕ) (start : ℕ) (table name o' : List ℕ) → IsAbsoluteWire name → WritesFlat (take start o) (places_in_table table) name → start + length name ≤ length o → PutsAt start name o o' → Writes o start table name (length name) (start + length name) o'
+pub writes_flat : (o : List ℕ) (start : ℕ) (table name o' : List ℕ) → IsAbsoluteWire name → WritesFlat (take start o) (places_in_table table) name → start + length name ≤ length o → PutsAt start name o o' → WritesName o start table name (length name) (start + length name) o'
 writes_flat o start table name o' wired w fits puts = record {
   octets = name;
   compresses = subst (λ t. Compresses (take start o) (places_in_table table) (labels_in name) (labels_in t) name) (sym (all_taken name)) (subst (λ s. Compresses (take start o) (places_in_table table) (labels_in name) (labels_in name) s) wired.0 w);

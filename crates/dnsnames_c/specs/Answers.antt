@@ -43,8 +43,8 @@ ReadsName n m p status old new old_len len old_end end old_compressed compressed
 
 -- The offset after the root or first pointer of the name at p in m was given (0); or the number is that of the fault, and
 -- nothing changed.
-abbrev pub SkipsName : List ℕ → ℕ → ℕ → ℕ → ℕ → Type 0
-SkipsName m p status old new =
+abbrev pub ReturnsEnd : List ℕ → ℕ → ℕ → ℕ → ℕ → Type 0
+ReturnsEnd m p status old new =
     ((status ≡ 0) × Skips m p new)
     ⊎ ((f : NameFault) × SkipFault m p f × (status ≡ fault_number f) × (new ≡ old))
 

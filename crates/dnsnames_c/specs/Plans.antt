@@ -21,7 +21,7 @@ Plans t table name status old_begin begin old_offset offset =
 
 -- After the first octets of o, up to start, the name was written: its labels up to begin, and a pointer where begin isn't
 -- its end. What was written ends at end, and the octets after it are unchanged.
-pub record Writes (o : List ℕ) (start : ℕ) (table name : List ℕ) (begin end : ℕ) (o' : List ℕ) : Type 0 where
+pub record WritesName (o : List ℕ) (start : ℕ) (table name : List ℕ) (begin end : ℕ) (o' : List ℕ) : Type 0 where
   pub octets : List ℕ
   pub compresses : Compresses (take start o) (places_in_table table) (labels_in name) (labels_in (take begin name)) octets
   pub wire_form : IsWire (take begin name)
@@ -42,17 +42,17 @@ abbrev pub more_of_table : ℕ → List ℕ → ℕ → List (List ℕ) → List
 more_of_table room table start labels = take room (take 128 (table ++ offsets (remembered_from start start labels)))
 
 -- The name was written after the first octets, and the offsets of its labels were added after the first offsets.
-pub record Appended (o : List ℕ) (len : ℕ) (table : List ℕ) (count : ℕ) (name : List ℕ) (o' : List ℕ) (len' : ℕ) (table' : List ℕ) (count' : ℕ) : Type 0 where
+pub record AppendsName (o : List ℕ) (len : ℕ) (table : List ℕ) (count : ℕ) (name : List ℕ) (o' : List ℕ) (len' : ℕ) (table' : List ℕ) (count' : ℕ) : Type 0 where
   pub begin : ℕ
-  pub writes : Writes o len (take count table) name begin len' o'
+  pub writes : WritesName o len (take count table) name begin len' o'
   pub fits : count' ≤ length table
   pub offsets : take count' table' ≡ more_of_table (length table) (take count table) len (labels_in (take begin name))
   pub rest : drop count' table' ≡ drop count' table
 
 -- Why a name isn't written: a length is too large (20), the table is no table (16), the name is no absolute name (9) or
 -- doesn't fit (8).
-abbrev pub Refuses : List ℕ → ℕ → List ℕ → ℕ → List ℕ → ℕ → Type 0
-Refuses o len table count name status =
+abbrev pub RefusesName : List ℕ → ℕ → List ℕ → ℕ → List ℕ → ℕ → Type 0
+RefusesName o len table count name status =
     ((status ≡ 20) × ((length o < len) ⊎ (length table < count)))
     ⊎ ((status ≡ 16) × (len ≤ length o) × (count ≤ length table) × (IsTable (take count table) → ⊥))
     ⊎ ((status ≡ 9) × (len ≤ length o) × (count ≤ length table) × IsTable (take count table) × (IsAbsoluteWire name → ⊥))
@@ -61,5 +61,5 @@ Refuses o len table count name status =
 -- The name was written (0); or it wasn't, and nothing changed.
 abbrev pub Appends : List ℕ → ℕ → List ℕ → ℕ → List ℕ → ℕ → List ℕ → ℕ → List ℕ → ℕ → Type 0
 Appends o len table count name status o' len' table' count' =
-    ((status ≡ 0) × (len ≤ length o) × (count ≤ length table) × IsTable (take count table) × IsAbsoluteWire name × Appended o len table count name o' len' table' count')
-    ⊎ (Refuses o len table count name status × (o' ≡ o) × (len' ≡ len) × (table' ≡ table) × (count' ≡ count))
+    ((status ≡ 0) × (len ≤ length o) × (count ≤ length table) × IsTable (take count table) × IsAbsoluteWire name × AppendsName o len table count name o' len' table' count')
+    ⊎ (RefusesName o len table count name status × (o' ≡ o) × (len' ≡ len) × (table' ≡ table) × (count' ≡ count))

@@ -2,7 +2,7 @@
 ghost use Rattle.std.specs.Prelude.{◌≡◌, ◌≢◌, ◌<◌, ◌≤◌, ◌+◌, length, take, drop, IsTrue, ◌↔◌, IfSome, IsNone};
 ghost use Rattle.std.specs.List.{All};
 ghost use Rattle.domain_label.specs.Wire.{labels_in, IsWire, IsAbsoluteWire};
-ghost use Rattle.dnsnames_c.specs.Plans.{IsTable, Plans, Writes, HasNoRoom, Appends, more_of_table};
+ghost use Rattle.dnsnames_c.specs.Plans.{IsTable, Plans, WritesName, HasNoRoom, Appends, more_of_table};
 
 use crate::put::put;
 use domain_compress::plan::{more_offsets, plan, pointed};
@@ -60,12 +60,12 @@ struct Written {
     end: usize,
 }
 
-/// Writes a name from an offset on, as `dnsnames_plan` tells. `None` where it doesn't fit: the octets then stay.
+/// WritesName a name from an offset on, as `dnsnames_plan` tells. `None` where it doesn't fit: the octets then stay.
 fn write_name(octets: &mut [u8], start: usize, table: &[u16], name: &[u8]) -> Option<Written>
     requires start { start ≤ length octets.old }
     requires table { IsTable table.now }
     requires wire { IsAbsoluteWire name.now }
-    ensures some { IfSome result (λ w. Writes octets.old start table.now name.now w.begin w.end octets.new) }
+    ensures some { IfSome result (λ w. WritesName octets.old start table.now name.now w.begin w.end octets.new) }
     ensures none { IsNone result → HasNoRoom octets.old start table.now name.now × (octets.new ≡ octets.old) }
 {
     match plan(&octets[..start], table, name) {
@@ -107,7 +107,7 @@ fn add_offsets(table: &mut [u16], count: usize, labels: &[u8], start: usize) -> 
     len
 }
 
-/// Writes a name after the first `octets_len` octets of a message, as `dnsnames_plan` tells, and adds the offsets of the
+/// WritesName a name after the first `octets_len` octets of a message, as `dnsnames_plan` tells, and adds the offsets of the
 /// labels that were written to the first `table_len` ones of the table: those below 16,384, as far as it has room for
 /// them, and up to 128 in all. Both lengths become the new ones.
 ///

@@ -3,7 +3,7 @@ ghost use Rattle.std.specs.Prelude.{◌≡◌, ◌≤◌, ◌↔◌, ℕ, List, 
 ghost use Rattle.domain_label.specs.Wire.{wire};
 ghost use Rattle.domain_reading.specs.Grammar.{Names, EncodingEnds, IsContiguous};
 ghost use Rattle.domain_reading.specs.Faults.{NameFaultAt};
-ghost use Rattle.dnsnames_c.specs.Answers.{ReadsName, SkipsName};
+ghost use Rattle.dnsnames_c.specs.Answers.{ReadsName, ReturnsEnd};
 ghost use Rattle.dnsnames_c.specs.Status.{fault_number, bit_number};
 
 use crate::put::give;
@@ -99,7 +99,7 @@ pub extern "C" fn dnsnames_read(
 /// faults are those of `dnsnames_read` but 3, and change nothing.
 #[unsafe(no_mangle)]
 pub extern "C" fn dnsnames_skip(message: &[u8], offset: usize, end: &mut usize) -> u32
-    ensures { SkipsName message.now offset result end.old end.new }
+    ensures { ReturnsEnd message.now offset result end.old end.new }
 {
     match encoding_end(message, offset) {
         Ok(after) => {

@@ -3,7 +3,7 @@ use Rattle.std.proofs.Common.{Option, ◌≡◌, ℕ, ◌+◌, ◌<◌, ◌≤�
 use Rattle.domain_builder.specs.BuilderState.{BuilderState, LacksRoom, StopsAt}
 use Rattle.domain_builder.specs.Inside.{Held}
 use Rattle.domain_builder.specs.declared.name_symbol.TextFault.{TextFault}
-use Rattle.domain_name.specs.Calls.{Takes, PassesOver, AppliesAll}
+use Rattle.domain_name.specs.Calls.{TakesCall, PassesOver, AppliesAll}
 use Rattle.domain_name.specs.declared.calls.BuilderCall.{BuilderCall}
 use Rattle.domain_builder.specs.declared.name_symbol.NameSymbol.{NameSymbol}
 use Rattle.domain_builder.specs.TextErrors.{MatchFromStr, presentation_fault, presentation_error_kind}
@@ -11,7 +11,7 @@ use Rattle.domain_builder.specs.declared.error.FromStrError.{FromStrError}
 use Rattle.domain_builder.specs.declared.error.FromStrError.TheVariants.{Presentation, ShortBuf}
 
 -- one call more before the others
-pub take_call : (limit : Option ℕ) (b m new : Held) (call : BuilderCall) (all calls : List BuilderCall) (k : ℕ) → all ≡ call ∷ calls → Takes b call m → AppliesAll limit m calls new k → AppliesAll limit b all new (k + 1)
+pub take_call : (limit : Option ℕ) (b m new : Held) (call : BuilderCall) (all calls : List BuilderCall) (k : ℕ) → all ≡ call ∷ calls → TakesCall b call m → AppliesAll limit m calls new k → AppliesAll limit b all new (k + 1)
 take_call limit b m new call all calls k e a r = subst (λ (z : List BuilderCall). AppliesAll limit b z new (k + 1)) (sym e) (m, inl (a, (k, refl, r)))
 
 pub pass_call : (limit : Option ℕ) (b m new : Held) (call : BuilderCall) (all calls : List BuilderCall) (k : ℕ) → all ≡ call ∷ calls → PassesOver limit b call m → AppliesAll limit m calls new k → AppliesAll limit b all new k

@@ -19,7 +19,7 @@ use Rattle.domain_builder.proofs.Grammar.{makes_one}
 use Rattle.domain_builder.proofs.OneOutcome.{run, made_or_stopped, stops_at_one}
 use Rattle.domain_builder.proofs.Outcomes.{items_of, items_read, same_items}
 use Rattle.domain_name.specs.Names.{relative_labels}
-use Rattle.domain_name.specs.Calls.{Fits, Exceeds, IsTooMuch, Accepted, PassedOver, AppliesAll, OneOutcome}
+use Rattle.domain_name.specs.Calls.{Fits, ExceedsLimits, IsTooMuch, Accepted, PassedOver, AppliesAll, OneOutcome}
 use Rattle.domain_name.specs.declared.calls.BuilderCall.{BuilderCall}
 use Rattle.domain_name.specs.declared.calls.BuilderCall.TheVariants.{Push, PushSymbol, AppendSlice, EndLabel, AppendLabel, AppendDecU8Label, AppendHexDigitLabel, AppendName, AppendChars}
 
@@ -81,10 +81,10 @@ within n k = at (leb_tells n k)
     at (inr a) = inr a.1
 
 -- a call that makes `made`, where a label has so many octets as the measure says
-labelling : (room : ℕ) (b made : BuilderState) (label : BuilderState → ℕ) → 254 ≤ room → size b ≤ 254 → OneStep (λ m. (m ≡ made) × Fits (label m) (size m)) (λ m. (m ≡ b) × Exceeds room (label made) (size made))
+labelling : (room : ℕ) (b made : BuilderState) (label : BuilderState → ℕ) → 254 ≤ room → size b ≤ 254 → OneStep (λ m. (m ≡ made) × Fits (label m) (size m)) (λ m. (m ≡ b) × ExceedsLimits room (label made) (size made))
 labelling room b made label r s = at (within (label made) 63) (within (size made) 254)
   where
-    never : Fits (label made) (size made) → Exceeds room (label made) (size made) → ⊥
+    never : Fits (label made) (size made) → ExceedsLimits room (label made) (size made) → ⊥
     never f (inl e) = omega (arith, f.0, e)
     never f (inr (inl e)) = omega (arith, f.1, e)
     never f (inr (inr e)) = omega (arith, f.1, e, r)
@@ -92,7 +92,7 @@ labelling room b made label r s = at (within (label made) 63) (within (size made
     fit : (m : BuilderState) → (m ≡ made) × Fits (label m) (size m) → Fits (label made) (size made)
     fit m h = subst (λ (x : BuilderState). Fits (label x) (size x)) h.0 h.1
 
-    at : (label made ≤ 63) ⊎ (63 < label made) → (size made ≤ 254) ⊎ (254 < size made) → OneStep (λ m. (m ≡ made) × Fits (label m) (size m)) (λ m. (m ≡ b) × Exceeds room (label made) (size made))
+    at : (label made ≤ 63) ⊎ (63 < label made) → (size made ≤ 254) ⊎ (254 < size made) → OneStep (λ m. (m ≡ made) × Fits (label m) (size m)) (λ m. (m ≡ b) × ExceedsLimits room (label made) (size made))
     at (inl l) (inl w) = takes _ _ made (refl, (l, w)) w (λ m h. h.0) (λ m h. never (l, w) h.1)
     at (inr l) w = passes _ _ b (refl, inl l) s (λ m h. h.0) (λ m h. never (fit m h) (inl l))
     at (inl l) (inr w) = passes _ _ b (refl, inr (inl w)) s (λ m h. h.0) (λ m h. never (fit m h) (inr (inl w)))
@@ -202,7 +202,7 @@ one_within room b (call ∷ calls) r s = let step = one_call room b call r s in 
 -- ---- what the calls leave of the capacity
 
 -- with less room more may be passed over
-exceeds_less : (less here label whole : ℕ) → less ≤ here → Exceeds here label whole → Exceeds less label whole
+exceeds_less : (less here label whole : ℕ) → less ≤ here → ExceedsLimits here label whole → ExceedsLimits less label whole
 exceeds_less less here label whole h (inl e) = inl e
 exceeds_less less here label whole h (inr (inl e)) = inr (inl e)
 exceeds_less less here label whole h (inr (inr e)) = inr (inr (omega (arith, h, e)))

@@ -19,8 +19,8 @@ abbrev pub Fits : ℕ → ℕ → Type 0
 Fits label whole = (label ≤ 63) × (whole ≤ 254)
 
 -- They aren't, or they exceed the capacity.
-abbrev pub Exceeds : ℕ → ℕ → ℕ → Type 0
-Exceeds room label whole = (63 < label) ⊎ ((254 < whole) ⊎ (room < whole))
+abbrev pub ExceedsLimits : ℕ → ℕ → ℕ → Type 0
+ExceedsLimits room label whole = (63 < label) ⊎ ((254 < whole) ⊎ (room < whole))
 
 -- What a call that succeeds makes.
 abbrev pub Accepted : BuilderState → BuilderCall → BuilderState → Type 0
@@ -40,19 +40,19 @@ IsTooMuch room whole = (254 < whole) ⊎ (room < whole)
 
 -- Why a call fails. It changes nothing, but that symbols of a text that were added are kept.
 abbrev pub PassedOver : ℕ → BuilderState → BuilderCall → BuilderState → Type 0
-PassedOver room b (Push c) new = (new ≡ b) × Exceeds room (length (pushed b (c ∷ [])).open_label) (size (pushed b (c ∷ [])))
+PassedOver room b (Push c) new = (new ≡ b) × ExceedsLimits room (length (pushed b (c ∷ [])).open_label) (size (pushed b (c ∷ [])))
 PassedOver room b (PushSymbol s) new = (new ≡ b) × (((f : TextFault) × (symbol_fault b (symbol_in_name s) ≡ Some f)) ⊎ ((symbol_fault b (symbol_in_name s) ≡ None) × (symbol_in_name s ≢ Dot) × (room < size (after b (symbol_in_name s)))))
-PassedOver room b (AppendSlice s) new = (new ≡ b) × Exceeds room (length (pushed b s.now).open_label) (size (pushed b s.now))
+PassedOver room b (AppendSlice s) new = (new ≡ b) × ExceedsLimits room (length (pushed b s.now).open_label) (size (pushed b s.now))
 PassedOver room b EndLabel new = ⊥
-PassedOver room b (AppendLabel s) new = (new ≡ b) × Exceeds room (length s.now) (size (labelled b s.now))
+PassedOver room b (AppendLabel s) new = (new ≡ b) × ExceedsLimits room (length s.now) (size (labelled b s.now))
 PassedOver room b (AppendDecU8Label n) new = (new ≡ b) × IsTooMuch room (size (labelled b (decimal n)))
 PassedOver room b (AppendHexDigitLabel n) new = (new ≡ b) × IsTooMuch room (size (labelled b (digit_glyph true (n % 16) ∷ [])))
 PassedOver room b (AppendName n) new = (new ≡ b) × IsTooMuch room (size (named b (relative_labels n)))
 PassedOver room b (AppendChars s) new = (items : List (Result Symbol SymbolCharsError)) → ReadsSymbols (chars s.now) items → ((f : TextFault) × StopsAt b (name_symbols items) new f) ⊎ LacksRoom room b (name_symbols items) new
 
 -- A call succeeds. No capacity is lost.
-abbrev pub Takes : Held → BuilderCall → Held → Type 0
-Takes b call new = Accepted b.built call new.built × (b.capacity ≤ new.capacity)
+abbrev pub TakesCall : Held → BuilderCall → Held → Type 0
+TakesCall b call new = Accepted b.built call new.built × (b.capacity ≤ new.capacity)
 
 -- A call fails. The capacity is that which it leaves, and may have grown.
 abbrev pub PassesOver : Option ℕ → Held → BuilderCall → Held → Type 0
@@ -60,13 +60,13 @@ PassesOver limit b call new = PassedOver (room limit new) b.built call new.built
 
 -- One call, whether it succeeds or not.
 abbrev pub Applies : Option ℕ → Held → BuilderCall → Held → Bool → Type 0
-Applies limit b call new true = Takes b call new
+Applies limit b call new true = TakesCall b call new
 Applies limit b call new false = PassesOver limit b call new
 
 -- Calls in turn, n of which succeed. Each goes on from what the one before it left, the capacity too.
 abbrev pub AppliesAll : Option ℕ → Held → List BuilderCall → Held → ℕ → Type 0
 AppliesAll limit b [] new n = (new ≡ b) × (n ≡ 0)
-AppliesAll limit b (call ∷ calls) new n = (m : Held) × ((Takes b call m × ((k : ℕ) × (n ≡ k + 1) × AppliesAll limit m calls new k)) ⊎ (PassesOver limit b call m × AppliesAll limit m calls new n))
+AppliesAll limit b (call ∷ calls) new n = (m : Held) × ((TakesCall b call m × ((k : ℕ) × (n ≡ k + 1) × AppliesAll limit m calls new k)) ⊎ (PassesOver limit b call m × AppliesAll limit m calls new n))
 
 -- What calls in turn may make, and how many of them may succeed.
 abbrev pub MayEnd : Option ℕ → Held → List BuilderCall → BuilderState × ℕ → Type 0

@@ -6,7 +6,7 @@ use Rattle.domain_reading.proofs.NameOrFault.{slice_length}
 use Rattle.domain_reading.proofs.LabelsOfTable.{taken, labels_taken, slice_taken, slice_size, length-labels}
 use Rattle.domain_parsed.proofs.Parents.{Rest, rest_of, flat_rest, flat_inside, many_labels}
 
-pub record Dropped (o : List ℕ) (base : ℕ) (entries : List ℕ) (dropped count passed n : ℕ) (compressed : Bool) : Type 0 where
+pub record Dropped (o : List ℕ) (base : ℕ) (entries : List ℕ) (dropped count dropped_len n : ℕ) (compressed : Bool) : Type 0 where
   pub offset : ℕ
   pub label : List ℕ
   pub is_place : offset ≡ entry_offset base (slice_index entries dropped)
@@ -17,12 +17,12 @@ pub record Dropped (o : List ℕ) (base : ℕ) (entries : List ℕ) (dropped cou
   pub rest : Rest label (labels_at_entries o base (slice_range entries (dropped + 1) count)) n
   pub some : dropped + 1 < count
   pub stand : AreLabelOffsets o base (slice_range entries (dropped + 1) count)
-  pub flat : compressed ≡ false → slice_range o (base + (passed + (length label + 1))) (base + (passed + (length label + 1)) + (n - (length label + 1))) ≡ wire (labels_at_entries o base (slice_range entries (dropped + 1) count))
+  pub flat : compressed ≡ false → slice_range o (base + (dropped_len + (length label + 1))) (base + (dropped_len + (length label + 1)) + (n - (length label + 1))) ≡ wire (labels_at_entries o base (slice_range entries (dropped + 1) count))
 
-pub drop_first : (o : List ℕ) (base : ℕ) (entries : List ℕ) (dropped count passed n : ℕ) (compressed : Bool) → dropped < count → count ≤ length entries → AreLabelOffsets o base (slice_range entries dropped count) → IsAbsoluteName (labels_at_entries o base (slice_range entries dropped count))
-    → n ≡ length (wire (labels_at_entries o base (slice_range entries dropped count))) → (compressed ≡ false → slice_range o (base + passed) (base + passed + n) ≡ wire (labels_at_entries o base (slice_range entries dropped count))) → (labels_at_entries o base (slice_range entries dropped count) ≡ Root → ⊥)
-    → Dropped o base entries dropped count passed n compressed
-drop_first o base entries dropped count passed n compressed some few stand absolute sized flat more =
+pub drop_first : (o : List ℕ) (base : ℕ) (entries : List ℕ) (dropped count dropped_len n : ℕ) (compressed : Bool) → dropped < count → count ≤ length entries → AreLabelOffsets o base (slice_range entries dropped count) → IsAbsoluteName (labels_at_entries o base (slice_range entries dropped count))
+    → n ≡ length (wire (labels_at_entries o base (slice_range entries dropped count))) → (compressed ≡ false → slice_range o (base + dropped_len) (base + dropped_len + n) ≡ wire (labels_at_entries o base (slice_range entries dropped count))) → (labels_at_entries o base (slice_range entries dropped count) ≡ Root → ⊥)
+    → Dropped o base entries dropped count dropped_len n compressed
+drop_first o base entries dropped count dropped_len n compressed some few stand absolute sized flat more =
     let e = slice_index entries dropped in
     let rest = slice_range entries (dropped + 1) count in
     let p = entry_offset base e in
@@ -43,5 +43,5 @@ drop_first o base entries dropped count passed n compressed some few stand absol
       rest = r;
       some = omega (arith, many, length-labels o base (slice_range entries dropped count), slice_size entries dropped count few);
       stand = t.stand;
-      flat = λ h. flat_rest o l (labels_at_entries o base rest) (base + passed) n _ _ (flat_inside o (base + passed) n _ absolute.0 sized (flat h)) r.fits (flat h ∙ ap (λ ls. wire ls) ls) (omega arith) (omega (arith, r.fits));
+      flat = λ h. flat_rest o l (labels_at_entries o base rest) (base + dropped_len) n _ _ (flat_inside o (base + dropped_len) n _ absolute.0 sized (flat h)) r.fits (flat h ∙ ap (λ ls. wire ls) ls) (omega arith) (omega (arith, r.fits));
     }

@@ -4,7 +4,7 @@ ghost use Rattle.domain_reading.specs.Offsets.{AreLabelOffsets, labels_at_entrie
 
 use domain_label::Label;
 use domain_reading::heads::Heads;
-use domain_reading::standing::{entry_offset, read_label};
+use domain_reading::table::{entry_offset, read_label};
 use std::marker::{Brand, PhantomData};
 use std::sync::ledger::{Blank, Ledger};
 

@@ -21,7 +21,7 @@ use domain_reading::fault::NameFault;
 use domain_reading::heads::Heads;
 use domain_reading::progress::Progress;
 use domain_reading::read::read_name_counted;
-use domain_reading::standing::{MAX_LABELS, entry_offset};
+use domain_reading::table::{MAX_LABELS, entry_offset};
 use domain_wire::ParseError;
 use octseq::{Octets, OctetsFrom, Parser, ShortBuf};
 use std::alloc::{AllocError, Global};
@@ -52,7 +52,7 @@ pub struct ParsedName<Octs: Octets> {
     /// How many of them `parent` and `split_first` removed.
     dropped: u8,
     /// How many octets those have on the wire.
-    passed: u16,
+    dropped_len: u16,
     /// How many octets the remaining labels have on the wire, the root among them.
     name_len: u16,
     compressed: bool,
@@ -64,10 +64,10 @@ pub struct ParsedName<Octs: Octets> {
     ghost absolute: { IsAbsoluteName (labels_at_entries (Octs.octets octets) base (slice_range entries dropped count)) } by { IsAbsoluteName_prop (labels_at_entries (Octs.octets octets) base (slice_range entries dropped count)) },
     // `name_len` is its size, and it had at most 255 octets; with the flag false it stands in a row.
     ghost sized: { name_len ≡ length (wire (labels_at_entries (Octs.octets octets) base (slice_range entries dropped count))) },
-    ghost short: { passed + name_len ≤ 255 },
+    ghost short: { dropped_len + name_len ≤ 255 },
     ghost reads: { dropped ≡ 0 → read_from 383 (Octs.octets octets) base ≡ labels_at_entries (Octs.octets octets) base (slice_range entries dropped count) },
     ghost whole: { IsWholeFrom 383 (Octs.octets octets) base } by { IsWholeFrom_prop 383 (Octs.octets octets) base },
-    ghost flat: { compressed ≡ false → slice_range (Octs.octets octets) (base + passed) (base + passed + name_len) ≡ wire (labels_at_entries (Octs.octets octets) base (slice_range entries dropped count)) },
+    ghost flat: { compressed ≡ false → slice_range (Octs.octets octets) (base + dropped_len) (base + dropped_len + name_len) ≡ wire (labels_at_entries (Octs.octets octets) base (slice_range entries dropped count)) },
 }
 
 impl<Octs: Octets + Copy> Copy for ParsedName<Octs> {}
@@ -280,7 +280,7 @@ impl<Octs: Octets> ParsedName<Octs> {
             entries,
             count: found.count,
             dropped: 0,
-            passed: 0,
+            dropped_len: 0,
             name_len: found.len + 1,
             compressed: found.compressed,
         }
@@ -313,7 +313,7 @@ impl<Octs: Octets> ParsedName<Octs> {
             entries: self.entries,
             count: self.count,
             dropped: self.dropped,
-            passed: self.passed,
+            dropped_len: self.dropped_len,
             name_len: self.name_len,
             compressed: self.compressed,
         }
@@ -332,7 +332,7 @@ impl<Octs: Octets> ParsedName<Octs> {
             entries: self.entries,
             count: self.count,
             dropped: self.dropped,
-            passed: self.passed,
+            dropped_len: self.dropped_len,
             name_len: self.name_len,
             compressed: self.compressed,
         }
@@ -443,7 +443,7 @@ impl<Octs: Octets> ParsedName<Octs> {
         let start = entry_offset(self.base, self.entries[usize::from(self.dropped)]);
         let len = label_at_offset(octets, start).len() as u16 + 1;
         self.dropped += 1;
-        self.passed += len;
+        self.dropped_len += len;
         self.name_len -= len;
         Some(start..start + usize::from(len))
     }
@@ -488,7 +488,7 @@ impl<Octs: Octets> ParsedName<Octs> {
             return None;
         }
         let octets = self.octets.as_slice();
-        let start = self.base + usize::from(self.passed);
+        let start = self.base + usize::from(self.dropped_len);
         let end = start + usize::from(self.name_len);
         Some(&octets[start..end])
     }
@@ -510,7 +510,7 @@ impl<'a, Octs: Octets> ParsedName<&'a Octs> {
             entries: self.entries,
             count: self.count,
             dropped: self.dropped,
-            passed: self.passed,
+            dropped_len: self.dropped_len,
             name_len: self.name_len,
             compressed: self.compressed,
         }
@@ -545,7 +545,7 @@ impl ParsedName<Vec<u8>> {
             entries: self.entries,
             count: self.count,
             dropped: self.dropped,
-            passed: self.passed,
+            dropped_len: self.dropped_len,
             name_len: self.name_len,
             compressed: self.compressed,
         })
@@ -567,7 +567,7 @@ impl<const N: usize> ParsedName<ArrayVec<u8, N>> {
             entries: self.entries,
             count: self.count,
             dropped: self.dropped,
-            passed: self.passed,
+            dropped_len: self.dropped_len,
             name_len: self.name_len,
             compressed: self.compressed,
         })

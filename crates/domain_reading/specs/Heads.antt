@@ -8,10 +8,10 @@ use Rattle.domain_reading.specs.declared.head.Head.{Head}
 use Rattle.domain_reading.specs.declared.head.Head.TheVariants.{Root, Label, Pointer}
 
 -- This is at r.
-abbrev pub StandsAt : List ℕ → ℕ → Head → Type 0
-StandsAt m r Root = OctetAt m r 0
-StandsAt m r (Label n) = (l : List ℕ) × (length l ≡ n) × LabelAt m r l
-StandsAt m r (Pointer q) = PointerAt m r q × (q < 2 ^ 14)
+abbrev pub IsHeadAt : List ℕ → ℕ → Head → Type 0
+IsHeadAt m r Root = OctetAt m r 0
+IsHeadAt m r (Label n) = (l : List ℕ) × (length l ≡ n) × LabelAt m r l
+IsHeadAt m r (Pointer q) = PointerAt m r q × (q < 2 ^ 14)
 
 -- No label and no pointer can be read at r, and why.
 abbrev pub BrokenAt : List ℕ → ℕ → NameFault → Type 0

@@ -15,7 +15,7 @@ use crate::fault::NameFault;
 use crate::heads::Heads;
 use crate::progress::Progress;
 use crate::read::{encoding_end_with, read_name_counted};
-use crate::standing::{MAX_LABELS, read_label};
+use crate::table::{MAX_LABELS, read_label};
 use domain_label::Label;
 use std::marker::Brand;
 use std::sync::ledger::{Blank, Ledger};

@@ -1,6 +1,6 @@
 //! Reading a length octet or a pointer.
 ghost use Rattle.std.specs.Prelude.{◌≡◌, ◌+◌, MatchResult};
-ghost use Rattle.domain_reading.specs.Heads.{StandsAt, BrokenAt};
+ghost use Rattle.domain_reading.specs.Heads.{IsHeadAt, BrokenAt};
 
 use crate::fault::NameFault;
 use crate::heads::Heads;
@@ -28,7 +28,7 @@ pub fn read_head<L: Ledger>(
     at: usize,
     heads: &mut Heads<L>,
 ) -> Result<Head, NameFault>
-    ensures found { MatchResult result (λ head. StandsAt message.now at head) (λ fault. BrokenAt message.now at fault) }
+    ensures found { MatchResult result (λ head. IsHeadAt message.now at head) (λ fault. BrokenAt message.now at fault) }
     ensures counted { heads.new ≡ heads.old + 1 }
 {
     heads.count();

@@ -9,6 +9,6 @@ pub mod heads;
 pub mod laws;
 pub mod progress;
 pub mod read;
-pub mod standing;
+pub mod table;
 
 pub use laws::{overwriting_laws, reads_laws};

@@ -2,7 +2,7 @@
 ghost use Rattle.std.specs.Prelude.{◌≡◌, ◌+◌, ◌≤◌, ◌<◌, ◌^◌, ◌⊎◌, MatchResult, true, false, unwrap_or};
 
 use crate::fault::NameFault;
-use crate::standing::{FAR, MAX_LABELS};
+use crate::table::{FAR, MAX_LABELS};
 
 /// How far a name was read. The offsets of its labels are in a table of the caller's, so that these few numbers can
 /// be kept in registers.

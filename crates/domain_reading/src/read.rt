@@ -11,7 +11,7 @@ use crate::fault::NameFault;
 use crate::head::{Head, read_head};
 use crate::heads::Heads;
 use crate::progress::Progress;
-use crate::standing::MAX_LABELS;
+use crate::table::MAX_LABELS;
 use std::sync::ledger::{Blank, Ledger};
 
 /// The most octets that a name has, its root's among them.

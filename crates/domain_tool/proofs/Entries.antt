@@ -13,9 +13,9 @@ use Rattle.domain_tool.specs.declared.entry.RecordHeader.{RecordHeader}
 use Rattle.domain_tool.specs.Entries.{IsRecordHeader}
 use Rattle.domain_tool.specs.declared.section.Section.{Section}
 use Rattle.domain_tool.specs.declared.section.Section.TheVariants.{Question}
-use Rattle.domain_tool.specs.Lines.{IsLineOf, IsQuestion, section_word, NameTo, NoQuestion, NoRecord, number16, number32}
-use Rattle.domain_tool.specs.Lines.NoQuestion.{cut}
-use Rattle.domain_tool.specs.Lines.NoRecord.{cut as cut_record}
+use Rattle.domain_tool.specs.Lines.{IsLineOf, IsQuestion, section_word, NameTo, NoQuestionLine, NoRecordLine, number_in_16_bits, number_in_32_bits}
+use Rattle.domain_tool.specs.Lines.NoQuestionLine.{cut}
+use Rattle.domain_tool.specs.Lines.NoRecordLine.{cut as cut_record}
 
 -- a parser that was moved is over the same octets
 pub same_message : (old new : Parser) (n : ℕ) → MovesTo old new n → message new ≡ message old
@@ -28,23 +28,23 @@ name_to old new ls named moves = record {
   front = subst (λ e. EncodingEnds (message old) (position old) e) (sym moves.2.place) moves.1;
 }
 
-pub cut_question : (old after : Parser) (ls : List (List ℕ)) (why : ParseError) → Names 255 (message old) (position old) ls → MovesPastName old after → length (message after) < position after + 4 → why ≡ ShortInput → NoQuestion (message old) (position old) why
+pub cut_question : (old after : Parser) (ls : List (List ℕ)) (why : ParseError) → Names 255 (message old) (position old) ls → MovesPastName old after → length (message after) < position after + 4 → why ≡ ShortInput → NoQuestionLine (message old) (position old) why
 cut_question old after ls why named moves short told =
     cut ls (position after) (name_to old after ls named moves) (omega (arith, short, ap length (same_message old after moves.0 moves.2))) told
 
-pub cut_record_head : (old after : Parser) (ls : List (List ℕ)) (why : ParseError) → Names 255 (message old) (position old) ls → MovesPastName old after → length (message after) < position after + 10 → why ≡ ShortInput → NoRecord (message old) (position old) why
+pub cut_record_head : (old after : Parser) (ls : List (List ℕ)) (why : ParseError) → Names 255 (message old) (position old) ls → MovesPastName old after → length (message after) < position after + 10 → why ≡ ShortInput → NoRecordLine (message old) (position old) why
 cut_record_head old after ls why named moves short told =
     cut_record ls (position after) (name_to old after ls named moves) (inl (omega (arith, short, ap length (same_message old after moves.0 moves.2)))) told
 
 -- the number that a parser reads stands at its offset
-pub read16 : (p : Parser) (m : List ℕ) (at n : ℕ) → message p ≡ m → position p ≡ at → n ≡ from_be_bytes w16 (next p 2) → n ≡ number16 m at
-read16 p m at n same there e = e ∙ (ap (λ x. number16 x (position p)) same ∙ ap (number16 m) there)
+pub read16 : (p : Parser) (m : List ℕ) (at n : ℕ) → message p ≡ m → position p ≡ at → n ≡ from_be_bytes w16 (next p 2) → n ≡ number_in_16_bits m at
+read16 p m at n same there e = e ∙ (ap (λ x. number_in_16_bits x (position p)) same ∙ ap (number_in_16_bits m) there)
 
-pub read32 : (p : Parser) (m : List ℕ) (at n : ℕ) → message p ≡ m → position p ≡ at → n ≡ from_be_bytes w32 (next p 4) → n ≡ number32 m at
-read32 p m at n same there e = e ∙ (ap (λ x. number32 x (position p)) same ∙ ap (number32 m) there)
+pub read32 : (p : Parser) (m : List ℕ) (at n : ℕ) → message p ≡ m → position p ≡ at → n ≡ from_be_bytes w32 (next p 4) → n ≡ number_in_32_bits m at
+read32 p m at n same there e = e ∙ (ap (λ x. number_in_32_bits x (position p)) same ∙ ap (number_in_32_bits m) there)
 
 -- the data after a head is cut
-pub cut_data : (m : List ℕ) (p e : ℕ) (it : RecordHeader) (why : ParseError) → IsRecordHeader m p it e → length m < e + it.len → why ≡ ShortInput → NoRecord m p why
+pub cut_data : (m : List ℕ) (p e : ℕ) (it : RecordHeader) (why : ParseError) → IsRecordHeader m p it e → length m < e + it.len → why ≡ ShortInput → NoRecordLine m p why
 cut_data m p e it why head short told =
     let end = head.end in let len = head.len in
     cut_record (parsed_labels it.name) head.after head.name (inr (omega (arith, short, end, len))) told

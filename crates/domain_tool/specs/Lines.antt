@@ -12,12 +12,12 @@ use Rattle.domain_tool.specs.declared.section.Section.{Section}
 use Rattle.domain_tool.specs.declared.section.Section.TheVariants.{Question, Answer, Authority, Additional}
 
 -- the numbers that are at an offset in 16 and in 32 bits
-abbrev pub number16 : List ℕ → ℕ → ℕ
-number16 m p = from_be_bytes w16 (slice_range m p (p + 2))
+abbrev pub number_in_16_bits : List ℕ → ℕ → ℕ
+number_in_16_bits m p = from_be_bytes w16 (slice_range m p (p + 2))
 
 -- the same in 32 bits, such as a TTL
-abbrev pub number32 : List ℕ → ℕ → ℕ
-number32 m p = from_be_bytes w32 (slice_range m p (p + 4))
+abbrev pub number_in_32_bits : List ℕ → ℕ → ℕ
+number_in_32_bits m p = from_be_bytes w32 (slice_range m p (p + 4))
 
 -- what the lines of a section begin with
 abbrev pub section_word : Section → List ℕ
@@ -33,11 +33,11 @@ pub record NameTo (m : List ℕ) (p : ℕ) (ls : List (List ℕ)) (e : ℕ) : Ty
 
 -- What is shown of the name, the type and the class of an entry: the two numbers are at q, after the name.
 abbrev pub shown_entry : List ℕ → List (List ℕ) → ℕ → List ℕ
-shown_entry m ls q = 32 ∷ text_with_final_dot ls ++ 32 ∷ decimal (number16 m q) ++ 32 ∷ decimal (number16 m (q + 2))
+shown_entry m ls q = 32 ∷ text_with_final_dot ls ++ 32 ∷ decimal (number_in_16_bits m q) ++ 32 ∷ decimal (number_in_16_bits m (q + 2))
 
 -- What is shown of the rest of a record, whose type is at q: the TTL in 32 bits, and the data after its length.
 abbrev pub shown_record : List ℕ → ℕ → List ℕ
-shown_record m q = 32 ∷ decimal (number32 m (q + 4)) ++ 32 ∷ unknown_text (slice_range m (q + 10) (q + 10 + number16 m (q + 8)))
+shown_record m q = 32 ∷ decimal (number_in_32_bits m (q + 4)) ++ 32 ∷ unknown_text (slice_range m (q + 10) (q + 10 + number_in_16_bits m (q + 8)))
 
 -- A question is at p and ends before e (RFC 1035, 4.1.2).
 pub record IsQuestion (m : List ℕ) (p : ℕ) (line : List ℕ) (e : ℕ) : Type 0 where
@@ -53,19 +53,19 @@ pub record IsRecord (m : List ℕ) (p : ℕ) (line : List ℕ) (e : ℕ) : Type 
   pub labels : List (List ℕ)
   pub after : ℕ
   pub name : NameTo m p labels after
-  pub whole : after + 10 + number16 m (after + 8) ≤ length m
-  pub end : e ≡ after + 10 + number16 m (after + 8)
+  pub whole : after + 10 + number_in_16_bits m (after + 8) ≤ length m
+  pub end : e ≡ after + 10 + number_in_16_bits m (after + 8)
   pub shown : line ≡ shown_entry m labels after ++ shown_record m after
 
 -- No question is at p, and why: no name is there, or the message ends before the question does.
-pub data NoQuestion (m : List ℕ) (p : ℕ) (why : ParseError) : Type 0 where
-  no_name : NoNameAt m p why → NoQuestion m p why
-  cut : (ls : List (List ℕ)) (q : ℕ) → NameTo m p ls q → length m < q + 4 → why ≡ ShortInput → NoQuestion m p why
+pub data NoQuestionLine (m : List ℕ) (p : ℕ) (why : ParseError) : Type 0 where
+  no_name : NoNameAt m p why → NoQuestionLine m p why
+  cut : (ls : List (List ℕ)) (q : ℕ) → NameTo m p ls q → length m < q + 4 → why ≡ ShortInput → NoQuestionLine m p why
 
 -- No record is at p, and why.
-pub data NoRecord (m : List ℕ) (p : ℕ) (why : ParseError) : Type 0 where
-  no_name : NoNameAt m p why → NoRecord m p why
-  cut : (ls : List (List ℕ)) (q : ℕ) → NameTo m p ls q → (length m < q + 10) ⊎ (length m < q + 10 + number16 m (q + 8)) → why ≡ ShortInput → NoRecord m p why
+pub data NoRecordLine (m : List ℕ) (p : ℕ) (why : ParseError) : Type 0 where
+  no_name : NoNameAt m p why → NoRecordLine m p why
+  cut : (ls : List (List ℕ)) (q : ℕ) → NameTo m p ls q → (length m < q + 10) ⊎ (length m < q + 10 + number_in_16_bits m (q + 8)) → why ≡ ShortInput → NoRecordLine m p why
 
 -- An entry of a section is at p and ends before e, and is shown so.
 abbrev pub IsEntry : List ℕ → Section → ℕ → List ℕ → ℕ → Type 0
@@ -76,10 +76,10 @@ IsEntry m Additional p line e = IsRecord m p line e
 
 -- No question or resource record of this section is at p, and why.
 abbrev pub NoEntry : List ℕ → Section → ℕ → ParseError → Type 0
-NoEntry m Question p why = NoQuestion m p why
-NoEntry m Answer p why = NoRecord m p why
-NoEntry m Authority p why = NoRecord m p why
-NoEntry m Additional p why = NoRecord m p why
+NoEntry m Question p why = NoQuestionLine m p why
+NoEntry m Answer p why = NoRecordLine m p why
+NoEntry m Authority p why = NoRecordLine m p why
+NoEntry m Additional p why = NoRecordLine m p why
 
 -- An entry of a section is at p and ends before e, and this is its line: the word of the section, and what is shown
 -- of the entry.
@@ -94,8 +94,8 @@ Lists m (s ∷ ss) p text e = (line : List ℕ) × (q : ℕ) × (rest : List ℕ
 
 -- The entries that the header counts (RFC 1035, 4.1.1).
 abbrev pub counted_entries : List ℕ → List Section
-counted_entries m = replicate (number16 m 4) Question
-    ++ (replicate (number16 m 6) Answer ++ (replicate (number16 m 8) Authority ++ replicate (number16 m 10) Additional))
+counted_entries m = replicate (number_in_16_bits m 4) Question
+    ++ (replicate (number_in_16_bits m 6) Answer ++ (replicate (number_in_16_bits m 8) Authority ++ replicate (number_in_16_bits m 10) Additional))
 
 -- The header is there, and so are all entries that it counts, from the offset after it on. These are their lines.
 abbrev pub IsListing : List ℕ → List ℕ → Type 0

@@ -21,13 +21,13 @@ pub(crate) struct Question<'a> {
 
 impl<'a> Question<'a> {
     ghost use Rattle.domain_tool.specs.Entries.{question_line};
-    ghost use Rattle.domain_tool.specs.Lines.{IsQuestion, NoQuestion};
+    ghost use Rattle.domain_tool.specs.Lines.{IsQuestion, NoQuestionLine};
 
     /// Reads a question, and moves the parser past it.
     pub(crate) fn parse(parser: &mut Parser<'a>) -> Result<Question<'a>, ParseError>
         ensures ok { IfOk result (λ it. IsQuestion (message parser.old) (position parser.old) (question_line it) (position parser.new)) }
         ensures moves { OnOk result (MovesTo parser.old parser.new (position parser.new)) }
-        ensures err { IfErr result (λ e. NoQuestion (message parser.old) (position parser.old) e) }
+        ensures err { IfErr result (λ e. NoQuestionLine (message parser.old) (position parser.old) e) }
     {
         let name = match ParsedName::parse(parser) {
             Ok(name) => name,
@@ -75,13 +75,13 @@ struct RecordHeader<'a> {
 
 impl<'a> RecordHeader<'a> {
     ghost use Rattle.domain_tool.specs.Entries.{IsRecordHeader};
-    ghost use Rattle.domain_tool.specs.Lines.{NoRecord};
+    ghost use Rattle.domain_tool.specs.Lines.{NoRecordLine};
 
     /// Reads what comes before the data, and moves the parser to the data.
     fn parse(parser: &mut Parser<'a>) -> Result<RecordHeader<'a>, ParseError>
         ensures ok { IfOk result (λ it. IsRecordHeader (message parser.old) (position parser.old) it (position parser.new)) }
         ensures moves { OnOk result (MovesTo parser.old parser.new (position parser.new)) }
-        ensures err { IfErr result (λ e. NoRecord (message parser.old) (position parser.old) e) }
+        ensures err { IfErr result (λ e. NoRecordLine (message parser.old) (position parser.old) e) }
     {
         let name = match ParsedName::parse(parser) {
             Ok(name) => name,
@@ -122,13 +122,13 @@ pub(crate) struct Record<'a> {
 
 impl<'a> Record<'a> {
     ghost use Rattle.domain_tool.specs.Entries.{record_line};
-    ghost use Rattle.domain_tool.specs.Lines.{IsRecord, NoRecord};
+    ghost use Rattle.domain_tool.specs.Lines.{IsRecord, NoRecordLine};
 
     /// Reads a record, and moves the parser past it.
     pub(crate) fn parse(parser: &mut Parser<'a>) -> Result<Record<'a>, ParseError>
         ensures ok { IfOk result (λ it. IsRecord (message parser.old) (position parser.old) (record_line it) (position parser.new)) }
         ensures moves { OnOk result (MovesTo parser.old parser.new (position parser.new)) }
-        ensures err { IfErr result (λ e. NoRecord (message parser.old) (position parser.old) e) }
+        ensures err { IfErr result (λ e. NoRecordLine (message parser.old) (position parser.old) e) }
     {
         let head = match RecordHeader::parse(parser) {
             Ok(head) => head,

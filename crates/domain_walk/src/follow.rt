@@ -13,7 +13,7 @@ use domain_reading::fault::NameFault;
 use domain_reading::head::{Head, read_head};
 use domain_reading::heads::Heads;
 use domain_reading::progress::Progress;
-use domain_reading::standing::MAX_LABELS;
+use domain_reading::table::MAX_LABELS;
 use domain_tool::tool::{WriteFault, write_line};
 use std::io::Write;
 use std::marker::Brand;
