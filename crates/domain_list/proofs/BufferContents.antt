@@ -1,5 +1,5 @@
 -- What was put into a buffer.
-use Rattle.std.proofs.Common.{◌≡◌, ◌↔◌, ℕ, ◌+◌, ◌≤◌, ◌<◌, List, [], ◌∷◌, ◌++◌, length, take, slice_set, ap, sym, subst, ◌∙◌, arith, append_assoc, Option, Some, None, IfSome, IsNone}
+use Rattle.std.proofs.Common.{◌≡◌, ◌↔◌, ℕ, ◌+◌, ◌≤◌, ◌<◌, List, [], ◌∷◌, ◌++◌, length, take, slice_set, ap, sym, ◌∙◌, arith, append_assoc, Option, Some, None, IfSome, IsNone}
 use borrow.Rule.Slice.PartMut.{put_mid}
 use Rattle.std.proofs.lemmas.Grind.{common_steps}
 use Rattle.std.proofs.lemmas.List.{take-map, take_more_set, take-take, length-take-le}

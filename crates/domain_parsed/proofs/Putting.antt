@@ -131,9 +131,6 @@ walk_label {m} {o0} {base} {len} {o} {end} {from} {at} {n} x some few =
       size = omega (arith, x.size, x.order, ap length next, length-append l rest, long);
     }
 
-pub run_room : {m o0 : List ℕ} {base len : ℕ} {o : List ℕ} {end from at n : ℕ} → Walked m o0 base len o end from at n → len + length (wire (read_from 383 m base)) ≤ 255 → end + (at - from) ≤ 255
-run_room x fits = omega (arith, x.size, fits)
-
 pub walk_pointer : {m o0 : List ℕ} {base len : ℕ} {o : List ℕ} {end from at n : ℕ} → Walked m o0 base len o end from at (suc n) → 64 ≤ slice_index m at → (192 ≤ slice_index m at) × (at + 1 < length m)
 walk_pointer {m} {at = at} {n} x many = let p = whole_to n m at x.whole many in (p.head, p.inside)
 

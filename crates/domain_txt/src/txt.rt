@@ -10,7 +10,8 @@ ghost use Rattle.octseq.specs.Parsing.{message, position, MovesTo};
 ghost use Rattle.domain_wire.specs.Refusals.{refusal};
 ghost use Rattle.domain_txt.specs.OneProof.{HasStrings_prop};
 ghost use Rattle.domain_txt.specs.Quoted.{quoted_strings};
-ghost use Rattle.domain_txt.specs.Reading.{TextAt, NoText, text_reading};
+ghost use Rattle.domain_txt.specs.Reading.{TextAt, NoText};
+ghost use Rattle.domain_txt.specs.ReadingLaws.{text_reading};
 ghost use Rattle.domain_txt.specs.Strings.{HasStrings};
 ghost use Rattle.domain_txt.specs.Views.{strings_left};
 

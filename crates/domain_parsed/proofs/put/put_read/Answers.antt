@@ -1,5 +1,5 @@
 use Rattle.std.proofs.Common.{rules, arith, ◌+◌, ◌-◌, ◌∙◌, sym, subst}
-use Rattle.domain_parsed.proofs.Putting.{Walked, walk_stepped, walk_inside, walk_label, walk_pointer, walk_to, run_room, root_room, walk_root, walk_over}
+use Rattle.domain_parsed.proofs.Putting.{Walked, walk_stepped, walk_inside, walk_label, walk_pointer, walk_to, root_room, walk_root, walk_over}
 use Rattle.domain_parsed.proofs.put.put_read.Goals as goal
 
 pub bounds-message-at : goal.bounds-message-at

@@ -1,5 +1,5 @@
 use Rattle.std.proofs.Common.{[], refl, arith}
-use Rattle.domain_txt.specs.Cutting.{nothing_passed, passed_next, passed_end}
+use Rattle.domain_txt.proofs.Passing.{nothing_passed, passed_next, passed_end}
 use Rattle.domain_txt.proofs.iter.check_strings.Goals as goal
 
 pub loop-rest-init : goal.loop-rest-init

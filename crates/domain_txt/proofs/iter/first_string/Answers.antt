@@ -1,5 +1,5 @@
 use Rattle.std.proofs.Common.{refl}
-use Rattle.domain_txt.specs.Cutting.{first_parts, first_fits}
+use Rattle.domain_txt.proofs.Passing.{first_parts, first_fits}
 use Rattle.domain_txt.proofs.iter.first_string.Goals as goal
 
 pub split_at-requires : goal.split_at-requires
