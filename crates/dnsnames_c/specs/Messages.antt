@@ -19,7 +19,7 @@ EndsShort m p n status =
     ⊎ ((e : ℕ) × Skips m p e × (length m < e + n) × (status ≡ 1))
 
 -- A question is at p and ends at e: a name, a type and a class (RFC 1035, 4.1.2).
-pub record QuestionAt (m : List ℕ) (p rtype class e : ℕ) : Type 0 where
+pub record QuestionPartsAt (m : List ℕ) (p rtype class e : ℕ) : Type 0 where
   pub after : ℕ
   pub name : Skips m p after
   pub rtype_is : rtype ≡ number_16 m after
@@ -28,13 +28,13 @@ pub record QuestionAt (m : List ℕ) (p rtype class e : ℕ) : Type 0 where
   pub inside : e ≤ length m
 
 -- The question at p was given (0); or there is none, and nothing changed.
-abbrev pub GivesQuestion : List ℕ → ℕ → ℕ → ℕ → ℕ → ℕ → ℕ → ℕ → ℕ → Type 0
-GivesQuestion m p status old_rtype rtype old_class class old_end end =
-    ((status ≡ 0) × QuestionAt m p rtype class end)
+abbrev pub GivesQuestionParts : List ℕ → ℕ → ℕ → ℕ → ℕ → ℕ → ℕ → ℕ → ℕ → Type 0
+GivesQuestionParts m p status old_rtype rtype old_class class old_end end =
+    ((status ≡ 0) × QuestionPartsAt m p rtype class end)
     ⊎ (EndsShort m p 4 status × (rtype ≡ old_rtype) × (class ≡ old_class) × (end ≡ old_end))
 
 -- A record is at p and ends at e: a name, a type, a class, a TTL, the length of the data, and the data (RFC 1035, 4.1.3).
-pub record RecordAt (m : List ℕ) (p rtype class ttl data_at data_len e : ℕ) : Type 0 where
+pub record RecordPartsAt (m : List ℕ) (p rtype class ttl data_at data_len e : ℕ) : Type 0 where
   pub after : ℕ
   pub name : Skips m p after
   pub rtype_is : rtype ≡ number_16 m after
@@ -47,13 +47,13 @@ pub record RecordAt (m : List ℕ) (p rtype class ttl data_at data_len e : ℕ) 
 
 -- No record is at p, and this is the number of the fault: the message ends in its name, in the ten octets after the name,
 -- or in its data.
-abbrev pub NoRecord : List ℕ → ℕ → ℕ → Type 0
-NoRecord m p status =
+abbrev pub NoRecordParts : List ℕ → ℕ → ℕ → Type 0
+NoRecordParts m p status =
     EndsShort m p 10 status
     ⊎ ((e : ℕ) × Skips m p e × (e + 10 ≤ length m) × (length m < e + 10 + number_16 m (e + 8)) × (status ≡ 1))
 
 -- The record at p was given (0); or there is none, and nothing changed.
-abbrev pub GivesRecord : List ℕ → ℕ → ℕ → ℕ → ℕ → ℕ → ℕ → ℕ → ℕ → ℕ → ℕ → ℕ → ℕ → ℕ → ℕ → Type 0
-GivesRecord m p status old_rtype rtype old_class class old_ttl ttl old_data data_at old_len data_len old_end end =
-    ((status ≡ 0) × RecordAt m p rtype class ttl data_at data_len end)
-    ⊎ (NoRecord m p status × (rtype ≡ old_rtype) × (class ≡ old_class) × (ttl ≡ old_ttl) × (data_at ≡ old_data) × (data_len ≡ old_len) × (end ≡ old_end))
+abbrev pub GivesRecordParts : List ℕ → ℕ → ℕ → ℕ → ℕ → ℕ → ℕ → ℕ → ℕ → ℕ → ℕ → ℕ → ℕ → ℕ → ℕ → Type 0
+GivesRecordParts m p status old_rtype rtype old_class class old_ttl ttl old_data data_at old_len data_len old_end end =
+    ((status ≡ 0) × RecordPartsAt m p rtype class ttl data_at data_len end)
+    ⊎ (NoRecordParts m p status × (rtype ≡ old_rtype) × (class ≡ old_class) × (ttl ≡ old_ttl) × (data_at ≡ old_data) × (data_len ≡ old_len) × (end ≡ old_end))

@@ -1,6 +1,6 @@
 //! The header of a message, its questions and its records (RFC 1035, 4.1).
 ghost use Rattle.std.specs.Prelude.{◌≡◌, ◌≢◌, ◌<◌, ◌≤◌, ◌+◌, ◌⊎◌, length};
-ghost use Rattle.dnsnames_c.specs.Messages.{number_16, number_32, GivesQuestion, GivesRecord};
+ghost use Rattle.dnsnames_c.specs.Messages.{number_16, number_32, GivesQuestionParts, GivesRecordParts};
 
 use crate::read::number_of;
 use domain_reading::alone::encoding_end;
@@ -68,7 +68,7 @@ pub extern "C" fn dnsnames_question(
     class: &mut u16,
     end: &mut usize,
 ) -> u32
-    ensures { GivesQuestion message.now offset result rtype.old rtype.new class.old class.new end.old end.new }
+    ensures { GivesQuestionParts message.now offset result rtype.old rtype.new class.old class.new end.old end.new }
 {
     let after = match encoding_end(message, offset) {
         Ok(after) => after,
@@ -100,7 +100,7 @@ pub extern "C" fn dnsnames_record(
     data_len: &mut usize,
     end: &mut usize,
 ) -> u32
-    ensures { GivesRecord message.now offset result rtype.old rtype.new class.old class.new ttl.old ttl.new data_at.old data_at.new data_len.old data_len.new end.old end.new }
+    ensures { GivesRecordParts message.now offset result rtype.old rtype.new class.old class.new ttl.old ttl.new data_at.old data_at.new data_len.old data_len.new end.old end.new }
 {
     let after = match encoding_end(message, offset) {
         Ok(after) => after,

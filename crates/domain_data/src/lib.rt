@@ -2,17 +2,17 @@
 #![tactic(auto)]
 
 pub mod address;
+mod canonical;
 mod display;
 pub mod fields;
 mod flatten;
 pub mod host;
-mod order;
 mod parse;
 
 pub use address::{A, Aaaa};
 pub use domain_fields::{
     DataField, DataName, FieldError, FlattenField, NameField, OrderedField, ReadField, Sequence,
-    UncompressedNameField, read_all,
+    UncompressedNameField, field, name_field, order, read, read_all, sequence,
 };
 pub use fields::FieldsData;
 pub use host::{Cname, Dname, Mx, Ns, Ptr, Soa, Srv};

@@ -1,4 +1,7 @@
 pub mod Aliases
+pub mod Comparing
 pub mod ComposingRecords
 pub mod Names
+pub mod OneList
 pub mod Sections
+pub mod Skipping

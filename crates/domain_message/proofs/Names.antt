@@ -7,11 +7,11 @@ use Rattle.domain_reading.specs.Grammar.{Names, EncodingEnds}
 use Rattle.domain_reading.specs.ParseResult.{MovesPastName}
 use Rattle.domain_message.specs.Facts.{same_message}
 use Rattle.domain_message.specs.Readings.{name_once}
-use Rattle.domain_message.specs.Entries.{NameAt, NoNameBefore}
+use Rattle.domain_message.specs.Entries.{WholeNameAt, NoNameBefore}
 use Rattle.domain_message.specs.Entries.NoNameBefore.{too_short}
 
 -- the name that was parsed, and where its encoding ends
-pub name_to : (old new : Parser) (ls : List (List ℕ)) → Names 255 (message old) (position old) ls → MovesPastName old new → NameAt (message old) (position old) ls (position new)
+pub name_to : (old new : Parser) (ls : List (List ℕ)) → Names 255 (message old) (position old) ls → MovesPastName old new → WholeNameAt (message old) (position old) ls (position new)
 name_to old new ls named moves = record {
   labels = named;
   encoding = subst (λ e. EncodingEnds (message old) (position old) e) (sym moves.2.place) moves.1;
@@ -23,9 +23,9 @@ short_after n old new ls named moves short =
     too_short ls (position new) (name_to old new ls named moves) (omega (arith, short, ap length (same_message old new moves.0 moves.2))) refl
 
 -- a name that was parsed before the end of the octets isn't all of them
-pub not_whole : (old new : Parser) (ls target : List (List ℕ)) (m : List ℕ) (p : ℕ) → message old ≡ m → position old ≡ p → Names 255 (message old) (position old) ls → MovesPastName old new → position new < length (message new) → NameAt m p target (length m) → ⊥
+pub not_whole : (old new : Parser) (ls target : List (List ℕ)) (m : List ℕ) (p : ℕ) → message old ≡ m → position old ≡ p → Names 255 (message old) (position old) ls → MovesPastName old new → position new < length (message new) → WholeNameAt m p target (length m) → ⊥
 not_whole old new ls target m p is at named moves more whole =
     let one = name_to old new ls named moves in
-    let other = subst (λ o. NameAt o (position old) target (length o)) (sym is) (subst (λ q. NameAt m q target (length m)) (sym at) whole) in
+    let other = subst (λ o. WholeNameAt o (position old) target (length o)) (sym is) (subst (λ q. WholeNameAt m q target (length m)) (sym at) whole) in
     let same = (name_once one other).1 in
     omega (arith, same, more, ap length (same_message old new moves.0 moves.2))

@@ -2,7 +2,7 @@
 use Rattle.std.specs.Prelude.{◌≡◌, ℕ, ◌+◌, List, [], ◌∷◌, length, Option, Some, None}
 use Rattle.domain_label.specs.Lowercase.{lowercase_labels}
 use Rattle.domain_header.specs.Numbers.{number16}
-use Rattle.domain_message.specs.Entries.{NameAt, QuestionFields, QuestionAt, RecordFields, RecordAt}
+use Rattle.domain_message.specs.Entries.{WholeNameAt, QuestionFields, QuestionAt, RecordFields, RecordAt}
 use Rattle.domain_message.specs.Runs.{Given}
 use Rattle.domain_message.specs.Sections.{QuestionsTo, records_message, records_offset, records_left, entries_left}
 use Rattle.domain_message.specs.declared.section.RecordSection.{RecordSection}
@@ -11,7 +11,7 @@ use Rattle.domain_message.specs.declared.section.RecordSection.{RecordSection}
 pub record IsAlias (it : RecordFields) (name target : List (List ℕ)) : Type 0 where
   pub cname : it.header.rtype ≡ 5
   pub owner : lowercase_labels it.header.owner ≡ lowercase_labels name
-  pub data_is : NameAt it.octets it.start target (length it.octets)
+  pub data_is : WholeNameAt it.octets it.start target (length it.octets)
 
 -- The target of the first CNAME record of the name in a list of records. None: it has none there.
 pub data FirstAlias (name : List (List ℕ)) : List RecordFields → Option (List (List ℕ)) → Type 0 where

@@ -8,14 +8,14 @@ use Rattle.domain_reading.specs.ParseResult.{HasNoName}
 use Rattle.domain_header.specs.Numbers.{number16, number32}
 
 -- The labels of the name at p are ls, and its encoding ends before e: after the root or the first pointer (RFC 1035, 4.1.4).
-pub record NameAt (m : List ℕ) (p : ℕ) (ls : List (List ℕ)) (e : ℕ) : Type 0 where
+pub record WholeNameAt (m : List ℕ) (p : ℕ) (ls : List (List ℕ)) (e : ℕ) : Type 0 where
   pub labels : Names 255 m p ls
   pub encoding : EncodingEnds m p e
 
 -- No name is at p, or fewer than n octets follow it, and why.
 pub data NoNameBefore (n : ℕ) (m : List ℕ) (p : ℕ) (why : ParseError) : Type 0 where
   no_name : HasNoName 255 m p (refusal why) → NoNameBefore n m p why
-  too_short : (ls : List (List ℕ)) (e : ℕ) → NameAt m p ls e → length m < e + n → why ≡ ShortInput → NoNameBefore n m p why
+  too_short : (ls : List (List ℕ)) (e : ℕ) → WholeNameAt m p ls e → length m < e + n → why ≡ ShortInput → NoNameBefore n m p why
 
 -- what a question says
 pub record QuestionFields : Type 0 where
@@ -26,7 +26,7 @@ pub record QuestionFields : Type 0 where
 -- A question is at p and ends before e (RFC 1035, 4.1.2).
 pub record QuestionAt (m : List ℕ) (p : ℕ) (it : QuestionFields) (e : ℕ) : Type 0 where
   pub name_end : ℕ
-  pub name : NameAt m p it.name name_end
+  pub name : WholeNameAt m p it.name name_end
   pub rtype : it.rtype ≡ number16 m name_end
   pub class : it.class ≡ number16 m (name_end + 2)
   pub inside : name_end + 4 ≤ length m
@@ -47,7 +47,7 @@ pub record HeaderFields : Type 0 where
 -- What a record has before its data is at p and ends before e (RFC 1035, 4.1.3).
 pub record RecordHeaderAt (m : List ℕ) (p : ℕ) (it : HeaderFields) (e : ℕ) : Type 0 where
   pub name_end : ℕ
-  pub name : NameAt m p it.owner name_end
+  pub name : WholeNameAt m p it.owner name_end
   pub rtype : it.rtype ≡ number16 m name_end
   pub class : it.class ≡ number16 m (name_end + 2)
   pub ttl : it.ttl ≡ number32 m (name_end + 4)

@@ -1,9 +1,12 @@
 pub mod Aliases
 pub mod AliasLaws
+pub mod Answering
 pub mod Composing
 pub mod Entries
 pub mod Facts
 pub mod HeaderLaws
+pub mod Kept
+pub mod Laws
 pub mod Messages
 pub mod Models
 pub mod Readings

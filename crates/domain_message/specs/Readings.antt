@@ -11,16 +11,16 @@ use Rattle.domain_reading.proofs.OneEncoding.{front_once, names_skips}
 use Rattle.domain_reading.specs.Grammar.{Flat, Encoding, Stop, StopAt}
 use Rattle.domain_reading.specs.Grammar.Stop.{root, pointer}
 use Rattle.domain_reading.specs.Faults.{error_of}
-use Rattle.domain_message.specs.Entries.{NameAt, NoNameBefore, QuestionFields, QuestionAt, NoQuestion, HeaderFields, RecordHeaderAt, NoRecordHeader, RecordFields, RecordAt, NoRecord}
+use Rattle.domain_message.specs.Entries.{WholeNameAt, NoNameBefore, QuestionFields, QuestionAt, NoQuestion, HeaderFields, RecordHeaderAt, NoRecordHeader, RecordFields, RecordAt, NoRecord}
 use Rattle.domain_message.specs.Entries.NoRecord.{no_header, no_data}
 use Rattle.domain_header.specs.Numbers.{number16, number32}
 use Rattle.domain_message.specs.Entries.NoNameBefore.{no_name, too_short}
 
-pub name_once : {m : List ℕ} {p : ℕ} {xs ys : List (List ℕ)} {e f : ℕ} → NameAt m p xs e → NameAt m p ys f → (xs ≡ ys) × (e ≡ f)
+pub name_once : {m : List ℕ} {p : ℕ} {xs ys : List (List ℕ)} {e f : ℕ} → WholeNameAt m p xs e → WholeNameAt m p ys f → (xs ≡ ys) × (e ≡ f)
 name_once a b = ((reads_once a.labels.reads b.labels.reads).1, (front_once a.encoding.2 b.encoding.2).2)
 
 -- a name followed by n octets is at p, or is not
-pub name_not_both : (n : ℕ) (m : List ℕ) (p : ℕ) (ls : List (List ℕ)) (q : ℕ) (why : ParseError) → NameAt m p ls q → q + n ≤ length m → NoNameBefore n m p why → ⊥
+pub name_not_both : (n : ℕ) (m : List ℕ) (p : ℕ) (ls : List (List ℕ)) (q : ℕ) (why : ParseError) → WholeNameAt m p ls q → q + n ≤ length m → NoNameBefore n m p why → ⊥
 name_not_both n m p ls q why a whole (no_name (fault, is, f)) = names_or_fault a.labels f
 name_not_both n m p ls q why a whole (too_short xs r b short is) = let same = (name_once a b).1 in omega (arith, same, short, whole)
 
@@ -45,7 +45,7 @@ front_inside {m} {p} {e} {fs} {c} front =
     let ends = stop_after m front.stop e c front.ends in
     omega arith
 
-pub name_inside : (m : List ℕ) (p : ℕ) (ls : List (List ℕ)) (q : ℕ) → NameAt m p ls q → p ≤ q
+pub name_inside : (m : List ℕ) (p : ℕ) (ls : List (List ℕ)) (q : ℕ) → WholeNameAt m p ls q → p ≤ q
 name_inside m p ls q a = front_inside a.encoding.2
 
 -- at most one question is at an offset
@@ -115,19 +115,11 @@ record_reading = record {
   one_fault = no_record_once;
 }
 
--- a name ends inside of the message
-stop_whole : (m : List ℕ) (r e : ℕ) (c : Stop) → StopAt m r c e → e ≤ length m
-stop_whole m r e root at = let inside = at.0.inside in let end = at.1 in omega arith
-stop_whole m r e (pointer q) at = let inside = at.0.inside in let end = at.1 in omega arith
-
-pub name_whole : {m : List ℕ} {p e : ℕ} {ls : List (List ℕ)} → NameAt m p ls e → e ≤ length m
-name_whole {m} {e = e} at = stop_whole m at.encoding.2.stop e at.encoding.1 at.encoding.2.ends
-
 -- A name is at each offset, or none.
-pub name_decided : (m : List ℕ) (p : ℕ) → ((ls : List (List ℕ)) × (e : ℕ) × NameAt m p ls e) ⊎ ((ls : List (List ℕ)) (e : ℕ) → NameAt m p ls e → ⊥)
+pub name_decided : (m : List ℕ) (p : ℕ) → ((ls : List (List ℕ)) × (e : ℕ) × WholeNameAt m p ls e) ⊎ ((ls : List (List ℕ)) (e : ℕ) → WholeNameAt m p ls e → ⊥)
 name_decided m p = look (name_or_fault 255 m p)
   where
-    look : NameOrFault 255 m p → ((ls : List (List ℕ)) × (e : ℕ) × NameAt m p ls e) ⊎ ((ls : List (List ℕ)) (e : ℕ) → NameAt m p ls e → ⊥)
+    look : NameOrFault 255 m p → ((ls : List (List ℕ)) × (e : ℕ) × WholeNameAt m p ls e) ⊎ ((ls : List (List ℕ)) (e : ℕ) → WholeNameAt m p ls e → ⊥)
     look (inl (ls, named)) = let skips = names_skips named in inl (ls, skips.0, record { labels = named; encoding = (skips.1.passed, skips.1.stop, skips.1.front) })
     look (inr (why, fault)) = inr (λ ls e at. names_or_fault at.labels fault)
 
@@ -135,22 +127,22 @@ name_decided m p = look (name_or_fault 255 m p)
 pub question_decided : (m : List ℕ) (p : ℕ) → ((it : QuestionFields) × (e : ℕ) × QuestionAt m p it e) ⊎ ((it : QuestionFields) (e : ℕ) → QuestionAt m p it e → ⊥)
 question_decided m p = look (name_decided m p)
   where
-    sized : (ls : List (List ℕ)) (q : ℕ) → NameAt m p ls q → (length m < q + 4) ⊎ (q + 4 ≤ length m) → ((it : QuestionFields) × (e : ℕ) × QuestionAt m p it e) ⊎ ((it : QuestionFields) (e : ℕ) → QuestionAt m p it e → ⊥)
+    sized : (ls : List (List ℕ)) (q : ℕ) → WholeNameAt m p ls q → (length m < q + 4) ⊎ (q + 4 ≤ length m) → ((it : QuestionFields) × (e : ℕ) × QuestionAt m p it e) ⊎ ((it : QuestionFields) (e : ℕ) → QuestionAt m p it e → ⊥)
     sized ls q at (inl short) = inr (λ it e question. let same = (name_once at question.name).1 in omega (arith, same, short, question.inside))
     sized ls q at (inr inside) = inl (record { name = ls; rtype = number16 m q; class = number16 m (q + 2) }, q + 4, record { name_end = q; name = at; rtype = refl; class = refl; inside = inside; end = refl })
 
-    look : ((ls : List (List ℕ)) × (e : ℕ) × NameAt m p ls e) ⊎ ((ls : List (List ℕ)) (e : ℕ) → NameAt m p ls e → ⊥) → ((it : QuestionFields) × (e : ℕ) × QuestionAt m p it e) ⊎ ((it : QuestionFields) (e : ℕ) → QuestionAt m p it e → ⊥)
+    look : ((ls : List (List ℕ)) × (e : ℕ) × WholeNameAt m p ls e) ⊎ ((ls : List (List ℕ)) (e : ℕ) → WholeNameAt m p ls e → ⊥) → ((it : QuestionFields) × (e : ℕ) × QuestionAt m p it e) ⊎ ((it : QuestionFields) (e : ℕ) → QuestionAt m p it e → ⊥)
     look (inl (ls, q, at)) = sized ls q at (cases_lt (length m) (q + 4))
     look (inr none) = inr (λ it e question. none it.name question.name_end question.name)
 
 header_decided : (m : List ℕ) (p : ℕ) → ((it : HeaderFields) × (e : ℕ) × RecordHeaderAt m p it e) ⊎ ((it : HeaderFields) (e : ℕ) → RecordHeaderAt m p it e → ⊥)
 header_decided m p = look (name_decided m p)
   where
-    sized : (ls : List (List ℕ)) (q : ℕ) → NameAt m p ls q → (length m < q + 10) ⊎ (q + 10 ≤ length m) → ((it : HeaderFields) × (e : ℕ) × RecordHeaderAt m p it e) ⊎ ((it : HeaderFields) (e : ℕ) → RecordHeaderAt m p it e → ⊥)
+    sized : (ls : List (List ℕ)) (q : ℕ) → WholeNameAt m p ls q → (length m < q + 10) ⊎ (q + 10 ≤ length m) → ((it : HeaderFields) × (e : ℕ) × RecordHeaderAt m p it e) ⊎ ((it : HeaderFields) (e : ℕ) → RecordHeaderAt m p it e → ⊥)
     sized ls q at (inl short) = inr (λ it e header. let same = (name_once at header.name).1 in omega (arith, same, short, header.inside))
     sized ls q at (inr inside) = inl (record { owner = ls; rtype = number16 m q; class = number16 m (q + 2); ttl = number32 m (q + 4); rdlen = number16 m (q + 8) }, q + 10, record { name_end = q; name = at; rtype = refl; class = refl; ttl = refl; rdlen = refl; inside = inside; end = refl })
 
-    look : ((ls : List (List ℕ)) × (e : ℕ) × NameAt m p ls e) ⊎ ((ls : List (List ℕ)) (e : ℕ) → NameAt m p ls e → ⊥) → ((it : HeaderFields) × (e : ℕ) × RecordHeaderAt m p it e) ⊎ ((it : HeaderFields) (e : ℕ) → RecordHeaderAt m p it e → ⊥)
+    look : ((ls : List (List ℕ)) × (e : ℕ) × WholeNameAt m p ls e) ⊎ ((ls : List (List ℕ)) (e : ℕ) → WholeNameAt m p ls e → ⊥) → ((it : HeaderFields) × (e : ℕ) × RecordHeaderAt m p it e) ⊎ ((it : HeaderFields) (e : ℕ) → RecordHeaderAt m p it e → ⊥)
     look (inl (ls, q, at)) = sized ls q at (cases_lt (length m) (q + 10))
     look (inr none) = inr (λ it e header. none it.owner header.name_end header.name)
 

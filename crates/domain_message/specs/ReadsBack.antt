@@ -11,7 +11,7 @@ use Rattle.domain_reading.specs.Grammar.Stop.{root, pointer}
 use Rattle.domain_reading.proofs.Reading.{octet_more, label_more, pointer_more, names_more}
 use Rattle.domain_header.specs.Numbers.{number16, number32}
 use Rattle.domain_message.specs.Composing.{type_and_class, QuestionOctets, RecordOctets}
-use Rattle.domain_message.specs.Entries.{NameAt, QuestionFields, QuestionAt, RecordHeaderAt, RecordAt}
+use Rattle.domain_message.specs.Entries.{WholeNameAt, QuestionFields, QuestionAt, RecordHeaderAt, RecordAt}
 
 flat_more : (fs : List (List ℕ)) (m : List ℕ) (p r : ℕ) (u : List ℕ) → Flat m p fs r → Flat (m ++ u) p fs r
 flat_more [] m p r u same = same
@@ -26,7 +26,7 @@ pub ends_more : (m : List ℕ) (p e : ℕ) (u : List ℕ) → EncodingEnds m p e
 ends_more m p e u (fs, c, front) = (fs, c, record { stop = front.stop; flat = flat_more fs m p front.stop u front.flat; ends = stop_more c m front.stop e u front.ends })
 
 -- A name that was composed is read back as an equal name, ignoring ASCII case.
-pub name_reads_back : (ls : List (List ℕ)) (b : Bool) (t s u : List ℕ) → NameOctets ls b t s → (c : List (List ℕ)) × NameAt (t ++ s ++ u) (length t) c (length t + length s) × (lowercase_labels c ≡ lowercase_labels ls)
+pub name_reads_back : (ls : List (List ℕ)) (b : Bool) (t s u : List ℕ) → NameOctets ls b t s → (c : List (List ℕ)) × WholeNameAt (t ++ s ++ u) (length t) c (length t + length s) × (lowercase_labels c ≡ lowercase_labels ls)
 name_reads_back ls b t s u done = (done.read.stands.0, record { labels = names_more u done.read.stands.1; encoding = ends_more (t ++ s) (length t) (length t + length s) u done.read.ends }, done.read.stands.2)
 
 slice_after : (a b c : List ℕ) (p e : ℕ) → p ≡ length a → e ≡ length a + length b → slice_range (a ++ (b ++ c)) p e ≡ b
@@ -44,7 +44,7 @@ pub question_reads_back : (name : List (List ℕ)) (rtype class : ℕ) (b : Bool
     → (c : List (List ℕ)) × QuestionAt (t ++ s ++ u) (length t) (record { name = c; rtype = rtype; class = class }) (length t + length s) × (lowercase_labels c ≡ lowercase_labels name)
 question_reads_back name rtype class b t s u small_type small_class done =
     let rest = type_and_class rtype class ++ u in
-    let named : (c : List (List ℕ)) × NameAt (t ++ done.named ++ rest) (length t) c (length t + length done.named) × (lowercase_labels c ≡ lowercase_labels name) = name_reads_back name b t done.named rest done.name_allowed in
+    let named : (c : List (List ℕ)) × WholeNameAt (t ++ done.named ++ rest) (length t) c (length t + length done.named) × (lowercase_labels c ≡ lowercase_labels name) = name_reads_back name b t done.named rest done.name_allowed in
     let e = length t + length done.named in
     let before = t ++ done.named in
     let sized : e ≡ length before = sym (length-append t done.named) in
@@ -76,7 +76,7 @@ record_reads_back owner rtype class ttl May b t s u small_type small_class small
     let data_and : List ℕ = done.rdata ++ u in
     let rest = r ++ (k ++ (l ++ (n ++ data_and))) in
     let before = t ++ done.named in
-    let named : (c : List (List ℕ)) × NameAt (before ++ rest) (length t) c (length t + length done.named) × (lowercase_labels c ≡ lowercase_labels owner) = name_reads_back owner b t done.named rest done.name_allowed in
+    let named : (c : List (List ℕ)) × WholeNameAt (before ++ rest) (length t) c (length t + length done.named) × (lowercase_labels c ≡ lowercase_labels owner) = name_reads_back owner b t done.named rest done.name_allowed in
     let e = length t + length done.named in
     let at1 : e ≡ length before = sym (length-append t done.named) in
     let at2 : e + 2 ≡ length (before ++ r) = omega (arith, at1, length-append before r) in

@@ -35,10 +35,10 @@ entries_left (Err e) = 0
 
 -- A call at p, with c entries left, returned the entry there, or the error that it is missing, or nothing: after the last
 -- one, or after an error. Then the offset is q, and d are left.
-abbrev pub Takes : {V W : Type 0} → (W → V) → (List ℕ → ℕ → V → ℕ → Type 0) → (List ℕ → ℕ → ParseError → Type 0) → List ℕ → ℕ → Result ℕ ParseError → Option (Result W ParseError) → ℕ → Result ℕ ParseError → Type 0
-Takes seen At Fails m p c None q d = (entries_left c ≡ 0) × (q ≡ p) × (d ≡ c)
-Takes seen At Fails m p c (Some (Ok x)) q d = (n : ℕ) × (c ≡ Ok (n + 1)) × (d ≡ Ok n) × At m p (seen x) q
-Takes seen At Fails m p c (Some (Err e)) q d = (n : ℕ) × (c ≡ Ok (n + 1)) × (d ≡ Err e) × (q ≡ p) × Fails m p e
+abbrev pub TakesEntry : {V W : Type 0} → (W → V) → (List ℕ → ℕ → V → ℕ → Type 0) → (List ℕ → ℕ → ParseError → Type 0) → List ℕ → ℕ → Result ℕ ParseError → Option (Result W ParseError) → ℕ → Result ℕ ParseError → Type 0
+TakesEntry seen At Fails m p c None q d = (entries_left c ≡ 0) × (q ≡ p) × (d ≡ c)
+TakesEntry seen At Fails m p c (Some (Ok x)) q d = (n : ℕ) × (c ≡ Ok (n + 1)) × (d ≡ Ok n) × At m p (seen x) q
+TakesEntry seen At Fails m p c (Some (Err e)) q d = (n : ℕ) × (c ≡ Ok (n + 1)) × (d ≡ Err e) × (q ≡ p) × Fails m p e
 
 -- the octets that an iterator over questions reads
 abbrev pub questions_message : QuestionSection → List ℕ
@@ -71,12 +71,12 @@ records_section s = s.section
 -- A call of `next` returned the next question, or the error that it is missing, or nothing: none was left.
 abbrev pub GivesQuestion : {O : Type 0} {g : Ghosts O} → QuestionSection → Option (Result (Question (ParsedName O g)) ParseError) → QuestionSection → Type 0
 GivesQuestion s r t = (questions_message t ≡ questions_message s)
-    × Takes question_fields QuestionAt NoQuestion (questions_message s) (questions_offset s) (questions_left s) r (questions_offset t) (questions_left t)
+    × TakesEntry question_fields QuestionAt NoQuestion (questions_message s) (questions_offset s) (questions_left s) r (questions_offset t) (questions_left t)
 
 -- A call of `next` returned the next record, or the error that it is missing, or nothing: none was left.
 abbrev pub GivesRecord : RecordSection → Option (Result ParsedRecord ParseError) → RecordSection → Type 0
 GivesRecord s r t = (records_message t ≡ records_message s) × (records_section t ≡ records_section s)
-    × Takes record_fields RecordAt NoRecord (records_message s) (records_offset s) (records_left s) r (records_offset t) (records_left t)
+    × TakesEntry record_fields RecordAt NoRecord (records_message s) (records_offset s) (records_left s) r (records_offset t) (records_left t)
 
 -- how many records the header counts in a section
 abbrev pub counted : List ℕ → Section → ℕ

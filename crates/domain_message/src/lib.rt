@@ -2,6 +2,9 @@
 #![tactic(auto)]
 
 mod alias;
+mod answering;
+pub mod kept;
+pub mod laws;
 pub mod message;
 pub mod question;
 pub mod record;
@@ -12,6 +15,8 @@ pub mod section;
 pub use domain_header::{
     Class, Header, HeaderCounts, HeaderSection, Opcode, Rcode, ShortMessage, Ttl,
 };
+pub use kept::RecordIter;
+pub use laws::{entry_laws, reads_back_laws, section_laws};
 pub use message::Message;
 pub use question::Question;
 pub use record::{ParsedRecord, RecordHeader};

@@ -180,6 +180,18 @@ impl<'a> RecordSection<'a> {
         self.parser.pos()
     }
 
+    /// Returns a parser at the next record, and how many records are left: none after an error.
+    pub(crate) fn left(self) -> (Parser<'a>, u16)
+        ensures message { message result.0 ≡ records_message self.entry }
+        ensures offset { position result.0 ≡ records_offset self.entry }
+        ensures count { result.1 ≡ entries_left (records_left self.entry) }
+    {
+        match self.count {
+            Ok(count) => (self.parser, count),
+            Err(_) => (self.parser, 0),
+        }
+    }
+
     /// Which section it is.
     pub fn section(&self) -> Section
         ensures { result ≡ records_section self.now }

@@ -1,0 +1,6 @@
+use Rattle.domain_message.specs.AliasLaws.{chain_once}
+use Rattle.domain_message.proofs.OneList.{questions_are_one_list, records_are_one_list, first_is_kept, none_is_kept}
+use Rattle.domain_message.proofs.laws.section_laws.Goals as goal
+
+pub returns : goal.returns
+returns c = record { questions = questions_are_one_list; records = records_are_one_list; first = first_is_kept; none = none_is_kept; chain = chain_once }

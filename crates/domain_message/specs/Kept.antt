@@ -1,0 +1,107 @@
+-- The records of a section that have data of one type.
+use Rattle.std.specs.Prelude.{◌≡◌, ℕ, ◌+◌, ◌<◌, ◌&&◌, ◌⊎◌, Bool, true, false, if◌then◌else◌, nat_eq, List, [], ◌∷◌, length, Option, Some, None, Result, Ok, Err}
+use Rattle.octseq.specs.declared.octets.Octets.{Ghosts}
+use Rattle.octseq.specs.declared.parse.Parser.{Parser}
+use Rattle.octseq.specs.Parsing.{message, position}
+use Rattle.domain_wire.specs.declared.error.ParseError.{ParseError}
+use Rattle.domain_parsed.specs.declared.parsed.ParsedName.{ParsedName}
+use Rattle.domain_parsed.specs.ParsedNames.{parsed_labels}
+use Rattle.domain_header.specs.Values.{class_number, ttl_seconds}
+use Rattle.domain_message.specs.Entries.{HeaderFields, RecordFields, RecordAt, NoRecord}
+use Rattle.domain_message.specs.RecordParts.{owner_of, class_of, ttl_of, data_of}
+use Rattle.domain_message.specs.Sections.{Run}
+use Rattle.domain_message.specs.declared.resource_record.Record.{Record}
+use Rattle.domain_message.specs.declared.kept.RecordIter.{RecordIter}
+
+-- Whether the class of a record is asked for: IN, or any.
+abbrev pub has_class : Bool → RecordFields → Bool
+has_class only_in it = if only_in then nat_eq it.header.class 1 else true
+
+-- Whether a record is kept: its class is asked for, and its type has such data.
+abbrev pub keeps : (ℕ → Bool) → Bool → RecordFields → Bool
+keeps reads_type only_in it = has_class only_in it && reads_type it.header.rtype
+
+-- None of these records is kept.
+abbrev pub AreOthers : (RecordFields → Bool) → List RecordFields → Type 0
+AreOthers keep [] = Unit {0}
+AreOthers keep (x ∷ xs) = (keep x ≡ false) × AreOthers keep xs
+
+-- The data of a record is this value, as its type reads it.
+abbrev pub HasData : {V : Type 0} → (ℕ → List ℕ → ℕ → V → ℕ → Type 0) → RecordFields → V → Type 0
+HasData Encodes it value = (e : ℕ) × Encodes it.header.rtype it.octets it.start value e
+
+-- The record has the owner's name, class and TTL of a record of a message, and its data.
+pub record IsMadeOf {O D V : Type 0} {g : Ghosts O} (seen : D → V) (Encodes : ℕ → List ℕ → ℕ → V → ℕ → Type 0) (it : RecordFields) (made : Record (ParsedName O g) D) : Type 0 where
+  pub owner : parsed_labels (owner_of made) ≡ it.header.owner
+  pub class : class_number (class_of made) ≡ it.header.class
+  pub ttl : ttl_seconds (ttl_of made) ≡ it.header.ttl
+  pub data_is : HasData Encodes it (seen (data_of made))
+
+-- The data of a record has an error, as its type reads it, that is returned as e.
+abbrev pub HasDataError : {E : Type 0} → (ParseError → E → Type 0) → (ℕ → List ℕ → ℕ → ParseError → Type 0) → RecordFields → E → Type 0
+HasDataError Becomes Fails it e = (why : ParseError) × Fails it.header.rtype it.octets it.start why × Becomes why e
+
+-- The first record from p on that is kept, of n that are left, is `it`: others are before it, k are left after it, and
+-- it ends before q.
+pub record FirstKept (keep : RecordFields → Bool) (m : List ℕ) (p n : ℕ) (it : RecordFields) (q k : ℕ) : Type 0 where
+  pub before : List RecordFields
+  pub others : AreOthers keep before
+  pub offset : ℕ
+  pub run : Run RecordAt m p before offset
+  pub at : RecordAt m offset it q
+  pub kept : keep it ≡ true
+  pub count : n ≡ length before + 1 + k
+
+-- All n records that are left from p on are there, and none is kept.
+pub record NoneKept (keep : RecordFields → Bool) (m : List ℕ) (p n : ℕ) : Type 0 where
+  pub before : List RecordFields
+  pub others : AreOthers keep before
+  pub offset : ℕ
+  pub run : Run RecordAt m p before offset
+  pub count : n ≡ length before
+
+-- A record is missing of the n that are left from p on, and why, and none before it is kept.
+pub record MissesKept (keep : RecordFields → Bool) (m : List ℕ) (p n : ℕ) (why : ParseError) : Type 0 where
+  pub before : List RecordFields
+  pub others : AreOthers keep before
+  pub offset : ℕ
+  pub run : Run RecordAt m p before offset
+  pub few : length before < n
+  pub missing : NoRecord m offset why
+
+-- The data of a record has an error, and none of n records that are left from p on is kept before it.
+pub record BreaksKept {E : Type 0} (keep in_class : RecordFields → Bool) (Broken : RecordFields → E → Type 0) (m : List ℕ) (p n : ℕ) (e : E) : Type 0 where
+  pub before : List RecordFields
+  pub others : AreOthers keep before
+  pub offset : ℕ
+  pub run : Run RecordAt m p before offset
+  pub few : length before < n
+  pub it : RecordFields
+  pub end : ℕ
+  pub at : RecordAt m offset it end
+  pub asked : in_class it ≡ true
+  pub broken : Broken it e
+
+-- the octets that the iterator reads
+abbrev pub kept_parser : {D E : Type 0} → RecordIter D E → Parser
+kept_parser s = s.parser
+
+-- how many records are left: none after an error
+abbrev pub kept_left : {D E : Type 0} → RecordIter D E → ℕ
+kept_left s = s.count
+
+-- whether records of other classes than IN are skipped
+abbrev pub kept_class : {D E : Type 0} → RecordIter D E → Bool
+kept_class s = s.only_in
+
+-- A call at p, with n records left, returned the first that is kept, or the error of the first that is missing or whose
+-- data can't be read, or nothing: none that is left is kept. Then the offset is q, and k are left.
+abbrev pub TakesKept : {W E : Type 0} → (keep in_class : RecordFields → Bool) → (RecordFields → W → Type 0) → (RecordFields → E → Type 0) → (ParseError → E → Type 0) → List ℕ → ℕ → ℕ → Option (Result W E) → ℕ → ℕ → Type 0
+TakesKept keep in_class Made Broken Becomes m p n None q k = NoneKept keep m p n × (k ≡ 0)
+TakesKept keep in_class Made Broken Becomes m p n (Some (Ok made)) q k = (it : RecordFields) × FirstKept keep m p n it q k × Made it made
+TakesKept keep in_class Made Broken Becomes m p n (Some (Err e)) q k = (k ≡ 0) × (((why : ParseError) × MissesKept keep m p n why × Becomes why e) ⊎ BreaksKept keep in_class Broken m p n e)
+
+-- A call of `next` took the next record that is kept.
+abbrev pub GivesKept : {O D E V : Type 0} {g : Ghosts O} → (D → V) → (ℕ → Bool) → (ℕ → List ℕ → ℕ → V → ℕ → Type 0) → (ℕ → List ℕ → ℕ → ParseError → Type 0) → (ParseError → E → Type 0) → RecordIter D E → Option (Result (Record (ParsedName O g) D) E) → RecordIter D E → Type 0
+GivesKept {g = g} seen reads_type Encodes Fails Becomes s r t = (message (kept_parser t) ≡ message (kept_parser s)) × (kept_class t ≡ kept_class s)
+    × TakesKept (keeps reads_type (kept_class s)) (has_class (kept_class s)) (IsMadeOf {g = g} seen Encodes) (HasDataError Becomes Fails) Becomes (message (kept_parser s)) (position (kept_parser s)) (kept_left s) r (position (kept_parser t)) (kept_left t)

@@ -1,0 +1,70 @@
+//! Which messages answer a query.
+ghost use Rattle.std.specs.Prelude.{◌≡◌, ◌≤◌, ◌↔◌, length, IsTrue, false};
+ghost use Rattle.octseq.specs.Parsing.{message, position, MovesTo};
+ghost use Rattle.domain_message.specs.Answering.{IsAnswerTo, SameQuestions, SameNext, OtherNext};
+ghost use Rattle.domain_message.specs.Messages.{message_octets};
+
+use crate::message::Message;
+use crate::question::Question;
+use domain_wire::parse::Parse;
+use octseq::{Octets, Parser};
+
+/// Reads a question at each parser's position, and moves both parsers past them if the questions are equal.
+fn next_is_same<'a>(ours: &mut Parser<'a>, theirs: &mut Parser<'a>) -> bool
+    ensures same { IsTrue result → SameNext (message ours.old) (position ours.old) (position ours.new) (message theirs.old) (position theirs.old) (position theirs.new) }
+    ensures other { result ≡ false → OtherNext (message ours.old) (position ours.old) (message theirs.old) (position theirs.old) }
+    ensures ours { IsTrue result → MovesTo ours.old ours.new (position ours.new) }
+    ensures theirs { IsTrue result → MovesTo theirs.old theirs.new (position theirs.new) }
+{
+    let our = match Question::parse(ours) {
+        Ok(question) => question,
+        Err(_) => return false,
+    };
+    let their = match Question::parse(theirs) {
+        Ok(question) => question,
+        Err(_) => return false,
+    };
+    our == their
+}
+
+/// Whether the questions of two messages are there, this many in each, and each equals the one in its offset.
+fn same_questions<'a>(ours: &'a [u8], theirs: &'a [u8], count: u16) -> bool
+    requires ours { 12 ≤ length ours.now }
+    requires theirs { 12 ≤ length theirs.now }
+    ensures { IsTrue result ↔ SameQuestions ours.now 12 theirs.now 12 count }
+{
+    let mut our = Parser::from_ref(ours);
+    let Ok(()) = our.seek(12) else {
+        unreachable!();
+    };
+    let mut their = Parser::from_ref(theirs);
+    let Ok(()) = their.seek(12) else {
+        unreachable!();
+    };
+    for _question in 0..count {
+        if !next_is_same(&mut our, &mut their) {
+            return false;
+        }
+    }
+    true
+}
+
+impl<Octs: Octets> Message<Octs> {
+    /// Whether this message answers the query: it is a response with the query's identifier, and has the query's
+    /// questions, in their order and with their names ignoring ASCII case.
+    ///
+    /// A message with a question missing answers none, and none answers it.
+    pub fn is_answer<Other: Octets>(&self, query: &Message<Other>) -> bool
+        ensures { IsTrue result ↔ IsAnswerTo (message_octets self.now) (message_octets query.now) }
+    {
+        let header = self.header();
+        if !header.qr() || header.id() != query.header().id() {
+            return false;
+        }
+        let count = self.header_counts().qdcount();
+        if count != query.header_counts().qdcount() {
+            return false;
+        }
+        same_questions(self.as_slice(), query.as_slice(), count)
+    }
+}
