@@ -1,0 +1,2 @@
+pub mod AllData
+pub mod AllTypes
