@@ -46,3 +46,22 @@ pub use Rattle.domain_tool.specs.Engines
 pub use Rattle.domain_tool.specs.Lines
 pub use Rattle.domain_tool.specs.Words
 pub use Rattle.domain_tool.specs.WireText
+pub use Rattle.domain_header.specs.Headers
+pub use Rattle.domain_header.specs.Numbered
+pub use Rattle.domain_header.specs.Tables
+pub use Rattle.domain_message.specs.Entries
+pub use Rattle.domain_message.specs.Sections
+pub use Rattle.domain_message.specs.Runs
+pub use Rattle.domain_message.specs.Aliases
+pub use Rattle.domain_message.specs.Answering
+pub use Rattle.domain_message.specs.Kept
+pub use Rattle.domain_fields.specs.Data as FieldData
+pub use Rattle.domain_fields.specs.Names as FieldNames
+pub use Rattle.domain_fields.specs.Sequences
+pub use Rattle.domain_data.specs.Shapes
+pub use Rattle.domain_data.specs.Views as DataViews
+pub use Rattle.domain_txt.specs.Strings
+pub use Rattle.domain_txt.specs.Txts
+pub use Rattle.domain_all_data.specs.AllData
+pub use Rattle.domain_all_data.specs.AllTypes
+pub use Rattle.domain_parsed.specs.Parses

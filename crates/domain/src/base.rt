@@ -89,3 +89,35 @@ pub mod rdata {
         RecordData, Rtype, UnknownRecordData,
     };
 }
+
+/// What a message begins with: identifier, flags and counts (RFC 1035, 4.1.1).
+pub mod header {
+    pub use domain_header::{Header, HeaderCounts, HeaderSection};
+}
+
+/// Messages and their sections (RFC 1035, 4.1). docs/domain_message.md tells how to read one.
+pub mod message {
+    pub use domain_header::ShortMessage;
+    pub use domain_message::{
+        Message, QuestionSection, RecordIter, RecordSection, Section, entry_laws, reads_back_laws,
+        section_laws,
+    };
+}
+
+/// Questions (RFC 1035, 4.1.2).
+pub mod question {
+    pub use domain_message::Question;
+}
+
+/// Records (RFC 1035, 4.1.3).
+pub mod record {
+    pub use domain_header::Ttl;
+    pub use domain_message::{ParsedRecord, Record, RecordHeader};
+}
+
+/// Numbers that have mnemonics.
+pub mod iana {
+    pub use domain_header::{Class, Opcode, Rcode};
+    pub use domain_message::{RtypeText, rtype_from_mnemonic, rtype_from_text, rtype_mnemonic};
+    pub use domain_rdata::Rtype;
+}

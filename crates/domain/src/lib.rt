@@ -2,5 +2,6 @@
 #![tactic(auto)]
 
 pub mod base;
+pub mod rdata;
 
 pub use domain_tool::{section, tool};
