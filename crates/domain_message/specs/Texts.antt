@@ -13,6 +13,10 @@ spaced a b = a ++ (32 ∷ b)
 abbrev pub question_text : List (List ℕ) → ℕ → ℕ → List ℕ
 question_text name class rtype = spaced (text_with_final_dot name) (spaced (class_text class) (rtype_text rtype))
 
--- the owner's name, TTL, class and type, and a space before the data
+-- the owner's name, TTL, class and type, and the text of the data
+abbrev pub record_text : List (List ℕ) → ℕ → ℕ → ℕ → List ℕ → List ℕ
+record_text owner ttl class rtype text = spaced (text_with_final_dot owner) (spaced (decimal ttl) (spaced (class_text class) (spaced (rtype_text rtype) text)))
+
+-- the same up to the space before the data
 abbrev pub text_before_data : List (List ℕ) → ℕ → ℕ → ℕ → List ℕ
-text_before_data owner ttl class rtype = spaced (text_with_final_dot owner) (spaced (decimal ttl) (spaced (class_text class) (spaced (rtype_text rtype) [])))
+text_before_data owner ttl class rtype = record_text owner ttl class rtype []

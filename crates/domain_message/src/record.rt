@@ -9,7 +9,7 @@ ghost use Rattle.domain_rdata.specs.Rtypes.{rtype_number};
 ghost use Rattle.domain_message.specs.Entries.{HeaderFields, RecordHeaderAt, NoRecordHeader, RecordFields, RecordAt, NoRecord};
 ghost use Rattle.domain_message.specs.HeaderLaws.{header_is_equivalence};
 ghost use Rattle.domain_message.specs.Readings.{record_header_reading, record_reading};
-ghost use Rattle.domain_message.specs.Texts.{text_before_data};
+ghost use Rattle.domain_message.specs.Texts.{record_text};
 ghost use Rattle.domain_header.specs.Values.{class_number, ttl_seconds};
 
 use crate::rtype_text::RtypeText;
@@ -207,7 +207,7 @@ impl<'a> PartialEq for ParsedRecord<'a> {
 impl<'a> fmt::Display for ParsedRecord<'a> {
     ghost use Rattle.domain_message.specs.RecordModel.{record_fields, parsed_data};
 
-    ghost output = { λ it. Some (text_before_data (record_fields it).header.owner (record_fields it).header.ttl (record_fields it).header.class (record_fields it).header.rtype ++ unknown_text (parsed_data it)) };
+    ghost output = { λ it. Some (record_text (record_fields it).header.owner (record_fields it).header.ttl (record_fields it).header.class (record_fields it).header.rtype (unknown_text (parsed_data it))) };
 
     fn fmt<W: fmt::Write>(&self, f: &mut fmt::Formatter<W>) -> fmt::Result {
         let header = &self.header;
