@@ -1,5 +1,6 @@
-//! Follows the name at an offset of a message: `dnswalk OFFSET` reads the message from standard input and prints one
-//! line for each label and pointer that reading comes to, and a last line with the name or why there is none.
+//! Shows what a message from standard input says: `dnswalk OFFSET` prints a line for each label and pointer that reading
+//! the name at the offset comes to, and a last line with the name or why there is none; `dnswalk message` prints the
+//! header, and a line for each question and record.
 #![tactic(auto)]
 
 use domain_tool::words::arguments;

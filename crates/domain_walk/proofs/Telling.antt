@@ -68,7 +68,7 @@ of_input P (Some m) e same x = subst P (same ∙ e) x
 pub writes_followed : {m lines : List ℕ} {p count : ℕ} (last : List ℕ) (old mid new : Option (List ℕ)) (found : Bool) → (count ≤ 383) → FollowedThrough m p lines count → Appends old mid lines → IsLastLine m p found count last → Appends mid new (last ++ 10 ∷ []) → WritesFollowed m p found old new
 writes_followed {lines = lines} {count = count} last old mid new found few x a ends b = record { lines = lines; last = last; count = count; few = few; followed = x; ends = ends; appends = Appends-trans old mid new _ _ a b }
 
-appends_kept : (a b c : Option (List ℕ)) (bs : List ℕ) → Appends a b bs → Keeps b c → Appends a c bs
+pub appends_kept : (a b c : Option (List ℕ)) (bs : List ℕ) → Appends a b bs → Keeps b c → Appends a c bs
 appends_kept None b c bs p q = tt
 appends_kept (Some x) None c bs p q = absurd p
 appends_kept (Some x) (Some y) None bs p q = absurd q

@@ -7,7 +7,6 @@ use Rattle.domain_label.specs.Text.{text_with_final_dot}
 use Rattle.domain_reading.specs.Grammar.{Names}
 use Rattle.domain_reading.specs.Faults.{NameFaultAt, error_of}
 use Rattle.domain_reading.specs.declared.fault.NameFault.{NameFault}
-use Rattle.domain_tool.specs.Numerals.{IsOffsetWord}
 use Rattle.domain_walk.specs.Following.{FollowedThrough}
 pub use Rattle.domain_walk.specs.Lines.{count_text}
 
@@ -27,11 +26,3 @@ pub record WritesFollowed (m : List ℕ) (p : ℕ) (found : Bool) (old new : Opt
   pub followed : FollowedThrough m p lines count
   pub ends : IsLastLine m p found count last
   pub appends : Appends old new (lines ++ (last ++ 10 ∷ []))
-
--- The one word is this offset in decimal digits.
-abbrev pub AsksOffset : List (List ℕ) → ℕ → Type 0
-AsksOffset words offset = (word : List ℕ) × (words ≡ word ∷ []) × IsOffsetWord word offset
-
--- The one word is an offset in decimal digits.
-abbrev pub AsksForOffset : List (List ℕ) → Type 0
-AsksForOffset words = (offset : ℕ) × AsksOffset words offset

@@ -2,9 +2,13 @@
 ghost use Rattle.std.specs.Prelude.{◌≡◌, ◌≤◌, ◌∷◌, ◌++◌, ◌↔◌, ◌⊎◌, [], map, true, false, ℕ, Some, IfOk, IfErr, IfSome, IsNone, OnOk, OnErr};
 ghost use Rattle.std.specs.Io.KnownBytes.{IsAtEnd};
 ghost use Rattle.domain_tool.specs.declared.tool.ToolError.{ToolError};
-ghost use Rattle.domain_walk.specs.Engines.{AsksOffset, AsksForOffset, WritesFollowed};
+ghost use Rattle.domain_walk.specs.Asked.{AsksTo, AsksForSomething, WordAsks, WritesAsked};
+ghost use Rattle.domain_walk.specs.Engines.{WritesFollowed};
+ghost use Rattle.domain_walk.specs.Messages.{WritesShown};
+ghost use Rattle.domain_walk.specs.declared.engine.Asked.{Asked};
 
 use crate::follow::write_lines;
+pub use crate::message::show_message;
 use domain_list::dotted::DisplayWithDot;
 use domain_parsed::ParsedName;
 use domain_tool::offset_of_word;
@@ -79,11 +83,20 @@ pub fn follow_name<R: Read, W: Write>(
     }
 }
 
-const USAGE: &str = "usage: dnswalk OFFSET";
+const USAGE: &str = "usage: dnswalk OFFSET | dnswalk message";
+
+/// What the words ask for.
+#[derive(Clone, Copy)]
+enum Asked {
+    /// The name at an offset.
+    Name(u32),
+    /// The message.
+    Message,
+}
 
 /// Carries out the words that follow the program's name, and flushes the output. The answer is the status to end with:
-/// 0 where there is a name, 1 where there is none, 2 for words that aren't one offset, 3 where reading, writing or
-/// memory failed, with the reason on `errors`.
+/// 0 where the name or message was written, 1 where there is none, 2 for other words than one offset or `message`, 3 where
+/// reading, writing or memory failed. Why a name can't be read is on `output`; the other reasons are on `errors`.
 pub fn run<R: Read, W: Write, E: Write>(
     alloc: Global,
     words: &[&str],
@@ -92,22 +105,39 @@ pub fn run<R: Read, W: Write, E: Write>(
     errors: &mut E,
 ) -> u8
     ensures status { result ≤ 3 }
-    ensures name { result ≡ 0 → (offset : ℕ) × AsksOffset (map (λ word. word.now) words.now) offset × IfSome (R.remaining input.old) (λ m. WritesFollowed m offset true (W.contents output.old) (W.contents output.new)) }
-    ensures no_name { result ≡ 1 → (offset : ℕ) × AsksOffset (map (λ word. word.now) words.now) offset × IfSome (R.remaining input.old) (λ m. WritesFollowed m offset false (W.contents output.old) (W.contents output.new)) }
-    ensures usage { result ≡ 2 ↔ (AsksForOffset (map (λ word. word.now) words.now) → ⊥) }
+    ensures done { result ≡ 0 → (asked : Asked) × AsksTo (map (λ word. word.now) words.now) asked × IfSome (R.remaining input.old) (λ m. WritesAsked asked m true (W.contents output.old) (W.contents output.new)) }
+    ensures none { result ≡ 1 → (asked : Asked) × AsksTo (map (λ word. word.now) words.now) asked × IfSome (R.remaining input.old) (λ m. WritesAsked asked m false (W.contents output.old) (W.contents output.new)) }
+    ensures usage { result ≡ 2 ↔ (AsksForSomething (map (λ word. word.now) words.now) → ⊥) }
     ensures untouched { result ≡ 2 → (input.new ≡ input.old) × (output.new ≡ output.old) }
 {
-    let Some(offset) = asked_offset(words) else {
+    let Some(asked) = asked_for(words) else {
         let _ = write_line(errors, USAGE);
         return 2;
     };
-    match follow(alloc, input, output, offset) {
+    match carry_out(alloc, asked, input, output, errors) {
         Ok(true) => 0,
         Ok(false) => 1,
         Err(e) => {
             let _ = write_line(errors, e);
             3
         }
+    }
+}
+
+/// Does what is asked for, and flushes the output. Returns whether there is such a name or message; why a message can't be
+/// shown to its end is written to `errors`.
+fn carry_out<R: Read, W: Write, E: Write>(
+    alloc: Global,
+    asked: Asked,
+    input: &mut R,
+    output: &mut W,
+    errors: &mut E,
+) -> Result<bool, ToolError>
+    ensures { IfOk result (λ found. IfSome (R.remaining input.old) (λ m. WritesAsked asked m found (W.contents output.old) (W.contents output.new))) }
+{
+    match asked {
+        Asked::Name(offset) => follow(alloc, input, output, offset),
+        Asked::Message => show(alloc, input, output, errors),
     }
 }
 
@@ -127,13 +157,52 @@ fn follow<R: Read, W: Write>(
     }
 }
 
-/// The offset that the words ask for: one to ten decimal digits, at most 4,294,967,295.
-fn asked_offset(words: &[&str]) -> Option<u32>
-    ensures some { IfSome result (λ offset. AsksOffset (map (λ word. word.now) words.now) offset) }
-    ensures none { IsNone result → AsksForOffset (map (λ word. word.now) words.now) → ⊥ }
+/// Shows the message, and flushes the output. Returns whether it was shown to its end; if not, why is written to `errors`.
+fn show<R: Read, W: Write, E: Write>(
+    alloc: Global,
+    input: &mut R,
+    output: &mut W,
+    errors: &mut E,
+) -> Result<bool, ToolError>
+    ensures written { IfOk result (λ whole. IfSome (R.remaining input.old) (λ m. WritesShown m whole (W.contents output.old) (W.contents output.new))) }
+{
+    match show_message(alloc, input, output) {
+        Ok(()) => match output.flush() {
+            Ok(()) => Ok(true),
+            Err(_) => Err(ToolError::Write),
+        },
+        Err(ToolError::Parse(why)) => match output.flush() {
+            Ok(()) => {
+                let _ = write_line(errors, why);
+                Ok(false)
+            }
+            Err(_) => Err(ToolError::Write),
+        },
+        Err(e) => Err(e),
+    }
+}
+
+/// What the words ask for: one to ten decimal digits, at most 4,294,967,295, or `message`.
+fn asked_for(words: &[&str]) -> Option<Asked>
+    ensures some { IfSome result (λ asked. AsksTo (map (λ word. word.now) words.now) asked) }
+    ensures none { IsNone result → AsksForSomething (map (λ word. word.now) words.now) → ⊥ }
 {
     match words {
-        [word] => offset_of_word(word),
+        [word] => asked_by(word),
         _ => None,
+    }
+}
+
+/// What one word asks for.
+fn asked_by(word: &str) -> Option<Asked>
+    ensures some { IfSome result (λ asked. WordAsks word.now asked) }
+    ensures none { IsNone result → (asked : Asked) → WordAsks word.now asked → ⊥ }
+{
+    if word == "message" {
+        return Some(Asked::Message);
+    }
+    match offset_of_word(word) {
+        Some(offset) => Some(Asked::Name(offset)),
+        None => None,
     }
 }

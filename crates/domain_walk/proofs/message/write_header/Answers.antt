@@ -1,0 +1,9 @@
+use Rattle.std.proofs.Common.{◌∙◌}
+use Rattle.domain_walk.proofs.Showing.{wrote_header}
+use Rattle.domain_walk.proofs.message.write_header.Goals as goal
+
+pub returns-clause-written : goal.returns-clause-written
+returns-clause-written g c =
+    let header = c.for_message_slice-header.ensures in
+    let counts = c.for_message_slice-counts.ensures in
+    wrote_header c.args.message.now _ _ _ _ _ _ _ (g.W.Write.contents c.args.output.now) _ _ _ header.id header.high header.low counts.qdcount counts.ancount counts.nscount counts.arcount c.in_ok-write_line.ensures c.in_ok-write_line-2.ensures c.in_ok-write_line-3.ensures

@@ -1,0 +1,145 @@
+-- What the program writes of a message.
+use Rattle.std.specs.Prelude.{◌≡◌, ℕ, ◌<◌, ◌≤◌, ◌⊎◌, Bool, true, false, cond, nat_eq, List, [], ◌∷◌, ◌++◌, length, slice_index, codes, Option}
+use Rattle.std.specs.Fmt.{decimal}
+use Rattle.std.specs.Io.KnownBytes.{Appends}
+use Rattle.domain_wire.specs.declared.error.ParseError.{ParseError}
+use Rattle.domain_wire.specs.declared.error.ParseError.TheVariants.{ShortInput}
+use Rattle.domain_header.specs.Bits.{bits, bit}
+use Rattle.domain_header.specs.Numbers.{number16}
+use Rattle.domain_header.specs.Tables.{opcode_text, rcode_text}
+use Rattle.domain_message.specs.Entries.{QuestionFields, QuestionAt, NoQuestion, RecordFields, RecordAt, NoRecord}
+use Rattle.domain_message.specs.Sections.{Run, counted}
+use Rattle.domain_message.specs.Texts.{question_text, text_before_data}
+use Rattle.domain_message.specs.declared.section.Section.{Section}
+use Rattle.domain_message.specs.declared.section.Section.TheVariants.{Answer, Authority, Additional}
+use Rattle.domain_all_data.specs.AllData.{AllFields, AllDataAt, NoAllData, fields_text}
+
+-- the word, where the flag is set
+abbrev pub flag_text : ℕ → List ℕ → List ℕ
+flag_text set word = cond (nat_eq set 1) word []
+
+-- The flags that are set, of the third and fourth octet of a header (RFC 1035, 4.1.1; AD and CD RFC 2535, 6.1).
+abbrev pub flags_text : ℕ → ℕ → List ℕ
+flags_text high low =
+    flag_text (bit 128 high) (codes " qr") ++ (flag_text (bit 4 high) (codes " aa") ++ (flag_text (bit 2 high) (codes " tc") ++ (flag_text (bit 1 high) (codes " rd")
+    ++ (flag_text (bit 128 low) (codes " ra") ++ (flag_text (bit 32 low) (codes " ad") ++ flag_text (bit 16 low) (codes " cd"))))))
+
+-- what kind of message it is, its response code and its identifier
+abbrev pub codes_line : ℕ → ℕ → ℕ → List ℕ
+codes_line id high low = codes ";; opcode: " ++ (opcode_text (bits 8 16 high) ++ (codes ", status: " ++ (rcode_text (bits 1 16 low) ++ (codes ", id: " ++ decimal id))))
+
+-- the flags, and how many entries each section has
+abbrev pub counts_line : (high low questions answers authority additional : ℕ) → List ℕ
+counts_line high low questions answers authority additional = codes ";; flags:" ++ (flags_text high low ++ (codes "; QUESTION: " ++ (decimal questions ++ (codes ", ANSWER: " ++ (decimal answers ++ (codes ", AUTHORITY: " ++ (decimal authority ++ (codes ", ADDITIONAL: " ++ decimal additional))))))))
+
+-- The two lines of the header.
+abbrev pub header_lines : List ℕ → List ℕ
+header_lines m = (codes_line (number16 m 0) (slice_index m 2) (slice_index m 3) ++ 10 ∷ [])
+    ++ (counts_line (slice_index m 2) (slice_index m 3) (number16 m 4) (number16 m 6) (number16 m 8) (number16 m 10) ++ 10 ∷ [])
+
+-- the line above the questions
+abbrev pub questions_heading : List ℕ
+questions_heading = codes ";; QUESTION SECTION" ++ 10 ∷ []
+
+-- the line above the records of a section
+abbrev pub section_heading : Section → List ℕ
+section_heading Answer = codes ";; ANSWER SECTION"
+section_heading Authority = codes ";; AUTHORITY SECTION"
+section_heading Additional = codes ";; ADDITIONAL SECTION"
+
+-- The line of a question: name, class and type.
+abbrev pub IsQuestionLine : QuestionFields → List ℕ → Type 0
+IsQuestionLine it line = line ≡ question_text it.name it.class it.rtype
+
+-- The line of a record: the owner's name, TTL, class and type, and the data as its type has it.
+pub record IsRecordLine (it : RecordFields) (line : List ℕ) : Type 0 where
+  pub fields : AllFields
+  pub end : ℕ
+  pub data_is : AllDataAt it.header.rtype it.octets it.start fields end
+  pub is : line ≡ text_before_data it.header.owner it.header.ttl it.header.class it.header.rtype ++ fields_text fields
+
+-- The data of a record can't be read, and why.
+abbrev pub HasNoLine : RecordFields → ParseError → Type 0
+HasNoLine it why = NoAllData it.header.rtype it.octets it.start why
+
+-- The text has a line for each entry, in their order.
+abbrev pub AreLinesOf : {V : Type 0} → (V → List ℕ → Type 0) → List V → List ℕ → Type 0
+AreLinesOf Line [] text = text ≡ []
+AreLinesOf Line (x ∷ xs) text = (line : List ℕ) × (rest : List ℕ) × Line x line × AreLinesOf Line xs rest × (text ≡ line ++ (10 ∷ rest))
+
+-- All n entries are at p and end before e, and the text has a line for each.
+pub record ShowsAll {V : Type 0} (At : List ℕ → ℕ → V → ℕ → Type 0) (Line : V → List ℕ → Type 0) (m : List ℕ) (p n e : ℕ) (text : List ℕ) : Type 0 where
+  pub entries : List V
+  pub many : length entries ≡ n
+  pub run : Run At m p entries e
+  pub lines : AreLinesOf Line entries text
+
+-- Fewer than n entries can be shown: the text has a line for each, and the next is missing, or has no line, and why.
+pub record ShowsSome {V : Type 0} (At : List ℕ → ℕ → V → ℕ → Type 0) (Fails : List ℕ → ℕ → ParseError → Type 0) (Line : V → List ℕ → Type 0) (NoLine : V → ParseError → Type 0) (m : List ℕ) (p n : ℕ) (text : List ℕ) (why : ParseError) : Type 0 where
+  pub entries : List V
+  pub few : length entries < n
+  pub offset : ℕ
+  pub run : Run At m p entries offset
+  pub lines : AreLinesOf Line entries text
+  pub next : Fails m offset why ⊎ ((x : V) × (e : ℕ) × At m offset x e × NoLine x why)
+
+-- All n entries were written, a line for each.
+abbrev pub WritesAll : {V : Type 0} → (List ℕ → ℕ → V → ℕ → Type 0) → (V → List ℕ → Type 0) → List ℕ → ℕ → ℕ → ℕ → Option (List ℕ) → Option (List ℕ) → Type 0
+WritesAll At Line m p n e old new = (text : List ℕ) × ShowsAll At Line m p n e text × Appends old new text
+
+-- Some of n entries were written, a line for each, and the next can't be, and why.
+abbrev pub WritesSome : {V : Type 0} → (List ℕ → ℕ → V → ℕ → Type 0) → (List ℕ → ℕ → ParseError → Type 0) → (V → List ℕ → Type 0) → (V → ParseError → Type 0) → List ℕ → ℕ → ℕ → Option (List ℕ) → Option (List ℕ) → ParseError → Type 0
+WritesSome At Fails Line NoLine m p n old new why = (text : List ℕ) × ShowsSome At Fails Line NoLine m p n text why × Appends old new text
+
+-- A question has a line always.
+abbrev pub NeverFails : QuestionFields → ParseError → Type 0
+NeverFails it why = ⊥
+
+-- The header and all questions are shown, and the questions end before e.
+abbrev pub ShowsQuestions : List ℕ → ℕ → List ℕ → Type 0
+ShowsQuestions m e text = (lines : List ℕ) × (12 ≤ length m) × ShowsAll QuestionAt IsQuestionLine m 12 (number16 m 4) e lines × (text ≡ header_lines m ++ questions_heading ++ lines)
+
+-- The header and some questions are shown, and the next is missing, and why.
+abbrev pub StopsAtQuestion : List ℕ → List ℕ → ParseError → Type 0
+StopsAtQuestion m text why = (lines : List ℕ) × (12 ≤ length m) × ShowsSome QuestionAt NoQuestion IsQuestionLine NeverFails m 12 (number16 m 4) lines why × (text ≡ header_lines m ++ questions_heading ++ lines)
+
+-- The records of a section at p, as many as the header counts, are shown under its heading, and end before e.
+abbrev pub ShowsSection : List ℕ → Section → ℕ → ℕ → List ℕ → Type 0
+ShowsSection m s p e text = (lines : List ℕ) × ShowsAll RecordAt IsRecordLine m p (counted m s) e lines × (text ≡ (section_heading s ++ 10 ∷ []) ++ lines)
+
+-- Some records of a section at p are shown under its heading; the next is missing, or its data can't be read, and why.
+abbrev pub StopsInSection : List ℕ → Section → ℕ → List ℕ → ParseError → Type 0
+StopsInSection m s p text why = (lines : List ℕ) × ShowsSome RecordAt NoRecord IsRecordLine HasNoLine m p (counted m s) lines why × (text ≡ (section_heading s ++ 10 ∷ []) ++ lines)
+
+-- All up to the end of the answers is shown.
+abbrev pub ShowsAnswers : List ℕ → ℕ → List ℕ → Type 0
+ShowsAnswers m e text = (p : ℕ) × (before : List ℕ) × (here : List ℕ) × ShowsQuestions m p before × ShowsSection m Answer p e here × (text ≡ before ++ here)
+
+-- All up to the end of the authority section is shown.
+abbrev pub ShowsAuthority : List ℕ → ℕ → List ℕ → Type 0
+ShowsAuthority m e text = (p : ℕ) × (before : List ℕ) × (here : List ℕ) × ShowsAnswers m p before × ShowsSection m Authority p e here × (text ≡ before ++ here)
+
+-- The text shows the message: the header, the questions, and the records of each section.
+abbrev pub IsShown : List ℕ → List ℕ → Type 0
+IsShown m text = (e : ℕ) × (p : ℕ) × (before : List ℕ) × (here : List ℕ) × ShowsAuthority m p before × ShowsSection m Additional p e here × (text ≡ before ++ here)
+
+-- The message can't be shown to its end, and why, and the text shows all before that.
+pub data StopsShowing (m text : List ℕ) (why : ParseError) : Type 0 where
+  no_header : length m < 12 → text ≡ [] → why ≡ ShortInput → StopsShowing m text why
+  no_question : StopsAtQuestion m text why → StopsShowing m text why
+  no_answer : (p : ℕ) (before here : List ℕ) → ShowsQuestions m p before → StopsInSection m Answer p here why → text ≡ before ++ here → StopsShowing m text why
+  no_authority : (p : ℕ) (before here : List ℕ) → ShowsAnswers m p before → StopsInSection m Authority p here why → text ≡ before ++ here → StopsShowing m text why
+  no_additional : (p : ℕ) (before here : List ℕ) → ShowsAuthority m p before → StopsInSection m Additional p here why → text ≡ before ++ here → StopsShowing m text why
+
+-- The text that shows the message was written.
+abbrev pub WritesMessage : List ℕ → Option (List ℕ) → Option (List ℕ) → Type 0
+WritesMessage m old new = (text : List ℕ) × IsShown m text × Appends old new text
+
+-- The message can't be shown to its end, and why, and the text that shows all before that was written.
+abbrev pub WritesUntil : List ℕ → ParseError → Option (List ℕ) → Option (List ℕ) → Type 0
+WritesUntil m why old new = (text : List ℕ) × StopsShowing m text why × Appends old new text
+
+-- The message was written to its end, or all before what can't be shown.
+abbrev pub WritesShown : List ℕ → Bool → Option (List ℕ) → Option (List ℕ) → Type 0
+WritesShown m true old new = WritesMessage m old new
+WritesShown m false old new = (why : ParseError) × WritesUntil m why old new
