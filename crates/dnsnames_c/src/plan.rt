@@ -60,7 +60,7 @@ struct Written {
     end: usize,
 }
 
-/// WritesName a name from an offset on, as `dnsnames_plan` tells. `None` where it doesn't fit: the octets then stay.
+/// Writes a name from an offset on, as `dnsnames_plan` tells. `None` where it doesn't fit: the octets then stay.
 fn write_name(octets: &mut [u8], start: usize, table: &[u16], name: &[u8]) -> Option<Written>
     requires start { start ≤ length octets.old }
     requires table { IsTable table.now }
@@ -107,7 +107,7 @@ fn add_offsets(table: &mut [u16], count: usize, labels: &[u8], start: usize) -> 
     len
 }
 
-/// WritesName a name after the first `octets_len` octets of a message, as `dnsnames_plan` tells, and adds the offsets of the
+/// Writes a name after the first `octets_len` octets of a message, as `dnsnames_plan` tells, and adds the offsets of the
 /// labels that were written to the first `table_len` ones of the table: those below 16,384, as far as it has room for
 /// them, and up to 128 in all. Both lengths become the new ones.
 ///
