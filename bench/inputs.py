@@ -8,6 +8,7 @@ number (32 bits, little endian), the length (the same) and the octets. The
 number is the place of a name in the octets, or 0. The same files come out each
 time.
 
+`records-N.whole` has messages of a question and N answers; the number is N.
 `grow-L-P.msg` has names of L labels, of an octet each, along which P pointers
 lead; `mixed-N.stream`, `hosts-N.stream` and `middles-N.stream` have one case: N
 names, each behind the one before it, and N as the number.
@@ -21,6 +22,7 @@ import sys
 LABELS = [1, 4, 16, 64, 127]
 POINTERS = [0, 1, 16, 255]
 NAMES = [10, 30, 100, 300, 1000, 3000, 10000]
+RECORDS = [4, 100, 1000]
 
 
 def write(folder, name, cases):
@@ -66,6 +68,25 @@ def spread(labels, pointers, turn):
         msg += piece + pointer(place)
         place = here
     return place, bytes(msg)
+
+
+def response(rng, zone, records):
+    """A message with a question and so many answers, compressed: owners of one zone, data of five types."""
+    label = lambda: wire([word(rng, 3, 8)])[:-1]
+    msg = bytearray(bytes.fromhex("123481800001") + struct.pack(">H", records) + bytes(4))
+    at_zone = pointer(len(msg) + 4)
+    msg += wire([b"www"] + zone) + bytes.fromhex("00010001")
+    for k in range(records):
+        owner = pointer(12) if k % 4 == 0 else label() + at_zone
+        rtype, data = [
+            (1, bytes([192, 0, 2, k % 250 + 1])),
+            (28, bytes.fromhex("20010db8") + bytes(11) + bytes([k % 256])),
+            (15, struct.pack(">H", 10 * (k % 7)) + label() + at_zone),
+            (2, label() + at_zone),
+            (16, bytes([20]) + word(rng, 20, 20)),
+        ][k % 5]
+        msg += owner + struct.pack(">HHIH", rtype, 1, 3600, len(data)) + data
+    return bytes(msg)
 
 
 def word(rng, low, high):
@@ -168,6 +189,10 @@ def main():
         for kind, label in [("hosts", b"host%03d"), ("middles", b"h%03dx")]:
             hosts = [wire([label % i, b"example", b"com"]) for i in range(count)]
             write(folder, f"{kind}-{count}.stream", [(count, b"".join(hosts))])
+
+    for records in RECORDS:
+        messages = [response(rng, domain(), records) for _ in range(max(2, 64 // records))]
+        write(folder, f"records-{records}.whole", [(records, msg) for msg in messages])
 
 
 if __name__ == "__main__":

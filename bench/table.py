@@ -22,6 +22,9 @@ INPUTS = {
     "deep": "127 labels",
     "worst": "worst",
     "escaped": "escapes",
+    "records-4": "4 records",
+    "records-100": "100 records",
+    "records-1000": "1,000 records",
 }
 GROUPS = {
     "Reading a name in a message": {
@@ -78,6 +81,11 @@ GROUPS = {
         "from_chars_array": "`from_chars`, over an array of 255",
         "vec_from_str": "`vec_from_str`",
         "from_str_array": "`FromStr`, over an array of 255",
+    },
+    "Messages": {
+        "records": "The type, class, TTL and length of all records",
+        "record_data": "All records with their data",
+        "records_of_type": "The IPv4 addresses among them",
     },
 }
 GROWING = {
@@ -138,7 +146,7 @@ def parts(rows):
     for group, operations in GROUPS.items():
         for operation, label in operations.items():
             for key in INPUTS:
-                for end in ("msg", "names", "texts"):
+                for end in ("msg", "names", "texts", "whole"):
                     row = rows.get((operation, f"{key}.{end}"), {})
                     if CRATE in row and PORT in row:
                         (theirs, wanted), (ours, result) = row[CRATE], row[PORT]

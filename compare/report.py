@@ -399,6 +399,8 @@ def main():
     corpus.check()
     report = Report(sys.argv[1])
     report.make()
+    if len(sys.argv) > 2:
+        Path(sys.argv[2]).mkdir(parents=True, exist_ok=True)
     for name, lines in report.pages.items():
         text = "\n".join(lines).rstrip("\n") + "\n"
         if len(sys.argv) > 2:

@@ -102,6 +102,7 @@ static const char *const MESSAGES[] = { "typical.msg", "pointer.msg", "deep.msg"
                                         "worst.msg", "short.msg", "long.msg" };
 static const char *const FLAT[] = { "typical.names", "deep.names" };
 static const char *const TEXTS[] = { "typical.texts", "escaped.texts" };
+static const char *const WHOLE[] = { "records-4.whole", "records-100.whole", "records-1000.whole" };
 static const char *const STREAMS[] = { "mixed", "hosts", "middles" };
 static const unsigned COUNTS[] = { 10, 30, 100, 300, 1000, 3000, 10000 };
 

@@ -105,6 +105,20 @@ static unsigned compose(const void *arg)
 	return refused;
 }
 
+/* libknot checks all records and their data, and keeps where they stand. */
+static unsigned whole(const void *arg)
+{
+	const struct cases *c = arg;
+	unsigned refused = 0;
+	for (uint32_t i = 0; i < c->count; i++) {
+		knot_pkt_t *pkt = knot_pkt_new((void *)c->all[i].octets, c->all[i].len, NULL);
+		refused += knot_pkt_parse(pkt, 0) != 0;
+		sink += knot_pkt_section(pkt, KNOT_ANSWER)->count;
+		knot_pkt_free(pkt);
+	}
+	return refused;
+}
+
 int main(int argc, char **argv)
 {
 	if (argc < 2)
@@ -129,6 +143,10 @@ int main(int argc, char **argv)
 		for (uint32_t j = 0; j < c.count; j++)
 			texts[j] = strndup((const char *)c.all[j].octets, c.all[j].len);
 		measure("libknot", "from_str_array", TEXTS[i], c.count, from_text, &c);
+	}
+	for (unsigned i = 0; i < ALL(WHOLE); i++) {
+		struct cases c = read_cases(argv[1], WHOLE[i]);
+		measure("libknot", "record_data", WHOLE[i], c.count, whole, &c);
 	}
 	for (unsigned i = 0; i < ALL(STREAMS); i++)
 		for (unsigned j = 0; j < ALL(COUNTS); j++) {

@@ -93,6 +93,21 @@ static struct pairs names(const struct cases *c)
 	return res;
 }
 
+/* ldns copies each record with its data. */
+static unsigned whole(const void *arg)
+{
+	const struct cases *c = arg;
+	unsigned refused = 0;
+	for (uint32_t i = 0; i < c->count; i++) {
+		ldns_pkt *pkt = NULL;
+		refused += ldns_wire2pkt(&pkt, c->all[i].octets, c->all[i].len) != LDNS_STATUS_OK;
+		if (pkt != NULL)
+			sink += ldns_pkt_ancount(pkt);
+		ldns_pkt_free(pkt);
+	}
+	return refused;
+}
+
 int main(int argc, char **argv)
 {
 	if (argc < 2)
@@ -113,6 +128,10 @@ int main(int argc, char **argv)
 		for (uint32_t j = 0; j < c.count; j++)
 			texts[j] = strndup((const char *)c.all[j].octets, c.all[j].len);
 		measure("ldns", "vec_from_str", TEXTS[i], c.count, from_text, &c);
+	}
+	for (unsigned i = 0; i < ALL(WHOLE); i++) {
+		struct cases c = read_cases(argv[1], WHOLE[i]);
+		measure("ldns", "record_data", WHOLE[i], c.count, whole, &c);
 	}
 	for (unsigned i = 0; i < ALL(STREAMS); i++)
 		for (unsigned j = 0; j < ALL(COUNTS); j++) {

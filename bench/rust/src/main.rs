@@ -17,7 +17,10 @@
 //! Each operation is a function of slices and numbers that gives a number, so
 //! that an implementation behind `extern "C"` can stand beside it (see build.rs).
 
+use domain::base::iana::Rtype;
 use domain::base::name::{Name, NameBuilder, ParsedName, RelativeName, ToLabelIter, ToName};
+use domain::base::rdata::UnknownRecordData;
+use domain::base::wire::ParseError;
 use octseq::array::Array;
 use octseq::parse::Parser;
 use std::fmt::Write;
@@ -601,6 +604,161 @@ fn chained(name: &[u8]) -> u64 {
     }
 }
 
+//------------ Whole messages ------------------------------------------------
+
+// The crate's modules for messages aren't among the sources that are at hand, so this is a plain reader over its
+// parser, names and unknown data, which keeps of a record what theirs keeps.
+
+struct ParsedRecord<'a> {
+    owner: ParsedName<&'a [u8]>,
+    rtype: Rtype,
+    class: u16,
+    ttl: u32,
+    data: Parser<'a, [u8]>,
+}
+
+impl<'a> ParsedRecord<'a> {
+    fn parse(parser: &mut Parser<'a, [u8]>) -> Result<Self, ParseError> {
+        let owner = ParsedName::parse(parser)?;
+        let rtype = Rtype::from_int(parser.parse_u16_be()?);
+        let class = parser.parse_u16_be()?;
+        let ttl = parser.parse_u32_be()?;
+        let len = parser.parse_u16_be()?;
+        let data = parser.parse_parser(len.into())?;
+        Ok(ParsedRecord { owner, rtype, class, ttl, data })
+    }
+}
+
+/// The records of a section.
+struct Records<'a> {
+    parser: Parser<'a, [u8]>,
+    left: u16,
+}
+
+impl<'a> Iterator for Records<'a> {
+    type Item = Result<ParsedRecord<'a>, ParseError>;
+
+    fn next(&mut self) -> Option<Self::Item> {
+        if self.left == 0 {
+            return None;
+        }
+        let record = ParsedRecord::parse(&mut self.parser);
+        self.left = if record.is_ok() { self.left - 1 } else { 0 };
+        Some(record)
+    }
+}
+
+/// The records of the answer section, after the questions.
+fn answers(message: &[u8]) -> Option<Records<'_>> {
+    let mut parser = Parser::from_ref(message);
+    parser.advance(4).ok()?;
+    let questions = parser.parse_u16_be().ok()?;
+    let left = parser.parse_u16_be().ok()?;
+    parser.advance(4).ok()?;
+    for _ in 0..questions {
+        ParsedName::parse(&mut parser).ok()?;
+        parser.advance(4).ok()?;
+    }
+    Some(Records { parser, left })
+}
+
+/// Type, class, TTL and length of the data of each record.
+#[inline(never)]
+fn records(message: &[u8]) -> u64 {
+    let Some(records) = answers(message) else {
+        return REFUSED;
+    };
+    let mut sum = 0;
+    for record in records {
+        let Ok(record) = record else {
+            return REFUSED;
+        };
+        sum = and_label(sum, record.rtype.to_int().into());
+        sum = and_label(sum, record.class.into());
+        sum = and_label(sum, record.ttl as usize);
+        sum = and_label(sum, record.data.remaining());
+    }
+    sum
+}
+
+/// All that is left, which must be a name.
+fn whole_name<'a>(data: &mut Parser<'a, [u8]>) -> Result<ParsedName<&'a [u8]>, ParseError> {
+    let name = ParsedName::parse(data)?;
+    match data.remaining() {
+        0 => Ok(name),
+        _ => Err(ParseError::form_error("trailing data")),
+    }
+}
+
+fn whole_octets<const N: usize>(data: &mut Parser<'_, [u8]>) -> Result<[u8; N], ParseError> {
+    let mut octets = [0; N];
+    data.parse_buf(&mut octets)?;
+    match data.remaining() {
+        0 => Ok(octets),
+        _ => Err(ParseError::form_error("trailing data")),
+    }
+}
+
+/// A number that has something of each field of the data, which is read by its type.
+fn number_of(record: &ParsedRecord<'_>) -> Result<usize, ParseError> {
+    let mut data = record.data;
+    match record.rtype.to_int() {
+        1 => Ok(whole_octets::<4>(&mut data)?[3].into()),
+        28 => Ok(whole_octets::<16>(&mut data)?[15].into()),
+        2 | 5 => Ok(whole_name(&mut data)?.compose_len().into()),
+        15 => {
+            let preference = data.parse_u16_be()?;
+            Ok(usize::from(preference) + usize::from(whole_name(&mut data)?.compose_len()))
+        }
+        _ => match UnknownRecordData::from_octets(record.rtype, data.peek_all()) {
+            Ok(data) => Ok(data.data().len()),
+            Err(_) => Err(ParseError::form_error("long data")),
+        },
+    }
+}
+
+/// The owner's length of each record, and its data.
+#[inline(never)]
+fn record_data(message: &[u8]) -> u64 {
+    let Some(records) = answers(message) else {
+        return REFUSED;
+    };
+    let mut sum = 0;
+    for record in records {
+        let Ok(record) = record else {
+            return REFUSED;
+        };
+        let Ok(number) = number_of(&record) else {
+            return REFUSED;
+        };
+        sum = and_label(sum, record.owner.compose_len().into());
+        sum = and_label(sum, number);
+    }
+    sum
+}
+
+/// The addresses of the records with IPv4 addresses.
+#[inline(never)]
+fn records_of_type(message: &[u8]) -> u64 {
+    let Some(records) = answers(message) else {
+        return REFUSED;
+    };
+    let mut sum = 0;
+    for record in records {
+        let Ok(mut record) = record else {
+            return REFUSED;
+        };
+        if record.rtype.to_int() != 1 {
+            continue;
+        }
+        let Ok(octets) = whole_octets::<4>(&mut record.data) else {
+            return REFUSED;
+        };
+        sum = and_label(sum, octets[3].into());
+    }
+    sum
+}
+
 //------------ Files ---------------------------------------------------------
 
 struct Case {
@@ -788,6 +946,7 @@ struct Peer {
     pairs: &'static [(&'static str, OnPair)],
     texts: &'static [(&'static str, OnName)],
     mixed: &'static [(&'static str, OnMessageAndName)],
+    wholes: &'static [(&'static str, OnName)],
     streams: &'static [(&'static str, OnName)],
     composing: &'static [(&'static str, Composing)],
 }
@@ -846,6 +1005,11 @@ const DOMAIN: Peer = Peer {
         ("parse_eq", parse_eq),
         ("parse_cmp", parse_cmp),
         ("parse_ends", parse_ends),
+    ],
+    wholes: &[
+        ("records", records),
+        ("record_data", record_data),
+        ("records_of_type", records_of_type),
     ],
     streams: &[],
     composing: &[],
@@ -987,6 +1151,12 @@ fn main() {
     for file in ["typical.texts", "escaped.texts"] {
         let cases = &read(&folder.join(file));
         run!(texts, DOMAIN, file, cases.len(), rows, wanted, |f| cases
+            .iter()
+            .fold(0, |sum, case| add(sum, f(black_box(&case.octets)))));
+    }
+    for file in &files(&folder, "records-", ".whole") {
+        let cases = &read(&folder.join(file));
+        run!(wholes, DOMAIN, file, cases.len(), rows, wanted, |f| cases
             .iter()
             .fold(0, |sum, case| add(sum, f(black_box(&case.octets)))));
     }

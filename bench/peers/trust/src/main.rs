@@ -4,6 +4,7 @@ use std::hash::{Hash, Hasher};
 use std::hint::black_box;
 use std::path::Path;
 use std::time::{Duration, Instant};
+use trust_dns_proto::op::Message;
 use trust_dns_proto::rr::Name;
 use trust_dns_proto::serialize::binary::{BinDecodable, BinDecoder, BinEncodable, BinEncoder};
 
@@ -120,6 +121,15 @@ fn main() {
             cases
                 .iter()
                 .filter(|case| Name::from_ascii(std::str::from_utf8(black_box(&case.octets)).unwrap()).is_err())
+                .count()
+        });
+    }
+    for file in ["records-4.whole", "records-100.whole", "records-1000.whole"] {
+        let cases = read(&folder.join(file));
+        measure("record_data", file, cases.len(), || {
+            cases
+                .iter()
+                .filter(|case| black_box(Message::from_vec(black_box(&case.octets))).is_err())
                 .count()
         });
     }
