@@ -4,10 +4,12 @@ use Rattle.octseq.specs.declared.parse.Parser.{Parser}
 use Rattle.octseq.specs.Parsing.{message, position}
 use Rattle.domain_wire.specs.declared.error.ParseError.TheVariants.{ShortInput}
 use Rattle.domain_reading.specs.Grammar.{Names, EncodingEnds}
+use Rattle.domain_reading.specs.Labels.{labels_at}
+use Rattle.domain_reading.proofs.LabelsAt.{labels_named}
 use Rattle.domain_reading.specs.ParseResult.{MovesPastName}
 use Rattle.domain_message.specs.Facts.{same_message}
 use Rattle.domain_message.specs.Readings.{name_once}
-use Rattle.domain_message.specs.Entries.{WholeNameAt, NoNameBefore}
+use Rattle.domain_message.specs.Entries.{WholeNameAt, NoNameBefore, HeaderFields, RecordHeaderAt}
 use Rattle.domain_message.specs.Entries.NoNameBefore.{too_short}
 
 -- the name that was parsed, and where its encoding ends
@@ -15,6 +17,19 @@ pub name_to : (old new : Parser) (ls : List (List ℕ)) → Names 255 (message o
 name_to old new ls named moves = record {
   labels = named;
   encoding = subst (λ e. EncodingEnds (message old) (position old) e) (sym moves.2.place) moves.1;
+}
+
+-- the owner of a record is what a function of the message and the offset gives
+pub owner_at : {m : List ℕ} {p q : ℕ} {h : HeaderFields} → RecordHeaderAt m p h q → RecordHeaderAt m p (record { owner = labels_at m p; rtype = h.rtype; class = h.class; ttl = h.ttl; rdlen = h.rdlen }) q
+owner_at {m} {p} at = record {
+  name_end = at.name_end;
+  name = subst (λ ls. WholeNameAt m p ls at.name_end) (sym (labels_named at.name.labels)) at.name;
+  rtype = at.rtype;
+  class = at.class;
+  ttl = at.ttl;
+  rdlen = at.rdlen;
+  inside = at.inside;
+  end = at.end;
 }
 
 -- too few octets follow a name

@@ -5,13 +5,21 @@ use Rattle.std.specs.Ordering.{on, eq_of_both}
 use Rattle.domain_list.specs.Order.{same_name}
 use Rattle.octseq.specs.Parsing.{message, position}
 use Rattle.domain_message.specs.Entries.{HeaderFields, RecordFields}
-use Rattle.domain_message.specs.Models.{header_fields}
+use Rattle.domain_reading.specs.Labels.{labels_at}
+use Rattle.domain_rdata.specs.Rtypes.{rtype_number}
+use Rattle.domain_header.specs.Values.{class_number, ttl_seconds}
 use Rattle.domain_message.specs.declared.record.ParsedRecord.{ParsedRecord}
 
 -- what a record says, and where its data is (RFC 1035, 4.1.3)
 abbrev pub record_fields : ParsedRecord → RecordFields
 record_fields r = record {
-  header = header_fields r.header;
+  header = record {
+    owner = labels_at (message r.owner) (position r.owner);
+    rtype = rtype_number r.rtype;
+    class = class_number r.class;
+    ttl = ttl_seconds r.ttl;
+    rdlen = r.rdlen;
+  };
   start = position r.data;
   octets = message r.data;
 }

@@ -4,10 +4,11 @@ ghost use Rattle.std.specs.Cmp.{partial_equiv_from_equiv, on_per, and_per};
 ghost use Rattle.std.specs.Cmp.Lexicographic.{nat_list_eq_equiv};
 ghost use Rattle.octseq.specs.Parsing.{message, position};
 ghost use Rattle.domain_parsed.specs.ParsedNames.{parsed_labels};
+ghost use Rattle.domain_reading.specs.Faults.{NameFaultAt};
+ghost use Rattle.domain_reading.specs.declared.fault.NameFault.{NameFault};
 ghost use Rattle.domain_rdata.specs.AnyData.{unknown_text};
 ghost use Rattle.domain_rdata.specs.Rtypes.{rtype_number};
 ghost use Rattle.domain_message.specs.Entries.{HeaderFields, RecordHeaderAt, NoRecordHeader, RecordFields, RecordAt, NoRecord};
-ghost use Rattle.domain_message.specs.HeaderLaws.{header_is_equivalence};
 ghost use Rattle.domain_message.specs.Readings.{record_header_reading, record_reading};
 ghost use Rattle.domain_message.specs.Texts.{record_text};
 ghost use Rattle.domain_header.specs.Values.{class_number, ttl_seconds};
@@ -104,6 +105,7 @@ impl<'a> Parse<'a> for RecordHeader<ParsedName<&'a [u8]>> {
 
     ghost fails_with = { NoRecordHeader };
 
+    #[inline(always)]
     fn parse(parser: &mut Parser<'a>) -> Result<RecordHeader<ParsedName<&'a [u8]>>, ParseError> {
         let mut ahead = *parser;
         let owner = ParsedName::parse(&mut ahead)?;
@@ -127,49 +129,75 @@ impl<'a> Parse<'a> for RecordHeader<ParsedName<&'a [u8]>> {
 
 /// A record in a message: its header, and where its data is (RFC 1035, 4.1.3).
 ///
-/// The data isn't read yet. Names in it may point to any offset before them in the message.
+/// The data isn't read yet. Names in it may point to any offset before them in the message. The owner's name was read to
+/// its end, and is read again where it is asked for: so a record has 80 octets, where a name with its table has 288.
 #[derive(Clone, Copy)]
 pub struct ParsedRecord<'a> {
-    header: RecordHeader<ParsedName<&'a [u8]>>,
+    /// A parser at the owner's name.
+    owner: Parser<'a>,
+    rtype: Rtype,
+    class: Class,
+    ttl: Ttl,
+    rdlen: u16,
     data: Parser<'a>,
+    ghost named: { (fault : NameFault) → NameFaultAt 255 (message owner) (position owner) fault → ⊥ },
 }
 
 impl<'a> ParsedRecord<'a> {
+    ghost use Rattle.domain_message.specs.Models.{header_fields};
     ghost use Rattle.domain_message.specs.RecordModel.{record_fields, parsed_data};
 
     /// The owner's name.
+    #[inline(always)]
     pub fn owner(&self) -> ParsedName<&'a [u8]>
         ensures { parsed_labels result ≡ (record_fields self.now).header.owner }
     {
-        *self.header.owner()
+        let mut parser = self.owner;
+        let Ok(owner) = ParsedName::parse(&mut parser) else {
+            unreachable!();
+        };
+        owner
+    }
+
+    /// The record header, with the owner's name.
+    fn header(&self) -> RecordHeader<ParsedName<&'a [u8]>>
+        ensures { header_fields result ≡ (record_fields self.now).header }
+    {
+        RecordHeader {
+            owner: self.owner(),
+            rtype: self.rtype,
+            class: self.class,
+            ttl: self.ttl,
+            rdlen: self.rdlen,
+        }
     }
 
     /// The type.
     pub fn rtype(&self) -> Rtype
         ensures { rtype_number result ≡ (record_fields self.now).header.rtype }
     {
-        self.header.rtype()
+        self.rtype
     }
 
     /// The class.
     pub fn class(&self) -> Class
         ensures { class_number result ≡ (record_fields self.now).header.class }
     {
-        self.header.class()
+        self.class
     }
 
     /// The TTL.
     pub fn ttl(&self) -> Ttl
         ensures { ttl_seconds result ≡ (record_fields self.now).header.ttl }
     {
-        self.header.ttl()
+        self.ttl
     }
 
     /// How many octets the data has.
     pub fn rdlen(&self) -> u16
         ensures { result ≡ (record_fields self.now).header.rdlen }
     {
-        self.header.rdlen()
+        self.rdlen
     }
 
     /// The octets of the data.
@@ -191,6 +219,7 @@ impl<'a> ParsedRecord<'a> {
 /// Records of messages are equal if their record headers are, the owner's name without ASCII case, and the octets of their
 /// data. Names in the data may be compressed, so equal data need not have equal octets.
 impl<'a> PartialEq for ParsedRecord<'a> {
+    ghost use Rattle.domain_message.specs.HeaderLaws.{header_is_equivalence};
     ghost use Rattle.domain_message.specs.RecordModel.{parsed_data, parsed_header, same_parsed_record};
 
     ghost eq = { same_parsed_record };
@@ -198,7 +227,7 @@ impl<'a> PartialEq for ParsedRecord<'a> {
     ghost laws = { and_per (on_per parsed_header (partial_equiv_from_equiv header_is_equivalence)) (on_per parsed_data (partial_equiv_from_equiv nat_list_eq_equiv)) };
 
     fn eq(&self, other: &ParsedRecord<'a>) -> bool {
-        self.header == other.header && self.data_octets() == other.data_octets()
+        self.header() == other.header() && self.data_octets() == other.data_octets()
     }
 }
 
@@ -210,11 +239,11 @@ impl<'a> fmt::Display for ParsedRecord<'a> {
     ghost output = { λ it. Some (record_text (record_fields it).header.owner (record_fields it).header.ttl (record_fields it).header.class (record_fields it).header.rtype (unknown_text (parsed_data it))) };
 
     fn fmt<W: fmt::Write>(&self, f: &mut fmt::Formatter<W>) -> fmt::Result {
-        let header = &self.header;
-        let owner = header.owner.fmt_with_dot();
-        let (ttl, class) = (header.ttl, header.class);
-        let rtype = RtypeText::new(header.rtype);
-        let Ok(data) = UnknownRecordData::from_octets(header.rtype, self.data_octets()) else {
+        let owner = self.owner();
+        let owner = owner.fmt_with_dot();
+        let (ttl, class) = (self.ttl, self.class);
+        let rtype = RtypeText::new(self.rtype);
+        let Ok(data) = UnknownRecordData::from_octets(self.rtype, self.data_octets()) else {
             return Err(fmt::Error);
         };
         write!(f, "{owner} {ttl} {class} {rtype} {data}")
@@ -233,8 +262,10 @@ impl<'a> Parse<'a> for ParsedRecord<'a> {
 
     ghost fails_with = { NoRecord };
 
+    #[inline(always)]
     fn parse(parser: &mut Parser<'a>) -> Result<ParsedRecord<'a>, ParseError> {
-        let mut ahead = *parser;
+        let owner = *parser;
+        let mut ahead = owner;
         let header = match RecordHeader::parse(&mut ahead) {
             Ok(header) => header,
             Err(e) => return Err(e),
@@ -244,7 +275,14 @@ impl<'a> Parse<'a> for ParsedRecord<'a> {
             Err(_) => return Err(ParseError::ShortInput),
         };
         *parser = ahead;
-        Ok(ParsedRecord { header, data })
+        Ok(ParsedRecord {
+            owner,
+            rtype: header.rtype,
+            class: header.class,
+            ttl: header.ttl,
+            rdlen: header.rdlen,
+            data,
+        })
     }
 
     ghost lawful = { record_reading };

@@ -1,7 +1,21 @@
-use Rattle.std.proofs.Common.{refl, arith, ap, length}
+use Rattle.std.proofs.Common.{refl, arith, ap, length, rules}
+use Rattle.octseq.specs.Parsing.{message, position}
+use Rattle.domain_reading.proofs.NameOrFault.{names_or_fault}
+use Rattle.domain_message.specs.Entries.{RecordAt}
+use Rattle.domain_message.specs.Models.{header_fields}
+use Rattle.domain_message.proofs.Names.{owner_at}
 use Rattle.domain_message.specs.Entries.NoRecord.{no_header, no_data}
 use Rattle.domain_message.specs.Facts.{same_message}
 use Rattle.domain_message.proofs.record.ParsedRecordParse.parse.Goals as goal
+
+pub invariant_of-result : goal.invariant_of-result
+invariant_of-result c = record { named = λ fault f. names_or_fault c.in-Ok.ensures.ok.name.labels f }
+
+pub returns-clause-ok : goal.returns-clause-ok
+returns-clause-ok c =
+    let part = c.in-Ok-parse_parser.data in
+    let whole : RecordAt (message c.args.parser.now) (position c.args.parser.now) (record { header = header_fields c.in-Ok.header; start = position part; octets = message part }) (position c.parse_parser.new.self) = search rules in
+    record { header = owner_at whole.header; inside = whole.inside; end = whole.end; octets = whole.octets }
 
 pub returns-in-Err-clause-err : goal.returns-in-Err-clause-err
 returns-in-Err-clause-err c = no_header c.in-Err.ensures.err
