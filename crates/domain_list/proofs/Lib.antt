@@ -3,6 +3,7 @@ pub mod Sameness
 pub mod Shown
 pub mod Steps
 pub mod Ending
+pub mod Beginning
 pub mod Written
 pub mod Chaining
 pub mod LastDifference

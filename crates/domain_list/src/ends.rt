@@ -1,6 +1,6 @@
 //! How names begin and end.
-ghost use Rattle.std.specs.Prelude.{◌≡◌, IsTrue, ◌↔◌, ◌++◌, ℕ, List, length};
-ghost use Rattle.domain_label.specs.Lowercase.{lowercase_labels};
+ghost use Rattle.std.specs.Prelude.{◌≡◌, IsTrue, ◌↔◌, ◌++◌, ℕ, List, length, take};
+ghost use Rattle.domain_label.specs.Lowercase.{lowercase, lowercase_labels};
 ghost use Rattle.domain_label.specs.Wire.{wire};
 ghost use Rattle.domain_list.specs.Ends.{StartsWith, EndsWith};
 
@@ -24,6 +24,26 @@ pub fn begins_with<'a, A: LabelIterator<'a>, B: LabelIterator<'a>>(a: A, b: B) -
         if y != x {
             return false;
         }
+    }
+}
+
+/// Whether the first octets of `a` are those of `b` ignoring ASCII case.
+fn begins_with_octets(a: &[u8], b: &[u8]) -> bool
+    ensures { IsTrue result ↔ (lowercase (take (length b.now) a.now) ≡ lowercase b.now) }
+{
+    if a.len() < b.len() {
+        return false;
+    }
+    same_octets(&a[..b.len()], b)
+}
+
+/// Whether the name `a` begins with the labels of `b`, ignoring ASCII case.
+pub fn begins_with_labels<'a, A: ToLabelIter<'a>, B: ToLabelIter<'a>>(a: &'a A, b: &'a B) -> bool
+    ensures { IsTrue result ↔ StartsWith (A.labels a.now) (B.labels b.now) }
+{
+    match (a.as_flat_slice(), b.as_flat_slice()) {
+        (Some(a), Some(b)) => return begins_with_octets(a, b),
+        _ => return begins_with(a.iter_labels(), b.iter_labels()),
     }
 }
 

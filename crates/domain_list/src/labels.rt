@@ -7,7 +7,7 @@ ghost use Rattle.domain_label.specs.Labels.{label_octets};
 ghost use Rattle.domain_label.specs.Wire.{wire, IsAbsolute, IsAbsoluteName, IsRelativeName, IsName};
 ghost use Rattle.domain_list.specs.Ends.{StartsWith, EndsWith};
 
-use crate::ends::{begins_with, ends_with_labels};
+use crate::ends::{begins_with_labels, ends_with_labels};
 use domain_label::Label;
 
 /// An iterator over the labels of a name.
@@ -91,7 +91,7 @@ pub trait ToLabelIter<'a>: NameLabels {
     final fn starts_with<N: ToLabelIter<'a>>(&'a self, other: &'a N) -> bool
         ensures { IsTrue result ↔ StartsWith (Self.labels self.now) (N.labels other.now) }
     {
-        begins_with(self.iter_labels(), other.iter_labels())
+        begins_with_labels(self, other)
     }
 
     /// Whether the name ends with the labels of `other`, a name of any kind, ignoring ASCII case. No relative name

@@ -1,6 +1,5 @@
 use Rattle.std.proofs.Common.{ap, ◌∙◌}
 use Rattle.domain_label.specs.Lowercase.{lowercase}
-use Rattle.domain_label.specs.Wire.{wire}
 use Rattle.domain_label.proofs.CanonicalForm.{lowercase_wire}
 use Rattle.domain_list.proofs.EqualSuffixLabels.{name_labels_short}
 use Rattle.domain_list.proofs.BufferContents.{lowered_front}
