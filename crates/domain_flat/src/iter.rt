@@ -57,11 +57,9 @@ impl<'a> NameIter<'a> {
         if self.count > 0 {
             return true;
         }
-        let mut starts = [0; MAX_LABELS];
-        let Some(count) = find_starts(self.octets, &mut starts) else {
+        let Some(count) = find_starts(self.octets, &mut self.starts) else {
             return false;
         };
-        self.starts = starts;
         self.count = count;
         count > 0
     }
@@ -76,6 +74,7 @@ impl<'a> NameIter<'a> {
 }
 
 /// The octets of the first label of a wire format, and the wire format after it.
+#[inline(always)]
 pub fn first_label(octets: &[u8]) -> Option<(&[u8], &[u8])>
     requires { IsWire octets.now }
     ensures { MatchOption result (octets.now ≡ []) (λ parts. HasFirst octets.now parts.0.now parts.1.now) }
@@ -92,6 +91,7 @@ fn find_starts(octets: &[u8], starts: &mut [u8; MAX_LABELS]) -> Option<u8>
     requires { IsWire octets.now }
     ensures few { IfSome result (λ count. count ≤ 128) }
     ensures table { IfSome result (λ count. take count starts.new ≡ label_starts 0 (labels_in octets.now)) }
+    ensures room { length starts.new ≡ 128 }
 {
     if octets.len() > MAX_NAME_LEN {
         return None;
@@ -147,6 +147,7 @@ impl<'a> Iterator for NameIter<'a> {
 
     ghost remaining = { item_count flat_labels_left };
 
+    #[inline(always)]
     fn next(&mut self) -> Option<Label<'a>> {
         let (label, rest) = first_label(self.octets)?;
         self.count = 0;

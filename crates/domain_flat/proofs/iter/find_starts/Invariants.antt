@@ -9,6 +9,7 @@ invariant-loop-start l = record {
   within : l.start ≤ length l.octets;
   seam : IsSeam l.octets l.start;
   few : l.count ≤ 128;
+  room : length l.starts ≡ 128;
   table : take l.count l.starts ≡ label_starts 0 (labels_in (take l.start l.octets));
 }
 
