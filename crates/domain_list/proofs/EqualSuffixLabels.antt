@@ -1,8 +1,8 @@
 -- Wire formats whose last octets are alike end with labels that are.
-use Rattle.std.proofs.Common.{inl, inr, ◌≡◌, ℕ, ◌+◌, ◌-◌, ◌≤◌, ◌<◌, List, [], ◌∷◌, ◌++◌, length, take, drop, get_or, refl, sym, ap, subst, ◌∙◌, arith, length-append, append_assoc, Option, None, Some, IfSome, Bor}
-use Rattle.std.proofs.lemmas.List.{length-map, append-nil, drop-map, take_more}
+use Rattle.std.proofs.Common.{inl, inr, ◌≡◌, ℕ, ◌+◌, ◌-◌, ◌≤◌, ◌<◌, List, [], ◌∷◌, ◌++◌, length, take, drop, slice_range, refl, sym, ap, subst, ◌∙◌, arith, length-append, append_assoc, Option, None, Some, IfSome, Bor}
+use Rattle.std.proofs.lemmas.List.{length-map, append-nil, drop-map, map-append, length-take}
 use Rattle.std.proofs.lemmas.Grind.{common_steps}
-use Rattle.std.proofs.Math.Seq.{drop-append_seam, drop-append-add}
+use Rattle.std.proofs.Math.Seq.{drop-append_seam, drop-append-add, take-add}
 use Rattle.std.specs.Char.{to_ascii_lowercase}
 use Rattle.domain_label.specs.Lowercase.{lowercase, lowercase_labels}
 use Rattle.domain_label.specs.Wire.{wire, AreLabels, IsName}
@@ -13,26 +13,30 @@ use Rattle.domain_list.specs.EqualSuffixes.{SuffixesEqual, EqualAfter, OctetSuff
 all_of : (o : List ℕ) (i : ℕ) → i ≡ length o → o ≡ take i o ++ []
 all_of o i e = grind (arith, common_steps, append-nil)
 
-one_before : (o : List ℕ) (i : ℕ) → 0 < i → i ≤ length o → take i o ≡ take (i - 1) o ++ get_or o (i - 1) 0 ∷ []
-one_before o i some few =
-    let back : i - 1 + 1 ≡ i = omega arith in
-    ap (λ k. take k o) (sym back) ∙ take_more o (i - 1) 0 (omega arith)
+part_before : (o : List ℕ) (i k : ℕ) → k ≤ i → take i o ≡ take (i - k) o ++ slice_range o (i - k) i
+part_before o i k le =
+    let e : i - k + (i - (i - k)) ≡ i = omega (arith, le) in
+    ap (λ n. take n o) (sym e) ∙ take-add (i - k) (i - (i - k)) o
+
+part_size : (o : List ℕ) (i k : ℕ) → k ≤ i → i ≤ length o → length (slice_range o (i - k) i) ≡ k
+part_size o i k le few =
+    omega (arith, le, few, ap length (part_before o i k le), length-append (take (i - k) o) (slice_range o (i - k) i), length-take i o, length-take (i - k) o)
 
 pub alike_none : (o p : List ℕ) (i j : ℕ) → i ≡ length o → j ≡ length p → EqualAfter o p (take i o) (take j p) 0
 alike_none o p i j e f = record { o_end = []; p_end = []; o_is = all_of o i e; p_is = all_of p j f; alike = refl; size = refl }
 
--- an octet more
-pub alike_more : {o p : List ℕ} {i j n : ℕ} → EqualAfter o p (take i o) (take j p) n → 0 < i → i ≤ length o → 0 < j → j ≤ length p → to_ascii_lowercase (get_or o (i - 1) 0) ≡ to_ascii_lowercase (get_or p (j - 1) 0) → EqualAfter o p (take (i - 1) o) (take (j - 1) p) (n + 1)
-alike_more {o} {p} {i} {j} t some few more less same =
-    let x = get_or o (i - 1) 0 in
-    let y = get_or p (j - 1) 0 in
+-- a part more
+pub alike_more : {o p : List ℕ} {i j n : ℕ} (k : ℕ) → EqualAfter o p (take i o) (take j p) n → k ≤ i → i ≤ length o → k ≤ j → j ≤ length p → lowercase (slice_range o (i - k) i) ≡ lowercase (slice_range p (j - k) j) → EqualAfter o p (take (i - k) o) (take (j - k) p) (n + k)
+alike_more {o} {p} {i} {j} k t some few more less same =
+    let x = slice_range o (i - k) i in
+    let y = slice_range p (j - k) j in
     record {
-      o_end = x ∷ t.o_end;
-      p_end = y ∷ t.p_end;
-      o_is = t.o_is ∙ (ap (λ f. f ++ t.o_end) (one_before o i some few) ∙ append_assoc (take (i - 1) o) (x ∷ []) t.o_end);
-      p_is = t.p_is ∙ (ap (λ g. g ++ t.p_end) (one_before p j more less) ∙ append_assoc (take (j - 1) p) (y ∷ []) t.p_end);
-      alike = ap (λ x. x ∷ lowercase t.o_end) same ∙ ap (λ r. to_ascii_lowercase y ∷ r) t.alike;
-      size = omega (arith, t.size);
+      o_end = x ++ t.o_end;
+      p_end = y ++ t.p_end;
+      o_is = t.o_is ∙ (ap (λ f. f ++ t.o_end) (part_before o i k some) ∙ append_assoc (take (i - k) o) x t.o_end);
+      p_is = t.p_is ∙ (ap (λ g. g ++ t.p_end) (part_before p j k more) ∙ append_assoc (take (j - k) p) y t.p_end);
+      alike = map-append to_ascii_lowercase x t.o_end ∙ (ap (λ r. r ++ lowercase t.o_end) same ∙ (ap (λ r. lowercase y ++ r) t.alike ∙ sym (map-append to_ascii_lowercase y t.p_end)));
+      size = omega (arith, t.size, length-append x t.o_end, part_size o i k some few);
     }
 
 -- the octets v that o ends with are the last ones of r, where o ends with r, and r is no shorter

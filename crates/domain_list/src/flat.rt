@@ -1,29 +1,26 @@
 //! How many octets at the ends of two wire formats are the same, found without iterating over their labels.
-ghost use Rattle.std.specs.Prelude.{◌≡◌, MatchBool, ⊤};
-ghost use Rattle.std.specs.Char.{to_ascii_lowercase};
 ghost use Rattle.domain_list.specs.EqualSuffixes.{OctetSuffixesEqual, KnownSuffixesEqual};
 
-/// Whether two octets are the same ignoring ASCII case.
-fn same_octet(x: u8, y: u8) -> bool
-    ensures { MatchBool result (to_ascii_lowercase x ≡ to_ascii_lowercase y) ⊤ }
-{
-    x == y || x.to_ascii_lowercase() == y.to_ascii_lowercase()
-}
+use domain_label::same::same_octets;
 
-/// How many of the last octets of two wire formats are the same ignoring ASCII case.
+/// How many octets are compared at a time.
+const PART: usize = 8;
+
+/// How many of the last octets of two wire formats were found to be the same ignoring ASCII case. They are compared
+/// part by part from the end on, so up to seven more may be the same.
 fn equal_suffix_len(a: &[u8], b: &[u8]) -> usize
     ensures { OctetSuffixesEqual a.now b.now result }
 {
     let mut a_end = a.len();
     let mut b_end = b.len();
     let mut alike = 0;
-    'octets: while a_end > 0 && b_end > 0 {
-        if !same_octet(a[a_end - 1], b[b_end - 1]) {
+    'parts: while a_end >= PART && b_end >= PART {
+        if !same_octets(&a[a_end - PART..a_end], &b[b_end - PART..b_end]) {
             return alike;
         }
-        a_end -= 1;
-        b_end -= 1;
-        alike += 1;
+        a_end -= PART;
+        b_end -= PART;
+        alike += PART;
     }
     alike
 }
