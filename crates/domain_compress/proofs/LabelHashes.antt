@@ -1,17 +1,19 @@
 -- The hashes of the labels at the places.
-use Rattle.std.proofs.Common.{◌≡◌, ℕ, ◌+◌, ◌≤◌, length, List, [], ◌∷◌, ◌++◌, Option, Bool, true, false, ◌&&◌, nat_eq, refl, sym, ap, subst, ◌∙◌, arith, slice_index, slice_range, length-append}
+use Rattle.std.proofs.Common.{◌≡◌, ℕ, ◌+◌, ◌≤◌, length, take, map, List, [], ◌∷◌, ◌++◌, Option, Bool, true, false, ◌&&◌, nat_eq, refl, sym, ap, subst, ◌∙◌, arith, slice_index, slice_range, length-append}
 use Rattle.std.proofs.lemmas.Grind.{common_steps}
-use Rattle.std.proofs.lemmas.List.{get_or_append_left}
+use Rattle.std.proofs.lemmas.List.{get_or_append_left, take-append-le}
+use Rattle.std.proofs.Math.Seq.{take-length}
 use Rattle.std.proofs.lemmas.Bool.{false≢true}
 use Rattle.std.proofs.lemmas.List.Elements.{All-push, All-tail}
 use Rattle.std.proofs.Props.{props}
 use Rattle.std.specs.List.{All}
+use Rattle.std.specs.Coded.{Coded-set, coded_list, coded_ℕ}
 use Rattle.domain_label.specs.Wire.{IsAbsoluteWire}
 use Rattle.domain_compress.specs.Compressing.{RememberedLabel}
 use Rattle.domain_compress.specs.declared.written.WrittenSuffix.{WrittenSuffix}
 use Rattle.domain_compress.specs.declared.written.Written.{Written}
 use Rattle.domain_compress.specs.Ends.{label_hash, slot_of, AreMarked}
-use Rattle.domain_compress.specs.Hashes.{hash_at, HasHash, IsHashed, IsKnown}
+use Rattle.domain_compress.specs.Hashes.{hash_at, HasHash, IsHashed, IsKnown, hash_of}
 use Rattle.domain_compress.specs.Written.{remembered, Longest}
 use Rattle.domain_compress.proofs.LongerSuffix.{kept_end}
 use Rattle.domain_compress.proofs.Marking.{not_hashed, end_some}
@@ -40,22 +42,22 @@ known_push t hashed stands new old w known here e both =
     let b = both_true hashed stands both in
     subst (λ ws. All (IsHashed t) ws) (sym e) (All-push (IsHashed t) old w (known b.0) (here b.1))
 
--- No end stands at an offset whose hash isn't marked.
-pub skipped : (t name marks : List ℕ) (w : Written) (ws : List RememberedLabel) (best : Option WrittenSuffix) → IsAbsoluteWire name → AreMarked marks name → IsHashed t w → nat_eq (slice_index marks (slot_of w.hash)) 1 ≡ false → Longest t ws name best → Longest t (ws ++ remembered w ∷ []) name best
-skipped t name marks w ws best wire_form marked here none old =
-    kept_end t name (remembered w) ws best wire_form
-    (λ xs ys e more lt s. not_hashed marks t w.place w.hash ys here (λ one. absurd (false≢true (sym none ∙ ap (λ n. nat_eq n 1) one))) (end_some name xs ys wire_form e more) (marked xs ys e more) s)
-    old
+pub take_all_items : (ws : List Written) → take (length ws) ws ≡ ws
+take_all_items ws = take-length ws
 
-pub known_first : (t : List ℕ) (rest more : List Written) (w : Written) → rest ≡ w ∷ more → All (IsHashed t) rest → IsHashed t w
-known_first t rest more w e all = (subst (λ ws. All (IsHashed t) ws) e all) 0 w (omega arith)
-
-pub known_after : (t : List ℕ) (hashed : Bool) (rest more : List Written) (w : Written) → rest ≡ w ∷ more → IsKnown hashed t rest → IsKnown hashed t more
-known_after t hashed rest more w e known = λ h. All-tail (IsHashed t) w more (subst (λ ws. All (IsHashed t) ws) e (known h))
+pub kept_push : (init new old : List Written) (w : Written) → new ≡ old ++ w ∷ [] → length init ≤ length old → take (length init) old ≡ init → take (length init) new ≡ init
+kept_push init new old w e le kept = ap (take (length init)) e ∙ (take-append-le (length init) old (w ∷ []) le ∙ kept)
 
 -- What is known is known in one way.
-pub known_once : (hashed : Bool) (t : List ℕ) (ws : List Written) → (a b : IsKnown hashed t ws) → a ≡ b
+known_once : (hashed : Bool) (t : List ℕ) (ws : List Written) → (a b : IsKnown hashed t ws) → a ≡ b
 known_once hashed t ws = Prim.hlevel props
+
+listed_once : (hs : List ℕ) (ws : List Written) → (a b : hs ≡ map hash_of ws) → a ≡ b
+listed_once hs ws = Coded-set (coded_list coded_ℕ) hs (map hash_of ws)
+
+-- So what holds it is one, whichever proofs it has.
+pub held_once : {A : Type 0} (hashed : Bool) (t hs : List ℕ) (ws : List Written) (F : hs ≡ map hash_of ws → IsKnown hashed t ws → A) (l m : hs ≡ map hash_of ws) (j k : IsKnown hashed t ws) → F l j ≡ F m k
+held_once hashed t hs ws F l m j k = ap (λ x. F x j) (listed_once hs ws l m) ∙ ap (λ y. F m y) (known_once hashed t ws j k)
 
 pub known_still : (before after : Bool) (t t' o s : List ℕ) (ws vs : List Written) → t' ≡ t ++ s → o ≡ t' → IsKnown before t ws → (IsKnown before o ws → IsKnown after o vs) → IsKnown after t' vs
 known_still before after t t' o s ws vs all read known kept =

@@ -7,5 +7,7 @@ pub mod Marking
 pub mod LongerSuffix
 pub mod OneResult
 mod LabelHashes
+pub mod HashSearch
+pub mod ByHash
 pub mod Standing
 mod Planning

@@ -64,6 +64,10 @@ seen_marked marks m p h ls lowercase e some marked s =
 pub not_hashed : (marks m : List ℕ) (p h : ℕ) (ls : List (List ℕ)) → HasHash m p h → (slice_index marks (slot_of h) ≡ 1 → ⊥) → 0 < length (first_label ls) → IsMarked marks ls → StandsAt m p ls → ⊥
 not_hashed marks m p h ls hashed none some marked s = none (seen_marked marks m p h ls hashed.0 hashed.2 some marked s)
 
+-- A name stands at no offset whose hash is another than that of its first label.
+pub other_hash : (m : List ℕ) (p h : ℕ) (ls : List (List ℕ)) → HasHash m p h → (h ≡ first_hash ls → ⊥) → 0 < length (first_label ls) → StandsAt m p ls → ⊥
+other_hash m p h ls hashed none some s = none (hashed.2 ∙ ((seen m p ls some s).hash hashed.0 ∙ same_hash _ _ (same_first s.0 ls s.2)))
+
 name_label : (name : List ℕ) (at : ℕ) (before ls : List (List ℕ)) (y : List ℕ) → Meets name at before (y ∷ ls) → slice_range name (at + 1) (at + 1 + length y) ≡ y
 name_label name at before ls y m =
     let size : at + 1 + length y - (at + 1) ≡ length y = omega arith in

@@ -6,7 +6,7 @@ use Rattle.domain_reading.specs.Grammar.{Reads}
 use Rattle.domain_rdata.specs.ReadBack.{StandsAt}
 use Rattle.domain_compress.specs.declared.written.Written.{Written}
 use Rattle.domain_compress.specs.declared.written.WrittenSuffix.{WrittenSuffix}
-use Rattle.domain_compress.specs.Compressing.{RememberedLabel, NoSuffix, LongestSuffix}
+use Rattle.domain_compress.specs.Compressing.{RememberedLabel, NoSuffix, FirstRemembered, LongestSuffix}
 
 -- the offset at which a label was written, and the end of its name
 abbrev pub remembered : Written → RememberedLabel
@@ -37,6 +37,12 @@ pub record SuffixAt (t : List ℕ) (p : ℕ) (name : List ℕ) (upto at k : ℕ)
 -- No end of the name but the root that begins before upto stands at p.
 abbrev pub NoSuffixAt : List ℕ → ℕ → List ℕ → ℕ → Type 0
 NoSuffixAt t p name upto = (xs ys : List (List ℕ)) → labels_in name ≡ xs ++ ys → 1 < length ys → length (wire xs) < upto → StandsAt t p ys → ⊥
+
+-- The offset p is the first at which such a name stands, and k pointers lead along it there.
+pub record FirstFound (t : List ℕ) (ws : List Written) (ls : List (List ℕ)) (p k : ℕ) : Type 0 where
+  pub first : FirstRemembered t (all_remembered ws) ls p
+  pub through : StandsThrough t p ls k
+  pub low : p < 16384
 
 -- The labels of the wire format up to where the end begins are before, and those after are the longest end that
 -- stands anywhere, at its offset first.

@@ -3,7 +3,7 @@ ghost use Rattle.std.specs.Prelude.{◌≡◌, ◌++◌, ◌+◌, ◌<◌, ◌�
 ghost use Rattle.domain_label.specs.Wire.{labels_in, IsAbsoluteWire};
 ghost use Rattle.domain_rdata.specs.ReadBack.{Exceeds};
 ghost use Rattle.domain_compress.specs.Beginnings.{BeginningWritten};
-ghost use Rattle.domain_compress.specs.Hashes.{IsKnown};
+ghost use Rattle.domain_compress.specs.Hashes.{IsKnown, AreListed};
 ghost use Rattle.domain_compress.specs.MayWrite.{MayWrite};
 ghost use Rattle.domain_compress.specs.Written.{all_remembered};
 
@@ -16,17 +16,19 @@ use octseq::OctetsBuilder;
 pub(crate) fn append_beginning<Target: OctetsBuilder>(
     target: &mut Target,
     written: &[Written],
+    hashes: &[u16],
     name: &[u8],
     hashed: bool,
 ) -> Result<Option<usize>, Target::AppendError>
     requires wire { IsAbsoluteWire name.now }
     requires known { IsKnown hashed (Target.octets target.now) written.now }
+    requires listed { AreListed hashed hashes.now written.now }
     ensures ok { IfOk result (λ begun. BeginningWritten begun (Target.octets target.old) (all_remembered written.now) name.now (Target.octets target.new)) }
     ensures unchanged { OnErr result (Target.octets target.new ≡ Target.octets target.old) }
     ensures full { OnErr result (Exceeds (MayWrite (Target.octets target.old) (all_remembered written.now) (labels_in name.now)) (Target.octets target.old) (Target.capacity target.old)) }
     ensures capacity { Target.capacity target.old ≤ Target.capacity target.new }
 {
-    let Some(beginning) = find_beginning(target.as_slice(), written, name, hashed) else {
+    let Some(beginning) = find_beginning(target.as_slice(), written, hashes, name, hashed) else {
         return Ok(None);
     };
     match target.append_slice(&pointed(name, beginning.begin, beginning.offset)) {

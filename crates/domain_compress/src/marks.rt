@@ -9,7 +9,7 @@ ghost use Rattle.domain_compress.specs.Hashes.{HasHash};
 const SPREAD: u64 = 11400714819323198485;
 
 /// The hash of a label, by its length and each octet, without case.
-fn hash(label: &[u8]) -> u16
+pub(crate) fn hash(label: &[u8]) -> u16
     ensures { result ≡ label_hash label.now }
 {
     let mut sum = label.len() as u64;
@@ -27,7 +27,7 @@ fn slot(hash: u16) -> usize
 }
 
 /// Whether the hash is marked.
-pub(crate) fn is_marked(marks: &[u8; 256], hash: u16) -> bool
+fn is_marked(marks: &[u8; 256], hash: u16) -> bool
     ensures { result ≡ nat_eq (slice_index marks.now (slot_of hash)) 1 }
 {
     marks[slot(hash)] == 1

@@ -1,5 +1,5 @@
 //! Remembering where labels were written.
-ghost use Rattle.std.specs.Prelude.{◌≡◌, ◌++◌, ◌+◌, ◌≤◌, take};
+ghost use Rattle.std.specs.Prelude.{◌≡◌, ◌++◌, ◌+◌, ◌≤◌, length, take};
 ghost use Rattle.domain_label.specs.Wire.{labels_in, IsWire};
 ghost use Rattle.domain_compress.specs.Compressing.{remembered_from, remembered_within};
 ghost use Rattle.domain_compress.specs.Hashes.{IsKnown};
@@ -25,6 +25,7 @@ pub(crate) fn remember(
     requires labels { IsWire labels.now }
     requires end { end ≤ start + 255 }
     ensures known { IsKnown hashed octets.now written.old.items → IsKnown result octets.now written.new.items }
+    ensures kept { take (length written.old.items) written.new.items ≡ written.old.items }
     ensures places { all_remembered written.new.items ≡ take 128 (all_remembered written.old.items ++ remembered_from start end (labels_in labels.now)) }
 {
     if written.remaining_capacity() == 0 {

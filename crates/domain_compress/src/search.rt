@@ -3,10 +3,11 @@ ghost use Rattle.std.specs.Prelude.{◌≡◌, ◌<◌, IfSome, IsNone};
 ghost use Rattle.domain_label.specs.Wire.{labels_in, IsAbsoluteWire};
 ghost use Rattle.domain_rdata.specs.ReadBack.{StandsAt};
 ghost use Rattle.domain_compress.specs.Compressing.{NoSuffix};
-ghost use Rattle.domain_compress.specs.Hashes.{IsKnown};
+ghost use Rattle.domain_compress.specs.Hashes.{IsKnown, AreListed};
 ghost use Rattle.domain_compress.specs.Written.{all_remembered, StandsThrough, SuffixAt, NoSuffixAt, SuffixFound, Improves, begin_or_length};
 
-use crate::marks::{is_marked, mark_firsts, may_stand};
+use crate::by_hash::longest_by_hash;
+use crate::marks::{mark_firsts, may_stand};
 use crate::written::{Written, WrittenSuffix};
 use domain_label::same::same_octets;
 use domain_reading::head::{Head, read_head};
@@ -15,7 +16,7 @@ use std::marker::Brand;
 use std::sync::ledger::{Blank, Ledger};
 
 /// How many pointers lead along the name at the offset, where it is this one without case.
-fn pointers_at(octets: &[u8], place: usize, name: &[u8]) -> Option<u8>
+pub(crate) fn pointers_at(octets: &[u8], place: usize, name: &[u8]) -> Option<u8>
     requires { IsAbsoluteWire name.now }
     ensures none { IsNone result → StandsAt octets.now place (labels_in name.now) → ⊥ }
     ensures some { IfSome result (λ _. StandsAt octets.now place (labels_in name.now)) }
@@ -131,16 +132,10 @@ fn better_suffix(
 /// The longest end of the name that is read at one of the offsets, without case, and the first of these. The
 /// root alone is no end.
 ///
-/// It goes over the offsets once. What stands at most of them begins with a label of another hash than any end
-/// of the name: where the hashes count, the octets aren't read there.
-pub(crate) fn longest_suffix(
-    octets: &[u8],
-    written: &[Written],
-    name: &[u8],
-    hashed: bool,
-) -> Option<WrittenSuffix>
-    requires wire { IsAbsoluteWire name.now }
-    requires known { IsKnown hashed octets.now written.now }
+/// It goes over the offsets once, and reads no hash that was kept. What stands at most of the offsets begins with a
+/// label of another hash than any end of the name: no more is read there.
+fn longest_suffix(octets: &[u8], written: &[Written], name: &[u8]) -> Option<WrittenSuffix>
+    requires { IsAbsoluteWire name.now }
     ensures none { IsNone result → NoSuffix octets.now (all_remembered written.now) (labels_in name.now) }
     ensures some { IfSome result (λ end. SuffixFound octets.now (all_remembered written.now) name.now end) }
 {
@@ -150,11 +145,7 @@ pub(crate) fn longest_suffix(
     let mut rest = written;
     'places: while let Some((first, more)) = rest.split_first() {
         rest = more;
-        if hashed {
-            if !is_marked(&marks, first.hash) {
-                continue;
-            }
-        } else if !may_stand(octets, usize::from(first.place), &marks) {
+        if !may_stand(octets, usize::from(first.place), &marks) {
             continue;
         }
         best = better_suffix(octets, *first, name, best);
@@ -165,4 +156,24 @@ pub(crate) fn longest_suffix(
         }
     }
     best
+}
+
+/// The same, by the hashes where they count.
+pub(crate) fn longest_end(
+    octets: &[u8],
+    written: &[Written],
+    hashes: &[u16],
+    name: &[u8],
+    hashed: bool,
+) -> Option<WrittenSuffix>
+    requires wire { IsAbsoluteWire name.now }
+    requires known { IsKnown hashed octets.now written.now }
+    requires listed { AreListed hashed hashes.now written.now }
+    ensures none { IsNone result → NoSuffix octets.now (all_remembered written.now) (labels_in name.now) }
+    ensures some { IfSome result (λ end. SuffixFound octets.now (all_remembered written.now) name.now end) }
+{
+    if hashed {
+        return longest_by_hash(octets, written, hashes, name);
+    }
+    longest_suffix(octets, written, name)
 }

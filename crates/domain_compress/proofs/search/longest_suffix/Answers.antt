@@ -3,12 +3,11 @@ use Rattle.std.proofs.lemmas.Bool.{false≢true}
 use Rattle.domain_rdata.specs.ReadBack.{StandsAt}
 use Rattle.domain_compress.specs.Written.{remembered}
 use Rattle.domain_compress.proofs.LongerSuffix.{kept_end, seen_start, seen_next, seen_whole}
-use Rattle.domain_compress.proofs.LabelHashes.{skipped, known_first, known_after}
 use Rattle.domain_compress.proofs.Marking.{end_some}
 use Rattle.domain_compress.proofs.search.longest_suffix.Goals as goal
 
 pub places-init : goal.places-init
-places-init c = record { seen = seen_start _ _ _; known = c.requires.known; marked = c.mark_firsts.ensures }
+places-init c = record { seen = seen_start _ _ _; marked = c.mark_firsts.ensures }
 
 pub returns-then-end-eq0-clause-some : goal.returns-then-end-eq0-clause-some
 returns-then-end-eq0-clause-some c =
@@ -16,29 +15,20 @@ returns-then-end-eq0-clause-some c =
 
 pub places-preserved-else-end-eq0 : goal.places-preserved-else-end-eq0
 places-preserved-else-end-eq0 c =
-    record { seen = seen_next _ _ _ _ _ _ _ _ c.places.invariant.seen c.in-Some.ensures.cases.0 c.in-Some-best.ensures; known = known_after _ _ _ _ _ c.in-Some.ensures.cases.0 c.places.invariant.known; marked = c.places.invariant.marked }
+    record { seen = seen_next _ _ _ _ _ _ _ _ c.places.invariant.seen c.in-Some.ensures.cases.0 c.in-Some-best.ensures; marked = c.places.invariant.marked }
 
 pub places-preserved : goal.places-preserved
 places-preserved c =
-    record { seen = seen_next _ _ _ _ _ _ _ _ c.places.invariant.seen c.in-Some.ensures.cases.0 c.better_suffix-best.ensures; known = known_after _ _ _ _ _ c.in-Some.ensures.cases.0 c.places.invariant.known; marked = c.places.invariant.marked }
-
-pub places-preserved-then-not-is_marked : goal.places-preserved-then-not-is_marked
-places-preserved-then-not-is_marked c =
-    let here = known_first _ _ _ _ c.in-Some.ensures.cases.0 (c.places.invariant.known c.if-hashed.true) in
-    record {
-      seen = seen_next _ _ _ _ _ _ _ _ c.places.invariant.seen c.in-Some.ensures.cases.0 (λ ws old. skipped _ _ _ c.in-Some.first.now ws _ c.requires.wire c.places.invariant.marked here (sym c.is_marked.ensures ∙ c.if-not-is_marked.true) old);
-      known = known_after _ _ _ _ _ c.in-Some.ensures.cases.0 c.places.invariant.known;
-      marked = c.places.invariant.marked;
-    }
+    record { seen = seen_next _ _ _ _ _ _ _ _ c.places.invariant.seen c.in-Some.ensures.cases.0 c.better_suffix-best.ensures; marked = c.places.invariant.marked }
 
 pub places-preserved-then-not-may_stand : goal.places-preserved-then-not-may_stand
 places-preserved-then-not-may_stand c =
     let w = c.in-Some.first.now in
     record {
       seen = seen_next _ _ _ _ _ _ _ _ c.places.invariant.seen c.in-Some.ensures.cases.0 (λ ws old.
-          kept_end _ _ (remembered w) ws _ c.requires.wire
-          (λ xs ys e more lt s. absurd (false≢true (c.if-not-may_stand.ensures ys (end_some _ xs ys c.requires.wire e more) (c.places.invariant.marked xs ys e more) (subst (λ p. StandsAt c.args.octets.now p ys) (sym c.from.ensures) s))))
+          kept_end _ _ (remembered w) ws _ c.requires
+          (λ xs ys e more lt s. absurd (false≢true (c.if-not-may_stand.ensures ys (end_some _ xs ys c.requires e more) (c.places.invariant.marked xs ys e more) (subst (λ p. StandsAt c.args.octets.now p ys) (sym c.from.ensures) s))))
           old);
-      known = known_after _ _ _ _ _ c.in-Some.ensures.cases.0 c.places.invariant.known;
+     
       marked = c.places.invariant.marked;
     }

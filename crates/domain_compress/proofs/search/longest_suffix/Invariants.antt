@@ -1,13 +1,11 @@
 use Rattle.std.proofs.Common.{length}
 use Rattle.domain_compress.specs.Ends.{AreMarked}
-use Rattle.domain_compress.specs.Hashes.{IsKnown}
 use Rattle.domain_compress.proofs.LongerSuffix.{Seen}
 use Rattle.domain_compress.proofs.search.longest_suffix.Given as goal
 
 abbrev pub invariant-places : goal.invariant-places
 invariant-places l = record {
   seen : Seen l.octets l.name l.written l.rest l.best;
-  known : IsKnown l.hashed l.octets l.rest;
   marked : AreMarked l.marks l.name;
 }
 

@@ -1,0 +1,31 @@
+use Rattle.std.proofs.Common.{ℕ, ◌+◌, refl, subst, sym, arith, slice_index_or}
+use Rattle.domain_label.specs.Wire.{labels_in}
+use Rattle.domain_rdata.specs.ReadBack.{StandsAt}
+use Rattle.domain_compress.specs.Written.{StandsThrough}
+use Rattle.domain_compress.proofs.ByHash.{none_upto, none_next, none_all, first_at}
+use Rattle.domain_compress.proofs.by_hash.first_place.Goals as goal
+
+pub places-init : goal.places-init
+places-init c =
+    none_upto c.args.octets.now c.args.written.now c.args.hashes.now (labels_in c.args.name.now) c.args.hash 0 c.find_hash-at.result c.requires.some c.requires.known c.requires.hashes c.requires.hash c.find_hash-at.ensures.others (λ i d lt. absurd (omega (arith, lt)))
+
+pub returns-in-Some-clause-some : goal.returns-in-Some-clause-some
+returns-in-Some-clause-some c =
+    let ls = labels_in c.args.name.now in
+    let P : ℕ → Type 0 = λ p. StandsAt c.args.octets.now p ls in
+    let Q : ℕ → Type 0 = λ p. StandsThrough c.args.octets.now p ls c.in-Some.pointers in
+    record {
+      first = first_at c.args.octets.now c.args.written.now ls c.places.at _ c.places-test.true c.places.invariant (subst P c.from.ensures c.in-Some.ensures.some);
+      through = subst Q c.from.ensures c.in-Some.ensures.through;
+      low = (slice_index_or c.args.written.now c.places.at c.index-written-at.result).low;
+    }
+
+pub places-preserved : goal.places-preserved
+places-preserved c =
+    let ls = labels_in c.args.name.now in
+    let None : ℕ → Type 0 = λ p. StandsAt c.args.octets.now p ls → ⊥ in
+    none_upto c.args.octets.now c.args.written.now c.args.hashes.now ls c.args.hash (c.places.at + 1) c.find_hash-at-in-places.result c.requires.some c.requires.known c.requires.hashes c.requires.hash c.find_hash-at-in-places.ensures.others
+    (none_next c.args.octets.now c.args.written.now ls c.places.at _ c.places-test.true c.places.invariant (subst None c.from.ensures (c.in_default.ensures.none refl)))
+
+pub returns-clause-none : goal.returns-clause-none
+returns-clause-none c = λ _. none_all c.args.octets.now c.args.written.now (labels_in c.args.name.now) c.places.at (omega (arith, c.places-test.false)) c.places.invariant
