@@ -4,7 +4,7 @@ use Rattle.std.proofs.lemmas.Grind.{common_steps}
 use Rattle.domain_label.specs.Wire.{wire, labels_in, IsWire, IsAbsolute, IsRelative, IsAbsoluteWire}
 use Rattle.domain_label.proofs.WireLaws.{labels_in_wire, relative_labels}
 use Rattle.domain_flat.proofs.LabelBounds.{IsWire_wire}
-use Rattle.domain_rdata.specs.ReadBack.{Appended, Exceeds}
+use Rattle.domain_rdata.specs.ReadBack.{Exceeds}
 use Rattle.domain_compress.specs.Compressing.{RememberedLabel, pointer_to, Compresses, IsRead, remembered_from, Adds}
 use Rattle.domain_compress.specs.Compressing.Compresses.{pointer, unread}
 use Rattle.domain_compress.specs.declared.written.WrittenSuffix.{WrittenSuffix}

@@ -1,5 +1,5 @@
 -- Searching a hash among others.
-use Rattle.std.proofs.Common.{◌≡◌, ℕ, ◌+◌, ◌-◌, ◌≤◌, ◌<◌, inl, inr, List, [], ◌∷◌, ◌++◌, length, take, drop, map, Bool, true, false, ◌||◌, nat_eq, refl, sym, ap, subst, ◌∙◌, arith, slice_index, slice_range, get_or}
+use Rattle.std.proofs.Common.{◌≡◌, ℕ, ◌+◌, ◌-◌, ◌≤◌, ◌<◌, inl, inr, List, [], ◌∷◌, ◌++◌, length, take, drop, map, Bool, true, false, ◌||◌, nat_eq, refl, sym, ap, ◌∙◌, arith, slice_index, slice_range, get_or}
 use Rattle.std.proofs.lemmas.Grind.{common_steps}
 use Rattle.std.proofs.lemmas.List.{get_or-take, get_or-drop, take_more, map-append}
 use Rattle.std.proofs.lemmas.Bool.{cases_lt, false≢true}

@@ -1,22 +1,16 @@
 -- The hashes of the labels at the places.
-use Rattle.std.proofs.Common.{◌≡◌, ℕ, ◌+◌, ◌≤◌, length, take, map, List, [], ◌∷◌, ◌++◌, Option, Bool, true, false, ◌&&◌, nat_eq, refl, sym, ap, subst, ◌∙◌, arith, slice_index, slice_range, length-append}
+use Rattle.std.proofs.Common.{◌≡◌, ℕ, ◌+◌, ◌≤◌, length, take, map, List, [], ◌∷◌, ◌++◌, Bool, true, false, ◌&&◌, refl, sym, ap, subst, ◌∙◌, arith, slice_index, slice_range, length-append}
 use Rattle.std.proofs.lemmas.Grind.{common_steps}
 use Rattle.std.proofs.lemmas.List.{get_or_append_left, take-append-le}
 use Rattle.std.proofs.Math.Seq.{take-length}
 use Rattle.std.proofs.lemmas.Bool.{false≢true}
-use Rattle.std.proofs.lemmas.List.Elements.{All-push, All-tail}
+use Rattle.std.proofs.lemmas.List.Elements.{All-push}
 use Rattle.std.proofs.Props.{props}
 use Rattle.std.specs.List.{All}
 use Rattle.std.specs.Coded.{Coded-set, coded_list, coded_ℕ}
-use Rattle.domain_label.specs.Wire.{IsAbsoluteWire}
-use Rattle.domain_compress.specs.Compressing.{RememberedLabel}
-use Rattle.domain_compress.specs.declared.written.WrittenSuffix.{WrittenSuffix}
 use Rattle.domain_compress.specs.declared.written.Written.{Written}
-use Rattle.domain_compress.specs.Ends.{label_hash, slot_of, AreMarked}
+use Rattle.domain_compress.specs.Ends.{label_hash}
 use Rattle.domain_compress.specs.Hashes.{hash_at, HasHash, IsHashed, IsKnown, hash_of}
-use Rattle.domain_compress.specs.Written.{remembered, Longest}
-use Rattle.domain_compress.proofs.LongerSuffix.{kept_end}
-use Rattle.domain_compress.proofs.Marking.{not_hashed, end_some}
 
 slice_more : (t u : List ℕ) (a b : ℕ) → b ≤ length t → slice_range (t ++ u) a b ≡ slice_range t a b
 slice_more t u a b h = grind (arith, common_steps)

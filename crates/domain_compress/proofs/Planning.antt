@@ -1,5 +1,5 @@
 -- Tables of offsets.
-use Rattle.std.proofs.Common.{◌≡◌, ℕ, List, [], ◌∷◌, ◌++◌, take, map, refl, sym, ap, ◌∙◌}
+use Rattle.std.proofs.Common.{◌≡◌, ℕ, List, [], ◌∷◌, ◌++◌, take, refl, sym, ap, ◌∙◌}
 use Rattle.std.proofs.lemmas.List.{take-map, map-append}
 use Rattle.domain_compress.specs.Compressing.{RememberedLabel}
 use Rattle.domain_compress.specs.Planned.{places_in_table, offsets}

@@ -61,8 +61,13 @@ pub(crate) fn longest_by_hash(
         let start = begin + 1;
         let end = start + usize::from(name[begin]);
         let first = hash(&name[start..end]);
-        if let Some((place, pointers)) = first_place(octets, written, hashes, &name[begin..], first)
-        {
+        if let Some((place, pointers)) = first_place(
+            octets,
+            written,
+            hashes,
+            &name[begin..],
+            first,
+        ) {
             return Some(WrittenSuffix {
                 begin,
                 place,

@@ -51,6 +51,15 @@ pub(crate) fn find_beginning(
     })
 }
 
+/// A pointer to an offset (RFC 1035, 4.1.4).
+#[inline(always)]
+pub(crate) fn pointer(offset: u16) -> [u8; 2]
+    requires { offset < 16384 }
+    ensures { result ≡ pointer_to offset }
+{
+    (49152 + offset).to_be_bytes()
+}
+
 /// The first `begin` octets of a name, and a pointer to an offset after them (RFC 1035, 4.1.4).
 pub fn pointed(name: &[u8], begin: usize, offset: u16) -> ArrayVec<u8, 255>
     requires low { offset < 16384 }
@@ -62,7 +71,7 @@ pub fn pointed(name: &[u8], begin: usize, offset: u16) -> ArrayVec<u8, 255>
     let Ok(()) = octets.try_extend_from_slice(&name[..begin]) else {
         unreachable!();
     };
-    let Ok(()) = octets.try_extend_from_slice(&(49152 + offset).to_be_bytes()) else {
+    let Ok(()) = octets.try_extend_from_slice(&pointer(offset)) else {
         unreachable!();
     };
     octets

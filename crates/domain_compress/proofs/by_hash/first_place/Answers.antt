@@ -1,4 +1,4 @@
-use Rattle.std.proofs.Common.{ℕ, ◌+◌, refl, subst, sym, arith, slice_index_or}
+use Rattle.std.proofs.Common.{ℕ, ◌+◌, refl, subst, arith, slice_index_or}
 use Rattle.domain_label.specs.Wire.{labels_in}
 use Rattle.domain_rdata.specs.ReadBack.{StandsAt}
 use Rattle.domain_compress.specs.Written.{StandsThrough}

@@ -1,4 +1,4 @@
-use Rattle.std.proofs.Common.{arith, sym, refl, ◌∙◌}
+use Rattle.std.proofs.Common.{arith}
 use Rattle.domain_compress.proofs.HashSearch.{among_none, among_part}
 use Rattle.domain_compress.proofs.hashes.pass_parts.Goals as goal
 

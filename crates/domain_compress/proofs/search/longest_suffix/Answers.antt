@@ -1,4 +1,4 @@
-use Rattle.std.proofs.Common.{sym, subst, ◌∙◌}
+use Rattle.std.proofs.Common.{sym, subst}
 use Rattle.std.proofs.lemmas.Bool.{false≢true}
 use Rattle.domain_rdata.specs.ReadBack.{StandsAt}
 use Rattle.domain_compress.specs.Written.{remembered}
@@ -29,6 +29,5 @@ places-preserved-then-not-may_stand c =
           kept_end _ _ (remembered w) ws _ c.requires
           (λ xs ys e more lt s. absurd (false≢true (c.if-not-may_stand.ensures ys (end_some _ xs ys c.requires e more) (c.places.invariant.marked xs ys e more) (subst (λ p. StandsAt c.args.octets.now p ys) (sym c.from.ensures) s))))
           old);
-     
       marked = c.places.invariant.marked;
     }
