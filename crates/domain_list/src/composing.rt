@@ -8,34 +8,6 @@ use crate::labels::{LabelIterator, ToLabelIter};
 use domain_label::Label;
 use octseq::OctetsBuilder;
 
-/// Appends the wire format of the labels that are left, or nothing.
-///
-/// The target's error where the octets don't fit, or where there was no memory for them; the target
-/// is then as before. Where they fit its spare capacity, there is none.
-pub fn compose_labels<'a, I: LabelIterator<'a>, Target: OctetsBuilder>(
-    labels: I,
-    target: &mut Target,
-) -> Result<(), Target::AppendError>
-    ensures ok { OnOk result (Target.octets target.new ≡ Target.octets target.old ++ wire (I.left labels)) }
-    ensures unchanged { OnErr result (Target.octets target.new ≡ Target.octets target.old) }
-    ensures full { OnErr result (Target.capacity target.old < length (Target.octets target.old) + length (wire (I.left labels))) }
-    ensures capacity { Target.capacity target.old ≤ Target.capacity target.new }
-    ensures within { IfSome Target.limit (λ n. length (Target.octets target.new) ≤ n) }
-    ensures fixed { IfSome Target.limit (λ n. Target.capacity target.old ≡ n) }
-{
-    let mut labels = labels;
-    let start = target.as_slice().len();
-    while let Some(label) = labels.next() {
-        if let Err(e) = label.compose(target) {
-            target.truncate(start);
-            target.keep_limit();
-            return Err(e);
-        }
-    }
-    target.keep_limit();
-    Ok(())
-}
-
 /// Puts the wire format of the labels that are left, which has `size` octets, after the first `len` octets of a
 /// buffer, and returns how many octets there are then. `None` exactly where it doesn't fit. The first `len` octets
 /// stay as they are.

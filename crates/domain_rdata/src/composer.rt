@@ -6,19 +6,8 @@ ghost use Rattle.domain_rdata.specs.FlatNames.{flat_appended, flat_reads_back};
 
 use arrayvec::ArrayVec;
 use domain_list::AbsoluteLabels;
-use domain_list::composing::compose_labels;
+use domain_list::composing::put_name;
 use octseq::{OctetsBuilder, OctetsMut};
-
-/// The wire format of a name, put together on the stack.
-fn wire_octets<'a, N: AbsoluteLabels<'a>>(name: &'a N) -> ArrayVec<u8, 255>
-    ensures { result.items ≡ wire (N.labels name.now) }
-{
-    let mut octets = ArrayVec::new();
-    let Ok(()) = compose_labels(name.iter_labels(), &mut octets) else {
-        unreachable!();
-    };
-    octets
-}
 
 /// What a message is composed into. It may write a name shorter than its wire format, by a pointer to where
 /// an equal name was written before (RFC 1035, 4.1.4).
@@ -76,7 +65,9 @@ pub trait Composer: OctetsBuilder + OctetsMut {
         if let Some(octets) = name.as_flat_slice() {
             return self.append_flat_name(octets);
         }
-        self.append_flat_name(&wire_octets(name))
+        let mut octets = [0; 255];
+        let len = put_name(name, &mut octets);
+        self.append_flat_name(&octets[..len])
     }
 
     /// Where a name was appended, octets that may be appended for it stand after those before.
