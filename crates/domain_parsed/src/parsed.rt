@@ -133,7 +133,15 @@ impl<'a> ParsedName<&'a [u8]> {
         ensures err { IfErr result (λ e. IsErrorOfName 255 parser.old e) }
         ensures unchanged { OnErr result (parser.new ≡ parser.old) }
     {
-        ParsedName::parse_with::<Brand>(parser, MAX_POINTERS, Blank::new(1))
+        // `read_name` is `read_name_counted` with a counter of its own, as `parse_counted` is with its caller's. A name
+        // that `parse_counted` returned would be copied three times more.
+        let mut entries = [0; MAX_LABELS];
+        let mut found = Progress::new(parser.pos());
+        read_name(parser.as_slice(), &mut found, &mut entries, MAX_POINTERS)?;
+        let Ok(()) = parser.seek(found.end_offset()) else {
+            unreachable!();
+        };
+        Ok(ParsedName::of(parser.octets_ref(), &found, entries))
     }
 
     /// The same as `parse`.
