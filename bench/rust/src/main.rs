@@ -81,7 +81,7 @@ fn parsed(message: &[u8], place: usize) -> Option<(ParsedName<&[u8]>, usize)> {
 }
 
 /// Reads the name: the place behind it, its length, whether it is compressed.
-#[inline(never)]
+#[inline(always)]
 fn parse(message: &[u8], place: usize) -> u64 {
     match parsed(message, place) {
         Some((name, behind)) => {
@@ -92,7 +92,7 @@ fn parse(message: &[u8], place: usize) -> u64 {
 }
 
 /// The same by a call that isn't inlined, so that the name is handed on in memory.
-#[inline(never)]
+#[inline(always)]
 fn kept(message: &[u8], place: usize) -> u64 {
     match handed_on(message, place) {
         Some((name, behind)) => {
@@ -108,7 +108,7 @@ fn handed_on(message: &[u8], place: usize) -> Option<(ParsedName<&[u8]>, usize)>
 }
 
 /// The place behind the name.
-#[inline(never)]
+#[inline(always)]
 fn skip(message: &[u8], place: usize) -> u64 {
     let mut parser = Parser::from_ref(message);
     if parser.advance(place).is_err() {
@@ -121,7 +121,7 @@ fn skip(message: &[u8], place: usize) -> u64 {
 }
 
 /// Reads the name and composes it into a buffer of 255 octets.
-#[inline(never)]
+#[inline(always)]
 fn flatten(message: &[u8], place: usize) -> u64 {
     match parsed(message, place) {
         Some((name, _)) => {
@@ -136,7 +136,7 @@ fn flatten(message: &[u8], place: usize) -> u64 {
 }
 
 /// The same in canonical form.
-#[inline(never)]
+#[inline(always)]
 fn flatten_canonical(message: &[u8], place: usize) -> u64 {
     match parsed(message, place) {
         Some((name, _)) => {
@@ -151,7 +151,7 @@ fn flatten_canonical(message: &[u8], place: usize) -> u64 {
 }
 
 /// Reads the name and makes a flat name over a `Vec<u8>` of it.
-#[inline(never)]
+#[inline(always)]
 fn to_name(message: &[u8], place: usize) -> u64 {
     match parsed(message, place) {
         Some((name, _)) => {
@@ -163,7 +163,7 @@ fn to_name(message: &[u8], place: usize) -> u64 {
 }
 
 /// Reads the name and makes a flat name over an array of 255 octets of it.
-#[inline(never)]
+#[inline(always)]
 fn to_name_array(message: &[u8], place: usize) -> u64 {
     match parsed(message, place) {
         Some((name, _)) => match name.try_to_name::<Array<255>>() {
@@ -175,7 +175,7 @@ fn to_name_array(message: &[u8], place: usize) -> u64 {
 }
 
 /// Reads the name and counts its labels.
-#[inline(never)]
+#[inline(always)]
 fn label_count(message: &[u8], place: usize) -> u64 {
     match parsed(message, place) {
         Some((name, _)) => name.label_count() as u64,
@@ -184,7 +184,7 @@ fn label_count(message: &[u8], place: usize) -> u64 {
 }
 
 /// Reads the name and takes its suffixes.
-#[inline(never)]
+#[inline(always)]
 fn parents(message: &[u8], place: usize) -> u64 {
     match parsed(message, place) {
         Some((name, _)) => name
@@ -195,7 +195,7 @@ fn parents(message: &[u8], place: usize) -> u64 {
 }
 
 /// Reads the name and hashes it.
-#[inline(never)]
+#[inline(always)]
 fn parse_hash(message: &[u8], place: usize) -> u64 {
     match parsed(message, place) {
         Some((name, _)) => {
@@ -208,7 +208,7 @@ fn parse_hash(message: &[u8], place: usize) -> u64 {
 }
 
 /// Reads the name and takes its labels from the front, and from the back.
-#[inline(never)]
+#[inline(always)]
 fn labels(message: &[u8], place: usize) -> u64 {
     match parsed(message, place) {
         Some((name, _)) => name
@@ -218,7 +218,7 @@ fn labels(message: &[u8], place: usize) -> u64 {
     }
 }
 
-#[inline(never)]
+#[inline(always)]
 fn labels_back(message: &[u8], place: usize) -> u64 {
     match parsed(message, place) {
         Some((name, _)) => name
@@ -230,7 +230,7 @@ fn labels_back(message: &[u8], place: usize) -> u64 {
 }
 
 /// Reads the name and shows it with a final dot.
-#[inline(never)]
+#[inline(always)]
 fn parse_show(message: &[u8], place: usize) -> u64 {
     match parsed(message, place) {
         Some((name, _)) => {
@@ -243,7 +243,7 @@ fn parse_show(message: &[u8], place: usize) -> u64 {
 }
 
 /// Reads the name and compares it with a flat one.
-#[inline(never)]
+#[inline(always)]
 fn parse_eq(message: &[u8], place: usize, flat: &[u8]) -> u64 {
     match (parsed(message, place), Name::from_slice(flat)) {
         (Some((name, _)), Ok(flat)) => name.name_eq(flat) as u64,
@@ -252,7 +252,7 @@ fn parse_eq(message: &[u8], place: usize, flat: &[u8]) -> u64 {
 }
 
 /// Reads the name, and its order by a flat one.
-#[inline(never)]
+#[inline(always)]
 fn parse_cmp(message: &[u8], place: usize, flat: &[u8]) -> u64 {
     match (parsed(message, place), Name::from_slice(flat)) {
         (Some((name, _)), Ok(flat)) => name.name_cmp(flat) as i8 as u8 as u64,
@@ -261,7 +261,7 @@ fn parse_cmp(message: &[u8], place: usize, flat: &[u8]) -> u64 {
 }
 
 /// Reads the name, and whether it ends with a flat one.
-#[inline(never)]
+#[inline(always)]
 fn parse_ends(message: &[u8], place: usize, flat: &[u8]) -> u64 {
     match (parsed(message, place), Name::from_slice(flat)) {
         (Some((name, _)), Ok(flat)) => name.ends_with(&flat) as u64,
@@ -269,7 +269,7 @@ fn parse_ends(message: &[u8], place: usize, flat: &[u8]) -> u64 {
     }
 }
 
-#[inline(never)]
+#[inline(always)]
 fn check(name: &[u8]) -> u64 {
     match Name::from_slice(name) {
         Ok(name) => name.len() as u64,
@@ -278,7 +278,7 @@ fn check(name: &[u8]) -> u64 {
 }
 
 /// The name read by a parser, without pointers.
-#[inline(never)]
+#[inline(always)]
 fn name_parse(name: &[u8]) -> u64 {
     let mut parser = Parser::from_ref(name);
     match Name::parse(&mut parser) {
@@ -287,7 +287,7 @@ fn name_parse(name: &[u8]) -> u64 {
     }
 }
 
-#[inline(never)]
+#[inline(always)]
 fn check_labels(name: &[u8]) -> u64 {
     match Name::from_slice(name) {
         Ok(name) => name
@@ -297,7 +297,7 @@ fn check_labels(name: &[u8]) -> u64 {
     }
 }
 
-#[inline(never)]
+#[inline(always)]
 fn check_back(name: &[u8]) -> u64 {
     match Name::from_slice(name) {
         Ok(name) => name
@@ -327,7 +327,7 @@ impl Write for Fixed {
 }
 
 /// Shows the name into an array, without memory.
-#[inline(never)]
+#[inline(always)]
 fn check_show_fixed(name: &[u8]) -> u64 {
     match Name::from_slice(name) {
         Ok(name) => {
@@ -343,7 +343,7 @@ fn check_show_fixed(name: &[u8]) -> u64 {
 }
 
 /// Shows the name without a final dot.
-#[inline(never)]
+#[inline(always)]
 fn check_display(name: &[u8]) -> u64 {
     match Name::from_slice(name) {
         Ok(name) => {
@@ -355,7 +355,7 @@ fn check_display(name: &[u8]) -> u64 {
     }
 }
 
-#[inline(never)]
+#[inline(always)]
 fn check_compose(name: &[u8]) -> u64 {
     match Name::from_slice(name) {
         Ok(name) => {
@@ -369,7 +369,7 @@ fn check_compose(name: &[u8]) -> u64 {
     }
 }
 
-#[inline(never)]
+#[inline(always)]
 fn check_canonical(name: &[u8]) -> u64 {
     match Name::from_slice(name) {
         Ok(name) => {
@@ -383,7 +383,7 @@ fn check_canonical(name: &[u8]) -> u64 {
     }
 }
 
-#[inline(never)]
+#[inline(always)]
 fn check_to_vec(name: &[u8]) -> u64 {
     match Name::from_slice(name) {
         Ok(name) => told(name.to_vec().as_slice(), name.len()),
@@ -391,7 +391,7 @@ fn check_to_vec(name: &[u8]) -> u64 {
     }
 }
 
-#[inline(never)]
+#[inline(always)]
 fn check_suffixes(name: &[u8]) -> u64 {
     match Name::from_slice(name) {
         Ok(name) => name
@@ -402,7 +402,7 @@ fn check_suffixes(name: &[u8]) -> u64 {
 }
 
 /// Splits the name at the first label from the middle on.
-#[inline(never)]
+#[inline(always)]
 fn check_split(name: &[u8]) -> u64 {
     match Name::from_slice(name) {
         Ok(name) => {
@@ -418,7 +418,7 @@ fn check_split(name: &[u8]) -> u64 {
     }
 }
 
-#[inline(never)]
+#[inline(always)]
 fn check_composed(left: &[u8], right: &[u8]) -> u64 {
     match (Name::from_slice(left), Name::from_slice(right)) {
         (Ok(left), Ok(right)) => left.composed_cmp(right) as i8 as u8 as u64,
@@ -426,7 +426,7 @@ fn check_composed(left: &[u8], right: &[u8]) -> u64 {
     }
 }
 
-#[inline(never)]
+#[inline(always)]
 fn check_lower_composed(left: &[u8], right: &[u8]) -> u64 {
     match (Name::from_slice(left), Name::from_slice(right)) {
         (Ok(left), Ok(right)) => left.lowercase_composed_cmp(right) as i8 as u8 as u64,
@@ -434,7 +434,7 @@ fn check_lower_composed(left: &[u8], right: &[u8]) -> u64 {
     }
 }
 
-#[inline(never)]
+#[inline(always)]
 fn check_starts(left: &[u8], right: &[u8]) -> u64 {
     match (Name::from_slice(left), Name::from_slice(right)) {
         (Ok(left), Ok(right)) => left.starts_with(&right) as u64,
@@ -442,7 +442,7 @@ fn check_starts(left: &[u8], right: &[u8]) -> u64 {
     }
 }
 
-#[inline(never)]
+#[inline(always)]
 fn check_ends(left: &[u8], right: &[u8]) -> u64 {
     match (Name::from_slice(left), Name::from_slice(right)) {
         (Ok(left), Ok(right)) => left.ends_with(&right) as u64,
@@ -450,7 +450,7 @@ fn check_ends(left: &[u8], right: &[u8]) -> u64 {
     }
 }
 
-#[inline(never)]
+#[inline(always)]
 fn check_strip(left: &[u8], right: &[u8]) -> u64 {
     match (Name::from_octets(left), Name::from_slice(right)) {
         (Ok(left), Ok(right)) => match left.strip_suffix(&right) {
@@ -461,7 +461,7 @@ fn check_strip(left: &[u8], right: &[u8]) -> u64 {
     }
 }
 
-#[inline(never)]
+#[inline(always)]
 fn check_eq(left: &[u8], right: &[u8]) -> u64 {
     match (Name::from_slice(left), Name::from_slice(right)) {
         (Ok(left), Ok(right)) => left.name_eq(right) as u64,
@@ -469,7 +469,7 @@ fn check_eq(left: &[u8], right: &[u8]) -> u64 {
     }
 }
 
-#[inline(never)]
+#[inline(always)]
 fn check_cmp(left: &[u8], right: &[u8]) -> u64 {
     match (Name::from_slice(left), Name::from_slice(right)) {
         (Ok(left), Ok(right)) => left.name_cmp(right) as i8 as u8 as u64,
@@ -477,7 +477,7 @@ fn check_cmp(left: &[u8], right: &[u8]) -> u64 {
     }
 }
 
-#[inline(never)]
+#[inline(always)]
 fn check_hash(name: &[u8]) -> u64 {
     match Name::from_slice(name) {
         Ok(name) => {
@@ -489,7 +489,7 @@ fn check_hash(name: &[u8]) -> u64 {
     }
 }
 
-#[inline(never)]
+#[inline(always)]
 fn check_show(name: &[u8]) -> u64 {
     match Name::from_slice(name) {
         Ok(name) => {
@@ -502,7 +502,7 @@ fn check_show(name: &[u8]) -> u64 {
 }
 
 /// Reads a name from text: over a `Vec<u8>`, and over an array of 255 octets.
-#[inline(never)]
+#[inline(always)]
 fn from_chars(text: &[u8]) -> u64 {
     let at = text.len() / 2;
     let Ok(text) = std::str::from_utf8(text) else {
@@ -514,7 +514,7 @@ fn from_chars(text: &[u8]) -> u64 {
     }
 }
 
-#[inline(never)]
+#[inline(always)]
 fn from_chars_array(text: &[u8]) -> u64 {
     let at = text.len() / 2;
     let Ok(text) = std::str::from_utf8(text) else {
@@ -527,7 +527,7 @@ fn from_chars_array(text: &[u8]) -> u64 {
 }
 
 /// The same by the calls that take a `&str`.
-#[inline(never)]
+#[inline(always)]
 fn vec_from_str(text: &[u8]) -> u64 {
     let at = text.len() / 2;
     let Ok(text) = std::str::from_utf8(text) else {
@@ -539,7 +539,7 @@ fn vec_from_str(text: &[u8]) -> u64 {
     }
 }
 
-#[inline(never)]
+#[inline(always)]
 fn from_str_array(text: &[u8]) -> u64 {
     let at = text.len() / 2;
     let Ok(text) = std::str::from_utf8(text) else {
@@ -552,7 +552,7 @@ fn from_str_array(text: &[u8]) -> u64 {
 }
 
 /// Checks the name, appends its labels to a builder over a `Vec<u8>`.
-#[inline(never)]
+#[inline(always)]
 fn append_labels(name: &[u8]) -> u64 {
     let Ok(name) = Name::from_slice(name) else {
         return REFUSED;
@@ -570,7 +570,7 @@ fn append_labels(name: &[u8]) -> u64 {
 }
 
 /// Checks the name, pushes its octets one by one to a builder over an array.
-#[inline(never)]
+#[inline(always)]
 fn push_octets(name: &[u8]) -> u64 {
     let Ok(name) = Name::from_slice(name) else {
         return REFUSED;
@@ -590,7 +590,7 @@ fn push_octets(name: &[u8]) -> u64 {
     }
 }
 
-#[inline(never)]
+#[inline(always)]
 fn chained(name: &[u8]) -> u64 {
     let Ok(name) = Name::from_slice(name) else {
         return REFUSED;
@@ -663,7 +663,7 @@ fn answers(message: &[u8]) -> Option<Records<'_>> {
 }
 
 /// Type, class, TTL and length of the data of each record.
-#[inline(never)]
+#[inline(always)]
 fn records(message: &[u8]) -> u64 {
     let Some(records) = answers(message) else {
         return REFUSED;
@@ -718,7 +718,7 @@ fn number_of(record: &ParsedRecord<'_>) -> Result<usize, ParseError> {
 }
 
 /// The owner's length of each record, and its data.
-#[inline(never)]
+#[inline(always)]
 fn record_data(message: &[u8]) -> u64 {
     let Some(records) = answers(message) else {
         return REFUSED;
@@ -738,7 +738,7 @@ fn record_data(message: &[u8]) -> u64 {
 }
 
 /// The addresses of the records with IPv4 addresses.
-#[inline(never)]
+#[inline(always)]
 fn records_of_type(message: &[u8]) -> u64 {
     let Some(records) = answers(message) else {
         return REFUSED;
@@ -933,6 +933,89 @@ fn add(sum: u64, result: u64) -> u64 {
         .rotate_left(29)
 }
 
+//------------ The border ----------------------------------------------------
+
+/// The octets that a C function is lent. The test for null is the one that the port's compiler makes of each slice
+/// there, instruction by instruction.
+#[inline(always)]
+fn lent<'a>(octets: *const u8, len: usize) -> &'a [u8] {
+    let octets = octets.wrapping_add(usize::from(octets.is_null()) << 12);
+    unsafe { std::slice::from_raw_parts(octets, len) }
+}
+
+/// An operation behind a C function, as another implementation's is, so that the border between two languages costs
+/// the same on both sides.
+macro_rules! on_message {
+    ($op:ident) => {
+        (stringify!($op), {
+            #[inline(never)]
+            extern "C" fn border(octets: *const u8, len: usize, place: usize) -> u64 {
+                $op(lent(octets, len), place)
+            }
+            fn call(message: &[u8], place: usize) -> u64 {
+                border(message.as_ptr(), message.len(), place)
+            }
+            call
+        })
+    };
+}
+
+macro_rules! on_name {
+    ($op:ident) => {
+        (stringify!($op), {
+            #[inline(never)]
+            extern "C" fn border(octets: *const u8, len: usize) -> u64 {
+                $op(lent(octets, len))
+            }
+            fn call(name: &[u8]) -> u64 {
+                border(name.as_ptr(), name.len())
+            }
+            call
+        })
+    };
+}
+
+macro_rules! on_pair {
+    ($op:ident) => {
+        (stringify!($op), {
+            #[inline(never)]
+            extern "C" fn border(
+                left: *const u8,
+                left_len: usize,
+                right: *const u8,
+                right_len: usize,
+            ) -> u64 {
+                $op(lent(left, left_len), lent(right, right_len))
+            }
+            fn call(left: &[u8], right: &[u8]) -> u64 {
+                border(left.as_ptr(), left.len(), right.as_ptr(), right.len())
+            }
+            call
+        })
+    };
+}
+
+macro_rules! on_message_and_name {
+    ($op:ident) => {
+        (stringify!($op), {
+            #[inline(never)]
+            extern "C" fn border(
+                octets: *const u8,
+                len: usize,
+                place: usize,
+                name: *const u8,
+                name_len: usize,
+            ) -> u64 {
+                $op(lent(octets, len), place, lent(name, name_len))
+            }
+            fn call(message: &[u8], place: usize, name: &[u8]) -> u64 {
+                border(message.as_ptr(), message.len(), place, name.as_ptr(), name.len())
+            }
+            call
+        })
+    };
+}
+
 type OnMessage = fn(&[u8], usize) -> u64;
 type OnName = fn(&[u8]) -> u64;
 type OnPair = fn(&[u8], &[u8]) -> u64;
@@ -954,62 +1037,62 @@ struct Peer {
 const DOMAIN: Peer = Peer {
     name: "rust-domain",
     messages: &[
-        ("parse", parse),
-        ("kept", kept),
-        ("skip", skip),
-        ("flatten", flatten),
-        ("flatten_canonical", flatten_canonical),
-        ("to_name", to_name),
-        ("to_name_array", to_name_array),
-        ("parse_hash", parse_hash),
-        ("labels", labels),
-        ("labels_back", labels_back),
-        ("label_count", label_count),
-        ("parents", parents),
-        ("parse_show", parse_show),
+        on_message!(parse),
+        on_message!(kept),
+        on_message!(skip),
+        on_message!(flatten),
+        on_message!(flatten_canonical),
+        on_message!(to_name),
+        on_message!(to_name_array),
+        on_message!(parse_hash),
+        on_message!(labels),
+        on_message!(labels_back),
+        on_message!(label_count),
+        on_message!(parents),
+        on_message!(parse_show),
     ],
     names: &[
-        ("check", check),
-        ("name_parse", name_parse),
-        ("check_hash", check_hash),
-        ("check_labels", check_labels),
-        ("check_back", check_back),
-        ("check_show", check_show),
-        ("check_show_fixed", check_show_fixed),
-        ("check_display", check_display),
-        ("check_compose", check_compose),
-        ("check_canonical", check_canonical),
-        ("check_to_vec", check_to_vec),
-        ("check_suffixes", check_suffixes),
-        ("check_split", check_split),
-        ("append_labels", append_labels),
-        ("push_octets", push_octets),
-        ("chained", chained),
+        on_name!(check),
+        on_name!(name_parse),
+        on_name!(check_hash),
+        on_name!(check_labels),
+        on_name!(check_back),
+        on_name!(check_show),
+        on_name!(check_show_fixed),
+        on_name!(check_display),
+        on_name!(check_compose),
+        on_name!(check_canonical),
+        on_name!(check_to_vec),
+        on_name!(check_suffixes),
+        on_name!(check_split),
+        on_name!(append_labels),
+        on_name!(push_octets),
+        on_name!(chained),
     ],
     pairs: &[
-        ("check_eq", check_eq),
-        ("check_cmp", check_cmp),
-        ("check_composed", check_composed),
-        ("check_lower_composed", check_lower_composed),
-        ("check_starts", check_starts),
-        ("check_ends", check_ends),
-        ("check_strip", check_strip),
+        on_pair!(check_eq),
+        on_pair!(check_cmp),
+        on_pair!(check_composed),
+        on_pair!(check_lower_composed),
+        on_pair!(check_starts),
+        on_pair!(check_ends),
+        on_pair!(check_strip),
     ],
     texts: &[
-        ("from_chars", from_chars),
-        ("from_chars_array", from_chars_array),
-        ("vec_from_str", vec_from_str),
-        ("from_str_array", from_str_array),
+        on_name!(from_chars),
+        on_name!(from_chars_array),
+        on_name!(vec_from_str),
+        on_name!(from_str_array),
     ],
     mixed: &[
-        ("parse_eq", parse_eq),
-        ("parse_cmp", parse_cmp),
-        ("parse_ends", parse_ends),
+        on_message_and_name!(parse_eq),
+        on_message_and_name!(parse_cmp),
+        on_message_and_name!(parse_ends),
     ],
     wholes: &[
-        ("records", records),
-        ("record_data", record_data),
-        ("records_of_type", records_of_type),
+        on_name!(records),
+        on_name!(record_data),
+        on_name!(records_of_type),
     ],
     streams: &[],
     composing: &[],
