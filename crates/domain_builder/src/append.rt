@@ -10,8 +10,8 @@ ghost use Rattle.domain_builder.specs.Pushing.{TakesSymbol, TakesSymbols};
 ghost use Rattle.domain_builder.specs.Inside.{room};
 
 use crate::labels::LabelsBuilder;
-use domain_label::scan::{Symbol, SymbolCharsError, Symbols, WholeSymbols};
-use domain_text_grammar::{FromStrError, NameSymbol, TextFault, name_symbol_of};
+use domain_label::scan::{Symbol, SymbolCharsError, Symbols};
+use domain_text_grammar::{FromStrError, NameSymbol, TextFault, WholeSymbols, name_symbol_of};
 use octseq::{OctetsBuilder, OctetsMut};
 
 impl<B: OctetsBuilder + OctetsMut> LabelsBuilder<B> {

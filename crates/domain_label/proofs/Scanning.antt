@@ -1,14 +1,13 @@
 -- What an iterator over symbols gives.
-use Rattle.std.proofs.Common.{◌≡◌, ℕ, ◌+◌, ◌<◌, inl, inr, List, [], ◌∷◌, ◌++◌, Option, Some, None, Result, Ok, Err, true, false, refl, ap, sym, ◌∙◌, subst, arith, ◌/◌, ◌%◌, ◌≢◌, MatchResult, map}
+use Rattle.std.proofs.Common.{◌≡◌, ℕ, ◌+◌, ◌<◌, inl, inr, List, [], ◌∷◌, ◌++◌, Option, Some, None, Result, Ok, Err, true, false, refl, ap, sym, ◌∙◌, subst, arith, ◌/◌, ◌%◌, ◌≢◌, MatchResult}
 use Rattle.std.specs.Iterator.{AlwaysYields}
 use Rattle.domain_label.specs.declared.symbol.Symbol.{Symbol}
 use Rattle.domain_label.specs.declared.symbol.Symbol.TheVariants.{Char, DecimalEscape}
 use Rattle.domain_label.specs.declared.symbol.SymbolCharsError.{SymbolCharsError}
 use Rattle.domain_label.specs.declared.symbol.SymbolCharsError.TheVariants.{ShortInput, BadEscape}
 use Rattle.domain_label.specs.declared.symbols.Symbols.{Symbols}
-use Rattle.domain_label.specs.declared.whole.WholeSymbols.{WholeSymbols}
 use Rattle.domain_label.specs.Spelling.{IsDigit, number, spelling, IsBroken, ReadsSymbols}
-use Rattle.domain_label.specs.Scanning.{GivesSymbol, SymbolSteps, GivesDigit, GivesEscape, WholeSteps}
+use Rattle.domain_label.specs.Scanning.{GivesSymbol, SymbolSteps, GivesDigit, GivesEscape}
 use Rattle.domain_label.proofs.ReadOnce.{digits_of, one_symbol, none_spelled, none_broken, whole_or_broken, one_fault}
 
 -- where each run gives cs, an item is the first of cs
@@ -89,17 +88,3 @@ module _ {I : Type 0} (steps : I → Option ℕ → I → Type 0) (s t : Symbols
 -- the characters of an escape that is a number
 pub decimal : (a b c value : ℕ) (cs more last rest : List ℕ) → cs ≡ a ∷ more → more ≡ b ∷ last → last ≡ c ∷ rest → IsDigit a → IsDigit b → IsDigit c → value ≡ number a b c → 92 ∷ cs ≡ spelling (DecimalEscape value) ++ rest
 decimal a b c value cs more last rest p q r d f g e = rw e (whole a b c cs more last rest p q r d f g)
-
--- symbols that were read already are given in turn
-module _ {I : Type 0} (steps : I → Option Symbol → I → Type 0) where
-  none_left : (s : WholeSymbols I) (x : Result Symbol SymbolCharsError) (t : WholeSymbols I) → AlwaysYields steps (λ x. x) s.symbols [] → WholeSteps steps s (Some x) t → ⊥
-  none_left s (Ok x) t h step = h x t.symbols step
-  none_left s (Err e) t h step = step
-
-  next_whole : (y : Symbol) (ss : List Symbol) (s : WholeSymbols I) (x : Result Symbol SymbolCharsError) (t : WholeSymbols I) → AlwaysYields steps (λ x. x) s.symbols (y ∷ ss) → ((u : WholeSymbols I) → AlwaysYields steps (λ x. x) u.symbols ss → AlwaysYields (WholeSteps steps) (λ x. x) u (map Ok ss)) → WholeSteps steps s (Some x) t → (x ≡ Ok y) × AlwaysYields (WholeSteps steps) (λ x. x) t (map Ok ss)
-  next_whole y ss s (Ok x) t h more step = let k = h.1 x t.symbols step in (ap Ok k.0, more t k.1)
-  next_whole y ss s (Err e) t h more step = absurd step
-
-  pub gives_whole : (ss : List Symbol) (s : WholeSymbols I) → AlwaysYields steps (λ x. x) s.symbols ss → AlwaysYields (WholeSteps steps) (λ x. x) s (map Ok ss)
-  gives_whole [] s h = λ x t step. none_left s x t h step
-  gives_whole (y ∷ ss) s h = (λ t step. h.0 t.symbols step, λ x t step. next_whole y ss s x t h (λ u k. gives_whole ss u k) step)

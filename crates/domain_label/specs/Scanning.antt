@@ -4,7 +4,6 @@ use Rattle.std.specs.Iterator.{AlwaysYields, IsFinite, Count}
 use Rattle.domain_label.specs.declared.symbol.Symbol.{Symbol}
 use Rattle.domain_label.specs.declared.symbol.SymbolCharsError.{SymbolCharsError}
 use Rattle.domain_label.specs.declared.symbols.Symbols.{Symbols}
-use Rattle.domain_label.specs.declared.whole.WholeSymbols.{WholeSymbols}
 use Rattle.domain_label.specs.declared.symbol.SymbolCharsError.TheVariants.{ShortInput, BadEscape}
 use Rattle.domain_label.specs.Spelling.{spelling, HasSpelling, IsBroken, IsDigit, IsNoDigit}
 use Rattle.domain_label.specs.LabelText.{IsLabelSymbol, IsBrokenInLabel, BeginsWithOctet, NoOctet}
@@ -43,16 +42,6 @@ abbrev pub GivesDigit : {I : Type 0} → (I → Option ℕ → I → Type 0) →
 GivesDigit steps cs (Err ShortInput) left = cs ≡ []
 GivesDigit steps cs (Err BadEscape) left = (c : ℕ) × (rest : List ℕ) × (cs ≡ c ∷ rest) × IsNoDigit c
 GivesDigit steps cs (Ok d) left = IsDigit d × ((rest : List ℕ) × (cs ≡ d ∷ rest) × AlwaysYields steps (λ c. c) left rest)
-
--- the source of symbols
-abbrev pub symbols_of : {I : Type 0} → WholeSymbols I → I
-symbols_of s = s.symbols
-
--- A call gives the next of the symbols.
-abbrev pub WholeSteps : {I : Type 0} → (I → Option Symbol → I → Type 0) → WholeSymbols I → Option (Result Symbol SymbolCharsError) → WholeSymbols I → Type 0
-WholeSteps steps s None t = steps s.symbols None t.symbols
-WholeSteps steps s (Some (Ok x)) t = steps s.symbols (Some x) t.symbols
-WholeSteps steps s (Some (Err e)) t = ⊥
 
 -- What was read of an escape in the text of a label, and what is left.
 abbrev pub GivesLabelEscape : {I : Type 0} → (I → Option ℕ → I → Type 0) → List ℕ → Result Symbol SymbolCharsError → I → Type 0

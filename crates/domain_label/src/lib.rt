@@ -17,7 +17,6 @@ pub mod slice_labels;
 pub mod split;
 mod symbol;
 mod symbols;
-mod whole;
 
 pub use label::{Label, LongLabelError};
 pub use label_mut::LabelMut;

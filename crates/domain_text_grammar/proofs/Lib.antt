@@ -4,3 +4,4 @@ pub mod OneOutcome
 pub mod Reading
 pub mod Outcomes
 pub mod DisplayedIsRead
+pub mod SymbolsInHand

@@ -4,3 +4,4 @@ pub mod TextGrammar
 pub mod ErrorText
 pub mod Laws
 pub mod TextErrors
+pub mod SymbolsInHand

@@ -6,7 +6,9 @@
 pub mod error;
 pub mod laws;
 pub mod name_symbol;
+pub mod whole;
 
 pub use error::{FromStrError, PresentationError, PresentationErrorKind, RelativeFromStrError};
 pub use laws::text_laws;
 pub use name_symbol::{NameSymbol, TextFault, name_symbol_of};
+pub use whole::WholeSymbols;

@@ -17,9 +17,9 @@ ghost use Rattle.domain_text_grammar.specs.declared.name_symbol.NameSymbol.{Name
 use crate::buffer::NameBuffer;
 use crate::plain::is_plain;
 use arrayvec::ArrayVec;
-use domain_label::scan::{Symbol, SymbolCharsError, Symbols, WholeSymbols};
+use domain_label::scan::{Symbol, SymbolCharsError, Symbols};
 use domain_text_grammar::{
-    FromStrError, NameSymbol, RelativeFromStrError, TextFault, name_symbol_of,
+    FromStrError, NameSymbol, RelativeFromStrError, TextFault, WholeSymbols, name_symbol_of,
 };
 use octseq::{EmptyBuilder, FromBuilder, ShortBuf};
 use std::alloc::Global;

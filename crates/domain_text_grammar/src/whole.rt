@@ -2,9 +2,9 @@
 ghost use Rattle.std.specs.Prelude.{◌≡◌, List, map, Ok};
 ghost use Rattle.std.specs.Iterator.{AlwaysYields, IsFinite};
 ghost use Rattle.domain_label.specs.declared.symbol.Symbol.{Symbol};
-ghost use Rattle.domain_label.specs.Scanning.{WholeSteps, symbols_of};
+ghost use Rattle.domain_text_grammar.specs.SymbolsInHand.{WholeSteps, symbols_of};
 
-use crate::symbol::{Symbol, SymbolCharsError};
+use domain_label::scan::{Symbol, SymbolCharsError};
 
 /// Symbols as what is read of a text, for calls that take either. None of them is a broken escape.
 #[derive(Drop)]
