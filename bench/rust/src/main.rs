@@ -104,7 +104,10 @@ fn kept(message: &[u8], place: usize) -> u64 {
 
 #[inline(never)]
 fn handed_on(message: &[u8], place: usize) -> Option<(ParsedName<&[u8]>, usize)> {
-    parsed(message, place)
+    let mut parser = Parser::from_ref(message);
+    parser.advance(place).ok()?;
+    let name = ParsedName::parse(&mut parser).ok()?;
+    Some((name, parser.pos()))
 }
 
 /// The place behind the name.
@@ -944,7 +947,8 @@ fn lent<'a>(octets: *const u8, len: usize) -> &'a [u8] {
 }
 
 /// An operation behind a C function, as another implementation's is, so that the border between two languages costs
-/// the same on both sides.
+/// the same on both sides. The function is called by an address that is read anew for each call, as that of a function
+/// of another library is; else the compiler would see that no slice is null, and leave the test out.
 macro_rules! on_message {
     ($op:ident) => {
         (stringify!($op), {
@@ -953,6 +957,8 @@ macro_rules! on_message {
                 $op(lent(octets, len), place)
             }
             fn call(message: &[u8], place: usize) -> u64 {
+                static BORDER: extern "C" fn(*const u8, usize, usize) -> u64 = border;
+                let border = unsafe { std::ptr::read_volatile(&BORDER) };
                 border(message.as_ptr(), message.len(), place)
             }
             call
@@ -968,6 +974,8 @@ macro_rules! on_name {
                 $op(lent(octets, len))
             }
             fn call(name: &[u8]) -> u64 {
+                static BORDER: extern "C" fn(*const u8, usize) -> u64 = border;
+                let border = unsafe { std::ptr::read_volatile(&BORDER) };
                 border(name.as_ptr(), name.len())
             }
             call
@@ -988,6 +996,8 @@ macro_rules! on_pair {
                 $op(lent(left, left_len), lent(right, right_len))
             }
             fn call(left: &[u8], right: &[u8]) -> u64 {
+                static BORDER: extern "C" fn(*const u8, usize, *const u8, usize) -> u64 = border;
+                let border = unsafe { std::ptr::read_volatile(&BORDER) };
                 border(left.as_ptr(), left.len(), right.as_ptr(), right.len())
             }
             call
@@ -1009,6 +1019,8 @@ macro_rules! on_message_and_name {
                 $op(lent(octets, len), place, lent(name, name_len))
             }
             fn call(message: &[u8], place: usize, name: &[u8]) -> u64 {
+                static BORDER: extern "C" fn(*const u8, usize, usize, *const u8, usize) -> u64 = border;
+                let border = unsafe { std::ptr::read_volatile(&BORDER) };
                 border(message.as_ptr(), message.len(), place, name.as_ptr(), name.len())
             }
             call
