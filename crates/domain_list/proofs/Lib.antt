@@ -12,3 +12,4 @@ pub mod SuffixBySize
 pub mod Octetwise
 pub mod BufferContents
 pub mod TextThroughBuffer
+pub mod DottedText

@@ -10,3 +10,4 @@ pub mod ChainParts
 pub mod Joined
 pub mod EqualSuffixes
 pub mod Moving
+pub mod Dotted

@@ -6,6 +6,7 @@ ghost use Rattle.domain_label.specs.Labels.{label_octets};
 ghost use Rattle.domain_label.specs.Wire.{wire};
 
 use crate::labels::{AbsoluteLabels, LabelIterator};
+use crate::unescaped::{after_dot, put_unescaped};
 use arrayvec::ArrayVec;
 use domain_label::Label;
 use domain_label::presentation::{ascii_text, push_label};
@@ -66,6 +67,10 @@ impl<'a, N: AbsoluteLabels<'a>> fmt::Display for DisplayWithDot<'a, N> {
     ghost output = { λ shown. Some (text_with_final_dot (N.labels (dotted_name shown))) };
 
     fn fmt<W: fmt::Write>(&self, f: &mut fmt::Formatter<W>) -> fmt::Result {
+        let mut octets = [0; 255];
+        if let Some(len) = put_unescaped(self.name, &mut octets) {
+            return f.write_str(ascii_text(after_dot(&octets[..len])));
+        }
         let mut text = ArrayVec::<u8, 1020>::new();
         push_dotted(self.name.iter_labels(), &mut text);
         f.write_str(ascii_text(text.as_slice()))

@@ -13,6 +13,7 @@ pub mod joined;
 pub mod labels;
 pub mod laws;
 pub mod lent;
+mod unescaped;
 
 pub use chain::{Chain, ChainIter, LongChainError};
 pub use dotted::DisplayWithDot;
