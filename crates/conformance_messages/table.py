@@ -4,16 +4,20 @@
     table.py ANSWERER [WORD ..]
     table.py --random COUNT SEED
 
-ANSWERER is a command that answers the lines of docs/CONFORMANCE.md. No answer comes from the program itself. Parts of
-answers that stand here beside their line must be in what the ANSWERER says.
+ANSWERER is a command that answers the lines of docs/conformance-messages.md; those of `answers` and `limit` are answered
+by second.py. No answer comes from the program itself. Parts of answers that stand here beside their line must be in what
+is answered.
 
 With --random it prints lines of so many random and mutated messages, always the same for a SEED.
 """
+import ipaddress
 import itertools
 import os
 import random
 import subprocess
 import sys
+
+import second
 
 rows = []  # (line, what must be in its answer, or None)
 
@@ -308,6 +312,110 @@ def chain_rows():
     row("message", message(ask, chain + [record(name("n59.example"), CNAME, name("n0.example"))]), told="canonical=none")
 
 
+def answers_rows():
+    topic("which message answers which query: the response flag, the identifier, the questions in their order, case")
+    query = header((1, 0, 0, 0), bits=0x0100) + question(WWW)
+    reply = message([question(WWW)], [record(AT, A, b"\xc0\0\2\1")])
+
+    def asked(octets, told, of=query):
+        row("answers", of, octets, told=told)
+
+    asked(reply, "1")
+    asked(query, "0")
+    asked(query, "0", of=reply)
+    asked(reply, "1", of=reply)
+    asked(reply + b"\xff" * 5, "1")
+    for bit in range(16):
+        asked(header((1, 0, 0, 0), bits=1 << bit) + question(WWW), "1" if bit == 15 else "0")
+        asked(header((1, 0, 0, 0), bits=0xFFFF ^ 1 << bit) + question(WWW), "0" if bit == 15 else "1")
+        asked(header((1, 0, 0, 0), ident=0x1234 ^ 1 << bit) + question(WWW), "0")
+    for size in range(len(reply)):
+        asked(reply[:size], "err short message" if size < 12 else "1" if size >= 33 else "0")
+    for size in range(len(query)):
+        asked(reply, "err short message" if size < 12 else "0", of=query[:size])
+    for rtype, rclass, told in ((A, 1, "1"), (NS, 1, "0"), (257, 1, "0"), (A, 3, "0"), (A, 257, "0"), (0, 0, "0"), (255, 255, "0")):
+        asked(message([question(WWW, rtype, rclass)]), told)
+    for text, told in (("WWW.EXAMPLE.COM", "1"), ("wWw.eXample.coM", "1"), ("ww.example.com", "0"), ("www.example", "0"), ("", "0"),
+                       ("w.www.example.com", "0"), ("wwv.example.com", "0"), ("www.example.con", "0"), ("wwwexample.com", "0")):
+        asked(message([question(name(text))]), told)
+    for one, other, told in ((b"@", b"`", "0"), (b"[", b"{", "0"), (b"A", b"a", "1"), (b"z", b"Z", "1"), (b"\xc0", b"\xe0", "0"), (b"\0", b" ", "0")):
+        asked(message([question(b"\1" + one + b"\0")]), told, of=message([question(b"\1" + other + b"\0")]))
+    two = [question(WWW), question(name("b"), MX)]
+    for theirs, ours, told in ((two, two, "1"), (two, two[::-1], "0"), (two, two[:1], "0"), (two[:1], two, "0"), ((), (), "1"),
+                               ((), two, "0"), (two, (), "0"), (two, two[:1] * 2, "0"), (two * 2, two * 2, "1")):
+        asked(message(ours), told, of=message(theirs, bits=0x0100))
+    for count in (0, 1, 2, 255, 65535):
+        asked(reply[:4] + u16(count) + reply[6:], "1" if count == 1 else "0")
+        asked(reply[:4] + u16(count) + reply[6:], "1" if count in (0, 1) else "0", of=query[:4] + u16(count) + query[6:])
+    for owner, told in ((name("B.www.Example.com"), "1"), (b"\1b" + AT, "1"), (AT, "0"), (b"\1b" + pointer(35), "0"), (b"\x40\0", "0")):
+        both = message([question(WWW), question(owner)])
+        asked(both, told, of=message([question(WWW), question(name("b.www.example.com"))], bits=0))
+        asked(both, "1" if told == "1" or owner == AT else "0", of=both[:2] + u16(0) + both[4:])
+    for line in ("answers", "answers 00", "answers 00 00 00", "answers 0 00", "answers x -"):
+        row(line, told="bad")
+    row("answers", b"", b"", told="err short message")
+
+
+def limit_rows():
+    topic("the answers of one type: cut at each octet, other sections, classes, data that is bad, counts, types")
+    words = {"a": A, "aaaa": AAAA, "ns": NS, "cname": CNAME, "ptr": PTR, "mx": MX, "soa": SOA, "srv": SRV, "txt": TXT, "dname": DNAME}
+    of_type = {**OF_TYPE, TXT: b"\3a \"\0\2\\\xff"}
+    ask = [question(WWW)]
+
+    def limited(word, octets, told=None):
+        row("limit", word, octets, told=told)
+
+    hosts = message(ask, [
+        record(AT, MX, u16(20) + b"\1b" + END), record(END, A, b"\1\2\3\4"), record(END, MX, u16(10) + b"\1A" + END, rclass=3),
+        record(END, MX, u16(5) + b"\0", ttl=2**32 - 1)], [record(END, MX, u16(1) + END)], [record(END, MX, u16(0) + END)])
+    limited("mx", hosts, "any=www.example.com./IN/3600/20 b.example.com.;example.com./CH/3600/10 A.example.com.;example.com./IN/4294967295/5 .; "
+            "in=www.example.com./IN/3600/20 b.example.com.;example.com./IN/4294967295/5 .;")
+    for size in range(len(hosts)):
+        limited("mx", hosts[:size], None if size >= 33 else "err")
+    for word, rtype in words.items():
+        mixed = message(ask, [record(name("o.%s" % other), kind, of_type[kind]) for other, kind in words.items()])
+        limited(word, mixed, "any=o.%s./IN/3600/" % word)
+        limited(word, WORKED)
+        limited(word, header(), "any= in=")
+        limited(word, message(ask, [record(WWW, rtype + 256, of_type[rtype]), record(WWW, PRIVATE, b"")]), "any= in=")
+        limited(word, message(ask, (), [record(WWW, rtype, of_type[rtype])], [record(WWW, rtype, b"")]), "any= in=")
+        for rclass in (0, 3, 4, 254, 255, 257):
+            limited(word, message(ask, [record(WWW, rtype, of_type[rtype], rclass=rclass), record(AT, rtype, of_type[rtype])]), " in=www.example.com./IN/3600/")
+    topic("the answers of one type: data that is bad")
+    for word, rtype in words.items():
+        whole = record(AT, rtype, of_type[rtype])
+        for bad in (record(END, rtype, of_type[rtype] + b"\1"), record(END, rtype, of_type[rtype][:-1]), record(END, rtype, b"")):
+            limited(word, message(ask, [bad, whole, whole]), "any=err ")
+            limited(word, message(ask, [whole, bad, whole]))
+            limited(word, message(ask, [whole, whole, bad]))
+        other = record(END, rtype, b"", rclass=3)
+        limited(word, message(ask, [other, whole]), "any=err unexpected end of input; in=www.example.com.")
+        limited(word, message(ask, [record(END, TXT if rtype != TXT else A, b"\5"), whole]), "any=www.example.com./IN/3600/")
+    topic("the answers of one type: counts, pointers, strings and addresses")
+    whole = message(ask, [record(AT, CNAME, name("b")), record(name("b"), CNAME, name("c"))])
+    for count in (0, 1, 2, 3, 255, 65535):
+        limited("cname", whole[:6] + u16(count) + whole[8:])
+        limited("a", whole[:6] + u16(count) + whole[8:], "any=err unexpected end of input; in=err" if count > 2 else "any= in=")
+    for count in (0, 2, 65535):
+        limited("cname", whole[:4] + u16(count) + whole[6:])
+    for data in (pointer(12), pointer(14), pointer(45), pointer(46), pointer(0x3FFF), b"\1a" + pointer(45), pointer(33), pointer(43),
+                 b"\xc0", b"\x80", b"\1a", name(".".join(["x" * 62] * 4))[:-1] + b"\1a\0"):
+        limited("ns", message(ask, [record(AT, NS, data), record(AT, NS, name("b"))]))
+        limited("a", message(ask, [record(AT, NS, data), record(AT, A, b"\1\2\3\4")]), "any=www.example.com./IN/3600/1.2.3.4;")
+        limited("a", message(ask, [record(AT, A, b"\1\2\3\4"), record(data, A, b"\1\2\3\4")]), "any=www.example.com./IN/3600/1.2.3.4;")
+    ring = header((0, 2, 0, 0)) + record(b"\0", PRIVATE, pointer(25) + pointer(23)) + record(pointer(23), A, b"\1\2\3\4")
+    limited("a", ring, "any=err too many compression pointers;")
+    for data in (b"\0", b"\0\0", b"\1", b"\1a\1", b"\xff" + b"x" * 255, b"\xff" + b"x" * 254, bytes([255, *range(255)])):
+        limited("txt", message(ask, [record(AT, TXT, data), record(AT, TXT, b"\1b")]))
+    for text in ("::", "::1", "1::", "2001:db8::1", "1:0:0:2:0:0:0:3", "1:0:0:2:3:0:0:4", "1:0:2:3:4:5:6:7", "::ffff:1.2.3.4", "::1.2.3.4"):
+        limited("aaaa", message(ask, [record(AT, AAAA, ipaddress.IPv6Address(text).packed)]))
+    for word in ("A", "any", "opt", "aa", "1"):
+        limited(word, whole, "bad")
+    for line in ("limit", "limit a", "limit a 00 00", "limit a 0", "limit  " + whole.hex()):
+        row(line, told="bad")
+    limited("a", b"", "err short message")
+
+
 def random_name(rng, places, at):
     """Labels of a few words, in any case, and then the root or a pointer to a name, sometimes to anywhere."""
     octets = b""
@@ -399,6 +507,17 @@ def random_lines(count, seed):
             yield "data %d %s %d %d" % (data[0], hx(octets), *data[1:])
 
 
+def answers_to(lines, answerer):
+    """The answer to each line, by second.py or by the command."""
+    ours = [line.split(" ")[0] in ("answers", "limit") for line in lines]
+    text = "".join(line + "\n" for line, is_ours in zip(lines, ours) if not is_ours)
+    ran = subprocess.run(answerer, input=text.encode(), stdout=subprocess.PIPE, check=True)
+    others = ran.stdout.decode().splitlines()
+    assert len(others) == ours.count(False), (len(others), ours.count(False))
+    others = iter(others)
+    return [second.answer(line) if is_ours else next(others) for line, is_ours in zip(lines, ours)]
+
+
 def main():
     if sys.argv[1:2] == ["--random"]:
         for line in random_lines(int(sys.argv[2]), int(sys.argv[3])):
@@ -407,7 +526,7 @@ def main():
     answerer = sys.argv[1:]
     if not answerer:
         sys.exit(__doc__)
-    for make in (header_rows, section_rows, long_rows, data_rows, chain_rows):
+    for make in (header_rows, section_rows, long_rows, data_rows, chain_rows, answers_rows, limit_rows):
         make()
     topic("random and mutated messages")
     for line in random_lines(400, 1):
@@ -417,9 +536,7 @@ def main():
         if told is not None or line not in table:
             table[line] = told
     text = "".join(line + "\n" for line in table)
-    ran = subprocess.run(answerer, input=text.encode(), stdout=subprocess.PIPE, check=True)
-    answers = ran.stdout.decode().splitlines()
-    assert len(answers) == len(table), (len(answers), len(table))
+    answers = answers_to(table, answerer)
     wrong = 0
     for (line, told), answer in zip(table.items(), answers):
         if told is not None and told not in answer:

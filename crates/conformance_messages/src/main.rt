@@ -8,11 +8,13 @@ mod compose;
 mod data;
 mod header;
 mod message;
+mod select;
 
 use crate::compose::put_composed;
 use crate::data::put_data;
 use crate::header::{put_class, put_header, put_written_header};
 use crate::message::put_message;
+use crate::select::{put_is_answer, put_limited};
 use conformance_answer::{Answer, Fail, Fields, is};
 use std::alloc::{AllocError, Global};
 use std::io::{Read, Write};
@@ -28,6 +30,12 @@ fn respond(line: &[u8], out: &mut Answer) {
     } else if is(word, b"write") {
         fields.expect(3, out);
         put_written_header(out, fields);
+    } else if is(word, b"answers") {
+        fields.expect(3, out);
+        put_is_answer(out, fields);
+    } else if is(word, b"limit") {
+        fields.expect(3, out);
+        put_limited(out, fields);
     } else {
         fields.expect(2, out);
         respond_to_octets(word, fields.octets(1, out).as_slice(), out);

@@ -1,0 +1,200 @@
+#!/usr/bin/env python3
+"""Answers the lines `answers` and `limit` of the conformance table of messages, written from the standards.
+
+    second.py < LINES
+
+It is a reader of its own: RFC 1035, 3.3, 3.4, 4.1 and 5.1 for messages, data and texts, RFC 5452, 9.1 for which message
+answers which query, RFC 2782, 3596 and 6672 for SRV, AAAA and DNAME, RFC 5952 for IPv6 addresses. The texts of errors,
+and which of several comes first, are those of the Rust crate. Another line is answered by nothing.
+"""
+import ipaddress
+import sys
+
+CLASSES = {1: "IN", 3: "CH", 4: "HS", 254: "NONE", 255: "*"}
+SHORT = "unexpected end of input"
+
+
+class Refused(Exception):
+    """Why something can't be read."""
+
+
+def octets_of(field):
+    if field == "-":
+        return b""
+    octets = b""
+    for part in field.split("+"):
+        octets += bytes(int(part[6:])) if part.startswith("zeros:") else bytes.fromhex(part)
+    return octets
+
+
+class Reader:
+    """Octets of a message from a place on, up to an end that it doesn't read past."""
+
+    def __init__(self, octets, place, end):
+        self.octets, self.place, self.end = octets, place, end
+
+    def take(self, size):
+        if self.place + size > self.end:
+            raise Refused(SHORT)
+        self.place += size
+        return self.octets[self.place - size:self.place]
+
+    def number(self, size):
+        return int.from_bytes(self.take(size), "big")
+
+    def name(self):
+        """The labels of a name, the root left out (RFC 1035, 4.1.4). A pointer leads to an earlier place than its own."""
+        labels, size, pointers, walk = [], 0, 0, self
+        while True:
+            first = walk.number(1)
+            if first >= 0xC0:
+                to = (first & 0x3F) << 8 | walk.number(1)
+                if to >= walk.place - 2 or pointers == 255:
+                    raise Refused("too many compression pointers")
+                pointers += 1
+                walk = Reader(self.octets, to, self.end)
+            elif first >= 0x40:
+                raise Refused("invalid label type")
+            elif first == 0:
+                return labels
+            else:
+                labels.append(walk.take(first))
+                size += first + 1
+                if size > 254:  # 255 with the root
+                    raise Refused("long domain name")
+
+    def question(self):
+        return self.name(), self.number(2), self.number(2)
+
+    def record(self):
+        owner, rtype, rclass, ttl, size = self.name(), self.number(2), self.number(2), self.number(4), self.number(2)
+        self.take(size)
+        return owner, rtype, rclass, ttl, Reader(self.octets, self.place - size, self.place)
+
+
+def spelled(octets, special):
+    """Octets as they are spelled in a text (RFC 1035, 5.1)."""
+    text = ""
+    for octet in octets:
+        text += "\\" + chr(octet) if octet in special else chr(octet) if 32 <= octet < 127 else "\\%03d" % octet
+    return text
+
+
+def name_text(labels):
+    return "".join(spelled(label, b" .\\") + "." for label in labels) or "."
+
+
+def of_name(data):
+    return name_text(data.name())
+
+
+def of_mx(data):
+    preference = data.number(2)
+    return f"{preference} {name_text(data.name())}"
+
+
+def of_srv(data):
+    numbers = [data.number(2) for _number in range(3)]
+    return " ".join(map(str, numbers)) + " " + name_text(data.name())
+
+
+def of_soa(data):
+    names = [name_text(data.name()) for _name in range(2)]
+    return " ".join(names + [str(data.number(4)) for _number in range(5)])
+
+
+def of_a(data):
+    return ".".join(str(octet) for octet in data.take(4))
+
+
+def of_aaaa(data):
+    address = ipaddress.IPv6Address(data.take(16))
+    if address.ipv4_mapped:
+        return f"::ffff:{address.ipv4_mapped}"
+    return str(address)
+
+
+def of_txt(data):
+    strings = []
+    while data.place < data.end or not strings:  # one or more
+        strings.append('"' + spelled(data.take(data.number(1)), b'"\\') + '"')
+    return " ".join(strings)
+
+
+TYPES = {"a": (1, of_a), "ns": (2, of_name), "cname": (5, of_name), "soa": (6, of_soa), "ptr": (12, of_name),
+         "mx": (15, of_mx), "txt": (16, of_txt), "aaaa": (28, of_aaaa), "srv": (33, of_srv), "dname": (39, of_name)}
+
+
+class Message:
+    def __init__(self, octets):
+        if len(octets) < 12:
+            raise Refused("short message")
+        self.octets, self.id, self.is_response = octets, octets[:2], octets[2] >= 128
+        self.counts = [int.from_bytes(octets[at:at + 2], "big") for at in (4, 6, 8, 10)]
+
+    def questions(self):
+        """The questions, and a reader after them."""
+        reader = Reader(self.octets, 12, len(self.octets))
+        return [reader.question() for _question in range(self.counts[0])], reader
+
+
+def answers(query, message):
+    """A response with the query's identifier and its questions, in their order, the names without case."""
+    if not message.is_response or message.id != query.id or message.counts[0] != query.counts[0]:
+        return "0"
+    try:
+        theirs, ours = (
+            [([label.lower() for label in name], rtype, rclass) for name, rtype, rclass in it.questions()[0]]
+            for it in (query, message))
+    except Refused:
+        return "0"
+    return "1" if ours == theirs else "0"
+
+
+def kept(message, word, only_in):
+    """The answers with data of the type, up to the first error; the others are passed by, whatever their data is."""
+    rtype, read = TYPES[word]
+    reader = message.questions()[1]
+    text = ""
+    try:
+        for _record in range(message.counts[1]):
+            owner, its_type, rclass, ttl, data = reader.record()
+            if its_type != rtype or only_in and rclass != 1:
+                continue
+            shown = read(data)
+            if data.place < data.end:
+                raise Refused("trailing data")
+            text += f"{name_text(owner)}/{CLASSES.get(rclass, f'CLASS{rclass}')}/{ttl}/{shown};"
+    except Refused as why:
+        text += f"err {why};"
+    return text
+
+
+def answer(line):
+    """The answer to a line."""
+    word, *fields = line.split(" ")
+    if len(fields) != 2 or word not in ("answers", "limit"):
+        return "bad"
+    try:
+        octets = [octets_of(field) for field in (fields if word == "answers" else fields[1:])]
+    except ValueError:
+        return "bad"
+    try:
+        messages = [Message(it) for it in octets]
+        if word == "answers":
+            return answers(*messages)
+        messages[0].questions()
+    except Refused as why:
+        return f"err {why}"
+    if fields[0] not in TYPES:
+        return "bad"
+    return f"any={kept(messages[0], fields[0], False)} in={kept(messages[0], fields[0], True)}"
+
+
+def main():
+    for line in sys.stdin:
+        print(answer(line.rstrip("\n")))
+
+
+if __name__ == "__main__":
+    main()
