@@ -112,9 +112,8 @@ impl<Octs: Octets> Message<Octs> {
         }
     }
 
-    /// Returns the question if the header counts one.
-    ///
-    /// The errors: "no question" and "multiple questions" as the header counts them, or why the question is missing.
+    /// Returns the question if the header counts one; else the error is "no question" or "multiple questions", or says
+    /// why the question is missing.
     pub fn sole_question(&self) -> Result<Question<ParsedName<&[u8]>>, ParseError>
         ensures ok { IfOk result (λ question. (number16 (message_octets self.now) 4 ≡ 1) × ((e : ℕ) × QuestionAt (message_octets self.now) 12 (question_fields question) e)) }
         ensures err { IfErr result (λ e. NoSoleQuestion (message_octets self.now) e) }
@@ -140,9 +139,8 @@ impl<Octs: Octets> Message<Octs> {
         self.question().answer()
     }
 
-    /// The records of the authority section, which follows the answers.
-    ///
-    /// The error says why a question or a record before them is missing.
+    /// The records of the authority section, which follows the answers. The error says why a question or a record before
+    /// them is missing.
     pub fn authority(&self) -> Result<RecordSection<'_>, ParseError>
         ensures ok { IfOk result (λ it. (e : ℕ) × AnswersTo (message_octets self.now) e × Begins (message_octets self.now) Authority e it) }
         ensures err { IfErr result (λ e. NoAnswers (message_octets self.now) e) }
@@ -158,9 +156,8 @@ impl<Octs: Octets> Message<Octs> {
         }
     }
 
-    /// The records of the additional section, which follows the authority section.
-    ///
-    /// The error says why a question or a record before them is missing.
+    /// The records of the additional section, which follows the authority section. The error says why a question or a
+    /// record before them is missing.
     pub fn additional(&self) -> Result<RecordSection<'_>, ParseError>
         ensures ok { IfOk result (λ it. (e : ℕ) × AuthorityTo (message_octets self.now) e × Begins (message_octets self.now) Additional e it) }
         ensures err { IfErr result (λ e. NoAuthority (message_octets self.now) e) }

@@ -125,9 +125,8 @@ fn type_and_class_octets(rtype: Rtype, class: Class) -> [u8; 4]
 impl<'a, N: AbsoluteLabels<'a>> Question<N> {
     ghost use Rattle.domain_message.specs.Views.{question_name, question_type, question_class};
 
-    /// Appends the question, or nothing: the name, which the target may compress, then the type and the class.
-    ///
-    /// Fails only if the question exceeds the spare capacity. The target's octets are then unchanged.
+    /// Appends the question, or nothing: the name, which the target may compress, then the type and the class. Fails
+    /// only if the question exceeds the spare capacity. The target's octets are then unchanged.
     pub fn compose<Target: Composer>(
         &'a self,
         target: &mut Target,

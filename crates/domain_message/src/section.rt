@@ -86,9 +86,7 @@ impl<'a> QuestionSection<'a> {
         self.parser.pos()
     }
 
-    /// Skips the questions that are left, and returns the answer section.
-    ///
-    /// The error says why one of them is missing.
+    /// Skips the questions that are left, and returns the answer section. The error says why one of them is missing.
     pub fn answer(self) -> Result<RecordSection<'a>, ParseError>
         ensures ok { IfOk result (λ it. BeginsAfter QuestionAt (questions_message self.entry) (questions_offset self.entry) (questions_left self.entry) Answer it) }
         ensures err { IfErr result (λ e. Misses QuestionAt NoQuestion (questions_message self.entry) (questions_offset self.entry) (questions_left self.entry) e) }
@@ -199,9 +197,8 @@ impl<'a> RecordSection<'a> {
         self.section
     }
 
-    /// Skips the records that are left, and returns the next section. `None` after the last section.
-    ///
-    /// The error says why one of them is missing.
+    /// Skips the records that are left, and returns the next section, `None` after the last one. The error says why one
+    /// of them is missing.
     pub fn next_section(self) -> Result<Option<RecordSection<'a>>, ParseError>
         ensures none { IfOk result (λ read. IsNone read ↔ (section_after (records_section self.entry) ≡ None)) }
         ensures ok { IfOk result (λ read. IfSome read (λ it. (s : Section) × (section_after (records_section self.entry) ≡ Some s)
