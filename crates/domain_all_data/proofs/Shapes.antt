@@ -3,7 +3,7 @@ use Rattle.std.proofs.Common.{◌≡◌, ℕ, List, subst, sym, refl, ◌∙◌,
 use Rattle.std.proofs.lemmas.Bool.{ne_eqb}
 use Rattle.domain_wire.specs.declared.error.ParseError.{ParseError}
 use Rattle.domain_all_data.specs.AllData.Shape.{some_octets}
-use Rattle.domain_all_data.specs.AllData.{AllFields, Shape, Says, shape_of, ShapeAt, NoShape, AllDataAt, NoAllData}
+use Rattle.domain_all_data.specs.AllData.{AllFields, Shape, shape_of, ShapeAt, NoShape, AllDataAt, NoAllData}
 
 pub data_at : (t : ℕ) (s : Shape) (m : List ℕ) (p : ℕ) (it : AllFields) (e : ℕ) → shape_of t ≡ s → ShapeAt s m p it e → AllDataAt t m p it e
 data_at t s m p it e is at = subst (λ s. ShapeAt s m p it e) (sym is) at

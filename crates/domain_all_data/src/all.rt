@@ -7,7 +7,10 @@ ghost use Rattle.domain_all_data.specs.AllData.{AllFields, AllDataAt, NoAllData,
 
 use domain_data::{A, Aaaa, Cname, Dname, Mx, Ns, Ptr, Soa, Srv};
 use domain_parsed::ParsedName;
-use domain_rdata::{ParseAnyRecordData, ParseRecordData, RecordData, Rtype, UnknownRecordData};
+use domain_rdata::{
+    ComposeRecordData, Composer, ParseAnyRecordData, ParseRecordData, RecordData, Rtype,
+    UnknownRecordData,
+};
 use domain_txt::Txt;
 use domain_wire::ParseError;
 use octseq::{Octets, Parser};
@@ -73,6 +76,124 @@ impl<Octs: Octets, N> RecordData for AllRecordData<Octs, N> {
             AllRecordData::Unknown(it) => it.rtype(),
         }
     }
+}
+
+/// The data as its own type has it: names are written shorter in data of the types of RFC 1035 alone (RFC 3597, 4).
+impl<'a> ComposeRecordData for AllRecordData<&'a [u8], ParsedName<&'a [u8]>> {
+    ghost use Rattle.domain_parsed.proofs.ParsedFields.{parsed_absolute};
+    ghost use Rattle.domain_data.specs.Views.{fields_of};
+    ghost use Rattle.domain_all_data.specs.Flat.{flat_octets, flat_name, flat_both};
+    ghost use Rattle.domain_all_data.specs.declared.all.AllRecordData.TheVariants.{A, Aaaa, Ns, Cname, Ptr, Dname, Mx, Soa, Srv, Txt, Unknown};
+
+    ghost composed = { elim [
+      | A it ↦ ⟦<A as ComposeRecordData>⟧.composed it
+      | Aaaa it ↦ ⟦<Aaaa as ComposeRecordData>⟧.composed it
+      | Ns it ↦ ⟦<Ns<ParsedName<&'a [u8]>> as ComposeRecordData>⟧.composed it
+      | Cname it ↦ ⟦<Cname<ParsedName<&'a [u8]>> as ComposeRecordData>⟧.composed it
+      | Ptr it ↦ ⟦<Ptr<ParsedName<&'a [u8]>> as ComposeRecordData>⟧.composed it
+      | Dname it ↦ ⟦<Dname<ParsedName<&'a [u8]>> as ComposeRecordData>⟧.composed it
+      | Mx it ↦ ⟦<Mx<ParsedName<&'a [u8]>> as ComposeRecordData>⟧.composed it
+      | Soa it ↦ ⟦<Soa<ParsedName<&'a [u8]>> as ComposeRecordData>⟧.composed it
+      | Srv it ↦ ⟦<Srv<ParsedName<&'a [u8]>> as ComposeRecordData>⟧.composed it
+      | Txt it ↦ ⟦<Txt<&'a [u8]> as ComposeRecordData>⟧.composed it
+      | Unknown it ↦ ⟦<UnknownRecordData<&'a [u8]> as ComposeRecordData>⟧.composed it
+    ] };
+
+    ghost canonical = { elim [
+      | A it ↦ ⟦<A as ComposeRecordData>⟧.canonical it
+      | Aaaa it ↦ ⟦<Aaaa as ComposeRecordData>⟧.canonical it
+      | Ns it ↦ ⟦<Ns<ParsedName<&'a [u8]>> as ComposeRecordData>⟧.canonical it
+      | Cname it ↦ ⟦<Cname<ParsedName<&'a [u8]>> as ComposeRecordData>⟧.canonical it
+      | Ptr it ↦ ⟦<Ptr<ParsedName<&'a [u8]>> as ComposeRecordData>⟧.canonical it
+      | Dname it ↦ ⟦<Dname<ParsedName<&'a [u8]>> as ComposeRecordData>⟧.canonical it
+      | Mx it ↦ ⟦<Mx<ParsedName<&'a [u8]>> as ComposeRecordData>⟧.canonical it
+      | Soa it ↦ ⟦<Soa<ParsedName<&'a [u8]>> as ComposeRecordData>⟧.canonical it
+      | Srv it ↦ ⟦<Srv<ParsedName<&'a [u8]>> as ComposeRecordData>⟧.canonical it
+      | Txt it ↦ ⟦<Txt<&'a [u8]> as ComposeRecordData>⟧.canonical it
+      | Unknown it ↦ ⟦<UnknownRecordData<&'a [u8]> as ComposeRecordData>⟧.canonical it
+    ] };
+
+    ghost knows_len = { elim [
+      | A it ↦ ⟦<A as ComposeRecordData>⟧.knows_len it
+      | Aaaa it ↦ ⟦<Aaaa as ComposeRecordData>⟧.knows_len it
+      | Ns it ↦ ⟦<Ns<ParsedName<&'a [u8]>> as ComposeRecordData>⟧.knows_len it
+      | Cname it ↦ ⟦<Cname<ParsedName<&'a [u8]>> as ComposeRecordData>⟧.knows_len it
+      | Ptr it ↦ ⟦<Ptr<ParsedName<&'a [u8]>> as ComposeRecordData>⟧.knows_len it
+      | Dname it ↦ ⟦<Dname<ParsedName<&'a [u8]>> as ComposeRecordData>⟧.knows_len it
+      | Mx it ↦ ⟦<Mx<ParsedName<&'a [u8]>> as ComposeRecordData>⟧.knows_len it
+      | Soa it ↦ ⟦<Soa<ParsedName<&'a [u8]>> as ComposeRecordData>⟧.knows_len it
+      | Srv it ↦ ⟦<Srv<ParsedName<&'a [u8]>> as ComposeRecordData>⟧.knows_len it
+      | Txt it ↦ ⟦<Txt<&'a [u8]> as ComposeRecordData>⟧.knows_len it
+      | Unknown it ↦ ⟦<UnknownRecordData<&'a [u8]> as ComposeRecordData>⟧.knows_len it
+    ] };
+
+    fn rdlen(&self, compress: bool) -> Option<u16> {
+        match self {
+            AllRecordData::A(it) => it.rdlen(compress),
+            AllRecordData::Aaaa(it) => it.rdlen(compress),
+            AllRecordData::Ns(it) => it.rdlen(compress),
+            AllRecordData::Cname(it) => it.rdlen(compress),
+            AllRecordData::Ptr(it) => it.rdlen(compress),
+            AllRecordData::Dname(it) => it.rdlen(compress),
+            AllRecordData::Mx(it) => it.rdlen(compress),
+            AllRecordData::Soa(it) => it.rdlen(compress),
+            AllRecordData::Srv(it) => it.rdlen(compress),
+            AllRecordData::Txt(it) => it.rdlen(compress),
+            AllRecordData::Unknown(it) => it.rdlen(compress),
+        }
+    }
+
+    fn compose_rdata<Target: Composer>(
+        &self,
+        target: &mut Target,
+    ) -> Result<(), Target::AppendError> {
+        match self {
+            AllRecordData::A(it) => it.compose_rdata(target),
+            AllRecordData::Aaaa(it) => it.compose_rdata(target),
+            AllRecordData::Ns(it) => it.compose_rdata(target),
+            AllRecordData::Cname(it) => it.compose_rdata(target),
+            AllRecordData::Ptr(it) => it.compose_rdata(target),
+            AllRecordData::Dname(it) => it.compose_rdata(target),
+            AllRecordData::Mx(it) => it.compose_rdata(target),
+            AllRecordData::Soa(it) => it.compose_rdata(target),
+            AllRecordData::Srv(it) => it.compose_rdata(target),
+            AllRecordData::Txt(it) => it.compose_rdata(target),
+            AllRecordData::Unknown(it) => it.compose_rdata(target),
+        }
+    }
+
+    fn compose_canonical_rdata<Target: Composer>(
+        &self,
+        target: &mut Target,
+    ) -> Result<(), Target::AppendError> {
+        match self {
+            AllRecordData::A(it) => it.compose_canonical_rdata(target),
+            AllRecordData::Aaaa(it) => it.compose_canonical_rdata(target),
+            AllRecordData::Ns(it) => it.compose_canonical_rdata(target),
+            AllRecordData::Cname(it) => it.compose_canonical_rdata(target),
+            AllRecordData::Ptr(it) => it.compose_canonical_rdata(target),
+            AllRecordData::Dname(it) => it.compose_canonical_rdata(target),
+            AllRecordData::Mx(it) => it.compose_canonical_rdata(target),
+            AllRecordData::Soa(it) => it.compose_canonical_rdata(target),
+            AllRecordData::Srv(it) => it.compose_canonical_rdata(target),
+            AllRecordData::Txt(it) => it.compose_canonical_rdata(target),
+            AllRecordData::Unknown(it) => it.compose_canonical_rdata(target),
+        }
+    }
+
+    ghost flat = { elim [
+      | A it ↦ flat_octets _
+      | Aaaa it ↦ flat_octets _
+      | Ns it ↦ flat_name _ (parsed_absolute (fields_of it).name)
+      | Cname it ↦ flat_name _ (parsed_absolute (fields_of it).name)
+      | Ptr it ↦ flat_name _ (parsed_absolute (fields_of it).name)
+      | Dname it ↦ flat_octets _
+      | Mx it ↦ flat_both _ _ (flat_octets _) (flat_name _ (parsed_absolute (fields_of it).rest.name))
+      | Soa it ↦ flat_both _ _ (flat_name _ (parsed_absolute (fields_of it).first.name)) (flat_both _ _ (flat_name _ (parsed_absolute (fields_of it).rest.first.name)) (flat_both _ _ (flat_octets _) (flat_both _ _ (flat_octets _) (flat_both _ _ (flat_octets _) (flat_both _ _ (flat_octets _) (flat_octets _))))))
+      | Srv it ↦ flat_both _ _ (flat_octets _) (flat_both _ _ (flat_octets _) (flat_both _ _ (flat_octets _) (flat_octets _)))
+      | Txt it ↦ flat_octets _
+      | Unknown it ↦ flat_octets _
+    ] };
 }
 
 /// Reads data of a type that has such data.

@@ -1,4 +1,4 @@
-use Rattle.std.proofs.Common.{◌≡◌, refl, sym, ap, ◌∙◌, arith}
+use Rattle.std.proofs.Common.{refl, sym, ap, ◌∙◌, arith}
 use Rattle.octseq.specs.Parsing.{message, position}
 use Rattle.domain_rdata.specs.Rtypes.{rtype_number}
 use Rattle.domain_all_data.specs.AllData.{shape_of}
