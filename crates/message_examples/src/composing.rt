@@ -1,4 +1,6 @@
 //! A message that is composed.
+ghost use Rattle.std.specs.Prelude.{◌≡◌};
+ghost use Rattle.message_examples.specs.Responses.{response_octets, section_octets};
 
 use arrayvec::ArrayVec;
 use domain::base::compress::CompressComposer;
@@ -12,7 +14,9 @@ use domain::rdata::{A, Mx};
 use octseq::{Octets, OctetsBuilder, OctetsMut};
 
 /// The header of a response with one question, one answer and one additional record.
-fn response_header(id: u16) -> HeaderSection {
+fn response_header(id: u16) -> HeaderSection
+    ensures { section_octets result ≡ response_octets id }
+{
     let mut header = Header::new();
     header.set_id(id);
     header.set_qr(true);

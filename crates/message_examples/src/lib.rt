@@ -1,5 +1,5 @@
-//! What docs/domain_message.md shows of calling the library, as a crate of a caller's own would have it: each
-//! function stands here as the document has it, with its contract, and is proved.
+//! What docs/domain_message.md and docs/domain_records.md show of calling the library, as a crate of a caller's own
+//! would have it: each function stands here as the document has it, with its contract, and is proved.
 #![tactic(auto)]
 
 pub mod aliases;
