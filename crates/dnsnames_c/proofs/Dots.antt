@@ -1,8 +1,8 @@
 -- The final dot of a name's text.
-use Rattle.std.proofs.Common.{◌≡◌, ℕ, ◌+◌, ◌-◌, ◌<◌, List, [], ◌∷◌, ◌++◌, length, take, refl, sym, ap, ◌∙◌, append_assoc, append-nil, arith, length-append}
+use Rattle.std.proofs.Common.{◌≡◌, ℕ, ◌+◌, ◌-◌, ◌<◌, List, [], ◌∷◌, ◌++◌, length, take, refl, sym, ap, ◌∙◌, append_assoc, arith, length-append}
 use Rattle.std.specs.List.{flat_map}
 use Rattle.std.proofs.Math.Seq.{take-append_seam}
-use Rattle.domain_label.specs.Text.{escaped, escaped_octet, with_dot, dot_before, or_dot, text_with_final_dot, text, displayed}
+use Rattle.domain_label.specs.Text.{escaped, escaped_octet, with_dot, dot_before, or_dot, text_with_final_dot, displayed}
 use Rattle.domain_label.specs.Wire.{IsAbsolute}
 
 -- Dots after labels and dots before them differ by the first and the last.

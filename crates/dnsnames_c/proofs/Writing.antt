@@ -1,7 +1,7 @@
 -- What writing a name leaves.
-use Rattle.std.proofs.Common.{◌≡◌, ℕ, ◌+◌, ◌≤◌, ◌<◌, List, ◌++◌, length, take, drop, min, refl, sym, ap, subst, ◌∙◌, arith, length-append}
+use Rattle.std.proofs.Common.{◌≡◌, ℕ, ◌+◌, ◌≤◌, ◌<◌, List, ◌++◌, length, take, refl, sym, subst, arith}
 use Rattle.std.proofs.lemmas.Grind.{common_steps}
-use Rattle.domain_label.specs.Wire.{wire, labels_in, IsWire, IsAbsoluteWire}
+use Rattle.domain_label.specs.Wire.{labels_in, IsWire, IsAbsoluteWire}
 use Rattle.domain_label.proofs.WireLaws.{absolute_wire}
 use Rattle.domain_compress.specs.Compressing.{Compresses, pointer_to}
 use Rattle.domain_compress.specs.Planned.{places_in_table, WritesPointer, WritesFlat}

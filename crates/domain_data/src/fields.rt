@@ -1,5 +1,5 @@
 //! Record data that is one field after another.
-ghost use Rattle.std.specs.Prelude.{◌≡◌, ◌↔◌, nat_eq, false, IfOk, IfErr, OnOk, OnErr, IfSome, IsNone};
+ghost use Rattle.std.specs.Prelude.{◌≡◌, ◌↔◌, nat_eq, false, true, IfOk, IfErr, OnOk, OnErr, IfSome, IsNone};
 ghost use Rattle.std.proofs.Common.{subst, sym};
 ghost use Rattle.octseq.specs.Parsing.{message, position, MovesTo};
 ghost use Rattle.domain_rdata.specs.Rtypes.{rtype_number};
@@ -36,6 +36,7 @@ impl<const TYPE: u16, F> FieldsData<TYPE, F> {
         ensures passed { IfOk result (λ read. IsNone read → parser.new ≡ parser.old) }
         ensures moves { OnOk result (MovesTo parser.old parser.new (position parser.new)) }
         ensures err { IfErr result (λ e. NotAll E.said F.encodes F.fails_with (message parser.old) (position parser.old) e) }
+        ensures err_type { OnErr result (nat_eq (rtype_number rtype) TYPE ≡ true) }
         ensures unchanged { OnErr result (parser.new ≡ parser.old) }
     {
         if rtype.to_int() != TYPE {

@@ -1,8 +1,6 @@
 -- Octets that are a name have no fault.
-use Rattle.std.proofs.Common.{◌≡◌, ℕ, ◌+◌, ◌≤◌, ◌<◌, ◌⊎◌, inl, inr, List, [], ◌∷◌, ◌++◌, length, drop, sym, ◌∙◌, ap, subst, arith, append-nil}
+use Rattle.std.proofs.Common.{◌≡◌, ℕ, ◌+◌, ◌≤◌, inl, inr, List, [], ◌∷◌, ◌++◌, length, drop, sym, ◌∙◌, ap, subst, arith, append-nil}
 use Rattle.domain_label.specs.Wire.{wire, labels_in, Root, IsAbsolute, IsRelative, IsAbsoluteWire, IsRelativeWire}
-use Rattle.domain_label.specs.Splitting.{SplitFault}
-use Rattle.domain_label.specs.declared.split.SplitLabelError.{SplitLabelError}
 use Rattle.domain_label.specs.declared.split.SplitLabelError.TheVariants.{Pointer, BadType, ShortInput}
 use Rattle.domain_label.proofs.WireLaws.{length-wire_append}
 use Rattle.domain_wire.specs.Refusals.{Refusal}

@@ -6,7 +6,7 @@ use Rattle.domain_rdata.specs.ReadBack.{Appended, Exceeds}
 use Rattle.domain_rdata.specs.RecordData.{NameOctets, LengthAndData, ExceedsWithLength, IsTooLong, ComposeRefused}
 use Rattle.domain_rdata.specs.declared.record_data.ComposeRdataError.{ComposeRdataError}
 use Rattle.domain_rdata.specs.declared.record_data.ComposeRdataError.TheVariants.{Append, Long}
-use Rattle.domain_message.specs.Composing.{type_and_class, QuestionOctets, before_length, RecordOctets, RecordExceeds, RecordRefused}
+use Rattle.domain_message.specs.Composing.{BeginsWithName, type_and_class, QuestionOctets, before_length, RecordOctets, RecordExceeds, RecordRefused}
 use Rattle.domain_message.specs.Composing.RecordExceeds.{no_numbers, no_data}
 
 pub record_appended : (owner : List (List ℕ)) (rtype class ttl : ℕ) (May : List ℕ → List ℕ → Type 0) (b : Bool) (t named mid new : List ℕ) → NameOctets owner b t named → mid ≡ t ++ named ++ before_length rtype class ttl → LengthAndData May mid new → Appended (RecordOctets owner rtype class ttl May b t) t new
@@ -21,6 +21,19 @@ record_appended owner rtype class ttl May b t named mid new name is done = recor
     all = refl;
   };
   all = done.all ∙ (ap (λ m. m ++ to_be_bytes w16 (length done.octets) ++ done.octets) is ∙ simp append_assoc);
+}
+
+-- what is appended for the owner's name, then the numbers
+pub begins_with_owner : (May : List ℕ → Type 0) (Data : List ℕ → List ℕ → Type 0) (t mid mid2 new numbers : List ℕ) (r rtype class ttl : ℕ) → Appended May t mid → mid2 ≡ mid ++ numbers → numbers ≡ before_length r class ttl → r ≡ rtype → LengthAndData Data mid2 new → Appended (BeginsWithName May (before_length rtype class ttl)) t new
+begins_with_owner May Data t mid mid2 new numbers r rtype class ttl name is same typed done = record {
+  octets = name.octets ++ (before_length rtype class ttl ++ (to_be_bytes w16 (length done.octets) ++ done.octets));
+  allowed = record {
+    named = name.octets;
+    name_allowed = name.allowed;
+    rest = to_be_bytes w16 (length done.octets) ++ done.octets;
+    all = refl;
+  };
+  all = done.all ∙ (ap (λ m. m ++ to_be_bytes w16 (length done.octets) ++ done.octets) (is ∙ (ap (λ m. m ++ numbers) name.all ∙ ap (λ x. t ++ name.octets ++ x) (same ∙ ap (λ k. before_length k class ttl) typed))) ∙ simp append_assoc);
 }
 
 -- the name and the numbers after it

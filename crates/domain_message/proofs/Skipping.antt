@@ -1,11 +1,11 @@
 -- Records that were skipped because their data is of another type.
-use Rattle.std.proofs.Common.{◌≡◌, ℕ, ◌+◌, ◌<◌, List, [], ◌∷◌, ◌++◌, length, length-append, refl, sym, ap, subst, ◌∙◌, arith}
+use Rattle.std.proofs.Common.{◌≡◌, ℕ, ◌+◌, ◌<◌, List, [], ◌∷◌, ◌++◌, length, length-append, refl, subst, ◌∙◌, arith}
 use Rattle.std.specs.Prelude.{Bool, true, false}
 use Rattle.octseq.specs.declared.parse.Parser.{Parser}
-use Rattle.octseq.specs.Parsing.{message, position, MovesTo}
+use Rattle.octseq.specs.Parsing.{message, position}
 use Rattle.domain_wire.specs.declared.error.ParseError.{ParseError}
 use Rattle.domain_message.specs.Entries.{RecordFields, RecordAt, NoRecord}
-use Rattle.domain_message.specs.Facts.{same_message, run_and}
+use Rattle.domain_message.specs.Facts.{run_and}
 use Rattle.domain_message.specs.Kept.{AreOthers, FirstKept, NoneKept, MissesKept, BreaksKept}
 use Rattle.domain_message.specs.Sections.{Run}
 
@@ -68,8 +68,8 @@ misses_kept keep old mid n left why before some missing = record {
 }
 
 -- the data of the next can't be read
-pub breaks_kept : {E : Type 0} (keep in_class : RecordFields → Bool) (Broken : RecordFields → E → Type 0) (old mid : Parser) (n left e : ℕ) (it : RecordFields) (why : E) → PassedOthers keep old n mid left → 0 < left → in_class it ≡ true → RecordAt (message mid) (position mid) it e → Broken it why → BreaksKept keep in_class Broken (message old) (position old) n why
-breaks_kept keep in_class Broken old mid n left e it why before some asked at broken = record {
+pub breaks_kept : {E : Type 0} (keep : RecordFields → Bool) (Broken : RecordFields → E → Type 0) (old mid : Parser) (n left e : ℕ) (it : RecordFields) (why : E) → PassedOthers keep old n mid left → 0 < left → keep it ≡ true → RecordAt (message mid) (position mid) it e → Broken it why → BreaksKept keep Broken (message old) (position old) n why
+breaks_kept keep Broken old mid n left e it why before some kept at broken = record {
   before = before.items;
   others = before.others;
   offset = position mid;
@@ -78,6 +78,6 @@ breaks_kept keep in_class Broken old mid n left e it why before some asked at br
   it = it;
   end = e;
   at = subst (λ m. RecordAt m (position mid) it e) before.octets at;
-  asked = asked;
+  kept = kept;
   broken = broken;
 }

@@ -11,6 +11,13 @@ use Rattle.domain_rdata.specs.RecordData.{NameOctets, ExceedsWithLength, IsTooLo
 abbrev pub type_and_class : ℕ → ℕ → List ℕ
 type_and_class rtype class = to_be_bytes w16 rtype ++ to_be_bytes w16 class
 
+-- The octets s are some that are allowed for a name, then these, and then any.
+pub record BeginsWithName (May : List ℕ → Type 0) (after s : List ℕ) : Type 0 where
+  pub named : List ℕ
+  pub name_allowed : May named
+  pub rest : List ℕ
+  pub all : s ≡ named ++ (after ++ rest)
+
 -- A question may be composed into s after the octets t: a name, compressed or not, then type and class.
 pub record QuestionOctets (name : List (List ℕ)) (rtype class : ℕ) (compresses : Bool) (t s : List ℕ) : Type 0 where
   pub named : List ℕ

@@ -7,7 +7,7 @@ use Rattle.domain_wire.specs.declared.error.ParseError.{ParseError}
 use Rattle.domain_parsed.specs.declared.parsed.ParsedName.{ParsedName}
 use Rattle.domain_parsed.specs.ParsedNames.{parsed_labels}
 use Rattle.domain_header.specs.Values.{class_number, ttl_seconds}
-use Rattle.domain_message.specs.Entries.{HeaderFields, RecordFields, RecordAt, NoRecord}
+use Rattle.domain_message.specs.Entries.{RecordFields, RecordAt, NoRecord}
 use Rattle.domain_message.specs.RecordParts.{owner_of, class_of, ttl_of, data_of}
 use Rattle.domain_message.specs.Sections.{Run}
 use Rattle.domain_message.specs.declared.resource_record.Record.{Record}
@@ -30,9 +30,10 @@ AreOthers keep (x ∷ xs) = (keep x ≡ false) × AreOthers keep xs
 abbrev pub HasData : {V : Type 0} → (ℕ → List ℕ → ℕ → V → ℕ → Type 0) → RecordFields → V → Type 0
 HasData Encodes it value = (e : ℕ) × Encodes it.header.rtype it.octets it.start value e
 
--- The record has the owner's name, class and TTL of a record of a message, and its data.
-pub record IsMadeOf {O D V : Type 0} {g : Ghosts O} (seen : D → V) (Encodes : ℕ → List ℕ → ℕ → V → ℕ → Type 0) (it : RecordFields) (made : Record (ParsedName O g) D) : Type 0 where
+-- The record has the owner's name, type, class and TTL of a record of a message, and its data.
+pub record IsMadeOf {O D V : Type 0} {g : Ghosts O} (type_of : D → ℕ) (seen : D → V) (Encodes : ℕ → List ℕ → ℕ → V → ℕ → Type 0) (it : RecordFields) (made : Record (ParsedName O g) D) : Type 0 where
   pub owner : parsed_labels (owner_of made) ≡ it.header.owner
+  pub rtype : type_of (data_of made) ≡ it.header.rtype
   pub class : class_number (class_of made) ≡ it.header.class
   pub ttl : ttl_seconds (ttl_of made) ≡ it.header.ttl
   pub data_is : HasData Encodes it (seen (data_of made))
@@ -69,8 +70,8 @@ pub record MissesKept (keep : RecordFields → Bool) (m : List ℕ) (p n : ℕ) 
   pub few : length before < n
   pub missing : NoRecord m offset why
 
--- The data of a record has an error, and none of n records that are left from p on is kept before it.
-pub record BreaksKept {E : Type 0} (keep in_class : RecordFields → Bool) (Broken : RecordFields → E → Type 0) (m : List ℕ) (p n : ℕ) (e : E) : Type 0 where
+-- The data of a record that is kept has an error, and none of n records that are left from p on is kept before it.
+pub record BreaksKept {E : Type 0} (keep : RecordFields → Bool) (Broken : RecordFields → E → Type 0) (m : List ℕ) (p n : ℕ) (e : E) : Type 0 where
   pub before : List RecordFields
   pub others : AreOthers keep before
   pub offset : ℕ
@@ -79,7 +80,7 @@ pub record BreaksKept {E : Type 0} (keep in_class : RecordFields → Bool) (Brok
   pub it : RecordFields
   pub end : ℕ
   pub at : RecordAt m offset it end
-  pub asked : in_class it ≡ true
+  pub kept : keep it ≡ true
   pub broken : Broken it e
 
 -- the octets that the iterator reads
@@ -96,12 +97,12 @@ kept_class s = s.only_in
 
 -- A call at p, with n records left, returned the first that is kept, or the error of the first that is missing or whose
 -- data can't be read, or nothing: none that is left is kept. Then the offset is q, and k are left.
-abbrev pub TakesKept : {W E : Type 0} → (keep in_class : RecordFields → Bool) → (RecordFields → W → Type 0) → (RecordFields → E → Type 0) → (ParseError → E → Type 0) → List ℕ → ℕ → ℕ → Option (Result W E) → ℕ → ℕ → Type 0
-TakesKept keep in_class Made Broken Becomes m p n None q k = NoneKept keep m p n × (k ≡ 0)
-TakesKept keep in_class Made Broken Becomes m p n (Some (Ok made)) q k = (it : RecordFields) × FirstKept keep m p n it q k × Made it made
-TakesKept keep in_class Made Broken Becomes m p n (Some (Err e)) q k = (k ≡ 0) × (((why : ParseError) × MissesKept keep m p n why × Becomes why e) ⊎ BreaksKept keep in_class Broken m p n e)
+abbrev pub TakesKept : {W E : Type 0} → (RecordFields → Bool) → (RecordFields → W → Type 0) → (RecordFields → E → Type 0) → (ParseError → E → Type 0) → List ℕ → ℕ → ℕ → Option (Result W E) → ℕ → ℕ → Type 0
+TakesKept keep Made Broken Becomes m p n None q k = NoneKept keep m p n × (k ≡ 0)
+TakesKept keep Made Broken Becomes m p n (Some (Ok made)) q k = (it : RecordFields) × FirstKept keep m p n it q k × Made it made
+TakesKept keep Made Broken Becomes m p n (Some (Err e)) q k = (k ≡ 0) × (((why : ParseError) × MissesKept keep m p n why × Becomes why e) ⊎ BreaksKept keep Broken m p n e)
 
 -- A call of `next` took the next record that is kept.
-abbrev pub GivesKept : {O D E V : Type 0} {g : Ghosts O} → (D → V) → (ℕ → Bool) → (ℕ → List ℕ → ℕ → V → ℕ → Type 0) → (ℕ → List ℕ → ℕ → ParseError → Type 0) → (ParseError → E → Type 0) → RecordIter D E → Option (Result (Record (ParsedName O g) D) E) → RecordIter D E → Type 0
-GivesKept {g = g} seen reads_type Encodes Fails Becomes s r t = (message (kept_parser t) ≡ message (kept_parser s)) × (kept_class t ≡ kept_class s)
-    × TakesKept (keeps reads_type (kept_class s)) (has_class (kept_class s)) (IsMadeOf {g = g} seen Encodes) (HasDataError Becomes Fails) Becomes (message (kept_parser s)) (position (kept_parser s)) (kept_left s) r (position (kept_parser t)) (kept_left t)
+abbrev pub GivesKept : {O D E V : Type 0} {g : Ghosts O} → (D → ℕ) → (D → V) → (ℕ → Bool) → (ℕ → List ℕ → ℕ → V → ℕ → Type 0) → (ℕ → List ℕ → ℕ → ParseError → Type 0) → (ParseError → E → Type 0) → RecordIter D E → Option (Result (Record (ParsedName O g) D) E) → RecordIter D E → Type 0
+GivesKept {g = g} type_of seen reads_type Encodes Fails Becomes s r t = (message (kept_parser t) ≡ message (kept_parser s)) × (kept_class t ≡ kept_class s)
+    × TakesKept (keeps reads_type (kept_class s)) (IsMadeOf {g = g} type_of seen Encodes) (HasDataError Becomes Fails) Becomes (message (kept_parser s)) (position (kept_parser s)) (kept_left s) r (position (kept_parser t)) (kept_left t)

@@ -4,7 +4,7 @@ use Rattle.std.specs.List.{filter}
 use Rattle.domain_label.specs.Lowercase.{lowercase_labels}
 use Rattle.domain_message.specs.Aliases.{ChainEnd}
 use Rattle.domain_message.specs.Composing.{QuestionOctets, RecordOctets}
-use Rattle.domain_message.specs.Entries.{QuestionFields, QuestionAt, RecordFields, RecordAt}
+use Rattle.domain_message.specs.Entries.{QuestionAt, RecordFields, RecordAt}
 use Rattle.domain_message.specs.Kept.{FirstKept, NoneKept}
 use Rattle.domain_message.specs.Runs.{Given}
 

@@ -8,7 +8,7 @@ ghost use Rattle.std.specs.Int.{w16, w32, to_be_bytes};
 ghost use Rattle.domain_rdata.specs.ReadBack.{Appended};
 ghost use Rattle.domain_rdata.specs.Rtypes.{rtype_number};
 ghost use Rattle.domain_header.specs.Values.{class_number, ttl_seconds};
-ghost use Rattle.domain_message.specs.Composing.{before_length, RecordOctets, RecordRefused};
+ghost use Rattle.domain_message.specs.Composing.{BeginsWithName, before_length, RecordOctets, RecordRefused};
 ghost use Rattle.domain_message.specs.Texts.{text_before_data};
 
 use crate::rtype_text::RtypeText;
@@ -162,9 +162,7 @@ impl<Octs: Octets, D: RecordData + fmt::Display> fmt::Display for Record<ParsedN
 impl<'a, N: AbsoluteLabels<'a>, D: ComposeRecordData> Record<N, D> {
     ghost use Rattle.domain_message.specs.RecordParts.{owner_of, class_of, ttl_of, data_of};
 
-    /// Appends the record, or nothing: the owner's name, type, class, TTL, the length of the data and the data. The target
-    /// may compress names.
-    ///
+    /// Appends the record, names as the target composes them: owner, type, class, TTL, the length of the data, the data.
     /// `Long` only if data that may be appended has more than 65,535 octets, `Append` only if the record exceeds the spare
     /// capacity. The target's octets are then unchanged.
     pub fn compose<Target: Composer>(
@@ -172,6 +170,7 @@ impl<'a, N: AbsoluteLabels<'a>, D: ComposeRecordData> Record<N, D> {
         target: &mut Target,
     ) -> Result<(), ComposeRdataError<Target::AppendError>>
         ensures ok { OnOk result (Appended (RecordOctets (N.labels (owner_of self.now)) (D.type_number (data_of self.now)) (class_number (class_of self.now)) (ttl_seconds (ttl_of self.now)) (D.composed (data_of self.now) Target.compresses) Target.compresses (Target.octets target.old)) (Target.octets target.old) (Target.octets target.new)) }
+        ensures name { OnOk result (Appended (BeginsWithName (Target.may_append target.old (N.labels (owner_of self.now))) (before_length (D.type_number (data_of self.now)) (class_number (class_of self.now)) (ttl_seconds (ttl_of self.now)))) (Target.octets target.old) (Target.octets target.new)) }
         ensures unchanged { OnErr result (Target.octets target.new ≡ Target.octets target.old) }
         ensures why { IfErr result (λ e. RecordRefused (N.labels (owner_of self.now)) (D.type_number (data_of self.now)) (class_number (class_of self.now)) (ttl_seconds (ttl_of self.now)) (D.composed (data_of self.now) Target.compresses) Target.compresses (Target.octets target.old) (Target.capacity target.old) e) }
         ensures capacity { Target.capacity target.old ≤ Target.capacity target.new }

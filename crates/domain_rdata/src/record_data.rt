@@ -1,5 +1,5 @@
 //! What record data is read and composed by (RFC 1035, 3.2.1).
-ghost use Rattle.std.specs.Prelude.{◌≡◌, ℕ, ◌++◌, ◌+◌, ◌<◌, ◌≤◌, List, length, take, drop, ◌↔◌, OnOk, OnErr, IfSome, IfOk, IfErr, IsNone, Bool, false, Some};
+ghost use Rattle.std.specs.Prelude.{◌≡◌, ℕ, ◌++◌, ◌+◌, ◌<◌, ◌≤◌, List, length, take, drop, ◌↔◌, OnOk, OnErr, IfSome, IfOk, IfErr, IsNone, Bool, false, true, Some};
 ghost use Rattle.octseq.specs.Parsing.{message, position, MovesTo};
 ghost use Rattle.domain_wire.specs.Values.{IsReading};
 ghost use Rattle.domain_wire.specs.declared.error.ParseError.{ParseError};
@@ -326,8 +326,8 @@ pub trait ParseRecordData<'a>: RecordData + Sized {
 
     /// Reads data from the parser's position on, to its end, and moves the parser after it.
     ///
-    /// `None` exactly where records of this type have other data. `None` and a refusal leave the parser
-    /// where it stood.
+    /// `None` exactly where records of this type have other data, so an error comes of a type that has such data alone.
+    /// `None` and a refusal leave the parser where it stood.
     fn parse_rdata(rtype: Rtype, parser: &mut Parser<'a>) -> Result<Option<Self>, ParseError>
         ensures ok { IfOk result (λ read. IfSome read (λ it. encodes (rtype_number rtype) (message parser.old) (position parser.old) (model it) (position parser.new))) }
         ensures of_type { IfOk result (λ read. IfSome read (λ it. Self.type_number it ≡ rtype_number rtype)) }
@@ -335,6 +335,7 @@ pub trait ParseRecordData<'a>: RecordData + Sized {
         ensures passed { IfOk result (λ read. IsNone read → parser.new ≡ parser.old) }
         ensures moves { OnOk result (MovesTo parser.old parser.new (position parser.new)) }
         ensures err { IfErr result (λ e. fails_with (rtype_number rtype) (message parser.old) (position parser.old) e) }
+        ensures err_type { OnErr result (reads_type (rtype_number rtype) ≡ true) }
         ensures unchanged { OnErr result (parser.new ≡ parser.old) };
 
     /// At each offset there is one value or one error, and never both.

@@ -1,5 +1,5 @@
 -- Strings, one after the other from the front.
-use Rattle.std.proofs.Common.{◌≡◌, ℕ, ◌-◌, ◌<◌, ◌≤◌, List, [], ◌∷◌, ◌++◌, length, take, drop, refl, arith, ap, subst, sym, ◌∙◌, append_assoc, append-nil, get_or, length-append, length-take, take-append-drop}
+use Rattle.std.proofs.Common.{◌≡◌, ℕ, ◌-◌, ◌<◌, ◌≤◌, List, [], ◌∷◌, ◌++◌, length, take, drop, refl, arith, ap, subst, sym, ◌∙◌, append_assoc, append-nil, get_or, length-take, take-append-drop}
 use Rattle.std.proofs.lemmas.List.{length-take-le, take_all}
 use Rattle.std.proofs.Math.Seq.{drop-append_seam}
 use Rattle.domain_txt.specs.Cutting.{strings_written}

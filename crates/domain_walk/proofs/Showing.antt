@@ -17,7 +17,7 @@ use Rattle.domain_message.specs.declared.section.Section.TheVariants.{Answer, Au
 use Rattle.domain_tool.specs.Engines.{IfRefused, OnAnswer}
 use Rattle.domain_tool.specs.declared.tool.ToolError.{ToolError}
 use Rattle.domain_tool.specs.declared.tool.ToolError.TheVariants.{Parse, Text, Read, Write, Memory}
-use Rattle.domain_walk.specs.Messages.{flag_text, codes_line, counts_line, header_lines, questions_heading, section_heading, IsQuestionLine, IsRecordLine, HasNoLine, NeverFails, AreLinesOf, ShowsAll, ShowsSome, WritesAll, WritesSome, ShowsQuestions, StopsAtQuestion, ShowsSection, StopsInSection, ShowsAnswers, ShowsAuthority, IsShown, StopsShowing, WritesMessage, WritesUntil, WritesShown}
+use Rattle.domain_walk.specs.Messages.{flag_text, codes_line, counts_line, header_lines, questions_heading, section_heading, IsQuestionLine, IsRecordLine, HasNoLine, NeverFails, AreLinesOf, ShowsAll, ShowsSome, WritesAll, WritesSome, ShowsQuestions, ShowsSection, StopsInSection, ShowsAnswers, ShowsAuthority, WritesMessage, WritesUntil, WritesShown}
 use Rattle.domain_walk.specs.Messages.StopsShowing.{no_header, no_question, no_answer, no_authority, no_additional}
 use Rattle.domain_walk.proofs.Telling.{appends_kept}
 

@@ -1,5 +1,5 @@
 -- What is written of a name that is followed, label by label and pointer by pointer.
-use Rattle.std.specs.Prelude.{◌≡◌, ℕ, ◌+◌, List, [], ◌∷◌, ◌++◌, length, slice_index, codes}
+use Rattle.std.specs.Prelude.{◌≡◌, ℕ, ◌+◌, List, [], ◌∷◌, ◌++◌, length, slice_index}
 use Rattle.domain_reading.specs.Grammar.{OctetAt}
 use Rattle.domain_reading.specs.Faults.{Followed, start, past_label, past_pointer, StepFaultAt}
 use Rattle.domain_reading.specs.declared.fault.NameFault.{NameFault}

@@ -1,5 +1,5 @@
 -- The line of what is at an offset of a message.
-use Rattle.std.specs.Prelude.{ℕ, List, [], ◌∷◌, ◌++◌, length, codes, cond, ◌==◌, nat_lt}
+use Rattle.std.specs.Prelude.{ℕ, List, ◌++◌, length, codes, cond, ◌==◌, nat_lt}
 use Rattle.std.specs.Fmt.{decimal}
 use Rattle.domain_label.specs.Text.{escaped}
 use Rattle.domain_label.specs.Labels.{label_octets}

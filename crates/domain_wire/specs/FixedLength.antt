@@ -1,5 +1,5 @@
 -- Values of a fixed length are a reading.
-use Rattle.std.specs.Prelude.{◌≡◌, ℕ, ◌+◌, List, refl}
+use Rattle.std.specs.Prelude.{ℕ, List}
 use Rattle.std.proofs.Common.{arith, ap, sym, ◌∙◌}
 use Rattle.domain_wire.specs.Refusals.{refusal}
 use Rattle.domain_wire.specs.Values.{IsReading, FixedAt, ShortAt}

@@ -167,11 +167,11 @@ passed_mail {g = g} seen s u hosts made f = passed_found {g = g} 15 seen (AllAt 
 
 -- A call of `next` over the A records.
 abbrev pub GivesAddress : {O : Type 0} {g : Ghosts O} → RecordIter (FieldsData 1 Ipv4Addr) ParseError → Option (Result (Record (ParsedName O g) (FieldsData 1 Ipv4Addr)) ParseError) → RecordIter (FieldsData 1 Ipv4Addr) ParseError → Type 0
-GivesAddress {g = g} s r u = GivesKept {g = g} (λ it. fields_of it) (λ r. nat_eq r 1) (λ _. AllAt (FixedAt 4 ipv4_of)) (λ _. NotAll refusal (FixedAt 4 ipv4_of) (ShortAt 4)) (λ a b. b ≡ a) s r u
+GivesAddress {g = g} s r u = GivesKept {g = g} (λ _. 1) (λ it. fields_of it) (λ r. nat_eq r 1) (λ _. AllAt (FixedAt 4 ipv4_of)) (λ _. NotAll refusal (FixedAt 4 ipv4_of) (ShortAt 4)) (λ a b. b ≡ a) s r u
 
 -- A call of `next` over the MX records.
 abbrev pub GivesMail : {O : Type 0} (g : Ghosts O) → RecordIter (FieldsData 15 (Sequence ℕ (NameField (ParsedName O g)))) ParseError → Option (Result (Record (ParsedName O g) (FieldsData 15 (Sequence ℕ (NameField (ParsedName O g))))) ParseError) → RecordIter (FieldsData 15 (Sequence ℕ (NameField (ParsedName O g)))) ParseError → Type 0
-GivesMail g s r u = GivesKept {g = g} mail_of (λ r. nat_eq r 15) (λ _. AllAt NumberNameAt) (λ _. NotAll refusal NumberNameAt NoNumberName) (λ a b. b ≡ a) s r u
+GivesMail g s r u = GivesKept {g = g} (λ _. 15) mail_of (λ r. nat_eq r 15) (λ _. AllAt NumberNameAt) (λ _. NotAll refusal NumberNameAt NoNumberName) (λ a b. b ≡ a) s r u
 
 pub address_found : {O : Type 0} (g : Ghosts O) (host : List (List ℕ)) (s mid u : RecordIter (FieldsData 1 Ipv4Addr) ParseError) (made : Record (ParsedName O g) (FieldsData 1 Ipv4Addr)) → Passed (All (IsOther host)) s mid → GivesAddress {g = g} mid (Some (Ok made)) u → Found {g = g} 1 (λ it. fields_of it) (AllAt (FixedAt 4 ipv4_of)) (All (IsOther host)) s u made
 address_found g host s mid u made passed gives = found {g = g} 1 (λ it. fields_of it) (AllAt (FixedAt 4 ipv4_of)) (λ _. NotAll refusal (FixedAt 4 ipv4_of) (ShortAt 4)) (λ a b. b ≡ a) (All (IsOther host)) (others_go_on host) s mid u made passed gives
@@ -179,8 +179,8 @@ address_found g host s mid u made passed gives = found {g = g} 1 (λ it. fields_
 pub address_over : {O : Type 0} {g : Ghosts O} (like : ParsedName O g) (host : List (List ℕ)) (s mid u : RecordIter (FieldsData 1 Ipv4Addr) ParseError) → Passed (All (IsOther host)) s mid → GivesAddress {g = g} mid None u → AllRead (All (IsOther host)) s
 address_over {g = g} like host s mid u passed gives = all_read g 1 (λ it. fields_of it) (AllAt (FixedAt 4 ipv4_of)) (λ _. NotAll refusal (FixedAt 4 ipv4_of) (ShortAt 4)) (λ a b. b ≡ a) (All (IsOther host)) (others_go_on host) s mid u passed gives
 
-pub address_stopped : {O : Type 0} {g : Ghosts O} (like : ParsedName O g) (host : List (List ℕ)) (m : List ℕ) (p n : ℕ) (s mid u : RecordIter (FieldsData 1 Ipv4Addr) ParseError) (why : ParseError) → IsAt m p n s → Passed (All (IsOther host)) s mid → GivesAddress {g = g} mid (Some (Err why)) u → StopsAt (All (IsOther host)) (NotAll refusal (FixedAt 4 ipv4_of) (ShortAt 4)) m p n why
-address_stopped {g = g} like host m p n s mid u why at passed gives = stops_at (All (IsOther host)) (NotAll refusal (FixedAt 4 ipv4_of) (ShortAt 4)) m p n s why at
+pub address_stopped : {O : Type 0} {g : Ghosts O} (like : ParsedName O g) (host : List (List ℕ)) (m : List ℕ) (p n : ℕ) (s mid u : RecordIter (FieldsData 1 Ipv4Addr) ParseError) (why : ParseError) → IsAt m p n s → Passed (All (IsOther host)) s mid → GivesAddress {g = g} mid (Some (Err why)) u → StopsAt 1 (All (IsOther host)) (NotAll refusal (FixedAt 4 ipv4_of) (ShortAt 4)) m p n why
+address_stopped {g = g} like host m p n s mid u why at passed gives = stops_at 1 (All (IsOther host)) (NotAll refusal (FixedAt 4 ipv4_of) (ShortAt 4)) m p n s why at
     (stopped g 1 (λ it. fields_of it) (AllAt (FixedAt 4 ipv4_of)) (NotAll refusal (FixedAt 4 ipv4_of) (ShortAt 4)) (λ a b. b ≡ a) (All (IsOther host)) (λ a b same. same) (others_go_on host) s mid u why passed gives)
 
 pub mail_found : {O : Type 0} (g : Ghosts O) (hosts : List Host) (s mid u : RecordIter (FieldsData 15 (Sequence ℕ (NameField (ParsedName O g)))) ParseError) (made : Record (ParsedName O g) (FieldsData 15 (Sequence ℕ (NameField (ParsedName O g))))) → Passed (λ its. HaveMail its hosts) s mid → GivesMail g mid (Some (Ok made)) u → Passed (λ its. HaveMail its (hosts ++ (mail_of (data_of made) ∷ []))) s u
@@ -196,6 +196,6 @@ any_hosts xs ys (hosts, mail) others = (hosts, mail_goes_on hosts xs ys mail oth
 some_hosts : {D E : Type 0} (hosts : List Host) (s u : RecordIter D E) → Passed (λ its. HaveMail its hosts) s u → Passed (λ its. (hosts : List Host) × HaveMail its hosts) s u
 some_hosts hosts s u passed = record { octets = passed.octets; class = passed.class; before = passed.before; read = (hosts, passed.read); count = passed.count; run = passed.run }
 
-pub mail_stopped : {O : Type 0} (g : Ghosts O) (hosts : List Host) (m : List ℕ) (p n : ℕ) (s mid u : RecordIter (FieldsData 15 (Sequence ℕ (NameField (ParsedName O g)))) ParseError) (why : ParseError) → IsAt m p n s → Passed (λ its. HaveMail its hosts) s mid → GivesMail g mid (Some (Err why)) u → StopsAt (λ its. (hosts : List Host) × HaveMail its hosts) (NotAll refusal NumberNameAt NoNumberName) m p n why
-mail_stopped g hosts m p n s mid u why at passed gives = stops_at (λ its. (hosts : List Host) × HaveMail its hosts) (NotAll refusal NumberNameAt NoNumberName) m p n s why at
+pub mail_stopped : {O : Type 0} (g : Ghosts O) (hosts : List Host) (m : List ℕ) (p n : ℕ) (s mid u : RecordIter (FieldsData 15 (Sequence ℕ (NameField (ParsedName O g)))) ParseError) (why : ParseError) → IsAt m p n s → Passed (λ its. HaveMail its hosts) s mid → GivesMail g mid (Some (Err why)) u → StopsAt 15 (λ its. (hosts : List Host) × HaveMail its hosts) (NotAll refusal NumberNameAt NoNumberName) m p n why
+mail_stopped g hosts m p n s mid u why at passed gives = stops_at 15 (λ its. (hosts : List Host) × HaveMail its hosts) (NotAll refusal NumberNameAt NoNumberName) m p n s why at
     (stopped g 15 mail_of (AllAt NumberNameAt) (NotAll refusal NumberNameAt NoNumberName) (λ a b. b ≡ a) (λ its. (hosts : List Host) × HaveMail its hosts) (λ a b same. same) any_hosts s mid u why (some_hosts hosts s mid passed) gives)

@@ -61,14 +61,14 @@ pub record Found {O D E V : Type 0} {g : Ghosts O} (t : ℕ) (seen : D → V) (A
   pub it : RecordFields
   pub at : RecordAt (message (kept_parser s)) offset it (position (kept_parser u))
   pub of_type : it.header.rtype ≡ t
-  pub made_of : IsMadeOf {g = g} seen (λ _. At) it made
+  pub made_of : IsMadeOf {g = g} (λ _. t) seen (λ _. At) it made
   pub count : kept_left s ≡ length before + 1 + kept_left u
 
 -- What is said of records goes on over those of other types.
 abbrev pub GoesOn : ℕ → (List RecordFields → Type 0) → Type 0
 GoesOn t Read = (xs ys : List RecordFields) → Read xs → All (IsNot t) ys → Read (xs ++ ys)
 
-pub found : {O D E V : Type 0} {g : Ghosts O} (t : ℕ) (seen : D → V) (At : List ℕ → ℕ → V → ℕ → Type 0) (Fails : ℕ → List ℕ → ℕ → ParseError → Type 0) (Becomes : ParseError → E → Type 0) (Read : List RecordFields → Type 0) → GoesOn t Read → (s mid u : RecordIter D E) (made : Record (ParsedName O g) D) → Passed Read s mid → GivesKept {g = g} seen (λ r. nat_eq r t) (λ _. At) Fails Becomes mid (Some (Ok made)) u → Found {g = g} t seen At Read s u made
+pub found : {O D E V : Type 0} {g : Ghosts O} (t : ℕ) (seen : D → V) (At : List ℕ → ℕ → V → ℕ → Type 0) (Fails : ℕ → List ℕ → ℕ → ParseError → Type 0) (Becomes : ParseError → E → Type 0) (Read : List RecordFields → Type 0) → GoesOn t Read → (s mid u : RecordIter D E) (made : Record (ParsedName O g) D) → Passed Read s mid → GivesKept {g = g} (λ _. t) seen (λ r. nat_eq r t) (λ _. At) Fails Becomes mid (Some (Ok made)) u → Found {g = g} t seen At Read s u made
 found {g = g} t seen At Fails Becomes Read goes s mid u made passed (octets, class, (it, first, made_of)) = record {
   octets = octets ∙ passed.octets;
   class = class ∙ passed.class;
@@ -102,7 +102,7 @@ pub record AllRead {D E : Type 0} (Read : List RecordFields → Type 0) (s : Rec
   pub end : ℕ
   pub run : Run RecordAt (message (kept_parser s)) (position (kept_parser s)) records end
 
-pub all_read : {O D E V : Type 0} (g : Ghosts O) (t : ℕ) (seen : D → V) (At : List ℕ → ℕ → V → ℕ → Type 0) (Fails : ℕ → List ℕ → ℕ → ParseError → Type 0) (Becomes : ParseError → E → Type 0) (Read : List RecordFields → Type 0) → GoesOn t Read → (s mid u : RecordIter D E) → Passed Read s mid → GivesKept {g = g} seen (λ r. nat_eq r t) (λ _. At) Fails Becomes mid None u → AllRead Read s
+pub all_read : {O D E V : Type 0} (g : Ghosts O) (t : ℕ) (seen : D → V) (At : List ℕ → ℕ → V → ℕ → Type 0) (Fails : ℕ → List ℕ → ℕ → ParseError → Type 0) (Becomes : ParseError → E → Type 0) (Read : List RecordFields → Type 0) → GoesOn t Read → (s mid u : RecordIter D E) → Passed Read s mid → GivesKept {g = g} (λ _. t) seen (λ r. nat_eq r t) (λ _. At) Fails Becomes mid None u → AllRead Read s
 all_read g t seen At Fails Becomes Read goes s mid u passed (octets, class, (none, over)) = record {
   records = passed.before ++ none.before;
   read = goes passed.before none.before passed.read (other_types t (kept_class mid) none.before passed.class none.others);
@@ -112,7 +112,7 @@ all_read g t seen At Fails Becomes Read goes s mid u passed (octets, class, (non
 }
 
 -- Reading stopped.
-pub stopped : {O D V : Type 0} (g : Ghosts O) (t : ℕ) (seen : D → V) (At : List ℕ → ℕ → V → ℕ → Type 0) (No : List ℕ → ℕ → ParseError → Type 0) (Becomes : ParseError → ParseError → Type 0) (Read : List RecordFields → Type 0) → ((a b : ParseError) → Becomes a b → b ≡ a) → GoesOn t Read → (s mid u : RecordIter D ParseError) (why : ParseError) → Passed Read s mid → GivesKept {g = g} seen (λ r. nat_eq r t) (λ _. At) (λ _. No) Becomes mid (Some (Err why)) u → StopsAt Read No (message (kept_parser s)) (position (kept_parser s)) (kept_left s) why
+pub stopped : {O D V : Type 0} (g : Ghosts O) (t : ℕ) (seen : D → V) (At : List ℕ → ℕ → V → ℕ → Type 0) (No : List ℕ → ℕ → ParseError → Type 0) (Becomes : ParseError → ParseError → Type 0) (Read : List RecordFields → Type 0) → ((a b : ParseError) → Becomes a b → b ≡ a) → GoesOn t Read → (s mid u : RecordIter D ParseError) (why : ParseError) → Passed Read s mid → GivesKept {g = g} (λ _. t) seen (λ r. nat_eq r t) (λ _. At) (λ _. No) Becomes mid (Some (Err why)) u → StopsAt t Read No (message (kept_parser s)) (position (kept_parser s)) (kept_left s) why
 stopped g t seen At No Becomes Read becomes goes s mid u why passed (octets, class, (over, inl (other, misses, is))) = record {
   before = passed.before ++ misses.before;
   read = goes passed.before misses.before passed.read (other_types t (kept_class mid) misses.before passed.class misses.others);
@@ -127,7 +127,7 @@ stopped g t seen At No Becomes Read becomes goes s mid u why passed (octets, cla
   few = omega (arith, passed.count, breaks.few, length-append passed.before breaks.before);
   offset = breaks.offset;
   run = run_append (message (kept_parser s)) (position (kept_parser s)) (position (kept_parser mid)) breaks.offset passed.before breaks.before passed.run (subst (λ m. Run RecordAt m (position (kept_parser mid)) breaks.before breaks.offset) passed.octets breaks.run);
-  stops = inr (breaks.it, breaks.end, subst (λ m. RecordAt m breaks.offset breaks.it breaks.end) passed.octets breaks.at, subst (λ e. No breaks.it.octets breaks.it.start e) (sym (becomes breaks.broken.0 why breaks.broken.2)) breaks.broken.1);
+  stops = inr (breaks.it, breaks.end, subst (λ m. RecordAt m breaks.offset breaks.it breaks.end) passed.octets breaks.at, kept_type t (kept_class mid) breaks.it passed.class breaks.kept, subst (λ e. No breaks.it.octets breaks.it.start e) (sym (becomes breaks.broken.0 why breaks.broken.2)) breaks.broken.1);
 }
 
 -- The iterator is at p of the message m, with n records left.
@@ -147,6 +147,6 @@ begins_at m which p section s begins octets offset left = record {
 pub run_at : {D E : Type 0} (m : List ℕ) (p n e : ℕ) (its : List RecordFields) (s : RecordIter D E) → IsAt m p n s → Run RecordAt (message (kept_parser s)) (position (kept_parser s)) its e → Run RecordAt m p its e
 run_at m p n e its s at run = subst (λ o. Run RecordAt o p its e) at.octets (subst (λ q. Run RecordAt (message (kept_parser s)) q its e) at.offset run)
 
-pub stops_at : {D E : Type 0} (Read : List RecordFields → Type 0) (No : List ℕ → ℕ → ParseError → Type 0) (m : List ℕ) (p n : ℕ) (s : RecordIter D E) (why : ParseError) → IsAt m p n s → StopsAt Read No (message (kept_parser s)) (position (kept_parser s)) (kept_left s) why → StopsAt Read No m p n why
-stops_at Read No m p n s why at stops =
-    subst (λ k. StopsAt Read No m p k why) at.left (subst (λ q. StopsAt Read No m q (kept_left s) why) at.offset (subst (λ o. StopsAt Read No o (position (kept_parser s)) (kept_left s) why) at.octets stops))
+pub stops_at : {D E : Type 0} (t : ℕ) (Read : List RecordFields → Type 0) (No : List ℕ → ℕ → ParseError → Type 0) (m : List ℕ) (p n : ℕ) (s : RecordIter D E) (why : ParseError) → IsAt m p n s → StopsAt t Read No (message (kept_parser s)) (position (kept_parser s)) (kept_left s) why → StopsAt t Read No m p n why
+stops_at t Read No m p n s why at stops =
+    subst (λ k. StopsAt t Read No m p k why) at.left (subst (λ q. StopsAt t Read No m q (kept_left s) why) at.offset (subst (λ o. StopsAt t Read No o (position (kept_parser s)) (kept_left s) why) at.octets stops))

@@ -95,19 +95,20 @@ AddressOf m start host (Some addr) = FirstAddress m start (number16 m 10) host a
 abbrev pub FindsAddress : List ℕ → List (List ℕ) → Option Ipv4Addr → Type 0
 FindsAddress m host found = (start : ℕ) × AuthorityTo m start × AddressOf m start host found
 
--- Of n records at p the first ones are as Read says, and the next is missing, or its data is refused, and why.
-pub record StopsAt (Read : List RecordFields → Type 0) (Refused : List ℕ → ℕ → ParseError → Type 0) (m : List ℕ) (p n : ℕ) (why : ParseError) : Type 0 where
+-- Of n records at p the first ones are as Read says. The next is missing, or is of the type t and its data is refused, and
+-- why.
+pub record StopsAt (t : ℕ) (Read : List RecordFields → Type 0) (Refused : List ℕ → ℕ → ParseError → Type 0) (m : List ℕ) (p n : ℕ) (why : ParseError) : Type 0 where
   pub before : List RecordFields
   pub read : Read before
   pub few : length before < n
   pub offset : ℕ
   pub run : Run RecordAt m p before offset
-  pub stops : NoRecord m offset why ⊎ ((it : RecordFields) × (end : ℕ) × RecordAt m offset it end × Refused it.octets it.start why)
+  pub stops : NoRecord m offset why ⊎ ((it : RecordFields) × (end : ℕ) × RecordAt m offset it end × (it.header.rtype ≡ t) × Refused it.octets it.start why)
 
 -- Why the answers can't be searched for hosts.
 abbrev pub MailRefused : List ℕ → ParseError → Type 0
-MailRefused m why = NoQuestions m why ⊎ ((start : ℕ) × QuestionsTo m start × StopsAt (λ its. (hosts : List Host) × HaveMail its hosts) (NotAll refusal NumberNameAt NoNumberName) m start (number16 m 6) why)
+MailRefused m why = NoQuestions m why ⊎ ((start : ℕ) × QuestionsTo m start × StopsAt 15 (λ its. (hosts : List Host) × HaveMail its hosts) (NotAll refusal NumberNameAt NoNumberName) m start (number16 m 6) why)
 
 -- Why the additional section can't be searched for an address of the host.
 abbrev pub AddressRefused : List ℕ → List (List ℕ) → ParseError → Type 0
-AddressRefused m host why = NoAuthority m why ⊎ ((start : ℕ) × AuthorityTo m start × StopsAt (All (IsOther host)) (NotAll refusal (FixedAt 4 ipv4_of) (ShortAt 4)) m start (number16 m 10) why)
+AddressRefused m host why = NoAuthority m why ⊎ ((start : ℕ) × AuthorityTo m start × StopsAt 1 (All (IsOther host)) (NotAll refusal (FixedAt 4 ipv4_of) (ShortAt 4)) m start (number16 m 10) why)

@@ -1,6 +1,7 @@
 //! A message that is composed.
-ghost use Rattle.std.specs.Prelude.{◌≡◌};
-ghost use Rattle.message_examples.specs.Responses.{response_octets, section_octets};
+ghost use Rattle.std.specs.Prelude.{◌≡◌, IfSome, IsNone};
+ghost use Rattle.domain.specs.Names.{name_labels};
+ghost use Rattle.message_examples.specs.Responses.{response_octets, section_octets, IsMailResponse, ExceedsMessage};
 
 use arrayvec::ArrayVec;
 use domain::base::compress::CompressComposer;
@@ -11,7 +12,7 @@ use domain::base::net::Ipv4Addr;
 use domain::base::question::Question;
 use domain::base::record::{Record, Ttl};
 use domain::rdata::{A, Mx};
-use octseq::{Octets, OctetsBuilder, OctetsMut};
+use octseq::OctetsBuilder;
 
 /// The header of a response with one question, one answer and one additional record.
 fn response_header(id: u16) -> HeaderSection
@@ -33,16 +34,20 @@ pub fn mail_response(
     name: Name<&[u8]>,
     host: Name<&[u8]>,
     addr: Ipv4Addr,
-) -> Option<ArrayVec<u8, 512>> {
+) -> Option<ArrayVec<u8, 512>>
+    ensures ok { IfSome result (λ m. IsMailResponse id (name_labels name.entry) (name_labels host.entry) addr m.items) }
+    ensures full { IsNone result → ExceedsMessage id (name_labels name.entry) (name_labels host.entry) addr }
+{
     let (class, ttl) = (Class::from_int(1), Ttl::from_secs(3600));
+    let mut header = [0; 12];
+    response_header(id).write(&mut header).ok()?;
     let mut message = CompressComposer::new(ArrayVec::new());
-    message.append_slice(&[0; 12]).ok()?;
+    message.append_slice(&header).ok()?;
     let question = Question::new(name, Rtype::from_int(15), class);
     question.compose(&mut message).ok()?;
     let mail = Record::new(name, class, ttl, Mx::new(10, host));
     mail.compose(&mut message).ok()?;
     let address = Record::new(host, class, ttl, A::new(addr));
     address.compose(&mut message).ok()?;
-    response_header(id).write(message.as_slice_mut()).ok()?;
     Some(message.into_target())
 }

@@ -1,4 +1,4 @@
-use Rattle.std.proofs.Common.{inl, inr, subst, rules}
+use Rattle.std.proofs.Common.{inl, subst}
 use Rattle.dnsnames_c.specs.Answers.{Gives}
 use Rattle.dnsnames_c.proofs.CompressedFlag.{compressed_number}
 use Rattle.dnsnames_c.proofs.read.dnsnames_read.Goals as goal

@@ -1,4 +1,4 @@
-use Rattle.std.proofs.Common.{◌≡◌, ◌++◌, true, false, refl, ap}
+use Rattle.std.proofs.Common.{◌++◌, true, false, refl, ap}
 use Rattle.domain_wire.specs.Refusals.{refusal_text}
 use Rattle.domain_walk.specs.Lines.{count_text}
 use Rattle.domain_walk.specs.Engines.{WritesFollowed}

@@ -1,4 +1,3 @@
-use Rattle.std.proofs.Common.{◌∙◌}
 use Rattle.domain_walk.proofs.Showing.{wrote_header}
 use Rattle.domain_walk.proofs.message.write_header.Goals as goal
 

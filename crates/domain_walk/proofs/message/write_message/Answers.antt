@@ -2,7 +2,7 @@ use Rattle.std.proofs.Common.{◌≡◌, ◌<◌, length, refl, subst, ◌∙◌
 use Rattle.std.proofs.lemmas.Result.{on_ok_weaker}
 use Rattle.octseq.specs.Parsing.{message, position}
 use Rattle.domain_message.specs.Facts.{same_message}
-use Rattle.domain_walk.specs.Messages.{ShowsAuthority, WritesUntil}
+use Rattle.domain_walk.specs.Messages.{ShowsAuthority}
 use Rattle.domain_walk.proofs.Showing.{Wrote, stopped_short, stopped_additional, wrote_message}
 use Rattle.domain_walk.proofs.message.write_message.Goals as goal
 

@@ -1,4 +1,4 @@
-use Rattle.std.proofs.Common.{◌≡◌, refl, ap, arith}
+use Rattle.std.proofs.Common.{◌≡◌, ap, arith}
 use Rattle.std.specs.Prelude.{Err}
 use Rattle.domain_message.specs.Entries.{RecordAt, NoRecord}
 use Rattle.domain_message.specs.RecordModel.{record_fields}

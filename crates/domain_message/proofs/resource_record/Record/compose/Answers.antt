@@ -1,6 +1,6 @@
 use Rattle.std.proofs.Common.{length, ap, arith}
 use Rattle.domain_message.specs.RecordParts.{owner_of}
-use Rattle.domain_message.proofs.ComposingRecords.{name_appended, numbers_after, numbers_exceed, data_refused, record_appended}
+use Rattle.domain_message.proofs.ComposingRecords.{name_appended, numbers_after, numbers_exceed, data_refused, begins_with_owner, record_appended}
 use Rattle.domain_message.proofs.resource_record.Record.compose.Goals as goal
 
 pub returns-in-Err-append_slice-clause-why : goal.returns-in-Err-append_slice-clause-why
@@ -23,3 +23,7 @@ returns-clause-ok g c =
     let absolute = g.met.N.Absolute.absolute (owner_of c.args.self.now) in
     let named = name_appended _ g.Target.Composer.compresses (g.Target.Octets.octets c.args.target.now) _ _ (λ s may. record { read = laws.reads_back _ _ s absolute may; flat = λ plain. laws.flat _ _ s plain may }) c.in_default.ensures.ok in
     record_appended _ _ _ _ _ _ _ _ _ _ named.allowed (numbers_after _ _ _ _ _ _ _ _ _ _ named c.in_default-append_slice.ensures.ok c.octets_before_length-numbers.ensures c.rtype.ensures) c.in_default-compose_len_rdata.ensures.ok
+
+pub returns-clause-name : goal.returns-clause-name
+returns-clause-name g c =
+    begins_with_owner _ _ _ _ _ _ _ _ _ _ _ c.in_default.ensures.ok c.in_default-append_slice.ensures.ok c.octets_before_length-numbers.ensures c.rtype.ensures c.in_default-compose_len_rdata.ensures.ok
