@@ -1300,6 +1300,46 @@ for octets in (
 for octets in (LONG + b"\xc0\x0012", b"\1a" * 127 + b"\0", b"\1a" * 127 + b"\5a", b"\1a" * 128 + b"\0", b"\1a" * 126 + b"\2aa\xc0\0", b"\1a" * 126 + b"\2aa\0", b"\3123\0" + LONG + b"\xc0\x0012", b"\x041234\0" + LONG + b"\xc0\x0012"):
     slow_rows(octets, (0, 1, 2, 4, 5, 6, 15, len(octets) - 4, len(octets) - 2, len(octets)), range(len(octets) - 3, len(octets) + 1))
 
+topic("names read at every offset with every end, beside the program's own slow reader: the number of pairs of both")
+
+
+def everywhere(message):
+    """One pair for each offset up to the end, for each end."""
+    own("everywhere", message, str(sum(end + 1 for end in range(len(message) + 1))))
+
+
+def drawn_message(draws):
+    """Labels, roots, pointers and other octets, at most 24 of them, so that some names are whole and many aren't."""
+    message = b""
+    for _part in range(draws.randint(1, 8)):
+        kind = draws.randrange(10)
+        if kind < 4:
+            message += rel(bytes(draws.choices(b"aB.\0", k=draws.randint(1, 3))))
+        elif kind < 6:
+            message += b"\0"
+        elif kind < 9:
+            message += pointer(draws.randrange(len(message) + 2))
+        else:
+            message += bytes([draws.randrange(256)])
+    return message[:24]
+
+
+for octets in (
+    SCATTERED, SCATTERED + b"\xff" * 100, FLAT_POINTER, b"\1a\xc0\0", b"\1a\1b\xc0\0", b"\4\1a\xc0\1\xc0\1", ANSWER,
+    b"\1a" * 127 + b"\5a", b"\1a" * 127 + b"\1a\0", b"\1a" * 126 + b"\2aa\xc0\0", b"\1a" * 126 + b"\2aa\0",
+    MOST, pointers(255), pointers(256), WORST, b"\x3fab\xc0\0" + b"x" * 95, ONCE, INSIDE, b"\xc0\x0012",
+    LONG + b"\xc0\x0012", b"\3123\0" + LONG + b"\xc0\x0012", b"\x041234\0" + LONG + b"\xc0\x0012", b"\1a" * 127 + b"\0", b"",
+):
+    everywhere(octets)
+assert ("everywhere " + hx(MOST), "293761", True) in rows
+draws, drawn = random.Random(1987), {}
+while len(drawn) < 1000:
+    drawn[drawn_message(draws)] = None
+for octets in drawn:
+    everywhere(octets)
+for line in ("everywhere", "everywhere 00 0", "everywhere 0"):
+    own(line, "bad")
+
 
 
 def main():

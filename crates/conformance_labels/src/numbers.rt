@@ -3,7 +3,9 @@
 use crate::parser::parser_at;
 use arrayvec::ArrayVec;
 use conformance_answer::{Answer, Fail};
-use domain_wire::{Compose, Ipv4Addr, Ipv6Addr, Parse, ParseError, compose_vec, parse_slice};
+use domain_wire::{
+    Compose, FixedLen, Ipv4Addr, Ipv6Addr, Parse, ParseError, compose_vec, parse_slice,
+};
 use octseq::{OctetsBuilder, Parser};
 use std::fmt::Display;
 
@@ -102,7 +104,7 @@ pub fn put_whole(out: &mut Answer, octets: &[u8]) {
 }
 
 /// What a value is composed to, in a room of 16 octets that it fits, and in one that lacks an octet.
-pub fn put_composed<T: Compose>(out: &mut Answer, value: &T, len: usize) {
+pub fn put_composed<T: FixedLen>(out: &mut Answer, value: &T, len: usize) {
     let mut octets: Vec<u8> = Vec::new(out.alloc());
     if value.compose(&mut octets).is_err() {
         out.fail(Fail::Memory);
@@ -111,7 +113,7 @@ pub fn put_composed<T: Compose>(out: &mut Answer, value: &T, len: usize) {
     out.agree(octets.len() == len, b"compose");
     out.agree(usize::from(T::COMPOSE_LEN) == len, b"COMPOSE_LEN");
     out.agree(<&T>::COMPOSE_LEN == T::COMPOSE_LEN, b"COMPOSE_LEN");
-    out.agree(usize::from(value.composed_len()) == len, b"composed_len");
+    out.agree(usize::from(T::LEN) == len, b"LEN");
     is_refused_by_a_full_room(out, value, len);
 }
 
@@ -148,7 +150,7 @@ fn number_of(field: &[u8]) -> Option<i128> {
 }
 
 /// A number in as few as 8 bits, with or without a sign.
-fn put_in_bits<T: Compose + Copy>(out: &mut Answer, number: Option<T>, len: usize) {
+fn put_in_bits<T: FixedLen + Copy>(out: &mut Answer, number: Option<T>, len: usize) {
     match number {
         Some(value) => put_composed(out, &value, len),
         None => out.fail(Fail::Bad),

@@ -1,6 +1,7 @@
 //! The words of these calls, by what comes after them.
 
 use crate::compress::{put_compressed, put_compressedcap};
+use crate::everywhere::put_everywhere;
 use crate::message::{
     put_limited, put_mixture, put_nparse, put_parentswalk, put_parse, put_rest, put_skip, put_walk,
 };
@@ -117,6 +118,10 @@ fn answer_long(fields: Fields<'_>, out: &mut Answer) -> bool {
 fn answer_data(fields: Fields<'_>, out: &mut Answer) -> bool {
     let octets = fields.octets(1, out);
     match fields.at(0) {
+        b"everywhere" => {
+            fields.expect(2, out);
+            put_everywhere(out, octets.as_slice());
+        }
         b"rdata" => {
             fields.expect(2, out);
             put_rdata(out, octets.as_slice());

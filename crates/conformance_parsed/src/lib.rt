@@ -3,8 +3,10 @@
 
 mod command;
 mod compress;
+mod everywhere;
 mod message;
 mod names;
 mod records;
+mod slow_reader;
 
 pub use command::answer_parsed;

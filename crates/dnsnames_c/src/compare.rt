@@ -11,7 +11,6 @@ ghost use Rattle.dnsnames_c.specs.Status.{order_number};
 use crate::fnv::Fnv;
 use crate::put::give;
 use arrayvec::ArrayVec;
-use domain_list::ToLabelIter;
 use domain_list::comparing::{eq_names, order_names};
 use domain_list::composing::compose_canonical_name;
 use domain_list::hashing::hash_name;

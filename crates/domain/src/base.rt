@@ -3,7 +3,7 @@
 /// Reading from and writing to messages.
 pub mod wire {
     pub use domain_rdata::Composer;
-    pub use domain_wire::compose::{Compose, compose_vec};
+    pub use domain_wire::compose::{Compose, FixedLen, compose_vec};
     pub use domain_wire::error::{FormError, ParseError};
     pub use domain_wire::parse::{Parse, parse_slice};
 }
@@ -44,7 +44,6 @@ pub mod name {
     pub use domain_label::slice_labels::SliceLabelsIter;
     pub use domain_label::split::{LabelTypeError, SplitLabelError};
     pub use domain_list::chain::{Chain, ChainIter, LongChainError};
-    pub use domain_list::composing::put_labels;
     pub use domain_list::dotted::DisplayWithDot;
     pub use domain_list::labels::{
         Absolute, AbsoluteLabels, LabelIterator, NameLabels, Relative, RelativeLabels, ToLabelIter,

@@ -1,5 +1,5 @@
 -- What a few octets at an offset tell of the name there.
-use Rattle.std.proofs.Common.{◌≡◌, ℕ, ◌+◌, ◌-◌, ◌*◌, ◌/◌, ◌%◌, ◌^◌, ◌<◌, inl, inr, List, [], ◌∷◌, ◌++◌, fold, length, refl, sym, ap, subst, ◌∙◌, arith, slice_index, take, drop, drop-drop, slice_range, slice_set, get_or-set_same, get_or-set_other}
+use Rattle.std.proofs.Common.{◌≡◌, ℕ, ◌+◌, ◌-◌, ◌*◌, ◌/◌, ◌%◌, ◌^◌, ◌<◌, ◌≤◌, inl, inr, List, [], ◌∷◌, ◌++◌, fold, length, refl, sym, ap, subst, ◌∙◌, arith, slice_index, take, drop, drop-drop, slice_range, slice_set, get_or-set_same, get_or-set_other}
 use Rattle.std.proofs.Math.Seq.{take-append_seam}
 use Rattle.std.proofs.lemmas.Grind.{common_steps}
 use Rattle.std.proofs.lemmas.Bool.{cases_lt}
@@ -7,8 +7,14 @@ use Rattle.std.specs.Char.{to_ascii_lowercase}
 use Rattle.domain_label.specs.Wire.{wire, labels_in, IsAbsolute, IsAbsoluteWire}
 use Rattle.domain_label.specs.Lowercase.{lowercase}
 use Rattle.domain_flat.proofs.LabelBounds.{Meets, meets_drop, read_at}
-use Rattle.domain_reading.specs.Grammar.{LabelAt, Reads}
+use Rattle.domain_reading.specs.Grammar.{OctetAt, LabelAt, Reads}
 use Rattle.domain_reading.specs.Grammar.Reads.{root, label, pointer}
+use Rattle.domain_reading.specs.Faults.{start}
+use Rattle.domain_reading.specs.Heads.{BrokenAt}
+use Rattle.domain_reading.specs.declared.fault.NameFault.{NameFault}
+use Rattle.domain_reading.proofs.NameOrFault.{names_or_fault}
+use Rattle.domain_reading.proofs.Reading.{reads_once}
+use Rattle.domain_reading.proofs.WhileReading.{broken_fault}
 use Rattle.domain_rdata.specs.ReadBack.{StandsAt}
 use Rattle.domain_compress.specs.Ends.{first_label, hash_step, label_hash, first_hash, slot_of, IsMarked}
 use Rattle.domain_compress.specs.Hashes.{hash_at, HasHash}
@@ -37,28 +43,50 @@ label_hash_at m l p x = ap (λ n. label_hash (slice_range m (p + 1) (p + 1 + n))
 
 -- A label stands at the offset itself, or a pointer.
 pub record Glance (m : List ℕ) (p : ℕ) (l : List ℕ) : Type 0 where
-  pub inside : p + 1 < length m
-  pub all_inside : slice_index m p < 64 → p + slice_index m p < length m
   pub hash : slice_index m p < 64 → hash_at m p ≡ label_hash l
 
 glance : {m : List ℕ} {p k : ℕ} {ls : List (List ℕ)} → Reads m p k ls → 0 < length (first_label ls) → Glance m p (first_label ls)
 glance (root x) some = absurd (omega (arith, some))
-glance {m} {p} (label {l = l} x r) some = record { inside = omega (arith, x.inside, some); all_inside = λ _. omega (arith, x.head, x.inside); hash = λ _. label_hash_at m l p x }
-glance (pointer x lt r) some = record { inside = x.inside; all_inside = λ h. absurd (omega (arith, h, x.head)); hash = λ h. absurd (omega (arith, h, x.head)) }
+glance {m} {p} (label {l = l} x r) some = record { hash = λ _. label_hash_at m l p x }
+glance (pointer x lt r) some = record { hash = λ h. absurd (omega (arith, h, x.head)) }
 
 seen : (m : List ℕ) (p : ℕ) (ls : List (List ℕ)) → 0 < length (first_label ls) → (s : StandsAt m p ls) → Glance m p (first_label s.0)
 seen m p ls some s = glance s.1.reads (omega (arith, some, same_length _ _ (same_first s.0 ls s.2)))
-
-pub seen_inside : (m : List ℕ) (p : ℕ) (ls : List (List ℕ)) → 0 < length (first_label ls) → StandsAt m p ls → p + 1 < length m
-seen_inside m p ls some s = (seen m p ls some s).inside
-
-pub seen_all_inside : (m : List ℕ) (p : ℕ) (ls : List (List ℕ)) → slice_index m p < 64 → 0 < length (first_label ls) → StandsAt m p ls → p + slice_index m p < length m
-seen_all_inside m p ls lowercase some s = (seen m p ls some s).all_inside lowercase
 
 pub seen_marked : (marks m : List ℕ) (p h : ℕ) (ls : List (List ℕ)) → slice_index m p < 64 → h ≡ hash_at m p → 0 < length (first_label ls) → IsMarked marks ls → StandsAt m p ls → slice_index marks (slot_of h) ≡ 1
 seen_marked marks m p h ls lowercase e some marked s =
     let g = seen m p ls some s in
     ap (λ k. slice_index marks (slot_of k)) (e ∙ (g.hash lowercase ∙ same_hash _ _ (same_first s.0 ls s.2))) ∙ marked
+
+-- Where nothing can be read no name stands.
+pub broken_stands : (m : List ℕ) (p : ℕ) (ls : List (List ℕ)) (fault : NameFault) → BrokenAt m p fault → StandsAt m p ls → ⊥
+broken_stands m p ls fault b s =
+    names_or_fault s.1 (record { pointers = 0; passed = []; stopped = p; walk = start; at = broken_fault 255 m p 0 [] fault b })
+
+-- Where a root is, no name of another label stands.
+pub root_stands : (m : List ℕ) (p : ℕ) (ls : List (List ℕ)) → OctetAt m p 0 → 0 < length (first_label ls) → StandsAt m p ls → ⊥
+root_stands m p ls x some s =
+    let none : first_label s.0 ≡ [] = ap first_label (reads_once s.1.reads (root x)).1 in
+    omega (arith, some, same_length _ _ (same_first s.0 ls s.2), ap length none)
+
+-- A label of n octets is at the offset.
+abbrev pub LabelOf : List ℕ → ℕ → ℕ → Type 0
+LabelOf m p n = (l : List ℕ) × (length l ≡ n) × LabelAt m p l
+
+first_octet : (m : List ℕ) (p n : ℕ) → LabelOf m p n → slice_index m p ≡ n
+first_octet m p n x = x.2.head ∙ x.1
+
+pub label_low : (m : List ℕ) (p n : ℕ) → LabelOf m p n → slice_index m p < 64
+label_low m p n x = omega (arith, x.2.head, x.2.short)
+
+pub label_inside : (m : List ℕ) (p n : ℕ) → LabelOf m p n → p + 1 + n ≤ length m
+label_inside m p n x = omega (arith, x.1, x.2.inside)
+
+pub label_here : (m : List ℕ) (p n h : ℕ) → LabelOf m p n → h ≡ label_hash (slice_range m (p + 1) (p + 1 + n)) → h ≡ hash_at m p
+label_here m p n h x e = e ∙ ap (λ k. label_hash (slice_range m (p + 1) (p + 1 + k))) (sym (first_octet m p n x))
+
+pub label_hashed : (m : List ℕ) (p n h : ℕ) → LabelOf m p n → p + 1 + n < length m → h ≡ label_hash (slice_range m (p + 1) (p + 1 + n)) → HasHash m p h
+label_hashed m p n h x more e = (label_low m p n x, omega (arith, more, first_octet m p n x), label_here m p n h x e)
 
 -- An end with a marked label doesn't stand where the hash isn't marked.
 pub not_hashed : (marks m : List ℕ) (p h : ℕ) (ls : List (List ℕ)) → HasHash m p h → (slice_index marks (slot_of h) ≡ 1 → ⊥) → 0 < length (first_label ls) → IsMarked marks ls → StandsAt m p ls → ⊥

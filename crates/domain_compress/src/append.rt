@@ -1,38 +1,15 @@
 //! Writing the labels before an end of a name, and a pointer to where that stands.
-ghost use Rattle.std.specs.Prelude.{◌≡◌, ◌++◌, ◌+◌, ◌<◌, ◌≤◌, length, take, OnOk, OnErr, IfOk};
+ghost use Rattle.std.specs.Prelude.{◌≡◌, ◌++◌, ◌+◌, ◌<◌, ◌≤◌, length, take, OnErr, IfOk};
 ghost use Rattle.domain_label.specs.Wire.{labels_in, IsAbsoluteWire};
 ghost use Rattle.domain_rdata.specs.ReadBack.{Exceeds};
 ghost use Rattle.domain_compress.specs.Beginnings.{BeginningWritten};
-ghost use Rattle.domain_compress.specs.Compressing.{pointer_to};
 ghost use Rattle.domain_compress.specs.Hashes.{IsKnown, AreListed};
 ghost use Rattle.domain_compress.specs.MayWrite.{MayWrite};
 ghost use Rattle.domain_compress.specs.Written.{all_remembered};
 
-use crate::plan::{find_beginning, pointer};
+use crate::plan::{find_beginning, pointed};
 use crate::written::Written;
 use octseq::OctetsBuilder;
-
-/// Appends octets and a pointer to an offset after them, or nothing.
-#[inline(always)]
-fn append_pointed<Target: OctetsBuilder>(
-    target: &mut Target,
-    octets: &[u8],
-    offset: u16,
-) -> Result<(), Target::AppendError>
-    requires { offset < 16384 }
-    ensures ok { OnOk result (Target.octets target.new ≡ Target.octets target.old ++ (octets.now ++ pointer_to offset)) }
-    ensures unchanged { OnErr result (Target.octets target.new ≡ Target.octets target.old) }
-    ensures full { OnErr result (Target.capacity target.old < length (Target.octets target.old) + length (octets.now ++ pointer_to offset)) }
-    ensures capacity { Target.capacity target.old ≤ Target.capacity target.new }
-{
-    let start = target.as_slice().len();
-    target.append_slice(octets)?;
-    if let Err(e) = target.append_slice(&pointer(offset)) {
-        target.truncate(start);
-        return Err(e);
-    }
-    Ok(())
-}
 
 /// Appends the labels before the longest end of the name that was written, and a pointer to it. `None` where
 /// there is no such end, or one pointer too many would lead along the name: it is then to be written flat.
@@ -54,7 +31,8 @@ pub(crate) fn append_beginning<Target: OctetsBuilder>(
     let Some(beginning) = find_beginning(target.as_slice(), written, hashes, name, hashed) else {
         return Ok(None);
     };
-    match append_pointed(target, &name[..beginning.begin], beginning.offset) {
+    let octets = pointed(name, beginning.begin, beginning.offset);
+    match target.append_slice(octets.as_slice()) {
         Ok(()) => Ok(Some(beginning.begin)),
         Err(e) => Err(e),
     }

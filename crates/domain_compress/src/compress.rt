@@ -71,6 +71,8 @@ impl<T: Composer> Octets for CompressComposer<T> {
 
     ghost capacity = { λ c. T.capacity c.target };
 
+    ghost limit = { T.limit };
+
     fn as_slice(&self) -> &[u8] {
         self.target.as_slice()
     }
@@ -113,8 +115,6 @@ impl<T: Composer> OctetsBuilder for CompressComposer<T> {
 
     type AppendError = T::AppendError;
 
-    ghost limit = { T.limit };
-
     /// Appends all of the octets, or none, as the target does. The offsets stay.
     fn append_slice(&mut self, slice: &[u8]) -> Result<(), T::AppendError>
         ensures ok { OnOk result (T.octets self.new.target ≡ T.octets self.old.target ++ slice.now) }
@@ -125,10 +125,6 @@ impl<T: Composer> OctetsBuilder for CompressComposer<T> {
         ensures places { remembered_labels self.new ≡ remembered_labels self.old }
     {
         self.target.append_slice(slice)
-    }
-
-    fn keep_limit(&self) {
-        self.target.keep_limit();
     }
 
     ghost fixed = { λ c. T.fixed c.target };

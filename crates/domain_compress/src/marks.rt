@@ -1,9 +1,16 @@
 //! Passing over offsets where no end of a name can stand, by a hash of the first label there.
-ghost use Rattle.std.specs.Prelude.{◌≡◌, ◌<◌, ℕ, List, length, slice_index, nat_eq, IsTrue, true};
+ghost use Rattle.std.specs.Prelude.{◌≡◌, ◌<◌, ℕ, List, length, slice_index, nat_eq, IsTrue, true, MatchResult};
 ghost use Rattle.domain_label.specs.Wire.{IsAbsoluteWire};
 ghost use Rattle.domain_rdata.specs.ReadBack.{StandsAt};
 ghost use Rattle.domain_compress.specs.Ends.{first_label, label_hash, slot_of, IsMarked, AreMarked};
 ghost use Rattle.domain_compress.specs.Hashes.{HasHash};
+ghost use Rattle.domain_reading.specs.Heads.{IsHeadAt, BrokenAt};
+
+use domain_reading::fault::NameFault;
+use domain_reading::head::{Head, read_head};
+use domain_reading::heads::Heads;
+use std::marker::Brand;
+use std::sync::ledger::{Blank, Ledger};
 
 /// Spreads what was counted over the highest bits: 2 ^ 64 by the golden ratio.
 const SPREAD: u64 = 11400714819323198485;
@@ -47,18 +54,36 @@ pub(crate) fn mark_firsts(marks: &mut [u8; 256], name: &[u8])
     }
 }
 
+/// What is at the offset, as `read_head` tells it.
+fn head_at(octets: &[u8], place: usize) -> Result<Head, NameFault>
+    ensures { MatchResult result (IsHeadAt octets.now place) (BrokenAt octets.now place) }
+{
+    head_at_with::<Brand>(octets, place, Blank::new(1))
+}
+
+/// The same over a count of heads, of which no clause tells.
+#[inline(always)]
+fn head_at_with<L: Ledger>(octets: &[u8], place: usize, blank: Blank) -> Result<Head, NameFault>
+    requires ledger { blank.name ≡ L.name }
+    requires parts { blank.parts ≡ L.parts }
+    requires some { 0 < blank.parts }
+    ensures { MatchResult result (IsHeadAt octets.now place) (BrokenAt octets.now place) }
+{
+    let mut heads = Heads::<L>::new(blank);
+    read_head(octets, place, &mut heads)
+}
+
 /// The hash of the label at the offset, and whether a label stands there at all, with another octet after it.
 pub(crate) fn hash_there(octets: &[u8], place: usize) -> (bool, u16)
     requires { place < 16384 }
     ensures { result.0 ≡ true → HasHash octets.now place result.1 }
 {
-    if place >= octets.len() {
+    let Ok(Head::Label(len)) = head_at(octets, place) else {
         return (false, 0);
-    }
-    let len = octets[place];
+    };
     let start = place + 1;
     let end = start + usize::from(len);
-    if len >= 64 || end >= octets.len() {
+    if end >= octets.len() {
         return (false, 0);
     }
     (true, hash(&octets[start..end]))
@@ -69,17 +94,15 @@ pub(crate) fn may_stand(octets: &[u8], place: usize, marks: &[u8; 256]) -> bool
     requires { place < 16384 }
     ensures { (ls : List (List ℕ)) → 0 < length (first_label ls) → IsMarked marks.now ls → StandsAt octets.now place ls → IsTrue result }
 {
-    if place + 1 >= octets.len() {
+    let Ok(head) = head_at(octets, place) else {
         return false;
+    };
+    match head {
+        Head::Root => false,
+        Head::Label(len) => {
+            let start = place + 1;
+            is_marked(marks, hash(&octets[start..start + usize::from(len)]))
+        }
+        Head::Pointer(_target) => true,
     }
-    let len = octets[place];
-    if len >= 64 {
-        return true;
-    }
-    let start = place + 1;
-    let end = start + usize::from(len);
-    if end > octets.len() {
-        return false;
-    }
-    is_marked(marks, hash(&octets[start..end]))
 }

@@ -18,8 +18,8 @@ pub none_known : {n : ℕ} {A : Type 0} → None ≡ Some n → A
 none_known {n} {A} e = let P : Option ℕ → Type 0 = λ o. elim o as (λ _. Type 0) [ None ↦ Unit {0} | Some n ↦ A ] in subst P e tt
 
 -- the length of octets that are always the same
-pub fixed_size : (o s : List ℕ) (n : ℕ) → Some (length o) ≡ Some n → s ≡ o → length s ≡ n
-fixed_size o s n told is = ap length is ∙ known_once told
+pub fixed_size : (o s : List ℕ) (len n : ℕ) → length o ≡ len → Some len ≡ Some n → s ≡ o → length s ≡ n
+fixed_size o s len n has told is = ap length is ∙ (has ∙ known_once told)
 
 -- the length of the canonical form of a name
 pub canonical_size : (ls : List (List ℕ)) (n : ℕ) → Some (length (wire ls)) ≡ Some n → length (wire (lowercase_labels ls)) ≡ n

@@ -4,7 +4,7 @@ ghost use Rattle.domain_rdata.specs.ReadBack.{Appended, Exceeds};
 ghost use Rattle.domain_fields.specs.FieldLaws.{fixed_size};
 
 use domain_rdata::Composer;
-use domain_wire::Compose;
+use domain_wire::FixedLen;
 
 /// A field of record data: a name, a number or an address.
 ///
@@ -69,17 +69,17 @@ pub trait DataField {
 }
 
 /// A number or an address: the octets are the same in each form.
-impl<T: Compose> DataField for T {
+impl<T: FixedLen> DataField for T {
     ghost uncompressed = { T.composed_octets };
 
     ghost composed = { λ it _ _ s. s ≡ T.composed_octets it };
 
     ghost canonical = { T.composed_octets };
 
-    ghost known_len = { λ it _. Some (length (T.composed_octets it)) };
+    ghost known_len = { λ _ _. Some T.LEN };
 
     fn field_len(&self, _compress: bool) -> Option<u16> {
-        Some(self.composed_len())
+        Some(T::LEN)
     }
 
     fn compose_field<Target: Composer>(
@@ -100,7 +100,7 @@ impl<T: Compose> DataField for T {
 
     ghost flat = { λ _ _ _ h. h };
 
-    ghost sized = { λ it _ n t s known is. fixed_size (T.composed_octets it) s n known is };
+    ghost sized = { λ it _ n t s known is. fixed_size (T.composed_octets it) s T.LEN n (T.fixed it) known is };
 
-    ghost canonical_sized = { λ it n known. fixed_size (T.composed_octets it) (T.composed_octets it) n known refl };
+    ghost canonical_sized = { λ it n known. fixed_size (T.composed_octets it) (T.composed_octets it) T.LEN n (T.fixed it) known refl };
 }

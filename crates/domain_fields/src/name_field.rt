@@ -233,7 +233,7 @@ impl<N: DataName> DataField for UncompressedNameField<N> {
 
     ghost flat = { λ _ _ _ same. same };
 
-    ghost sized = { λ it _ n t s known is. fixed_size (wire (N.labels it.name)) s n known is };
+    ghost sized = { λ it _ n t s known is. fixed_size (wire (N.labels it.name)) s (length (wire (N.labels it.name))) n refl known is };
 
     ghost canonical_sized = { λ it n known. canonical_size (N.labels it.name) n known };
 }

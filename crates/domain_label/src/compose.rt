@@ -44,7 +44,6 @@ impl<'a> Label<'a> {
         target.append_slice(&[self.len() as u8])?;
         if let Err(e) = target.append_slice(self.as_slice()) {
             target.truncate(start);
-            target.keep_limit();
             return Err(e);
         }
         Ok(())

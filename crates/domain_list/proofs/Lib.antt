@@ -10,6 +10,7 @@ pub mod LastDifference
 pub mod EqualSuffixLabels
 pub mod SuffixBySize
 pub mod Octetwise
+pub mod Flatwise
 pub mod BufferContents
 pub mod TextThroughBuffer
 pub mod DottedText

@@ -126,14 +126,6 @@ impl<'a, L: ToLabelIter<'a>, R: ToLabelIter<'a>> ToLabelIter<'a> for Chain<L, R>
     fn as_flat_slice(&'a self) -> Option<&'a [u8]> {
         None
     }
-
-    #[inline(always)]
-    fn put_wire(&'a self, octets: &mut [u8; 255], len: usize) -> Option<usize> {
-        match self.left.put_wire(octets, len) {
-            Some(end) => self.right.put_wire(octets, end),
-            None => None,
-        }
-    }
 }
 
 impl<'a, L: ToLabelIter<'a>, R: AbsoluteLabels<'a>> AbsoluteLabels<'a> for Chain<L, R> {}

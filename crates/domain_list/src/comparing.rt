@@ -3,11 +3,10 @@
 ghost use Rattle.std.specs.Prelude.{◌≡◌, ◌≢◌, ◌<◌, ◌∷◌, IsTrue, ◌↔◌, length, MatchBool};
 ghost use Rattle.domain_label.specs.Lowercase.{lowercase, lowercase_labels};
 ghost use Rattle.domain_label.specs.Labels.{label_octets};
-ghost use Rattle.domain_label.specs.Wire.{wire};
+ghost use Rattle.domain_label.specs.Wire.{wire, AreLabels};
 ghost use Rattle.domain_list.specs.EqualSuffixes.{SuffixesEqual};
 ghost use Rattle.domain_list.specs.Order.{canonical_order, last_order, same_name, composed_order, lowercase_composed_order};
 
-use crate::composing::put_name;
 use crate::flat::known_equal_suffix_len;
 use crate::labels::{LabelIterator, ToLabelIter};
 use domain_label::Label;
@@ -34,18 +33,32 @@ pub(crate) fn eq_labels<'a, A: LabelIterator<'a>, B: LabelIterator<'a>>(a: A, b:
     }
 }
 
-/// Whether a name has this wire format ignoring ASCII case. It is put together on the stack, so that all octets are
-/// compared at once.
+/// Whether the labels that are left, of `len` octets on the wire, have this wire format ignoring ASCII case.
+///
+/// Each label is compared with the first one of the remaining octets, so that no second iterator reads their length
+/// octets, and a label of another length is found by one comparison.
 #[inline(always)]
-fn eq_flat<'a, N: ToLabelIter<'a>>(name: &'a N, flat: &[u8]) -> bool
-    ensures { IsTrue result ↔ (lowercase flat.now ≡ lowercase (wire (N.labels name.now))) }
+fn eq_flat<'a, I: LabelIterator<'a>>(labels: I, len: u16, flat: &[u8]) -> bool
+    requires sized { len ≡ length (wire (I.left labels)) }
+    requires labels { AreLabels (I.left labels) }
+    ensures { IsTrue result ↔ (lowercase flat.now ≡ lowercase (wire (I.left labels))) }
 {
-    if usize::from(name.compose_len()) != flat.len() {
+    if usize::from(len) != flat.len() {
         return false;
     }
-    let mut octets = [0; 255];
-    let len = put_name(name, &mut octets);
-    same_octets(flat, &octets[..len])
+    let mut labels = labels;
+    let mut rest = flat;
+    while let Some(label) = labels.next() {
+        let end = 1 + label.len();
+        if usize::from(rest[0]) != label.len() {
+            return false;
+        }
+        if !same_octets(&rest[1..end], label.as_slice()) {
+            return false;
+        }
+        rest = &rest[end..];
+    }
+    true
 }
 
 /// Whether the labels of two names are the same ignoring ASCII case (RFC 4343).
@@ -54,8 +67,8 @@ pub fn eq_names<'a, A: ToLabelIter<'a>, B: ToLabelIter<'a>>(a: &'a A, b: &'a B) 
 {
     match (a.as_flat_slice(), b.as_flat_slice()) {
         (Some(a), Some(b)) => return same_octets(a, b),
-        (Some(flat), None) => return eq_flat(b, flat),
-        (None, Some(flat)) => return eq_flat(a, flat),
+        (Some(flat), None) => return eq_flat(b.iter_labels(), b.compose_len(), flat),
+        (None, Some(flat)) => return eq_flat(a.iter_labels(), a.compose_len(), flat),
         (None, None) => return eq_labels(a.iter_labels(), b.iter_labels()),
     }
 }

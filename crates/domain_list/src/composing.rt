@@ -1,5 +1,5 @@
 //! Writing names in wire format, without compression (RFC 1035, 3.1).
-ghost use Rattle.std.specs.Prelude.{◌≡◌, ◌≤◌, ◌<◌, ◌+◌, ◌++◌, ◌↔◌, length, take, IfSome, IsNone, MatchBool, OnOk, OnErr};
+ghost use Rattle.std.specs.Prelude.{◌≡◌, ◌≤◌, ◌<◌, ◌+◌, ◌++◌, length, take, IfSome, OnOk, OnErr};
 ghost use Rattle.domain_label.specs.Lowercase.{lowercase, lowercase_labels};
 ghost use Rattle.domain_label.specs.Labels.{label_octets};
 ghost use Rattle.domain_label.specs.Wire.{wire, wire_label};
@@ -8,41 +8,21 @@ use crate::labels::{LabelIterator, ToLabelIter};
 use domain_label::Label;
 use octseq::OctetsBuilder;
 
-/// Puts the wire format of the labels that are left, which has `size` octets, after the first `len` octets of a
-/// buffer, and returns how many octets there are then. `None` exactly where it doesn't fit. The first `len` octets
-/// stay as they are.
+/// Puts the wire format of the labels that are left at the beginning of a buffer, and returns how many octets it has.
 ///
-/// It is a body for `put_wire` of any type of names: `put_labels(self.iter_labels(), self.compose_len(), octets, len)`.
+/// It is how a name that isn't in contiguous octets is put together, of whatever kind it is.
 #[inline(always)]
-pub fn put_labels<'a, I: LabelIterator<'a>>(
-    labels: I,
-    size: u16,
-    octets: &mut [u8; 255],
-    len: usize,
-) -> Option<usize>
-    requires { size ≡ length (wire (I.left labels)) }
-    ensures size { IfSome result (λ end. end ≡ len + length (wire (I.left labels))) }
-    ensures wire { IfSome result (λ end. take end octets.new ≡ take len octets.old ++ wire (I.left labels)) }
-    ensures full { IsNone result ↔ (255 < len + length (wire (I.left labels))) }
-    ensures kept { take len octets.new ≡ take len octets.old }
+fn put_labels<'a, I: LabelIterator<'a>>(labels: I, octets: &mut [u8; 255]) -> usize
+    requires { length (wire (I.left labels)) ≤ 255 }
+    ensures size { result ≡ length (wire (I.left labels)) }
+    ensures wire { take result octets.new ≡ wire (I.left labels) }
 {
-    if !has_room(len, usize::from(size)) {
-        return None;
-    }
     let mut labels = labels;
-    let mut end = len;
+    let mut len = 0;
     while let Some(label) = labels.next() {
-        end = put_label(label, octets, end);
+        len = put_label(label, octets, len);
     }
-    Some(end)
-}
-
-/// Whether so many octets fit after the first `len` of 255.
-#[inline(always)]
-pub fn has_room(len: usize, size: usize) -> bool
-    ensures { MatchBool result (len + size ≤ 255) (255 < len + size) }
-{
-    len <= 255 && size <= 255 - len
+    len
 }
 
 /// Puts the wire format of a label after so many octets of a buffer, and returns how many there are then.
@@ -54,25 +34,49 @@ fn put_label(label: Label, octets: &mut [u8; 255], len: usize) -> usize
 {
     let end = len + 1 + label.len();
     octets[len] = label.len() as u8;
-    octets[len + 1..end].copy_from_slice(label.as_slice());
+    put_octets(label.as_slice(), octets, len + 1);
     end
 }
 
-/// Puts octets after the first `len` octets of a buffer, and returns how many there are then. `None` exactly where
-/// they don't fit. The first `len` octets stay as they are.
+/// Puts octets at a place of a buffer.
+///
+/// Most labels are short: they are copied without a loop and without a call.
 #[inline(always)]
-pub fn put_slice(flat: &[u8], octets: &mut [u8; 255], len: usize) -> Option<usize>
-    ensures size { IfSome result (λ end. end ≡ len + length flat.now) }
-    ensures wire { IfSome result (λ end. take end octets.new ≡ take len octets.old ++ flat.now) }
-    ensures full { IsNone result ↔ (255 < len + length flat.now) }
-    ensures kept { take len octets.new ≡ take len octets.old }
+fn put_octets(from: &[u8], octets: &mut [u8; 255], place: usize)
+    requires { place + length from.now ≤ 255 }
+    ensures { take (place + length from.now) octets.new ≡ take place octets.old ++ from.now }
 {
-    if !has_room(len, flat.len()) {
-        return None;
+    let len = from.len();
+    if len > 16 {
+        octets[place..place + len].copy_from_slice(from);
+        return;
     }
-    let end = len + flat.len();
-    octets[len..end].copy_from_slice(flat);
-    Some(end)
+    if len >= 8 {
+        return put_ends(from, octets, place, 8);
+    }
+    if len >= 4 {
+        return put_ends(from, octets, place, 4);
+    }
+    if len >= 2 {
+        return put_ends(from, octets, place, 2);
+    }
+    if len == 1 {
+        octets[place] = from[0];
+    }
+}
+
+/// The same of so many octets that the first and the last `size` of them are all. The two parts may overlap.
+#[inline(always)]
+fn put_ends(from: &[u8], octets: &mut [u8; 255], place: usize, size: usize)
+    requires long { size ≤ length from.now }
+    requires short { length from.now ≤ size + size }
+    requires room { place + length from.now ≤ 255 }
+    ensures { take (place + length from.now) octets.new ≡ take place octets.old ++ from.now }
+{
+    let rest = from.len() - size;
+    let last = place + rest;
+    octets[place..place + size].copy_from_slice(&from[..size]);
+    octets[last..last + size].copy_from_slice(&from[rest..rest + size]);
 }
 
 /// Puts the wire format of a name of any kind at the beginning of a buffer, which has room for each name,
@@ -83,10 +87,11 @@ pub fn put_name<'a, N: ToLabelIter<'a>>(name: &'a N, octets: &mut [u8; 255]) -> 
     ensures wire { take result octets.new ≡ wire (N.labels name.now) }
     ensures fits { result ≤ 255 }
 {
-    let Some(len) = name.put_wire(octets, 0) else {
-        unreachable!();
-    };
-    len
+    if let Some(flat) = name.as_flat_slice() {
+        octets[..flat.len()].copy_from_slice(flat);
+        return flat.len();
+    }
+    put_labels(name.iter_labels(), octets)
 }
 
 /// Puts octets at the beginning of a buffer, A to Z as a to z, and returns how many there are.

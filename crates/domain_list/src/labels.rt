@@ -1,5 +1,5 @@
 //! Names as lists of labels.
-ghost use Rattle.std.specs.Prelude.{◌≡◌, ◌<◌, ◌+◌, ◌++◌, ℕ, List, length, take, IfSome, IsSome, IsNone, IsTrue, ◌↔◌};
+ghost use Rattle.std.specs.Prelude.{◌≡◌, ℕ, List, length, IfSome, IsSome, IsTrue, ◌↔◌};
 ghost use Rattle.std.specs.declared.option.Option.{Option};
 ghost use Rattle.std.specs.Iterator.{IsFinite, YieldsFirstBy, YieldsLastBy};
 ghost use Rattle.domain_label.specs.declared.label.Label.{Label};
@@ -75,17 +75,6 @@ pub trait ToLabelIter<'a>: NameLabels {
     fn as_flat_slice(&'a self) -> Option<&'a [u8]>
         ensures wire { IfSome result (λ s. s.now ≡ wire (Self.labels self.now)) }
         ensures given { IsSome result ↔ lies_flat self.now };
-
-    /// Puts the wire format of the name after the first `len` octets of a buffer, and returns how many octets there
-    /// are then. `None` exactly where it doesn't fit. The first `len` octets stay as they are.
-    ///
-    /// [`put_labels`](crate::composing::put_labels) does this for any type, and
-    /// [`put_slice`](crate::composing::put_slice) where the wire format is in contiguous octets.
-    fn put_wire(&'a self, octets: &mut [u8; 255], len: usize) -> Option<usize>
-        ensures size { IfSome result (λ end. end ≡ len + length (wire (Self.labels self.now))) }
-        ensures wire { IfSome result (λ end. take end octets.new ≡ take len octets.old ++ wire (Self.labels self.now)) }
-        ensures full { IsNone result ↔ (255 < len + length (wire (Self.labels self.now))) }
-        ensures kept { take len octets.new ≡ take len octets.old };
 
     /// Whether the name begins with the labels of `other`, a name of any kind, ignoring ASCII case.
     final fn starts_with<N: ToLabelIter<'a>>(&'a self, other: &'a N) -> bool

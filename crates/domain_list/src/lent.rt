@@ -39,12 +39,6 @@ impl<'a, 'b, N: ToLabelIter<'a>> ToLabelIter<'a> for &'b N {
     fn as_flat_slice(&'a self) -> Option<&'a [u8]> {
         None
     }
-
-    #[inline(always)]
-    fn put_wire(&'a self, octets: &mut [u8; 255], len: usize) -> Option<usize> {
-        let name: &'a N = *self;
-        name.put_wire(octets, len)
-    }
 }
 
 impl<'a, 'b, N: AbsoluteLabels<'a>> AbsoluteLabels<'a> for &'b N {}

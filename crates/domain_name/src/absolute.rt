@@ -10,7 +10,7 @@ ghost use Rattle.domain_label.proofs.WireLaws.{IsAbsoluteWire_prop};
 ghost use Rattle.domain_flat.specs.Faults.{AbsoluteFault, StartFault};
 ghost use Rattle.domain_flat.specs.Flat.{NameAt, SplitsAt, IsLabelStart, IsPartOf, suffix_lists};
 ghost use Rattle.domain_flat.specs.FlatLabels.{name_error_kind, flat_labels_left};
-ghost use Rattle.domain_list.specs.Ends.{EndsWith};
+ghost use Rattle.domain_list.specs.Ends.{StartsWith, EndsWith};
 
 use crate::relative::RelativeName;
 use crate::strip::suffix_place;
@@ -20,7 +20,8 @@ use domain_flat::{
     MAX_NAME_LEN, NameError, NameIter, check_absolute, is_label_end, make_lowercase, name_len,
 };
 use domain_label::Label;
-use domain_list::{AbsoluteLabels, DisplayWithDot};
+use domain_list::ends::{begins_with_labels, ends_with_labels};
+use domain_list::{AbsoluteLabels, DisplayWithDot, ToLabelIter};
 use domain_wire::ParseError;
 use octseq::{Octets, OctetsFrom, OctetsMut, Parser, SameOctets, ShortBuf, Truncate};
 use std::alloc::{AllocError, Global};
@@ -275,6 +276,21 @@ impl<Octs: Octets> Name<Octs> {
         ensures root { label_octets result ≡ [] }
     {
         Label::root()
+    }
+
+    /// Whether the name begins with the labels of `other`, a name of any kind, ignoring ASCII case.
+    pub fn starts_with<'a, N: ToLabelIter<'a>>(&'a self, other: &'a N) -> bool
+        ensures { IsTrue result ↔ StartsWith (name_labels self.now) (N.labels other.now) }
+    {
+        begins_with_labels(self, other)
+    }
+
+    /// Whether the name ends with the labels of `other`, a name of any kind, ignoring ASCII case. It ends with no
+    /// relative name that has labels.
+    pub fn ends_with<'a, N: ToLabelIter<'a>>(&'a self, other: &'a N) -> bool
+        ensures { IsTrue result ↔ EndsWith (name_labels self.now) (N.labels other.now) }
+    {
+        ends_with_labels(self, other)
     }
 
     /// Whether a label, the root label too, begins at this offset of the wire format.

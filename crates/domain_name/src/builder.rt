@@ -123,6 +123,8 @@ impl<B: OctetsBuilder + OctetsMut> Octets for NameBuilder<B> {
 
     ghost capacity = { λ _. 0 };
 
+    ghost limit = { B.limit };
+
     fn as_slice(&self) -> &[u8] {
         self.labels.as_slice()
     }

@@ -9,14 +9,15 @@ ghost use Rattle.domain_flat.specs.Flat.{IsLabelEnd, IsPartOf};
 ghost use Rattle.domain_flat.specs.FlatLabels.{relative_name_error_kind, flat_labels_left};
 ghost use Rattle.domain_list.specs.ChainParts.{left_part, right_part};
 ghost use Rattle.domain_list.specs.Chains.{before_root};
-ghost use Rattle.domain_list.specs.Ends.{EndsWith};
+ghost use Rattle.domain_list.specs.Ends.{StartsWith, EndsWith};
 
 use crate::absolute::Name;
 use crate::strip::{StripSuffixError, suffix_place};
 use arrayvec::ArrayVec;
 use domain_flat::{NameIter, RelativeNameError, check_relative, is_label_end, make_lowercase};
 use domain_label::Label;
-use domain_list::{Chain, LongChainError, NameLabels, RelativeLabels};
+use domain_list::ends::{begins_with_labels, ends_with_labels};
+use domain_list::{Chain, LongChainError, NameLabels, RelativeLabels, ToLabelIter};
 use octseq::{Octets, OctetsFrom, OctetsMut, SameOctets, ShortBuf, Truncate};
 use std::alloc::{AllocError, Global};
 use std::ops::Range;
@@ -255,6 +256,21 @@ impl<Octs: Octets> RelativeName<Octs> {
         ensures none { IsNone result ↔ (relative_labels self.now ≡ []) }
     {
         self.iter().next_back()
+    }
+
+    /// Whether the name begins with the labels of `other`, a name of any kind, ignoring ASCII case.
+    pub fn starts_with<'a, N: ToLabelIter<'a>>(&'a self, other: &'a N) -> bool
+        ensures { IsTrue result ↔ StartsWith (relative_labels self.now) (N.labels other.now) }
+    {
+        begins_with_labels(self, other)
+    }
+
+    /// Whether the name ends with the labels of `other`, a name of any kind, ignoring ASCII case. It ends with no
+    /// absolute name.
+    pub fn ends_with<'a, N: ToLabelIter<'a>>(&'a self, other: &'a N) -> bool
+        ensures { IsTrue result ↔ EndsWith (relative_labels self.now) (N.labels other.now) }
+    {
+        ends_with_labels(self, other)
     }
 
     /// Whether a label begins at this offset of the wire format, or the name ends there.

@@ -8,7 +8,6 @@ ghost use Rattle.domain_name.specs.Names.{relative_labels};
 use crate::relative::RelativeName;
 use domain_flat::NameIter;
 use domain_label::Label;
-use domain_list::composing::put_slice;
 use domain_list::{JoinedLabels, NameLabels, Relative, RelativeLabels, ToLabelIter};
 use octseq::Octets;
 use std::fmt;
@@ -42,11 +41,6 @@ impl<'a, Octs: Octets> ToLabelIter<'a> for RelativeName<Octs> {
 
     fn as_flat_slice(&'a self) -> Option<&'a [u8]> {
         Some(self.as_slice())
-    }
-
-    #[inline(always)]
-    fn put_wire(&'a self, octets: &mut [u8; 255], len: usize) -> Option<usize> {
-        put_slice(self.as_slice(), octets, len)
     }
 }
 

@@ -1,5 +1,5 @@
 -- A flat name is a name in a message that has no other octets.
-use Rattle.std.proofs.Common.{◌≡◌, ℕ, ◌+◌, List, [], ◌++◌, length, arith, false, slice_range, subst, ◌∙◌}
+use Rattle.std.proofs.Common.{◌≡◌, ℕ, ◌+◌, List, [], ◌++◌, length, false, slice_range, subst, ◌∙◌}
 use Rattle.std.proofs.lemmas.List.{append-nil}
 use Rattle.domain_label.specs.Wire.{wire, labels_in, IsAbsoluteWire}
 use Rattle.domain_reading.specs.Grammar.{Names, Encoding, IsContiguous}
@@ -38,7 +38,7 @@ pub record FlatRead (o : List ℕ) (w : Progress) (table : List ℕ) : Type 0 wh
 pub flat_read : (o : List ℕ) {p : ℕ} {w : Progress} {t : List ℕ} {before now : ℕ} → IsAbsoluteWire o → p ≡ 0 → NameRead 0 o p w t before now → FlatRead o w t
 flat_read o {w = w} {t} {before} {now} a z read =
     let r = subst (λ p. NameRead 0 o p w t before now) z read in
-    let h : HeldAs o w t r.labels = subst (λ m. HeldAs m w t r.labels) (append-nil o) (held_more [] (omega arith) r) in
+    let h : HeldAs o w t r.labels = subst (λ m. HeldAs m w t r.labels) (append-nil o) (held_more [] r) in
     record {
       holds = h.holds;
       same = h.same ∙ (reads_once r.name.reads (flat_named o a).reads).1;

@@ -1,5 +1,4 @@
 pub mod Parents
-pub mod Putting
 pub mod Parsing
 pub mod FlatNames
 pub mod NoNamePastEnd

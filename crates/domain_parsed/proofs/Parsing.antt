@@ -20,7 +20,6 @@ use Rattle.domain_reading.proofs.NameOrFault.{names_or_fault}
 use Rattle.domain_reading.proofs.OneEncoding.{front_once, not_in_one_piece, skips_not_both}
 use Rattle.domain_reading.proofs.LabelsOfTable.{more_stand}
 use Rattle.domain_reading.proofs.UncompressedIsRead.{plain_names, plain_front}
-use Rattle.domain_parsed.proofs.Putting.{base_read}
 
 pub ok_not_err : {T E : Type 0} (r : Result T E) → IsErr r → IsOk r → ⊥
 ok_not_err (Ok x) e o = cc
@@ -49,11 +48,10 @@ pub record HeldAs (octets : List ℕ) (w : Progress) (table : List ℕ) (labels 
   pub holds : Holds octets w table
   pub same : labels_at_entries octets w.base (slice_range table 0 w.count) ≡ labels
 
-pub held_more : {n : ℕ} {m : List ℕ} {p : ℕ} {w : Progress} {t : List ℕ} {before now : ℕ} (u : List ℕ) → n ≤ 255 → (r : NameRead n m p w t before now) → HeldAs (m ++ u) w t r.labels
-held_more {m = m} {w = w} {t} u few r =
+pub held_more : {n : ℕ} {m : List ℕ} {p : ℕ} {w : Progress} {t : List ℕ} {before now : ℕ} (u : List ℕ) → (r : NameRead n m p w t before now) → HeldAs (m ++ u) w t r.labels
+held_more {m = m} {w = w} {t} u r =
     let more = more_stand m u w.base (slice_range t 0 w.count) r.stand in
     let e : labels_at_entries (m ++ u) w.base (slice_range t 0 w.count) ≡ r.labels = more.same ∙ r.placed in
-    let walk = base_read u few r.name r.base in
     record {
       holds = record {
         some = r.some;
@@ -62,15 +60,13 @@ held_more {m = m} {w = w} {t} u few r =
         absolute = rw e (names_absolute r.name);
         sized = rw e r.sized;
         flat = λ h. rw e (slice_more m u w.base (w.base + (w.len + 1)) (r.inside h) ∙ r.octets h);
-        reads = walk.0 ∙ sym e;
-        whole = walk.1;
       };
       same = e;
     }
 
-pub held : {n : ℕ} {p : ℕ} {w : Progress} {t : List ℕ} {before now : ℕ} (parser : Parser) (octets : List ℕ) → octets ≡ parser.octets.now → n ≤ 255 → (r : NameRead n (message parser) p w t before now) → HeldAs octets w t r.labels
-held {w = w} {t} parser octets e few r =
-    subst (λ o. HeldAs o w t r.labels) (take-append-drop parser.end parser.octets.now ∙ sym e) (held_more (drop parser.end parser.octets.now) few r)
+pub held : {n : ℕ} {p : ℕ} {w : Progress} {t : List ℕ} {before now : ℕ} (parser : Parser) (octets : List ℕ) → octets ≡ parser.octets.now → (r : NameRead n (message parser) p w t before now) → HeldAs octets w t r.labels
+held {w = w} {t} parser octets e r =
+    subst (λ o. HeldAs o w t r.labels) (take-append-drop parser.end parser.octets.now ∙ sym e) (held_more (drop parser.end parser.octets.now) r)
 
 -- ---- whether it lies in one piece
 

@@ -17,6 +17,7 @@ pub record GivesName {O E : Type 0} {g : Ghosts O} (limit : ℕ) (old new : Pars
   pub octets : IfOk result (λ name. parsed_octets name ≡ slice_of old)
   pub is_compressed : IfOk result (λ name. (may_be_compressed name ≡ false) ↔ IsContiguous (message old) (position old))
   pub moves : OnOk result (MovesPastName old new)
+  pub uncompressed : (ls : List (List ℕ)) → StandsUncompressed old ls → IfOk result (λ name. (parsed_labels name ≡ ls) × (may_be_compressed name ≡ false) × (position new ≡ position old + length (wire ls)))
 
 -- What `ParsedName::parse` promises, clause by clause, where at most `limit` pointers are followed.
 pub record ParsesName {O : Type 0} {g : Ghosts O} (limit : ℕ) (old new : Parser) (result : Result (ParsedName O g) ParseError) : Type 0 where

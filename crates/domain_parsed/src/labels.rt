@@ -55,11 +55,6 @@ impl<'a, Octs: Octets> ToLabelIter<'a> for ParsedName<Octs> {
     fn as_flat_slice(&'a self) -> Option<&'a [u8]> {
         self.flat_octets()
     }
-
-    #[inline(always)]
-    fn put_wire(&'a self, octets: &mut [u8; 255], len: usize) -> Option<usize> {
-        self.put_octets(octets, len)
-    }
 }
 
 impl<'a, Octs: Octets> AbsoluteLabels<'a> for ParsedName<Octs> {}

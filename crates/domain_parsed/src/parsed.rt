@@ -1,20 +1,18 @@
 //! A name in a message.
-ghost use Rattle.std.specs.Prelude.{◌≡◌, ◌≤◌, ◌<◌, ◌+◌, ◌∷◌, ◌++◌, ◌↔◌, ℕ, List, [], length, take, slice_range, IfOk, IfErr, IfSome, IsSome, IsNone, OnOk, OnErr, IsOk, IsTrue, MatchBool, MatchResult, true, false, ⊤};
+ghost use Rattle.std.specs.Prelude.{◌≡◌, ◌≤◌, ◌<◌, ◌+◌, ◌^◌, ◌∷◌, ◌++◌, ◌↔◌, ℕ, List, [], length, slice_range, unwrap_or, IfOk, IfErr, IfSome, IsSome, IsNone, OnOk, OnErr, IsOk, IsTrue, MatchBool, MatchResult, true, false, ⊤};
 ghost use Rattle.domain_label.specs.Wire.{wire, Root, IsAbsoluteName};
 ghost use Rattle.domain_label.proofs.WireLaws.{IsAbsoluteName_prop};
 ghost use Rattle.domain_reading.specs.Grammar.{Names, IsContiguous};
 ghost use Rattle.domain_label.specs.Labels.{label_octets};
-ghost use Rattle.domain_reading.specs.Labels.{read_from, IsWholeFrom};
-ghost use Rattle.domain_reading.proofs.LabelsAt.{IsWholeFrom_prop};
 ghost use Rattle.domain_reading.specs.Offsets.{AreLabelOffsets, labels_at_entries};
 
 use crate::flat::read_flat;
 use crate::iter::ParsedNameIter;
-use crate::put::put_read;
 use crate::suffixes::ParsedSuffixIter;
 use arrayvec::ArrayVec;
 use domain_label::Label;
-use domain_list::composing::{has_room, put_labels, put_slice};
+use domain_list::ToLabelIter;
+use domain_list::ends::{begins_with_labels, ends_with_labels};
 use domain_name::{Name, RelativeName};
 use domain_reading::alone::{encoding_end, label_at_offset, read_name};
 use domain_reading::fault::NameFault;
@@ -65,8 +63,6 @@ pub struct ParsedName<Octs: Octets> {
     // `name_len` is its size, and it had at most 255 octets; with the flag false it stands in a row.
     ghost sized: { name_len ≡ length (wire (labels_at_entries (Octs.octets octets) base (slice_range entries dropped count))) },
     ghost short: { dropped_len + name_len ≤ 255 },
-    ghost reads: { dropped ≡ 0 → read_from 383 (Octs.octets octets) base ≡ labels_at_entries (Octs.octets octets) base (slice_range entries dropped count) },
-    ghost whole: { IsWholeFrom 383 (Octs.octets octets) base } by { IsWholeFrom_prop 383 (Octs.octets octets) base },
     ghost flat: { compressed ≡ false → slice_range (Octs.octets octets) (base + dropped_len) (base + dropped_len + name_len) ≡ wire (labels_at_entries (Octs.octets octets) base (slice_range entries dropped count)) },
 }
 
@@ -85,10 +81,10 @@ impl<Octs: Octets + Copy> Clone for ParsedName<Octs> {
 impl<'a> ParsedName<&'a [u8]> {
     ghost use Rattle.domain_parsed.specs.ParsedNames.{parsed_octets, parsed_labels, may_be_compressed};
     ghost use Rattle.domain_parsed.specs.Parses.{GivesName, ParsesName};
-    ghost use Rattle.octseq.specs.Parsing.{slice_of, message, position};
+    ghost use Rattle.octseq.specs.Parsing.{slice_of, message, position, MovesTo};
     ghost use Rattle.domain_reading.specs.Faults.{NameFaultAt, Skips};
     ghost use Rattle.domain_wire.specs.Refusals.{refusal};
-    ghost use Rattle.domain_reading.specs.ParseResult.{MovesPastName, IsErrorOfName, SkipsName, IsErrorOfSkip, StandsUncompressed, CountsName, CountsFault};
+    ghost use Rattle.domain_reading.specs.ParseResult.{Holds, MovesPastName, IsErrorOfName, SkipsName, IsErrorOfSkip, StandsUncompressed, CountsName, CountsFault};
 
     /// Reads the name at the parser's position, and moves the parser after the name's root or first pointer.
     ///
@@ -133,15 +129,7 @@ impl<'a> ParsedName<&'a [u8]> {
         ensures err { IfErr result (λ e. IsErrorOfName 255 parser.old e) }
         ensures unchanged { OnErr result (parser.new ≡ parser.old) }
     {
-        // `read_name` is `read_name_counted` with a counter of its own, as `parse_counted` is with its caller's. A name
-        // that `parse_counted` returned would be copied three times more.
-        let mut entries = [0; MAX_LABELS];
-        let mut found = Progress::new(parser.pos());
-        read_name(parser.as_slice(), &mut found, &mut entries, MAX_POINTERS)?;
-        let Ok(()) = parser.seek(found.end_offset()) else {
-            unreachable!();
-        };
-        Ok(ParsedName::of(parser.octets_ref(), &found, entries))
+        ParsedName::parse_with::<Brand>(parser, MAX_POINTERS, Blank::new(1))
     }
 
     /// The same as `parse`.
@@ -201,10 +189,7 @@ impl<'a> ParsedName<&'a [u8]> {
         let mut entries = [0; MAX_LABELS];
         let mut found = Progress::new(parser.pos());
         read_name_counted(parser.as_slice(), &mut found, &mut entries, limit, heads)?;
-        let Ok(()) = parser.seek(found.end_offset()) else {
-            unreachable!();
-        };
-        Ok(ParsedName::of(parser.octets_ref(), &found, entries))
+        Ok(ParsedName::finish(parser, &found, entries))
     }
 
     /// The same as `parse_with_limit`, with the `NameFault` as the error, for callers that treat the four
@@ -223,10 +208,28 @@ impl<'a> ParsedName<&'a [u8]> {
         let mut entries = [0; MAX_LABELS];
         let mut found = Progress::new(parser.pos());
         read_name(parser.as_slice(), &mut found, &mut entries, limit)?;
+        Ok(ParsedName::finish(parser, &found, entries))
+    }
+
+    /// Returns the name that was found at the parser's position, and moves the parser past it.
+    #[inline(always)]
+    fn finish(
+        parser: &mut Parser<'a>,
+        found: &Progress,
+        entries: [u16; MAX_LABELS],
+    ) -> ParsedName<&'a [u8]>
+        requires holds { Holds (slice_of parser.old) found.now entries }
+        requires inside { unwrap_or found.now.end (found.now.at + 1) ≤ length (message parser.old) }
+        requires room { found.now.at + 1 < 2 ^ 64 }
+        ensures octets { parsed_octets result ≡ slice_of parser.old }
+        ensures labels { parsed_labels result ≡ labels_at_entries (slice_of parser.old) found.now.base (slice_range entries 0 found.now.count) }
+        ensures is_compressed { may_be_compressed result ≡ found.now.compressed }
+        ensures moves { MovesTo parser.old parser.new (unwrap_or found.now.end (found.now.at + 1)) }
+    {
         let Ok(()) = parser.seek(found.end_offset()) else {
             unreachable!();
         };
-        Ok(ParsedName::of(parser.octets_ref(), &found, entries))
+        ParsedName::of(parser.octets_ref(), found, entries)
     }
 
     /// Moves the parser after the root or the first pointer of the name at its position.
@@ -266,6 +269,7 @@ impl<'a> ParsedName<&'a [u8]> {
 }
 
 impl<Octs: Octets> ParsedName<Octs> {
+    ghost use Rattle.domain_list.specs.Ends.{StartsWith, EndsWith};
     ghost use Rattle.domain_parsed.specs.ParsedNames.{parsed_octets, parsed_labels, may_be_compressed, labels_left, suffixes, suffixes_left};
     ghost use Rattle.domain_name.specs.Names.{relative_labels};
     ghost use Rattle.domain_parsed.specs.Splitting.{SplitsFirst, DropsFirst};
@@ -369,6 +373,21 @@ impl<Octs: Octets> ParsedName<Octs> {
         ParsedNameIter::new(self.octets.as_slice(), self.base, entries)
     }
 
+    /// Whether the name begins with the labels of `other`, a name of any kind, ignoring ASCII case.
+    pub fn starts_with<'a, N: ToLabelIter<'a>>(&'a self, other: &'a N) -> bool
+        ensures { IsTrue result ↔ StartsWith (parsed_labels self.now) (N.labels other.now) }
+    {
+        begins_with_labels(self, other)
+    }
+
+    /// Whether the name ends with the labels of `other`, a name of any kind, ignoring ASCII case. It ends with no
+    /// relative name that has labels.
+    pub fn ends_with<'a, N: ToLabelIter<'a>>(&'a self, other: &'a N) -> bool
+        ensures { IsTrue result ↔ EndsWith (parsed_labels self.now) (N.labels other.now) }
+    {
+        ends_with_labels(self, other)
+    }
+
     /// The name, then the name without its first label, and so on to the root.
     #[inline(always)]
     pub fn iter_suffixes(&self) -> ParsedSuffixIter<'_>
@@ -462,29 +481,6 @@ impl<Octs: Octets> ParsedName<Octs> {
         ensures { result ≡ length (wire (parsed_labels self.now)) }
     {
         self.name_len
-    }
-
-    /// Puts the wire format after the first `len` octets of a buffer, and returns how many octets there are then.
-    /// `None` exactly where it doesn't fit. The first `len` octets stay as they are.
-    ///
-    /// The octets are those of the message, so the table is only looked at where labels were removed.
-    #[inline(always)]
-    pub(crate) fn put_octets(&self, octets: &mut [u8; 255], len: usize) -> Option<usize>
-        ensures size { IfSome result (λ end. end ≡ len + length (wire (parsed_labels self.now))) }
-        ensures wire { IfSome result (λ end. take end octets.new ≡ take len octets.old ++ wire (parsed_labels self.now)) }
-        ensures full { IsNone result ↔ (255 < len + length (wire (parsed_labels self.now))) }
-        ensures kept { take len octets.new ≡ take len octets.old }
-    {
-        if let Some(flat) = self.flat_octets() {
-            return put_slice(flat, octets, len);
-        }
-        if self.dropped != 0 {
-            return put_labels(self.iter(), self.name_len, octets, len);
-        }
-        if !has_room(len, usize::from(self.name_len)) {
-            return None;
-        }
-        Some(put_read(self.octets.as_slice(), self.base, octets, len))
     }
 
     /// The octets of a name that is uncompressed from its first label on.

@@ -1,14 +1,12 @@
 -- The labels of a name, as a function of the message and the offset.
-use Rattle.std.proofs.Common.{◌≡◌, ℕ, zero, suc, ◌+◌, ◌*◌, ◌-◌, ◌≤◌, ◌<◌, List, [], ◌∷◌, ◌++◌, length, refl, sym, ap, subst, arith, ◌∙◌, true, false, nat_eq, nat_lt, take, drop, slice_range, slice_index, length-append}
+use Rattle.std.proofs.Common.{◌≡◌, ℕ, zero, suc, ◌+◌, ◌*◌, ◌-◌, ◌≤◌, ◌<◌, List, [], ◌∷◌, ◌++◌, length, refl, ap, arith, ◌∙◌, true, false, nat_eq, nat_lt, take, drop, slice_range, slice_index, length-append}
 use Rattle.std.proofs.lemmas.Grind.{common_steps}
 use Rattle.std.proofs.lemmas.List.Folds.{drop_split}
 use Rattle.std.proofs.Math.Seq.{take-append-add, drop-cons}
 use Rattle.std.proofs.lemmas.Bool.Decides.{nat_tests}
 use Rattle.domain_label.specs.Wire.{wire, Root}
 use Rattle.domain_reading.specs.Grammar.{OctetAt, LabelAt, PointerAt, Reads, root, label, pointer, Names, Flat}
-use mathlib.Core.HLevel.{Π_prop, ×₃_prop}
-use Rattle.std.specs.Coded.{le_prop}
-use Rattle.domain_reading.specs.Labels.{read_from, labels_at, IsWholeFrom}
+use Rattle.domain_reading.specs.Labels.{read_from, labels_at}
 
 read_root : (n : ℕ) {m : List ℕ} {p : ℕ} → OctetAt m p 0 → read_from (suc n) m p ≡ Root
 unfolding read_from
@@ -29,7 +27,7 @@ read_pointer n {m} {p} {q} x =
     let to : 256 * slice_index m p + slice_index m (p + 1) - 49152 ≡ q = omega arith in
     rw (some, high) (ap (λ a. read_from n m a) to)
 
-pub read_reads : (n : ℕ) {m : List ℕ} {p k : ℕ} {ls : List (List ℕ)} → Reads m p k ls → length ls + k ≤ n → read_from n m p ≡ ls
+read_reads : (n : ℕ) {m : List ℕ} {p k : ℕ} {ls : List (List ℕ)} → Reads m p k ls → length ls + k ≤ n → read_from n m p ≡ ls
 read_reads zero (root x) h = absurd (omega arith)
 read_reads zero (label x r) h = absurd (omega arith)
 read_reads zero (pointer x lt r) h = absurd (omega arith)
@@ -37,44 +35,7 @@ read_reads (suc n) (root x) h = read_root n x
 read_reads (suc n) (label {l = l} x r) h = read_label n x ∙ ap (λ ls. l ∷ ls) (read_reads n r (omega arith))
 read_reads (suc n) (pointer x lt r) h = read_pointer n x ∙ read_reads n r (omega arith)
 
--- ---- what is read is whole
-
-whole_root : (n : ℕ) {m : List ℕ} {p : ℕ} → OctetAt m p 0 → IsWholeFrom (suc n) m p
-unfolding IsWholeFrom
-whole_root n x = (x.inside, λ some few. absurd (omega (arith, some, x.octet)), λ many. absurd (omega (arith, many, x.octet)))
-
-whole_label : (n : ℕ) {m : List ℕ} {p : ℕ} {l : List ℕ} → LabelAt m p l → IsWholeFrom n m (p + 1 + length l) → IsWholeFrom (suc n) m p
-unfolding IsWholeFrom
-whole_label n {m} {p} x w = (
-  omega (arith, x.inside),
-  λ some few. subst (λ h. IsWholeFrom n m (p + 1 + h)) (sym x.head) w,
-  λ many. absurd (omega (arith, many, x.head, x.short)),
-)
-
-whole_pointer : (n : ℕ) {m : List ℕ} {p q : ℕ} → PointerAt m p q → IsWholeFrom n m q → IsWholeFrom (suc n) m p
-unfolding IsWholeFrom
-whole_pointer n {m} {p} {q} x w =
-    let to : 256 * slice_index m p + slice_index m (p + 1) - 49152 ≡ q = omega arith in (
-      omega (arith, x.inside),
-      λ some few. absurd (omega (arith, few, x.head)),
-      λ many. (x.head, x.inside, subst (λ a. IsWholeFrom n m a) (sym to) w),
-    )
-
-pub reads_whole : (n : ℕ) {m : List ℕ} {p k : ℕ} {ls : List (List ℕ)} → Reads m p k ls → length ls + k ≤ n → IsWholeFrom n m p
-reads_whole zero (root x) h = absurd (omega arith)
-reads_whole zero (label x r) h = absurd (omega arith)
-reads_whole zero (pointer x lt r) h = absurd (omega arith)
-reads_whole (suc n) (root x) h = whole_root n x
-reads_whole (suc n) (label x r) h = whole_label n x (reads_whole n r (omega arith))
-reads_whole (suc n) (pointer x lt r) h = whole_pointer n x (reads_whole n r (omega arith))
-
-pub IsWholeFrom_prop : (n : ℕ) (m : List ℕ) (p : ℕ) → IsProp (IsWholeFrom n m p)
-unfolding IsWholeFrom
-IsWholeFrom_prop zero m p = λ x y. absurd x
-IsWholeFrom_prop (suc n) m p =
-    ×₃_prop le_prop (Π_prop λ _. Π_prop λ _. IsWholeFrom_prop n m _) (Π_prop λ _. ×₃_prop le_prop le_prop (IsWholeFrom_prop n m _))
-
-pub labels_few : {m : List ℕ} {p k : ℕ} {ls : List (List ℕ)} → Reads m p k ls → 2 * length ls ≤ length (wire ls) + 1
+labels_few : {m : List ℕ} {p k : ℕ} {ls : List (List ℕ)} → Reads m p k ls → 2 * length ls ≤ length (wire ls) + 1
 labels_few (root x) = omega arith
 labels_few (label {l = l} {rest = rest} x r) = omega (arith, labels_few r, x.nonempty, length-append l (wire rest))
 labels_few (pointer x lt r) = labels_few r

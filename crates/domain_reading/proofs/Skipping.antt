@@ -1,5 +1,5 @@
 -- What holds while a name is passed over.
-use Rattle.std.proofs.Common.{◌≡◌, ℕ, zero, suc, ◌⊎◌, ◌+◌, ◌-◌, ◌≤◌, ◌<◌, inl, inr, List, [], ◌∷◌, ◌++◌, length, refl, arith, length-append, slice_index, subst}
+use Rattle.std.proofs.Common.{◌≡◌, ℕ, zero, suc, ◌⊎◌, ◌+◌, ◌≤◌, ◌<◌, inl, inr, List, [], ◌∷◌, ◌++◌, length, refl, arith, length-append}
 use Rattle.domain_label.specs.Wire.{wire}
 use Rattle.domain_reading.specs.Heads.{BrokenAt}
 use Rattle.domain_reading.specs.Grammar.{OctetAt, LabelAt, PointerAt, Flat}
@@ -8,7 +8,7 @@ use Rattle.domain_reading.specs.Faults.{Skips, SkipFault, SkipFaultAt}
 use Rattle.domain_reading.specs.declared.fault.NameFault.{NameFault}
 use Rattle.domain_reading.specs.declared.fault.NameFault.TheVariants.{ShortInput, BadLabelType, TooManyPointers, LongName}
 use Rattle.domain_label.proofs.WireLaws.{length-wire_append}
-use Rattle.domain_reading.proofs.NameOrFault.{head_at, is_root, is_label, is_pointer, is_cut, is_bad, slice_length, label_from_slice, pointer_at}
+use Rattle.domain_reading.proofs.NameOrFault.{head_at, is_root, is_label, is_pointer, is_cut, is_bad}
 use Rattle.domain_reading.proofs.WhileReading.{flat_label}
 use Rattle.std.proofs.lemmas.Bool.{cases_lt}
 
@@ -73,31 +73,3 @@ skip_from (suc fuel) {m} {p} {at} {len} s enough = elim (head_at m at) [
 
 pub skips_or_not : (m : List ℕ) (p : ℕ) → ((e : ℕ) × Skips m p e) ⊎ ((d : NameFault) × SkipFault m p d)
 skips_or_not m p = skip_from 256 (skip_start m p) (omega arith)
-
--- ---- the quick walk, which stands at an offset of the message or past its end
-
-pub record Quick (m : List ℕ) (p at : ℕ) : Type 0 where
-  pub on : p ≤ at
-  pub walk : at ≤ length m → at ≤ p + 255 → Skipping m p at (at - p)
-
-pub quick_start : (m : List ℕ) (p : ℕ) → Quick m p p
-quick_start m p =
-    let e : 0 ≡ p - p = omega arith in
-    record { on = omega arith; walk = λ inside short. subst (λ n. Skipping m p p n) e (skip_start m p) }
-
-pub quick_label : {m : List ℕ} {p at : ℕ} (k : ℕ) → Quick m p at → k ≡ slice_index m at → 0 < k → k < 64 → Quick m p (at + 1 + k)
-quick_label {m} {p} {at} k q e some few = record {
-  on = omega (arith, q.on);
-  walk = λ inside short.
-      let s = q.walk (omega (arith, inside)) (omega (arith, short)) in
-      let size : at - p + 1 + k ≡ at + 1 + k - p = omega (arith, q.on) in
-      subst (λ n. Skipping m p (at + 1 + k) n) size (skip_label k k s (_, slice_length m at k inside, label_from_slice m at k some few (omega (arith, e)) inside) refl refl (omega (arith, short, q.on)));
-}
-
-pub quick_root : {m : List ℕ} {p at : ℕ} (k : ℕ) → Quick m p at → k ≡ slice_index m at → k ≡ 0 → at < length m → at < p + 255 → Skips m p (at + 1)
-quick_root {m} {p} {at} k q e none here room =
-    skip_root (q.walk (omega (arith, here)) (omega (arith, room))) (record { inside = here; octet = omega (arith, e, none) }) (λ full. omega (arith, full, room, q.on))
-
-pub quick_pointer : {m : List ℕ} {p at : ℕ} (k : ℕ) → Quick m p at → k ≡ slice_index m at → 192 ≤ k → at + 1 < length m → at < p + 255 → Skips m p (at + 2)
-quick_pointer {m} {p} {at} k q e high here room =
-    skip_pointer (q.walk (omega (arith, here)) (omega (arith, room))) (pointer_at m at here (omega (arith, e, high)))

@@ -1,5 +1,5 @@
 -- The labels of a name as a function of the message and the offset. Where `Names 255 m p ls`, `labels_at m p ≡ ls`.
-use Rattle.std.specs.Prelude.{ℕ, zero, suc, ◌+◌, ◌-◌, ◌*◌, ◌<◌, ◌≤◌, ◌==◌, if◌then◌else◌, nat_lt, List, [], ◌∷◌, length, slice_index, slice_range}
+use Rattle.std.specs.Prelude.{ℕ, zero, suc, ◌+◌, ◌-◌, ◌*◌, ◌==◌, if◌then◌else◌, nat_lt, List, [], ◌∷◌, slice_index, slice_range}
 use Rattle.domain_label.specs.Wire.{Root}
 
 -- The labels at p and after it, of at most as many labels and pointers as the number.
@@ -14,12 +14,3 @@ read_from (suc n) m p =
 -- The labels of the name at p. A name has at most 127 labels, 255 pointers and the root: 383 in all.
 unfoldable pub labels_at : List ℕ → ℕ → List (List ℕ)
 labels_at m p = read_from 383 m p
-
--- Each label and each pointer read at p and after it is whole, and the root comes within as many of them as the number.
-unfoldable pub IsWholeFrom : ℕ → List ℕ → ℕ → Type 0
-IsWholeFrom zero m p = ⊥
-IsWholeFrom (suc n) m p =
-    let head = slice_index m p in
-    (p < length m)
-    × (0 < head → head < 64 → IsWholeFrom n m (p + 1 + head))
-    × (64 ≤ head → (192 ≤ head) × (p + 1 < length m) × IsWholeFrom n m (256 * head + slice_index m (p + 1) - 49152))

@@ -7,7 +7,6 @@ use Rattle.octseq.specs.declared.parse.Parser.{Parser}
 use Rattle.octseq.specs.Parsing.{message, position, MovesTo}
 use Rattle.domain_reading.specs.Grammar.{Names, FirstLabelAt, Encoding, root, pointer, EncodingEnds}
 use Rattle.domain_reading.specs.Faults.{error_of, NameFaultAt, Skips, SkipFault}
-use Rattle.domain_reading.specs.Labels.{read_from, IsWholeFrom}
 use Rattle.domain_reading.specs.Offsets.{AreLabelOffsets, labels_at_entries}
 use Rattle.domain_reading.specs.declared.fault.NameFault.{NameFault}
 use Rattle.domain_reading.specs.declared.progress.Progress.{Progress}
@@ -67,8 +66,8 @@ pub record NameRead (n : ℕ) (m : List ℕ) (p : ℕ) (w : Progress) (table : L
   pub inside : w.compressed ≡ false → w.base + (w.len + 1) ≤ length m
   pub octets : w.compressed ≡ false → slice_range m w.base (w.base + (w.len + 1)) ≡ wire labels
 
--- The labels whose offsets the table has are in the octets o, of which the message may be the beginning, are a name,
--- and are those that are read at its first label.
+-- The labels whose offsets the table has are in the octets o, of which the message may be the beginning, and are a
+-- name.
 pub record Holds (o : List ℕ) (w : Progress) (table : List ℕ) : Type 0 where
   pub some : 0 < w.count
   pub few : w.count ≤ 128
@@ -76,5 +75,3 @@ pub record Holds (o : List ℕ) (w : Progress) (table : List ℕ) : Type 0 where
   pub absolute : IsAbsoluteName (labels_at_entries o w.base (slice_range table 0 w.count))
   pub sized : w.len + 1 ≡ length (wire (labels_at_entries o w.base (slice_range table 0 w.count)))
   pub flat : w.compressed ≡ false → slice_range o w.base (w.base + (w.len + 1)) ≡ wire (labels_at_entries o w.base (slice_range table 0 w.count))
-  pub reads : read_from 383 o w.base ≡ labels_at_entries o w.base (slice_range table 0 w.count)
-  pub whole : IsWholeFrom 383 o w.base

@@ -4,7 +4,7 @@
 //! passes `Brand` as this parameter to a function that is generic over ledgers, and only such a function can start a
 //! count. So there are two functions for each: the public one, which passes `Brand`, and a generic one, which starts
 //! the count. The generic one of `encoding_end` is in `read`, since its loop is there; the others are here.
-ghost use Rattle.std.specs.Prelude.{◌≡◌, ℕ, ◌+◌, ◌≤◌, ◌<◌, length, IfSome, IfOk, IfErr, OnOk};
+ghost use Rattle.std.specs.Prelude.{◌≡◌, ℕ, ◌+◌, ◌≤◌, ◌<◌, length, IfOk, IfErr, OnOk};
 ghost use Rattle.domain_label.specs.Labels.{label_octets};
 ghost use Rattle.domain_reading.specs.Faults.{NameFaultAt, Skips, SkipFault};
 ghost use Rattle.domain_reading.specs.ParseResult.{NameRead};
@@ -65,42 +65,6 @@ fn read_name_with<L: Ledger>(
     )
 }
 
-/// The offset after the encoding of the name at an offset, where it is found with one test of the end for each label
-/// or pointer: at least one octet comes after its first octet, so both octets of a pointer are there. `None` says
-/// nothing of the name.
-#[inline(always)]
-fn quick_end(message: &[u8], pos: usize) -> Option<usize>
-    ensures skips { IfSome result (λ end. Skips message.now pos end) }
-    ensures inside { IfSome result (λ end. end ≤ length message.now) }
-{
-    if pos >= message.len() {
-        return None;
-    }
-    let last = message.len() - 1;
-    let mut at = pos;
-    // The label names the loop in its proof.
-    'heads: while at < last {
-        let first = message[at];
-        if first == 0 || first > 63 {
-            if first >= 192 {
-                return Some(at + 2);
-            }
-            if first == 0 {
-                return Some(at + 1);
-            }
-            return None;
-        }
-        at = at + 1 + usize::from(first);
-        if at >= pos + 255 {
-            return None;
-        }
-    }
-    if at == last && message[at] == 0 {
-        return Some(at + 1);
-    }
-    None
-}
-
 /// The offset after the encoding of the name at an offset: after its root or first pointer, wherever that leads to.
 #[inline(always)]
 pub fn encoding_end(message: &[u8], pos: usize) -> Result<usize, NameFault>
@@ -108,10 +72,7 @@ pub fn encoding_end(message: &[u8], pos: usize) -> Result<usize, NameFault>
     ensures inside { IfOk result (λ end. end ≤ length message.now) }
     ensures fault { IfErr result (λ fault. SkipFault message.now pos fault) }
 {
-    match quick_end(message, pos) {
-        Some(end) => Ok(end),
-        None => encoding_end_with::<Brand>(message, pos, Blank::new(1)),
-    }
+    encoding_end_with::<Brand>(message, pos, Blank::new(1))
 }
 
 /// The label at an offset.

@@ -19,9 +19,9 @@ pub enum Head {
 
 /// Reads the length octet or the pointer at an offset, and tests that the whole label or pointer is there.
 ///
-/// It is the only function that counts, and besides `quick_end`, which counts nothing, the only one here that
-/// interprets the first octet of a label or pointer. All that read names call it: `read_name_counted`,
-/// `encoding_end_with`, `read_label`, and the search of `domain_compress`.
+/// It is the only function that counts, and the only one that interprets the first octet of a label or pointer of a
+/// message. All that read names call it: `read_name_counted`, `encoding_end_with`, `read_label`, and the search of
+/// `domain_compress`.
 #[inline(always)]
 pub fn read_head<L: Ledger>(
     message: &[u8],

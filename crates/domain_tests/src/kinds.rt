@@ -42,6 +42,19 @@ fn relative_list<'x>(rt: &impl Abort, labels: &'x [Label<'static>]) -> RelativeL
 }
 
 #[test]
+fn one_function_goes_over_names_of_all_four_kinds(rt: HostRuntime) {
+    let alloc = rt.alloc();
+    let flat = absolute(&rt, WWW);
+    assert!(rt; gives_labels(alloc, &flat, ABSOLUTE));
+    let relative = relative(&rt, b"\x03www\x07Example");
+    assert!(rt; gives_labels(alloc, &relative, RELATIVE));
+    let scattered = parsed(&rt, SCATTERED, 15);
+    assert!(rt; gives_labels(alloc, &scattered, ABSOLUTE));
+    let chain = joined(&rt, b"\x03www", parsed(&rt, SCATTERED, 5));
+    assert!(rt; gives_labels(alloc, &chain, ABSOLUTE));
+}
+
+#[test]
 fn chains_that_end_in_messages(rt: HostRuntime) {
     let others = names_beside(&rt);
     let chain = joined(&rt, b"\x03www", parsed(&rt, SCATTERED, 5));

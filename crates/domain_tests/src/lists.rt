@@ -116,10 +116,6 @@ impl<'a, 'x> ToLabelIter<'a> for RelativeList<'x> {
     fn as_flat_slice(&'a self) -> Option<&'a [u8]> {
         None
     }
-
-    fn put_wire(&'a self, octets: &mut [u8; 255], len: usize) -> Option<usize> {
-        put_labels(self.iter_labels(), self.compose_len(), octets, len)
-    }
 }
 
 impl<'a, 'x> RelativeLabels<'a> for RelativeList<'x> {}
@@ -180,10 +176,6 @@ impl<'a, 'x> ToLabelIter<'a> for AbsoluteList<'x> {
     fn as_flat_slice(&'a self) -> Option<&'a [u8]> {
         None
     }
-
-    fn put_wire(&'a self, octets: &mut [u8; 255], len: usize) -> Option<usize> {
-        put_labels(self.iter_labels(), self.compose_len(), octets, len)
-    }
 }
 
 impl<'a, 'x> AbsoluteLabels<'a> for AbsoluteList<'x> {}
@@ -228,10 +220,6 @@ impl<'a, N: ToLabelIter<'a>> ToLabelIter<'a> for Numbered<N> {
 
     fn as_flat_slice(&'a self) -> Option<&'a [u8]> {
         self.name.as_flat_slice()
-    }
-
-    fn put_wire(&'a self, octets: &mut [u8; 255], len: usize) -> Option<usize> {
-        self.name.put_wire(octets, len)
     }
 }
 

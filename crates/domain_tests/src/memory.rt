@@ -1,8 +1,8 @@
 //! Memory that is refused.
 //!
-//! `rt try --test --fail-alloc N` refuses the Nth request of a test. Each call here is made twice, and at
-//! most one of all is refused: so it gives the right octets or `ShortBuf`, whichever request is refused, and a
-//! call that always refuses is told with no request refused.
+//! `rt try --test --fail-alloc N` refuses the Nth request of each test. `./test-refused-memory` does that for each
+//! N, in copies of these sources that know it: so a call gives the right octets or `ShortBuf`, whichever request is
+//! refused, and at most one call of a test is refused. Where no request is refused, no call is.
 
 use crate::names::{
     LOWER_WWW, SCATTERED, WWW, absolute, octets_of, parsed, relative, relative_joined,
@@ -16,14 +16,11 @@ use octseq::{EmptyBuilder, Octets, OctetsBuilder, OctetsFrom, ShortBuf};
 use std::alloc::Global;
 use std::process::Abort;
 
-/// How many calls of a test may be refused, in a run that refuses one request. `./test-refused-memory` tells by
-/// copies of these sources with 0 here whether a request is left to refuse.
-pub const MOST_REFUSED: u8 = 1;
+/// Which request of each test is refused, the first being 1; 0 where none is.
+pub const REFUSED_REQUEST: u32 = 0;
 
-/// Whether no more calls of two were refused.
-pub fn are_few(first: bool, second: bool) -> bool {
-    u8::from(first).saturating_add(u8::from(second)) <= MOST_REFUSED
-}
+/// How many calls of a test may be refused.
+pub const MOST_REFUSED: u8 = if REFUSED_REQUEST == 0 { 0 } else { 1 };
 
 /// How many calls were refused.
 #[derive(Clone, Copy)]
@@ -50,20 +47,44 @@ impl Refusals {
 const LONGEST: &[u8] =
     b"\x09123456789\x09123456789\x09123456789\x09123456789\x09123456789\x09123456789\x09123456789\x09123456789\x09123456789\x09123456789\x09123456789\x09123456789\x09123456789\x09123456789\x09123456789\x09123456789\x09123456789\x09123456789\x09123456789\x09123456789\x09123456789\x09123456789\x09123456789\x09123456789\x09123456789\x03123\0";
 
+/// The name is all that the test asks memory for, and it asks once: where the first request is refused there is no
+/// name, and where the second would be the name is there.
+#[test]
+fn a_text_is_refused_where_its_one_request_is(rt: HostRuntime) {
+    match Name::vec_from_str(rt.alloc(), "www.example.com") {
+        Ok(name) => {
+            assert!(rt; REFUSED_REQUEST != 1);
+            assert_eq!(rt; name.as_slice(), LOWER_WWW);
+        }
+        Err(error) => {
+            assert!(rt; REFUSED_REQUEST == 1);
+            assert!(rt; error == FromStrError::ShortBuf);
+        }
+    }
+}
+
+#[test]
+fn octets_of_absolute_names_are_made_or_refused(rt: HostRuntime) {
+    let alloc = rt.alloc();
+    let mut refusals = Refusals { count: 0 };
+    refusals.look(&rt, octets_of(Name::root_vec(alloc)), b"\0");
+    for octets in [b"\0".as_slice(), WWW, LONGEST] {
+        let name = absolute(&rt, octets);
+        refusals.look(&rt, octets_of(name.to_vec(alloc)), octets);
+    }
+    assert!(rt; refusals.count <= MOST_REFUSED);
+}
+
 #[test]
 fn absolute_names_are_made_or_refused(rt: HostRuntime) {
     let alloc = rt.alloc();
     let mut refusals = Refusals { count: 0 };
-    for _time in 0..2u8 {
-        refusals.look(&rt, octets_of(Name::root_vec(alloc)), b"\0");
-        for octets in [b"\0".as_slice(), WWW, LONGEST] {
-            let name = absolute(&rt, octets);
-            refusals.look(&rt, octets_of(name.to_vec(alloc)), octets);
-            let made: Result<Name<Vec<u8>>, ShortBuf> = name.to_name(alloc);
-            refusals.look(&rt, octets_of(made), octets);
-            let made: Result<Name<Vec<u8>>, ShortBuf> = name.flatten_into(alloc);
-            refusals.look(&rt, octets_of(made), octets);
-        }
+    for octets in [b"\0".as_slice(), WWW, LONGEST] {
+        let name = absolute(&rt, octets);
+        let made: Result<Name<Vec<u8>>, ShortBuf> = name.to_name(alloc);
+        refusals.look(&rt, octets_of(made), octets);
+        let made: Result<Name<Vec<u8>>, ShortBuf> = name.flatten_into(alloc);
+        refusals.look(&rt, octets_of(made), octets);
     }
     assert!(rt; refusals.count <= MOST_REFUSED);
 }
@@ -72,14 +93,12 @@ fn absolute_names_are_made_or_refused(rt: HostRuntime) {
 fn scattered_names_are_made_or_refused(rt: HostRuntime) {
     let alloc = rt.alloc();
     let mut refusals = Refusals { count: 0 };
-    for _time in 0..2u8 {
-        let name = parsed(&rt, SCATTERED, 15);
-        refusals.look(&rt, octets_of(name.to_cow(alloc)), WWW);
-        let made: Result<Name<Vec<u8>>, ShortBuf> = name.to_canonical_name(alloc);
-        refusals.look(&rt, octets_of(made), LOWER_WWW);
-        let made: Result<Name<Vec<u8>>, ShortBuf> = name.flatten_into(alloc);
-        refusals.look(&rt, octets_of(made), WWW);
-    }
+    let name = parsed(&rt, SCATTERED, 15);
+    refusals.look(&rt, octets_of(name.to_cow(alloc)), WWW);
+    let made: Result<Name<Vec<u8>>, ShortBuf> = name.to_canonical_name(alloc);
+    refusals.look(&rt, octets_of(made), LOWER_WWW);
+    let made: Result<Name<Vec<u8>>, ShortBuf> = name.flatten_into(alloc);
+    refusals.look(&rt, octets_of(made), WWW);
     assert!(rt; refusals.count <= MOST_REFUSED);
 }
 
@@ -87,18 +106,16 @@ fn scattered_names_are_made_or_refused(rt: HostRuntime) {
 fn relative_names_are_made_or_refused(rt: HostRuntime) {
     let alloc = rt.alloc();
     let mut refusals = Refusals { count: 0 };
-    for _time in 0..2u8 {
-        refusals.look(&rt, relative_octets_of(RelativeName::empty_vec(alloc)), b"");
-        refusals.look(
-            &rt,
-            relative_octets_of(RelativeName::wildcard_vec(alloc)),
-            b"\x01*",
-        );
-        let name = relative(&rt, b"\x03wWw");
-        refusals.look(&rt, relative_octets_of(name.to_vec(alloc)), b"\x03wWw");
-        let made: Result<RelativeName<Vec<u8>>, ShortBuf> = name.to_canonical_relative_name(alloc);
-        refusals.look(&rt, relative_octets_of(made), b"\x03www");
-    }
+    refusals.look(&rt, relative_octets_of(RelativeName::empty_vec(alloc)), b"");
+    refusals.look(
+        &rt,
+        relative_octets_of(RelativeName::wildcard_vec(alloc)),
+        b"\x01*",
+    );
+    let name = relative(&rt, b"\x03wWw");
+    refusals.look(&rt, relative_octets_of(name.to_vec(alloc)), b"\x03wWw");
+    let made: Result<RelativeName<Vec<u8>>, ShortBuf> = name.to_canonical_relative_name(alloc);
+    refusals.look(&rt, relative_octets_of(made), b"\x03www");
     assert!(rt; refusals.count <= MOST_REFUSED);
 }
 
@@ -118,10 +135,8 @@ fn makes_of_relative<'a, N: RelativeLabels<'a>>(
 #[test]
 fn relative_chains_are_made_or_refused(rt: HostRuntime) {
     let mut refusals = Refusals { count: 0 };
-    for _time in 0..2u8 {
-        let chain = relative_joined(&rt, b"\x03www", b"\x03com");
-        makes_of_relative(&rt, rt.alloc(), &mut refusals, &chain);
-    }
+    let chain = relative_joined(&rt, b"\x03www", b"\x03com");
+    makes_of_relative(&rt, rt.alloc(), &mut refusals, &chain);
     assert!(rt; refusals.count <= MOST_REFUSED);
 }
 
@@ -129,16 +144,14 @@ fn relative_chains_are_made_or_refused(rt: HostRuntime) {
 fn copies_are_made_or_refused(rt: HostRuntime) {
     let alloc = rt.alloc();
     let mut refusals = Refusals { count: 0 };
-    for _time in 0..2u8 {
-        for octets in [b"\0".as_slice(), WWW, LONGEST] {
-            let held: Result<Name<Vec<u8>>, ShortBuf> = Name::try_octets_from(
-                alloc,
-                absolute(&rt, octets),
-            );
-            match held {
-                Ok(name) => refusals.look(&rt, octets_of(name.clone(alloc)), octets),
-                Err(e) => refusals.look(&rt, Err::<Vec<u8>, ShortBuf>(e), b""),
-            }
+    for octets in [b"\0".as_slice(), WWW, LONGEST] {
+        let held: Result<Name<Vec<u8>>, ShortBuf> = Name::try_octets_from(
+            alloc,
+            absolute(&rt, octets),
+        );
+        match held {
+            Ok(name) => refusals.look(&rt, octets_of(name.clone(alloc)), octets),
+            Err(e) => refusals.look(&rt, Err::<Vec<u8>, ShortBuf>(e), b""),
         }
     }
     assert!(rt; refusals.count <= MOST_REFUSED);
@@ -156,56 +169,52 @@ fn copy_rest(rt: &impl Abort, alloc: Global) -> Result<(), ShortBuf> {
 
 #[test]
 fn names_in_messages_are_copied_or_refused(rt: HostRuntime) {
-    let first = copy_rest(&rt, rt.alloc());
-    let second = copy_rest(&rt, rt.alloc());
-    assert!(rt; are_few(first.is_err(), second.is_err()));
+    let copied = copy_rest(&rt, rt.alloc());
+    assert!(rt; u8::from(copied.is_err()) <= MOST_REFUSED);
 }
 
 #[test]
-fn octets_are_appended_or_refused(rt: HostRuntime) {
+fn octets_are_composed_or_refused(rt: HostRuntime) {
     let alloc = rt.alloc();
     let mut refusals = Refusals { count: 0 };
-    for _time in 0..2u8 {
-        let composed = compose_vec(alloc, |octets| {
-            258u16.compose(octets)?;
-            octets.append_slice(LONGEST)
-        });
-        if let Ok(octets) = &composed {
-            assert_eq!(rt; octets.len(), 257);
-            assert!(rt; octets.as_slice().starts_with(&[1, 2]));
-            assert!(rt; octets.as_slice().ends_with(LONGEST));
-        }
-        refusals.look(&rt, composed.map(|_octets| b"".as_slice()), b"");
-        let mut octets = Vec::new(alloc);
-        match absolute(&rt, WWW).compose(&mut octets) {
-            Ok(()) => refusals.look(&rt, Ok(octets), WWW),
-            Err(e) => {
-                assert!(rt; octets.is_empty());
-                refusals.look(&rt, Err::<Vec<u8>, ShortBuf>(e), b"");
-            }
-        }
-        let made = <Vec<u8> as EmptyBuilder>::with_capacity(alloc, 300);
-        refusals.look(&rt, made, b"");
+    let composed = compose_vec(alloc, |octets| {
+        258u16.compose(octets)?;
+        octets.append_slice(LONGEST)
+    });
+    if let Ok(octets) = &composed {
+        assert_eq!(rt; octets.len(), 257);
+        assert!(rt; octets.as_slice().starts_with(&[1, 2]));
+        assert!(rt; octets.as_slice().ends_with(LONGEST));
     }
+    refusals.look(&rt, composed.map(|_octets| b"".as_slice()), b"");
+    let made = <Vec<u8> as EmptyBuilder>::with_capacity(alloc, 300);
+    refusals.look(&rt, made, b"");
     assert!(rt; refusals.count <= MOST_REFUSED);
     assert!(rt; compose_vec(alloc, |_octets| Err(ShortBuf)).is_err());
     assert!(rt; <Vec<u8> as EmptyBuilder>::with_capacity(alloc, usize::MAX).is_err());
 }
 
+/// A name is appended to the same octets again where it was refused, which leaves them.
+#[test]
+fn names_are_appended_or_refused(rt: HostRuntime) {
+    let name = absolute(&rt, WWW);
+    let mut octets = Vec::new(rt.alloc());
+    if let Err(ShortBuf) = name.compose(&mut octets) {
+        assert!(rt; MOST_REFUSED == 1 && octets.is_empty());
+        assert!(rt; name.compose(&mut octets).is_ok());
+    }
+    assert_eq!(rt; octets.as_slice(), WWW);
+}
+
 #[test]
 fn the_engine_answers_or_tells_that_memory_was_refused(rt: HostRuntime) {
-    let mut refused = 0u8;
-    for _time in 0..2u8 {
-        let mut input = SCATTERED;
-        let mut output = ArrayVec::<u8, 20>::new();
-        match name_at(rt.alloc(), &mut input, &mut output, 15) {
-            Ok(()) => assert_eq!(rt; output.as_slice(), b"www.Example.com.\n".as_slice()),
-            Err(e) => {
-                assert_eq!(rt; e, ToolError::Memory);
-                assert!(rt; output.is_empty());
-                refused = refused.saturating_add(1);
-            }
+    let mut input = SCATTERED;
+    let mut output = ArrayVec::<u8, 20>::new();
+    match name_at(rt.alloc(), &mut input, &mut output, 15) {
+        Ok(()) => assert_eq!(rt; output.as_slice(), b"www.Example.com.\n".as_slice()),
+        Err(e) => {
+            assert_eq!(rt; e, ToolError::Memory);
+            assert!(rt; MOST_REFUSED == 1 && output.is_empty());
         }
     }
-    assert!(rt; refused <= MOST_REFUSED);
 }

@@ -1,9 +1,8 @@
 //! Record data, copies and absolute names whose memory is refused.
 //!
-//! As in `memory`, at most one request of a test is refused, whichever it is: so of calls that are made
-//! twice at most one is refused.
+//! As in `memory`, at most one request of a test is refused, whichever it is, and none where `MOST_REFUSED` is 0.
 
-use crate::memory::are_few;
+use crate::memory::MOST_REFUSED;
 use crate::names::relative;
 use domain::base::name::*;
 use domain::base::rdata::{ComposeRdataError, ComposeRecordData, Rtype, UnknownRecordData};
@@ -43,32 +42,23 @@ fn copy_data(rt: &impl Abort, alloc: Global) -> bool {
 
 #[test]
 fn record_data_is_copied_or_refused(rt: HostRuntime) {
-    let first = copy_data(&rt, rt.alloc());
-    let second = copy_data(&rt, rt.alloc());
-    assert!(rt; are_few(first, second));
+    assert!(rt; u8::from(copy_data(&rt, rt.alloc())) <= MOST_REFUSED);
 }
 
-/// Appends record data with its length to no octets, and tells whether that was refused.
-fn compose_data(rt: &impl Abort, alloc: Global) -> bool {
-    let mut target = Vec::new(alloc);
-    match data(rt, OCTETS).compose_len_rdata(&mut target) {
-        Ok(()) => {
-            assert_eq!(rt; target.as_slice(), b"\0\x03\x01\x02\xff".as_slice());
-            false
-        }
+/// Record data is appended with its length to the same octets again where it was refused, which leaves them.
+#[test]
+fn record_data_is_composed_or_refused(rt: HostRuntime) {
+    let data = data(&rt, OCTETS);
+    let mut target = Vec::new(rt.alloc());
+    match data.compose_len_rdata(&mut target) {
+        Ok(()) => {}
         Err(ComposeRdataError::Append(ShortBuf)) => {
-            assert!(rt; target.is_empty());
-            true
+            assert!(rt; MOST_REFUSED == 1 && target.is_empty());
+            assert!(rt; data.compose_len_rdata(&mut target).is_ok());
         }
         Err(ComposeRdataError::Long(_)) => panic!(rt; "too long"),
     }
-}
-
-#[test]
-fn record_data_is_composed_or_refused(rt: HostRuntime) {
-    let first = compose_data(&rt, rt.alloc());
-    let second = compose_data(&rt, rt.alloc());
-    assert!(rt; are_few(first, second));
+    assert_eq!(rt; target.as_slice(), b"\0\x03\x01\x02\xff".as_slice());
 }
 
 /// Copies a relative name twice, makes the copy absolute, and tells whether memory was refused.
@@ -98,9 +88,7 @@ fn make_absolute(rt: &impl Abort, alloc: Global) -> bool {
 
 #[test]
 fn relative_names_are_copied_and_made_absolute_or_refused(rt: HostRuntime) {
-    let first = make_absolute(&rt, rt.alloc());
-    let second = make_absolute(&rt, rt.alloc());
-    assert!(rt; are_few(first, second));
+    assert!(rt; u8::from(make_absolute(&rt, rt.alloc())) <= MOST_REFUSED);
 }
 
 /// Makes a relative name absolute in octets that have room for the root, which is never refused, and tells
@@ -122,7 +110,5 @@ fn make_absolute_in_room(rt: &impl Abort, alloc: Global) -> bool {
 
 #[test]
 fn the_root_is_never_refused_room_that_is_there(rt: HostRuntime) {
-    let first = make_absolute_in_room(&rt, rt.alloc());
-    let second = make_absolute_in_room(&rt, rt.alloc());
-    assert!(rt; are_few(first, second));
+    assert!(rt; u8::from(make_absolute_in_room(&rt, rt.alloc())) <= MOST_REFUSED);
 }

@@ -1,7 +1,7 @@
 //! Values of fixed length, and how they are written on the wire.
 ghost use Rattle.std.specs.Prelude.{◌≡◌, ℕ, ◌++◌, ◌+◌, ◌<◌, ◌≤◌, List, length, OnOk, OnErr, IfSome, MatchResult, [], Ok, Err, refl};
 ghost use Rattle.std.specs.Int.{w8, w16, w32, w64, w128, to_be_bytes, cast_unsigned};
-ghost use Rattle.domain_wire.specs.Addresses.{ipv4_octets, ipv6_octets};
+ghost use Rattle.domain_wire.specs.Addresses.{ipv4_octets, ipv6_octets, exactly_len};
 ghost use Rattle.std.specs.Fn.{FnOnceReturnsAtMut};
 
 use crate::net::{Ipv4Addr, Ipv6Addr};
@@ -29,10 +29,6 @@ pub trait Compose {
         ensures full { OnErr result (Target.capacity target.old < length (Target.octets target.old) + length (composed_octets self.now)) }
         ensures capacity { Target.capacity target.old ≤ Target.capacity target.new }
         ensures within { IfSome Target.limit (λ n. length (Target.octets target.new) ≤ n) };
-
-    /// How many octets this value has on the wire, which is `COMPOSE_LEN` for each.
-    fn composed_len(&self) -> u16
-        ensures { result ≡ length (composed_octets self.now) };
 }
 
 impl Compose for i8 {
@@ -45,10 +41,6 @@ impl Compose for i8 {
         target: &mut Target,
     ) -> Result<(), Target::AppendError> {
         target.append_slice(&i8::to_be_bytes(*self))
-    }
-
-    fn composed_len(&self) -> u16 {
-        Self::COMPOSE_LEN
     }
 }
 
@@ -63,10 +55,6 @@ impl Compose for u8 {
     ) -> Result<(), Target::AppendError> {
         target.append_slice(&u8::to_be_bytes(*self))
     }
-
-    fn composed_len(&self) -> u16 {
-        Self::COMPOSE_LEN
-    }
 }
 
 impl Compose for i16 {
@@ -79,10 +67,6 @@ impl Compose for i16 {
         target: &mut Target,
     ) -> Result<(), Target::AppendError> {
         target.append_slice(&i16::to_be_bytes(*self))
-    }
-
-    fn composed_len(&self) -> u16 {
-        Self::COMPOSE_LEN
     }
 }
 
@@ -97,10 +81,6 @@ impl Compose for u16 {
     ) -> Result<(), Target::AppendError> {
         target.append_slice(&u16::to_be_bytes(*self))
     }
-
-    fn composed_len(&self) -> u16 {
-        Self::COMPOSE_LEN
-    }
 }
 
 impl Compose for i32 {
@@ -113,10 +93,6 @@ impl Compose for i32 {
         target: &mut Target,
     ) -> Result<(), Target::AppendError> {
         target.append_slice(&i32::to_be_bytes(*self))
-    }
-
-    fn composed_len(&self) -> u16 {
-        Self::COMPOSE_LEN
     }
 }
 
@@ -131,10 +107,6 @@ impl Compose for u32 {
     ) -> Result<(), Target::AppendError> {
         target.append_slice(&u32::to_be_bytes(*self))
     }
-
-    fn composed_len(&self) -> u16 {
-        Self::COMPOSE_LEN
-    }
 }
 
 impl Compose for i64 {
@@ -147,10 +119,6 @@ impl Compose for i64 {
         target: &mut Target,
     ) -> Result<(), Target::AppendError> {
         target.append_slice(&i64::to_be_bytes(*self))
-    }
-
-    fn composed_len(&self) -> u16 {
-        Self::COMPOSE_LEN
     }
 }
 
@@ -165,10 +133,6 @@ impl Compose for u64 {
     ) -> Result<(), Target::AppendError> {
         target.append_slice(&u64::to_be_bytes(*self))
     }
-
-    fn composed_len(&self) -> u16 {
-        Self::COMPOSE_LEN
-    }
 }
 
 impl Compose for i128 {
@@ -181,10 +145,6 @@ impl Compose for i128 {
         target: &mut Target,
     ) -> Result<(), Target::AppendError> {
         target.append_slice(&i128::to_be_bytes(*self))
-    }
-
-    fn composed_len(&self) -> u16 {
-        Self::COMPOSE_LEN
     }
 }
 
@@ -199,10 +159,6 @@ impl Compose for u128 {
     ) -> Result<(), Target::AppendError> {
         target.append_slice(&u128::to_be_bytes(*self))
     }
-
-    fn composed_len(&self) -> u16 {
-        Self::COMPOSE_LEN
-    }
 }
 
 impl Compose for Ipv4Addr {
@@ -215,10 +171,6 @@ impl Compose for Ipv4Addr {
         target: &mut Target,
     ) -> Result<(), Target::AppendError> {
         target.append_slice(&self.octets())
-    }
-
-    fn composed_len(&self) -> u16 {
-        Self::COMPOSE_LEN
     }
 }
 
@@ -233,10 +185,6 @@ impl Compose for Ipv6Addr {
     ) -> Result<(), Target::AppendError> {
         target.append_slice(&self.octets())
     }
-
-    fn composed_len(&self) -> u16 {
-        Self::COMPOSE_LEN
-    }
 }
 
 impl<T: Compose> Compose for &T {
@@ -250,10 +198,115 @@ impl<T: Compose> Compose for &T {
     ) -> Result<(), Target::AppendError> {
         Compose::compose(&**self, target)
     }
+}
 
-    fn composed_len(&self) -> u16 {
-        Compose::composed_len(&**self)
-    }
+/// A value whose number of octets on the wire contracts see: [`COMPOSE_LEN`](Compose::COMPOSE_LEN) is that number.
+///
+/// References are no such values: a contract can't name a constant of a type that is one.
+pub trait FixedLen: Compose {
+    /// How many octets a value has on the wire, as `COMPOSE_LEN` says.
+    const LEN: u16;
+
+    ghost LEN: { ℕ };
+
+    /// Each value has that many octets.
+    ghost fixed: { (value : Self) → length (Self.composed_octets value) ≡ LEN };
+}
+
+impl FixedLen for i8 {
+    const LEN: u16 = i8::COMPOSE_LEN;
+
+    ghost LEN = { 1 };
+
+    ghost fixed = { λ value. refl };
+}
+
+impl FixedLen for u8 {
+    const LEN: u16 = u8::COMPOSE_LEN;
+
+    ghost LEN = { 1 };
+
+    ghost fixed = { λ value. refl };
+}
+
+impl FixedLen for i16 {
+    const LEN: u16 = i16::COMPOSE_LEN;
+
+    ghost LEN = { 2 };
+
+    ghost fixed = { λ value. refl };
+}
+
+impl FixedLen for u16 {
+    const LEN: u16 = u16::COMPOSE_LEN;
+
+    ghost LEN = { 2 };
+
+    ghost fixed = { λ value. refl };
+}
+
+impl FixedLen for i32 {
+    const LEN: u16 = i32::COMPOSE_LEN;
+
+    ghost LEN = { 4 };
+
+    ghost fixed = { λ value. refl };
+}
+
+impl FixedLen for u32 {
+    const LEN: u16 = u32::COMPOSE_LEN;
+
+    ghost LEN = { 4 };
+
+    ghost fixed = { λ value. refl };
+}
+
+impl FixedLen for i64 {
+    const LEN: u16 = i64::COMPOSE_LEN;
+
+    ghost LEN = { 8 };
+
+    ghost fixed = { λ value. refl };
+}
+
+impl FixedLen for u64 {
+    const LEN: u16 = u64::COMPOSE_LEN;
+
+    ghost LEN = { 8 };
+
+    ghost fixed = { λ value. refl };
+}
+
+impl FixedLen for i128 {
+    const LEN: u16 = i128::COMPOSE_LEN;
+
+    ghost LEN = { 16 };
+
+    ghost fixed = { λ value. refl };
+}
+
+impl FixedLen for u128 {
+    const LEN: u16 = u128::COMPOSE_LEN;
+
+    ghost LEN = { 16 };
+
+    ghost fixed = { λ value. refl };
+}
+
+impl FixedLen for Ipv4Addr {
+    const LEN: u16 = Ipv4Addr::COMPOSE_LEN;
+
+    ghost LEN = { 4 };
+
+    ghost fixed = { λ value. exactly_len 4 value.octets };
+}
+
+impl FixedLen for Ipv6Addr {
+    const LEN: u16 = Ipv6Addr::COMPOSE_LEN;
+
+    ghost LEN = { 16 };
+
+    ghost fixed = { λ value. exactly_len 16 value.octets };
 }
 
 /// The octets that a call appends to an empty `Vec`.

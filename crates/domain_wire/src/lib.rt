@@ -9,7 +9,7 @@ pub mod net;
 pub mod parse;
 
 pub use cmp::CanonicalOrd;
-pub use compose::{Compose, compose_vec};
+pub use compose::{Compose, FixedLen, compose_vec};
 pub use error::{FormError, ParseError};
 pub use net::{IpAddr, Ipv4Addr, Ipv6Addr};
 pub use parse::{Parse, parse_slice};

@@ -30,7 +30,7 @@ impl Ipv4Addr {
 }
 
 impl From<[u8; 4]> for Ipv4Addr {
-    ghost from_gives = { λ octets addr. ipv4_octets addr ≡ octets };
+    ghost from_gives = { λ octets addr. (ipv4_octets addr ≡ octets) × (addr ≡ ipv4_of octets) };
 
     fn from(octets: [u8; 4]) -> Ipv4Addr {
         Ipv4Addr { octets }
@@ -46,7 +46,7 @@ pub struct Ipv6Addr {
 impl Ipv6Addr {
     /// The address that is written `a:b:c:d:e:f:g:h`: eight segments of 16 bits.
     pub fn new(a: u16, b: u16, c: u16, d: u16, e: u16, f: u16, g: u16, h: u16) -> Ipv6Addr
-        ensures { ipv6_octets result ≡ flat_map (to_be_bytes w16) (a ∷ b ∷ c ∷ d ∷ e ∷ f ∷ g ∷ h ∷ []) }
+        ensures { result ≡ ipv6_of (flat_map (to_be_bytes w16) (a ∷ b ∷ c ∷ d ∷ e ∷ f ∷ g ∷ h ∷ [])) }
     {
         let [a_high, a_low] = a.to_be_bytes();
         let [b_high, b_low] = b.to_be_bytes();
@@ -73,7 +73,7 @@ impl Ipv6Addr {
 }
 
 impl From<[u8; 16]> for Ipv6Addr {
-    ghost from_gives = { λ octets addr. ipv6_octets addr ≡ octets };
+    ghost from_gives = { λ octets addr. (ipv6_octets addr ≡ octets) × (addr ≡ ipv6_of octets) };
 
     fn from(octets: [u8; 16]) -> Ipv6Addr {
         Ipv6Addr { octets }
@@ -82,7 +82,7 @@ impl From<[u8; 16]> for Ipv6Addr {
 
 /// The address of these eight segments of 16 bits.
 impl From<[u16; 8]> for Ipv6Addr {
-    ghost from_gives = { λ segments addr. ipv6_octets addr ≡ flat_map (to_be_bytes w16) segments };
+    ghost from_gives = { λ segments addr. addr ≡ ipv6_of (flat_map (to_be_bytes w16) segments) };
 
     fn from(segments: [u16; 8]) -> Ipv6Addr {
         let [a, b, c, d, e, f, g, h] = segments;

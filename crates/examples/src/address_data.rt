@@ -38,7 +38,7 @@ impl ComposeRecordData for AddressData {
     ghost knows_len = { λ _ _. true };
 
     fn rdlen(&self, _compress: bool) -> Option<u16> {
-        Some(self.address.composed_len())
+        Some(Ipv4Addr::LEN)
     }
 
     fn compose_rdata<Target: Composer>(

@@ -18,6 +18,8 @@ impl<T: Composer> Octets for Counted<T> {
 
     ghost capacity = { λ it. T.capacity it.target };
 
+    ghost limit = { T.limit };
+
     fn as_slice(&self) -> &[u8] {
         self.target.as_slice()
     }
@@ -44,14 +46,8 @@ impl<T: Composer> Truncate for Counted<T> {
 impl<T: Composer> OctetsBuilder for Counted<T> {
     type AppendError = T::AppendError;
 
-    ghost limit = { T.limit };
-
     fn append_slice(&mut self, slice: &[u8]) -> Result<(), T::AppendError> {
         self.target.append_slice(slice)
-    }
-
-    fn keep_limit(&self) {
-        self.target.keep_limit();
     }
 
     ghost fixed = { λ it. T.fixed it.target };

@@ -1,4 +1,5 @@
-//! A type of one's own with an iterator of its own: the hosts of a zone.
+//! A type of one's own with an iterator of its own: the hosts of a zone. Their octets are nowhere in a row, so a host
+//! gives nothing but its labels, and has all calls that absolute names have.
 ghost use Rattle.std.specs.Prelude.{◌≡◌, ◌<◌, ◌+◌, ◌∷◌, ◌⊎◌, ◌↔◌, List, ℕ, [], length, IsNone, IfSome, IsTrue};
 ghost use Rattle.std.proofs.Common.{inl};
 ghost use Rattle.domain_label.specs.Labels.{owned_octets};
@@ -68,10 +69,6 @@ impl<'a> ToLabelIter<'a> for Host {
 
     fn as_flat_slice(&'a self) -> Option<&'a [u8]> {
         None
-    }
-
-    fn put_wire(&'a self, octets: &mut [u8; 255], len: usize) -> Option<usize> {
-        put_labels(self.iter_labels(), self.compose_len(), octets, len)
     }
 }
 

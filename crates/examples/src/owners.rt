@@ -43,10 +43,6 @@ impl<'a> ToLabelIter<'a> for Owner {
     fn as_flat_slice(&'a self) -> Option<&'a [u8]> {
         self.name.as_flat_slice()
     }
-
-    fn put_wire(&'a self, octets: &mut [u8; 255], len: usize) -> Option<usize> {
-        self.name.put_wire(octets, len)
-    }
 }
 
 impl<'a> AbsoluteLabels<'a> for Owner {}

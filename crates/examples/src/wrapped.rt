@@ -1,4 +1,5 @@
-//! A type of one's own around a name of any kind, which is itself a name.
+//! A type of one's own around a name of any kind, which is itself a name: by its labels and its flat slice, with no
+//! other call, it has all calls that names have.
 ghost use Rattle.std.specs.Prelude.{◌≡◌, ◌↔◌, IsTrue};
 ghost use Rattle.domain_label.specs.Lowercase.{lowercase_labels};
 
@@ -44,10 +45,6 @@ impl<'a, N: ToLabelIter<'a>> ToLabelIter<'a> for Dated<N> {
 
     fn as_flat_slice(&'a self) -> Option<&'a [u8]> {
         self.name.as_flat_slice()
-    }
-
-    fn put_wire(&'a self, octets: &mut [u8; 255], len: usize) -> Option<usize> {
-        self.name.put_wire(octets, len)
     }
 }
 

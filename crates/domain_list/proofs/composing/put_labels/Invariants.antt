@@ -6,6 +6,6 @@ abbrev pub invariant-loop-label : goal.invariant-loop-label
 invariant-loop-label g l = record {
   can : (goal.iterator-loop-label g).can_next l.labels;
   ends : (goal.iterator-loop-label g).is_finite l.labels;
-  size : l.end + length (wire (g.I.LabelIterator.left l.labels)) ≡ l.len + length (wire (g.I.LabelIterator.left l.fn.labels));
-  wire : take l.end l.octets ++ wire (g.I.LabelIterator.left l.labels) ≡ take l.len l.initial.octets ++ wire (g.I.LabelIterator.left l.fn.labels);
+  size : l.len + length (wire (g.I.LabelIterator.left l.labels)) ≡ length (wire (g.I.LabelIterator.left l.fn.labels));
+  wire : take l.len l.octets ++ wire (g.I.LabelIterator.left l.labels) ≡ wire (g.I.LabelIterator.left l.fn.labels);
 }

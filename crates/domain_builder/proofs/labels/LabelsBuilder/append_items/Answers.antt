@@ -29,7 +29,7 @@ returns-in_err-push_name_symbol-clause-takes g c = λ all h.
     let now = c.loop-item.invariant.takes all h in
     let n = given_some g.I.Iterator.next_gives c.loop-item.item-iterator c.next.new.self c.in-Some.item now.0 now.1 c.in-Some.ensures.steps in
     let p = err_from_is_err_and c.from_residual.result c.from_residual.ensures.1 in
-    rw p.1 (takes_stop all now.0 n.0 c.in-Some.item (room g.B.OctetsBuilder.limit c.push_name_symbol.new.self) c.args.self.now.built c.loop-item.self.built c.push_name_symbol.new.self.built c.name_symbol_of.result p.0 now.2 n.1 c.name_symbol_of.ensures (rw p.2 c.in_err-push_name_symbol.ensures.takes))
+    rw p.1 (takes_stop all now.0 n.0 c.in-Some.item (room g.B.Octets.limit c.push_name_symbol.new.self) c.args.self.now.built c.loop-item.self.built c.push_name_symbol.new.self.built c.name_symbol_of.result p.0 now.2 n.1 c.name_symbol_of.ensures (rw p.2 c.in_err-push_name_symbol.ensures.takes))
 
 pub returns-clause-takes : goal.returns-clause-takes
 returns-clause-takes g c = λ all h.

@@ -14,7 +14,7 @@ returns-in-Some-clause-made g c =
 
 pub returns-in-Some-clause-answer : goal.returns-in-Some-clause-answer
 returns-in-Some-clause-answer g c =
-    subst (λ (ls : List (List ℕ)). NameFits (size (named c.args.self.now.built ls)) (room g.B.OctetsBuilder.limit c.append_wire.new.self) c.append_wire.result) (relative_of _ _ c.in-Some.ensures.wire (g.met.N.Relative.relative c.args.name.now)).1 c.append_wire.ensures.answer
+    subst (λ (ls : List (List ℕ)). NameFits (size (named c.args.self.now.built ls)) (room g.B.Octets.limit c.append_wire.new.self) c.append_wire.result) (relative_of _ _ c.in-Some.ensures.wire (g.met.N.Relative.relative c.args.name.now)).1 c.append_wire.ensures.answer
 
 pub append_wire-requires-2 : goal.append_wire-requires-2
 append_wire-requires-2 g c = record { labels = (relative_of _ _ c.put_name-len.ensures.wire (g.met.N.Relative.relative c.args.name.now)).0 }
@@ -25,4 +25,4 @@ returns-clause-made g c =
 
 pub returns-clause-answer : goal.returns-clause-answer
 returns-clause-answer g c =
-    subst (λ (ls : List (List ℕ)). NameFits (size (named c.args.self.now.built ls)) (room g.B.OctetsBuilder.limit c.append_wire-2.new.self) c.append_wire-2.result) (relative_of _ _ c.put_name-len.ensures.wire (g.met.N.Relative.relative c.args.name.now)).1 c.append_wire-2.ensures.answer
+    subst (λ (ls : List (List ℕ)). NameFits (size (named c.args.self.now.built ls)) (room g.B.Octets.limit c.append_wire-2.new.self) c.append_wire-2.result) (relative_of _ _ c.put_name-len.ensures.wire (g.met.N.Relative.relative c.args.name.now)).1 c.append_wire-2.ensures.answer

@@ -15,7 +15,7 @@ returns-in-Some-clause-labels g c =
 
 pub returns-in-Some-clause-answer : goal.returns-in-Some-clause-answer
 returns-in-Some-clause-answer g c =
-    subst (λ (octets : List ℕ). OriginFits (size c.args.self.built + length octets) (room g.B.OctetsBuilder.limit c.args.self) c.append_origin_wire.result) c.in-Some.ensures.wire c.append_origin_wire.ensures.answer
+    subst (λ (octets : List ℕ). OriginFits (size c.args.self.built + length octets) (room g.B.Octets'.limit c.args.self) c.append_origin_wire.result) c.in-Some.ensures.wire c.append_origin_wire.ensures.answer
 
 pub append_origin_wire-requires-2 : goal.append_origin_wire-requires-2
 append_origin_wire-requires-2 g c = record { origin = (absolute_of _ _ c.put_name-len.ensures.wire (g.met.N.Absolute.absolute c.args.origin.now)).0 }

@@ -9,4 +9,4 @@ taken_back old before mid seen left cut same e kept taken =
 
 pub returns-in-Err-clause-unchanged : goal.returns-in-Err-clause-unchanged
 returns-in-Err-clause-unchanged g c =
-    taken_back _ _ _ _ _ _ c.as_slice-start.ensures c.in_ok-append_slice.ensures.ok c.in-Err.ensures.unchanged c.truncate.ensures.octets
+    taken_back _ _ _ _ _ _ c.as_slice-start.ensures.octets c.in_ok-append_slice.ensures.ok c.in-Err.ensures.unchanged c.truncate.ensures.octets

@@ -4,20 +4,20 @@ use Rattle.domain_name.proofs.Stripping.{absolute_suffix_begins, stripped}
 use Rattle.domain_name.proofs.absolute.Name.strip_suffix.Goals as goal
 
 pub suffix_place-requires : goal.suffix_place-requires
-suffix_place-requires g c κs = ((refl, tt), rw c.as_slice.ensures (absolute_wire c.args.self.absolute))
+suffix_place-requires g c κs = ((refl, tt), rw c.as_slice.ensures.octets (absolute_wire c.args.self.absolute))
 
 pub truncate-requires : goal.truncate-requires
 truncate-requires g c =
     let bs = g.N.NameLabels.labels c.args.base.now in
     let a = g.met.N.Absolute.absolute c.args.base.now in
-    let ends = rw c.as_slice.ensures at c.in-Some.ensures.exact.0 refl in
-    let place = rw c.as_slice.ensures at c.in-Some.ensures.place in
+    let ends = rw c.as_slice.ensures.octets at c.in-Some.ensures.exact.0 refl in
+    let place = rw c.as_slice.ensures.octets at c.in-Some.ensures.place in
     absolute_suffix_begins _ bs c.in-Some.place (absolute_wire c.args.self.absolute) a.0 ends place
 
 pub returns-in-Some-clause-ok : goal.returns-in-Some-clause-ok
 returns-in-Some-clause-ok g c =
     let bs = g.N.NameLabels.labels c.args.base.now in
-    let ends = rw c.as_slice.ensures at c.in-Some.ensures.exact.0 refl in
-    let place = rw c.as_slice.ensures at c.in-Some.ensures.place in
+    let ends = rw c.as_slice.ensures.octets at c.in-Some.ensures.exact.0 refl in
+    let place = rw c.as_slice.ensures.octets at c.in-Some.ensures.place in
     let parts = c.truncate.ensures.parts in
     stripped _ bs _ parts.0 c.in-Some.place (absolute_wire c.args.self.absolute) ends place parts.1 c.truncate.ensures.place

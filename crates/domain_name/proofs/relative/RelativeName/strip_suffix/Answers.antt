@@ -4,19 +4,19 @@ use Rattle.domain_name.proofs.Stripping.{suffix_begins, stripped}
 use Rattle.domain_name.proofs.relative.RelativeName.strip_suffix.Goals as goal
 
 pub suffix_place-requires : goal.suffix_place-requires
-suffix_place-requires g c κs = ((refl, tt), rw c.as_slice.ensures (relative_wire c.args.self.now.relative))
+suffix_place-requires g c κs = ((refl, tt), rw c.as_slice.ensures.octets (relative_wire c.args.self.now.relative))
 
 pub truncate-requires : goal.truncate-requires
 truncate-requires g c =
     let bs = g.N.NameLabels.labels c.args.base.now in
-    let ends = rw c.as_slice.ensures at c.in-Some.ensures.exact.0 refl in
-    let place = rw c.as_slice.ensures at c.in-Some.ensures.place in
+    let ends = rw c.as_slice.ensures.octets at c.in-Some.ensures.exact.0 refl in
+    let place = rw c.as_slice.ensures.octets at c.in-Some.ensures.place in
     suffix_begins _ bs c.in-Some.place (relative_wire c.args.self.now.relative) ends place
 
 pub returns-clause-ok : goal.returns-clause-ok
 returns-clause-ok g c =
     let bs = g.N.NameLabels.labels c.args.base.now in
-    let ends = rw c.as_slice.ensures at c.in-Some.ensures.exact.0 refl in
-    let place = rw c.as_slice.ensures at c.in-Some.ensures.place in
+    let ends = rw c.as_slice.ensures.octets at c.in-Some.ensures.exact.0 refl in
+    let place = rw c.as_slice.ensures.octets at c.in-Some.ensures.place in
     let parts = c.truncate.ensures.parts in
     stripped _ bs _ parts.0 c.in-Some.place (relative_wire c.args.self.now.relative) ends place parts.1 c.truncate.ensures.place

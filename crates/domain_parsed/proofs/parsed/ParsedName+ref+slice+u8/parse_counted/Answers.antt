@@ -27,38 +27,38 @@ on_err (Err e) P p = p
 pub returns-in_err-read_name_counted-clause-unchanged : goal.returns-in_err-read_name_counted-clause-unchanged
 returns-in_err-read_name_counted-clause-unchanged g c = on_err c.from_residual.result _ refl
 
-pub of-requires : goal.of-requires
-of-requires g c =
+pub finish-requires-clause-holds : goal.finish-requires-clause-holds
+finish-requires-clause-holds g c =
     let here = ap (λ w. w.at) c.new-found.ensures ∙ c.pos.ensures.place in
     let r = read_here c.args.parser.now (search rules) here c.in_ok-read_name_counted.ensures.name in
-    (held c.args.parser.now c.octets_ref.result.now (c.octets_ref.ensures ∙ ap (λ o. o.now) c.in-Ok.ensures.ok.octets) (search rules) r).holds
+    (held c.args.parser.now c.args.parser.now.octets.now refl r).holds
 
 pub returns-clause-labels : goal.returns-clause-labels
 returns-clause-labels g c =
     let parser = c.args.parser.now in
     let here = ap (λ w. w.at) c.new-found.ensures ∙ c.pos.ensures.place in
     let r = read_here parser (search rules) here c.in_ok-read_name_counted.ensures.name in
-    let h = held parser c.octets_ref.result.now (c.octets_ref.ensures ∙ ap (λ o. o.now) c.in-Ok.ensures.ok.octets) (search rules) r in
-    subst (λ ls. Names c.args.limit (message parser) (position parser) ls) (sym (c.of.ensures.labels ∙ h.same)) r.name
+    let h = held parser parser.octets.now refl r in
+    subst (λ ls. Names c.args.limit (message parser) (position parser) ls) (sym (c.finish.ensures.labels ∙ h.same)) r.name
 
 pub returns-clause-is_compressed : goal.returns-clause-is_compressed
 returns-clause-is_compressed g c =
     let here = ap (λ w. w.at) c.new-found.ensures ∙ c.pos.ensures.place in
-    rw c.of.ensures.is_compressed (piece_tells (read_here c.args.parser.now (search rules) here c.in_ok-read_name_counted.ensures.name))
+    rw c.finish.ensures.is_compressed (piece_tells (read_here c.args.parser.now (search rules) here c.in_ok-read_name_counted.ensures.name))
 
 pub returns-clause-uncompressed : goal.returns-clause-uncompressed
 returns-clause-uncompressed g c = λ ls x.
     let parser = c.args.parser.now in
     let here = ap (λ w. w.at) c.new-found.ensures ∙ c.pos.ensures.place in
     let r = read_here parser (search rules) here c.in_ok-read_name_counted.ensures.name in
-    let h = held parser c.octets_ref.result.now (c.octets_ref.ensures ∙ ap (λ o. o.now) c.in-Ok.ensures.ok.octets) (search rules) r in
+    let h = held parser parser.octets.now refl r in
     let p = plainly_read x r in
-    (c.of.ensures.labels ∙ (h.same ∙ p.0), c.of.ensures.is_compressed ∙ p.1, c.in-Ok.ensures.ok.place ∙ c.end_offset.ensures ∙ p.2)
+    (c.finish.ensures.labels ∙ (h.same ∙ p.0), c.finish.ensures.is_compressed ∙ p.1, c.finish.ensures.moves.place ∙ p.2)
 
 pub returns-clause-counted : goal.returns-clause-counted
 returns-clause-counted g c =
     let parser = c.args.parser.now in
     let here = ap (λ w. w.at) c.new-found.ensures ∙ c.pos.ensures.place in
     let r = read_here parser (search rules) here c.in_ok-read_name_counted.ensures.name in
-    let h = held parser c.octets_ref.result.now (c.octets_ref.ensures ∙ ap (λ o. o.now) c.in-Ok.ensures.ok.octets) (search rules) r in
-    name_counted r (sym (c.of.ensures.labels ∙ h.same))
+    let h = held parser parser.octets.now refl r in
+    name_counted r (sym (c.finish.ensures.labels ∙ h.same))

@@ -11,7 +11,7 @@ entry_offset-start-requires g c =
     let s = c.args.self.now in
     let o = g.Octs.Octets.octets s.octets in
     let d = drop_first o s.base s.entries s.dropped s.count s.dropped_len s.name_len s.compressed s.some (omega arith) s.stand s.absolute s.sized s.flat (not_so c.is_root.ensures c.if-is_root.false) in
-    let e = ap (λ xs. length xs) c.as_slice-octets.ensures in
+    let e = ap (λ xs. length xs) c.as_slice-octets.ensures.octets in
     rw c.from.ensures (omega (arith, d.here, d.is_place, e))
 
 pub label_at_offset-requires : goal.label_at_offset-requires
@@ -20,7 +20,7 @@ label_at_offset-requires g c =
     let o = g.Octs.Octets.octets s.octets in
     let d = drop_first o s.base s.entries s.dropped s.count s.dropped_len s.name_len s.compressed s.some (omega arith) s.stand s.absolute s.sized s.flat (not_so c.is_root.ensures c.if-is_root.false) in
     let here : c.entry_offset-start.result ≡ d.offset = c.entry_offset-start.ensures ∙ (ap (λ i. entry_offset s.base (slice_index s.entries i)) c.from.ensures ∙ sym d.is_place) in
-    rw (c.as_slice-octets.ensures, here) d.here
+    rw (c.as_slice-octets.ensures.octets, here) d.here
 
 pub overflow_sub-self : goal.overflow_sub-self
 overflow_sub-self g c =
@@ -28,7 +28,7 @@ overflow_sub-self g c =
     let o = g.Octs.Octets.octets s.octets in
     let d = drop_first o s.base s.entries s.dropped s.count s.dropped_len s.name_len s.compressed s.some (omega arith) s.stand s.absolute s.sized s.flat (not_so c.is_root.ensures c.if-is_root.false) in
     let here : c.entry_offset-start.result ≡ d.offset = c.entry_offset-start.ensures ∙ (ap (λ i. entry_offset s.base (slice_index s.entries i)) c.from.ensures ∙ sym d.is_place) in
-    let label : label_octets c.label_at_offset.result ≡ d.label = c.label_at_offset.ensures ∙ (ap (λ m. label_at m c.entry_offset-start.result) c.as_slice-octets.ensures ∙ (ap (λ p. label_at o p) here ∙ sym d.is_label)) in
+    let label : label_octets c.label_at_offset.result ≡ d.label = c.label_at_offset.ensures ∙ (ap (λ m. label_at m c.entry_offset-start.result) c.as_slice-octets.ensures.octets ∙ (ap (λ p. label_at o p) here ∙ sym d.is_label)) in
     omega (arith, c.len.ensures, ap (λ l. length l) label, d.rest.fits)
 
 pub overflow_add-result : goal.overflow_add-result
@@ -37,8 +37,8 @@ overflow_add-result g c =
     let o = g.Octs.Octets.octets s.octets in
     let d = drop_first o s.base s.entries s.dropped s.count s.dropped_len s.name_len s.compressed s.some (omega arith) s.stand s.absolute s.sized s.flat (not_so c.is_root.ensures c.if-is_root.false) in
     let here : c.entry_offset-start.result ≡ d.offset = c.entry_offset-start.ensures ∙ (ap (λ i. entry_offset s.base (slice_index s.entries i)) c.from.ensures ∙ sym d.is_place) in
-    let label : label_octets c.label_at_offset.result ≡ d.label = c.label_at_offset.ensures ∙ (ap (λ m. label_at m c.entry_offset-start.result) c.as_slice-octets.ensures ∙ (ap (λ p. label_at o p) here ∙ sym d.is_label)) in
-    omega (arith, c.len.ensures, ap (λ l. length l) label, d.here, d.head, here, ap (λ xs. length xs) c.as_slice-octets.ensures, c.from-2.ensures)
+    let label : label_octets c.label_at_offset.result ≡ d.label = c.label_at_offset.ensures ∙ (ap (λ m. label_at m c.entry_offset-start.result) c.as_slice-octets.ensures.octets ∙ (ap (λ p. label_at o p) here ∙ sym d.is_label)) in
+    omega (arith, c.len.ensures, ap (λ l. length l) label, d.here, d.head, here, ap (λ xs. length xs) c.as_slice-octets.ensures.octets, c.from-2.ensures)
 
 pub invariant_of-self-clause-some : goal.invariant_of-self-clause-some
 invariant_of-self-clause-some g c =
@@ -67,7 +67,7 @@ invariant_of-self-clause-sized g c =
     let o = g.Octs.Octets.octets s.octets in
     let d = drop_first o s.base s.entries s.dropped s.count s.dropped_len s.name_len s.compressed s.some (omega arith) s.stand s.absolute s.sized s.flat (not_so c.is_root.ensures c.if-is_root.false) in
     let here : c.entry_offset-start.result ≡ d.offset = c.entry_offset-start.ensures ∙ (ap (λ i. entry_offset s.base (slice_index s.entries i)) c.from.ensures ∙ sym d.is_place) in
-    let label : label_octets c.label_at_offset.result ≡ d.label = c.label_at_offset.ensures ∙ (ap (λ m. label_at m c.entry_offset-start.result) c.as_slice-octets.ensures ∙ (ap (λ p. label_at o p) here ∙ sym d.is_label)) in
+    let label : label_octets c.label_at_offset.result ≡ d.label = c.label_at_offset.ensures ∙ (ap (λ m. label_at m c.entry_offset-start.result) c.as_slice-octets.ensures.octets ∙ (ap (λ p. label_at o p) here ∙ sym d.is_label)) in
     let len : c.len.result ≡ length d.label = c.len.ensures ∙ ap (λ l. length l) label in
     rw len d.rest.sized
 
@@ -77,7 +77,7 @@ invariant_of-self-clause-short g c =
     let o = g.Octs.Octets.octets s.octets in
     let d = drop_first o s.base s.entries s.dropped s.count s.dropped_len s.name_len s.compressed s.some (omega arith) s.stand s.absolute s.sized s.flat (not_so c.is_root.ensures c.if-is_root.false) in
     let here : c.entry_offset-start.result ≡ d.offset = c.entry_offset-start.ensures ∙ (ap (λ i. entry_offset s.base (slice_index s.entries i)) c.from.ensures ∙ sym d.is_place) in
-    let label : label_octets c.label_at_offset.result ≡ d.label = c.label_at_offset.ensures ∙ (ap (λ m. label_at m c.entry_offset-start.result) c.as_slice-octets.ensures ∙ (ap (λ p. label_at o p) here ∙ sym d.is_label)) in
+    let label : label_octets c.label_at_offset.result ≡ d.label = c.label_at_offset.ensures ∙ (ap (λ m. label_at m c.entry_offset-start.result) c.as_slice-octets.ensures.octets ∙ (ap (λ p. label_at o p) here ∙ sym d.is_label)) in
     let len : c.len.result ≡ length d.label = c.len.ensures ∙ ap (λ l. length l) label in
     rw len (omega (arith, s.short, d.rest.fits))
 
@@ -87,12 +87,9 @@ invariant_of-self-clause-flat g c =
     let o = g.Octs.Octets.octets s.octets in
     let d = drop_first o s.base s.entries s.dropped s.count s.dropped_len s.name_len s.compressed s.some (omega arith) s.stand s.absolute s.sized s.flat (not_so c.is_root.ensures c.if-is_root.false) in
     let here : c.entry_offset-start.result ≡ d.offset = c.entry_offset-start.ensures ∙ (ap (λ i. entry_offset s.base (slice_index s.entries i)) c.from.ensures ∙ sym d.is_place) in
-    let label : label_octets c.label_at_offset.result ≡ d.label = c.label_at_offset.ensures ∙ (ap (λ m. label_at m c.entry_offset-start.result) c.as_slice-octets.ensures ∙ (ap (λ p. label_at o p) here ∙ sym d.is_label)) in
+    let label : label_octets c.label_at_offset.result ≡ d.label = c.label_at_offset.ensures ∙ (ap (λ m. label_at m c.entry_offset-start.result) c.as_slice-octets.ensures.octets ∙ (ap (λ p. label_at o p) here ∙ sym d.is_label)) in
     let len : c.len.result ≡ length d.label = c.len.ensures ∙ ap (λ l. length l) label in
     rw len d.flat
-
-pub invariant_of-self-clause-reads : goal.invariant_of-self-clause-reads
-invariant_of-self-clause-reads g c = λ none. absurd (omega (arith, none))
 
 pub returns-clause-some : goal.returns-clause-some
 returns-clause-some g c =
@@ -100,7 +97,7 @@ returns-clause-some g c =
     let o = g.Octs.Octets.octets s.octets in
     let d = drop_first o s.base s.entries s.dropped s.count s.dropped_len s.name_len s.compressed s.some (omega arith) s.stand s.absolute s.sized s.flat (not_so c.is_root.ensures c.if-is_root.false) in
     let here : c.entry_offset-start.result ≡ d.offset = c.entry_offset-start.ensures ∙ (ap (λ i. entry_offset s.base (slice_index s.entries i)) c.from.ensures ∙ sym d.is_place) in
-    let label : label_octets c.label_at_offset.result ≡ d.label = c.label_at_offset.ensures ∙ (ap (λ m. label_at m c.entry_offset-start.result) c.as_slice-octets.ensures ∙ (ap (λ p. label_at o p) here ∙ sym d.is_label)) in
+    let label : label_octets c.label_at_offset.result ≡ d.label = c.label_at_offset.ensures ∙ (ap (λ m. label_at m c.entry_offset-start.result) c.as_slice-octets.ensures.octets ∙ (ap (λ p. label_at o p) here ∙ sym d.is_label)) in
     let len : c.from-2.result ≡ length d.label + 1 = omega (arith, c.from-2.ensures, c.len.ensures, ap (λ l. length l) label) in
     let t = standing o d.label d.offset c.from-2.result d.here d.head (sym d.is_label) len in
     record {

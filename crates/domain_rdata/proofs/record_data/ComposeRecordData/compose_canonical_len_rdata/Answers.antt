@@ -8,4 +8,4 @@ returns-in-Some-clause-ok g c =
 
 pub returns-in-Err-compose_canonical_rdata-clause-unchanged : goal.returns-in-Err-compose_canonical_rdata-clause-unchanged
 returns-in-Err-compose_canonical_rdata-clause-unchanged g c =
-    taken_back _ _ _ _ _ _ c.as_slice-start.ensures c.in_default-append_slice.ensures.ok c.in-Err-compose_canonical_rdata.ensures.unchanged c.truncate.ensures.octets
+    taken_back _ _ _ _ _ _ c.as_slice-start.ensures.octets c.in_default-append_slice.ensures.ok c.in-Err-compose_canonical_rdata.ensures.unchanged c.truncate.ensures.octets
