@@ -240,7 +240,7 @@ pub trait ToName<'a>: AbsoluteLabels<'a> {
     ///
     /// ```rust
     /// pub fn shown(name: &ParsedName<&[u8]>, alloc: Global) -> Result<String, AllocError>
-    ///     ensures { IfOk result (λ text. string_bytes text ≡ dotted (parsed_labels name.now)) }
+    ///     ensures { IfOk result (λ text. string_bytes text ≡ text_with_final_dot (parsed_labels name.now)) }
     /// {
     ///     let dotted = name.fmt_with_dot();
     ///     format!(in alloc; "{dotted}")
