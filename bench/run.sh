@@ -1,16 +1,15 @@
 #!/bin/sh
 # Measures the port beside the Rust crate and other libraries, on the same inputs, and prints tables.
 #
-#   bench/run.sh UPSTREAM WORK [--quick WORD | --once] [--page FILE]
+#   bench/run.sh UPSTREAM WORK [--quick WORD | --once] [--write]
 #
 # UPSTREAM  a folder with the Rust crates `domain` 0.12.3 and `octseq` 0.5, each unpacked in a folder of its
 #           name, as `cargo download` or https://crates.io/crates/domain gives them; nothing of them is here
-# WORK      a folder to build in, kept for the next run; nothing is written beside this script
+# WORK      a folder to build in, kept for the next run
 # --quick   one short run of the operations whose name has WORD in it (`parse,skip`: these), without other
 #           libraries
 # --once    nothing is measured: each operation is called once on both sides, and the results are compared
-# --page    writes the tables into this page, between its lines `<!-- measured -->` and `<!-- end -->`, and the
-#           plots beside it
+# --write   writes the tables into rows.md beside this script, and two pictures of them
 #
 # It needs `rt`, cargo, python3 and cc. The library is proved first, over what checks of the repository and
 # earlier runs kept; then only what changed is built. Of other libraries those are measured that Debian's
@@ -19,12 +18,12 @@ set -eu
 upstream=$(cd "${1:?the folder of the Rust crates}" && pwd)
 work=${2:?a folder to build in}
 shift 2
-quick='' once='' page=''
+quick='' once='' write=''
 while [ $# -gt 0 ]; do
     case $1 in
     --quick) quick=${2:?a word of operations} && shift ;;
     --once) once=--once ;;
-    --page) page=$(realpath "${2:?a page}") && shift ;;
+    --write) write=--write ;;
     *) echo "run.sh: $1?" >&2 && exit 2 ;;
     esac
     shift
@@ -116,4 +115,4 @@ else
         done
     done
 fi
-python3 "$here/table.py" ${page:+--page "$page"} "$work"/out/*.tsv
+python3 "$here/table.py" $write "$work"/out/*.tsv

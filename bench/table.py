@@ -1,10 +1,10 @@
 #!/usr/bin/env python3
-"""Puts the lines of several runs of the benchmark side by side: table.py [--page PAGE] FILE..
+"""Puts the lines of several runs of the benchmark side by side: table.py [--write] FILE..
 
 Prints tables in Markdown: nanoseconds of one call, the best of all runs, and the port's time as a part of the
-Rust crate's. With --page PAGE.md how many rows are ahead and behind stands between that page's lines
-`<!-- measured -->` and `<!-- end -->`; beside it the tables are written as page-rows.md, and two plots. Where the
-two have other results for the same operation and file, the line ends in DIFFERENT and the status is 1.
+Rust crate's. With --write they go into rows.md beside this script, after how many rows are ahead and behind, and
+two pictures into parts.svg and growth.svg. Where the two have other results for the same operation and file, the line
+ends in DIFFERENT and the status is 1.
 """
 
 import collections
@@ -102,8 +102,8 @@ STREAMS = {
 }
 ROWS_HEAD = """# Measured rows
 
-What `bench/table.py` wrote of the last run; [{page}]({page}) says how it was measured and what it
-means. Times are nanoseconds of one call, the part is the port's time as a part of the crate's.
+What `bench/run.sh --write` wrote of its last run; docs/PERFORMANCE.md says how it was measured and what it means.
+Times are nanoseconds of one call, the part is the port's time as a part of the crate's.
 """
 COLOURS = ["#1b6ca8", "#c0392b", "#27864a", "#8e44ad", "#b9770e", "#444444", "#16a0a0"]
 
@@ -372,22 +372,17 @@ def plot_growth(rows):
 
 def main():
     args = sys.argv[1:]
-    page = None
-    if args and args[0] == "--page":
-        page, args = pathlib.Path(args[1]), args[2:]
-    rows = read(args)
+    is_written = args[:1] == ["--write"]
+    rows = read(args[1:] if is_written else args)
     found = parts(rows)
     tables = [list(table) for table in (parts_table(found), peers_table(rows), growth_table(rows), streams_table(rows))]
     body = "\n\n".join("\n".join(table) for table in tables if len(table) > 2) + "\n"
     print(f"{summary(found)}\n\n{body}")
-    if page:
-        name = page.stem.lower()
-        (page.parent / f"{name}-parts.svg").write_text(plot_parts(found))
-        (page.parent / f"{name}-growth.svg").write_text(plot_growth(rows))
-        front, rest = page.read_text().split("<!-- measured -->\n", 1)
-        _, back = rest.split("<!-- end -->\n", 1)
-        page.write_text(f"{front}<!-- measured -->\n\n{summary(found)}\n\n<!-- end -->\n{back}")
-        (page.parent / f"{name}-rows.md").write_text(f"{ROWS_HEAD.format(page=page.name)}\n{body}")
+    if is_written:
+        here = pathlib.Path(__file__).resolve().parent
+        (here / "rows.md").write_text(f"{ROWS_HEAD}\n{summary(found)}\n\n{body}")
+        (here / "parts.svg").write_text(plot_parts(found))
+        (here / "growth.svg").write_text(plot_growth(rows))
     return 0 if all(row.same for row in found) else 1
 
 

@@ -1,7 +1,8 @@
 #!/usr/bin/python3 -B
 """Asks all drivers all cases, and makes the two pages of the comparison: report.py WORK [FOLDER]
 
-WORK is the folder of compare/build.sh. The pages are written into FOLDER; with no FOLDER they are printed."""
+WORK is the folder of compare/build.sh. COMPARISON.md is written into FOLDER, and all cases into cases.md beside this
+script; with no FOLDER both are printed."""
 
 import datetime
 import platform
@@ -15,7 +16,7 @@ import corpus
 from ask import DIED, HUNG, ask, libraries
 from corpus import ACCEPT, REFUSE, RULES, UNSAID
 
-PAGE, CASES = "COMPARISON.md", "comparison-cases.md"
+PAGE, CASES = "COMPARISON.md", "cases.md"
 RANDOM_MESSAGES = 100_000
 MOST_FAILURES = 40  # a driver that died or hung at so many cases isn't asked the rest
 CHAIN = 1100  # the longest row of pointers that is tried
@@ -182,7 +183,8 @@ class Report:
             "What DNS libraries accept as a name in a message and as a name's text, how they order names, and what "
             "the standard says of it. `compare/run.sh WORK docs` builds a driver for each library that is there, "
             f"asks all of them the same {len(self.cases)} cases (`compare/corpus.py`, which takes what is expected "
-            f"from the standard's text alone), and writes this page and [the table of all cases]({CASES}): here on "
+            "from the standard's text alone), and writes this page and [the table of all "
+            f"cases](../compare/{CASES}): here on "
             f"{datetime.date.today().isoformat()}, {platform.system()} {platform.machine()}. Nothing is said of a "
             "library but what that run saw of the version below. What hostile messages cost in each: "
             "[COST.md](COST.md)."), "")
@@ -220,7 +222,8 @@ class Report:
                 for group in WHERE}
         self.say("## How often each differs from the standard's text", "", filled(
             "Of the cases of which it says something. The random messages are held against a reader of twenty lines "
-            f"([its rules]({CASES}#random-messages)); the last column is how many pointers in a row a library "
+            f"([its rules](../compare/{CASES}#random-messages)); the last column is how many pointers in a row a "
+            "library "
             f"follows, of up to {CHAIN:,}."), "",
             "| | " + " | ".join(f"{WHERE[group]}, {len(cases)}" for group, cases in told.items())
             + f" | random messages, {RANDOM_MESSAGES:,} | pointers |", "|---|" + "--:|" * (len(told) + 2))
@@ -301,7 +304,7 @@ class Report:
     def all_cases(self):
         self.page = self.pages[CASES]
         self.say("# Every case of the comparison", "", filled(
-            f"What [{PAGE}]({PAGE}) sums up, as `compare/run.sh WORK docs` wrote it on "
+            f"What docs/{PAGE} sums up, as `compare/run.sh WORK docs` wrote it on "
             f"{datetime.date.today().isoformat()}. Bold is what the standard's text contradicts. Where it says "
             "nothing ('unsaid'), 'yes' is the name that one would read. died, hung: what the driver did at this "
             f"case, in 5 seconds; ?: not asked, after {MOST_FAILURES} such cases; -: no such call."), "")
@@ -404,7 +407,8 @@ def main():
     for name, lines in report.pages.items():
         text = "\n".join(lines).rstrip("\n") + "\n"
         if len(sys.argv) > 2:
-            Path(sys.argv[2], name).write_text(text, encoding="utf-8")
+            folder = Path(__file__).resolve().parent if name == CASES else Path(sys.argv[2])
+            Path(folder, name).write_text(text, encoding="utf-8")
         else:
             print(text)
     print(report.last_line())

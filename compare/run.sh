@@ -1,7 +1,7 @@
 #!/usr/bin/env bash
 # Builds the drivers of the libraries that are there, asks all of them all cases, and writes the two pages of it.
 #
-#   compare/run.sh WORK FOLDER    writes FOLDER/COMPARISON.md and FOLDER/comparison-cases.md (docs has the last ones)
+#   compare/run.sh WORK FOLDER    writes FOLDER/COMPARISON.md (docs has the last one), and cases.md beside this script
 #   compare/run.sh WORK           prints both
 #
 # WORK is the folder to build in; compare/build.sh tells the variables. What is built, and what isn't and why, goes to
