@@ -3,7 +3,7 @@
 
     table.py ANSWERER [WORD ..]
 
-ANSWERER is a command that answers lines of the protocol of docs/CONFORMANCE.md: the Rust crate behind it. Where
+ANSWERER is a command that answers the lines of README.md beside this file: the Rust crate behind it. Where
 that one gives three columns with tabs between, the third is taken: what is documented in place of a fault of the
 crate. Answers that stand here beside their line, from the standards or from the documented behaviour, must be the
 same as the ANSWERER's, except those of `own`, which it can't give. No answer comes from the program itself.

@@ -4,9 +4,9 @@
     table.py ANSWERER [WORD ..]
     table.py --random COUNT SEED
 
-ANSWERER is a command that answers the lines of docs/conformance-messages.md; those of `answers` and `limit` are answered
-by second.py. No answer comes from the program itself. Parts of answers that stand here beside their line must be in what
-is answered.
+ANSWERER is a command that answers the lines of README.md beside this file; those of `answers` and `limit` are answered by
+second.py. No answer comes from the program itself. Parts of answers that stand here beside their line must be in what is
+answered.
 
 With --random it prints lines of so many random and mutated messages, always the same for a SEED.
 """

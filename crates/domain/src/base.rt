@@ -94,7 +94,7 @@ pub mod header {
     pub use domain_header::{Header, HeaderCounts, HeaderSection};
 }
 
-/// Messages and their sections (RFC 1035, 4.1). docs/domain_message.md tells how to read one.
+/// Messages and their sections (RFC 1035, 4.1). The README.md of `domain_message` tells how to read one.
 pub mod message {
     pub use domain_header::ShortMessage;
     pub use domain_message::{

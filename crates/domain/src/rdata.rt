@@ -1,4 +1,4 @@
-//! Data of records by their types. docs/domain_data.md tells the calls.
+//! Data of records by their types. The README.md of `domain_data` tells the calls.
 
 pub use domain_all_data::AllRecordData;
 pub use domain_data::{A, Aaaa, Cname, Dname, Mx, Ns, Ptr, Soa, Srv};

@@ -78,8 +78,8 @@ fn pointers_at_with<L: Ledger>(octets: &[u8], place: usize, name: &[u8], blank: 
     }
 }
 
-/// The first end of the name that is read at the offset, without case, of those that begin before `upto`; and
-/// through how many pointers. The root alone is no end.
+/// The longest suffix of the name that is read at the offset, ignoring case, of those that begin before `upto`, and
+/// through how many pointers it is read. The root alone is none.
 fn suffix_at(octets: &[u8], place: usize, name: &[u8], upto: usize) -> Option<(usize, u8)>
     requires { IsAbsoluteWire name.now }
     ensures none { IsNone result → NoSuffixAt octets.now place name.now upto }
