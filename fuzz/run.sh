@@ -1,18 +1,25 @@
 #!/usr/bin/env bash
-# Fuzzes the library for C, guided by the coverage of the second reader (fuzz/reader.h): fuzz/run.sh SECONDS [WORK]
+# Fuzzes the library for C, guided by the coverage of the second reader (fuzz/reader.h):
+#
+#   fuzz/run.sh SECONDS [WORK] [--write]
 #
 # SECONDS  in all, shared by the harnesses
 # WORK     the folder to build in, and for the inputs found (a new one of mktemp)
+# --write  what is printed is written into last-run.md beside this script, too
 #
 # It begins with the inputs of fuzz/corpus, and stops at the first difference with the input saved in WORK/found. The
 # last line has the runs, the runs a second and the differences; the line before it the branches of the second reader
 # that the runs covered. fuzz/build.sh tells what is needed.
 set -eu
 here=$(cd "$(dirname "$0")" && pwd)
-seconds=${1:?seconds}
-work=${2:-$(mktemp -d)}
+seconds=${1:?seconds} write=
+shift
+if [ "${!#}" = --write ]; then write=1 && set -- "${@:1:$#-1}"; fi
+work=${1:-$(mktemp -d)}
 mkdir -p "$work/found"
 work=$(cd "$work" && pwd)
+: > "$work/told"
+tell() { echo "$*" | tee -a "$work/told"; }
 "$here/build.sh" "$work"
 "$here/build.sh" "$work/coverage" -fprofile-instr-generate -fcoverage-mapping
 harnesses=(read skip text order compress)
@@ -26,7 +33,7 @@ for harness in "${harnesses[@]}"; do
         grep 'not so' "$work/$harness.log" || tail -n 3 "$work/$harness.log"
     fi
     count=$(sed -n 's/^stat::number_of_executed_units: *//p' "$work/$harness.log")
-    echo "$harness: ${count:-0} runs, $(find "$work/corpus/$harness" -type f | wc -l) inputs kept"
+    tell "$harness: ${count:-0} runs, $(find "$work/corpus/$harness" -type f | wc -l) inputs kept"
     runs=$((runs + ${count:-0}))
     [ "$differences" -eq 0 ] || break
 done
@@ -44,7 +51,13 @@ find_tool() {
 "$(find_tool llvm-cov)" report "${objects[@]:1}" -instr-profile "$work/coverage/all.profdata" "$here/reader.h" | awk '
     $1 ~ /reader\.h$/ {
         print "branches of the second reader: " $(NF - 2) ", of them not taken: " $(NF - 1) " (" $NF " taken)"
-    }'
-echo "$runs runs, $((runs / (took > 0 ? took : 1))) a second, $differences differences"
+    }' | tee -a "$work/told"
+tell "$runs runs, $((runs / (took > 0 ? took : 1))) a second, $differences differences"
 [ "$differences" -eq 0 ] || echo "the input: $(ls "$work"/found/*)"
+if [ -n "$write" ]; then
+    {
+        printf '# The last run of the fuzzer\n\n`fuzz/run.sh %s --write` of %s.\n\n' "$seconds" "$(date +%F)"
+        sed 's/^/    /' "$work/told"
+    } > "$here/last-run.md"
+fi
 exit "$differences"
