@@ -5,7 +5,7 @@ ghost use Rattle.domain_label.specs.Wire.{labels_in, IsWire, IsAbsoluteWire};
 ghost use Rattle.dnsnames_c.specs.Plans.{IsTable, Plans, WritesName, HasNoRoom, Appends, more_of_table};
 
 use crate::put::put;
-use domain_compress::plan::{more_offsets, plan, pointed};
+use domain_compress::plan::{more_offsets, plan, put_pointed};
 use domain_name::Name;
 
 /// Whether these are at most 128 offsets to which a pointer can lead.
@@ -70,13 +70,14 @@ fn write_name(octets: &mut [u8], start: usize, table: &[u16], name: &[u8]) -> Op
 {
     match plan(&octets[..start], table, name) {
         Some(beginning) => {
-            let text = pointed(name, beginning.begin, beginning.offset);
-            if !put(text.as_slice(), octets, start) {
+            let mut text = [0; 255];
+            let len = put_pointed(name, beginning.begin, beginning.offset, &mut text);
+            if !put(&text[..len], octets, start) {
                 return None;
             }
             Some(Written {
                 begin: beginning.begin,
-                end: start + text.len(),
+                end: start + len,
             })
         }
         None => {

@@ -7,7 +7,7 @@ ghost use Rattle.domain_compress.specs.Hashes.{IsKnown, AreListed};
 ghost use Rattle.domain_compress.specs.MayWrite.{MayWrite};
 ghost use Rattle.domain_compress.specs.Written.{all_remembered};
 
-use crate::plan::{find_beginning, pointed};
+use crate::plan::{find_beginning, put_pointed};
 use crate::written::Written;
 use octseq::OctetsBuilder;
 
@@ -31,8 +31,9 @@ pub(crate) fn append_beginning<Target: OctetsBuilder>(
     let Some(beginning) = find_beginning(target.as_slice(), written, hashes, name, hashed) else {
         return Ok(None);
     };
-    let octets = pointed(name, beginning.begin, beginning.offset);
-    match target.append_slice(octets.as_slice()) {
+    let mut octets = [0; 255];
+    let len = put_pointed(name, beginning.begin, beginning.offset, &mut octets);
+    match target.append_slice(&octets[..len]) {
         Ok(()) => Ok(Some(beginning.begin)),
         Err(e) => Err(e),
     }

@@ -11,6 +11,7 @@ use crate::remember::remember;
 use crate::search::longest_end;
 use crate::written::Written;
 use arrayvec::ArrayVec;
+use domain_list::composing::put_octets;
 
 /// The most pointers that lead along a name.
 const MAX_POINTERS: u8 = 255;
@@ -60,21 +61,21 @@ pub(crate) fn pointer(offset: u16) -> [u8; 2]
     (49152 + offset).to_be_bytes()
 }
 
-/// The first `begin` octets of a name, and a pointer to an offset after them (RFC 1035, 4.1.4).
-pub fn pointed(name: &[u8], begin: usize, offset: u16) -> ArrayVec<u8, 255>
+/// Puts the first `begin` octets of a name, and a pointer to an offset after them (RFC 1035, 4.1.4), at the beginning
+/// of a buffer, and returns how many octets there are.
+#[inline(always)]
+pub fn put_pointed(name: &[u8], begin: usize, offset: u16, octets: &mut [u8; 255]) -> usize
     requires low { offset < 16384 }
     requires inside { begin + 2 ≤ length name.now }
     requires short { length name.now ≤ 255 }
-    ensures { result.items ≡ take begin name.now ++ pointer_to offset }
+    ensures size { result ≡ begin + 2 }
+    ensures octets { take result octets.new ≡ take begin name.now ++ pointer_to offset }
 {
-    let mut octets = ArrayVec::new();
-    let Ok(()) = octets.try_extend_from_slice(&name[..begin]) else {
-        unreachable!();
-    };
-    let Ok(()) = octets.try_extend_from_slice(&pointer(offset)) else {
-        unreachable!();
-    };
-    octets
+    let [high, low] = pointer(offset);
+    put_octets(&name[..begin], octets, 0);
+    octets[begin] = high;
+    octets[begin + 1] = low;
+    begin + 2
 }
 
 /// What stands at the offsets of a table, with no hash.

@@ -38,11 +38,11 @@ fn put_label(label: Label, octets: &mut [u8; 255], len: usize) -> usize
     end
 }
 
-/// Puts octets at a place of a buffer.
+/// Puts octets after the first `place` octets of a buffer.
 ///
 /// Most labels are short: they are copied without a loop and without a call.
 #[inline(always)]
-fn put_octets(from: &[u8], octets: &mut [u8; 255], place: usize)
+pub fn put_octets(from: &[u8], octets: &mut [u8; 255], place: usize)
     requires { place + length from.now ≤ 255 }
     ensures { take (place + length from.now) octets.new ≡ take place octets.old ++ from.now }
 {

@@ -5,3 +5,4 @@ pub mod NoNamePastEnd
 pub mod Dropping
 pub mod Splitting
 pub mod ParsedFields
+pub mod Running

@@ -1,5 +1,5 @@
 //! A name in a message.
-ghost use Rattle.std.specs.Prelude.{◌≡◌, ◌≤◌, ◌<◌, ◌+◌, ◌^◌, ◌∷◌, ◌++◌, ◌↔◌, ℕ, List, [], length, slice_range, unwrap_or, IfOk, IfErr, IfSome, IsSome, IsNone, OnOk, OnErr, IsOk, IsTrue, MatchBool, MatchResult, true, false, ⊤};
+ghost use Rattle.std.specs.Prelude.{◌≡◌, ◌≤◌, ◌<◌, ◌+◌, ◌^◌, ◌∷◌, ◌++◌, ◌↔◌, ℕ, List, [], length, slice_range, take, unwrap_or, IfOk, IfErr, IfSome, IsSome, IsNone, OnOk, OnErr, IsOk, IsTrue, MatchBool, MatchResult, true, false, ⊤};
 ghost use Rattle.domain_label.specs.Wire.{wire, Root, IsAbsoluteName};
 ghost use Rattle.domain_label.proofs.WireLaws.{IsAbsoluteName_prop};
 ghost use Rattle.domain_reading.specs.Grammar.{Names, IsContiguous};
@@ -8,6 +8,7 @@ ghost use Rattle.domain_reading.specs.Offsets.{AreLabelOffsets, labels_at_entrie
 
 use crate::flat::read_flat;
 use crate::iter::ParsedNameIter;
+use crate::runs::put_runs;
 use crate::suffixes::ParsedSuffixIter;
 use arrayvec::ArrayVec;
 use domain_label::Label;
@@ -21,7 +22,7 @@ use domain_reading::progress::Progress;
 use domain_reading::read::read_name_counted;
 use domain_reading::table::{MAX_LABELS, entry_offset};
 use domain_wire::ParseError;
-use octseq::{Octets, OctetsFrom, Parser, ShortBuf};
+use octseq::{Octets, OctetsBuilder, OctetsFrom, Parser, ShortBuf};
 use std::alloc::{AllocError, Global};
 use std::marker::Brand;
 use std::ops::Range;
@@ -481,6 +482,52 @@ impl<Octs: Octets> ParsedName<Octs> {
         ensures { result ≡ length (wire (parsed_labels self.now)) }
     {
         self.name_len
+    }
+
+    /// Appends the wire format, without compression (RFC 1035, 3.1), or nothing: what `ToName::compose` does, in less
+    /// time. Labels that stand in a row in the message are copied at once.
+    ///
+    /// The target's error where the octets don't fit, or where there was no memory for them; the target is then as
+    /// before. Where they fit its spare capacity, there is none.
+    #[inline(always)]
+    pub fn compose<Target: OctetsBuilder>(
+        &self,
+        target: &mut Target,
+    ) -> Result<(), Target::AppendError>
+        ensures ok { OnOk result (Target.octets target.new ≡ Target.octets target.old ++ wire (parsed_labels self.now)) }
+        ensures unchanged { OnErr result (Target.octets target.new ≡ Target.octets target.old) }
+        ensures full { OnErr result (Target.capacity target.old < length (Target.octets target.old) + length (wire (parsed_labels self.now))) }
+        ensures capacity { Target.capacity target.old ≤ Target.capacity target.new }
+        ensures within { IfSome Target.limit (λ n. length (Target.octets target.new) ≤ n) }
+        ensures fixed { IfSome Target.limit (λ n. Target.capacity target.old ≡ n) }
+    {
+        if let Some(flat) = self.flat_octets() {
+            return target.append_slice(flat);
+        }
+        let mut octets = [0; 255];
+        let len = self.put_labels::<Brand>(&mut octets, Blank::new(1));
+        target.append_slice(&octets[..len])
+    }
+
+    /// Puts the wire format at the beginning of a buffer, and returns how many octets it has.
+    #[inline(always)]
+    fn put_labels<L: Ledger>(&self, octets: &mut [u8; 255], blank: Blank) -> usize
+        requires ledger { blank.name ≡ L.name }
+        requires parts { blank.parts ≡ L.parts }
+        requires some { 0 < blank.parts }
+        ensures size { result ≡ length (wire (parsed_labels self.now)) }
+        ensures wire { take result octets.new ≡ wire (parsed_labels self.now) }
+        ensures fits { result ≤ 255 }
+    {
+        let entries = &self.entries[usize::from(self.dropped)..usize::from(self.count)];
+        let mut heads = Heads::<L>::new(blank);
+        put_runs(
+            self.octets.as_slice(),
+            self.base,
+            entries,
+            octets,
+            &mut heads,
+        )
     }
 
     /// The octets of a name that is uncompressed from its first label on.
