@@ -370,8 +370,15 @@ impl<Octs: Octets> ParsedName<Octs> {
     pub fn iter(&self) -> ParsedNameIter<'_>
         ensures { labels_left result ≡ parsed_labels self.now }
     {
-        let entries = &self.entries[usize::from(self.dropped)..usize::from(self.count)];
-        ParsedNameIter::new(self.octets.as_slice(), self.base, entries)
+        ParsedNameIter::new(self.octets.as_slice(), self.base, self.remaining_entries())
+    }
+
+    /// The entries of the labels that remain.
+    #[inline(always)]
+    fn remaining_entries(&self) -> &[u16]
+        ensures { result.now ≡ slice_range self.now.entries self.now.dropped self.now.count }
+    {
+        &self.entries[usize::from(self.dropped)..usize::from(self.count)]
     }
 
     /// Whether the name begins with the labels of `other`, a name of any kind, ignoring ASCII case.
@@ -519,7 +526,7 @@ impl<Octs: Octets> ParsedName<Octs> {
         ensures wire { take result octets.new ≡ wire (parsed_labels self.now) }
         ensures fits { result ≤ 255 }
     {
-        let entries = &self.entries[usize::from(self.dropped)..usize::from(self.count)];
+        let entries = self.remaining_entries();
         let mut heads = Heads::<L>::new(blank);
         put_runs(
             self.octets.as_slice(),
