@@ -83,10 +83,16 @@ fn set(out: &mut Answer, header: &mut Header, counts: &mut HeaderCounts, word: &
         counts.set_arcount(number);
     } else if is(word, b"id") {
         header.set_id(number);
-    } else if is(word, b"opcode") && number < 16 {
-        header.set_opcode(Opcode::from_int(number as u8));
-    } else if is(word, b"rcode") && number < 16 {
-        header.set_rcode(Rcode::from_int(number as u8));
+    } else if is(word, b"opcode") && number < 256 {
+        match Opcode::checked_from_int(number as u8) {
+            Some(opcode) => header.set_opcode(opcode),
+            None => out.fail(Fail::Bad),
+        }
+    } else if is(word, b"rcode") && number < 256 {
+        match Rcode::checked_from_int(number as u8) {
+            Some(rcode) => header.set_rcode(rcode),
+            None => out.fail(Fail::Bad),
+        }
     } else if number < 2 {
         set_flag(out, header, word, number == 1);
     } else {

@@ -15,8 +15,8 @@ ttl_seconds ttl = ttl.0
 
 -- the number of a kind of query
 abbrev pub opcode_number : Opcode → ℕ
-opcode_number code = code.0
+opcode_number code = code.number
 
 -- the number of a response code
 abbrev pub rcode_number : Rcode → ℕ
-rcode_number code = code.0
+rcode_number code = code.number

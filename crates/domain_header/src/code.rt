@@ -1,5 +1,5 @@
 //! What is asked for, and how it went: the two codes of four bits in a header.
-ghost use Rattle.std.specs.Prelude.{◌≡◌, ◌%◌, Some};
+ghost use Rattle.std.specs.Prelude.{◌≡◌, ◌≤◌, ◌<◌, ◌%◌, ◌↔◌, IfSome, IsNone, Some};
 ghost use Rattle.domain_header.specs.Mnemonics.{rows_of};
 ghost use Rattle.domain_header.specs.Tables.{opcode_rows, rcode_rows};
 
@@ -96,23 +96,41 @@ fn rcodes() -> &'static [Mnemonic]
 
 /// The kind of query: a number of 4 bits (RFC 1035, 4.1.1).
 #[derive(Clone, Copy, Debug, PartialEq, Eq, PartialOrd, Ord, Hash)]
-pub struct Opcode(u8);
+pub struct Opcode {
+    number: u8,
+    ghost four_bits: { number < 16 },
+}
 
 impl Opcode {
     ghost use Rattle.domain_header.specs.Values.{opcode_number};
 
-    /// The code of the lower four bits of this number.
-    pub fn from_int(number: u8) -> Opcode
-        ensures { opcode_number result ≡ number % 16 }
+    /// The code of this number. `None` exactly if it has more than four bits.
+    pub fn checked_from_int(number: u8) -> Option<Opcode>
+        ensures some { IfSome result (λ code. opcode_number code ≡ number) }
+        ensures none { IsNone result ↔ (16 ≤ number) }
     {
-        Opcode(number % 16)
+        if number < 16 {
+            Some(Opcode { number })
+        } else {
+            None
+        }
     }
 
-    /// The number.
-    pub fn to_int(self) -> u8
-        ensures { result ≡ opcode_number self }
+    /// The code of the lower four bits of this number.
+    pub fn masked_from_int(number: u8) -> Opcode
+        ensures { opcode_number result ≡ number % 16 }
     {
-        self.0
+        Opcode {
+            number: number % 16,
+        }
+    }
+
+    /// The number, which has at most four bits.
+    pub fn to_int(self) -> u8
+        ensures number { result ≡ opcode_number self }
+        ensures four_bits { result < 16 }
+    {
+        self.number
     }
 }
 
@@ -124,7 +142,7 @@ impl fmt::Display for Opcode {
     ghost output = { λ value. Some (opcode_text (opcode_number value)) };
 
     fn fmt<W: fmt::Write>(&self, f: &mut fmt::Formatter<W>) -> fmt::Result {
-        let number = self.0;
+        let number = self.number;
         match mnemonic_word(opcodes(), u16::from(number)) {
             Some(word) => write!(f, "{word}"),
             None => write!(f, "OPCODE{number}"),
@@ -132,25 +150,45 @@ impl fmt::Display for Opcode {
     }
 }
 
-/// The response code: a number of 4 bits (RFC 1035, 4.1.1).
+/// The response code of a header: a number of 4 bits (RFC 1035, 4.1.1).
+///
+/// A message with an OPT record has eight more bits there (RFC 6891, 6.1.3), so of BADVERS, 16, this is 0, NOERROR.
 #[derive(Clone, Copy, Debug, PartialEq, Eq, PartialOrd, Ord, Hash)]
-pub struct Rcode(u8);
+pub struct Rcode {
+    number: u8,
+    ghost four_bits: { number < 16 },
+}
 
 impl Rcode {
     ghost use Rattle.domain_header.specs.Values.{rcode_number};
 
-    /// The code of the lower four bits of this number.
-    pub fn from_int(number: u8) -> Rcode
-        ensures { rcode_number result ≡ number % 16 }
+    /// The code of this number. `None` exactly if it has more than four bits.
+    pub fn checked_from_int(number: u8) -> Option<Rcode>
+        ensures some { IfSome result (λ code. rcode_number code ≡ number) }
+        ensures none { IsNone result ↔ (16 ≤ number) }
     {
-        Rcode(number % 16)
+        if number < 16 {
+            Some(Rcode { number })
+        } else {
+            None
+        }
     }
 
-    /// The number.
-    pub fn to_int(self) -> u8
-        ensures { result ≡ rcode_number self }
+    /// The code of the lower four bits of this number.
+    pub fn masked_from_int(number: u8) -> Rcode
+        ensures { rcode_number result ≡ number % 16 }
     {
-        self.0
+        Rcode {
+            number: number % 16,
+        }
+    }
+
+    /// The number, which has at most four bits.
+    pub fn to_int(self) -> u8
+        ensures number { result ≡ rcode_number self }
+        ensures four_bits { result < 16 }
+    {
+        self.number
     }
 }
 
@@ -162,7 +200,7 @@ impl fmt::Display for Rcode {
     ghost output = { λ value. Some (rcode_text (rcode_number value)) };
 
     fn fmt<W: fmt::Write>(&self, f: &mut fmt::Formatter<W>) -> fmt::Result {
-        let number = self.0;
+        let number = self.number;
         match mnemonic_word(rcodes(), u16::from(number)) {
             Some(word) => write!(f, "{word}"),
             None => write!(f, "RCODE{number}"),

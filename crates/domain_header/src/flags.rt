@@ -20,7 +20,7 @@ fn with_bits(octet: u8, weight: u8, values: u8, value: u8) -> u8
     (above + u16::from(value) * u16::from(weight) + below) as u8
 }
 
-/// The first four octets of a message: its identifier and its flags (RFC 1035, 4.1.1; AD and CD RFC 2535, 6.1).
+/// The first four octets of a message: its identifier and its flags (RFC 1035, 4.1.1; AD and CD RFC 4035, 3.1.6 and 3.2).
 #[derive(Clone, Copy, Debug, PartialEq, Eq)]
 pub struct Header {
     id: u16,
@@ -102,14 +102,14 @@ impl Header {
     pub fn opcode(self) -> Opcode
         ensures { opcode_number result ≡ bits 8 16 (header_high self) }
     {
-        Opcode::from_int(self.high / 8)
+        Opcode::masked_from_int(self.high / 8)
     }
 
     /// Sets the four bits OPCODE.
     pub fn set_opcode(&mut self, opcode: Opcode)
-        ensures { SetsHigh 8 16 (opcode_number opcode % 16) self.old self.new }
+        ensures { SetsHigh 8 16 (opcode_number opcode) self.old self.new }
     {
-        self.high = with_bits(self.high, 8, 16, opcode.to_int() % 16);
+        self.high = with_bits(self.high, 8, 16, opcode.to_int());
     }
 
     /// Whether the answer is from an authority: the bit AA.
@@ -210,17 +210,18 @@ impl Header {
         self.low = with_bits(self.low, 16, 2, u8::from(on));
     }
 
-    /// The response code: the four bits RCODE.
+    /// The response code: the four bits RCODE, which are the lower four where an OPT record has eight more (RFC 6891,
+    /// 6.1.3).
     pub fn rcode(self) -> Rcode
         ensures { rcode_number result ≡ bits 1 16 (header_low self) }
     {
-        Rcode::from_int(self.low)
+        Rcode::masked_from_int(self.low)
     }
 
     /// Sets the four bits RCODE.
     pub fn set_rcode(&mut self, rcode: Rcode)
-        ensures { SetsLow 1 16 (rcode_number rcode % 16) self.old self.new }
+        ensures { SetsLow 1 16 (rcode_number rcode) self.old self.new }
     {
-        self.low = with_bits(self.low, 1, 16, rcode.to_int() % 16);
+        self.low = with_bits(self.low, 1, 16, rcode.to_int());
     }
 }
