@@ -19,7 +19,7 @@ import dns.opcode
 import dns.rdata
 import dns.rdataclass
 
-CLASSES = {1: "IN", 3: "CH", 4: "HS", 254: "NONE", 255: "*"}
+CLASSES = {1: "IN", 3: "CH", 4: "HS", 254: "NONE", 255: "ANY"}
 KNOWN = (1, 2, 5, 6, 12, 15, 28, 33, 39)
 counts = collections.Counter()
 

@@ -10,7 +10,7 @@ and which of several comes first, are those of the Rust crate. Another line is a
 import ipaddress
 import sys
 
-CLASSES = {1: "IN", 3: "CH", 4: "HS", 254: "NONE", 255: "*"}
+CLASSES = {1: "IN", 3: "CH", 4: "HS", 254: "NONE", 255: "ANY"}
 SHORT = "unexpected end of input"
 
 

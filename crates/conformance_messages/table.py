@@ -25,8 +25,8 @@ A, NS, CNAME, SOA, PTR, MX, TXT, AAAA, SRV, DNAME, PRIVATE = 1, 2, 5, 6, 12, 15,
 KNOWN = (A, NS, CNAME, SOA, PTR, MX, AAAA, SRV, DNAME)
 FLAGS = {"qr": 15, "aa": 10, "tc": 9, "rd": 8, "ra": 7, "z": 6, "ad": 5, "cd": 4}
 OPCODES = {0: "QUERY", 1: "IQUERY", 2: "STATUS", 4: "NOTIFY", 5: "UPDATE", 6: "DSO"}
-RCODES = dict(enumerate("NOERROR FORMERR SERVFAIL NXDOMAIN NOTIMP REFUSED YXDOMAIN YXRRSET NXRRSET NOTAUTH NOTZONE".split()))
-CLASSES = {1: "IN", 3: "CH", 4: "HS", 254: "NONE", 255: "*"}
+RCODES = dict(enumerate("NOERROR FORMERR SERVFAIL NXDOMAIN NOTIMP REFUSED YXDOMAIN YXRRSET NXRRSET NOTAUTH NOTZONE DSOTYPENI".split()))
+CLASSES = {1: "IN", 3: "CH", 4: "HS", 254: "NONE", 255: "ANY"}
 
 
 def hx(octets):
@@ -157,7 +157,8 @@ def header_rows():
     for number, text in CLASSES.items():
         for way in (text, text.lower(), text.capitalize()):
             row("class", way.encode(), told=str(number))
-    for text in ("", "I", "INN", "IN ", " IN", "ANY", "CS", "CLASS1", "1", "\u0131N"):
+    row("class", b"*", told="255")
+    for text in ("", "I", "INN", "IN ", " IN", "AN", "**", "CS", "CLASS1", "1", "\u0131N"):
         row("class", text.encode(), told="none")
     row("class", b"\xff", told="bad")
 

@@ -3,7 +3,8 @@ use Rattle.std.specs.Prelude.{ℕ, List, [], ◌∷◌, codes}
 use Rattle.domain_header.specs.Mnemonics.{Row, mnemonic}
 use Rattle.domain_header.specs.Tables.{text_of}
 
--- types (RFC 1035, 3.2.2 and 3.2.3; the others as IANA registered them)
+-- types (RFC 1035, 3.2.2 and 3.2.3; the others as IANA registered them). These rows are those of the program once more;
+-- the rows of `conformance_messages` test them.
 abbrev pub rtype_rows : List Row
 rtype_rows = mnemonic 1 (codes "A") ∷ mnemonic 2 (codes "NS") ∷ mnemonic 3 (codes "MD") ∷ mnemonic 4 (codes "MF")
     ∷ mnemonic 5 (codes "CNAME") ∷ mnemonic 6 (codes "SOA") ∷ mnemonic 7 (codes "MB") ∷ mnemonic 8 (codes "MG")
@@ -24,14 +25,18 @@ rtype_rows = mnemonic 1 (codes "A") ∷ mnemonic 2 (codes "NS") ∷ mnemonic 3 (
     ∷ mnemonic 57 (codes "RKEY") ∷ mnemonic 58 (codes "TALINK") ∷ mnemonic 59 (codes "CDS")
     ∷ mnemonic 60 (codes "CDNSKEY") ∷ mnemonic 61 (codes "OPENPGPKEY") ∷ mnemonic 62 (codes "CSYNC")
     ∷ mnemonic 63 (codes "ZONEMD") ∷ mnemonic 64 (codes "SVCB") ∷ mnemonic 65 (codes "HTTPS")
+    ∷ mnemonic 66 (codes "DSYNC") ∷ mnemonic 67 (codes "HHIT") ∷ mnemonic 68 (codes "BRID")
     ∷ mnemonic 99 (codes "SPF") ∷ mnemonic 100 (codes "UINFO") ∷ mnemonic 101 (codes "UID")
     ∷ mnemonic 102 (codes "GID") ∷ mnemonic 103 (codes "UNSPEC") ∷ mnemonic 104 (codes "NID")
     ∷ mnemonic 105 (codes "L32") ∷ mnemonic 106 (codes "L64") ∷ mnemonic 107 (codes "LP")
-    ∷ mnemonic 108 (codes "EUI48") ∷ mnemonic 109 (codes "EUI64") ∷ mnemonic 249 (codes "TKEY")
+    ∷ mnemonic 108 (codes "EUI48") ∷ mnemonic 109 (codes "EUI64") ∷ mnemonic 128 (codes "NXNAME") ∷ mnemonic 249 (codes "TKEY")
     ∷ mnemonic 250 (codes "TSIG") ∷ mnemonic 251 (codes "IXFR") ∷ mnemonic 252 (codes "AXFR")
     ∷ mnemonic 253 (codes "MAILB") ∷ mnemonic 254 (codes "MAILA") ∷ mnemonic 255 (codes "ANY")
+    ∷ mnemonic 255 (codes "*")
     ∷ mnemonic 256 (codes "URI") ∷ mnemonic 257 (codes "CAA") ∷ mnemonic 258 (codes "AVC")
-    ∷ mnemonic 259 (codes "DOA") ∷ mnemonic 260 (codes "AMTRELAY") ∷ mnemonic 32768 (codes "TA")
+    ∷ mnemonic 259 (codes "DOA") ∷ mnemonic 260 (codes "AMTRELAY") ∷ mnemonic 261 (codes "RESINFO")
+    ∷ mnemonic 262 (codes "WALLET") ∷ mnemonic 263 (codes "CLA") ∷ mnemonic 264 (codes "IPN")
+    ∷ mnemonic 32768 (codes "TA")
     ∷ mnemonic 32769 (codes "DLV") ∷ []
 
 -- `TYPE` and the number where there is no mnemonic (RFC 3597, 5)

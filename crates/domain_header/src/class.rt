@@ -8,7 +8,9 @@ use crate::mnemonic::{Mnemonic, mnemonic_number, mnemonic_word};
 use crate::numbered::named_number;
 use std::fmt;
 
-const CLASSES: [Mnemonic; 5] = [
+// The classes of IANA's registry of DNS parameters, as far as they were known on 26 November 2026: it wasn't at hand then.
+// The first row of a number is its text, and each of its words is read.
+const CLASSES: [Mnemonic; 6] = [
     Mnemonic {
         number: 1,
         word: "IN",
@@ -27,6 +29,10 @@ const CLASSES: [Mnemonic; 5] = [
     },
     Mnemonic {
         number: 255,
+        word: "ANY",
+    },
+    Mnemonic {
+        number: 255,
         word: "*",
     },
 ];
@@ -39,6 +45,8 @@ fn classes() -> &'static [Mnemonic]
 }
 
 /// The class of a record: a number of 16 bits (RFC 1035, 3.2.4).
+///
+/// Any class, 255, is written `ANY` (RFC 2136, 2.4), and is read from `*` as well (RFC 1035, 3.2.5).
 #[derive(Clone, Copy, Debug, PartialEq, Eq, PartialOrd, Ord, Hash)]
 pub struct Class(u16);
 

@@ -6,6 +6,7 @@ ghost use Rattle.domain_header.specs.Tables.{opcode_rows, rcode_rows};
 use crate::mnemonic::{Mnemonic, mnemonic_word};
 use std::fmt;
 
+// The codes of IANA's registry of DNS parameters, as far as they were known on 26 November 2026: it wasn't at hand then.
 const OPCODES: [Mnemonic; 6] = [
     Mnemonic {
         number: 0,
@@ -40,7 +41,8 @@ fn opcodes() -> &'static [Mnemonic]
     &OPCODES
 }
 
-const RCODES: [Mnemonic; 11] = [
+// As the table above: the response codes that four bits can tell.
+const RCODES: [Mnemonic; 12] = [
     Mnemonic {
         number: 0,
         word: "NOERROR",
@@ -84,6 +86,10 @@ const RCODES: [Mnemonic; 11] = [
     Mnemonic {
         number: 10,
         word: "NOTZONE",
+    },
+    Mnemonic {
+        number: 11,
+        word: "DSOTYPENI",
     },
 ];
 

@@ -14,7 +14,9 @@ macro_rules! mnemonic {
     };
 }
 
-const RTYPES: [Mnemonic; 89] = [
+// The types of IANA's registry of DNS parameters, as far as they were known on 26 November 2026: it wasn't at hand then.
+// The first row of a number is its text, and each of its words is read.
+const RTYPES: [Mnemonic; 98] = [
     mnemonic!(1, "A"),
     mnemonic!(2, "NS"),
     mnemonic!(3, "MD"),
@@ -79,6 +81,9 @@ const RTYPES: [Mnemonic; 89] = [
     mnemonic!(63, "ZONEMD"),
     mnemonic!(64, "SVCB"),
     mnemonic!(65, "HTTPS"),
+    mnemonic!(66, "DSYNC"),
+    mnemonic!(67, "HHIT"),
+    mnemonic!(68, "BRID"),
     mnemonic!(99, "SPF"),
     mnemonic!(100, "UINFO"),
     mnemonic!(101, "UID"),
@@ -90,6 +95,7 @@ const RTYPES: [Mnemonic; 89] = [
     mnemonic!(107, "LP"),
     mnemonic!(108, "EUI48"),
     mnemonic!(109, "EUI64"),
+    mnemonic!(128, "NXNAME"),
     mnemonic!(249, "TKEY"),
     mnemonic!(250, "TSIG"),
     mnemonic!(251, "IXFR"),
@@ -97,16 +103,22 @@ const RTYPES: [Mnemonic; 89] = [
     mnemonic!(253, "MAILB"),
     mnemonic!(254, "MAILA"),
     mnemonic!(255, "ANY"),
+    mnemonic!(255, "*"),
     mnemonic!(256, "URI"),
     mnemonic!(257, "CAA"),
     mnemonic!(258, "AVC"),
     mnemonic!(259, "DOA"),
     mnemonic!(260, "AMTRELAY"),
+    mnemonic!(261, "RESINFO"),
+    mnemonic!(262, "WALLET"),
+    mnemonic!(263, "CLA"),
+    mnemonic!(264, "IPN"),
     mnemonic!(32768, "TA"),
     mnemonic!(32769, "DLV"),
 ];
 
-/// Returns the table of the mnemonics of types (RFC 1035, 3.2.2 and 3.2.3, and IANA's registry of DNS parameters).
+/// Returns the table of the mnemonics of types (RFC 1035, 3.2.2 and 3.2.3, and IANA's registry of DNS parameters). Any
+/// type, 255, is written `ANY`, and is read from `*` as well.
 pub fn rtypes() -> &'static [Mnemonic]
     ensures { rows_of result.now ≡ rtype_rows }
 {
