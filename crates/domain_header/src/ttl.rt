@@ -1,10 +1,12 @@
 //! TTLs.
-ghost use Rattle.std.specs.Prelude.{◌≡◌, Some};
+ghost use Rattle.std.specs.Prelude.{◌≡◌, ◌≤◌, ◌<◌, ◌-◌, ◌^◌, min, Some};
 ghost use Rattle.std.specs.Fmt.{decimal};
 
 use std::fmt;
 
 /// How long a record may be cached: seconds, in 32 bits (RFC 1035, 3.2.1).
+///
+/// It is the number that is in the record. One past 2^31 - 1 counts as zero (RFC 2181, 8): see `for_cache`.
 #[derive(Clone, Copy, Debug, PartialEq, Eq, PartialOrd, Ord, Hash)]
 pub struct Ttl(u32);
 
@@ -23,6 +25,36 @@ impl Ttl {
         ensures { result ≡ ttl_seconds self }
     {
         self.0
+    }
+
+    /// The TTL that a cache goes by: zero where it is past 2^31 - 1 seconds, and else as it is (RFC 2181, 8).
+    pub fn for_cache(self) -> Ttl
+        ensures valid { ttl_seconds self < 2 ^ 31 → ttl_seconds result ≡ ttl_seconds self }
+        ensures past { 2 ^ 31 ≤ ttl_seconds self → ttl_seconds result ≡ 0 }
+    {
+        if self.0 < 0x8000_0000 { self } else { Ttl(0) }
+    }
+
+    /// This TTL, or 604,800 seconds, a week, where it is longer: what RFC 8767, 4 recommends at most. Take `for_cache`
+    /// first: a TTL past 2^31 - 1 is a week here, too.
+    pub fn cap(self) -> Ttl
+        ensures { ttl_seconds result ≡ min (ttl_seconds self) 604800 }
+    {
+        self.min(Ttl(604_800))
+    }
+
+    /// The shorter of the two.
+    pub fn min(self, other: Ttl) -> Ttl
+        ensures { ttl_seconds result ≡ min (ttl_seconds self) (ttl_seconds other) }
+    {
+        if self.0 < other.0 { self } else { other }
+    }
+
+    /// What is left of it after another: zero where that is longer.
+    pub fn saturating_sub(self, other: Ttl) -> Ttl
+        ensures { ttl_seconds result ≡ ttl_seconds self - ttl_seconds other }
+    {
+        Ttl(self.0.saturating_sub(other.0))
     }
 }
 
