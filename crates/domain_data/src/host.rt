@@ -3,6 +3,8 @@ ghost use Rattle.std.specs.Prelude.{◌≡◌};
 
 use crate::fields::FieldsData;
 use domain_fields::{NameField, Sequence, UncompressedNameField};
+use domain_header::Ttl;
+use domain_serial::Serial;
 
 /// The name that the owner stands for (RFC 1035, 3.3.1).
 pub type Cname<N> = FieldsData<5, NameField<N>>;
@@ -196,35 +198,36 @@ impl<N> Srv<N> {
 
 impl<N> Soa<N> {
     ghost use Rattle.domain_data.specs.Views.{fields_of, type_of};
+    ghost use Rattle.domain_header.specs.Values.{ttl_seconds};
 
-    /// Data of these.
+    /// Data of these. On the wire the serial and the times are numbers of 32 bits, as they are here.
     pub fn new(
         mname: N,
         rname: N,
-        serial: u32,
-        refresh: u32,
-        retry: u32,
-        expire: u32,
-        minimum: u32,
+        serial: Serial,
+        refresh: Ttl,
+        retry: Ttl,
+        expire: Ttl,
+        minimum: Ttl,
     ) -> Soa<N>
         ensures mname { (fields_of result).first.name ≡ mname }
         ensures rname { (fields_of result).rest.first.name ≡ rname }
-        ensures serial { (fields_of result).rest.rest.first ≡ serial }
-        ensures refresh { (fields_of result).rest.rest.rest.first ≡ refresh }
-        ensures retry { (fields_of result).rest.rest.rest.rest.first ≡ retry }
-        ensures expire { (fields_of result).rest.rest.rest.rest.rest.first ≡ expire }
-        ensures minimum { (fields_of result).rest.rest.rest.rest.rest.rest ≡ minimum }
+        ensures serial { (fields_of result).rest.rest.first ≡ serial.0 }
+        ensures refresh { (fields_of result).rest.rest.rest.first ≡ ttl_seconds refresh }
+        ensures retry { (fields_of result).rest.rest.rest.rest.first ≡ ttl_seconds retry }
+        ensures expire { (fields_of result).rest.rest.rest.rest.rest.first ≡ ttl_seconds expire }
+        ensures minimum { (fields_of result).rest.rest.rest.rest.rest.rest ≡ ttl_seconds minimum }
         ensures of_type { type_of result ≡ 6 }
     {
         let numbers = Sequence {
-            first: serial,
+            first: serial.into_int(),
             rest: Sequence {
-                first: refresh,
+                first: refresh.as_secs(),
                 rest: Sequence {
-                    first: retry,
+                    first: retry.as_secs(),
                     rest: Sequence {
-                        first: expire,
-                        rest: minimum,
+                        first: expire.as_secs(),
+                        rest: minimum.as_secs(),
                     },
                 },
             },
@@ -254,38 +257,38 @@ impl<N> Soa<N> {
         &self.fields.rest.first.name
     }
 
-    /// The version of the zone.
-    pub fn serial(&self) -> u32
-        ensures { result ≡ (fields_of self.now).rest.rest.first }
+    /// The version of the zone, by the order of RFC 1982: `Serial::partial_cmp` tells which of two is later.
+    pub fn serial(&self) -> Serial
+        ensures { result.0 ≡ (fields_of self.now).rest.rest.first }
     {
-        self.fields.rest.rest.first
+        Serial(self.fields.rest.rest.first)
     }
 
-    /// After how many seconds another server looks for a new version.
-    pub fn refresh(&self) -> u32
-        ensures { result ≡ (fields_of self.now).rest.rest.rest.first }
+    /// After how long another server looks for a new version.
+    pub fn refresh(&self) -> Ttl
+        ensures { ttl_seconds result ≡ (fields_of self.now).rest.rest.rest.first }
     {
-        self.fields.rest.rest.rest.first
+        Ttl::from_secs(self.fields.rest.rest.rest.first)
     }
 
-    /// After how many seconds it tries again where that failed.
-    pub fn retry(&self) -> u32
-        ensures { result ≡ (fields_of self.now).rest.rest.rest.rest.first }
+    /// After how long it tries again where that failed.
+    pub fn retry(&self) -> Ttl
+        ensures { ttl_seconds result ≡ (fields_of self.now).rest.rest.rest.rest.first }
     {
-        self.fields.rest.rest.rest.rest.first
+        Ttl::from_secs(self.fields.rest.rest.rest.rest.first)
     }
 
-    /// After how many seconds without an answer it no longer answers for the zone.
-    pub fn expire(&self) -> u32
-        ensures { result ≡ (fields_of self.now).rest.rest.rest.rest.rest.first }
+    /// After how long without an answer it no longer answers for the zone.
+    pub fn expire(&self) -> Ttl
+        ensures { ttl_seconds result ≡ (fields_of self.now).rest.rest.rest.rest.rest.first }
     {
-        self.fields.rest.rest.rest.rest.rest.first
+        Ttl::from_secs(self.fields.rest.rest.rest.rest.rest.first)
     }
 
-    /// For how many seconds an answer that there is no such name or data may be kept (RFC 2308, 4).
-    pub fn minimum(&self) -> u32
-        ensures { result ≡ (fields_of self.now).rest.rest.rest.rest.rest.rest }
+    /// For how long an answer that there is no such name or data may be kept (RFC 2308, 4).
+    pub fn minimum(&self) -> Ttl
+        ensures { ttl_seconds result ≡ (fields_of self.now).rest.rest.rest.rest.rest.rest }
     {
-        self.fields.rest.rest.rest.rest.rest.rest
+        Ttl::from_secs(self.fields.rest.rest.rest.rest.rest.rest)
     }
 }
