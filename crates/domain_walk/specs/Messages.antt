@@ -18,11 +18,13 @@ use Rattle.domain_all_data.specs.AllData.{AllFields, AllDataAt, NoAllData, field
 abbrev pub flag_text : ℕ → List ℕ → List ℕ
 flag_text set word = cond (nat_eq set 1) word []
 
--- The flags that are set, of the third and fourth octet of a header (RFC 1035, 4.1.1; AD and CD RFC 2535, 6.1).
+-- The flags that are set, of the third and fourth octet of a header (RFC 1035, 4.1.1; AD and CD RFC 4035, 3.1.6 and 3.2);
+-- and that the bit Z is, which must be zero.
 abbrev pub flags_text : ℕ → ℕ → List ℕ
 flags_text high low =
     flag_text (bit 128 high) (codes " qr") ++ (flag_text (bit 4 high) (codes " aa") ++ (flag_text (bit 2 high) (codes " tc") ++ (flag_text (bit 1 high) (codes " rd")
-    ++ (flag_text (bit 128 low) (codes " ra") ++ (flag_text (bit 32 low) (codes " ad") ++ flag_text (bit 16 low) (codes " cd"))))))
+    ++ (flag_text (bit 128 low) (codes " ra") ++ (flag_text (bit 32 low) (codes " ad") ++ (flag_text (bit 16 low) (codes " cd")
+    ++ flag_text (bit 64 low) (codes "; MBZ: 0x4")))))))
 
 -- what kind of message it is, its response code and its identifier
 abbrev pub codes_line : ℕ → ℕ → ℕ → List ℕ

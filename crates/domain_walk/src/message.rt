@@ -27,7 +27,7 @@ fn word_if(set: bool, word: &'static str) -> &'static str
     if set { word } else { "" }
 }
 
-/// The flags that are set, a space before each.
+/// The flags that are set, a space before each, and the bit Z, which must be zero.
 #[derive(Clone, Copy)]
 struct Flags {
     header: Header,
@@ -47,7 +47,8 @@ impl fmt::Display for Flags {
         let ra = word_if(header.ra(), " ra");
         let ad = word_if(header.ad(), " ad");
         let cd = word_if(header.cd(), " cd");
-        write!(f, "{qr}{aa}{tc}{rd}{ra}{ad}{cd}")
+        let z = word_if(header.z(), "; MBZ: 0x4");
+        write!(f, "{qr}{aa}{tc}{rd}{ra}{ad}{cd}{z}")
     }
 }
 

@@ -11,4 +11,5 @@ returns-clause-writes g c plain ok =
     let ra = flag_is c.ra.result _ (codes " ra") c.word_if-ra.result.now c.ra.ensures c.word_if-ra.ensures in
     let ad = flag_is c.ad.result _ (codes " ad") c.word_if-ad.result.now c.ad.ensures c.word_if-ad.ensures in
     let cd = flag_is c.cd.result _ (codes " cd") c.word_if-cd.result.now c.cd.ensures c.word_if-cd.ensures in
-    rw (qr, aa, tc, rd, ra, ad, cd) at (c.write.ensures.writes plain ok)
+    let z = flag_is c.z.result _ (codes "; MBZ: 0x4") c.word_if-z.result.now c.z.ensures c.word_if-z.ensures in
+    rw (qr, aa, tc, rd, ra, ad, cd, z) at (c.write.ensures.writes plain ok)
