@@ -1,10 +1,10 @@
 //! Names, and record data that is a name, one after another on one target that writes them shorter.
-ghost use Rattle.std.specs.Prelude.{if◌then◌else◌, false, true};
+ghost use Rattle.std.specs.Prelude.{if◌then◌else◌, false, true, Some, refl};
 ghost use Rattle.domain_label.specs.Lowercase.{lowercase_labels};
 ghost use Rattle.domain_label.specs.Wire.{wire};
 ghost use Rattle.domain_name.proofs.NameFields.{flat_absolute};
 ghost use Rattle.domain_name.specs.Names.{name_labels};
-ghost use Rattle.domain_rdata.specs.FlatNames.{flat_name_octets};
+ghost use Rattle.domain_rdata.specs.FlatNames.{wire_reads_back};
 ghost use Rattle.domain_rdata.specs.RecordData.{NameOctets};
 
 use arrayvec::ArrayVec;
@@ -13,7 +13,7 @@ use domain_compress::CompressComposer;
 use domain_list::NameLabels;
 use domain_name::Name;
 use domain_parsed::ParsedName;
-use domain_rdata::{ComposeRecordData, Composer, RecordData, Rtype};
+use domain_rdata::{CanonicalError, ComposeRecordData, Composer, RecordData, Rtype};
 use domain_traits::ToName;
 use octseq::{EmptyBuilder, Octets, OctetsBuilder, OctetsMut, Parser, Truncate};
 
@@ -159,7 +159,11 @@ impl<'a> RecordData for NameData<'a> {
 impl<'a> ComposeRecordData for NameData<'a> {
     ghost composed = { λ it c t s. NameOctets (name_labels it.name) c t s };
 
-    ghost canonical = { λ it. wire (lowercase_labels (name_labels it.name)) };
+    ghost written = { λ it _ _ named old new. named old (name_labels it.name) new };
+
+    ghost uncompressed = { λ it. wire (name_labels it.name) };
+
+    ghost lowercase = { λ it. Some (wire (lowercase_labels (name_labels it.name))) };
 
     ghost knows_len = { λ _ compress. if compress then false else true };
 
@@ -180,11 +184,16 @@ impl<'a> ComposeRecordData for NameData<'a> {
     fn compose_canonical_rdata<Target: Composer>(
         &self,
         target: &mut Target,
-    ) -> Result<(), Target::AppendError> {
-        self.name.compose_canonical(target)
+    ) -> Result<(), CanonicalError<Target::AppendError>> {
+        match self.name.compose_canonical(target) {
+            Ok(()) => Ok(()),
+            Err(e) => Err(CanonicalError::Append(e)),
+        }
     }
 
-    ghost flat = { λ it c t u s. flat_name_octets (name_labels it.name) c t u s (flat_absolute it.name) };
+    ghost plain = { λ it c t. record { read = wire_reads_back t (name_labels it.name) (flat_absolute it.name); flat = λ _. refl } };
+
+    ghost flat = { λ it t s octets. octets.flat refl };
 }
 
 /// Appends data with its length in front, and tells whether it was taken.

@@ -36,6 +36,7 @@ pub use Rattle.domain_name.specs.Names
 pub use Rattle.domain_name.specs.Suffixes
 pub use Rattle.domain_name.specs.Builders
 pub use Rattle.domain_parsed.specs.ParsedNames as ParsedViews
+pub use Rattle.domain_rdata.specs.Canonical
 pub use Rattle.domain_rdata.specs.RecordData
 pub use Rattle.domain_rdata.specs.ReadBack
 pub use Rattle.domain_rdata.specs.AnyData

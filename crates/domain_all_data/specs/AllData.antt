@@ -17,7 +17,7 @@ use Rattle.domain_rdata.specs.UnknownReading.{all_that_is_left}
 use Rattle.domain_data.specs.Data.{AllAt, NotAll}
 use Rattle.domain_data.specs.Names.{NameFieldAt, NoNameField}
 use Rattle.domain_data.specs.Sequences.{BothAt, NotBoth}
-use Rattle.domain_data.specs.Shapes.{name_data, number_name_data, numbers_name_data, names_numbers_data, ipv4_data, ipv6_data}
+use Rattle.domain_data.specs.Shapes.{name_data, names_data, number_name_data, number_names_data, numbers_name_data, names_numbers_data, ipv4_data, ipv6_data}
 use Rattle.domain_txt.specs.Quoted.{quoted_strings}
 use Rattle.domain_txt.specs.Reading.{TextAt, NoText}
 use Rattle.domain_txt.specs.ReadingLaws.{text_reading}
@@ -27,7 +27,9 @@ pub data AllFields : Type 0 where
   ipv4 : Ipv4Addr → AllFields
   ipv6 : Ipv6Addr → AllFields
   name : List (List ℕ) → AllFields
+  names : (List (List ℕ)) × (List (List ℕ)) → AllFields
   number_name : ℕ × (List (List ℕ)) → AllFields
+  number_names : ℕ × ((List (List ℕ)) × (List (List ℕ))) → AllFields
   numbers_name : ℕ × (ℕ × (ℕ × (List (List ℕ)))) → AllFields
   names_numbers : (List (List ℕ)) × ((List (List ℕ)) × (ℕ × (ℕ × (ℕ × (ℕ × ℕ))))) → AllFields
   strings : List (List ℕ) → AllFields
@@ -38,25 +40,38 @@ pub data Shape : Type 0 where
   an_ipv4 : Shape
   an_ipv6 : Shape
   a_name : Shape
+  two_names : Shape
   a_number_name : Shape
+  a_number_names : Shape
   some_numbers_name : Shape
   some_names_numbers : Shape
   some_strings : Shape
   some_octets : Shape
 
--- A; NS, CNAME, PTR and DNAME; SOA; MX; TXT; AAAA; SRV; and all other types
+-- A; NS, CNAME, PTR, DNAME, MD, MF, MB, MG and MR; SOA; MINFO and RP; MX, AFSDB, RT and KX; PX; TXT; AAAA; SRV; and all other types
 abbrev pub shape_of : ℕ → Shape
 shape_of t =
     cond (nat_eq t 1) an_ipv4
     (cond (nat_eq t 2) a_name
+    (cond (nat_eq t 3) a_name
+    (cond (nat_eq t 4) a_name
     (cond (nat_eq t 5) a_name
     (cond (nat_eq t 6) some_names_numbers
+    (cond (nat_eq t 7) a_name
+    (cond (nat_eq t 8) a_name
+    (cond (nat_eq t 9) a_name
     (cond (nat_eq t 12) a_name
+    (cond (nat_eq t 14) two_names
     (cond (nat_eq t 15) a_number_name
     (cond (nat_eq t 16) some_strings
+    (cond (nat_eq t 17) two_names
+    (cond (nat_eq t 18) a_number_name
+    (cond (nat_eq t 21) a_number_name
+    (cond (nat_eq t 26) a_number_names
     (cond (nat_eq t 28) an_ipv6
     (cond (nat_eq t 33) some_numbers_name
-    (cond (nat_eq t 39) a_name some_octets)))))))))
+    (cond (nat_eq t 36) a_number_name
+    (cond (nat_eq t 39) a_name some_octets))))))))))))))))))))
 
 -- Fields are at offset p and end before e, and this is what the data says.
 pub record Says {A : Type 0} (says : A → AllFields) (At : List ℕ → ℕ → A → ℕ → Type 0) (m : List ℕ) (p : ℕ) (it : AllFields) (e : ℕ) : Type 0 where
@@ -70,6 +85,8 @@ ShapeAt an_ipv4 = Says ipv4 (AllAt (FixedAt 4 ipv4_of))
 ShapeAt an_ipv6 = Says ipv6 (AllAt (FixedAt 16 ipv6_of))
 ShapeAt a_name = Says name (AllAt NameFieldAt)
 ShapeAt a_number_name = Says number_name (AllAt (BothAt (FixedAt 2 (from_be_bytes w16)) NameFieldAt))
+ShapeAt two_names = Says names (AllAt (BothAt NameFieldAt NameFieldAt))
+ShapeAt a_number_names = Says number_names (AllAt (BothAt (FixedAt 2 (from_be_bytes w16)) (BothAt NameFieldAt NameFieldAt)))
 ShapeAt some_numbers_name = Says numbers_name (AllAt (BothAt (FixedAt 2 (from_be_bytes w16)) (BothAt (FixedAt 2 (from_be_bytes w16)) (BothAt (FixedAt 2 (from_be_bytes w16)) NameFieldAt))))
 ShapeAt some_names_numbers = Says names_numbers (AllAt (BothAt NameFieldAt (BothAt NameFieldAt (BothAt (FixedAt 4 (from_be_bytes w32)) (BothAt (FixedAt 4 (from_be_bytes w32)) (BothAt (FixedAt 4 (from_be_bytes w32)) (BothAt (FixedAt 4 (from_be_bytes w32)) (FixedAt 4 (from_be_bytes w32)))))))))
 ShapeAt some_strings = Says strings TextAt
@@ -81,6 +98,8 @@ NoShape an_ipv4 = NotAll refusal (FixedAt 4 ipv4_of) (ShortAt 4)
 NoShape an_ipv6 = NotAll refusal (FixedAt 16 ipv6_of) (ShortAt 16)
 NoShape a_name = NotAll refusal NameFieldAt NoNameField
 NoShape a_number_name = NotAll refusal (BothAt (FixedAt 2 (from_be_bytes w16)) NameFieldAt) (NotBoth (FixedAt 2 (from_be_bytes w16)) (ShortAt 2) NoNameField)
+NoShape two_names = NotAll refusal (BothAt NameFieldAt NameFieldAt) (NotBoth NameFieldAt NoNameField NoNameField)
+NoShape a_number_names = NotAll refusal (BothAt (FixedAt 2 (from_be_bytes w16)) (BothAt NameFieldAt NameFieldAt)) (NotBoth (FixedAt 2 (from_be_bytes w16)) (ShortAt 2) (NotBoth NameFieldAt NoNameField NoNameField))
 NoShape some_numbers_name = NotAll refusal (BothAt (FixedAt 2 (from_be_bytes w16)) (BothAt (FixedAt 2 (from_be_bytes w16)) (BothAt (FixedAt 2 (from_be_bytes w16)) NameFieldAt))) (NotBoth (FixedAt 2 (from_be_bytes w16)) (ShortAt 2) (NotBoth (FixedAt 2 (from_be_bytes w16)) (ShortAt 2) (NotBoth (FixedAt 2 (from_be_bytes w16)) (ShortAt 2) NoNameField)))
 NoShape some_names_numbers = NotAll refusal (BothAt NameFieldAt (BothAt NameFieldAt (BothAt (FixedAt 4 (from_be_bytes w32)) (BothAt (FixedAt 4 (from_be_bytes w32)) (BothAt (FixedAt 4 (from_be_bytes w32)) (BothAt (FixedAt 4 (from_be_bytes w32)) (FixedAt 4 (from_be_bytes w32)))))))) (NotBoth NameFieldAt NoNameField (NotBoth NameFieldAt NoNameField (NotBoth (FixedAt 4 (from_be_bytes w32)) (ShortAt 4) (NotBoth (FixedAt 4 (from_be_bytes w32)) (ShortAt 4) (NotBoth (FixedAt 4 (from_be_bytes w32)) (ShortAt 4) (NotBoth (FixedAt 4 (from_be_bytes w32)) (ShortAt 4) (ShortAt 4)))))))
 NoShape some_strings = NoText
@@ -107,6 +126,8 @@ shape_reading an_ipv4 = said_reading ipv4_data
 shape_reading an_ipv6 = said_reading ipv6_data
 shape_reading a_name = said_reading name_data
 shape_reading a_number_name = said_reading number_name_data
+shape_reading two_names = said_reading names_data
+shape_reading a_number_names = said_reading number_names_data
 shape_reading some_numbers_name = said_reading numbers_name_data
 shape_reading some_names_numbers = said_reading names_numbers_data
 shape_reading some_strings = said_reading text_reading
@@ -122,6 +143,8 @@ fields_text (ipv4 it) = ipv4_text (ipv4_octets it)
 fields_text (ipv6 it) = ipv6_text (segments_of (ipv6_octets it))
 fields_text (name ls) = text_with_final_dot ls
 fields_text (number_name it) = decimal it.0 ++ (32 ∷ text_with_final_dot it.1)
+fields_text (names it) = text_with_final_dot it.0 ++ (32 ∷ text_with_final_dot it.1)
+fields_text (number_names it) = decimal it.0 ++ (32 ∷ (text_with_final_dot it.1.0 ++ (32 ∷ text_with_final_dot it.1.1)))
 fields_text (numbers_name it) = decimal it.0 ++ (32 ∷ (decimal it.1.0 ++ (32 ∷ (decimal it.1.1.0 ++ (32 ∷ text_with_final_dot it.1.1.1)))))
 fields_text (names_numbers it) = text_with_final_dot it.0 ++ (32 ∷ (text_with_final_dot it.1.0 ++ (32 ∷ (decimal it.1.1.0 ++ (32 ∷ (decimal it.1.1.1.0 ++ (32 ∷ (decimal it.1.1.1.1.0 ++ (32 ∷ (decimal it.1.1.1.1.1.0 ++ (32 ∷ decimal it.1.1.1.1.1.1)))))))))))
 fields_text (strings ss) = quoted_strings ss

@@ -5,11 +5,13 @@ ghost use Rattle.domain_rdata.specs.Rtypes.{rtype_number};
 ghost use Rattle.domain_wire.specs.declared.error.ParseError.{ParseError};
 ghost use Rattle.domain_all_data.specs.AllData.{AllFields, AllDataAt, NoAllData, all_data_reading, fields_text};
 
-use domain_data::{A, Aaaa, Cname, Dname, Mx, Ns, Ptr, Soa, Srv};
+use domain_data::{
+    A, Aaaa, Afsdb, Cname, Dname, Kx, Mb, Md, Mf, Mg, Minfo, Mr, Mx, Ns, Ptr, Px, Rp, Rt, Soa, Srv,
+};
 use domain_parsed::ParsedName;
 use domain_rdata::{
-    ComposeRecordData, Composer, ParseAnyRecordData, ParseRecordData, RecordData, Rtype,
-    UnknownRecordData,
+    CanonicalError, ComposeRecordData, Composer, ParseAnyRecordData, ParseRecordData, RecordData,
+    Rtype, UnknownRecordData,
 };
 use domain_txt::Txt;
 use domain_wire::ParseError;
@@ -37,6 +39,28 @@ pub enum AllRecordData<Octs: Octets, N> {
     Soa(Soa<N>),
     /// The host of a service.
     Srv(Srv<N>),
+    /// A host that has a mailbox.
+    Mb(Mb<N>),
+    /// A host that delivers mail.
+    Md(Md<N>),
+    /// A host that forwards mail.
+    Mf(Mf<N>),
+    /// A mailbox of a mail group.
+    Mg(Mg<N>),
+    /// The new name of a mailbox.
+    Mr(Mr<N>),
+    /// Who is responsible for a mailing list.
+    Minfo(Minfo<N>),
+    /// Who is responsible for the owner.
+    Rp(Rp<N>),
+    /// A server of an AFS cell or of DCE.
+    Afsdb(Afsdb<N>),
+    /// A host that leads to the owner.
+    Rt(Rt<N>),
+    /// The map between a mail domain and its X.400 address.
+    Px(Px<N>),
+    /// A host that exchanges keys.
+    Kx(Kx<N>),
     /// Text.
     Txt(Txt<Octs>),
     /// Data of another type.
@@ -72,6 +96,17 @@ impl<Octs: Octets, N> RecordData for AllRecordData<Octs, N> {
             AllRecordData::Mx(_) => Rtype::from_int(15),
             AllRecordData::Soa(_) => Rtype::from_int(6),
             AllRecordData::Srv(_) => Rtype::from_int(33),
+            AllRecordData::Mb(_) => Rtype::from_int(7),
+            AllRecordData::Md(_) => Rtype::from_int(3),
+            AllRecordData::Mf(_) => Rtype::from_int(4),
+            AllRecordData::Mg(_) => Rtype::from_int(8),
+            AllRecordData::Mr(_) => Rtype::from_int(9),
+            AllRecordData::Minfo(_) => Rtype::from_int(14),
+            AllRecordData::Rp(_) => Rtype::from_int(17),
+            AllRecordData::Afsdb(_) => Rtype::from_int(18),
+            AllRecordData::Rt(_) => Rtype::from_int(21),
+            AllRecordData::Px(_) => Rtype::from_int(26),
+            AllRecordData::Kx(_) => Rtype::from_int(36),
             AllRecordData::Txt(_) => Rtype::from_int(16),
             AllRecordData::Unknown(it) => it.rtype(),
         }
@@ -82,8 +117,8 @@ impl<Octs: Octets, N> RecordData for AllRecordData<Octs, N> {
 impl<'a> ComposeRecordData for AllRecordData<&'a [u8], ParsedName<&'a [u8]>> {
     ghost use Rattle.domain_parsed.proofs.ParsedFields.{parsed_absolute};
     ghost use Rattle.domain_data.specs.Views.{fields_of};
-    ghost use Rattle.domain_all_data.specs.Flat.{flat_octets, flat_name, flat_both};
-    ghost use Rattle.domain_all_data.specs.declared.all.AllRecordData.TheVariants.{A, Aaaa, Ns, Cname, Ptr, Dname, Mx, Soa, Srv, Txt, Unknown};
+    ghost use Rattle.domain_all_data.specs.Flat.{plain_octets, plain_name, plain_both, flat_octets, flat_name, flat_both};
+    ghost use Rattle.domain_all_data.specs.declared.all.AllRecordData.TheVariants.{A, Aaaa, Ns, Cname, Ptr, Dname, Mx, Soa, Srv, Mb, Md, Mf, Mg, Mr, Minfo, Rp, Afsdb, Rt, Px, Kx, Txt, Unknown};
 
     ghost composed = { elim [
       | A it ↦ ⟦<A as ComposeRecordData>⟧.composed it
@@ -95,22 +130,94 @@ impl<'a> ComposeRecordData for AllRecordData<&'a [u8], ParsedName<&'a [u8]>> {
       | Mx it ↦ ⟦<Mx<ParsedName<&'a [u8]>> as ComposeRecordData>⟧.composed it
       | Soa it ↦ ⟦<Soa<ParsedName<&'a [u8]>> as ComposeRecordData>⟧.composed it
       | Srv it ↦ ⟦<Srv<ParsedName<&'a [u8]>> as ComposeRecordData>⟧.composed it
+      | Mb it ↦ ⟦<Mb<ParsedName<&'a [u8]>> as ComposeRecordData>⟧.composed it
+      | Md it ↦ ⟦<Md<ParsedName<&'a [u8]>> as ComposeRecordData>⟧.composed it
+      | Mf it ↦ ⟦<Mf<ParsedName<&'a [u8]>> as ComposeRecordData>⟧.composed it
+      | Mg it ↦ ⟦<Mg<ParsedName<&'a [u8]>> as ComposeRecordData>⟧.composed it
+      | Mr it ↦ ⟦<Mr<ParsedName<&'a [u8]>> as ComposeRecordData>⟧.composed it
+      | Minfo it ↦ ⟦<Minfo<ParsedName<&'a [u8]>> as ComposeRecordData>⟧.composed it
+      | Rp it ↦ ⟦<Rp<ParsedName<&'a [u8]>> as ComposeRecordData>⟧.composed it
+      | Afsdb it ↦ ⟦<Afsdb<ParsedName<&'a [u8]>> as ComposeRecordData>⟧.composed it
+      | Rt it ↦ ⟦<Rt<ParsedName<&'a [u8]>> as ComposeRecordData>⟧.composed it
+      | Px it ↦ ⟦<Px<ParsedName<&'a [u8]>> as ComposeRecordData>⟧.composed it
+      | Kx it ↦ ⟦<Kx<ParsedName<&'a [u8]>> as ComposeRecordData>⟧.composed it
       | Txt it ↦ ⟦<Txt<&'a [u8]> as ComposeRecordData>⟧.composed it
       | Unknown it ↦ ⟦<UnknownRecordData<&'a [u8]> as ComposeRecordData>⟧.composed it
     ] };
 
-    ghost canonical = { elim [
-      | A it ↦ ⟦<A as ComposeRecordData>⟧.canonical it
-      | Aaaa it ↦ ⟦<Aaaa as ComposeRecordData>⟧.canonical it
-      | Ns it ↦ ⟦<Ns<ParsedName<&'a [u8]>> as ComposeRecordData>⟧.canonical it
-      | Cname it ↦ ⟦<Cname<ParsedName<&'a [u8]>> as ComposeRecordData>⟧.canonical it
-      | Ptr it ↦ ⟦<Ptr<ParsedName<&'a [u8]>> as ComposeRecordData>⟧.canonical it
-      | Dname it ↦ ⟦<Dname<ParsedName<&'a [u8]>> as ComposeRecordData>⟧.canonical it
-      | Mx it ↦ ⟦<Mx<ParsedName<&'a [u8]>> as ComposeRecordData>⟧.canonical it
-      | Soa it ↦ ⟦<Soa<ParsedName<&'a [u8]>> as ComposeRecordData>⟧.canonical it
-      | Srv it ↦ ⟦<Srv<ParsedName<&'a [u8]>> as ComposeRecordData>⟧.canonical it
-      | Txt it ↦ ⟦<Txt<&'a [u8]> as ComposeRecordData>⟧.canonical it
-      | Unknown it ↦ ⟦<UnknownRecordData<&'a [u8]> as ComposeRecordData>⟧.canonical it
+    ghost written = { elim [
+      | A it ↦ ⟦<A as ComposeRecordData>⟧.written it
+      | Aaaa it ↦ ⟦<Aaaa as ComposeRecordData>⟧.written it
+      | Ns it ↦ ⟦<Ns<ParsedName<&'a [u8]>> as ComposeRecordData>⟧.written it
+      | Cname it ↦ ⟦<Cname<ParsedName<&'a [u8]>> as ComposeRecordData>⟧.written it
+      | Ptr it ↦ ⟦<Ptr<ParsedName<&'a [u8]>> as ComposeRecordData>⟧.written it
+      | Dname it ↦ ⟦<Dname<ParsedName<&'a [u8]>> as ComposeRecordData>⟧.written it
+      | Mx it ↦ ⟦<Mx<ParsedName<&'a [u8]>> as ComposeRecordData>⟧.written it
+      | Soa it ↦ ⟦<Soa<ParsedName<&'a [u8]>> as ComposeRecordData>⟧.written it
+      | Srv it ↦ ⟦<Srv<ParsedName<&'a [u8]>> as ComposeRecordData>⟧.written it
+      | Mb it ↦ ⟦<Mb<ParsedName<&'a [u8]>> as ComposeRecordData>⟧.written it
+      | Md it ↦ ⟦<Md<ParsedName<&'a [u8]>> as ComposeRecordData>⟧.written it
+      | Mf it ↦ ⟦<Mf<ParsedName<&'a [u8]>> as ComposeRecordData>⟧.written it
+      | Mg it ↦ ⟦<Mg<ParsedName<&'a [u8]>> as ComposeRecordData>⟧.written it
+      | Mr it ↦ ⟦<Mr<ParsedName<&'a [u8]>> as ComposeRecordData>⟧.written it
+      | Minfo it ↦ ⟦<Minfo<ParsedName<&'a [u8]>> as ComposeRecordData>⟧.written it
+      | Rp it ↦ ⟦<Rp<ParsedName<&'a [u8]>> as ComposeRecordData>⟧.written it
+      | Afsdb it ↦ ⟦<Afsdb<ParsedName<&'a [u8]>> as ComposeRecordData>⟧.written it
+      | Rt it ↦ ⟦<Rt<ParsedName<&'a [u8]>> as ComposeRecordData>⟧.written it
+      | Px it ↦ ⟦<Px<ParsedName<&'a [u8]>> as ComposeRecordData>⟧.written it
+      | Kx it ↦ ⟦<Kx<ParsedName<&'a [u8]>> as ComposeRecordData>⟧.written it
+      | Txt it ↦ ⟦<Txt<&'a [u8]> as ComposeRecordData>⟧.written it
+      | Unknown it ↦ ⟦<UnknownRecordData<&'a [u8]> as ComposeRecordData>⟧.written it
+    ] };
+
+    ghost uncompressed = { elim [
+      | A it ↦ ⟦<A as ComposeRecordData>⟧.uncompressed it
+      | Aaaa it ↦ ⟦<Aaaa as ComposeRecordData>⟧.uncompressed it
+      | Ns it ↦ ⟦<Ns<ParsedName<&'a [u8]>> as ComposeRecordData>⟧.uncompressed it
+      | Cname it ↦ ⟦<Cname<ParsedName<&'a [u8]>> as ComposeRecordData>⟧.uncompressed it
+      | Ptr it ↦ ⟦<Ptr<ParsedName<&'a [u8]>> as ComposeRecordData>⟧.uncompressed it
+      | Dname it ↦ ⟦<Dname<ParsedName<&'a [u8]>> as ComposeRecordData>⟧.uncompressed it
+      | Mx it ↦ ⟦<Mx<ParsedName<&'a [u8]>> as ComposeRecordData>⟧.uncompressed it
+      | Soa it ↦ ⟦<Soa<ParsedName<&'a [u8]>> as ComposeRecordData>⟧.uncompressed it
+      | Srv it ↦ ⟦<Srv<ParsedName<&'a [u8]>> as ComposeRecordData>⟧.uncompressed it
+      | Mb it ↦ ⟦<Mb<ParsedName<&'a [u8]>> as ComposeRecordData>⟧.uncompressed it
+      | Md it ↦ ⟦<Md<ParsedName<&'a [u8]>> as ComposeRecordData>⟧.uncompressed it
+      | Mf it ↦ ⟦<Mf<ParsedName<&'a [u8]>> as ComposeRecordData>⟧.uncompressed it
+      | Mg it ↦ ⟦<Mg<ParsedName<&'a [u8]>> as ComposeRecordData>⟧.uncompressed it
+      | Mr it ↦ ⟦<Mr<ParsedName<&'a [u8]>> as ComposeRecordData>⟧.uncompressed it
+      | Minfo it ↦ ⟦<Minfo<ParsedName<&'a [u8]>> as ComposeRecordData>⟧.uncompressed it
+      | Rp it ↦ ⟦<Rp<ParsedName<&'a [u8]>> as ComposeRecordData>⟧.uncompressed it
+      | Afsdb it ↦ ⟦<Afsdb<ParsedName<&'a [u8]>> as ComposeRecordData>⟧.uncompressed it
+      | Rt it ↦ ⟦<Rt<ParsedName<&'a [u8]>> as ComposeRecordData>⟧.uncompressed it
+      | Px it ↦ ⟦<Px<ParsedName<&'a [u8]>> as ComposeRecordData>⟧.uncompressed it
+      | Kx it ↦ ⟦<Kx<ParsedName<&'a [u8]>> as ComposeRecordData>⟧.uncompressed it
+      | Txt it ↦ ⟦<Txt<&'a [u8]> as ComposeRecordData>⟧.uncompressed it
+      | Unknown it ↦ ⟦<UnknownRecordData<&'a [u8]> as ComposeRecordData>⟧.uncompressed it
+    ] };
+
+    ghost lowercase = { elim [
+      | A it ↦ ⟦<A as ComposeRecordData>⟧.lowercase it
+      | Aaaa it ↦ ⟦<Aaaa as ComposeRecordData>⟧.lowercase it
+      | Ns it ↦ ⟦<Ns<ParsedName<&'a [u8]>> as ComposeRecordData>⟧.lowercase it
+      | Cname it ↦ ⟦<Cname<ParsedName<&'a [u8]>> as ComposeRecordData>⟧.lowercase it
+      | Ptr it ↦ ⟦<Ptr<ParsedName<&'a [u8]>> as ComposeRecordData>⟧.lowercase it
+      | Dname it ↦ ⟦<Dname<ParsedName<&'a [u8]>> as ComposeRecordData>⟧.lowercase it
+      | Mx it ↦ ⟦<Mx<ParsedName<&'a [u8]>> as ComposeRecordData>⟧.lowercase it
+      | Soa it ↦ ⟦<Soa<ParsedName<&'a [u8]>> as ComposeRecordData>⟧.lowercase it
+      | Srv it ↦ ⟦<Srv<ParsedName<&'a [u8]>> as ComposeRecordData>⟧.lowercase it
+      | Mb it ↦ ⟦<Mb<ParsedName<&'a [u8]>> as ComposeRecordData>⟧.lowercase it
+      | Md it ↦ ⟦<Md<ParsedName<&'a [u8]>> as ComposeRecordData>⟧.lowercase it
+      | Mf it ↦ ⟦<Mf<ParsedName<&'a [u8]>> as ComposeRecordData>⟧.lowercase it
+      | Mg it ↦ ⟦<Mg<ParsedName<&'a [u8]>> as ComposeRecordData>⟧.lowercase it
+      | Mr it ↦ ⟦<Mr<ParsedName<&'a [u8]>> as ComposeRecordData>⟧.lowercase it
+      | Minfo it ↦ ⟦<Minfo<ParsedName<&'a [u8]>> as ComposeRecordData>⟧.lowercase it
+      | Rp it ↦ ⟦<Rp<ParsedName<&'a [u8]>> as ComposeRecordData>⟧.lowercase it
+      | Afsdb it ↦ ⟦<Afsdb<ParsedName<&'a [u8]>> as ComposeRecordData>⟧.lowercase it
+      | Rt it ↦ ⟦<Rt<ParsedName<&'a [u8]>> as ComposeRecordData>⟧.lowercase it
+      | Px it ↦ ⟦<Px<ParsedName<&'a [u8]>> as ComposeRecordData>⟧.lowercase it
+      | Kx it ↦ ⟦<Kx<ParsedName<&'a [u8]>> as ComposeRecordData>⟧.lowercase it
+      | Txt it ↦ ⟦<Txt<&'a [u8]> as ComposeRecordData>⟧.lowercase it
+      | Unknown it ↦ ⟦<UnknownRecordData<&'a [u8]> as ComposeRecordData>⟧.lowercase it
     ] };
 
     ghost knows_len = { elim [
@@ -123,6 +230,17 @@ impl<'a> ComposeRecordData for AllRecordData<&'a [u8], ParsedName<&'a [u8]>> {
       | Mx it ↦ ⟦<Mx<ParsedName<&'a [u8]>> as ComposeRecordData>⟧.knows_len it
       | Soa it ↦ ⟦<Soa<ParsedName<&'a [u8]>> as ComposeRecordData>⟧.knows_len it
       | Srv it ↦ ⟦<Srv<ParsedName<&'a [u8]>> as ComposeRecordData>⟧.knows_len it
+      | Mb it ↦ ⟦<Mb<ParsedName<&'a [u8]>> as ComposeRecordData>⟧.knows_len it
+      | Md it ↦ ⟦<Md<ParsedName<&'a [u8]>> as ComposeRecordData>⟧.knows_len it
+      | Mf it ↦ ⟦<Mf<ParsedName<&'a [u8]>> as ComposeRecordData>⟧.knows_len it
+      | Mg it ↦ ⟦<Mg<ParsedName<&'a [u8]>> as ComposeRecordData>⟧.knows_len it
+      | Mr it ↦ ⟦<Mr<ParsedName<&'a [u8]>> as ComposeRecordData>⟧.knows_len it
+      | Minfo it ↦ ⟦<Minfo<ParsedName<&'a [u8]>> as ComposeRecordData>⟧.knows_len it
+      | Rp it ↦ ⟦<Rp<ParsedName<&'a [u8]>> as ComposeRecordData>⟧.knows_len it
+      | Afsdb it ↦ ⟦<Afsdb<ParsedName<&'a [u8]>> as ComposeRecordData>⟧.knows_len it
+      | Rt it ↦ ⟦<Rt<ParsedName<&'a [u8]>> as ComposeRecordData>⟧.knows_len it
+      | Px it ↦ ⟦<Px<ParsedName<&'a [u8]>> as ComposeRecordData>⟧.knows_len it
+      | Kx it ↦ ⟦<Kx<ParsedName<&'a [u8]>> as ComposeRecordData>⟧.knows_len it
       | Txt it ↦ ⟦<Txt<&'a [u8]> as ComposeRecordData>⟧.knows_len it
       | Unknown it ↦ ⟦<UnknownRecordData<&'a [u8]> as ComposeRecordData>⟧.knows_len it
     ] };
@@ -138,6 +256,17 @@ impl<'a> ComposeRecordData for AllRecordData<&'a [u8], ParsedName<&'a [u8]>> {
             AllRecordData::Mx(it) => it.rdlen(compress),
             AllRecordData::Soa(it) => it.rdlen(compress),
             AllRecordData::Srv(it) => it.rdlen(compress),
+            AllRecordData::Mb(it) => it.rdlen(compress),
+            AllRecordData::Md(it) => it.rdlen(compress),
+            AllRecordData::Mf(it) => it.rdlen(compress),
+            AllRecordData::Mg(it) => it.rdlen(compress),
+            AllRecordData::Mr(it) => it.rdlen(compress),
+            AllRecordData::Minfo(it) => it.rdlen(compress),
+            AllRecordData::Rp(it) => it.rdlen(compress),
+            AllRecordData::Afsdb(it) => it.rdlen(compress),
+            AllRecordData::Rt(it) => it.rdlen(compress),
+            AllRecordData::Px(it) => it.rdlen(compress),
+            AllRecordData::Kx(it) => it.rdlen(compress),
             AllRecordData::Txt(it) => it.rdlen(compress),
             AllRecordData::Unknown(it) => it.rdlen(compress),
         }
@@ -157,6 +286,17 @@ impl<'a> ComposeRecordData for AllRecordData<&'a [u8], ParsedName<&'a [u8]>> {
             AllRecordData::Mx(it) => it.compose_rdata(target),
             AllRecordData::Soa(it) => it.compose_rdata(target),
             AllRecordData::Srv(it) => it.compose_rdata(target),
+            AllRecordData::Mb(it) => it.compose_rdata(target),
+            AllRecordData::Md(it) => it.compose_rdata(target),
+            AllRecordData::Mf(it) => it.compose_rdata(target),
+            AllRecordData::Mg(it) => it.compose_rdata(target),
+            AllRecordData::Mr(it) => it.compose_rdata(target),
+            AllRecordData::Minfo(it) => it.compose_rdata(target),
+            AllRecordData::Rp(it) => it.compose_rdata(target),
+            AllRecordData::Afsdb(it) => it.compose_rdata(target),
+            AllRecordData::Rt(it) => it.compose_rdata(target),
+            AllRecordData::Px(it) => it.compose_rdata(target),
+            AllRecordData::Kx(it) => it.compose_rdata(target),
             AllRecordData::Txt(it) => it.compose_rdata(target),
             AllRecordData::Unknown(it) => it.compose_rdata(target),
         }
@@ -165,7 +305,7 @@ impl<'a> ComposeRecordData for AllRecordData<&'a [u8], ParsedName<&'a [u8]>> {
     fn compose_canonical_rdata<Target: Composer>(
         &self,
         target: &mut Target,
-    ) -> Result<(), Target::AppendError> {
+    ) -> Result<(), CanonicalError<Target::AppendError>> {
         match self {
             AllRecordData::A(it) => it.compose_canonical_rdata(target),
             AllRecordData::Aaaa(it) => it.compose_canonical_rdata(target),
@@ -176,21 +316,68 @@ impl<'a> ComposeRecordData for AllRecordData<&'a [u8], ParsedName<&'a [u8]>> {
             AllRecordData::Mx(it) => it.compose_canonical_rdata(target),
             AllRecordData::Soa(it) => it.compose_canonical_rdata(target),
             AllRecordData::Srv(it) => it.compose_canonical_rdata(target),
+            AllRecordData::Mb(it) => it.compose_canonical_rdata(target),
+            AllRecordData::Md(it) => it.compose_canonical_rdata(target),
+            AllRecordData::Mf(it) => it.compose_canonical_rdata(target),
+            AllRecordData::Mg(it) => it.compose_canonical_rdata(target),
+            AllRecordData::Mr(it) => it.compose_canonical_rdata(target),
+            AllRecordData::Minfo(it) => it.compose_canonical_rdata(target),
+            AllRecordData::Rp(it) => it.compose_canonical_rdata(target),
+            AllRecordData::Afsdb(it) => it.compose_canonical_rdata(target),
+            AllRecordData::Rt(it) => it.compose_canonical_rdata(target),
+            AllRecordData::Px(it) => it.compose_canonical_rdata(target),
+            AllRecordData::Kx(it) => it.compose_canonical_rdata(target),
             AllRecordData::Txt(it) => it.compose_canonical_rdata(target),
             AllRecordData::Unknown(it) => it.compose_canonical_rdata(target),
         }
     }
 
+    ghost plain = { elim [
+      | A it ↦ plain_octets _
+      | Aaaa it ↦ plain_octets _
+      | Ns it ↦ plain_name _ (parsed_absolute (fields_of it).name)
+      | Cname it ↦ plain_name _ (parsed_absolute (fields_of it).name)
+      | Ptr it ↦ plain_name _ (parsed_absolute (fields_of it).name)
+      | Dname it ↦ plain_octets _
+      | Mx it ↦ plain_both _ _ _ _ (plain_octets _) (plain_name _ (parsed_absolute (fields_of it).rest.name))
+      | Soa it ↦ plain_both _ _ _ _ (plain_name _ (parsed_absolute (fields_of it).first.name)) (plain_both _ _ _ _ (plain_name _ (parsed_absolute (fields_of it).rest.first.name)) (plain_both _ _ _ _ (plain_octets _) (plain_both _ _ _ _ (plain_octets _) (plain_both _ _ _ _ (plain_octets _) (plain_both _ _ _ _ (plain_octets _) (plain_octets _))))))
+      | Srv it ↦ plain_both _ _ _ _ (plain_octets _) (plain_both _ _ _ _ (plain_octets _) (plain_both _ _ _ _ (plain_octets _) (plain_octets _)))
+      | Mb it ↦ plain_name _ (parsed_absolute (fields_of it).name)
+      | Md it ↦ plain_name _ (parsed_absolute (fields_of it).name)
+      | Mf it ↦ plain_name _ (parsed_absolute (fields_of it).name)
+      | Mg it ↦ plain_name _ (parsed_absolute (fields_of it).name)
+      | Mr it ↦ plain_name _ (parsed_absolute (fields_of it).name)
+      | Minfo it ↦ plain_both _ _ _ _ (plain_name _ (parsed_absolute (fields_of it).first.name)) (plain_name _ (parsed_absolute (fields_of it).rest.name))
+      | Rp it ↦ plain_both _ _ _ _ (plain_octets _) (plain_octets _)
+      | Afsdb it ↦ plain_both _ _ _ _ (plain_octets _) (plain_octets _)
+      | Rt it ↦ plain_both _ _ _ _ (plain_octets _) (plain_octets _)
+      | Px it ↦ plain_both _ _ _ _ (plain_octets _) (plain_both _ _ _ _ (plain_octets _) (plain_octets _))
+      | Kx it ↦ plain_both _ _ _ _ (plain_octets _) (plain_octets _)
+      | Txt it ↦ plain_octets _
+      | Unknown it ↦ plain_octets _
+    ] };
+
     ghost flat = { elim [
       | A it ↦ flat_octets _
       | Aaaa it ↦ flat_octets _
-      | Ns it ↦ flat_name _ (parsed_absolute (fields_of it).name)
-      | Cname it ↦ flat_name _ (parsed_absolute (fields_of it).name)
-      | Ptr it ↦ flat_name _ (parsed_absolute (fields_of it).name)
+      | Ns it ↦ flat_name _
+      | Cname it ↦ flat_name _
+      | Ptr it ↦ flat_name _
       | Dname it ↦ flat_octets _
-      | Mx it ↦ flat_both _ _ (flat_octets _) (flat_name _ (parsed_absolute (fields_of it).rest.name))
-      | Soa it ↦ flat_both _ _ (flat_name _ (parsed_absolute (fields_of it).first.name)) (flat_both _ _ (flat_name _ (parsed_absolute (fields_of it).rest.first.name)) (flat_both _ _ (flat_octets _) (flat_both _ _ (flat_octets _) (flat_both _ _ (flat_octets _) (flat_both _ _ (flat_octets _) (flat_octets _))))))
-      | Srv it ↦ flat_both _ _ (flat_octets _) (flat_both _ _ (flat_octets _) (flat_both _ _ (flat_octets _) (flat_octets _)))
+      | Mx it ↦ flat_both _ _ _ _ (flat_octets _) (flat_name _)
+      | Soa it ↦ flat_both _ _ _ _ (flat_name _) (flat_both _ _ _ _ (flat_name _) (flat_both _ _ _ _ (flat_octets _) (flat_both _ _ _ _ (flat_octets _) (flat_both _ _ _ _ (flat_octets _) (flat_both _ _ _ _ (flat_octets _) (flat_octets _))))))
+      | Srv it ↦ flat_both _ _ _ _ (flat_octets _) (flat_both _ _ _ _ (flat_octets _) (flat_both _ _ _ _ (flat_octets _) (flat_octets _)))
+      | Mb it ↦ flat_name _
+      | Md it ↦ flat_name _
+      | Mf it ↦ flat_name _
+      | Mg it ↦ flat_name _
+      | Mr it ↦ flat_name _
+      | Minfo it ↦ flat_both _ _ _ _ (flat_name _) (flat_name _)
+      | Rp it ↦ flat_both _ _ _ _ (flat_octets _) (flat_octets _)
+      | Afsdb it ↦ flat_both _ _ _ _ (flat_octets _) (flat_octets _)
+      | Rt it ↦ flat_both _ _ _ _ (flat_octets _) (flat_octets _)
+      | Px it ↦ flat_both _ _ _ _ (flat_octets _) (flat_both _ _ _ _ (flat_octets _) (flat_octets _))
+      | Kx it ↦ flat_both _ _ _ _ (flat_octets _) (flat_octets _)
       | Txt it ↦ flat_octets _
       | Unknown it ↦ flat_octets _
     ] };
@@ -240,6 +427,14 @@ impl<'a> ParseAnyRecordData<'a> for AllRecordData<&'a [u8], ParsedName<&'a [u8]>
                 Ok(it) => Ok(AllRecordData::Ns(it)),
                 Err(e) => Err(e),
             },
+            3 => match read::<Md<ParsedName<&'a [u8]>>, ParseError>(rtype, parser) {
+                Ok(it) => Ok(AllRecordData::Md(it)),
+                Err(e) => Err(e),
+            },
+            4 => match read::<Mf<ParsedName<&'a [u8]>>, ParseError>(rtype, parser) {
+                Ok(it) => Ok(AllRecordData::Mf(it)),
+                Err(e) => Err(e),
+            },
             5 => match read::<Cname<ParsedName<&'a [u8]>>, ParseError>(rtype, parser) {
                 Ok(it) => Ok(AllRecordData::Cname(it)),
                 Err(e) => Err(e),
@@ -248,8 +443,24 @@ impl<'a> ParseAnyRecordData<'a> for AllRecordData<&'a [u8], ParsedName<&'a [u8]>
                 Ok(it) => Ok(AllRecordData::Soa(it)),
                 Err(e) => Err(e),
             },
+            7 => match read::<Mb<ParsedName<&'a [u8]>>, ParseError>(rtype, parser) {
+                Ok(it) => Ok(AllRecordData::Mb(it)),
+                Err(e) => Err(e),
+            },
+            8 => match read::<Mg<ParsedName<&'a [u8]>>, ParseError>(rtype, parser) {
+                Ok(it) => Ok(AllRecordData::Mg(it)),
+                Err(e) => Err(e),
+            },
+            9 => match read::<Mr<ParsedName<&'a [u8]>>, ParseError>(rtype, parser) {
+                Ok(it) => Ok(AllRecordData::Mr(it)),
+                Err(e) => Err(e),
+            },
             12 => match read::<Ptr<ParsedName<&'a [u8]>>, ParseError>(rtype, parser) {
                 Ok(it) => Ok(AllRecordData::Ptr(it)),
+                Err(e) => Err(e),
+            },
+            14 => match read::<Minfo<ParsedName<&'a [u8]>>, ParseError>(rtype, parser) {
+                Ok(it) => Ok(AllRecordData::Minfo(it)),
                 Err(e) => Err(e),
             },
             15 => match read::<Mx<ParsedName<&'a [u8]>>, ParseError>(rtype, parser) {
@@ -260,12 +471,32 @@ impl<'a> ParseAnyRecordData<'a> for AllRecordData<&'a [u8], ParsedName<&'a [u8]>
                 Ok(it) => Ok(AllRecordData::Txt(it)),
                 Err(e) => Err(e),
             },
+            17 => match read::<Rp<ParsedName<&'a [u8]>>, ParseError>(rtype, parser) {
+                Ok(it) => Ok(AllRecordData::Rp(it)),
+                Err(e) => Err(e),
+            },
+            18 => match read::<Afsdb<ParsedName<&'a [u8]>>, ParseError>(rtype, parser) {
+                Ok(it) => Ok(AllRecordData::Afsdb(it)),
+                Err(e) => Err(e),
+            },
+            21 => match read::<Rt<ParsedName<&'a [u8]>>, ParseError>(rtype, parser) {
+                Ok(it) => Ok(AllRecordData::Rt(it)),
+                Err(e) => Err(e),
+            },
+            26 => match read::<Px<ParsedName<&'a [u8]>>, ParseError>(rtype, parser) {
+                Ok(it) => Ok(AllRecordData::Px(it)),
+                Err(e) => Err(e),
+            },
             28 => match read::<Aaaa, ParseError>(rtype, parser) {
                 Ok(it) => Ok(AllRecordData::Aaaa(it)),
                 Err(e) => Err(e),
             },
             33 => match read::<Srv<ParsedName<&'a [u8]>>, ParseError>(rtype, parser) {
                 Ok(it) => Ok(AllRecordData::Srv(it)),
+                Err(e) => Err(e),
+            },
+            36 => match read::<Kx<ParsedName<&'a [u8]>>, ParseError>(rtype, parser) {
+                Ok(it) => Ok(AllRecordData::Kx(it)),
                 Err(e) => Err(e),
             },
             39 => match read::<Dname<ParsedName<&'a [u8]>>, ParseError>(rtype, parser) {
@@ -326,6 +557,17 @@ impl<'a> fmt::Display for AllRecordData<&'a [u8], ParsedName<&'a [u8]>> {
             AllRecordData::Mx(it) => write!(f, "{it}"),
             AllRecordData::Soa(it) => write!(f, "{it}"),
             AllRecordData::Srv(it) => write!(f, "{it}"),
+            AllRecordData::Mb(it) => write!(f, "{it}"),
+            AllRecordData::Md(it) => write!(f, "{it}"),
+            AllRecordData::Mf(it) => write!(f, "{it}"),
+            AllRecordData::Mg(it) => write!(f, "{it}"),
+            AllRecordData::Mr(it) => write!(f, "{it}"),
+            AllRecordData::Minfo(it) => write!(f, "{it}"),
+            AllRecordData::Rp(it) => write!(f, "{it}"),
+            AllRecordData::Afsdb(it) => write!(f, "{it}"),
+            AllRecordData::Rt(it) => write!(f, "{it}"),
+            AllRecordData::Px(it) => write!(f, "{it}"),
+            AllRecordData::Kx(it) => write!(f, "{it}"),
             AllRecordData::Txt(it) => write!(f, "{it}"),
             AllRecordData::Unknown(it) => write!(f, "{it}"),
         }

@@ -51,6 +51,22 @@ NamesNumbersAt = BothAt NameFieldAt (BothAt NameFieldAt NumbersAt)
 abbrev pub NoNamesNumbers : List ℕ → ℕ → ParseError → Type 0
 NoNamesNumbers = NotBoth NameFieldAt NoNameField (NotBoth NameFieldAt NoNameField NoNumbers)
 
+-- two names
+abbrev pub NamesAt : List ℕ → ℕ → List (List ℕ) × List (List ℕ) → ℕ → Type 0
+NamesAt = BothAt NameFieldAt NameFieldAt
+
+-- the first of these that isn't there
+abbrev pub NoNames : List ℕ → ℕ → ParseError → Type 0
+NoNames = NotBoth NameFieldAt NoNameField NoNameField
+
+-- a number of 16 bits and two names
+abbrev pub NumberNamesAt : List ℕ → ℕ → ℕ × (List (List ℕ) × List (List ℕ)) → ℕ → Type 0
+NumberNamesAt = BothAt Number16At NamesAt
+
+-- the first of these that isn't there
+abbrev pub NoNumberNames : List ℕ → ℕ → ParseError → Type 0
+NoNumberNames = NotBoth Number16At (ShortAt 2) NoNames
+
 a_name : IsReadingOf refusal NameFieldAt NoNameField
 a_name = any_reading name_reading
 
@@ -89,6 +105,12 @@ four_numbers = one_more (BothAt Number32At (BothAt Number32At Number32At)) (NotB
 numbers : IsReadingOf refusal NumbersAt NoNumbers
 numbers = one_more (BothAt Number32At (BothAt Number32At (BothAt Number32At Number32At))) (NotBoth Number32At (ShortAt 4) (NotBoth Number32At (ShortAt 4) (NotBoth Number32At (ShortAt 4) (ShortAt 4)))) four_numbers
 
+two_names : IsReadingOf refusal NamesAt NoNames
+two_names = name_before NameFieldAt NoNameField a_name
+
+number_names : IsReadingOf refusal NumberNamesAt NoNumberNames
+number_names = both_reading refusal Number16At NamesAt (ShortAt 2) NoNames number16 two_names
+
 name_numbers : IsReadingOf refusal (BothAt NameFieldAt NumbersAt) (NotBoth NameFieldAt NoNameField NoNumbers)
 name_numbers = name_before NumbersAt NoNumbers numbers
 
@@ -110,6 +132,12 @@ numbers_name_data = all_data NumbersNameAt NoNumbersName numbers_name
 
 pub names_numbers_data : IsReading (AllAt NamesNumbersAt) (NotAll refusal NamesNumbersAt NoNamesNumbers)
 names_numbers_data = all_data NamesNumbersAt NoNamesNumbers names_numbers
+
+pub names_data : IsReading (AllAt NamesAt) (NotAll refusal NamesAt NoNames)
+names_data = all_data NamesAt NoNames two_names
+
+pub number_names_data : IsReading (AllAt NumberNamesAt) (NotAll refusal NumberNamesAt NoNumberNames)
+number_names_data = all_data NumberNamesAt NoNumberNames number_names
 
 pub ipv4_data : IsReading (AllAt (FixedAt 4 ipv4_of)) (NotAll refusal (FixedAt 4 ipv4_of) (ShortAt 4))
 ipv4_data = all_data (FixedAt 4 ipv4_of) (ShortAt 4) (any_reading (fixed_reading 4 ipv4_of))

@@ -2,9 +2,11 @@
 ghost use Rattle.std.specs.Cmp.{on_total};
 ghost use Rattle.std.specs.Cmp.Lexicographic.{slice_cmp, nat_list_cmp_total};
 ghost use Rattle.std.specs.Ordering.{nat_cmp, on};
+ghost use Rattle.domain_rdata.specs.Rtypes.{has_lowercase_names};
 
 use crate::fields::FieldsData;
 use domain_fields::OrderedField;
+use domain_rdata::Rtype;
 use domain_wire::CanonicalOrd;
 use std::cmp::Ordering;
 
@@ -12,11 +14,12 @@ use std::cmp::Ordering;
 impl<const TYPE: u16, F: OrderedField> CanonicalOrd for FieldsData<TYPE, F> {
     ghost use Rattle.domain_data.specs.Views.{fields_of};
 
-    ghost value_order = { on (λ it. F.canonical (fields_of it)) (slice_cmp nat_cmp) };
+    ghost value_order = { on (λ it. F.uncompressed (fields_of it) (has_lowercase_names TYPE)) (slice_cmp nat_cmp) };
 
-    ghost total = { on_total (λ it. F.canonical (fields_of it)) nat_list_cmp_total };
+    ghost total = { on_total (λ it. F.uncompressed (fields_of it) (has_lowercase_names TYPE)) nat_list_cmp_total };
 
     fn canonical_cmp(&self, other: &FieldsData<TYPE, F>) -> Ordering {
-        self.fields.canonical_field_cmp(&other.fields)
+        let lowercase = Rtype::from_int(TYPE).has_lowercase_names();
+        self.fields.canonical_field_cmp(&other.fields, lowercase)
     }
 }

@@ -1,12 +1,11 @@
 //! Record data that is one field after another.
-ghost use Rattle.std.specs.Prelude.{◌≡◌, ◌↔◌, nat_eq, false, true, IfOk, IfErr, OnOk, OnErr, IfSome, IsNone};
-ghost use Rattle.std.proofs.Common.{subst, sym};
+ghost use Rattle.std.specs.Prelude.{◌≡◌, ◌↔◌, nat_eq, false, true, IfOk, IfErr, OnOk, OnErr, IfSome, IsNone, Some};
 ghost use Rattle.octseq.specs.Parsing.{message, position, MovesTo};
 ghost use Rattle.domain_rdata.specs.Rtypes.{rtype_number};
 ghost use Rattle.domain_fields.specs.Data.{AllAt, NotAll, is_known};
 
 use domain_fields::{DataField, FieldError, ReadField, read_all};
-use domain_rdata::{ComposeRecordData, Composer, RecordData, Rtype};
+use domain_rdata::{CanonicalError, ComposeRecordData, Composer, RecordData, Rtype};
 use octseq::Parser;
 
 /// Data of the type with this number that has these fields: a name, a number, an address, or a
@@ -57,13 +56,18 @@ impl<const TYPE: u16, F> RecordData for FieldsData<TYPE, F> {
     }
 }
 
-/// The fields, one after the other.
+/// The fields, one after the other. In the canonical form names are in lowercase exactly where `TYPE` is one of the types that
+/// RFC 4034, 6.2, lists, whatever fields they stand in ([`Rtype::has_lowercase_names`]).
 impl<const TYPE: u16, F: DataField> ComposeRecordData for FieldsData<TYPE, F> {
     ghost use Rattle.domain_data.specs.Views.{fields_of};
 
     ghost composed = { λ it. F.composed (fields_of it) };
 
-    ghost canonical = { λ it. F.canonical (fields_of it) };
+    ghost written = { λ it. F.written (fields_of it) };
+
+    ghost uncompressed = { λ it. F.uncompressed (fields_of it) false };
+
+    ghost lowercase = { λ it. Some (F.uncompressed (fields_of it) true) };
 
     ghost knows_len = { λ it c. is_known (F.known_len (fields_of it) c) };
 
@@ -81,9 +85,15 @@ impl<const TYPE: u16, F: DataField> ComposeRecordData for FieldsData<TYPE, F> {
     fn compose_canonical_rdata<Target: Composer>(
         &self,
         target: &mut Target,
-    ) -> Result<(), Target::AppendError> {
-        self.fields.compose_canonical_field(target)
+    ) -> Result<(), CanonicalError<Target::AppendError>> {
+        let lowercase = Rtype::from_int(TYPE).has_lowercase_names();
+        match self.fields.compose_canonical_field(lowercase, target) {
+            Ok(()) => Ok(()),
+            Err(e) => Err(CanonicalError::Append(e)),
+        }
     }
 
-    ghost flat = { λ it c t u s h. subst (F.composed (fields_of it) c u) (sym (F.flat (fields_of it) t s h)) (F.plain (fields_of it) c u) };
+    ghost plain = { λ it. F.plain (fields_of it) };
+
+    ghost flat = { λ it. F.flat (fields_of it) };
 }

@@ -7,6 +7,8 @@ mod display;
 pub mod fields;
 mod flatten;
 pub mod host;
+pub mod later;
+pub mod mail;
 mod parse;
 
 pub use address::{A, Aaaa};
@@ -16,3 +18,5 @@ pub use domain_fields::{
 };
 pub use fields::FieldsData;
 pub use host::{Cname, Dname, Mx, Ns, Ptr, Soa, Srv};
+pub use later::{Afsdb, Kx, Px, Rp, Rt};
+pub use mail::{Mb, Md, Mf, Mg, Minfo, Mr};

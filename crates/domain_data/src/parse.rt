@@ -9,7 +9,7 @@ ghost use Rattle.domain_parsed.specs.ParsedNames.{parsed_labels};
 ghost use Rattle.domain_fields.specs.Data.{AllAt, NotAll};
 ghost use Rattle.domain_fields.specs.Names.{NameFieldAt, NoNameField};
 ghost use Rattle.domain_data.specs.Views.{fields_of};
-ghost use Rattle.domain_data.specs.Shapes.{NumberNameAt, NoNumberName, NumbersNameAt, NoNumbersName, NamesNumbersAt, NoNamesNumbers, name_data, number_name_data, numbers_name_data, names_numbers_data, ipv4_data, ipv6_data};
+ghost use Rattle.domain_data.specs.Shapes.{NumberNameAt, NoNumberName, NumbersNameAt, NoNumbersName, NamesNumbersAt, NoNamesNumbers, name_data, number_name_data, numbers_name_data, names_numbers_data, NamesAt, NoNames, names_data, NumberNamesAt, NoNumberNames, number_names_data, ipv4_data, ipv6_data};
 
 use crate::fields::FieldsData;
 use domain_fields::{NameField, Sequence, UncompressedNameField};
@@ -19,7 +19,7 @@ use domain_wire::ParseError;
 use domain_wire::net::{Ipv4Addr, Ipv6Addr};
 use octseq::Parser;
 
-/// A name: CNAME, NS and PTR. Octets left after it are a form error "trailing data".
+/// A name: CNAME, NS, PTR, MB, MD, MF, MG and MR. Octets left after it are a form error "trailing data".
 impl<'a, const TYPE: u16> ParseRecordData<'a>
     for FieldsData<TYPE, NameField<ParsedName<&'a [u8]>>> {
     ghost View = { List (List ℕ) };
@@ -79,7 +79,7 @@ impl<'a, const TYPE: u16> ParseRecordData<'a>
     ghost lawful = { λ _. number_name_data };
 }
 
-/// A number of 16 bits and a name that is never compressed: KX (RFC 2230), AFSDB and RT (RFC 1183). Octets left
+/// A number of 16 bits and a name that is never compressed: KX, AFSDB and RT. Octets left
 /// after it are a form error "trailing data".
 impl<'a, const TYPE: u16> ParseRecordData<'a>
     for FieldsData<TYPE, Sequence<u16, UncompressedNameField<ParsedName<&'a [u8]>>>> {
@@ -150,6 +150,87 @@ impl<'a, const TYPE: u16> ParseRecordData<'a>
     }
 
     ghost lawful = { λ _. names_numbers_data };
+}
+
+/// Two names: MINFO. Octets left after them are a form error
+/// "trailing data".
+impl<'a, const TYPE: u16> ParseRecordData<'a>
+    for FieldsData<
+        TYPE,
+        Sequence<NameField<ParsedName<&'a [u8]>>, NameField<ParsedName<&'a [u8]>>>,
+    > {
+    ghost View = { (List (List ℕ)) × (List (List ℕ)) };
+
+    ghost model = { λ it. (parsed_labels (fields_of it).first.name, parsed_labels (fields_of it).rest.name) };
+
+    ghost reads_type = { λ t. nat_eq t TYPE };
+
+    ghost encodes = { λ _. AllAt NamesAt };
+
+    ghost fails_with = { λ _. NotAll refusal NamesAt NoNames };
+
+    fn parse_rdata(rtype: Rtype, parser: &mut Parser<'a>) -> Result<Option<Self>, ParseError> {
+        FieldsData::read(rtype, parser)
+    }
+
+    ghost lawful = { λ _. names_data };
+}
+
+/// Two names that are never compressed: RP. Octets left after them are a form error
+/// "trailing data".
+impl<'a, const TYPE: u16> ParseRecordData<'a>
+    for FieldsData<
+        TYPE,
+        Sequence<
+            UncompressedNameField<ParsedName<&'a [u8]>>,
+            UncompressedNameField<ParsedName<&'a [u8]>>,
+        >,
+    > {
+    ghost View = { (List (List ℕ)) × (List (List ℕ)) };
+
+    ghost model = { λ it. (parsed_labels (fields_of it).first.name, parsed_labels (fields_of it).rest.name) };
+
+    ghost reads_type = { λ t. nat_eq t TYPE };
+
+    ghost encodes = { λ _. AllAt NamesAt };
+
+    ghost fails_with = { λ _. NotAll refusal NamesAt NoNames };
+
+    fn parse_rdata(rtype: Rtype, parser: &mut Parser<'a>) -> Result<Option<Self>, ParseError> {
+        FieldsData::read(rtype, parser)
+    }
+
+    ghost lawful = { λ _. names_data };
+}
+
+/// A number of 16 bits and two names that are never compressed: PX. Octets left after them are a form error
+/// "trailing data".
+impl<'a, const TYPE: u16> ParseRecordData<'a>
+    for FieldsData<
+        TYPE,
+        Sequence<
+            u16,
+            Sequence<
+                UncompressedNameField<ParsedName<&'a [u8]>>,
+                UncompressedNameField<ParsedName<&'a [u8]>>,
+            >,
+        >,
+    > {
+    ghost View = { ℕ × ((List (List ℕ)) × (List (List ℕ))) };
+
+    ghost model = { λ it. ((fields_of it).first, (parsed_labels (fields_of it).rest.first.name, parsed_labels (fields_of it).rest.rest.name)) };
+
+    ghost reads_type = { λ t. nat_eq t TYPE };
+
+    ghost encodes = { λ _. AllAt NumberNamesAt };
+
+    ghost fails_with = { λ _. NotAll refusal NumberNamesAt NoNumberNames };
+
+    fn parse_rdata(rtype: Rtype, parser: &mut Parser<'a>) -> Result<Option<Self>, ParseError> {
+        FieldsData::read(rtype, parser)
+    }
+
+    ghost lawful = { λ _. number_names_data };
 }
 
 /// An IPv4 address: A. Octets left after it are a form error "trailing data".

@@ -1,5 +1,5 @@
 -- The order of octets that others follow.
-use Rattle.std.proofs.Common.{◌≡◌, ℕ, ◌<◌, List, [], ◌∷◌, ◌++◌, length, refl, sym, ap, ◌∙◌, subst, arith, append-nil, append_assoc}
+use Rattle.std.proofs.Common.{◌≡◌, ℕ, ◌<◌, Bool, true, false, List, [], ◌∷◌, ◌++◌, length, refl, sym, ap, ◌∙◌, subst, arith, append-nil, append_assoc}
 use Rattle.std.specs.Cmp.{ranks}
 use Rattle.std.specs.Cmp.Lexicographic.{slice_cmp}
 use Rattle.std.specs.Ordering.{MatchOrdering, nat_cmp, ordering_then}
@@ -7,9 +7,9 @@ use Rattle.std.specs.declared.cmp.Ordering.{Ordering}
 use Rattle.std.specs.declared.cmp.Ordering.TheVariants.{Less, Equal, Greater}
 use Rattle.domain_flat.proofs.LabelsFromLeft.{absolute_once}
 use Rattle.domain_label.proofs.CanonicalForm.{lowercase_absolute}
-use Rattle.domain_label.specs.Lowercase.{lowercase_labels}
-use Rattle.domain_label.specs.Wire.{wire, IsAbsoluteName}
-use Rattle.domain_list.specs.Order.{lowercase_composed_order}
+use Rattle.domain_label.specs.Wire.{wire, IsAbsolute, IsAbsoluteName}
+use Rattle.domain_list.specs.Order.{composed_order}
+use Rattle.domain_fields.specs.Cases.{cased_labels}
 
 then_then : (o : Ordering) (r a b : Ordering) → (o ≡ Equal → r ≡ ordering_then a b) → ordering_then o r ≡ ordering_then (ordering_then o a) b
 then_then Less r a b h = refl
@@ -41,11 +41,15 @@ as_many_cmp (c ∷ x) (d ∷ y) s t e = then_then (nat_cmp c d) (slice_cmp nat_c
 pub as_many_followed : (x y : List ℕ) (r : Ordering) → r ≡ slice_cmp nat_cmp x y → length x ≡ length y → (s t : List ℕ) → slice_cmp nat_cmp (x ++ s) (y ++ t) ≡ ordering_then r (slice_cmp nat_cmp s t)
 as_many_followed x y r e n s t = as_many_cmp x y s t n ∙ ap (λ o. ordering_then o (slice_cmp nat_cmp s t)) (sym e)
 
--- names in lowercase
-pub names_followed : (xs ys : List (List ℕ)) (r : Ordering) → r ≡ lowercase_composed_order xs ys → IsAbsoluteName xs → IsAbsoluteName ys → (s t : List ℕ) → slice_cmp nat_cmp (wire (lowercase_labels xs) ++ s) (wire (lowercase_labels ys) ++ t) ≡ ordering_then r (slice_cmp nat_cmp s t)
-names_followed xs ys r e a b s t =
-    apart_cmp (wire (lowercase_labels xs)) (wire (lowercase_labels ys)) s t
-    (λ p q same. ap wire (absolute_once (lowercase_labels xs) (lowercase_labels ys) p q (lowercase_absolute xs a.0) (lowercase_absolute ys b.0) same))
+cased_absolute : (lowercase : Bool) (ls : List (List ℕ)) → IsAbsoluteName ls → IsAbsolute (cased_labels lowercase ls)
+cased_absolute true ls name = lowercase_absolute ls name.0
+cased_absolute false ls name = name.0
+
+-- names in lowercase, or with their case
+pub names_followed : (lowercase : Bool) (xs ys : List (List ℕ)) (r : Ordering) → r ≡ composed_order (cased_labels lowercase xs) (cased_labels lowercase ys) → IsAbsoluteName xs → IsAbsoluteName ys → (s t : List ℕ) → slice_cmp nat_cmp (wire (cased_labels lowercase xs) ++ s) (wire (cased_labels lowercase ys) ++ t) ≡ ordering_then r (slice_cmp nat_cmp s t)
+names_followed lowercase xs ys r e a b s t =
+    apart_cmp (wire (cased_labels lowercase xs)) (wire (cased_labels lowercase ys)) s t
+    (λ p q same. ap wire (absolute_once (cased_labels lowercase xs) (cased_labels lowercase ys) p q (cased_absolute lowercase xs a) (cased_absolute lowercase ys b) same))
     ∙ ap (λ o. ordering_then o (slice_cmp nat_cmp s t)) (sym e)
 
 grouped : (a b c d s t : List ℕ) → slice_cmp nat_cmp ((a ++ c) ++ s) ((b ++ d) ++ t) ≡ slice_cmp nat_cmp (a ++ (c ++ s)) (b ++ (d ++ t))

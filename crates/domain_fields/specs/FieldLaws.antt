@@ -1,11 +1,11 @@
 -- The laws of fields.
 use Rattle.std.specs.Prelude.{◌≡◌, ℕ, Bool, true, false, List, Option, None, Some, if◌then◌else◌, length, refl}
 use Rattle.std.proofs.Common.{ap, subst, ◌∙◌}
-use Rattle.domain_label.specs.Lowercase.{lowercase_labels}
 use Rattle.domain_label.specs.Wire.{wire, IsAbsoluteName}
 use Rattle.domain_label.proofs.CanonicalForm.{lowercase_size}
 use Rattle.domain_rdata.specs.FlatNames.{wire_reads_back}
 use Rattle.domain_rdata.specs.RecordData.{NameOctets}
+use Rattle.domain_fields.specs.Cases.{cased_labels}
 
 abbrev known : Option ℕ → ℕ
 known None = 0
@@ -22,8 +22,9 @@ pub fixed_size : (o s : List ℕ) (len n : ℕ) → length o ≡ len → Some le
 fixed_size o s len n has told is = ap length is ∙ (has ∙ known_once told)
 
 -- the length of the canonical form of a name
-pub canonical_size : (ls : List (List ℕ)) (n : ℕ) → Some (length (wire ls)) ≡ Some n → length (wire (lowercase_labels ls)) ≡ n
-canonical_size ls n told = lowercase_size ls ∙ known_once told
+pub cased_size : (lowercase : Bool) (ls : List (List ℕ)) (n : ℕ) → Some (length (wire ls)) ≡ Some n → length (wire (cased_labels lowercase ls)) ≡ n
+cased_size true ls n told = lowercase_size ls ∙ known_once told
+cased_size false ls n told = known_once told
 
 -- the length of a name, where it is known
 pub name_size : (ls : List (List ℕ)) (c : Bool) (n : ℕ) (t s : List ℕ) → (if c then None else Some (length (wire ls))) ≡ Some n → NameOctets ls c t s → length s ≡ n

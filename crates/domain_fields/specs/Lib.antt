@@ -1,3 +1,4 @@
+pub mod Cases
 pub mod Data
 pub mod FieldLaws
 pub mod Names

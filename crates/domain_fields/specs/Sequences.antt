@@ -14,6 +14,12 @@ pub record BothComposed (First Rest : List ℕ → List ℕ → Type 0) (t s : L
   pub rest_allowed : Rest (t ++ first) rest
   pub all : s ≡ first ++ rest
 
+-- What a target becomes where one field was appended, and then the next.
+pub record BothWritten {T : Type 0} (First Rest : T → T → Type 0) (old new : T) : Type 0 where
+  pub middle : T
+  pub first : First old middle
+  pub rest : Rest middle new
+
 -- A length of two fields, where both are known and their sum fits 16 bits.
 abbrev pub both_len : Option ℕ → Option ℕ → Option ℕ
 both_len None _ = None

@@ -11,14 +11,15 @@ use domain_wire::FixedLen;
 /// Numbers and addresses have the same number of octets whatever they are. A name may be written shorter,
 /// where the target writes names shorter and the type of the record allows it.
 pub trait DataField {
-    /// The octets of the field, with no name compressed.
-    ghost uncompressed: { Self → List ℕ };
+    /// The octets of the field with no name compressed: each name in lowercase if so, else with its case.
+    ghost uncompressed: { Self → Bool → List ℕ };
 
     /// The octets that may be appended to these octets of a target, which may write names shorter or not.
     ghost composed: { Self → Bool → List ℕ → List ℕ → Type 0 };
 
-    /// The octets of the canonical form (RFC 4034, 6.2).
-    ghost canonical: { Self → List ℕ };
+    /// What a target becomes where the field was appended: `octets` are those of a target, and `named` is what a target
+    /// becomes where a name was appended as the target may write it ([`Composer::appends`]).
+    ghost written: { Self → (T : Type 0) → (T → List ℕ) → (T → List (List ℕ) → T → Type 0) → T → T → Type 0 };
 
     /// How many octets the field has, where that is known before it is composed.
     ghost known_len: { Self → Bool → Option ℕ };
@@ -38,43 +39,46 @@ pub trait DataField {
         target: &mut Target,
     ) -> Result<(), Target::AppendError>
         ensures ok { OnOk result (Appended (composed self.now Target.compresses (Target.octets target.old)) (Target.octets target.old) (Target.octets target.new)) }
+        ensures names { OnOk result (written self.now Target Target.octets Target.appends target.old target.new) }
         ensures unchanged { OnErr result (Target.octets target.new ≡ Target.octets target.old) }
         ensures full { OnErr result (Exceeds (composed self.now Target.compresses (Target.octets target.old)) (Target.octets target.old) (Target.capacity target.old)) }
         ensures capacity { Target.capacity target.old ≤ Target.capacity target.new };
 
-    /// Appends the canonical form of the field, or nothing.
+    /// Appends the canonical form of the field, or nothing (RFC 4034, 6.2): no name is compressed, and names are in lowercase
+    /// if `lowercase`, which the type of the record tells.
     ///
     /// Fails only where its octets exceed the spare capacity of the target, and leaves its
     /// octets then.
     fn compose_canonical_field<Target: Composer>(
         &self,
+        lowercase: bool,
         target: &mut Target,
     ) -> Result<(), Target::AppendError>
-        ensures ok { OnOk result (Target.octets target.new ≡ Target.octets target.old ++ canonical self.now) }
+        ensures ok { OnOk result (Target.octets target.new ≡ Target.octets target.old ++ uncompressed self.now lowercase) }
         ensures unchanged { OnErr result (Target.octets target.new ≡ Target.octets target.old) }
-        ensures full { OnErr result (Target.capacity target.old < length (Target.octets target.old) + length (canonical self.now)) }
+        ensures full { OnErr result (Target.capacity target.old < length (Target.octets target.old) + length (uncompressed self.now lowercase)) }
         ensures capacity { Target.capacity target.old ≤ Target.capacity target.new };
 
     /// The field may always be written with no name compressed.
-    ghost plain: { (it : Self) (compresses : Bool) (t : List ℕ) → composed it compresses t (uncompressed it) };
+    ghost plain: { (it : Self) (compresses : Bool) (t : List ℕ) → composed it compresses t (uncompressed it false) };
 
     /// A target that writes no name shorter takes nothing else.
-    ghost flat: { (it : Self) (t s : List ℕ) → composed it false t s → s ≡ uncompressed it };
+    ghost flat: { (it : Self) (t s : List ℕ) → composed it false t s → s ≡ uncompressed it false };
 
     /// A length that is known is that of all octets that may be appended.
     ghost sized: { (it : Self) (compresses : Bool) (n : ℕ) (t s : List ℕ) → known_len it compresses ≡ Some n → composed it compresses t s → length s ≡ n };
 
     /// And that of the canonical form, where no name is written shorter.
-    ghost canonical_sized: { (it : Self) (n : ℕ) → known_len it false ≡ Some n → length (canonical it) ≡ n };
+    ghost canonical_sized: { (it : Self) (lowercase : Bool) (n : ℕ) → known_len it false ≡ Some n → length (uncompressed it lowercase) ≡ n };
 }
 
 /// A number or an address: the octets are the same in each form.
 impl<T: FixedLen> DataField for T {
-    ghost uncompressed = { T.composed_octets };
+    ghost uncompressed = { λ it _. T.composed_octets it };
 
     ghost composed = { λ it _ _ s. s ≡ T.composed_octets it };
 
-    ghost canonical = { T.composed_octets };
+    ghost written = { λ it _ octets _ old new. octets new ≡ octets old ++ T.composed_octets it };
 
     ghost known_len = { λ _ _. Some T.LEN };
 
@@ -91,6 +95,7 @@ impl<T: FixedLen> DataField for T {
 
     fn compose_canonical_field<Target: Composer>(
         &self,
+        _lowercase: bool,
         target: &mut Target,
     ) -> Result<(), Target::AppendError> {
         self.compose(target)
@@ -102,5 +107,5 @@ impl<T: FixedLen> DataField for T {
 
     ghost sized = { λ it _ n t s known is. fixed_size (T.composed_octets it) s T.LEN n (T.fixed it) known is };
 
-    ghost canonical_sized = { λ it n known. fixed_size (T.composed_octets it) (T.composed_octets it) T.LEN n (T.fixed it) known refl };
+    ghost canonical_sized = { λ it _ n known. fixed_size (T.composed_octets it) (T.composed_octets it) T.LEN n (T.fixed it) known refl };
 }

@@ -2,11 +2,12 @@
 ghost use Rattle.std.specs.Prelude.{◌≡◌, ◌++◌, ◌+◌, ◌<◌, ◌≤◌, ℕ, List, length, OnOk, OnErr, None, Some, if◌then◌else◌, refl};
 ghost use Rattle.domain_label.specs.Lowercase.{lowercase_labels};
 ghost use Rattle.domain_label.specs.Wire.{wire};
-ghost use Rattle.domain_list.specs.Order.{lowercase_composed_order};
+ghost use Rattle.domain_list.specs.Order.{composed_order, lowercase_composed_order};
 ghost use Rattle.domain_parsed.specs.ParsedNames.{parsed_labels};
 ghost use Rattle.domain_rdata.specs.ReadBack.{Appended, Exceeds};
 ghost use Rattle.domain_rdata.specs.RecordData.{NameOctets};
-ghost use Rattle.domain_fields.specs.FieldLaws.{fixed_size, canonical_size, name_size, wire_octets};
+ghost use Rattle.domain_fields.specs.Cases.{cased_labels};
+ghost use Rattle.domain_fields.specs.FieldLaws.{fixed_size, cased_size, name_size, wire_octets};
 ghost use Rattle.domain_fields.specs.Names.{NameFieldAt, NoNameField, name_reading};
 ghost use Rattle.domain_fields.specs.Reading.{any_reading};
 
@@ -26,6 +27,7 @@ pub trait DataName: Absolute {
     /// Appends octets that the target may write for the name, or nothing, as `append_compressed_name`.
     fn append_name<Target: Composer>(&self, target: &mut Target) -> Result<(), Target::AppendError>
         ensures ok { OnOk result (Appended (Target.may_append target.old (Self.labels self.now)) (Target.octets target.old) (Target.octets target.new)) }
+        ensures appends { OnOk result (Target.appends target.old (Self.labels self.now) target.new) }
         ensures unchanged { OnErr result (Target.octets target.new ≡ Target.octets target.old) }
         ensures full { OnErr result (Exceeds (Target.may_append target.old (Self.labels self.now)) (Target.octets target.old) (Target.capacity target.old)) }
         ensures capacity { Target.capacity target.old ≤ Target.capacity target.new };
@@ -50,9 +52,40 @@ pub trait DataName: Absolute {
         ensures full { OnErr result (Target.capacity target.old < length (Target.octets target.old) + length (wire (lowercase_labels (Self.labels self.now)))) }
         ensures capacity { Target.capacity target.old ≤ Target.capacity target.new };
 
+    /// The order of the octets of the two names with no pointer.
+    fn uncompressed_cmp(&self, other: &Self) -> Ordering
+        ensures { result ≡ composed_order (Self.labels self.now) (Self.labels other.now) };
+
     /// The order of the octets of the two names in lowercase with no pointer.
     fn lowercase_cmp(&self, other: &Self) -> Ordering
         ensures { result ≡ lowercase_composed_order (Self.labels self.now) (Self.labels other.now) };
+
+    /// Appends the name with no pointer, in lowercase if so, or nothing.
+    final fn append_cased<Target: Composer>(
+        &self,
+        lowercase: bool,
+        target: &mut Target,
+    ) -> Result<(), Target::AppendError>
+        ensures ok { OnOk result (Target.octets target.new ≡ Target.octets target.old ++ wire (cased_labels lowercase (Self.labels self.now))) }
+        ensures unchanged { OnErr result (Target.octets target.new ≡ Target.octets target.old) }
+        ensures full { OnErr result (Target.capacity target.old < length (Target.octets target.old) + length (wire (cased_labels lowercase (Self.labels self.now)))) }
+        ensures capacity { Target.capacity target.old ≤ Target.capacity target.new }
+    {
+        match lowercase {
+            true => self.append_lowercase(target),
+            false => self.append_uncompressed(target),
+        }
+    }
+
+    /// The order of the octets of the two names with no pointer, in lowercase if so.
+    final fn cased_cmp(&self, other: &Self, lowercase: bool) -> Ordering
+        ensures { result ≡ composed_order (cased_labels lowercase (Self.labels self.now)) (cased_labels lowercase (Self.labels other.now)) }
+    {
+        match lowercase {
+            true => self.lowercase_cmp(other),
+            false => self.uncompressed_cmp(other),
+        }
+    }
 }
 
 impl<Octs: Octets> DataName for ParsedName<Octs> {
@@ -75,6 +108,10 @@ impl<Octs: Octets> DataName for ParsedName<Octs> {
         target: &mut Target,
     ) -> Result<(), Target::AppendError> {
         self.compose_canonical(target)
+    }
+
+    fn uncompressed_cmp(&self, other: &ParsedName<Octs>) -> Ordering {
+        self.composed_cmp(other)
     }
 
     fn lowercase_cmp(&self, other: &ParsedName<Octs>) -> Ordering {
@@ -104,12 +141,16 @@ impl<Octs: Octets> DataName for Name<Octs> {
         self.compose_canonical(target)
     }
 
+    fn uncompressed_cmp(&self, other: &Name<Octs>) -> Ordering {
+        self.composed_cmp(other)
+    }
+
     fn lowercase_cmp(&self, other: &Name<Octs>) -> Ordering {
         self.lowercase_composed_cmp(other)
     }
 }
 
-/// A name that may be compressed: of the types that RFC 1035 defines (RFC 3597, 4).
+/// A name that may be compressed: of the types that RFC 1035 defines alone (RFC 3597, 4).
 #[derive(Clone, Copy, Debug, Drop, PartialEq, Eq)]
 pub struct NameField<N> {
     pub name: N,
@@ -136,11 +177,11 @@ impl<'a> ReadField<'a, ParseError> for NameField<ParsedName<&'a [u8]>> {
 }
 
 impl<N: DataName> DataField for NameField<N> {
-    ghost uncompressed = { λ it. wire (N.labels it.name) };
+    ghost uncompressed = { λ it lowercase. wire (cased_labels lowercase (N.labels it.name)) };
 
     ghost composed = { λ it c t s. NameOctets (N.labels it.name) c t s };
 
-    ghost canonical = { λ it. wire (lowercase_labels (N.labels it.name)) };
+    ghost written = { λ it _ _ named old new. named old (N.labels it.name) new };
 
     ghost known_len = { λ it c. if c then None else Some (length (wire (N.labels it.name))) };
 
@@ -160,9 +201,10 @@ impl<N: DataName> DataField for NameField<N> {
 
     fn compose_canonical_field<Target: Composer>(
         &self,
+        lowercase: bool,
         target: &mut Target,
     ) -> Result<(), Target::AppendError> {
-        self.name.append_lowercase(target)
+        self.name.append_cased(lowercase, target)
     }
 
     ghost plain = { λ it c t. wire_octets (N.labels it.name) c t (N.absolute it.name) };
@@ -171,10 +213,13 @@ impl<N: DataName> DataField for NameField<N> {
 
     ghost sized = { λ it c n t s known name. name_size (N.labels it.name) c n t s known name };
 
-    ghost canonical_sized = { λ it n known. canonical_size (N.labels it.name) n known };
+    ghost canonical_sized = { λ it lowercase n known. cased_size lowercase (N.labels it.name) n known };
 }
 
 /// A name that is never compressed: of all other types (RFC 3597, 4).
+///
+/// Whether the canonical form has it in lowercase or keeps its case is told by the type of the record, not by the field:
+/// [`Rtype::has_lowercase_names`](domain_rdata::Rtype::has_lowercase_names).
 #[derive(Clone, Copy, Debug, Drop, PartialEq, Eq)]
 pub struct UncompressedNameField<N> {
     pub name: N,
@@ -203,11 +248,11 @@ impl<'a> ReadField<'a, ParseError> for UncompressedNameField<ParsedName<&'a [u8]
 }
 
 impl<N: DataName> DataField for UncompressedNameField<N> {
-    ghost uncompressed = { λ it. wire (N.labels it.name) };
+    ghost uncompressed = { λ it lowercase. wire (cased_labels lowercase (N.labels it.name)) };
 
     ghost composed = { λ it _ _ s. s ≡ wire (N.labels it.name) };
 
-    ghost canonical = { λ it. wire (lowercase_labels (N.labels it.name)) };
+    ghost written = { λ it _ octets _ old new. octets new ≡ octets old ++ wire (N.labels it.name) };
 
     ghost known_len = { λ it _. Some (length (wire (N.labels it.name))) };
 
@@ -224,9 +269,10 @@ impl<N: DataName> DataField for UncompressedNameField<N> {
 
     fn compose_canonical_field<Target: Composer>(
         &self,
+        lowercase: bool,
         target: &mut Target,
     ) -> Result<(), Target::AppendError> {
-        self.name.append_lowercase(target)
+        self.name.append_cased(lowercase, target)
     }
 
     ghost plain = { λ _ _ _. refl };
@@ -235,5 +281,5 @@ impl<N: DataName> DataField for UncompressedNameField<N> {
 
     ghost sized = { λ it _ n t s known is. fixed_size (wire (N.labels it.name)) s (length (wire (N.labels it.name))) n refl known is };
 
-    ghost canonical_sized = { λ it n known. canonical_size (N.labels it.name) n known };
+    ghost canonical_sized = { λ it lowercase n known. cased_size lowercase (N.labels it.name) n known };
 }

@@ -12,14 +12,16 @@ use std::cmp::Ordering;
 /// A field whose canonical form ends where its own octets tell, so that data is compared field by field.
 pub trait OrderedField: DataField {
     /// The order of the octets of the canonical forms from the left; what begins another comes first (RFC 4034, 6.3).
-    fn canonical_field_cmp(&self, other: &Self) -> Ordering
-        ensures order { result ≡ slice_cmp nat_cmp (Self.canonical self.now) (Self.canonical other.now) }
+    ///
+    /// Names are in lowercase there if `lowercase`, which the type of the record tells.
+    fn canonical_field_cmp(&self, other: &Self, lowercase: bool) -> Ordering
+        ensures order { result ≡ slice_cmp nat_cmp (Self.uncompressed self.now lowercase) (Self.uncompressed other.now lowercase) }
         // With other fields after them, these are looked at only where the two are the same.
-        ensures followed { (s t : List ℕ) → slice_cmp nat_cmp (Self.canonical self.now ++ s) (Self.canonical other.now ++ t) ≡ ordering_then result (slice_cmp nat_cmp s t) };
+        ensures followed { (s t : List ℕ) → slice_cmp nat_cmp (Self.uncompressed self.now lowercase ++ s) (Self.uncompressed other.now lowercase ++ t) ≡ ordering_then result (slice_cmp nat_cmp s t) };
 }
 
 impl OrderedField for u16 {
-    fn canonical_field_cmp(&self, other: &u16) -> Ordering {
+    fn canonical_field_cmp(&self, other: &u16, _lowercase: bool) -> Ordering {
         self.to_be_bytes()
             .as_slice()
             .cmp(other.to_be_bytes().as_slice())
@@ -27,7 +29,7 @@ impl OrderedField for u16 {
 }
 
 impl OrderedField for u32 {
-    fn canonical_field_cmp(&self, other: &u32) -> Ordering {
+    fn canonical_field_cmp(&self, other: &u32, _lowercase: bool) -> Ordering {
         self.to_be_bytes()
             .as_slice()
             .cmp(other.to_be_bytes().as_slice())
@@ -35,36 +37,36 @@ impl OrderedField for u32 {
 }
 
 impl OrderedField for Ipv4Addr {
-    fn canonical_field_cmp(&self, other: &Ipv4Addr) -> Ordering {
+    fn canonical_field_cmp(&self, other: &Ipv4Addr, _lowercase: bool) -> Ordering {
         self.octets().as_slice().cmp(other.octets().as_slice())
     }
 }
 
 impl OrderedField for Ipv6Addr {
-    fn canonical_field_cmp(&self, other: &Ipv6Addr) -> Ordering {
+    fn canonical_field_cmp(&self, other: &Ipv6Addr, _lowercase: bool) -> Ordering {
         self.octets().as_slice().cmp(other.octets().as_slice())
     }
 }
 
-/// The order of the names in lowercase, as octets.
+/// The order of the octets of the names.
 impl<N: DataName> OrderedField for NameField<N> {
-    fn canonical_field_cmp(&self, other: &NameField<N>) -> Ordering {
-        self.name.lowercase_cmp(&other.name)
+    fn canonical_field_cmp(&self, other: &NameField<N>, lowercase: bool) -> Ordering {
+        self.name.cased_cmp(&other.name, lowercase)
     }
 }
 
-/// The order of the names in lowercase, as octets.
+/// The order of the octets of the names.
 impl<N: DataName> OrderedField for UncompressedNameField<N> {
-    fn canonical_field_cmp(&self, other: &UncompressedNameField<N>) -> Ordering {
-        self.name.lowercase_cmp(&other.name)
+    fn canonical_field_cmp(&self, other: &UncompressedNameField<N>, lowercase: bool) -> Ordering {
+        self.name.cased_cmp(&other.name, lowercase)
     }
 }
 
 /// The first fields, and the rest where these are the same.
 impl<A: OrderedField, B: OrderedField> OrderedField for Sequence<A, B> {
-    fn canonical_field_cmp(&self, other: &Sequence<A, B>) -> Ordering {
-        match self.first.canonical_field_cmp(&other.first) {
-            Ordering::Equal => self.rest.canonical_field_cmp(&other.rest),
+    fn canonical_field_cmp(&self, other: &Sequence<A, B>, lowercase: bool) -> Ordering {
+        match self.first.canonical_field_cmp(&other.first, lowercase) {
+            Ordering::Equal => self.rest.canonical_field_cmp(&other.rest, lowercase),
             order => order,
         }
     }

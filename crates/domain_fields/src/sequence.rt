@@ -1,6 +1,6 @@
 //! One field after another.
 ghost use Rattle.std.specs.Prelude.{◌++◌, false};
-ghost use Rattle.domain_fields.specs.Sequences.{BothComposed, BothAt, NotBoth, both_reading, both_len, both_plain, both_flat, both_sized, both_canonical};
+ghost use Rattle.domain_fields.specs.Sequences.{BothComposed, BothWritten, BothAt, NotBoth, both_reading, both_len, both_plain, both_flat, both_sized, both_canonical};
 
 use crate::field::DataField;
 use crate::read::{FieldError, ReadField};
@@ -44,11 +44,11 @@ impl<'a, E: FieldError, A: ReadField<'a, E> + Drop, B: ReadField<'a, E> + Drop> 
 
 /// The octets of the first field, and then those of the rest.
 impl<A: DataField, B: DataField> DataField for Sequence<A, B> {
-    ghost uncompressed = { λ it. A.uncompressed it.first ++ B.uncompressed it.rest };
+    ghost uncompressed = { λ it lowercase. A.uncompressed it.first lowercase ++ B.uncompressed it.rest lowercase };
 
     ghost composed = { λ it c. BothComposed (A.composed it.first c) (B.composed it.rest c) };
 
-    ghost canonical = { λ it. A.canonical it.first ++ B.canonical it.rest };
+    ghost written = { λ it T octets named. BothWritten (A.written it.first T octets named) (B.written it.rest T octets named) };
 
     ghost known_len = { λ it c. both_len (A.known_len it.first c) (B.known_len it.rest c) };
 
@@ -82,24 +82,25 @@ impl<A: DataField, B: DataField> DataField for Sequence<A, B> {
 
     fn compose_canonical_field<Target: Composer>(
         &self,
+        lowercase: bool,
         target: &mut Target,
     ) -> Result<(), Target::AppendError> {
         let start = target.as_slice().len();
-        if let Err(e) = self.first.compose_canonical_field(target) {
+        if let Err(e) = self.first.compose_canonical_field(lowercase, target) {
             return Err(e);
         }
-        if let Err(e) = self.rest.compose_canonical_field(target) {
+        if let Err(e) = self.rest.compose_canonical_field(lowercase, target) {
             target.truncate(start);
             return Err(e);
         }
         Ok(())
     }
 
-    ghost plain = { λ it c t. both_plain (A.composed it.first c) (B.composed it.rest c) t (A.uncompressed it.first) (B.uncompressed it.rest) (A.plain it.first c t) (B.plain it.rest c (t ++ A.uncompressed it.first)) };
+    ghost plain = { λ it c t. both_plain (A.composed it.first c) (B.composed it.rest c) t (A.uncompressed it.first false) (B.uncompressed it.rest false) (A.plain it.first c t) (B.plain it.rest c (t ++ A.uncompressed it.first false)) };
 
-    ghost flat = { λ it t s both. both_flat (A.composed it.first false) (B.composed it.rest false) (A.uncompressed it.first) (B.uncompressed it.rest) t s (A.flat it.first) (B.flat it.rest) both };
+    ghost flat = { λ it t s both. both_flat (A.composed it.first false) (B.composed it.rest false) (A.uncompressed it.first false) (B.uncompressed it.rest false) t s (A.flat it.first) (B.flat it.rest) both };
 
     ghost sized = { λ it c n t s known both. both_sized (A.composed it.first c) (B.composed it.rest c) (A.known_len it.first c) (B.known_len it.rest c) n t s (λ k t s. A.sized it.first c k t s) (λ k t s. B.sized it.rest c k t s) known both };
 
-    ghost canonical_sized = { λ it n known. both_canonical (A.canonical it.first) (B.canonical it.rest) (A.known_len it.first false) (B.known_len it.rest false) n (A.canonical_sized it.first) (B.canonical_sized it.rest) known };
+    ghost canonical_sized = { λ it lowercase n known. both_canonical (A.uncompressed it.first lowercase) (B.uncompressed it.rest lowercase) (A.known_len it.first false) (B.known_len it.rest false) n (A.canonical_sized it.first lowercase) (B.canonical_sized it.rest lowercase) known };
 }

@@ -1,2 +1,3 @@
+pub mod CanonicalForms
 pub mod WireForms
 pub mod Lengths

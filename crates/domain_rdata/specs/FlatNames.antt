@@ -1,11 +1,10 @@
 -- A wire format is read as its labels.
-use Rattle.std.proofs.Common.{◌≡◌, ℕ, ◌+◌, Bool, false, List, [], ◌++◌, length, refl, sym, subst, arith, append-nil}
+use Rattle.std.proofs.Common.{◌≡◌, ℕ, ◌+◌, List, [], ◌++◌, length, refl, sym, subst, arith, append-nil}
 use Rattle.domain_label.specs.Wire.{wire, IsAbsoluteName}
 use Rattle.domain_reading.proofs.UncompressedIsRead.{plain_names, plain_front}
 use Rattle.domain_reading.proofs.Reading.{names_within}
 use Rattle.domain_reading.specs.Grammar.{Names, Encoding, root}
 use Rattle.domain_rdata.specs.ReadBack.{ReadsBack, Appended}
-use Rattle.domain_rdata.specs.RecordData.{NameOctets}
 
 -- The wire format of an absolute name is read as this name.
 pub wire_reads_back : (t : List ℕ) (ls : List (List ℕ)) → IsAbsoluteName ls → ReadsBack t ls (wire ls)
@@ -21,13 +20,6 @@ wire_reads_back t ls name =
 -- The same of octets that equal the wire format.
 pub flat_reads_back : (t : List ℕ) (ls : List (List ℕ)) (s : List ℕ) → IsAbsoluteName ls → s ≡ wire ls → ReadsBack t ls s
 flat_reads_back t ls s name e = let P : List ℕ → Type 0 = λ x. ReadsBack t ls x in subst P (sym e) (wire_reads_back t ls name)
-
--- What stands for a name in data that isn't compressed may stand for it after any octets, compressed or not.
-pub flat_name_octets : (ls : List (List ℕ)) (compresses : Bool) (t u s : List ℕ) → IsAbsoluteName ls → NameOctets ls false t s → NameOctets ls compresses u s
-flat_name_octets ls compresses t u s name x = record {
-  read = flat_reads_back u ls s name (x.flat refl);
-  flat = λ _. x.flat refl;
-}
 
 -- The wire format after octets is what may be appended where nothing else is.
 pub flat_appended : (t u : List ℕ) (ls : List (List ℕ)) → u ≡ t ++ wire ls → Appended (λ s. s ≡ wire ls) t u

@@ -1,4 +1,5 @@
 pub mod AnyData
+pub mod Canonical
 pub mod FlatNames
 pub mod ReadBack
 pub mod RecordData

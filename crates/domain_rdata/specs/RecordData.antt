@@ -44,16 +44,6 @@ abbrev pub ComposeRefused : {E : Type 0} → (List ℕ → List ℕ → Type 0) 
 ComposeRefused May old capacity (Append e) = ExceedsWithLength May old capacity
 ComposeRefused May old capacity (Long _) = IsTooLong May old
 
--- The length of the canonical form in two octets and then the form were appended.
-pub record LengthAndCanonical (form old new : List ℕ) : Type 0 where
-  pub few : length form ≤ 65535
-  pub all : new ≡ old ++ to_be_bytes w16 (length form) ++ form
-
--- Why the canonical form wasn't appended with its length.
-abbrev pub CanonicalRefused : {E : Type 0} → List ℕ → List ℕ → ℕ → ComposeRdataError E → Type 0
-CanonicalRefused form old capacity (Append e) = capacity < length old + 2 + length form
-CanonicalRefused form old capacity (Long _) = 65535 < length form
-
 -- the text that tells why
 abbrev pub compose_error_text : {E : Type 0} → ComposeRdataError E → List ℕ
 compose_error_text (Append e) = codes "buffer size exceeded"

@@ -1,11 +1,12 @@
 //! What record data is read and composed by (RFC 1035, 3.2.1).
-ghost use Rattle.std.specs.Prelude.{◌≡◌, ℕ, ◌++◌, ◌+◌, ◌<◌, ◌≤◌, List, length, take, drop, ◌↔◌, OnOk, OnErr, IfSome, IfOk, IfErr, IsNone, Bool, false, true, Some};
+ghost use Rattle.std.specs.Prelude.{◌≡◌, ℕ, ◌++◌, ◌+◌, ◌<◌, ◌≤◌, List, length, take, drop, ◌↔◌, OnOk, OnErr, IfSome, IfOk, IfErr, IsNone, Bool, false, true, Option, Some};
 ghost use Rattle.octseq.specs.Parsing.{message, position, MovesTo};
 ghost use Rattle.domain_wire.specs.Values.{IsReading};
 ghost use Rattle.domain_wire.specs.declared.error.ParseError.{ParseError};
 ghost use Rattle.std.specs.Int.{w16, to_be_bytes};
 ghost use Rattle.domain_rdata.specs.ReadBack.{Appended, Exceeds};
-ghost use Rattle.domain_rdata.specs.RecordData.{DataAfterLength, LengthAndData, LengthAndCanonical, ExceedsWithLength, ComposeRefused, CanonicalRefused};
+ghost use Rattle.domain_rdata.specs.RecordData.{DataAfterLength, LengthAndData, ExceedsWithLength, ComposeRefused};
+ghost use Rattle.domain_rdata.specs.Canonical.{canonical_form, WithForm, WithLengthAndForm, FormRefused, CanonicalRefused};
 ghost use Rattle.domain_rdata.specs.Rtypes.{rtype_number};
 
 use crate::composer::Composer;
@@ -41,6 +42,34 @@ impl<E> fmt::Display for ComposeRdataError<E> {
 
 impl<E: fmt::Debug + Drop> Error for ComposeRdataError<E> {}
 
+/// Why the canonical form of record data couldn't be appended.
+#[derive(Clone, Copy, Debug, Drop)]
+pub enum CanonicalError<E> {
+    /// The target refused octets.
+    Append(E),
+    /// The data has more than 65,535 octets.
+    Long(LongRecordData),
+    /// Names of this type are in lowercase in the canonical form, and where they are isn't known of data that is held as
+    /// octets.
+    UnknownNames,
+}
+
+impl<E> fmt::Display for CanonicalError<E> {
+    ghost use Rattle.domain_rdata.specs.Canonical.{canonical_error_text};
+
+    ghost output = { λ e. Some (canonical_error_text e) };
+
+    fn fmt<W: fmt::Write>(&self, f: &mut fmt::Formatter<W>) -> fmt::Result {
+        match self {
+            CanonicalError::Append(_) => write!(f, "buffer size exceeded"),
+            CanonicalError::Long(_) => write!(f, "record data too long"),
+            CanonicalError::UnknownNames => write!(f, "names in record data not known"),
+        }
+    }
+}
+
+impl<E: fmt::Debug + Drop> Error for CanonicalError<E> {}
+
 /// The most octets of record data: a length of 16 bits tells no more.
 const MOST_OCTETS: usize = 65535;
 
@@ -71,9 +100,19 @@ pub trait ComposeRecordData: RecordData {
     /// not.
     ghost composed: { Self → Bool → List ℕ → List ℕ → Type 0 };
 
-    /// The octets of the canonical form (RFC 4034, 6.2). They are what the type says; that they are another
-    /// form of the same data isn't asked of it.
-    ghost canonical: { Self → List ℕ };
+    /// What a target becomes where the data was appended: `octets` are those of a target, and `named` is what a target
+    /// becomes where a name was appended as the target may write it ([`Composer::appends`]).
+    ///
+    /// So a name that may be compressed is left to the target.
+    ghost written: { Self → (T : Type 0) → (T → List ℕ) → (T → List (List ℕ) → T → Type 0) → T → T → Type 0 };
+
+    /// The octets with no name compressed: all that a target takes that doesn't write names shorter.
+    ghost uncompressed: { Self → List ℕ };
+
+    /// The same with each name in lowercase. `None` where it isn't known which of the octets are names.
+    ///
+    /// The canonical form is by `canonical_form` the one or the other, as the type of the record tells (RFC 4034, 6.2).
+    ghost lowercase: { Self → Option (List ℕ) };
 
     /// Whether the number of the octets is known, for a target that may write names shorter or for one
     /// that doesn't.
@@ -84,7 +123,7 @@ pub trait ComposeRecordData: RecordData {
     fn rdlen(&self, compress: bool) -> Option<u16>
         ensures known { IsNone result ↔ (knows_len self.now compress ≡ false) }
         ensures composed { IfSome result (λ n. (t s : List ℕ) → composed self.now compress t s → length s ≡ n) }
-        ensures canonical { compress ≡ false → IfSome result (λ n. length (canonical self.now) ≡ n) };
+        ensures canonical { compress ≡ false → IfSome result (λ n. IfSome (canonical_form (Self.type_number self.now) (uncompressed self.now) (lowercase self.now)) (λ octets. length octets ≡ n)) };
 
     /// Appends the data, or nothing.
     ///
@@ -95,21 +134,23 @@ pub trait ComposeRecordData: RecordData {
         target: &mut Target,
     ) -> Result<(), Target::AppendError>
         ensures ok { OnOk result (Appended (composed self.now Target.compresses (Target.octets target.old)) (Target.octets target.old) (Target.octets target.new)) }
+        ensures names { OnOk result (written self.now Target Target.octets Target.appends target.old target.new) }
         ensures unchanged { OnErr result (Target.octets target.new ≡ Target.octets target.old) }
         ensures full { OnErr result (Exceeds (composed self.now Target.compresses (Target.octets target.old)) (Target.octets target.old) (Target.capacity target.old)) }
         ensures capacity { Target.capacity target.old ≤ Target.capacity target.new };
 
-    /// Appends the canonical form of the data, which is never compressed, or nothing (RFC 4034, 6.2).
+    /// Appends the canonical form of the data, or nothing (RFC 4034, 6.2): no name is compressed, and names are in lowercase
+    /// exactly where [`Rtype::has_lowercase_names`] tells so of the type.
     ///
-    /// It is refused only where its octets exceed the spare capacity of the target, and leaves its
-    /// octets then.
+    /// `Append` only where its octets exceed the spare capacity of the target, and `UnknownNames` exactly where the type
+    /// has names in lowercase and the data is held as octets. Neither changes the target's octets. It is never `Long`.
     fn compose_canonical_rdata<Target: Composer>(
         &self,
         target: &mut Target,
-    ) -> Result<(), Target::AppendError>
-        ensures ok { OnOk result (Target.octets target.new ≡ Target.octets target.old ++ canonical self.now) }
+    ) -> Result<(), CanonicalError<Target::AppendError>>
+        ensures ok { OnOk result (WithForm (canonical_form (Self.type_number self.now) (uncompressed self.now) (lowercase self.now)) (Target.octets target.old) (Target.octets target.new)) }
         ensures unchanged { OnErr result (Target.octets target.new ≡ Target.octets target.old) }
-        ensures full { OnErr result (Target.capacity target.old < length (Target.octets target.old) + length (canonical self.now)) }
+        ensures why { IfErr result (λ e. FormRefused (canonical_form (Self.type_number self.now) (uncompressed self.now) (lowercase self.now)) (Target.octets target.old) (Target.capacity target.old) e) }
         ensures capacity { Target.capacity target.old ≤ Target.capacity target.new };
 
     /// Appends the length of the data in two octets, and the data, or nothing.
@@ -136,48 +177,51 @@ pub trait ComposeRecordData: RecordData {
 
     /// Appends the length of the canonical form in two octets, and the canonical form, or nothing.
     ///
-    /// `Long` only where it has more than 65,535 octets, `Append` only where it exceeds, with its
-    /// length, the spare capacity. The target's octets are then as before.
+    /// `Long` only where it has more than 65,535 octets, `Append` only where it exceeds, with its length, the spare
+    /// capacity, and `UnknownNames` as [`compose_canonical_rdata`](ComposeRecordData::compose_canonical_rdata). The
+    /// target's octets are then as before.
     final fn compose_canonical_len_rdata<Target: Composer>(
         &self,
         target: &mut Target,
-    ) -> Result<(), ComposeRdataError<Target::AppendError>>
-        ensures ok { OnOk result (LengthAndCanonical (canonical self.now) (Target.octets target.old) (Target.octets target.new)) }
+    ) -> Result<(), CanonicalError<Target::AppendError>>
+        ensures ok { OnOk result (WithLengthAndForm (canonical_form (Self.type_number self.now) (uncompressed self.now) (lowercase self.now)) (Target.octets target.old) (Target.octets target.new)) }
         ensures unchanged { OnErr result (Target.octets target.new ≡ Target.octets target.old) }
-        ensures why { IfErr result (λ e. CanonicalRefused (canonical self.now) (Target.octets target.old) (Target.capacity target.old) e) }
+        ensures why { IfErr result (λ e. CanonicalRefused (canonical_form (Self.type_number self.now) (uncompressed self.now) (lowercase self.now)) (Target.octets target.old) (Target.capacity target.old) e) }
         ensures capacity { Target.capacity target.old ≤ Target.capacity target.new }
     {
         let start = target.as_slice().len();
         if let Some(len) = self.rdlen(false) {
             if let Err(e) = target.append_slice(&len.to_be_bytes()) {
-                return Err(ComposeRdataError::Append(e));
+                return Err(CanonicalError::Append(e));
             }
             if let Err(e) = self.compose_canonical_rdata(target) {
                 target.truncate(start);
-                return Err(ComposeRdataError::Append(e));
+                return Err(e);
             }
             return Ok(());
         }
         if let Err(e) = target.append_slice(&[0, 0]) {
-            return Err(ComposeRdataError::Append(e));
+            return Err(CanonicalError::Append(e));
         }
         if let Err(e) = self.compose_canonical_rdata(target) {
             target.truncate(start);
-            return Err(ComposeRdataError::Append(e));
+            return Err(e);
         }
         let data = start + 2;
         let len = target.as_slice().len() - data;
         if len > 65535 {
             target.truncate(start);
-            return Err(ComposeRdataError::Long(LongRecordData));
+            return Err(CanonicalError::Long(LongRecordData));
         }
         write_length(target.as_slice_mut(), start, len as u16);
         Ok(())
     }
 
-    /// What may be appended to a target that doesn't write names shorter may be appended to any,
-    /// whatever it holds.
-    ghost flat: { (it : Self) (compresses : Bool) (t u s : List ℕ) → composed it false t s → composed it compresses u s };
+    /// Octets with no name compressed may be appended wherever,
+    ghost plain: { (it : Self) (compresses : Bool) (t : List ℕ) → composed it compresses t (uncompressed it) };
+
+    /// and a target that doesn't write names shorter takes nothing else.
+    ghost flat: { (it : Self) (t s : List ℕ) → composed it false t s → s ≡ uncompressed it };
 }
 
 /// Appends a length, and after it the data, or nothing; and tells how many octets the data has.
@@ -280,7 +324,11 @@ impl<T: RecordData> RecordData for &T {
 impl<T: ComposeRecordData> ComposeRecordData for &T {
     ghost composed = { λ it. T.composed it.now };
 
-    ghost canonical = { λ it. T.canonical it.now };
+    ghost written = { λ it. T.written it.now };
+
+    ghost uncompressed = { λ it. T.uncompressed it.now };
+
+    ghost lowercase = { λ it. T.lowercase it.now };
 
     ghost knows_len = { λ it. T.knows_len it.now };
 
@@ -298,9 +346,11 @@ impl<T: ComposeRecordData> ComposeRecordData for &T {
     fn compose_canonical_rdata<Target: Composer>(
         &self,
         target: &mut Target,
-    ) -> Result<(), Target::AppendError> {
+    ) -> Result<(), CanonicalError<Target::AppendError>> {
         (**self).compose_canonical_rdata(target)
     }
+
+    ghost plain = { λ it. T.plain it.now };
 
     ghost flat = { λ it. T.flat it.now };
 }

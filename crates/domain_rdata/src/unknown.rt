@@ -1,5 +1,5 @@
 //! Record data of any type.
-ghost use Rattle.std.specs.Prelude.{◌≡◌, ◌==◌, ◌<◌, ◌≤◌, ◌↔◌, ℕ, List, length, codes, IfOk, IfErr, IsErr, IsOk, OnOk, OnErr, Some, true};
+ghost use Rattle.std.specs.Prelude.{◌≡◌, ◌==◌, ◌<◌, ◌≤◌, ◌↔◌, ◌++◌, ℕ, List, length, codes, IfOk, IfErr, IsErr, IsOk, OnOk, OnErr, None, Some, true, refl};
 ghost use Rattle.std.proofs.Common.{rules};
 ghost use Rattle.std.specs.Cmp.Lexicographic.{pointwise, slice_cmp};
 ghost use Rattle.std.specs.Cmp.Rules.{comparing};
@@ -14,7 +14,9 @@ ghost use Rattle.domain_rdata.specs.UnknownReading.{all_that_is_left};
 
 use crate::composer::Composer;
 use crate::long::LongRecordData;
-use crate::record_data::{ComposeRecordData, ParseAnyRecordData, ParseRecordData, RecordData};
+use crate::record_data::{
+    CanonicalError, ComposeRecordData, ParseAnyRecordData, ParseRecordData, RecordData,
+};
 use crate::rtype::Rtype;
 use arrayvec::ArrayVec;
 use domain_label::hex::hex_character;
@@ -144,13 +146,22 @@ impl<Octs: Octets> RecordData for UnknownRecordData<Octs> {
     }
 }
 
-/// The octets of the data, whatever the target, and in the canonical form too (RFC 3597, 4 and 7).
+/// The octets of the data, whatever the target.
+///
+/// They are the canonical form too (RFC 3597, 7), but of the types whose names are in lowercase there (RFC 4034, 6.2): it is
+/// refused by `UnknownNames`. Data of a type of RFC 1035 that was read from a message may have pointers to names
+/// of that message (RFC 3597, 4). They are octets like others here, and lead elsewhere in another message: read data
+/// of these types by their fields.
 impl<Octs: Octets> ComposeRecordData for UnknownRecordData<Octs> {
     ghost use Rattle.domain_rdata.specs.Unknown.{data_octets};
 
     ghost composed = { λ it _ _ s. s ≡ data_octets it };
 
-    ghost canonical = { data_octets };
+    ghost written = { λ it _ octets _ old new. octets new ≡ octets old ++ data_octets it };
+
+    ghost uncompressed = { data_octets };
+
+    ghost lowercase = { λ _. None };
 
     ghost knows_len = { λ _ _. true };
 
@@ -162,17 +173,25 @@ impl<Octs: Octets> ComposeRecordData for UnknownRecordData<Octs> {
         &self,
         target: &mut Target,
     ) -> Result<(), Target::AppendError> {
-        self.compose_canonical_rdata(target)
+        target.append_slice(self.octets.as_slice())
     }
 
     fn compose_canonical_rdata<Target: Composer>(
         &self,
         target: &mut Target,
-    ) -> Result<(), Target::AppendError> {
-        target.append_slice(self.octets.as_slice())
+    ) -> Result<(), CanonicalError<Target::AppendError>> {
+        if self.rtype.has_lowercase_names() {
+            return Err(CanonicalError::UnknownNames);
+        }
+        match target.append_slice(self.octets.as_slice()) {
+            Ok(()) => Ok(()),
+            Err(e) => Err(CanonicalError::Append(e)),
+        }
     }
 
-    ghost flat = { λ _ _ _ _ _ h. h };
+    ghost plain = { λ _ _ _. refl };
+
+    ghost flat = { λ _ _ _ h. h };
 }
 
 impl<'a> UnknownRecordData<&'a [u8]> {

@@ -1,9 +1,9 @@
 //! Record data of a type that doesn't know its length, and targets that are full.
-ghost use Rattle.std.specs.Prelude.{◌≡◌, false};
+ghost use Rattle.std.specs.Prelude.{◌≡◌, ◌++◌, Some, false, refl};
 
 use arrayvec::ArrayVec;
 use domain::base::rdata::{
-    ComposeRdataError, ComposeRecordData, RecordData, Rtype, UnknownRecordData,
+    CanonicalError, ComposeRdataError, ComposeRecordData, RecordData, Rtype, UnknownRecordData,
 };
 use domain::base::wire::Composer;
 use octseq::OctetsBuilder;
@@ -29,7 +29,11 @@ impl<'a> RecordData for Unmeasured<'a> {
 impl<'a> ComposeRecordData for Unmeasured<'a> {
     ghost composed = { λ it _ _ s. s ≡ it.octets.now };
 
-    ghost canonical = { λ it. it.octets.now };
+    ghost written = { λ it _ octets _ old new. octets new ≡ octets old ++ it.octets.now };
+
+    ghost uncompressed = { λ it. it.octets.now };
+
+    ghost lowercase = { λ it. Some it.octets.now };
 
     ghost knows_len = { λ _ _. false };
 
@@ -41,17 +45,22 @@ impl<'a> ComposeRecordData for Unmeasured<'a> {
         &self,
         target: &mut Target,
     ) -> Result<(), Target::AppendError> {
-        self.compose_canonical_rdata(target)
+        target.append_slice(self.octets)
     }
 
     fn compose_canonical_rdata<Target: Composer>(
         &self,
         target: &mut Target,
-    ) -> Result<(), Target::AppendError> {
-        target.append_slice(self.octets)
+    ) -> Result<(), CanonicalError<Target::AppendError>> {
+        match target.append_slice(self.octets) {
+            Ok(()) => Ok(()),
+            Err(e) => Err(CanonicalError::Append(e)),
+        }
     }
 
-    ghost flat = { λ _ _ _ _ _ all. all };
+    ghost plain = { λ _ _ _. refl };
+
+    ghost flat = { λ _ _ _ all. all };
 }
 
 /// So many octets that are zero.
@@ -72,7 +81,7 @@ fn data_that_is_too_long_leaves_the_target(rt: HostRuntime) {
     assert!(rt; matches!(composed, Err(ComposeRdataError::Long(_))));
     assert_eq!(rt; target.as_slice(), [0].as_slice());
     let composed = data.compose_canonical_len_rdata(&mut target);
-    assert!(rt; matches!(composed, Err(ComposeRdataError::Long(_))));
+    assert!(rt; matches!(composed, Err(CanonicalError::Long(_))));
     assert_eq!(rt; target.as_slice(), [0].as_slice());
     assert!(rt; UnknownRecordData::from_octets(Rtype::from_int(PRIVATE), octets).is_err());
 }
@@ -98,6 +107,6 @@ fn data_that_does_not_fit_leaves_the_target(rt: HostRuntime) {
     assert!(rt; matches!(composed, Err(ComposeRdataError::Append(_))));
     assert_eq!(rt; target.as_slice(), [9].as_slice());
     let composed = data.compose_canonical_len_rdata(&mut target);
-    assert!(rt; matches!(composed, Err(ComposeRdataError::Append(_))));
+    assert!(rt; matches!(composed, Err(CanonicalError::Append(_))));
     assert_eq!(rt; target.as_slice(), [9].as_slice());
 }

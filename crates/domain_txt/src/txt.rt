@@ -1,5 +1,5 @@
 //! Data of TXT records.
-ghost use Rattle.std.specs.Prelude.{◌≡◌, ◌==◌, ◌<◌, ◌≤◌, ◌∷◌, [], ℕ, List, nat_eq, length, codes, IfOk, IfErr, OnOk, OnErr, Some, MatchOption, true};
+ghost use Rattle.std.specs.Prelude.{◌≡◌, ◌==◌, ◌<◌, ◌≤◌, ◌++◌, ◌∷◌, [], ℕ, List, nat_eq, length, codes, IfOk, IfErr, OnOk, OnErr, Some, MatchOption, true, refl};
 ghost use Rattle.std.proofs.Common.{rules};
 ghost use Rattle.std.specs.Cmp.Lexicographic.{pointwise, slice_cmp};
 ghost use Rattle.std.specs.Cmp.Rules.{comparing};
@@ -18,7 +18,7 @@ ghost use Rattle.domain_txt.specs.Views.{strings_left};
 use crate::iter::{TxtIter, check_strings, first_string};
 use crate::quoted::Quoted;
 use domain_rdata::{
-    ComposeRecordData, Composer, LongRecordData, ParseRecordData, RecordData, Rtype,
+    CanonicalError, ComposeRecordData, Composer, LongRecordData, ParseRecordData, RecordData, Rtype,
 };
 use domain_traits::FlattenInto;
 use domain_wire::{CanonicalOrd, ParseError};
@@ -217,13 +217,17 @@ impl<Octs: Octets> RecordData for Txt<Octs> {
     }
 }
 
-/// The octets as they are, in the canonical form too (RFC 4034, 6.2).
+/// The octets as they are, in the canonical form too (RFC 4034, 6.2): there is no name in them.
 impl<Octs: Octets> ComposeRecordData for Txt<Octs> {
     ghost use Rattle.domain_txt.specs.Txts.{txt_octets};
 
     ghost composed = { λ it _ _ s. s ≡ txt_octets it };
 
-    ghost canonical = { txt_octets };
+    ghost written = { λ it _ octets _ old new. octets new ≡ octets old ++ txt_octets it };
+
+    ghost uncompressed = { txt_octets };
+
+    ghost lowercase = { λ it. Some (txt_octets it) };
 
     ghost knows_len = { λ _ _. true };
 
@@ -235,17 +239,22 @@ impl<Octs: Octets> ComposeRecordData for Txt<Octs> {
         &self,
         target: &mut Target,
     ) -> Result<(), Target::AppendError> {
-        self.compose_canonical_rdata(target)
+        target.append_slice(self.octets.as_slice())
     }
 
     fn compose_canonical_rdata<Target: Composer>(
         &self,
         target: &mut Target,
-    ) -> Result<(), Target::AppendError> {
-        target.append_slice(self.octets.as_slice())
+    ) -> Result<(), CanonicalError<Target::AppendError>> {
+        match self.compose_rdata(target) {
+            Ok(()) => Ok(()),
+            Err(e) => Err(CanonicalError::Append(e)),
+        }
     }
 
-    ghost flat = { λ _ _ _ _ _ h. h };
+    ghost plain = { λ _ _ _. refl };
+
+    ghost flat = { λ _ _ _ h. h };
 }
 
 /// One character string or more, which are all that is left.

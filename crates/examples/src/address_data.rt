@@ -1,5 +1,5 @@
 //! Record data of a type of one's own: the address of a host (RFC 1035, 3.4.1).
-ghost use Rattle.std.specs.Prelude.{◌≡◌, ◌+◌, ◌<◌, ◌≤◌, length, nat_eq, slice_range, true, false, IfOk, IfSome, IsNone, ◌↔◌, OnErr};
+ghost use Rattle.std.specs.Prelude.{◌≡◌, ◌+◌, ◌++◌, ◌<◌, ◌≤◌, length, nat_eq, slice_range, true, false, IfOk, IfSome, IsNone, Some, ◌↔◌, OnErr, refl};
 ghost use Rattle.octseq.specs.Parsing.{message, position};
 ghost use Rattle.domain_wire.specs.Addresses.{ipv4_octets, ipv4_of};
 ghost use Rattle.domain_wire.specs.FixedLength.{fixed_reading};
@@ -33,7 +33,11 @@ impl RecordData for AddressData {
 impl ComposeRecordData for AddressData {
     ghost composed = { λ it _ _ s. s ≡ ipv4_octets it.address };
 
-    ghost canonical = { λ it. ipv4_octets it.address };
+    ghost written = { λ it _ octets _ old new. octets new ≡ octets old ++ ipv4_octets it.address };
+
+    ghost uncompressed = { λ it. ipv4_octets it.address };
+
+    ghost lowercase = { λ it. Some (ipv4_octets it.address) };
 
     ghost knows_len = { λ _ _. true };
 
@@ -45,17 +49,22 @@ impl ComposeRecordData for AddressData {
         &self,
         target: &mut Target,
     ) -> Result<(), Target::AppendError> {
-        self.compose_canonical_rdata(target)
+        self.address.compose(target)
     }
 
     fn compose_canonical_rdata<Target: Composer>(
         &self,
         target: &mut Target,
-    ) -> Result<(), Target::AppendError> {
-        self.address.compose(target)
+    ) -> Result<(), CanonicalError<Target::AppendError>> {
+        match self.address.compose(target) {
+            Ok(()) => Ok(()),
+            Err(e) => Err(CanonicalError::Append(e)),
+        }
     }
 
-    ghost flat = { λ _ _ _ _ _ same. same };
+    ghost plain = { λ _ _ _. refl };
+
+    ghost flat = { λ _ _ _ same. same };
 }
 
 /// Reads four octets, of records of its type alone.
