@@ -2,5 +2,6 @@ pub mod Cases
 pub mod Data
 pub mod FieldLaws
 pub mod Names
+pub mod ReadBack
 pub mod Reading
 pub mod Sequences

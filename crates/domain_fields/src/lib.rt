@@ -7,6 +7,7 @@ pub mod flatten;
 pub mod name_field;
 pub mod order;
 pub mod read;
+pub mod read_back;
 pub mod sequence;
 
 pub use field::DataField;
@@ -14,4 +15,5 @@ pub use flatten::FlattenField;
 pub use name_field::{DataName, NameField, UncompressedNameField};
 pub use order::OrderedField;
 pub use read::{FieldError, ReadField, read_all};
+pub use read_back::ReadBackField;
 pub use sequence::Sequence;

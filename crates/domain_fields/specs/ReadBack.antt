@@ -1,0 +1,88 @@
+-- What was composed is read back.
+use Rattle.std.specs.Prelude.{◌≡◌, ℕ, ◌+◌, ◌-◌, ◌^◌, ◌<◌, ◌≤◌, Bool, List, [], ◌∷◌, ◌++◌, length, take, drop, slice_range, refl}
+use Rattle.std.proofs.Common.{arith, ap, sym, subst, ◌∙◌, append_assoc, append-nil, length-append}
+use Rattle.std.proofs.Math.Seq.{take-append_seam, drop-append_seam}
+use Rattle.domain_label.specs.Lowercase.{lowercase_labels}
+use Rattle.domain_label.specs.Wire.{wire, IsAbsoluteName}
+use Rattle.domain_reading.proofs.Reading.{octet_more, label_more, pointer_more, names_more}
+use Rattle.domain_reading.specs.Grammar.{Flat, EncodingEnds, Stop, StopAt}
+use Rattle.domain_reading.specs.Grammar.Stop.{root, pointer}
+use Rattle.domain_rdata.specs.FlatNames.{wire_reads_back}
+use Rattle.domain_rdata.specs.RecordData.{NameOctets}
+use Rattle.domain_wire.specs.Values.{FixedAt}
+use Rattle.domain_fields.specs.Data.{AllAt}
+use Rattle.domain_fields.specs.Names.{NameFieldAt}
+use Rattle.domain_fields.specs.Sequences.{BothComposed, BothAt}
+
+-- What may be composed is read where it stands, whatever is before it and after it, and what is read is like what was composed.
+abbrev pub IsReadBack : {Seen : Type 0} → (Bool → List ℕ → List ℕ → Type 0) → (List ℕ → ℕ → Seen → ℕ → Type 0) → (Seen → Type 0) → Type 0
+IsReadBack {Seen} May At Alike = (compresses : Bool) (t s u : List ℕ) → May compresses t s → (it : Seen) × At (t ++ s ++ u) (length t) it (length t + length s) × Alike it
+
+-- The same where it is all that is left.
+abbrev pub IsReadBackWhole : {Seen : Type 0} → (Bool → List ℕ → List ℕ → Type 0) → (List ℕ → ℕ → Seen → ℕ → Type 0) → (Seen → Type 0) → Type 0
+IsReadBackWhole {Seen} May At Alike = (compresses : Bool) (t s : List ℕ) → May compresses t s → (it : Seen) × At (t ++ s) (length t) it (length t + length s) × Alike it
+
+flat_more : (fs : List (List ℕ)) (m : List ℕ) (p r : ℕ) (u : List ℕ) → Flat m p fs r → Flat (m ++ u) p fs r
+flat_more [] m p r u same = same
+flat_more (l ∷ fs) m p r u (at, rest) = (label_more u at, flat_more fs m (p + 1 + length l) r u rest)
+
+stop_more : (c : Stop) (m : List ℕ) (r e : ℕ) (u : List ℕ) → StopAt m r c e → StopAt (m ++ u) r c e
+stop_more root m r e u (at, end) = (octet_more u at, end)
+stop_more (pointer q) m r e u (at, end) = (pointer_more u at, end)
+
+ends_more : (m : List ℕ) (p e : ℕ) (u : List ℕ) → EncodingEnds m p e → EncodingEnds (m ++ u) p e
+ends_more m p e u (fs, c, front) = (fs, c, record { stop = front.stop; flat = flat_more fs m p front.stop u front.flat; ends = stop_more c m front.stop e u front.ends })
+
+-- a name, compressed or not: an equal one, ignoring ASCII case
+pub name_read_back : (ls : List (List ℕ)) → IsReadBack (NameOctets ls) NameFieldAt (λ it. lowercase_labels it ≡ lowercase_labels ls)
+name_read_back ls compresses t s u done = (done.read.stands.0, record { named = names_more u done.read.stands.1; front = ends_more (t ++ s) (length t) (length t + length s) u done.read.ends }, done.read.stands.2)
+
+pub wire_read_back : (ls : List (List ℕ)) → IsAbsoluteName ls → IsReadBack (λ _ _ s. s ≡ wire ls) NameFieldAt (λ it. lowercase_labels it ≡ lowercase_labels ls)
+wire_read_back ls name compresses t s u same = name_read_back ls compresses t s u (subst (λ o. NameOctets ls compresses t o) (sym same) (record { read = wire_reads_back t ls name; flat = λ _. refl }))
+
+slice_after : (a b c : List ℕ) (p e : ℕ) → p ≡ length a → e ≡ length a + length b → slice_range (a ++ (b ++ c)) p e ≡ b
+slice_after a b c p e start end =
+    let k : e - p ≡ length b = omega (arith, start, end) in
+    let d : drop p (a ++ (b ++ c)) ≡ b ++ c = ap (λ n. drop n (a ++ (b ++ c))) start ∙ drop-append_seam a (b ++ c) in
+    ap (take (e - p)) d ∙ (ap (λ n. take n (b ++ c)) k ∙ take-append_seam b c)
+
+-- octets of a fixed number: the value that they are of
+pub fixed_read_back : {Seen : Type 0} (len : ℕ) (value_of : List ℕ → Seen) (octets : List ℕ) (Like : Seen → Type 0) → length octets ≡ len → Like (value_of octets) → IsReadBack (λ _ _ s. s ≡ octets) (FixedAt len value_of) Like
+fixed_read_back len value_of octets Like sized like compresses t s u same =
+    let many : length s ≡ len = ap length same ∙ sized in
+    let place : slice_range (t ++ s ++ u) (length t) (length t + len) ≡ octets =
+    ap (λ m. slice_range m (length t) (length t + len)) (append_assoc t s u) ∙ (slice_after t s u (length t) (length t + len) refl (omega (arith, many)) ∙ same) in (
+      value_of octets,
+      record {
+        whole = omega (arith, many, length-append (t ++ s) u, length-append t s);
+        value = ap value_of (sym place);
+        after = omega (arith, many);
+      },
+      like,
+    )
+
+-- one field after another
+pub both_read_back : {A B : Type 0} (First Rest : Bool → List ℕ → List ℕ → Type 0) (FirstAt : List ℕ → ℕ → A → ℕ → Type 0) (RestAt : List ℕ → ℕ → B → ℕ → Type 0) (LikeFirst : A → Type 0) (LikeRest : B → Type 0) → IsReadBack First FirstAt LikeFirst → IsReadBack Rest RestAt LikeRest
+    → IsReadBack (λ c. BothComposed (First c) (Rest c)) (BothAt FirstAt RestAt) (λ it. LikeFirst it.0 × LikeRest it.1)
+both_read_back First Rest FirstAt RestAt LikeFirst LikeRest first rest compresses t s u both =
+    let a = both.first in
+    let b = both.rest in
+    let whole : t ++ a ++ b ≡ t ++ s = append_assoc t a b ∙ ap (λ x. t ++ x) (sym both.all) in
+    let one = first compresses t a (b ++ u) both.first_allowed in
+    let two = rest compresses (t ++ a) b u both.rest_allowed in
+    let m1 : t ++ a ++ (b ++ u) ≡ t ++ s ++ u = sym (append_assoc (t ++ a) b u) ∙ ap (λ x. x ++ u) whole in
+    let m2 : t ++ a ++ b ++ u ≡ t ++ s ++ u = ap (λ x. x ++ u) whole in
+    let seam : length (t ++ a) ≡ length t + length a = length-append t a in
+    let end : length (t ++ a) + length b ≡ length t + length s = sym (length-append (t ++ a) b) ∙ (ap length whole ∙ length-append t s) in
+    let one_at = subst (λ m. FirstAt m (length t) one.0 (length t + length a)) m1 one.1 in
+    let two_in = subst (λ m. RestAt m (length (t ++ a)) two.0 (length (t ++ a) + length b)) m2 two.1 in
+    let two_from = subst (λ p. RestAt (t ++ s ++ u) p two.0 (length (t ++ a) + length b)) seam two_in in
+    let two_at = subst (λ e. RestAt (t ++ s ++ u) (length t + length a) two.0 e) end two_from in
+    ((one.0, two.0), record { middle = length t + length a; first = one_at; rest = two_at }, (one.2, two.2))
+
+-- data that has all octets up to the end
+pub whole_read_back : {A : Type 0} (May : Bool → List ℕ → List ℕ → Type 0) (At : List ℕ → ℕ → A → ℕ → Type 0) (Like : A → Type 0) → IsReadBack May At Like → IsReadBackWhole May (AllAt At) Like
+whole_read_back May At Like law compresses t s may =
+    let seen = law compresses t s [] may in
+    let at = subst (λ m. At m (length t) seen.0 (length t + length s)) (append-nil (t ++ s)) seen.1 in
+    (seen.0, record { fields = at; whole = sym (length-append t s) }, seen.2)
