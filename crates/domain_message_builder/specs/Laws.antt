@@ -1,0 +1,58 @@
+-- The statements of the laws for callers.
+use Rattle.std.specs.Prelude.{◌≡◌, ℕ, Bool, List, [], ◌∷◌, ◌++◌, length, drop, ⊤}
+use Rattle.domain_label.specs.Lowercase.{lowercase_labels}
+use Rattle.domain_header.specs.Numbers.{number16}
+use Rattle.domain_header.specs.declared.flags.Header.{Header}
+use Rattle.domain_message.specs.Entries.{QuestionFields, QuestionAt, RecordFields, RecordAt}
+use Rattle.domain_message.specs.Runs.{Given}
+use Rattle.domain_message.specs.Sections.{QuestionsTo, AnswersTo, AuthorityTo, RecordsTo}
+use Rattle.domain_message.specs.declared.section.Section.TheVariants.{Answer, Authority, Additional}
+use Rattle.domain_rdata.specs.ReadBack.{ReadsBack}
+use Rattle.domain_rdata.specs.RecordData.{NameOctets}
+use Rattle.domain_message_builder.specs.Contents.{blank_header, PushedRecord, Content}
+use Rattle.domain_message_builder.specs.Reading.{IsMessageOf}
+
+-- As many of the one as of the other, and each is like the one in its place.
+abbrev pub Alike : {A B : Type 0} → (A → B → Type 0) → List A → List B → Type 0
+Alike Like [] [] = ⊤
+Alike Like [] (y ∷ ys) = ⊥
+Alike Like (x ∷ xs) [] = ⊥
+Alike Like (x ∷ xs) (y ∷ ys) = Like x y × Alike Like xs ys
+
+-- The question that was pushed and the one that is read, their names ignoring ASCII case.
+pub record LikeQuestion (pushed read : QuestionFields) : Type 0 where
+  pub name : lowercase_labels read.name ≡ lowercase_labels pushed.name
+  pub rtype : read.rtype ≡ pushed.rtype
+  pub class : read.class ≡ pushed.class
+
+-- The record that was pushed and the one that is read, its owner's name ignoring ASCII case, and the octets of its data.
+pub record LikeRecord (pushed : PushedRecord) (read : RecordFields) : Type 0 where
+  pub owner : lowercase_labels read.header.owner ≡ lowercase_labels pushed.head.owner
+  pub rtype : read.header.rtype ≡ pushed.head.rtype
+  pub class : read.header.class ≡ pushed.head.class
+  pub ttl : read.header.ttl ≡ pushed.head.ttl
+  pub rdlen : read.header.rdlen ≡ length pushed.rdata
+  pub data_is : drop read.start read.octets ≡ pushed.rdata
+
+-- What a reader of the message gives, section by section, is what was pushed: all of it, in its order, and the message ends
+-- after it.
+pub record ReadsAs (it : Content) (m : List ℕ) : Type 0 where
+  pub question_end : ℕ
+  pub answer_end : ℕ
+  pub authority_end : ℕ
+  pub questions_to : QuestionsTo m question_end
+  pub answers_to : AnswersTo m answer_end
+  pub authority_to : AuthorityTo m authority_end
+  pub additional_to : RecordsTo m Additional authority_end (length m)
+  pub questions : (qs : List QuestionFields) → Given QuestionAt m 12 (number16 m 4) qs → Alike LikeQuestion it.questions qs
+  pub answers : (rs : List RecordFields) → Given RecordAt m question_end (number16 m 6) rs → Alike LikeRecord it.answers rs
+  pub authority : (rs : List RecordFields) → Given RecordAt m answer_end (number16 m 8) rs → Alike LikeRecord it.authority rs
+  pub additional : (rs : List RecordFields) → Given RecordAt m authority_end (number16 m 10) rs → Alike LikeRecord it.additional rs
+
+-- A reader of a message that was built gives what was pushed.
+abbrev pub MessagesReadBack : Type 0
+MessagesReadBack = (header : Header) (it : Content) (m : List ℕ) → IsMessageOf header it m → ReadsAs it m
+
+-- What may be composed for a name after a blank header may be after any header of twelve octets.
+abbrev pub NamesUnderAnyHeader : Type 0
+NamesUnderAnyHeader = (h b s : List ℕ) (ls : List (List ℕ)) (compresses : Bool) → length h ≡ 12 → NameOctets ls compresses (blank_header ++ b) s → NameOctets ls compresses (h ++ b) s

@@ -1,0 +1,9 @@
+pub mod Contents
+pub mod Errors
+pub mod Laws
+pub mod Places
+pub mod Pushes
+pub mod Reading
+pub mod Refusals
+pub mod State
+pub mod Views

@@ -1,0 +1,72 @@
+//! Appending entries up to a limit.
+ghost use Rattle.std.specs.Prelude.{◌≡◌, ◌≤◌, length, OnOk, OnErr, IfErr};
+ghost use Rattle.domain_rdata.specs.ReadBack.{Appended};
+ghost use Rattle.domain_message.specs.RecordParts.{data_of};
+ghost use Rattle.domain_message_builder.specs.Contents.{AsksIn, RecordsIn};
+ghost use Rattle.domain_message_builder.specs.Pushes.{asked, headed};
+ghost use Rattle.domain_message_builder.specs.Refusals.{QuestionNotAppended, RecordNotAppended};
+
+use crate::error::PushError;
+use domain_list::AbsoluteLabels;
+use domain_message::{Question, Record};
+use domain_rdata::{ComposeRdataError, ComposeRecordData, Composer};
+use octseq::{Octets, Truncate};
+
+/// Appends a question, up to this many octets in all, or nothing.
+pub(crate) fn append_question<'a, N: AbsoluteLabels<'a>, Target: Composer>(
+    target: &mut Target,
+    question: &'a Question<N>,
+    most: u16,
+) -> Result<(), PushError<Target::AppendError>>
+    ensures ok { OnOk result (Appended
+        (AsksIn Target.compresses (asked N.labels question.now) (Target.octets target.old))
+        (Target.octets target.old) (Target.octets target.new)) }
+    ensures within { OnOk result (length (Target.octets target.new) ≤ most) }
+    ensures unchanged { OnErr result (Target.octets target.new ≡ Target.octets target.old) }
+    ensures why { IfErr result (λ e. QuestionNotAppended Target.compresses
+        (asked N.labels question.now) (Target.octets target.old) (Target.capacity target.old) most e) }
+    ensures capacity { Target.capacity target.old ≤ Target.capacity target.new }
+{
+    let before = target.as_slice().len();
+    if let Err(e) = question.compose(target) {
+        return Err(PushError::Append(e));
+    }
+    if target.as_slice().len() > usize::from(most) {
+        target.truncate(before);
+        return Err(PushError::Limit);
+    }
+    Ok(())
+}
+
+/// Appends a record, up to this many octets in all, or nothing.
+pub(crate) fn append_record<'a, N: AbsoluteLabels<'a>, D: ComposeRecordData, Target: Composer>(
+    target: &mut Target,
+    resource: &'a Record<N, D>,
+    most: u16,
+) -> Result<(), PushError<Target::AppendError>>
+    ensures ok { OnOk result (Appended
+        (RecordsIn Target.compresses (headed N.labels D.type_number resource.now)
+        (D.composed (data_of resource.now) Target.compresses) (Target.octets target.old))
+        (Target.octets target.old) (Target.octets target.new)) }
+    ensures within { OnOk result (length (Target.octets target.new) ≤ most) }
+    ensures unchanged { OnErr result (Target.octets target.new ≡ Target.octets target.old) }
+    ensures why { IfErr result (λ e. RecordNotAppended Target.compresses
+        (headed N.labels D.type_number resource.now)
+        (D.composed (data_of resource.now) Target.compresses)
+        (Target.octets target.old) (Target.capacity target.old) most e) }
+    ensures capacity { Target.capacity target.old ≤ Target.capacity target.new }
+{
+    let start = target.as_slice().len();
+    if let Err(e) = resource.compose(target) {
+        return match e {
+            ComposeRdataError::Append(e) => Err(PushError::Append(e)),
+            ComposeRdataError::Long(e) => Err(PushError::Long(e)),
+        };
+    }
+    let end = target.as_slice().len();
+    if end > usize::from(most) {
+        target.truncate(start);
+        return Err(PushError::Limit);
+    }
+    Ok(())
+}

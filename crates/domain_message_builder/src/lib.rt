@@ -1,0 +1,13 @@
+//! A writer of messages (RFC 1035, 4.1).
+#![tactic(auto)]
+
+mod appending;
+pub mod builder;
+mod counting;
+pub mod error;
+pub mod laws;
+pub mod places;
+
+pub use builder::MessageBuilder;
+pub use error::{PushError, StartError};
+pub use laws::builder_laws;

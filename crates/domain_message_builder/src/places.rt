@@ -1,0 +1,56 @@
+//! Where the sections of records begin.
+ghost use Rattle.std.specs.Prelude.{◌≡◌};
+ghost use Rattle.domain_message_builder.specs.Places.{all_at, places_after, place_of};
+
+use domain_message::Section;
+
+/// The offsets at which the sections of records begin.
+#[derive(Clone, Copy, Debug)]
+pub struct Places {
+    answer: usize,
+    authority: usize,
+    additional: usize,
+}
+
+impl Places {
+    /// Each section begins here: no record is before.
+    pub(crate) fn at(offset: usize) -> Places
+        ensures { result ≡ all_at offset }
+    {
+        Places {
+            answer: offset,
+            authority: offset,
+            additional: offset,
+        }
+    }
+
+    /// Where a section begins.
+    pub(crate) fn of(self, section: Section) -> usize
+        ensures { result ≡ place_of section self }
+    {
+        match section {
+            Section::Answer => self.answer,
+            Section::Authority => self.authority,
+            Section::Additional => self.additional,
+        }
+    }
+
+    /// Those after a record of this section was pushed, which ends at this offset.
+    pub(crate) fn after(self, section: Section, end: usize) -> Places
+        ensures { result ≡ places_after section end self }
+    {
+        match section {
+            Section::Answer => Places {
+                answer: self.answer,
+                authority: end,
+                additional: end,
+            },
+            Section::Authority => Places {
+                answer: self.answer,
+                authority: self.authority,
+                additional: end,
+            },
+            Section::Additional => self,
+        }
+    }
+}
