@@ -1,15 +1,14 @@
 -- The message once its header is written.
-use Rattle.std.proofs.Common.{◌≡◌, ℕ, ◌+◌, ◌^◌, ◌<◌, ◌≤◌, Bool, List, [], ◌∷◌, ◌++◌, length, take, drop, slice_range, slice_index, refl, sym, ap, subst, arith, ◌∙◌, append_assoc, append-nil, length-append}
-use Rattle.std.specs.Int.{w16, from_be_bytes, to_be_bytes}
+use Rattle.std.proofs.Common.{◌≡◌, ℕ, ◌+◌, ◌^◌, ◌<◌, Bool, List, [], ◌++◌, length, take, drop, slice_index, refl, sym, ap, subst, arith, ◌∙◌, append_assoc, append-nil, length-append}
 use Rattle.std.proofs.lemmas.Nat.{from_be_bytes-to_be_bytes_2}
 use Rattle.std.proofs.lemmas.List.{take-append-drop}
-use Rattle.domain_header.specs.Headers.{header_id, header_high, header_low, header_octets, counts_octets, question_count, answer_count, authority_count, additional_count, section_header, section_counts}
+use Rattle.domain_header.specs.Headers.{header_id, header_octets, counts_octets, question_count, answer_count, authority_count, additional_count, section_header, section_counts}
 use Rattle.domain_header.specs.Numbers.{number16}
 use Rattle.domain_header.specs.declared.counts.HeaderCounts.{HeaderCounts}
 use Rattle.domain_header.specs.declared.flags.Header.{Header}
 use Rattle.domain_header.specs.declared.header.HeaderSection.{HeaderSection}
 use Rattle.domain_message.specs.Sections.{Run}
-use Rattle.domain_message_builder.specs.Contents.{blank_header, Content, Composed, QuestionMay, RecordMay, Holds}
+use Rattle.domain_message_builder.specs.Contents.{blank_header, Content, QuestionMay, RecordMay, Holds}
 use Rattle.domain_message_builder.specs.State.{State}
 use Rattle.domain_message_builder.specs.Reading.{QuestionReadAt, RecordReadAt, IsMessageOf}
 use Rattle.domain_message_builder.proofs.Composing.{composed_under, composed_after, composed_reads, question_under, record_under, question_read, record_read}

@@ -1,7 +1,6 @@
 -- What a builder holds after a push.
 use Rattle.std.proofs.Common.{◌≡◌, ℕ, ◌+◌, ◌^◌, ◌<◌, ◌≤◌, Bool, List, [], ◌∷◌, ◌++◌, length, take, drop, refl, sym, ap, subst, arith, ◌∙◌, length-append}
 use Rattle.std.proofs.lemmas.List.{take-append-drop}
-use Rattle.domain_header.specs.Headers.{question_count, answer_count, authority_count, additional_count}
 use Rattle.domain_header.specs.declared.counts.HeaderCounts.{HeaderCounts}
 use Rattle.domain_message.specs.Entries.{QuestionFields}
 use Rattle.domain_message.specs.declared.section.Section.{Section}
@@ -9,7 +8,7 @@ use Rattle.domain_message.specs.declared.section.Section.TheVariants.{Answer, Au
 use Rattle.domain_rdata.specs.ReadBack.{Appended}
 use Rattle.domain_message_builder.specs.Contents.{blank_header, Content, RecordHead, PushedRecord, question_added, AsksIn, RecordsIn, Composed, QuestionMay, RecordMay, Holds}
 use Rattle.domain_message_builder.specs.Places.{all_at, places_after}
-use Rattle.domain_message_builder.specs.Pushes.{record_added, record_count, later_count, CountsQuestion, CountsRecord, SameSettings, PushesQuestion, PushesRecord}
+use Rattle.domain_message_builder.specs.Pushes.{record_added, record_count, later_count, CountsQuestion, CountsRecord, PushesQuestion, PushesRecord}
 use Rattle.domain_message_builder.specs.State.{State}
 use Rattle.domain_message_builder.specs.declared.places.Places.{Places}
 use Rattle.domain_message_builder.proofs.Composing.{composed_and}

@@ -1,11 +1,11 @@
 -- What a builder holds after a step back.
-use Rattle.std.proofs.Common.{◌≡◌, ℕ, ◌+◌, ◌<◌, ◌≤◌, Bool, List, [], ◌∷◌, ◌++◌, length, take, drop, refl, sym, ap, subst, arith, ◌∙◌, append_assoc, length-append}
+use Rattle.std.proofs.Common.{◌≡◌, ℕ, ◌+◌, ◌≤◌, Bool, List, ◌++◌, length, take, refl, sym, ap, subst, arith, ◌∙◌, append_assoc}
 use Rattle.std.proofs.Math.Seq.{take-append_seam}
 use Rattle.std.proofs.lemmas.List.{take-take, length-take-le}
 use Rattle.domain_header.specs.declared.counts.HeaderCounts.{HeaderCounts}
 use Rattle.domain_message.specs.declared.section.Section.{Section}
 use Rattle.domain_message.specs.declared.section.Section.TheVariants.{Answer, Authority, Additional}
-use Rattle.domain_message_builder.specs.Contents.{blank_header, Content, Composed, RecordMay, Holds}
+use Rattle.domain_message_builder.specs.Contents.{blank_header, Content, RecordMay, Holds}
 use Rattle.domain_message_builder.specs.Places.{IsInOrder, place_of, places_after}
 use Rattle.domain_message_builder.specs.Pushes.{emptied, CountsNone, Rewinds}
 use Rattle.domain_message_builder.specs.State.{State}

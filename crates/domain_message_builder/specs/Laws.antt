@@ -6,8 +6,7 @@ use Rattle.domain_header.specs.declared.flags.Header.{Header}
 use Rattle.domain_message.specs.Entries.{QuestionFields, QuestionAt, RecordFields, RecordAt}
 use Rattle.domain_message.specs.Runs.{Given}
 use Rattle.domain_message.specs.Sections.{QuestionsTo, AnswersTo, AuthorityTo, RecordsTo}
-use Rattle.domain_message.specs.declared.section.Section.TheVariants.{Answer, Authority, Additional}
-use Rattle.domain_rdata.specs.ReadBack.{ReadsBack}
+use Rattle.domain_message.specs.declared.section.Section.TheVariants.{Additional}
 use Rattle.domain_rdata.specs.RecordData.{NameOctets}
 use Rattle.domain_message_builder.specs.Contents.{blank_header, PushedRecord, Content}
 use Rattle.domain_message_builder.specs.Reading.{IsMessageOf}

@@ -1,5 +1,5 @@
 -- What each call does to what was pushed.
-use Rattle.std.specs.Prelude.{◌≡◌, ℕ, ◌+◌, ◌<◌, ◌≤◌, Bool, List, ◌∷◌, [], ◌++◌, length, take}
+use Rattle.std.specs.Prelude.{◌≡◌, ℕ, ◌+◌, ◌≤◌, Bool, List, ◌∷◌, [], ◌++◌, length, take}
 use Rattle.domain_header.specs.Headers.{header_id, header_high, header_low, question_count, answer_count, authority_count, additional_count}
 use Rattle.domain_header.specs.Values.{class_number, ttl_seconds}
 use Rattle.domain_header.specs.declared.counts.HeaderCounts.{HeaderCounts}

@@ -1,5 +1,5 @@
 -- Why a call was refused.
-use Rattle.std.specs.Prelude.{◌≡◌, ℕ, ◌+◌, ◌-◌, ◌<◌, Bool, List, ◌++◌, length}
+use Rattle.std.specs.Prelude.{◌≡◌, ℕ, ◌-◌, ◌<◌, Bool, List, ◌++◌, length}
 use Rattle.domain_header.specs.Headers.{question_count}
 use Rattle.domain_message.specs.Composing.{RecordExceeds, before_length}
 use Rattle.domain_message.specs.Entries.{QuestionFields}
