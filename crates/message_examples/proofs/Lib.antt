@@ -1,3 +1,4 @@
+pub mod Built
 pub mod Passing
 pub mod Finding
 pub mod Responding
