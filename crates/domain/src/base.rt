@@ -105,7 +105,9 @@ pub mod message {
 
 /// Messages that are written (RFC 1035, 4.1). crates/domain_message_builder/README.md tells how to write one.
 pub mod message_builder {
-    pub use domain_message_builder::{MessageBuilder, PushError, StartError, builder_laws};
+    pub use domain_message_builder::{
+        MessageBuilder, OptBuilder, PushError, StartError, builder_laws,
+    };
 }
 
 /// Questions (RFC 1035, 4.1.2).

@@ -1,5 +1,7 @@
+pub mod Replying
 pub mod Blank
 pub mod Composing
+pub mod Cutting
 pub mod Finishing
 pub mod Ordering
 pub mod Pushing

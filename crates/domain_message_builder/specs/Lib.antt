@@ -1,6 +1,10 @@
+pub mod Answers
 pub mod Contents
+pub mod Cuts
 pub mod Errors
 pub mod Laws
+pub mod Opt
+pub mod OptViews
 pub mod Places
 pub mod Pushes
 pub mod Reading

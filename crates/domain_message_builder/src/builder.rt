@@ -208,6 +208,32 @@ impl<Target: Composer> MessageBuilder<Target> {
             (state_of Target.octets self.old) (Target.capacity (target_of self.old)) e) }
         ensures capacity { Target.capacity (target_of self.old) ≤ Target.capacity (target_of self.new) }
     {
+        let kept = self.reserved;
+        self.push_keeping(section, resource, kept)
+    }
+
+    /// Pushes a record as `push` does, and keeps this many of the octets aside that are.
+    pub(crate) fn push_keeping<'a, N: AbsoluteLabels<'a>, D: ComposeRecordData>(
+        &mut self,
+        section: Section,
+        resource: &'a Record<N, D>,
+        kept: u16,
+    ) -> Result<(), PushError<Target::AppendError>>
+        requires { kept ≤ (state_of Target.octets self.old).reserved }
+        ensures ok { OnOk result (PushesRecord Target.compresses section
+            (headed N.labels D.type_number resource.now)
+            (D.composed (data_of resource.now) Target.compresses)
+            (with_reserved kept (state_of Target.octets self.old))
+            (state_of Target.octets self.new)) }
+        ensures unchanged { OnErr result
+            (state_of Target.octets self.new ≡ state_of Target.octets self.old) }
+        ensures why { IfErr result (λ e. RecordRefused Target.compresses section
+            (headed N.labels D.type_number resource.now)
+            (D.composed (data_of resource.now) Target.compresses)
+            (with_reserved kept (state_of Target.octets self.old))
+            (Target.capacity (target_of self.old)) e) }
+        ensures capacity { Target.capacity (target_of self.old) ≤ Target.capacity (target_of self.new) }
+    {
         let counts = self.counts;
         if has_later(section, counts) {
             return Err(PushError::Order);
@@ -219,11 +245,12 @@ impl<Target: Composer> MessageBuilder<Target> {
         type_fits(resource.data().rtype());
         class_fits(resource.class());
         ttl_fits(resource.ttl());
-        let most = self.limit - self.reserved;
+        let most = self.limit - kept;
         if let Err(e) = append_record(&mut self.target, resource, most) {
             return Err(e);
         }
         self.counts = recorded;
+        self.reserved = kept;
         self.places = self.places.after(section, self.target.as_slice().len());
         Ok(())
     }

@@ -1,0 +1,15 @@
+use Rattle.std.proofs.Common.{refl}
+use Rattle.domain_message.specs.Messages.{message_octets}
+use Rattle.domain_message_builder.proofs.Replying.{answers_header, nothing_after, repeats_after}
+use Rattle.domain_message_builder.proofs.builder.MessageBuilder.start_answer.Goals as goal
+
+pub returns-in_default-clause-ok : goal.returns-in_default-clause-ok
+returns-in_default-clause-ok g c =
+    let m = message_octets c.args.query.now in
+    nothing_after _ m _ _ _ _ (answers_header m _ _ _ _ _ c.header.ensures.id c.header.ensures.high c.header.ensures.low c.answer_header.ensures) c.set_header.ensures.header (c.in_default.ensures.none refl)
+
+pub returns-clause-ok : goal.returns-clause-ok
+returns-clause-ok g c =
+    let m = message_octets c.args.query.now in
+    let some = c.in-Some.ensures.some in
+    repeats_after _ m _ _ _ _ _ (answers_header m _ _ _ _ _ c.header.ensures.id c.header.ensures.high c.header.ensures.low c.answer_header.ensures) c.set_header.ensures.header _ (record { counted = some.0; end = some.1.0; at = some.1.1 }) c.in_default-push_question.ensures.ok

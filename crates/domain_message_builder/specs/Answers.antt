@@ -1,0 +1,61 @@
+-- Messages that answer others.
+use Rattle.std.specs.Prelude.{◌≡◌, ℕ, ◌<◌, ◌-◌, ◌%◌, ◌⊎◌, Bool, List, slice_index}
+use Rattle.domain_header.specs.Bits.{bit, bits}
+use Rattle.domain_header.specs.Headers.{header_id, header_high, header_low, question_count}
+use Rattle.domain_header.specs.Numbers.{number16}
+use Rattle.domain_header.specs.declared.flags.Header.{Header}
+use Rattle.domain_message.specs.Entries.{QuestionFields, QuestionAt, NoQuestion}
+use Rattle.domain_wire.specs.declared.error.ParseError.{ParseError}
+use Rattle.domain_rdata.specs.ReadBack.{Exceeds}
+use Rattle.domain_message_builder.specs.Contents.{AsksIn}
+use Rattle.domain_message_builder.specs.Pushes.{with_header, record_count, PushesQuestion}
+use Rattle.domain_message_builder.specs.Refusals.{QuestionRefused}
+use Rattle.domain_message_builder.specs.State.{State}
+use Rattle.domain_message_builder.specs.declared.error.PushError.{PushError}
+
+-- The header of an answer to a query that has this identifier and these two octets of flags: the opcode, RD and CD are those
+-- of the query, QR is set, and no other bit is (RFC 1035, 4.1.1; RFC 4035, 3.2.2).
+pub record IsAnswerHeader (id high low rcode : ℕ) (answer : Header) : Type 0 where
+  pub id_is : header_id answer ≡ id
+  pub qr : bit 128 (header_high answer) ≡ 1
+  pub opcode : bits 8 16 (header_high answer) ≡ bits 8 16 high
+  pub aa : bit 4 (header_high answer) ≡ 0
+  pub tc : bit 2 (header_high answer) ≡ 0
+  pub rd : bit 1 (header_high answer) ≡ bit 1 high
+  pub ra : bit 128 (header_low answer) ≡ 0
+  pub z : bit 64 (header_low answer) ≡ 0
+  pub ad : bit 32 (header_low answer) ≡ 0
+  pub cd : bit 16 (header_low answer) ≡ bit 16 low
+  pub rcode_is : bits 1 16 (header_low answer) ≡ rcode % 16
+
+-- the same of a query in a message of these octets
+abbrev pub AnswersHeaderOf : List ℕ → ℕ → Header → Type 0
+AnswersHeaderOf m rcode answer = IsAnswerHeader (number16 m 0) (slice_index m 2) (slice_index m 3) rcode answer
+
+-- The message counts no question, or the first is missing.
+abbrev pub HasNoQuestion : List ℕ → Type 0
+HasNoQuestion m = (number16 m 4 ≡ 0) ⊎ ((why : ParseError) × NoQuestion m 12 why)
+
+-- The first question of the message is this one.
+pub record BeginsWithQuestion (m : List ℕ) (q : QuestionFields) : Type 0 where
+  pub counted : 0 < number16 m 4
+  pub end : ℕ
+  pub at : QuestionAt m 12 q end
+
+-- An answer to the message was begun: its header was set, and its first question was pushed, if it has one.
+pub data StartsAnswer (compresses : Bool) (m : List ℕ) (rcode : ℕ) (old new : State) : Type 0 where
+  repeats : AnswersHeaderOf m rcode new.header → (q : QuestionFields) → BeginsWithQuestion m q → PushesQuestion compresses q (with_header new.header old) new → StartsAnswer compresses m rcode old new
+  nothing : AnswersHeaderOf m rcode new.header → HasNoQuestion m → new ≡ with_header new.header old → StartsAnswer compresses m rcode old new
+
+-- Why none was begun, on a target of this capacity.
+abbrev pub NotStarted : {E : Type 0} → Bool → List ℕ → State → ℕ → PushError E → Type 0
+NotStarted compresses m s capacity e = (q : QuestionFields) × BeginsWithQuestion m q × QuestionRefused compresses q s capacity e
+
+-- A question can't be pushed: it exceeds the target's room or the limit, or there are too many, or a record was pushed.
+abbrev pub CannotAsk : Bool → QuestionFields → State → ℕ → Type 0
+CannotAsk compresses q s capacity = Exceeds (AsksIn compresses q s.octets) s.octets capacity ⊎ ((question_count s.counts ≡ 65535) ⊎ (Exceeds (AsksIn compresses q s.octets) s.octets (s.limit - s.reserved) ⊎ (0 < record_count s.counts)))
+
+-- An answer was begun, or its header was set where the question can't be pushed.
+pub data StartsError (compresses : Bool) (m : List ℕ) (rcode capacity : ℕ) (old new : State) : Type 0 where
+  started : StartsAnswer compresses m rcode old new → StartsError compresses m rcode capacity old new
+  bare : AnswersHeaderOf m rcode new.header → (q : QuestionFields) → BeginsWithQuestion m q → CannotAsk compresses q old capacity → new ≡ with_header new.header old → StartsError compresses m rcode capacity old new

@@ -1,0 +1,58 @@
+-- OPT records (RFC 6891).
+use Rattle.std.specs.Prelude.{ℕ, ◌+◌, ◌*◌, ◌<◌, Bool, false, List, ◌++◌, length}
+use Rattle.std.specs.Int.{w16, to_be_bytes}
+use Rattle.domain_header.specs.Bits.{bit_of}
+use Rattle.domain_label.specs.Wire.{Root}
+use Rattle.domain_rdata.specs.declared.record_data.ComposeRdataError.{ComposeRdataError}
+use Rattle.domain_rdata.specs.declared.record_data.ComposeRdataError.TheVariants.{Append, Long}
+use Rattle.domain_message_builder.specs.Contents.{RecordHead}
+
+-- what an OPT record says: how many octets of a message over UDP its sender takes, the upper bits of the response code, the
+-- version, the bit DO, and the options in wire format (6.1.2 and 6.1.3)
+pub record Opt : Type 0 where
+  pub udp_payload_size : ℕ
+  pub rcode_ext : ℕ
+  pub version : ℕ
+  pub dnssec_ok : Bool
+  pub options : List ℕ
+
+-- these options, and nothing set
+abbrev pub bare_opt : List ℕ → Opt
+bare_opt options = record { udp_payload_size = 512; rcode_ext = 0; version = 0; dnssec_ok = false; options = options }
+
+-- with this size
+abbrev pub with_size : ℕ → Opt → Opt
+with_size size o = record o { udp_payload_size = size }
+
+-- with these upper bits of a response code
+abbrev pub with_rcode_ext : ℕ → Opt → Opt
+with_rcode_ext rcode_ext o = record o { rcode_ext = rcode_ext }
+
+-- with this version
+abbrev pub with_version : ℕ → Opt → Opt
+with_version version o = record o { version = version }
+
+-- with the bit DO, or without
+abbrev pub with_dnssec_ok : Bool → Opt → Opt
+with_dnssec_ok on o = record o { dnssec_ok = on }
+
+-- with these options
+abbrev pub with_options : List ℕ → Opt → Opt
+with_options options o = record o { options = options }
+
+-- the TTL: eight bits of the response code, eight of the version, the bit DO and fifteen of zero (6.1.3)
+abbrev pub opt_ttl : ℕ → ℕ → Bool → ℕ
+opt_ttl rcode_ext version dnssec_ok = rcode_ext * 16777216 + version * 65536 + bit_of dnssec_ok * 32768
+
+-- the record before the length of its options: the root, the type 41, the size in the place of the class (6.1.2)
+abbrev pub opt_head : Opt → RecordHead
+opt_head o = record { owner = Root; rtype = 41; class = o.udp_payload_size; ttl = opt_ttl o.rcode_ext o.version o.dnssec_ok }
+
+-- an option: its code, the length of its data, and the data (6.1.2)
+abbrev pub option_octets : ℕ → List ℕ → List ℕ
+option_octets code data_octets = to_be_bytes w16 code ++ (to_be_bytes w16 (length data_octets) ++ data_octets)
+
+-- Why an option wasn't pushed.
+abbrev pub OptionRefused : {E : Type 0} → List ℕ → List ℕ → ℕ → ComposeRdataError E → Type 0
+OptionRefused options data_octets capacity (Append e) = capacity < length options + 4 + length data_octets
+OptionRefused options data_octets capacity (Long _) = 65535 < length options + 4 + length data_octets

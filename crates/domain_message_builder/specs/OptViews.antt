@@ -1,0 +1,13 @@
+-- What contracts see of a builder of OPT records.
+use Rattle.std.specs.Prelude.{ℕ}
+use Rattle.octseq.specs.declared.octets.Octets.{Ghosts}
+use Rattle.domain_message_builder.specs.Opt.{Opt}
+use Rattle.domain_message_builder.specs.declared.opt.OptBuilder.{OptBuilder}
+
+-- what is seen of a builder
+abbrev pub opt_of : {O : Type 0} {g : Ghosts O} → OptBuilder O g → Opt
+opt_of {g = g} b = record { udp_payload_size = b.udp_payload_size; rcode_ext = b.rcode_ext; version = b.version; dnssec_ok = b.dnssec_ok; options = g.octets b.options }
+
+-- how many octets of options fit in all without new memory
+abbrev pub options_room : {O : Type 0} {g : Ghosts O} → OptBuilder O g → ℕ
+options_room {g = g} b = g.capacity b.options

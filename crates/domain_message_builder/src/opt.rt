@@ -1,0 +1,164 @@
+//! OPT records (RFC 6891).
+ghost use Rattle.std.specs.Prelude.{◌≡◌, ◌≤◌, ◌<◌, ◌+◌, ◌↔◌, ◌++◌, [], length, IfOk, IfErr, IsErr, OnOk, OnErr};
+ghost use Rattle.domain_message_builder.specs.Contents.{RecordHead};
+ghost use Rattle.domain_message_builder.specs.Opt.{opt_ttl, option_octets, OptionRefused};
+
+use domain_header::{Class, Ttl};
+use domain_message::Record;
+use domain_name::Name;
+use domain_rdata::{ComposeRdataError, LongRecordData, Rtype, UnknownRecordData};
+use octseq::{Octets, OctetsBuilder, Truncate};
+
+/// The TTL that tells these (6.1.3).
+fn flags_ttl(rcode_ext: u8, version: u8, dnssec_ok: bool) -> u32
+    ensures { result ≡ opt_ttl rcode_ext version dnssec_ok }
+{
+    let numbers = u32::from(rcode_ext) * 16777216 + u32::from(version) * 65536;
+    if dnssec_ok { numbers + 32768 } else { numbers }
+}
+
+/// What an OPT record says: how large a message its sender takes, flags, and options (RFC 6891, 6.1).
+#[derive(Drop)]
+pub struct OptBuilder<Octs: Octets> {
+    udp_payload_size: u16,
+    rcode_ext: u8,
+    version: u8,
+    dnssec_ok: bool,
+    options: Octs,
+    ghost few: { length (Octs.octets options) ≤ 65535 },
+}
+
+impl<Octs: Octets + Drop> OptBuilder<Octs> {
+    ghost use Rattle.domain_message_builder.specs.Opt.{bare_opt};
+    ghost use Rattle.domain_message_builder.specs.OptViews.{opt_of};
+
+    /// An OPT record of these options, in wire format, of version 0, with nothing set, and a size of 512 octets.
+    ///
+    /// `LongRecordData` exactly if the options have more than 65,535 octets.
+    pub fn new(options: Octs) -> Result<OptBuilder<Octs>, LongRecordData>
+        ensures ok { IfOk result (λ it. opt_of it ≡ bare_opt (Octs.octets options)) }
+        ensures long { IsErr result ↔ (65535 < length (Octs.octets options)) }
+    {
+        if let Err(e) = LongRecordData::check_len(options.as_slice().len()) {
+            return Err(e);
+        }
+        Ok(OptBuilder {
+            udp_payload_size: 512,
+            rcode_ext: 0,
+            version: 0,
+            dnssec_ok: false,
+            options,
+        })
+    }
+}
+
+impl<Octs: Octets> OptBuilder<Octs> {
+    ghost use Rattle.domain_message_builder.specs.Opt.{with_size, with_rcode_ext, with_version, with_dnssec_ok, opt_head};
+    ghost use Rattle.domain_message_builder.specs.OptViews.{opt_of};
+    ghost use Rattle.domain_message_builder.specs.Pushes.{headed};
+    ghost use Rattle.domain_message.specs.RecordParts.{data_of};
+    ghost use Rattle.domain_name.specs.Names.{name_labels};
+    ghost use Rattle.domain_rdata.specs.Unknown.{data_octets, data_type};
+
+    /// Sets how many octets of a message over UDP the sender takes (6.2.3).
+    pub fn set_udp_payload_size(&mut self, size: u16)
+        ensures { opt_of self.new ≡ with_size size (opt_of self.old) }
+    {
+        self.udp_payload_size = size;
+    }
+
+    /// Sets the upper eight bits of a response code of twelve (6.1.3).
+    pub fn set_rcode_ext(&mut self, rcode_ext: u8)
+        ensures { opt_of self.new ≡ with_rcode_ext rcode_ext (opt_of self.old) }
+    {
+        self.rcode_ext = rcode_ext;
+    }
+
+    /// Sets the version of EDNS (6.1.3).
+    pub fn set_version(&mut self, version: u8)
+        ensures { opt_of self.new ≡ with_version version (opt_of self.old) }
+    {
+        self.version = version;
+    }
+
+    /// Sets the bit DO, or clears it (RFC 3225, 3).
+    pub fn set_dnssec_ok(&mut self, on: bool)
+        ensures { opt_of self.new ≡ with_dnssec_ok on (opt_of self.old) }
+    {
+        self.dnssec_ok = on;
+    }
+
+    /// How many octets the record has in a message: eleven, and those of its options.
+    pub fn record_len(&self) -> usize
+        ensures { result ≡ 11 + length (opt_of self.now).options }
+    {
+        11 + self.options.as_slice().len()
+    }
+
+    /// The record.
+    pub fn record(&self) -> Record<Name<&'static [u8]>, UnknownRecordData<&Octs>>
+        ensures head { headed name_labels data_type result ≡ opt_head (opt_of self.now) }
+        ensures options { data_octets (data_of result) ≡ (opt_of self.now).options }
+    {
+        let ttl = flags_ttl(self.rcode_ext, self.version, self.dnssec_ok);
+        let Ok(options) = UnknownRecordData::from_octets(Rtype::from_int(41), &self.options) else {
+            unreachable!();
+        };
+        let class = Class::from_int(self.udp_payload_size);
+        Record::new(Name::root_ref(), class, Ttl::from_secs(ttl), options)
+    }
+}
+
+/// Appends the parts of an option, or nothing.
+fn append_option<Octs: OctetsBuilder>(
+    options: &mut Octs,
+    code: u16,
+    octets: &[u8],
+) -> Result<(), Octs::AppendError>
+    requires { length octets.now ≤ 65535 }
+    ensures ok { OnOk result (Octs.octets options.new ≡ Octs.octets options.old ++ option_octets code octets.now) }
+    ensures unchanged { OnErr result (Octs.octets options.new ≡ Octs.octets options.old) }
+    ensures full { OnErr result (Octs.capacity options.old < length (Octs.octets options.old) + 4 + length octets.now) }
+{
+    let start = options.as_slice().len();
+    let [a, b] = code.to_be_bytes();
+    let [c, d] = (octets.len() as u16).to_be_bytes();
+    if let Err(e) = options.append_slice(&[a, b, c, d]) {
+        return Err(e);
+    }
+    if let Err(e) = options.append_slice(octets) {
+        options.truncate(start);
+        return Err(e);
+    }
+    Ok(())
+}
+
+impl<Octs: OctetsBuilder> OptBuilder<Octs> {
+    ghost use Rattle.domain_message_builder.specs.Opt.{with_options};
+    ghost use Rattle.domain_message_builder.specs.OptViews.{opt_of, options_room};
+
+    /// Pushes an option of this code, or nothing (6.1.2).
+    ///
+    /// `Long` exactly if the options would have more than 65,535 octets, else `Append` only if they exceed the room
+    /// for them. Nothing is then changed.
+    pub fn push_raw_option(
+        &mut self,
+        code: u16,
+        octets: &[u8],
+    ) -> Result<(), ComposeRdataError<Octs::AppendError>>
+        ensures ok { OnOk result (opt_of self.new ≡ with_options
+            ((opt_of self.old).options ++ option_octets code octets.now) (opt_of self.old)) }
+        ensures unchanged { OnErr result (opt_of self.new ≡ opt_of self.old) }
+        ensures why { IfErr result (λ e. OptionRefused (opt_of self.old).options octets.now
+            (options_room self.old) e) }
+    {
+        let len = self.options.as_slice().len();
+        if octets.len() > 65535 || len + octets.len() > 65531 {
+            return Err(ComposeRdataError::Long(LongRecordData));
+        }
+        match append_option(&mut self.options, code, octets) {
+            Ok(()) => Ok(()),
+            Err(e) => Err(ComposeRdataError::Append(e)),
+        }
+    }
+}
