@@ -19,10 +19,10 @@ returns-in-Ok-clause-ok g c =
     let b = c.in-Some.beginning in
     let P : List ℕ → Type 0 = λ t. WritesPointer t (all_remembered c.args.written.now) c.args.name.now b.begin b.offset in
     let t = g.Target.Octets.octets c.args.target.now in
-    pointed_so t _ _ _ _ _ (subst P c.as_slice.ensures.octets c.in-Some.ensures.some) (c.in-Ok.ensures.ok ∙ ap (λ o. t ++ o) (c.as_slice-2.ensures.value ∙ c.pointed-octets.ensures))
+    pointed_so t _ _ _ _ _ (subst P c.as_slice.ensures.octets c.in-Some.ensures.some) (c.in-Ok.ensures.ok ∙ ap (λ o. t ++ o) c.put_pointed-len.ensures.octets)
 
 pub returns-in-Err-clause-full : goal.returns-in-Err-clause-full
 returns-in-Err-clause-full g c =
     let b = c.in-Some.beginning in
     let P : List ℕ → Type 0 = λ t. WritesPointer t (all_remembered c.args.written.now) c.args.name.now b.begin b.offset in
-    exceeds_pointed _ _ _ _ _ _ (subst P c.as_slice.ensures.octets c.in-Some.ensures.some) (omega (arith, c.in-Err.ensures.full, ap length (c.as_slice-2.ensures.value ∙ c.pointed-octets.ensures)))
+    exceeds_pointed _ _ _ _ _ _ (subst P c.as_slice.ensures.octets c.in-Some.ensures.some) (omega (arith, c.in-Err.ensures.full, ap length c.put_pointed-len.ensures.octets))
