@@ -4,13 +4,20 @@
 //! README.md tells the lines and the answers.
 #![tactic(auto)]
 
+mod command;
+mod compress;
+mod everywhere;
+mod message;
+mod names;
 mod program;
+mod records;
+mod slow_reader;
 
+use crate::command::answer_parsed;
 use crate::program::put_run;
 use conformance_answer::{Answer, Fail, Fields};
 use conformance_labels::answer_labels;
 use conformance_names::answer_names;
-use conformance_parsed::answer_parsed;
 use conformance_texts::answer_texts;
 use std::alloc::{AllocError, Global};
 use std::io::{Read, Write};

@@ -3,7 +3,7 @@ ghost use Rattle.std.specs.Prelude.{◌≡◌, ◌≢◌, ◌<◌, ◌≤◌, �
 ghost use Rattle.dnsnames_c.specs.Messages.{number_16, number_32, GivesQuestionParts, GivesRecordParts};
 
 use crate::read::number_of;
-use domain_reading::alone::encoding_end;
+use domain_reading::uncounted::encoding_end;
 
 /// The two octets at an offset as a number, the high one first.
 fn number_of_16_bits(message: &[u8], offset: usize) -> u16

@@ -9,8 +9,8 @@ ghost use Rattle.dnsnames_c.specs.Status.{fault_number, bit_number};
 use crate::put::give;
 use domain_list::composing::put_name;
 use domain_parsed::ParsedName;
-use domain_reading::alone::encoding_end;
 use domain_reading::fault::NameFault;
+use domain_reading::uncounted::encoding_end;
 use octseq::Parser;
 
 /// The number of a fault.

@@ -1,14 +1,14 @@
 //! Data of records by their types. The README.md of `domain_data` tells the calls.
 
-pub use domain_all_data::AllRecordData;
 pub use domain_data::{
-    A, Aaaa, Afsdb, Cname, Dname, Kx, Mb, Md, Mf, Mg, Minfo, Mr, Mx, Ns, Ptr, Px, Rp, Rt, Soa, Srv,
+    A, Aaaa, Afsdb, AllRecordData, Cname, Dname, Kx, Mb, Md, Mf, Mg, Minfo, Mr, Mx, Ns, Ptr, Px,
+    Rp, Rt, Soa, Srv, Txt, TxtError, TxtIter,
 };
 pub use domain_rdata::UnknownRecordData;
-pub use domain_txt::{Txt, TxtError, TxtIter};
 
 /// The types of RFC 1035, in whose data names may be compressed.
 pub mod rfc1035 {
-    pub use domain_data::{A, Cname, Mb, Md, Mf, Mg, Minfo, Mr, Mx, Ns, Ptr, Soa};
-    pub use domain_txt::{Txt, TxtError, TxtIter};
+    pub use domain_data::{
+        A, Cname, Mb, Md, Mf, Mg, Minfo, Mr, Mx, Ns, Ptr, Soa, Txt, TxtError, TxtIter,
+    };
 }

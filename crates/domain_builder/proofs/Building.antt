@@ -4,7 +4,7 @@ use Rattle.std.proofs.Math.Seq.{set-append_seam}
 use Rattle.std.proofs.lemmas.Grind.{common_steps}
 use Rattle.domain_label.specs.Wire.{wire, labels_in, IsRelative, IsRelativeName, IsAbsoluteName, IsAbsoluteWire, IsRelativeWire, Root}
 use Rattle.domain_label.proofs.WireLaws.{labels_in_wire, wire_absolute, wire_relative, wire_append, relative_then_absolute, relative_then_relative}
-use Rattle.domain_text_grammar.specs.BuilderState.{BuilderState, encoded, encoded_label, closed_with, closed, size, pushed, ended, labelled, named}
+use Rattle.domain_text.specs.BuilderState.{BuilderState, encoded, encoded_label, closed_with, closed, size, pushed, ended, labelled, named}
 use Rattle.domain_builder.specs.Inside.{Held, room, view_of, head_of, closed_at, IsInside}
 
 length-cons-pos : (c : ℕ) (cs : List ℕ) → 0 < length (c ∷ cs)

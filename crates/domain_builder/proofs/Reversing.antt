@@ -5,7 +5,7 @@ use Rattle.std.specs.Fmt.{decimal, digit_glyph}
 use Rattle.std.proofs.lemmas.List.{reverse-append}
 use Rattle.std.proofs.lemmas.List.Concat.{flat_map_single}
 use Rattle.std.proofs.lemmas.Grind.{flat_map-append}
-use Rattle.domain_text_grammar.specs.BuilderState.{BuilderState, finished, labelled, size}
+use Rattle.domain_text.specs.BuilderState.{BuilderState, finished, labelled, size}
 use Rattle.domain_builder.specs.Reverse.{nibbles}
 use Rattle.domain_builder.proofs.Building.{size_labelled}
 use Rattle.domain_builder.proofs.Digits.{decimal_short}

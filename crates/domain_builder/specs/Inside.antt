@@ -1,7 +1,7 @@
 -- What the fields of a name builder mean.
 use Rattle.std.specs.Prelude.{◌≡◌, ℕ, ◌+◌, ◌-◌, ◌≤◌, List, [], ◌∷◌, length, take, drop, slice_set, Option, None, Some}
 use Rattle.domain_label.specs.Wire.{wire, labels_in, IsRelative}
-use Rattle.domain_text_grammar.specs.BuilderState.{BuilderState, encoded}
+use Rattle.domain_text.specs.BuilderState.{BuilderState, encoded}
 
 -- What a builder has built, and how many octets fit in all without new memory.
 pub record Held : Type 0 where

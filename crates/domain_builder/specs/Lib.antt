@@ -1,9 +1,9 @@
 pub mod Inside
 pub mod Pushing
 pub mod Reverse
-pub use Rattle.domain_text_grammar.specs.BuilderState
-pub use Rattle.domain_text_grammar.specs.NameSymbols
-pub use Rattle.domain_text_grammar.specs.TextGrammar
-pub use Rattle.domain_text_grammar.specs.TextErrors
-pub use Rattle.domain_text_grammar.specs.ErrorText
-pub use Rattle.domain_text_grammar.specs.Laws
+pub use Rattle.domain_text.specs.BuilderState
+pub use Rattle.domain_text.specs.NameSymbols
+pub use Rattle.domain_text.specs.TextGrammar
+pub use Rattle.domain_text.specs.TextErrors
+pub use Rattle.domain_text.specs.ErrorText
+pub use Rattle.domain_text.specs.Laws

@@ -1,12 +1,12 @@
 -- When a builder refuses octets, and what its errors tell.
 use Rattle.std.specs.Prelude.{◌≡◌, ◌≢◌, ℕ, ◌<◌, ◌≤◌, Some, None, Result, Ok, Err, MatchResult, List, codes}
-use Rattle.domain_text_grammar.specs.BuilderState.{BuilderState, size, symbol_fault, after, Makes, StopsAt, LacksRoom}
-use Rattle.domain_text_grammar.specs.TextErrors.{MatchFromStr}
-use Rattle.domain_text_grammar.specs.declared.error.FromStrError.{FromStrError}
-use Rattle.domain_text_grammar.specs.declared.error.FromStrError.TheVariants as short
-use Rattle.domain_text_grammar.specs.declared.name_symbol.TextFault.TheVariants as fault
-use Rattle.domain_text_grammar.specs.declared.name_symbol.NameSymbol.{NameSymbol}
-use Rattle.domain_text_grammar.specs.declared.name_symbol.NameSymbol.TheVariants.{Dot}
+use Rattle.domain_text.specs.BuilderState.{BuilderState, size, symbol_fault, after, Makes, StopsAt, LacksRoom}
+use Rattle.domain_text.specs.TextErrors.{MatchFromStr}
+use Rattle.domain_text.specs.declared.error.FromStrError.{FromStrError}
+use Rattle.domain_text.specs.declared.error.FromStrError.TheVariants as short
+use Rattle.domain_text.specs.declared.name_symbol.TextFault.TheVariants as fault
+use Rattle.domain_text.specs.declared.name_symbol.NameSymbol.{NameSymbol}
+use Rattle.domain_text.specs.declared.name_symbol.NameSymbol.TheVariants.{Dot}
 use Rattle.domain_builder.specs.declared.push_error.PushNameError.{PushNameError}
 use Rattle.domain_builder.specs.declared.push_error.PushNameError.TheVariants as name
 use Rattle.domain_builder.specs.declared.push_error.PushError.{PushError}

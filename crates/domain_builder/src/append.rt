@@ -5,13 +5,13 @@ ghost use Rattle.std.specs.Str.{chars};
 ghost use Rattle.domain_label.specs.declared.symbol.Symbol.{Symbol};
 ghost use Rattle.domain_label.specs.declared.symbol.SymbolCharsError.{SymbolCharsError};
 ghost use Rattle.domain_label.specs.Spelling.{ReadsSymbols};
-ghost use Rattle.domain_text_grammar.specs.NameSymbols.{name_symbols, symbol_in_name, symbols_in_name};
+ghost use Rattle.domain_text.specs.NameSymbols.{name_symbols, symbol_in_name, symbols_in_name};
 ghost use Rattle.domain_builder.specs.Pushing.{TakesSymbol, TakesSymbols};
 ghost use Rattle.domain_builder.specs.Inside.{room};
 
 use crate::labels::LabelsBuilder;
 use domain_label::scan::{Symbol, SymbolCharsError, Symbols};
-use domain_text_grammar::{FromStrError, NameSymbol, TextFault, WholeSymbols, name_symbol_of};
+use domain_text::{FromStrError, NameSymbol, TextFault, WholeSymbols, name_symbol_of};
 use octseq::{OctetsBuilder, OctetsMut};
 
 impl<B: OctetsBuilder + OctetsMut> LabelsBuilder<B> {

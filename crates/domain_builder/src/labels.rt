@@ -2,7 +2,7 @@
 ghost use Rattle.std.specs.Prelude.{◌≡◌, ◌++◌, ℕ, List, [], ◌∷◌, ◌≤◌, ◌<◌, ◌^◌, ◌+◌, ◌%◌, nat_lt, length, take, true, Some, None, IfOk, OnOk, OnErr, IfErr, IfSome, IsSome, IsOk};
 ghost use Rattle.std.specs.Fmt.{decimal, digit_glyph};
 ghost use Rattle.domain_label.specs.Wire.{wire, IsAbsoluteWire, IsRelativeName, IsRelativeWire, labels_in};
-ghost use Rattle.domain_text_grammar.specs.BuilderState.{empty_state, finished, closed, pushed, ended, labelled, named, encoded, size};
+ghost use Rattle.domain_text.specs.BuilderState.{empty_state, finished, closed, pushed, ended, labelled, named, encoded, size};
 ghost use Rattle.domain_builder.specs.Inside.{closed_at, room};
 ghost use Rattle.domain_builder.specs.Pushing.{NameThenLabel, LabelThenName, NameAlone, NameFits, OriginFits};
 

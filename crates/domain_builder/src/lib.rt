@@ -8,11 +8,10 @@ mod labels;
 mod push_error;
 mod reverse;
 
-pub use domain_text_grammar::{
+pub use domain_text::{
     FromStrError, NameSymbol, PresentationError, PresentationErrorKind, RelativeFromStrError,
-    TextFault, error, name_symbol, name_symbol_of, text_laws,
+    TextFault, error, name_symbol, name_symbol_of, text, text_laws,
 };
-pub use domain_text_reading::text;
 pub use labels::{LabelsBuilder, append_absolute};
 pub use push_error::{PushError, PushNameError};
 pub use reverse::reverse_octets;

@@ -1,7 +1,7 @@
 //! Why octets weren't added.
 ghost use Rattle.std.specs.Prelude.{◌≡◌, Some};
 
-use domain_text_grammar::{FromStrError, TextFault};
+use domain_text::{FromStrError, TextFault};
 use octseq::ShortBuf;
 use std::error::Error;
 use std::fmt;

@@ -4,7 +4,7 @@ ghost use Rattle.std.specs.Fmt.{decimal};
 ghost use Rattle.std.specs.List.{flat_map};
 ghost use Rattle.octseq.specs.Capacity.{MayExceedCapacity};
 ghost use Rattle.domain_label.specs.Wire.{wire, Root, IsAbsoluteWire, labels_in};
-ghost use Rattle.domain_text_grammar.specs.BuilderState.{finished, closed, size};
+ghost use Rattle.domain_text.specs.BuilderState.{finished, closed, size};
 ghost use Rattle.domain_builder.specs.Reverse.{nibbles, reverse_name};
 
 use crate::labels::LabelsBuilder;

@@ -9,7 +9,7 @@ ghost use Rattle.domain_compress.specs.Written.{all_remembered, StandsThrough, S
 use crate::by_hash::longest_by_hash;
 use crate::marks::{mark_firsts, may_stand};
 use crate::written::{Written, WrittenSuffix};
-use domain_label::same::same_octets;
+use domain_label::ignoring_case::same_octets;
 use domain_reading::head::{Head, read_head};
 use domain_reading::heads::Heads;
 use std::marker::Brand;

@@ -1,1 +1,4 @@
 pub mod CanonicalForms
+pub mod TxtPassing
+pub mod TxtShowing
+pub mod Shapes

@@ -4,3 +4,15 @@ pub use Rattle.domain_fields.specs.Reading
 pub use Rattle.domain_fields.specs.Sequences
 pub mod Shapes
 pub mod Views
+pub mod Cutting
+pub mod TxtErrors
+pub mod OneProof
+pub mod Quoted
+pub mod TxtReading
+pub mod TxtReadingLaws
+pub mod Strings
+pub mod Txts
+pub mod TxtViews
+pub mod AllData
+pub mod AllTypes
+pub mod Flat

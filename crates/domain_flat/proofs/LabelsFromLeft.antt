@@ -4,7 +4,7 @@ use Rattle.std.proofs.Math.Seq.{take-append_seam}
 use Rattle.std.proofs.lemmas.List.{nil_from_length}
 use Rattle.domain_label.specs.Wire.{wire, Root, IsRelative, IsAbsolute, IsAbsoluteName, IsAbsoluteWire, IsRelativeWire}
 use Rattle.domain_label.specs.Splitting.{BeginsWithLabel, SplitFault}
-use Rattle.domain_label.specs.declared.split.SplitLabelError.{SplitLabelError}
+use Rattle.domain_label.specs.declared.split_error.SplitLabelError.{SplitLabelError}
 use Rattle.domain_label.proofs.SplitLaws.{same_front, split_not_label}
 use Rattle.domain_label.proofs.WireLaws.{wire_append, length-wire_append, one_relative, wire_absolute, wire_relative, relative_then_relative, relative_then_absolute, absolute_labels, relative_labels}
 use Rattle.domain_flat.specs.Flat.{LabelsBefore, NameAt}

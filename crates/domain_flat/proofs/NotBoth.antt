@@ -1,7 +1,7 @@
 -- Octets that are a name have no fault.
 use Rattle.std.proofs.Common.{◌≡◌, ℕ, ◌+◌, ◌≤◌, inl, inr, List, [], ◌∷◌, ◌++◌, length, drop, sym, ◌∙◌, ap, subst, arith, append-nil}
 use Rattle.domain_label.specs.Wire.{wire, labels_in, Root, IsAbsolute, IsRelative, IsAbsoluteWire, IsRelativeWire}
-use Rattle.domain_label.specs.declared.split.SplitLabelError.TheVariants.{Pointer, BadType, ShortInput}
+use Rattle.domain_label.specs.declared.split_error.SplitLabelError.TheVariants.{Pointer, BadType, ShortInput}
 use Rattle.domain_label.proofs.WireLaws.{length-wire_append}
 use Rattle.domain_wire.specs.Refusals.{Refusal}
 use Rattle.domain_flat.specs.Flat.{LabelsBefore, NameAt}

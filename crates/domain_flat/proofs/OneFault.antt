@@ -6,8 +6,8 @@ use Rattle.domain_label.specs.Wire.{wire, IsLabel, IsRelative}
 use Rattle.domain_label.specs.Splitting.{SplitFault}
 use Rattle.domain_label.specs.ErrorText.{split_refusal}
 use Rattle.domain_wire.specs.Refusals.{Refusal, form}
-use Rattle.domain_label.specs.declared.split.SplitLabelError.{SplitLabelError}
-use Rattle.domain_label.specs.declared.split.SplitLabelError.TheVariants.{Pointer, BadType, ShortInput}
+use Rattle.domain_label.specs.declared.split_error.SplitLabelError.{SplitLabelError}
+use Rattle.domain_label.specs.declared.split_error.SplitLabelError.TheVariants.{Pointer, BadType, ShortInput}
 use Rattle.domain_label.proofs.SplitLaws.{same_front, split_once, split_not_label}
 use Rattle.domain_flat.specs.Flat.{LabelsBefore}
 use Rattle.domain_flat.specs.ErrorText.{name_fault, relative_name_fault}

@@ -2,8 +2,8 @@
 use Rattle.std.specs.Prelude.{ℕ, List, codes}
 use Rattle.domain_wire.specs.Refusals.{Refusal, short_input, form}
 use Rattle.domain_label.specs.ErrorText.{label_type_text}
-use Rattle.domain_label.specs.declared.split.SplitLabelError.{SplitLabelError}
-use Rattle.domain_label.specs.declared.split.SplitLabelError.TheVariants as split
+use Rattle.domain_label.specs.declared.split_error.SplitLabelError.{SplitLabelError}
+use Rattle.domain_label.specs.declared.split_error.SplitLabelError.TheVariants as split
 use Rattle.domain_flat.specs.declared.error.NameErrorKind.{NameErrorKind}
 use Rattle.domain_flat.specs.declared.error.NameErrorKind.TheVariants.{BadLabel, CompressedName, LongName, RelativeName, TrailingData, ShortInput}
 use Rattle.domain_flat.specs.declared.error.RelativeNameErrorKind.{RelativeNameErrorKind}

@@ -3,9 +3,9 @@ use Rattle.std.specs.Prelude.{◌≡◌, ◌≢◌, ℕ, ◌<◌, ◌≤◌, ◌
 use Rattle.domain_label.specs.Wire.{wire}
 use Rattle.domain_label.specs.Splitting.{SplitFault}
 use Rattle.domain_label.specs.ErrorText.{split_refusal}
-use Rattle.domain_label.specs.declared.split.SplitLabelError.{SplitLabelError}
+use Rattle.domain_label.specs.declared.split_error.SplitLabelError.{SplitLabelError}
 use Rattle.domain_wire.specs.Refusals.{Refusal, form}
-use Rattle.domain_label.specs.declared.split.SplitLabelError.TheVariants.{Pointer, BadType, ShortInput as MissingOctets}
+use Rattle.domain_label.specs.declared.split_error.SplitLabelError.TheVariants.{Pointer, BadType, ShortInput as MissingOctets}
 use Rattle.domain_flat.specs.Flat.{LabelsBefore}
 use Rattle.domain_flat.specs.declared.error.NameErrorKind.{NameErrorKind}
 use Rattle.domain_flat.specs.declared.error.NameErrorKind.TheVariants as absolute

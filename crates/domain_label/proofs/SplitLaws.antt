@@ -3,9 +3,9 @@ use Rattle.std.proofs.Common.{◌≡◌, ℕ, suc, ⊎_elim, List, [], ◌∷◌
 use Rattle.std.proofs.Math.Seq.{take-append_seam, drop-append_seam}
 use Rattle.domain_label.specs.Wire.{IsLabel}
 use Rattle.domain_label.specs.Splitting.{BeginsWithLabel, SplitFault, HeadFault}
-use Rattle.domain_label.specs.declared.split.SplitLabelError.{SplitLabelError}
-use Rattle.domain_label.specs.declared.split.SplitLabelError.TheVariants.{Pointer, BadType, ShortInput}
-use Rattle.domain_label.specs.declared.split.LabelTypeError.TheVariants.{Undefined, Extended}
+use Rattle.domain_label.specs.declared.split_error.SplitLabelError.{SplitLabelError}
+use Rattle.domain_label.specs.declared.split_error.SplitLabelError.TheVariants.{Pointer, BadType, ShortInput}
+use Rattle.domain_label.specs.declared.split_error.LabelTypeError.TheVariants.{Undefined, Extended}
 
 -- why octets begin with no label is one
 head_once : (head : ℕ) (rest : List ℕ) (d e : SplitLabelError) → HeadFault head rest d → HeadFault head rest e → d ≡ e

@@ -7,9 +7,9 @@ use Rattle.std.proofs.lemmas.Bool.Decides.{leb_tells, eqb_tells}
 use Rattle.std.proofs.lemmas.Map.Steps.{length-le_from_distinct_below}
 use Rattle.domain_label.specs.Splitting.{BeginsWithLabel, SplitFault}
 use Rattle.domain_label.specs.SliceWalk.{Step, past_label, at_root, at_pointer, at_end, label_step, pointer_step, step_of, step_at, labels_past, slice_walk, WherePast, WalkEnds}
-use Rattle.domain_label.specs.declared.split.SplitLabelError.{SplitLabelError}
-use Rattle.domain_label.specs.declared.split.SplitLabelError.TheVariants.{Pointer, BadType, ShortInput}
-use Rattle.domain_label.specs.declared.split.LabelTypeError.TheVariants.{Undefined, Extended}
+use Rattle.domain_label.specs.declared.split_error.SplitLabelError.{SplitLabelError}
+use Rattle.domain_label.specs.declared.split_error.SplitLabelError.TheVariants.{Pointer, BadType, ShortInput}
+use Rattle.domain_label.specs.declared.split_error.LabelTypeError.TheVariants.{Undefined, Extended}
 
 if-true : {A : Type 0} (b : Bool) (x y : A) → b ≡ true → (if b then x else y) ≡ x
 if-true b x y e = rw e refl

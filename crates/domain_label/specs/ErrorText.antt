@@ -4,10 +4,10 @@ use Rattle.domain_label.specs.Hex.{hex_digit}
 use Rattle.domain_wire.specs.Refusals.{Refusal, short_input, form}
 use Rattle.domain_label.specs.declared.label_text.LabelFromStrErrorKind.{LabelFromStrErrorKind}
 use Rattle.domain_label.specs.declared.label_text.LabelFromStrErrorKind.TheVariants.{SymbolChars, BadSymbol, BinaryLabel, LongLabel}
-use Rattle.domain_label.specs.declared.split.SplitLabelError.{SplitLabelError}
-use Rattle.domain_label.specs.declared.split.SplitLabelError.TheVariants.{Pointer, BadType, ShortInput}
-use Rattle.domain_label.specs.declared.split.LabelTypeError.{LabelTypeError}
-use Rattle.domain_label.specs.declared.split.LabelTypeError.TheVariants.{Undefined, Extended}
+use Rattle.domain_label.specs.declared.split_error.SplitLabelError.{SplitLabelError}
+use Rattle.domain_label.specs.declared.split_error.SplitLabelError.TheVariants.{Pointer, BadType, ShortInput}
+use Rattle.domain_label.specs.declared.split_error.LabelTypeError.{LabelTypeError}
+use Rattle.domain_label.specs.declared.split_error.LabelTypeError.TheVariants.{Undefined, Extended}
 use Rattle.domain_label.specs.declared.symbol.SymbolCharsError.{SymbolCharsError}
 use Rattle.domain_label.specs.declared.symbol.SymbolCharsError.TheVariants as broken
 

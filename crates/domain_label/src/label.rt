@@ -6,7 +6,7 @@ ghost use Rattle.domain_label.specs.Wire.{IsLabel};
 ghost use Rattle.domain_label.specs.Text.{escaped};
 
 use crate::presentation::{ascii_text, push_label};
-use crate::split::{LabelTypeError, SplitLabelError};
+use crate::split_error::{LabelTypeError, SplitLabelError};
 use arrayvec::ArrayVec;
 use std::error::Error;
 use std::fmt;

@@ -4,7 +4,7 @@ ghost use Rattle.domain_label.specs.Lowercase.{lowercase};
 ghost use Rattle.domain_label.specs.Wire.{IsLabel};
 
 use crate::label::{Label, LongLabelError};
-use crate::split::SplitLabelError;
+use crate::split_error::SplitLabelError;
 
 /// A label whose octets can be written in place. How many there are stays the same.
 #[derive(Debug, Drop)]

@@ -6,7 +6,7 @@ ghost use Rattle.domain_label.specs.Spelling.{IsReadOnce};
 ghost use Rattle.domain_label.specs.Splitting.{BeginsWithLabel, SplitFault};
 ghost use Rattle.domain_label.specs.Labels.{owned_octets};
 ghost use Rattle.domain_label.specs.Wire.{wire, labels_in, IsAbsolute, IsRelative};
-ghost use Rattle.domain_label.specs.declared.split.SplitLabelError.{SplitLabelError};
+ghost use Rattle.domain_label.specs.declared.split_error.SplitLabelError.{SplitLabelError};
 
 use crate::owned::OwnedLabel;
 

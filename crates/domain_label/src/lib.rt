@@ -4,6 +4,7 @@
 pub mod compose;
 mod escape;
 pub mod hex;
+pub mod ignoring_case;
 pub mod label;
 pub mod label_mut;
 pub mod label_text;
@@ -11,10 +12,9 @@ pub mod laws;
 pub mod order;
 pub mod owned;
 pub mod presentation;
-pub mod same;
 pub mod scan;
 pub mod slice_labels;
-pub mod split;
+pub mod split_error;
 mod symbol;
 mod symbols;
 
@@ -23,4 +23,4 @@ pub use label_mut::LabelMut;
 pub use label_text::{LabelFromStrError, LabelFromStrErrorKind};
 pub use owned::OwnedLabel;
 pub use slice_labels::SliceLabelsIter;
-pub use split::{LabelTypeError, SplitLabelError};
+pub use split_error::{LabelTypeError, SplitLabelError};

@@ -8,8 +8,8 @@ ghost use Rattle.domain_label.specs.SameHash.{same_label_hash_input};
 ghost use Rattle.domain_label.specs.Lowercase.{eq_ignoring_case, cmp_ignoring_case, label_hash_input, label_composed_order, label_lowercase_composed_order};
 ghost use Rattle.domain_label.specs.Labels.{label_octets};
 
+use crate::ignoring_case::same_octets;
 use crate::label::Label;
-use crate::same::same_octets;
 use std::cmp::Ordering;
 use std::hash::{Hash, Hasher};
 

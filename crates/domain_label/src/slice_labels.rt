@@ -6,7 +6,7 @@ ghost use Rattle.domain_label.specs.Splitting.{BeginsWithLabel, SplitFault};
 ghost use Rattle.domain_label.specs.Labels.{label_octets, walk_left};
 
 use crate::label::Label;
-use crate::split::SplitLabelError;
+use crate::split_error::SplitLabelError;
 
 /// The labels in a slice, one after another, made by [`Label::iter_slice`].
 #[derive(Debug, Drop)]

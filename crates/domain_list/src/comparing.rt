@@ -10,8 +10,8 @@ ghost use Rattle.domain_list.specs.Order.{canonical_order, last_order, same_name
 use crate::flat::known_equal_suffix_len;
 use crate::labels::{LabelIterator, ToLabelIter};
 use domain_label::Label;
+use domain_label::ignoring_case::same_octets;
 use domain_label::order::order_ignoring_case;
-use domain_label::same::same_octets;
 use std::cmp::Ordering;
 
 /// Whether the labels that are left are the same ignoring ASCII case (RFC 4343).

@@ -6,7 +6,7 @@ ghost use Rattle.domain_list.specs.Ends.{StartsWith, EndsWith};
 
 use crate::comparing::{eq_labels, next_label};
 use crate::labels::{LabelIterator, ToLabelIter};
-use domain_label::same::same_octets;
+use domain_label::ignoring_case::same_octets;
 
 /// Whether the labels that `a` has left begin with those of `b`, ignoring ASCII case.
 pub fn begins_with<'a, A: LabelIterator<'a>, B: LabelIterator<'a>>(a: A, b: B) -> bool

@@ -1,7 +1,7 @@
 //! How many octets at the ends of two wire formats are the same, found without iterating over their labels.
 ghost use Rattle.domain_list.specs.EqualSuffixes.{OctetSuffixesEqual, KnownSuffixesEqual};
 
-use domain_label::same::same_octets;
+use domain_label::ignoring_case::same_octets;
 
 /// How many octets are compared at a time.
 const PART: usize = 8;

@@ -4,7 +4,7 @@ ghost use Rattle.domain_label.specs.Wire.{IsWire, labels_in, wire};
 ghost use Rattle.domain_list.specs.Ends.{EndsWith};
 
 use domain_flat::is_label_end;
-use domain_label::same::same_octets;
+use domain_label::ignoring_case::same_octets;
 use domain_list::ToLabelIter;
 use domain_list::composing::put_name;
 use std::error::Error;

@@ -4,9 +4,9 @@ ghost use Rattle.domain_label.specs.Wire.{IsAbsoluteWire, labels_in};
 ghost use Rattle.domain_reading.specs.ParseResult.{Holds};
 ghost use Rattle.domain_reading.specs.Offsets.{labels_at_entries};
 
-use domain_reading::alone::read_name;
 use domain_reading::progress::Progress;
 use domain_reading::table::MAX_LABELS;
+use domain_reading::uncounted::read_name;
 
 /// Finds the labels of a name in uncompressed wire format, and writes their offsets to the beginning of the table.
 pub(crate) fn read_flat(octets: &[u8], entries: &mut [u16; MAX_LABELS]) -> Progress

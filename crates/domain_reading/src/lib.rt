@@ -2,7 +2,6 @@
 //! errors are.
 #![tactic(auto)]
 
-pub mod alone;
 pub mod fault;
 pub mod head;
 pub mod heads;
@@ -10,5 +9,6 @@ pub mod laws;
 pub mod progress;
 pub mod read;
 pub mod table;
+pub mod uncounted;
 
 pub use laws::{overwriting_laws, reads_laws};

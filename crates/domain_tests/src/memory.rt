@@ -1,6 +1,6 @@
 //! Memory that is refused.
 //!
-//! `rt try --test --fail-alloc N` refuses the Nth request of each test. `./test-refused-memory` does that for each
+//! `rt try --test --fail-alloc N` refuses the Nth request of each test. `.ci/refused-memory` does that for each
 //! N, in copies of these sources that know it: so a call gives the right octets or `ShortBuf`, whichever request is
 //! refused, and at most one call of a test is refused. Where no request is refused, no call is.
 

@@ -12,7 +12,7 @@ use Rattle.domain_message.specs.Sections.{Run, counted}
 use Rattle.domain_message.specs.Texts.{question_text, text_before_data}
 use Rattle.domain_message.specs.declared.section.Section.{Section}
 use Rattle.domain_message.specs.declared.section.Section.TheVariants.{Answer, Authority, Additional}
-use Rattle.domain_all_data.specs.AllData.{AllFields, AllDataAt, NoAllData, fields_text}
+use Rattle.domain_data.specs.AllData.{AllFields, AllDataAt, NoAllData, fields_text}
 
 -- the word, where the flag is set
 abbrev pub flag_text : ℕ → List ℕ → List ℕ

@@ -8,7 +8,7 @@ ghost use Rattle.domain_message.specs.Sections.{counted};
 ghost use Rattle.domain_tool.specs.Engines.{IfRefused, OnAnswer};
 ghost use Rattle.domain_walk.specs.Messages.{flags_text, codes_line, counts_line, header_lines, questions_heading, section_heading, IsQuestionLine, IsRecordLine, HasNoLine, NeverFails, WritesAll, WritesSome, ShowsQuestions, ShowsAnswers, ShowsAuthority, ShowsSection, StopsInSection, WritesMessage, WritesUntil};
 
-use domain_all_data::AllRecordData;
+use domain_data::AllRecordData;
 use domain_header::{Header, HeaderCounts};
 use domain_message::{ParsedRecord, Question, Record, Section};
 use domain_rdata::ParseAnyRecordData;

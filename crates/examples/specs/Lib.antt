@@ -1,2 +1,5 @@
 pub mod CharacterStrings
 pub mod Hosts
+pub mod Built
+pub mod MessageHosts
+pub mod Responses

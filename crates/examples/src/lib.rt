@@ -3,11 +3,15 @@
 #![tactic(auto)]
 
 pub mod address_data;
+pub mod aliases;
+pub mod answers;
 pub mod builders;
+pub mod building;
 pub mod chains;
 pub mod character_strings;
 pub mod circle;
 pub mod comparing;
+pub mod composing;
 pub mod compressing;
 pub mod counted;
 pub mod counts_last;
@@ -19,6 +23,7 @@ pub mod hosts;
 pub mod key_exchangers;
 pub mod labels;
 pub mod made_names;
+pub mod mail;
 pub mod octets;
 pub mod owners;
 pub mod program;

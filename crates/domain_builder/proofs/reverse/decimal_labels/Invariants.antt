@@ -1,6 +1,6 @@
 use Rattle.std.proofs.Common.{◌≡◌, ◌+◌, ◌*◌, ◌≤◌, drop, map, reverse, length}
 use Rattle.std.specs.Fmt.{decimal}
-use Rattle.domain_text_grammar.specs.BuilderState.{finished, size}
+use Rattle.domain_text.specs.BuilderState.{finished, size}
 use Rattle.domain_builder.proofs.reverse.decimal_labels.Given as goal
 
 abbrev pub invariant-loop-left : goal.invariant-loop-left

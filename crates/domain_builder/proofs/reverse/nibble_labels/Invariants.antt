@@ -1,6 +1,6 @@
 use Rattle.std.proofs.Common.{◌≡◌, ◌+◌, ◌*◌, ◌≤◌, drop, reverse, length}
 use Rattle.std.specs.List.{flat_map}
-use Rattle.domain_text_grammar.specs.BuilderState.{finished, size}
+use Rattle.domain_text.specs.BuilderState.{finished, size}
 use Rattle.domain_builder.specs.Reverse.{nibbles}
 use Rattle.domain_builder.proofs.reverse.nibble_labels.Given as goal
 

@@ -1,5 +1,5 @@
 use Rattle.std.proofs.Common.{◌≡◌, List, ℕ, OnOk, sym, subst, arith}
-use Rattle.domain_text_grammar.specs.BuilderState.{labelled, size}
+use Rattle.domain_text.specs.BuilderState.{labelled, size}
 use Rattle.domain_builder.specs.Inside.{room}
 use Rattle.domain_builder.specs.Pushing.{NameAlone}
 use Rattle.domain_builder.proofs.Digits.{one_digit, two_digits, three_digits, name_alone}

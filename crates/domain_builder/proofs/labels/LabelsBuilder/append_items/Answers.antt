@@ -1,8 +1,8 @@
 use Rattle.std.proofs.Common.{sym, ap, ◌∙◌, arith}
 use Rattle.std.proofs.lemmas.Result.{err_from_is_err_and}
 use Rattle.domain_label.proofs.Scanning.{given_some, given_none}
-use Rattle.domain_text_grammar.specs.BuilderState.{symbol_fault, after}
-use Rattle.domain_text_grammar.proofs.Reading.{read_none, read_more, read_all}
+use Rattle.domain_text.specs.BuilderState.{symbol_fault, after}
+use Rattle.domain_text.proofs.Reading.{read_none, read_more, read_all}
 use Rattle.domain_builder.specs.Inside.{room}
 use Rattle.domain_builder.proofs.Pushes.{takes_stop}
 use Rattle.domain_builder.proofs.labels.LabelsBuilder.append_items.Goals as goal

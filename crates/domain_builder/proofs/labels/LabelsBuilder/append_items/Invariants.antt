@@ -1,6 +1,6 @@
 use Rattle.std.proofs.Common.{List, ◌≤◌}
 use Rattle.std.specs.Iterator.{AlwaysYields}
-use Rattle.domain_text_grammar.proofs.Reading.{Item, IsRead}
+use Rattle.domain_text.proofs.Reading.{Item, IsRead}
 use Rattle.domain_builder.proofs.labels.LabelsBuilder.append_items.Given as goal
 
 abbrev pub invariant-loop-item : goal.invariant-loop-item

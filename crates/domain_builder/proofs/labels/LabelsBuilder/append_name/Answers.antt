@@ -1,5 +1,5 @@
 use Rattle.std.proofs.Common.{◌≡◌, List, ℕ, OnOk, subst}
-use Rattle.domain_text_grammar.specs.BuilderState.{named, size}
+use Rattle.domain_text.specs.BuilderState.{named, size}
 use Rattle.domain_builder.specs.Inside.{room}
 use Rattle.domain_builder.specs.Pushing.{NameFits}
 use Rattle.domain_builder.proofs.Building.{relative_of}

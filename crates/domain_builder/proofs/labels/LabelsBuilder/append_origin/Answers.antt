@@ -1,6 +1,6 @@
 use Rattle.std.proofs.Common.{◌≡◌, ◌+◌, ◌++◌, List, ℕ, length, IfOk, subst}
 use Rattle.domain_label.specs.Wire.{labels_in}
-use Rattle.domain_text_grammar.specs.BuilderState.{closed, size}
+use Rattle.domain_text.specs.BuilderState.{closed, size}
 use Rattle.domain_builder.specs.Inside.{room}
 use Rattle.domain_builder.specs.Pushing.{OriginFits}
 use Rattle.domain_builder.proofs.Building.{absolute_of}

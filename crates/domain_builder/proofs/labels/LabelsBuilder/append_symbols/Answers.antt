@@ -1,8 +1,8 @@
 use Rattle.std.proofs.Common.{List, map, Ok, subst}
 use Rattle.domain_builder.specs.Inside.{room}
 use Rattle.domain_builder.specs.Pushing.{TakesSymbols}
-use Rattle.domain_text_grammar.specs.declared.name_symbol.NameSymbol.{NameSymbol}
-use Rattle.domain_text_grammar.proofs.Reading.{whole_parts_of}
+use Rattle.domain_text.specs.declared.name_symbol.NameSymbol.{NameSymbol}
+use Rattle.domain_text.proofs.Reading.{whole_parts_of}
 use Rattle.domain_builder.proofs.labels.LabelsBuilder.append_symbols.Goals as goal
 
 pub returns-clause-takes : goal.returns-clause-takes

@@ -1,12 +1,12 @@
 use Rattle.std.proofs.Common.{◌≡◌, ℕ, List, [], ◌∷◌, length, Some, None, Err, false, nat_lt, refl, sym, ap, ◌∙◌, arith}
 use Rattle.std.proofs.lemmas.Bool.{ltb-false}
-use Rattle.domain_text_grammar.specs.BuilderState.{BuilderState, unless_open}
+use Rattle.domain_text.specs.BuilderState.{BuilderState, unless_open}
 use Rattle.domain_builder.specs.Pushing.{TakesSymbol}
-use Rattle.domain_text_grammar.specs.TextErrors.{MatchFromStr}
-use Rattle.domain_text_grammar.specs.declared.error.FromStrError.{FromStrError}
-use Rattle.domain_text_grammar.specs.declared.error.FromStrError.TheVariants.{Presentation, ShortBuf}
-use Rattle.domain_text_grammar.specs.declared.name_symbol.TextFault.TheVariants.{EmptyLabel}
-use Rattle.domain_text_grammar.specs.declared.name_symbol.NameSymbol.TheVariants.{Dot}
+use Rattle.domain_text.specs.TextErrors.{MatchFromStr}
+use Rattle.domain_text.specs.declared.error.FromStrError.{FromStrError}
+use Rattle.domain_text.specs.declared.error.FromStrError.TheVariants.{Presentation, ShortBuf}
+use Rattle.domain_text.specs.declared.name_symbol.TextFault.TheVariants.{EmptyLabel}
+use Rattle.domain_text.specs.declared.name_symbol.NameSymbol.TheVariants.{Dot}
 use Rattle.domain_builder.proofs.labels.LabelsBuilder.push_name_symbol.Goals as goal
 
 none_open : (o : List ℕ) → nat_lt 0 (length o) ≡ false → unless_open o (Some EmptyLabel) None ≡ Some EmptyLabel

@@ -1,3 +1,0 @@
-pub mod AllData
-pub mod AllTypes
-pub mod Flat

@@ -1,0 +1,11 @@
+use Rattle.std.proofs.Common.{refl}
+use Rattle.domain_data.proofs.TxtShowing.{moved_string}
+use Rattle.domain_data.proofs.txt.TxtDisplay.fmt.Goals as goal
+
+pub loop-string-preserved : goal.loop-string-preserved
+loop-string-preserved g c = record {
+  strings = c.in-Some-first_string.ensures.rest;
+  moved = λ plain.
+      let m = c.loop-string.invariant.moved plain in
+      moved_string g.W.Write.write_str_gives _ _ _ _ _ c.in-Some-first_string.string.now _ m c.in-Some-first_string.ensures (c.in_ok-write-2.ensures.writes m.wrote.plain refl);
+}

@@ -1,0 +1,9 @@
+pub mod Sizes
+pub mod Grammar
+pub mod OneOutcome
+pub mod Reading
+pub mod Outcomes
+pub mod DisplayedIsRead
+pub mod SymbolsInHand
+pub mod Buffering
+pub mod PlainTexts

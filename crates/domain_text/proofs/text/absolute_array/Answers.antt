@@ -1,0 +1,16 @@
+use Rattle.std.proofs.Common.{ℕ, List, ◌++◌, sym, subst, ap, ◌∙◌}
+use Rattle.domain_label.specs.Wire.{wire, Root}
+use Rattle.domain_text.specs.BuilderState.{closed}
+use Rattle.domain_text.specs.TextGrammar.{IsNameText}
+use Rattle.domain_text.proofs.Buffering.{absolute_made, labels_made}
+use Rattle.domain_text.proofs.text.absolute_array.Goals as goal
+
+pub returns-clause-wire : goal.returns-clause-wire
+returns-clause-wire g c =
+    let ls : List (List ℕ) = closed c.args.buffer.now ++ Root in
+    absolute_made _ ls c.append_name.ensures.name (c.in_ok-append_name.ensures.ok ∙ ap (λ (z : List ℕ). z ++ wire ls) c.requires.empty)
+
+pub returns-clause-text : goal.returns-clause-text
+returns-clause-text g c = λ ps h.
+    let ls : List (List ℕ) = closed c.args.buffer.now ++ Root in
+    subst (λ (z : List (List ℕ)). IsNameText ps z) (sym (labels_made _ ls (c.in_ok-append_name.ensures.ok ∙ ap (λ (z : List ℕ). z ++ wire ls) c.requires.empty))) (rw c.in_ok-read.was at h)

@@ -1,2 +1,0 @@
-pub mod Buffering
-pub mod PlainTexts

@@ -1,7 +1,0 @@
-use Rattle.std.proofs.Common.{IsTrue, ◌↔◌, take}
-use Rattle.std.specs.List.{AllByRecursion}
-use Rattle.domain_text_reading.specs.Plain.{IsPlain}
-use Rattle.domain_text_reading.proofs.plain.is_plain.Given as goal
-
-abbrev pub invariant-loop-octet : goal.invariant-loop-octet
-invariant-loop-octet l = IsTrue l.plain ↔ AllByRecursion IsPlain (take l.octet-index l.text)

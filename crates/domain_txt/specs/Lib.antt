@@ -1,9 +1,0 @@
-pub mod Cutting
-pub mod Errors
-pub mod OneProof
-pub mod Quoted
-pub mod Reading
-pub mod ReadingLaws
-pub mod Strings
-pub mod Txts
-pub mod Views

@@ -1,0 +1,54 @@
+//! The hosts that take mail for a name, and their addresses.
+ghost use Rattle.std.specs.Prelude.{IfOk, IfErr, option_map};
+ghost use Rattle.domain.specs.ParsedViews.{parsed_labels};
+ghost use Rattle.domain_message.specs.Messages.{message_octets};
+ghost use Rattle.examples.specs.MessageHosts.{PrefersHost, MailRefused, FindsAddress, AddressRefused};
+
+use domain::base::message::Message;
+use domain::base::name::*;
+use domain::base::net::Ipv4Addr;
+use domain::base::wire::ParseError;
+use domain::rdata::{A, Mx};
+
+/// The host that the MX records of the answers prefer to the others: the first one of the lowest number.
+pub fn preferred_host<'a>(
+    message: &'a Message<&'a [u8]>,
+) -> Result<Option<ParsedName<&'a [u8]>>, ParseError>
+    ensures ok { IfOk result (λ host. PrefersHost (message_octets message.now) (option_map (λ name. parsed_labels name) host)) }
+    ensures err { IfErr result (λ e. MailRefused (message_octets message.now) e) }
+{
+    let mut preferred: Option<Mx<ParsedName<&'a [u8]>>> = None;
+    for item in message.answer()?.limit_to::<Mx<ParsedName<&'a [u8]>>>() {
+        let record = item?;
+        let mx = *record.data();
+        match preferred {
+            Some(best) => {
+                if mx.preference() < best.preference() {
+                    preferred = Some(mx);
+                }
+            }
+            None => preferred = Some(mx),
+        }
+    }
+    match preferred {
+        Some(best) => Ok(Some(*best.exchange())),
+        None => Ok(None),
+    }
+}
+
+/// The first address of a host that the additional section has.
+pub fn address_of<'a>(
+    message: &'a Message<&'a [u8]>,
+    host: &ParsedName<&'a [u8]>,
+) -> Result<Option<Ipv4Addr>, ParseError>
+    ensures ok { IfOk result (λ addr. FindsAddress (message_octets message.now) (parsed_labels host.now) addr) }
+    ensures err { IfErr result (λ e. AddressRefused (message_octets message.now) (parsed_labels host.now) e) }
+{
+    for item in message.additional()?.limit_to::<A>() {
+        let record = item?;
+        if record.owner().name_eq(host) {
+            return Ok(Some(record.data().addr()));
+        }
+    }
+    Ok(None)
+}

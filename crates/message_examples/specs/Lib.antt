@@ -1,3 +1,0 @@
-pub mod Built
-pub mod Hosts
-pub mod Responses

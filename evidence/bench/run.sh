@@ -1,0 +1,137 @@
+#!/bin/sh
+# Measures the port beside the Rust crate and other libraries, on the same inputs, and prints tables.
+#
+#   evidence/bench/run.sh UPSTREAM WORK [--quick WORD | --once] [--write]
+#
+# UPSTREAM  a folder with the Rust crates `domain` 0.12.3 and `octseq` 0.5, each unpacked in a folder of its
+#           name, as `cargo download` or https://crates.io/crates/domain gives them; nothing of them is here
+# WORK      a folder to build in, kept for the next run
+# --quick   one short run of the operations whose name has WORD in it (`parse,skip`: these), without other
+#           libraries
+# --once    nothing is measured: each operation is called once on both sides, and the results are compared
+# --write   writes the tables into rows.md beside this script, and two pictures of them
+#
+# It needs `rt`, cargo, python3 and cc. The library is proved first, over what checks of the repository and
+# earlier runs kept; then only what changed is built. Of other libraries those are measured that Debian's
+# packages libknot-dev, libldns-dev and librust-trust-dns-proto-dev have put on the machine.
+set -eu
+upstream=$(cd "${1:?the folder of the Rust crates}" && pwd)
+work=${2:?a folder to build in}
+shift 2
+quick='' once='' write=''
+while [ $# -gt 0 ]; do
+    case $1 in
+    --quick) quick=${2:?a word of operations} && shift ;;
+    --once) once=--once ;;
+    --write) write=--write ;;
+    *) echo "run.sh: $1?" >&2 && exit 2 ;;
+    esac
+    shift
+done
+here=$(cd "$(dirname "$0")" && pwd)
+top=$(cd "$here/../.." && pwd)
+mkdir -p "$work/port/crates" "$work/rust" "$work/out"
+work=$(cd "$work" && pwd)
+
+# The sources of the crates that the calls stand on, and what checks of the repository kept of them, as links.
+lay_out() {
+    to=$work/port/crates/$1
+    mkdir -p "$to/out"
+    for part in src specs proofs; do
+        rm -rf "${to:?}/$part"
+        [ ! -d "$top/crates/$1/$part" ] || cp -a "$top/crates/$1/$part" "$to/"
+    done
+    kept=$top/crates/$1/out/rlib
+    if [ -d "$kept" ]; then
+        rm -rf "$to/out/rlib"
+        cp -al "$kept" "$to/out/" 2> /dev/null || cp -a "$kept" "$to/out/"
+    fi
+}
+
+# The lines of crates.txt of these crates and of all that they stand on.
+lines_of() {
+    awk -F : -v wanted="$*" '
+        { sub(/#.*/, "") }
+        NF > 1 { split($1, head, " "); name[++count] = head[1]; line[head[1]] = $0; below[head[1]] = $2 }
+        END {
+            queued = split(wanted, queue, " ")
+            for (at = 1; at <= queued; at++) {
+                if (queue[at] in found) continue
+                found[queue[at]] = 1
+                lower_count = split(below[queue[at]], lower, " ")
+                for (it = 1; it <= lower_count; it++) queue[++queued] = lower[it]
+            }
+            for (at = 1; at <= count; at++) if (name[at] in found) print line[name[at]]
+        }' "$top/crates.txt"
+}
+
+# The port as a static library. Its sources end in .in here, since the gate reads no Rattle outside of the
+# crates that it proves.
+build_port() {
+    cp "$top/HANDLES" "$work/port/"
+    uses="arrayvec octseq domain"
+    lines_of $uses > "$work/port/crates.txt"
+    sed -n 's/^\([a-z_0-9]*\).*:.*/\1/p' "$work/port/crates.txt" | while read -r crate; do
+        lay_out "$crate"
+    done
+    echo "dnsspeed staticlib: $uses" >> "$work/port/crates.txt"
+    to=$work/port/crates/dnsspeed
+    mkdir -p "$to"
+    rm -rf "${to:?}/src" "$to/specs" "$to/proofs"
+    (cd "$here/port" && find . -name '*.in') | while read -r file; do
+        mkdir -p "$to/$(dirname "$file")"
+        cp "$here/port/$file" "$to/${file%.in}"
+    done
+    (cd "$to" && rt lib >&2)
+    lib=$to/out/libdnsspeed.a
+}
+
+# The benchmark, with the Rust crates and that library.
+build_rust() {
+    cp -a "$here/rust/." "$work/rust/"
+    printf '[package]\nname = "bench"\nversion = "0.1.0"\nedition = "2024"\npublish = false\n
+[workspace]\n
+[dependencies]\ndomain = { path = "%s/domain" }\noctseq = { path = "%s/octseq" }\n
+[profile.release]\nopt-level = 3\nlto = "fat"\ncodegen-units = 1\n' "$upstream" "$upstream" > "$work/rust/Cargo.toml"
+    kit=$(dirname "$(rt doc)")
+    ops=$(nm "$lib" 2> /dev/null | sed -n 's/.* T dnsbench_//p' | xargs)
+    (cd "$work/rust" && PORT_LIB=$lib PORT_C=$kit/c PORT_OPS=$ops cargo build --release >&2)
+    bench=$work/rust/target/release/bench
+}
+
+# The libraries of others, where they are installed.
+build_peers() {
+    mkdir -p "$work/peers/trust/.cargo"
+    cc -O2 -o "$work/peers/knot" "$here/peers/knot.c" -lknot 2> /dev/null || echo 'no libknot here' >&2
+    cc -O2 -o "$work/peers/ldns" "$here/peers/ldns.c" -lldns 2> /dev/null || echo 'no ldns here' >&2
+    registry=$(dpkg -L librust-trust-dns-proto-dev 2> /dev/null | sed -n 's,/registry/.*,/registry,p' | head -1)
+    if [ -n "$registry" ]; then
+        cp -a "$here/peers/trust/." "$work/peers/trust/"
+        printf '[source.crates-io]\nreplace-with = "debian"\n[source.debian]\ndirectory = "%s"\n' "$registry" \
+            > "$work/peers/trust/.cargo/config.toml"
+        (cd "$work/peers/trust" && cargo build --offline --release >&2)
+    else
+        echo 'no trust-dns-proto here' >&2
+    fi
+}
+
+build_port
+build_rust
+python3 "$here/inputs.py" "$work/inputs"
+rm -f "$work"/out/*.tsv
+if [ -n "$once" ]; then
+    exec "$bench" "$work/inputs" --once
+fi
+"$bench" "$work/inputs" --once >&2
+if [ -n "$quick" ]; then
+    "$bench" "$work/inputs" --turns 100 "$quick" > "$work/out/1.tsv"
+else
+    build_peers
+    for turn in 1 2 3; do
+        "$bench" "$work/inputs" --turns 200 > "$work/out/$turn.tsv"
+        for peer in knot ldns trust/target/release/trust; do
+            [ ! -x "$work/peers/$peer" ] || "$work/peers/$peer" "$work/inputs" >> "$work/out/$turn.tsv"
+        done
+    done
+fi
+python3 "$here/table.py" $write "$work"/out/*.tsv
