@@ -26,7 +26,7 @@ pub record IsAnswerHeader (id high low rcode : ℕ) (answer : Header) : Type 0 w
   pub z : bit 64 (header_low answer) ≡ 0
   pub ad : bit 32 (header_low answer) ≡ 0
   pub cd : bit 16 (header_low answer) ≡ bit 16 low
-  pub rcode_is : bits 1 16 (header_low answer) ≡ rcode % 16
+  pub rcode_is : bits 1 16 (header_low answer) ≡ rcode
 
 -- the same of a query in a message of these octets
 abbrev pub AnswersHeaderOf : List ℕ → ℕ → Header → Type 0
