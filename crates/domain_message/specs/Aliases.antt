@@ -1,11 +1,11 @@
--- CNAME records that lead from a name to another (RFC 1034, 3.6.2).
-use Rattle.std.specs.Prelude.{◌≡◌, ℕ, ◌+◌, List, [], ◌∷◌, length, Option, Some, None}
+-- CNAME records that lead from a name to another (RFC 1034, 3.6.2). The class of a record isn't heeded, nor are the class and
+-- the type that a question asks for.
+use Rattle.std.specs.Prelude.{◌≡◌, ◌==◌, ◌<◌, ◌≤◌, if◌then◌else◌, ℕ, suc, ◌+◌, List, [], ◌∷◌, length, Option, Some, None}
 use Rattle.domain_label.specs.Lowercase.{lowercase_labels}
 use Rattle.domain_header.specs.Numbers.{number16}
 use Rattle.domain_message.specs.Entries.{WholeNameAt, QuestionFields, QuestionAt, RecordFields, RecordAt}
 use Rattle.domain_message.specs.Runs.{Given}
-use Rattle.domain_message.specs.Sections.{QuestionsTo, records_message, records_offset, records_left, entries_left}
-use Rattle.domain_message.specs.declared.section.RecordSection.{RecordSection}
+use Rattle.domain_message.specs.Sections.{QuestionsTo}
 
 -- The record is a CNAME record of the name, and its data is the target.
 pub record IsAlias (it : RecordFields) (name target : List (List ℕ)) : Type 0 where
@@ -19,19 +19,30 @@ pub data FirstAlias (name : List (List ℕ)) : List RecordFields → Option (Lis
   here : {it : RecordFields} {rest : List RecordFields} {target : List (List ℕ)} → IsAlias it name target → FirstAlias name (it ∷ rest) (Some target)
   later : {it : RecordFields} {rest : List RecordFields} {found : Option (List (List ℕ))} → ((target : List (List ℕ)) → IsAlias it name target → ⊥) → FirstAlias name rest found → FirstAlias name (it ∷ rest) found
 
--- The same in the list of the records that a section gives from here on.
-abbrev pub GivesAlias : RecordSection → List (List ℕ) → Option (List (List ℕ)) → Type 0
-GivesAlias s name found = (rs : List RecordFields) → Given RecordAt (records_message s) (records_offset s) (entries_left (records_left s)) rs → FirstAlias name rs found
+-- So many CNAME records lead from a name to another: from each name on the way the first that is its own.
+pub data Leads (records : List RecordFields) (from : List (List ℕ)) : ℕ → List (List ℕ) → Type 0 where
+  stays : Leads records from 0 from
+  goes : {n : ℕ} {name target : List (List ℕ)} → Leads records from n name → FirstAlias name records (Some target) → Leads records from (n + 1) target
 
--- The end of the chain of CNAME records from a name, found with n looks at the records. None: it has no end by then.
-pub data ChainEnd (records : List RecordFields) : ℕ → List (List ℕ) → Option (List (List ℕ)) → Type 0 where
-  no_end : {name : List (List ℕ)} → ChainEnd records 0 name None
-  ends : (n : ℕ) {name : List (List ℕ)} → FirstAlias name records None → ChainEnd records (n + 1) name (Some name)
-  goes : {n : ℕ} {name target : List (List ℕ)} {end : Option (List (List ℕ))} → FirstAlias name records (Some target) → ChainEnd records n target end → ChainEnd records (n + 1) name end
+-- What CNAME records lead to from a name: a name that none leads on from. None: they go round, since a name that they lead
+-- to leads back to itself.
+pub data ChainEnd (records : List RecordFields) (from : List (List ℕ)) : Option (List (List ℕ)) → Type 0 where
+  ends : {n : ℕ} {end : List (List ℕ)} → Leads records from n end → FirstAlias end records None → ChainEnd records from (Some end)
+  goes_round : {n k : ℕ} {name : List (List ℕ)} → Leads records from n name → Leads records name k name → 0 < k → ChainEnd records from None
 
--- The end of the chain from the name of the first question over the answers. A chain of more CNAME records than there are
--- answers goes round, and has none.
-pub record IsCanonical (m : List ℕ) (end : Option (List (List ℕ))) : Type 0 where
+-- The same over at most so many CNAME records. None: more of them lead on.
+pub data ChainEndWithin (limit : ℕ) (records : List RecordFields) (from : List (List ℕ)) : Option (List (List ℕ)) → Type 0 where
+  ends_within : {n : ℕ} {end : List (List ℕ)} → Leads records from n end → n ≤ limit → FirstAlias end records None → ChainEndWithin limit records from (Some end)
+  leads_on : {name : List (List ℕ)} → Leads records from (limit + 1) name → ChainEndWithin limit records from None
+
+-- how many CNAME records are in a list
+abbrev pub cname_count : List RecordFields → ℕ
+cname_count [] = 0
+cname_count (it ∷ rest) = if it.header.rtype == 5 then suc (cname_count rest) else cname_count rest
+
+-- What is said of the answers and the name of the first question. All questions that the header counts are there; the
+-- answers are those that it counts, or those before one that is missing.
+pub record OfFirstQuestion (m : List ℕ) (Says : List RecordFields → List (List ℕ) → Type 0) : Type 0 where
   pub asked : QuestionFields
   pub question_end : ℕ
   pub question : QuestionAt m 12 asked question_end
@@ -39,4 +50,12 @@ pub record IsCanonical (m : List ℕ) (end : Option (List (List ℕ))) : Type 0 
   pub questions : QuestionsTo m start
   pub answers : List RecordFields
   pub given : Given RecordAt m start (number16 m 6) answers
-  pub chain : ChainEnd answers (number16 m 6 + 1) asked.name end
+  pub says : Says answers asked.name
+
+-- what the CNAME records of the answers lead to from the name of the first question. None: they go round
+abbrev pub IsCanonical : List ℕ → Option (List (List ℕ)) → Type 0
+IsCanonical m end = OfFirstQuestion m (λ answers name. ChainEnd answers name end)
+
+-- the same over at most so many CNAME records. None: more of them lead on
+abbrev pub IsCanonicalWithin : List ℕ → ℕ → Option (List (List ℕ)) → Type 0
+IsCanonicalWithin m limit end = OfFirstQuestion m (λ answers name. ChainEndWithin limit answers name end)

@@ -1,8 +1,8 @@
 -- The statements of the laws for callers.
-use Rattle.std.specs.Prelude.{◌≡◌, ℕ, ◌+◌, ◌^◌, ◌<◌, Bool, List, [], ◌∷◌, ◌++◌, length, take, Option}
+use Rattle.std.specs.Prelude.{◌≡◌, ℕ, ◌+◌, ◌^◌, ◌<◌, ◌≤◌, Bool, List, [], ◌∷◌, ◌++◌, length, take, Option, Some, None}
 use Rattle.std.specs.List.{filter}
 use Rattle.domain_label.specs.Lowercase.{lowercase_labels}
-use Rattle.domain_message.specs.Aliases.{ChainEnd}
+use Rattle.domain_message.specs.Aliases.{Leads, ChainEnd, ChainEndWithin, cname_count}
 use Rattle.domain_message.specs.Composing.{QuestionOctets, RecordOctets}
 use Rattle.domain_message.specs.Entries.{QuestionAt, RecordFields, RecordAt}
 use Rattle.domain_message.specs.Kept.{FirstKept, NoneKept}
@@ -21,9 +21,20 @@ FirstIsKept = (keep : RecordFields → Bool) (m : List ℕ) (p n q k : ℕ) (it 
 abbrev pub NoneIsKept : Type 0
 NoneIsKept = (keep : RecordFields → Bool) (m : List ℕ) (p n : ℕ) (rs : List RecordFields) → NoneKept keep m p n → Given RecordAt m p n rs → filter keep rs ≡ []
 
--- A chain of CNAME records has one end.
+-- A chain of CNAME records has one end, or goes round, and never both.
 abbrev pub ChainEndsOnce : Type 0
-ChainEndsOnce = (rs : List RecordFields) (n : ℕ) (name : List (List ℕ)) (a b : Option (List (List ℕ))) → ChainEnd rs n name a → ChainEnd rs n name b → a ≡ b
+ChainEndsOnce = (rs : List RecordFields) (name : List (List ℕ)) (a b : Option (List (List ℕ))) → ChainEnd rs name a → ChainEnd rs name b → a ≡ b
+
+-- A chain of more records than there are CNAME records goes round.
+abbrev pub LongChainGoesRound : Type 0
+LongChainGoesRound = (rs : List RecordFields) (name : List (List ℕ)) (n : ℕ) (to : List (List ℕ)) → cname_count rs < n → Leads rs name n to → ChainEnd rs name None
+
+-- A chain with a limit has one end, or more records lead on. Its end is the end without a limit; so is what it comes to
+-- within as many records as there are CNAME records.
+pub record ChainsWithin : Type 0 where
+  pub once : (rs : List RecordFields) (limit : ℕ) (name : List (List ℕ)) (a b : Option (List (List ℕ))) → ChainEndWithin limit rs name a → ChainEndWithin limit rs name b → a ≡ b
+  pub ends : (rs : List RecordFields) (limit : ℕ) (name end : List (List ℕ)) → ChainEndWithin limit rs name (Some end) → ChainEnd rs name (Some end)
+  pub enough : (rs : List RecordFields) (limit : ℕ) (name : List (List ℕ)) (end : Option (List (List ℕ))) → cname_count rs ≤ limit → ChainEndWithin limit rs name end → ChainEnd rs name end
 
 -- A question that was composed is read back, whatever follows it: an equal name, ignoring ASCII case, and its type and
 -- class.

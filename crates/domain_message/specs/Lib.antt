@@ -1,5 +1,6 @@
 pub mod Aliases
 pub mod AliasLaws
+pub mod AliasParts
 pub mod Answering
 pub mod Composing
 pub mod Entries

@@ -1,7 +1,8 @@
 //! The canonical name of a question: the end of a chain of CNAME records.
 ghost use Rattle.std.specs.Prelude.{◌≡◌, ◌⊎◌, ℕ, List, IfSome, IsNone, Some, None};
 ghost use Rattle.domain_parsed.specs.ParsedNames.{parsed_labels};
-ghost use Rattle.domain_message.specs.Aliases.{IsAlias, GivesAlias, IsCanonical};
+ghost use Rattle.domain_message.specs.Aliases.{IsAlias, IsCanonical, IsCanonicalWithin};
+ghost use Rattle.domain_message.specs.AliasParts.{GivesAlias, GivesCnames, EndsBefore, LeadsOn, Asked};
 ghost use Rattle.domain_message.specs.Messages.{message_octets};
 ghost use Rattle.domain_message.specs.RecordModel.{record_fields};
 ghost use Rattle.domain_message.specs.Sections.{NoQuestions};
@@ -13,6 +14,7 @@ use crate::record::ParsedRecord;
 use crate::section::RecordSection;
 use domain_parsed::ParsedName;
 use domain_traits::ToName;
+use domain_wire::parse::Parse;
 use octseq::Octets;
 
 /// The type of a CNAME record (RFC 1035, 3.2.2).
@@ -64,16 +66,59 @@ fn first_alias<'a>(
     None
 }
 
+/// Returns the same, and how many CNAME records are left, of any name.
+fn first_alias_and_count<'a>(
+    records: RecordSection<'a>,
+    name: &ParsedName<&'a [u8]>,
+) -> (Option<ParsedName<&'a [u8]>>, u16)
+    ensures some { IfSome result.0 (λ target. GivesAlias records.entry (parsed_labels name.now) (Some (parsed_labels target))) }
+    ensures none { IsNone result.0 → GivesAlias records.entry (parsed_labels name.now) None }
+    ensures count { GivesCnames records.entry result.1 }
+{
+    let (mut parser, left) = records.left();
+    let mut first = None;
+    let mut count = 0;
+    for _record in 0..left {
+        let Ok(found) = ParsedRecord::parse(&mut parser) else {
+            return (first, count);
+        };
+        if found.rtype().to_int() == CNAME {
+            count += 1;
+            match first {
+                Some(_) => {}
+                None => first = alias_of(&found, name),
+            }
+        }
+    }
+    (first, count)
+}
+
+/// Follows CNAME records from a name to one that has none, with at most so many looks at the answers. `None` exactly if
+/// each look found one.
+fn end_of_chain<'a>(
+    answers: RecordSection<'a>,
+    from: ParsedName<&'a [u8]>,
+    looks: u32,
+) -> Option<ParsedName<&'a [u8]>>
+    ensures some { IfSome result (λ end. EndsBefore answers.entry looks (parsed_labels from.entry) (parsed_labels end)) }
+    ensures none { IsNone result → LeadsOn answers.entry looks (parsed_labels from.entry) }
+{
+    let mut name = from;
+    for _look in 0..looks {
+        match first_alias(answers, &name) {
+            Some(target) => name = target,
+            None => return Some(name),
+        }
+    }
+    None
+}
+
 impl<Octs: Octets> Message<Octs> {
-    /// Returns the canonical name of the first question: follows CNAME records of the answer section from the question's
-    /// name, in any order, to the first name that has none (RFC 1034, 3.6.2). Ignores ASCII case. A CNAME record whose data
-    /// isn't one name is skipped.
-    ///
-    /// `None` if there is no question, a question that the header counts is missing, or the CNAME records form a ring. Each
-    /// record is read at most once more than there are answers.
-    pub fn canonical_name(&self) -> Option<ParsedName<&[u8]>>
-        ensures some { IfSome result (λ name. IsCanonical (message_octets self.now) (Some (parsed_labels name))) }
-        ensures none { IsNone result → ((why : ParseError) × NoQuestions (message_octets self.now) why) ⊎ ((number16 (message_octets self.now) 4 ≡ 0) ⊎ IsCanonical (message_octets self.now) None) }
+    /// Returns the answers and the name of the first question. `None` if there is no question, or one that the header counts
+    /// is missing.
+    fn asked(&self) -> Option<(RecordSection<'_>, ParsedName<&[u8]>)>
+        ensures some { IfSome result (λ it. Asked (message_octets self.now) it.0 (parsed_labels it.1)) }
+        ensures none { IsNone result → ((why : ParseError) × NoQuestions (message_octets self.now) why) ⊎ (number16 (message_octets self.now) 4 ≡ 0) }
     {
         let Ok(answers) = self.answer() else {
             return None;
@@ -84,13 +129,46 @@ impl<Octs: Octets> Message<Octs> {
         let Ok(question) = first else {
             return None;
         };
-        let mut name = *question.qname();
-        for _step in 0..u32::from(self.header_counts().ancount()) + 1 {
-            match first_alias(answers, &name) {
-                Some(target) => name = target,
-                None => return Some(name),
-            }
+        Some((answers, *question.qname()))
+    }
+
+    /// Returns the canonical name of the first question: the name to which CNAME records of the answer section lead from
+    /// the question's, and from which none leads on (RFC 1034, 3.6.2). `None` if one of these names leads back to itself,
+    /// there is no question, or one that the header counts is missing.
+    ///
+    /// The records may be in any order; of two of one name the first is followed. Case of ASCII letters is ignored, and so
+    /// are the classes, and the question's type: a query for CNAME or ANY isn't restarted at the target, but its canonical
+    /// name is still the end. A CNAME record whose data isn't one name is passed over. Where an answer is missing, as in a
+    /// message that was cut, those before it are all, so the name may not be the one that was meant: see `tc` of the header.
+    ///
+    /// The answers are read at most once more often than there are CNAME records among them. In 65,535 octets that are made
+    /// to be dear these are thousands of times: of messages that anyone may send take `canonical_name_with_limit`.
+    pub fn canonical_name(&self) -> Option<ParsedName<&[u8]>>
+        ensures some { IfSome result (λ name. IsCanonical (message_octets self.now) (Some (parsed_labels name))) }
+        ensures none { IsNone result → ((why : ParseError) × NoQuestions (message_octets self.now) why) ⊎ ((number16 (message_octets self.now) 4 ≡ 0) ⊎ IsCanonical (message_octets self.now) None) }
+    {
+        let Some((answers, name)) = self.asked() else {
+            return None;
+        };
+        let (first, count) = first_alias_and_count(answers, &name);
+        match first {
+            Some(target) => end_of_chain(answers, target, u32::from(count)),
+            None => Some(name),
         }
-        None
+    }
+
+    /// Returns the canonical name as `canonical_name` does, if at most `limit` CNAME records lead to it. `None` if more of
+    /// them lead on, as they do where a name leads back to itself, there is no question, or one that the header counts is
+    /// missing.
+    ///
+    /// The answers are read at most once more often than the limit says. Resolvers follow 11 to 16.
+    pub fn canonical_name_with_limit(&self, limit: u16) -> Option<ParsedName<&[u8]>>
+        ensures some { IfSome result (λ name. IsCanonicalWithin (message_octets self.now) limit (Some (parsed_labels name))) }
+        ensures none { IsNone result → ((why : ParseError) × NoQuestions (message_octets self.now) why) ⊎ ((number16 (message_octets self.now) 4 ≡ 0) ⊎ IsCanonicalWithin (message_octets self.now) limit None) }
+    {
+        let Some((answers, name)) = self.asked() else {
+            return None;
+        };
+        end_of_chain(answers, name, u32::from(limit) + 1)
     }
 }

@@ -1,7 +1,7 @@
 use Rattle.std.proofs.Common.{refl, subst}
 use Rattle.std.specs.Prelude.{Some, None}
 use Rattle.domain_parsed.specs.ParsedNames.{parsed_labels}
-use Rattle.domain_message.specs.Aliases.{GivesAlias}
+use Rattle.domain_message.specs.AliasParts.{GivesAlias}
 use Rattle.domain_message.specs.Sections.{GivesRecord}
 use Rattle.domain_message.proofs.Aliases.{looked_more, found_here, nothing_left, one_missing}
 use Rattle.domain_message.proofs.alias.first_alias.Goals as goal
