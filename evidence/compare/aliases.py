@@ -1,14 +1,10 @@
 #!/usr/bin/python3 -B
-"""What following the CNAME records of a message costs: aliases PROGRAM
+"""What following the CNAME records of messages costs, counted: for each message its octets, its records, and how often
+`canonical_name` reads the answers and their records, and how often with a limit of 16.
 
-PROGRAM is conformance_messages as it was built (crates/conformance_messages/out/conformance_messages). It prints the
-rows that docs/COST.md has on aliases: for each message the records, how often one is read by `canonical_name` and with
-a limit of 16, which is counted here, and the processor's time of the first, the least of three runs.
+By itself it prints them. `cost` puts them into its page. Nothing is measured: a look at the answers goes up to the
+record that it finds, and the first goes to the end.
 """
-import resource
-import subprocess
-import sys
-
 from corpus import pointer
 
 FAR = 16384  # a pointer leads before this offset
@@ -87,28 +83,20 @@ def deep(at):
     return octets
 
 
-def seconds(program, message):
-    line = f"canonical 0 {message.hex()}\n".encode()
-
-    def used():
-        usage = resource.getrusage(resource.RUSAGE_CHILDREN)
-        return usage.ru_utime + usage.ru_stime
-    best = None
-    for _ in range(3):
-        before = used()
-        answer = subprocess.run(program, input=line, stdout=subprocess.PIPE, check=True).stdout
-        best = min(used() - before, best or 1e9)
-    return best, answer.decode().strip()[:60]
-
-
-def main():
-    rows = [("ring of two behind others", ring(1232)), ("ring of two behind others", ring(65535)),
-            ("chain of 12, in order", chain(1232, 12, 1, b"", False)),
+def counted():
+    """The rows: what the message is, and its numbers."""
+    ring_of_two = "ring of two behind others, with a count of 65,535"
+    rows = [(ring_of_two, ring(1232)), (ring_of_two, ring(65535)),
+            ("chain of 12 in order", chain(1232, 12, 1, b"", False)),
             ("chain backwards", longest(1232, 1)), ("chain backwards", longest(65535, 1)),
-            ("the same, names of 126 labels through 255 pointers", longest(65535, 125, deep(DEEP)))]
+            ("chain backwards, names of 126 labels through 255 pointers", longest(65535, 125, deep(DEEP)))]
     for text, (message, records, looks, limited) in rows:
-        time, answer = seconds(sys.argv[1], message)
-        print(f"| {text} | {len(message):,} | {records:,} | {len(looks):,} | {sum(looks):,} | {sum(limited[:17]):,} | {time:.3f} s |  {answer}")
+        yield text, len(message), records, len(looks), sum(looks), sum(limited[:17])
 
 
-main()
+def line(text, *numbers):
+    return f"| {text} | " + " | ".join(f"{number:,}" for number in numbers) + " |"
+
+
+if __name__ == "__main__":
+    print(*(line(*row) for row in counted()), sep="\n")
