@@ -8,7 +8,7 @@ use Rattle.domain_text.specs.Laws.{IsTextOfOneName, IsTextOfOneRelative}
 use Rattle.domain_text.specs.NameSymbols.{name_symbols}
 use Rattle.domain_label.specs.Spelling.{JustOne}
 use Rattle.domain_text.specs.TextGrammar.{IsNameText, NotANameText, IsRelativeText, NoRelative, IsTextOfName, IsTextOfNoName, IsTextOfRelative, IsTextOfNoRelative}
-use Rattle.domain_text.specs.TextErrors.{MatchFromStr, MatchRelativeFromStr, NoNameMade, NoRelativeMade, presentation_fault, presentation_error_kind}
+use Rattle.domain_text.specs.TextErrors.{MatchFromStr, MatchRelativeFromStr, MakesName, MakesRelative, ReadsNameText, ReadsRelativeText, presentation_fault, presentation_error_kind}
 use Rattle.domain_text.specs.declared.name_symbol.TextFault.{TextFault}
 use Rattle.domain_text.specs.declared.name_symbol.NameSymbol.{NameSymbol}
 use Rattle.domain_text.specs.declared.error.FromStrError.{FromStrError}
@@ -72,71 +72,77 @@ spells_one_relative cs = one_spelled IsRelativeText NoRelative cs (one_relative 
 
 -- ---- absolute names
 
-module _ {N : Type 0} (labels : N → List (List ℕ)) (room : Option ℕ) (cs : List ℕ) (r : Result N FromStrError) (h : MatchResult r (λ n. IsNameText (name_symbols (items_of cs)) (labels n)) (λ e. NoNameMade room (name_symbols (items_of cs)) e)) where
-  pub name_ok : IfOk r (λ n. IsTextOfName cs (labels n))
+module _ {N : Type 0} (labels : N → List (List ℕ)) (room : Option ℕ) (cs : List ℕ) (r : Result N FromStrError) (h : MakesName labels room (name_symbols (items_of cs)) r) where
+  name_ok : IfOk r (λ n. IsTextOfName cs (labels n))
   name_ok = at r h
     where
-      at : (r : Result N FromStrError) → MatchResult r (λ n. IsNameText (name_symbols (items_of cs)) (labels n)) (λ e. NoNameMade room (name_symbols (items_of cs)) e) → IfOk r (λ n. IsTextOfName cs (labels n))
+      at : (r : Result N FromStrError) → MakesName labels room (name_symbols (items_of cs)) r → IfOk r (λ n. IsTextOfName cs (labels n))
       at (Ok n) h = (items_of cs, items_read cs, h)
       at (Err e) h = tt
 
-  pub name_err : IfErr r (λ e. MatchFromStr e (IsTextOfNoName cs) ((ls : List (List ℕ)) × IsTextOfName cs ls × MayExceedCapacity room (length (wire ls))))
+  name_err : IfErr r (λ e. MatchFromStr e (IsTextOfNoName cs) ((ls : List (List ℕ)) × IsTextOfName cs ls × MayExceedCapacity room (length (wire ls))))
   name_err = at r h
     where
-      at : (r : Result N FromStrError) → MatchResult r (λ n. IsNameText (name_symbols (items_of cs)) (labels n)) (λ e. NoNameMade room (name_symbols (items_of cs)) e) → IfErr r (λ e. MatchFromStr e (IsTextOfNoName cs) ((ls : List (List ℕ)) × IsTextOfName cs ls × MayExceedCapacity room (length (wire ls))))
+      at : (r : Result N FromStrError) → MakesName labels room (name_symbols (items_of cs)) r → IfErr r (λ e. MatchFromStr e (IsTextOfNoName cs) ((ls : List (List ℕ)) × IsTextOfName cs ls × MayExceedCapacity room (length (wire ls))))
       at (Ok n) h = tt
       at (Err (Presentation p)) h = (items_of cs, items_read cs, h)
       at (Err ShortBuf) h = (h.0, (items_of cs, items_read cs, h.1), h.2)
 
-  pub name_accepts : (ls : List (List ℕ)) → IsTextOfName cs ls → MatchResult r (λ n. labels n ≡ ls) (λ e. MatchFromStr e (λ _. ⊥) (MayExceedCapacity room (length (wire ls))))
+  name_accepts : (ls : List (List ℕ)) → IsTextOfName cs ls → MatchResult r (λ n. labels n ≡ ls) (λ e. MatchFromStr e (λ _. ⊥) (MayExceedCapacity room (length (wire ls))))
   name_accepts ls s = at r h (subst (λ (z : List Item). IsNameText (name_symbols z) ls) (same_items cs s.0 s.1) s.2)
     where
-      at : (r : Result N FromStrError) → MatchResult r (λ n. IsNameText (name_symbols (items_of cs)) (labels n)) (λ e. NoNameMade room (name_symbols (items_of cs)) e) → IsNameText (name_symbols (items_of cs)) ls → MatchResult r (λ n. labels n ≡ ls) (λ e. MatchFromStr e (λ _. ⊥) (MayExceedCapacity room (length (wire ls))))
+      at : (r : Result N FromStrError) → MakesName labels room (name_symbols (items_of cs)) r → IsNameText (name_symbols (items_of cs)) ls → MatchResult r (λ n. labels n ≡ ls) (λ e. MatchFromStr e (λ _. ⊥) (MayExceedCapacity room (length (wire ls))))
       at (Ok n) h t = two_of (IsNameText (name_symbols (items_of cs))) (NotANameText (name_symbols (items_of cs))) (one_name (name_symbols (items_of cs))) (labels n) ls h t
       at (Err (Presentation p)) h t = never_both (IsNameText (name_symbols (items_of cs))) (NotANameText (name_symbols (items_of cs))) (one_name (name_symbols (items_of cs))) ls (presentation_fault (presentation_error_kind p)) t h
       at (Err ShortBuf) h t = subst (λ (z : List (List ℕ)). MayExceedCapacity room (length (wire z))) (two_of (IsNameText (name_symbols (items_of cs))) (NotANameText (name_symbols (items_of cs))) (one_name (name_symbols (items_of cs))) h.0 ls h.1 t) h.2
 
-  pub name_exact : (f : TextFault) → IsTextOfNoName cs f → MatchResult r (λ _. ⊥) (λ e. MatchFromStr e (λ told. told ≡ f) ⊥)
+  name_exact : (f : TextFault) → IsTextOfNoName cs f → MatchResult r (λ _. ⊥) (λ e. MatchFromStr e (λ told. told ≡ f) ⊥)
   name_exact f s = at r h (subst (λ (z : List Item). NotANameText (name_symbols z) f) (same_items cs s.0 s.1) s.2)
     where
-      at : (r : Result N FromStrError) → MatchResult r (λ n. IsNameText (name_symbols (items_of cs)) (labels n)) (λ e. NoNameMade room (name_symbols (items_of cs)) e) → NotANameText (name_symbols (items_of cs)) f → MatchResult r (λ _. ⊥) (λ e. MatchFromStr e (λ told. told ≡ f) ⊥)
+      at : (r : Result N FromStrError) → MakesName labels room (name_symbols (items_of cs)) r → NotANameText (name_symbols (items_of cs)) f → MatchResult r (λ _. ⊥) (λ e. MatchFromStr e (λ told. told ≡ f) ⊥)
       at (Ok n) h t = never_both (IsNameText (name_symbols (items_of cs))) (NotANameText (name_symbols (items_of cs))) (one_name (name_symbols (items_of cs))) (labels n) f h t
       at (Err (Presentation p)) h t = two_faults (IsNameText (name_symbols (items_of cs))) (NotANameText (name_symbols (items_of cs))) (one_name (name_symbols (items_of cs))) (presentation_fault (presentation_error_kind p)) f h t
       at (Err ShortBuf) h t = never_both (IsNameText (name_symbols (items_of cs))) (NotANameText (name_symbols (items_of cs))) (one_name (name_symbols (items_of cs))) h.0 f h.1 t
 
+  pub name_read : ReadsNameText labels room cs r
+  name_read = record { ok = name_ok; err = name_err; accepts = name_accepts; exact = name_exact }
+
 -- ---- relative names
 
-module _ {N : Type 0} (labels : N → List (List ℕ)) (room : Option ℕ) (cs : List ℕ) (r : Result N RelativeFromStrError) (h : MatchResult r (λ n. IsRelativeText (name_symbols (items_of cs)) (labels n)) (λ e. NoRelativeMade room (name_symbols (items_of cs)) e)) where
-  pub relative_ok : IfOk r (λ n. IsTextOfRelative cs (labels n))
+module _ {N : Type 0} (labels : N → List (List ℕ)) (room : Option ℕ) (cs : List ℕ) (r : Result N RelativeFromStrError) (h : MakesRelative labels room (name_symbols (items_of cs)) r) where
+  relative_ok : IfOk r (λ n. IsTextOfRelative cs (labels n))
   relative_ok = at r h
     where
-      at : (r : Result N RelativeFromStrError) → MatchResult r (λ n. IsRelativeText (name_symbols (items_of cs)) (labels n)) (λ e. NoRelativeMade room (name_symbols (items_of cs)) e) → IfOk r (λ n. IsTextOfRelative cs (labels n))
+      at : (r : Result N RelativeFromStrError) → MakesRelative labels room (name_symbols (items_of cs)) r → IfOk r (λ n. IsTextOfRelative cs (labels n))
       at (Ok n) h = (items_of cs, items_read cs, h)
       at (Err e) h = tt
 
-  pub relative_err : IfErr r (λ e. MatchRelativeFromStr e (IsTextOfNoRelative cs) ((ls : List (List ℕ)) × IsTextOfRelative cs ls × MayExceedCapacity room (length (wire ls))))
+  relative_err : IfErr r (λ e. MatchRelativeFromStr e (IsTextOfNoRelative cs) ((ls : List (List ℕ)) × IsTextOfRelative cs ls × MayExceedCapacity room (length (wire ls))))
   relative_err = at r h
     where
-      at : (r : Result N RelativeFromStrError) → MatchResult r (λ n. IsRelativeText (name_symbols (items_of cs)) (labels n)) (λ e. NoRelativeMade room (name_symbols (items_of cs)) e) → IfErr r (λ e. MatchRelativeFromStr e (IsTextOfNoRelative cs) ((ls : List (List ℕ)) × IsTextOfRelative cs ls × MayExceedCapacity room (length (wire ls))))
+      at : (r : Result N RelativeFromStrError) → MakesRelative labels room (name_symbols (items_of cs)) r → IfErr r (λ e. MatchRelativeFromStr e (IsTextOfNoRelative cs) ((ls : List (List ℕ)) × IsTextOfRelative cs ls × MayExceedCapacity room (length (wire ls))))
       at (Ok n) h = tt
       at (Err AbsoluteName) h = (items_of cs, items_read cs, h)
       at (Err (FromStr (Presentation p))) h = (items_of cs, items_read cs, h)
       at (Err (FromStr ShortBuf)) h = (h.0, (items_of cs, items_read cs, h.1), h.2)
 
-  pub relative_accepts : (ls : List (List ℕ)) → IsTextOfRelative cs ls → MatchResult r (λ n. labels n ≡ ls) (λ e. MatchRelativeFromStr e (λ _. ⊥) (MayExceedCapacity room (length (wire ls))))
+  relative_accepts : (ls : List (List ℕ)) → IsTextOfRelative cs ls → MatchResult r (λ n. labels n ≡ ls) (λ e. MatchRelativeFromStr e (λ _. ⊥) (MayExceedCapacity room (length (wire ls))))
   relative_accepts ls s = at r h (subst (λ (z : List Item). IsRelativeText (name_symbols z) ls) (same_items cs s.0 s.1) s.2)
     where
-      at : (r : Result N RelativeFromStrError) → MatchResult r (λ n. IsRelativeText (name_symbols (items_of cs)) (labels n)) (λ e. NoRelativeMade room (name_symbols (items_of cs)) e) → IsRelativeText (name_symbols (items_of cs)) ls → MatchResult r (λ n. labels n ≡ ls) (λ e. MatchRelativeFromStr e (λ _. ⊥) (MayExceedCapacity room (length (wire ls))))
+      at : (r : Result N RelativeFromStrError) → MakesRelative labels room (name_symbols (items_of cs)) r → IsRelativeText (name_symbols (items_of cs)) ls → MatchResult r (λ n. labels n ≡ ls) (λ e. MatchRelativeFromStr e (λ _. ⊥) (MayExceedCapacity room (length (wire ls))))
       at (Ok n) h t = two_of (IsRelativeText (name_symbols (items_of cs))) (NoRelative (name_symbols (items_of cs))) (one_relative (name_symbols (items_of cs))) (labels n) ls h t
       at (Err AbsoluteName) h t = never_both (IsRelativeText (name_symbols (items_of cs))) (NoRelative (name_symbols (items_of cs))) (one_relative (name_symbols (items_of cs))) ls None t h
       at (Err (FromStr (Presentation p))) h t = never_both (IsRelativeText (name_symbols (items_of cs))) (NoRelative (name_symbols (items_of cs))) (one_relative (name_symbols (items_of cs))) ls (Some (presentation_fault (presentation_error_kind p))) t h
       at (Err (FromStr ShortBuf)) h t = subst (λ (z : List (List ℕ)). MayExceedCapacity room (length (wire z))) (two_of (IsRelativeText (name_symbols (items_of cs))) (NoRelative (name_symbols (items_of cs))) (one_relative (name_symbols (items_of cs))) h.0 ls h.1 t) h.2
 
-  pub relative_exact : (why : Option TextFault) → IsTextOfNoRelative cs why → MatchResult r (λ _. ⊥) (λ e. MatchRelativeFromStr e (λ told. told ≡ why) ⊥)
+  relative_exact : (why : Option TextFault) → IsTextOfNoRelative cs why → MatchResult r (λ _. ⊥) (λ e. MatchRelativeFromStr e (λ told. told ≡ why) ⊥)
   relative_exact why s = at r h (subst (λ (z : List Item). NoRelative (name_symbols z) why) (same_items cs s.0 s.1) s.2)
     where
-      at : (r : Result N RelativeFromStrError) → MatchResult r (λ n. IsRelativeText (name_symbols (items_of cs)) (labels n)) (λ e. NoRelativeMade room (name_symbols (items_of cs)) e) → NoRelative (name_symbols (items_of cs)) why → MatchResult r (λ _. ⊥) (λ e. MatchRelativeFromStr e (λ told. told ≡ why) ⊥)
+      at : (r : Result N RelativeFromStrError) → MakesRelative labels room (name_symbols (items_of cs)) r → NoRelative (name_symbols (items_of cs)) why → MatchResult r (λ _. ⊥) (λ e. MatchRelativeFromStr e (λ told. told ≡ why) ⊥)
       at (Ok n) h t = never_both (IsRelativeText (name_symbols (items_of cs))) (NoRelative (name_symbols (items_of cs))) (one_relative (name_symbols (items_of cs))) (labels n) why h t
       at (Err AbsoluteName) h t = two_faults (IsRelativeText (name_symbols (items_of cs))) (NoRelative (name_symbols (items_of cs))) (one_relative (name_symbols (items_of cs))) None why h t
       at (Err (FromStr (Presentation p))) h t = two_faults (IsRelativeText (name_symbols (items_of cs))) (NoRelative (name_symbols (items_of cs))) (one_relative (name_symbols (items_of cs))) (Some (presentation_fault (presentation_error_kind p))) why h t
       at (Err (FromStr ShortBuf)) h t = never_both (IsRelativeText (name_symbols (items_of cs))) (NoRelative (name_symbols (items_of cs))) (one_relative (name_symbols (items_of cs))) h.0 why h.1 t
+
+  pub relative_read : ReadsRelativeText labels room cs r
+  relative_read = record { ok = relative_ok; err = relative_err; accepts = relative_accepts; exact = relative_exact }

@@ -2,6 +2,7 @@
 use Rattle.std.specs.Prelude.{◌≡◌, ℕ, ◌+◌, ◌<◌, ◌≤◌, List, length, take, drop}
 use Rattle.domain_label.specs.Wire.{wire, labels_in, IsRelative}
 use Rattle.domain_text.specs.BuilderState.{BuilderState}
+use Rattle.domain_text.specs.declared.buffer.Ends.{Ends}
 
 -- The wire format of the finished labels lies before `head`, and the octets of the open label after the
 -- offset of its length octet.
@@ -16,3 +17,11 @@ pub record IsBuffer (octets : List ℕ) (head : ℕ) (open_len : ℕ) : Type 0 w
   pub label_short : open_len ≤ 63
   pub fits : head + open_len ≤ 254
   pub open_fits : 0 < open_len → head + open_len ≤ 253
+
+-- What lies in a buffer whose labels end there.
+abbrev pub held : List ℕ → Ends → BuilderState
+held octets ends = buffer_view octets ends.head ends.open_len
+
+-- They end there.
+abbrev pub IsHeld : List ℕ → Ends → Type 0
+IsHeld octets ends = IsBuffer octets ends.head ends.open_len

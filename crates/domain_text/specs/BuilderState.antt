@@ -1,5 +1,5 @@
 -- What a name builder has built, and what parts of a text make of it.
-use Rattle.std.specs.Prelude.{◌≡◌, ◌≢◌, ℕ, ◌<◌, nat_lt, List, [], ◌∷◌, ◌++◌, length, Option, None, Some, if◌then◌else◌}
+use Rattle.std.specs.Prelude.{◌≡◌, ◌≢◌, ℕ, ◌<◌, nat_lt, List, [], ◌∷◌, ◌++◌, length, Option, None, Some, Result, MatchResult, if◌then◌else◌}
 use Rattle.domain_label.specs.Wire.{wire}
 use Rattle.domain_text.specs.declared.name_symbol.TextFault.{TextFault}
 use Rattle.domain_text.specs.declared.name_symbol.TextFault.TheVariants.{BinaryLabel, LongLabel, EmptyLabel, LongName}
@@ -93,6 +93,14 @@ pub record StopsAt (b : BuilderState) (ps : List NameSymbol) (new : BuilderState
   pub parts : ps ≡ before ++ part ∷ rest
   pub made : Makes b before new
   pub refused : symbol_fault new part ≡ Some f
+
+-- Parts are taken in turn, up to the first that is refused. What those before it made stays.
+abbrev pub TakesParts : BuilderState → List NameSymbol → Result (Unit {0}) TextFault → BuilderState → Type 0
+TakesParts b ps r new = MatchResult r (λ _. Makes b ps new) (StopsAt b ps new)
+
+-- All parts of a text, from nothing: what the result says was built, or the first that is refused.
+abbrev pub ReadsParts : {A : Type 0} → (A → BuilderState) → List NameSymbol → Result A TextFault → Type 0
+ReadsParts built ps r = MatchResult r (λ x. Makes empty_state ps (built x)) (λ f. (new : BuilderState) × StopsAt empty_state ps new f)
 
 -- Parts in turn, and one that isn't refused and for which the room, so many octets, is too small. It is an
 -- octet: a dot takes no room.

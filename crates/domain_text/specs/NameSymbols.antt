@@ -10,6 +10,10 @@ use Rattle.domain_text.specs.declared.name_symbol.TextFault.TheVariants.{ShortIn
 use Rattle.domain_text.specs.declared.name_symbol.NameSymbol.{NameSymbol}
 use Rattle.domain_text.specs.declared.name_symbol.NameSymbol.TheVariants.{Dot, Octet, Bracket, Nothing}
 
+-- What is read of a text: symbols, and at a broken escape its error.
+abbrev pub Items : Type 0
+Items = List (Result Symbol SymbolCharsError)
+
 -- The octet of a symbol, or that it has none.
 abbrev pub octet_symbol : Result ℕ NoOctet → NameSymbol
 octet_symbol (Ok c) = Octet c
@@ -33,7 +37,7 @@ name_symbol (Ok s) = symbol_in_name s
 name_symbol (Err e) = broken_symbol e
 
 -- The same of each item of a text.
-abbrev pub name_symbols : List (Result Symbol SymbolCharsError) → List NameSymbol
+abbrev pub name_symbols : Items → List NameSymbol
 name_symbols = map name_symbol
 
 -- The part is a dot, or it isn't.

@@ -65,6 +65,14 @@ NoNameMade room ps e = MatchFromStr e (NotANameText ps) ((ls : List (List ℕ)) 
 abbrev pub NoRelativeMade : Option ℕ → List NameSymbol → RelativeFromStrError → Type 0
 NoRelativeMade room ps e = MatchRelativeFromStr e (NoRelative ps) ((ls : List (List ℕ)) × IsRelativeText ps ls × MayExceedCapacity room (length (wire ls)))
 
+-- What making a name of parts of a text gives: the name whose text they are, or why there is none.
+abbrev pub MakesName : {N : Type 0} → (N → List (List ℕ)) → Option ℕ → List NameSymbol → Result N FromStrError → Type 0
+MakesName labels room ps r = MatchResult r (λ n. IsNameText ps (labels n)) (NoNameMade room ps)
+
+-- The same of relative names.
+abbrev pub MakesRelative : {N : Type 0} → (N → List (List ℕ)) → Option ℕ → List NameSymbol → Result N RelativeFromStrError → Type 0
+MakesRelative labels room ps r = MatchResult r (λ n. IsRelativeText ps (labels n)) (NoRelativeMade room ps)
+
 -- Why no name was read of the characters cs: a fault of theirs, or else the octets of the name that they
 -- are the text of lack room.
 abbrev pub NoNameRead : Option ℕ → List ℕ → FromStrError → Type 0

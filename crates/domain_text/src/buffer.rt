@@ -1,14 +1,12 @@
 //! A buffer in which a name is put together.
-ghost use Rattle.std.specs.Prelude.{◌≡◌, ◌++◌, ℕ, ◌+◌, ◌<◌, ◌≤◌, nat_lt, List, [], ◌∷◌, length, take, drop, Result, Some, None, IfOk, IfErr, OnOk, OnErr, MatchResult};
+ghost use Rattle.std.specs.Prelude.{◌≡◌, ◌++◌, ◌+◌, ◌<◌, ◌≤◌, nat_lt, [], ◌∷◌, length, take, drop, Some, None, IfOk, IfErr, OnOk, OnErr};
 ghost use Rattle.std.specs.Iterator.{AlwaysYields, IsFinite};
-ghost use Rattle.domain_label.specs.declared.symbol.Symbol.{Symbol};
-ghost use Rattle.domain_label.specs.declared.symbol.SymbolCharsError.{SymbolCharsError};
 ghost use Rattle.domain_label.specs.Spelling.{ReadsSymbols};
 ghost use Rattle.domain_label.specs.Wire.{wire, Root, IsAbsoluteName, IsRelativeName};
 ghost use Rattle.domain_text.specs.Plain.{IsPlainText};
-ghost use Rattle.domain_text.specs.BuilderState.{BuilderState, empty_state, closed, size, pushed, ended, too_long, symbol_fault, after, Makes, StopsAt};
-ghost use Rattle.domain_text.specs.Buffer.{buffer_view, IsBuffer};
-ghost use Rattle.domain_text.specs.NameSymbols.{name_symbols};
+ghost use Rattle.domain_text.specs.BuilderState.{empty_state, closed, size, pushed, ended, too_long, symbol_fault, after, TakesParts, ReadsParts};
+ghost use Rattle.domain_text.specs.Buffer.{held, IsHeld};
+ghost use Rattle.domain_text.specs.NameSymbols.{Items, name_symbols};
 
 use crate::name_symbol::{NameSymbol, TextFault, name_symbol_of};
 use domain_label::scan::{Symbol, SymbolCharsError};
@@ -35,24 +33,26 @@ pub(crate) struct NameBuffer {
 
 impl Model for NameBuffer {
     ghost use Rattle.domain_text.specs.BuilderState.{BuilderState};
-    ghost use Rattle.domain_text.specs.Buffer.{buffer_view, IsBuffer};
+    ghost use Rattle.domain_text.specs.Buffer.{held, IsHeld};
 
     ghost Value = { BuilderState };
 
-    ghost view = { λ s. buffer_view s.octets s.ends.head s.ends.open_len };
+    ghost view = { λ s. held s.octets s.ends };
 
-    ghost invariant = { λ s. IsBuffer s.octets s.ends.head s.ends.open_len };
+    ghost invariant = { λ s. IsHeld s.octets s.ends };
 }
 
 /// Adds an octet to the open label, or opens one.
 #[inline(always)]
 fn push(octets: &mut [u8; 255], ends: &mut Ends, c: u8) -> Result<(), TextFault>
-    requires inside { IsBuffer octets.old ends.old.head ends.old.open_len }
-    ensures inside { IsBuffer octets.new ends.new.head ends.new.open_len }
-    ensures taken { OnOk result (too_long (pushed (buffer_view octets.old ends.old.head ends.old.open_len) (c ∷ [])) ≡ None) }
-    ensures made { OnOk result (buffer_view octets.new ends.new.head ends.new.open_len ≡ pushed (buffer_view octets.old ends.old.head ends.old.open_len) (c ∷ [])) }
-    ensures err { IfErr result (λ f. too_long (pushed (buffer_view octets.old ends.old.head ends.old.open_len) (c ∷ [])) ≡ Some f) }
-    ensures unchanged { OnErr result (buffer_view octets.new ends.new.head ends.new.open_len ≡ buffer_view octets.old ends.old.head ends.old.open_len) }
+    requires inside { IsHeld octets.old ends.old }
+    ensures inside { IsHeld octets.new ends.new }
+    ensures taken { OnOk result (too_long (pushed (held octets.old ends.old) (c ∷ [])) ≡ None) }
+    ensures made { OnOk result
+        (held octets.new ends.new ≡ pushed (held octets.old ends.old) (c ∷ [])) }
+    ensures err { IfErr result
+        (λ f. too_long (pushed (held octets.old ends.old) (c ∷ [])) ≡ Some f) }
+    ensures unchanged { OnErr result (held octets.new ends.new ≡ held octets.old ends.old) }
 {
     if ends.head + ends.open_len > 252 {
         return Err(TextFault::LongName);
@@ -68,9 +68,9 @@ fn push(octets: &mut [u8; 255], ends: &mut Ends, c: u8) -> Result<(), TextFault>
 /// Finishes the open label, if any.
 #[inline(always)]
 fn end_open(octets: &mut [u8; 255], ends: &mut Ends)
-    requires inside { IsBuffer octets.old ends.old.head ends.old.open_len }
-    ensures inside { IsBuffer octets.new ends.new.head ends.new.open_len }
-    ensures made { buffer_view octets.new ends.new.head ends.new.open_len ≡ ended (buffer_view octets.old ends.old.head ends.old.open_len) }
+    requires inside { IsHeld octets.old ends.old }
+    ensures inside { IsHeld octets.new ends.new }
+    ensures made { held octets.new ends.new ≡ ended (held octets.old ends.old) }
 {
     if ends.open_len > 0 {
         octets[ends.head] = ends.open_len as u8;
@@ -82,12 +82,12 @@ fn end_open(octets: &mut [u8; 255], ends: &mut Ends)
 /// Adds a part of a text: a dot ends the open label.
 #[inline(always)]
 fn add_symbol(octets: &mut [u8; 255], ends: &mut Ends, part: NameSymbol) -> Result<(), TextFault>
-    requires inside { IsBuffer octets.old ends.old.head ends.old.open_len }
-    ensures inside { IsBuffer octets.new ends.new.head ends.new.open_len }
-    ensures taken { OnOk result (symbol_fault (buffer_view octets.old ends.old.head ends.old.open_len) part ≡ None) }
-    ensures made { OnOk result (buffer_view octets.new ends.new.head ends.new.open_len ≡ after (buffer_view octets.old ends.old.head ends.old.open_len) part) }
-    ensures err { IfErr result (λ f. symbol_fault (buffer_view octets.old ends.old.head ends.old.open_len) part ≡ Some f) }
-    ensures unchanged { OnErr result (buffer_view octets.new ends.new.head ends.new.open_len ≡ buffer_view octets.old ends.old.head ends.old.open_len) }
+    requires inside { IsHeld octets.old ends.old }
+    ensures inside { IsHeld octets.new ends.new }
+    ensures taken { OnOk result (symbol_fault (held octets.old ends.old) part ≡ None) }
+    ensures made { OnOk result (held octets.new ends.new ≡ after (held octets.old ends.old) part) }
+    ensures err { IfErr result (λ f. symbol_fault (held octets.old ends.old) part ≡ Some f) }
+    ensures unchanged { OnErr result (held octets.new ends.new ≡ held octets.old ends.old) }
 {
     match part {
         NameSymbol::Octet(c) => push(octets, ends, c),
@@ -114,9 +114,9 @@ fn add_symbol(octets: &mut [u8; 255], ends: &mut Ends, part: NameSymbol) -> Resu
 fn end_plain(octets: &mut [u8; 255], text: &[u8]) -> Result<Ends, TextFault>
     requires plain { IsPlainText text.now }
     requires there { take (length text.now) (drop 1 octets.old) ≡ text.now }
-    ensures inside { IfOk result (λ ends. IsBuffer octets.new ends.head ends.open_len) }
-    ensures read { (all : List (Result Symbol SymbolCharsError)) → ReadsSymbols text.now all →
-        MatchResult result (λ ends. Makes empty_state (name_symbols all) (buffer_view octets.new ends.head ends.open_len)) (λ f. (built : BuilderState) × StopsAt empty_state (name_symbols all) built f) }
+    ensures inside { IfOk result (IsHeld octets.new) }
+    ensures read { (all : Items) → ReadsSymbols text.now all →
+        ReadsParts (held octets.new) (name_symbols all) result }
 {
     let mut head = 0;
     for i in 0..text.len() {
@@ -145,12 +145,12 @@ fn add_symbols<I: Iterator<Item = Result<Symbol, SymbolCharsError>> + Drop>(
     ends: &mut Ends,
     items: I,
 ) -> Result<(), TextFault>
-    requires inside { IsBuffer octets.old ends.old.head ends.old.open_len }
+    requires inside { IsHeld octets.old ends.old }
     requires can { I.can_next items }
     requires ends { IsFinite (I.remaining items) }
-    ensures inside { IsBuffer octets.new ends.new.head ends.new.open_len }
-    ensures read { (all : List (Result Symbol SymbolCharsError)) → AlwaysYields I.next_gives (λ x. x) items all →
-        MatchResult result (λ _. Makes (buffer_view octets.old ends.old.head ends.old.open_len) (name_symbols all) (buffer_view octets.new ends.new.head ends.new.open_len)) (λ f. StopsAt (buffer_view octets.old ends.old.head ends.old.open_len) (name_symbols all) (buffer_view octets.new ends.new.head ends.new.open_len) f) }
+    ensures inside { IsHeld octets.new ends.new }
+    ensures read { (all : Items) → AlwaysYields I.next_gives (λ x. x) items all →
+        TakesParts (held octets.old ends.old) (name_symbols all) result (held octets.new ends.new) }
 {
     for item in items {
         add_symbol(octets, ends, name_symbol_of(item))?;
@@ -215,8 +215,8 @@ impl NameBuffer {
     ) -> Result<(), TextFault>
         requires can { I.can_next items }
         requires ends { IsFinite (I.remaining items) }
-        ensures { (all : List (Result Symbol SymbolCharsError)) → AlwaysYields I.next_gives (λ x. x) items all →
-            MatchResult result (λ _. Makes self.old (name_symbols all) self.new) (λ f. StopsAt self.old (name_symbols all) self.new f) }
+        ensures { (all : Items) → AlwaysYields I.next_gives (λ x. x) items all →
+            TakesParts self.old (name_symbols all) result self.new }
     {
         let mut ends = self.ends;
         let read = add_symbols(&mut self.octets, &mut ends, items);
@@ -228,8 +228,8 @@ impl NameBuffer {
     #[inline(always)]
     pub(crate) fn read_plain(&mut self, text: &[u8]) -> Result<(), TextFault>
         requires plain { IsPlainText text.now }
-        ensures { (all : List (Result Symbol SymbolCharsError)) → ReadsSymbols text.now all →
-            MatchResult result (λ _. Makes empty_state (name_symbols all) self.new) (λ f. (built : BuilderState) × StopsAt empty_state (name_symbols all) built f) }
+        ensures { (all : Items) → ReadsSymbols text.now all →
+            ReadsParts (λ _. self.new) (name_symbols all) result }
     {
         self.ends = Ends {
             head: 0,
@@ -260,8 +260,10 @@ impl NameBuffer {
         target: &mut B,
     ) -> Result<(), B::AppendError>
         ensures name { IsAbsoluteName (closed self.old ++ Root) }
-        ensures ok { OnOk result (B.octets target.new ≡ B.octets target.old ++ wire (closed self.old ++ Root)) }
-        ensures full { OnErr result (B.capacity target.old < length (B.octets target.old) + (size self.old + 1)) }
+        ensures ok { OnOk result
+            (B.octets target.new ≡ B.octets target.old ++ wire (closed self.old ++ Root)) }
+        ensures full { OnErr result
+            (B.capacity target.old < length (B.octets target.old) + (size self.old + 1)) }
     {
         self.end_label();
         self.octets[self.ends.head] = 0;
@@ -275,8 +277,10 @@ impl NameBuffer {
         target: &mut B,
     ) -> Result<(), B::AppendError>
         ensures name { IsRelativeName (closed self.old) }
-        ensures ok { OnOk result (B.octets target.new ≡ B.octets target.old ++ wire (closed self.old)) }
-        ensures full { OnErr result (B.capacity target.old < length (B.octets target.old) + size self.old) }
+        ensures ok { OnOk result
+            (B.octets target.new ≡ B.octets target.old ++ wire (closed self.old)) }
+        ensures full { OnErr result
+            (B.capacity target.old < length (B.octets target.old) + size self.old) }
     {
         self.end_label();
         target.append_slice(&self.octets[..self.ends.head])

@@ -1,17 +1,14 @@
 //! The octets of names that texts spell (RFC 1035, 5.1).
-ghost use Rattle.std.specs.Prelude.{◌≡◌, ℕ, ◌++◌, List, [], Result, Option, Some, IfOk, IfErr, OnOk, MatchResult};
+ghost use Rattle.std.specs.Prelude.{◌≡◌, ℕ, List, [], Some, IfOk, OnOk};
 ghost use Rattle.std.specs.Iterator.{AlwaysYields, IsFinite};
 ghost use Rattle.std.specs.Str.{chars};
 ghost use Rattle.domain_label.specs.Spelling.{ReadsSymbols};
-ghost use Rattle.domain_label.specs.Wire.{Root, IsAbsoluteWire, IsRelativeWire, labels_in};
+ghost use Rattle.domain_label.specs.Wire.{IsAbsoluteWire, IsRelativeWire, labels_in};
 ghost use Rattle.domain_label.specs.declared.symbol.Symbol.{Symbol};
-ghost use Rattle.domain_label.specs.declared.symbol.SymbolCharsError.{SymbolCharsError};
-ghost use Rattle.domain_text.specs.BuilderState.{BuilderState, empty_state, closed, Makes, StopsAt};
-ghost use Rattle.domain_text.specs.NameSymbols.{name_symbols, symbols_in_name, IsDot};
-ghost use Rattle.domain_text.specs.Plain.{IsPlainText};
-ghost use Rattle.domain_text.specs.TextGrammar.{IsNameText, NotANameText, IsRelativeText, NoRelative, IsTextOfName, IsTextOfNoName, IsTextOfRelative, IsTextOfNoRelative};
-ghost use Rattle.domain_text.specs.TextErrors.{NoNameMade, NoRelativeMade, NoNameRead, NoRelativeRead, LacksCapacity, RelativeLacksCapacity, IsErrorOfText, IsErrorOfRelativeText};
-ghost use Rattle.domain_text.specs.declared.name_symbol.TextFault.{TextFault};
+ghost use Rattle.domain_text.specs.BuilderState.{empty_state, ReadsParts};
+ghost use Rattle.domain_text.specs.NameSymbols.{Items, name_symbols, symbols_in_name, IsDot};
+ghost use Rattle.domain_text.specs.TextGrammar.{ReadsName, ReadsRelative};
+ghost use Rattle.domain_text.specs.TextErrors.{MakesName, MakesRelative, ReadsNameText, ReadsRelativeText};
 ghost use Rattle.domain_text.specs.declared.name_symbol.NameSymbol.{NameSymbol};
 
 use crate::buffer::NameBuffer;
@@ -36,8 +33,8 @@ fn read_name_text<I: Iterator<Item = Result<Symbol, SymbolCharsError>> + Drop>(
     requires empty { buffer.old ≡ empty_state }
     requires can { I.can_next items }
     requires ends { IsFinite (I.remaining items) }
-    ensures { (all : List (Result Symbol SymbolCharsError)) → AlwaysYields I.next_gives (λ x. x) items all →
-        MatchResult result (λ _. IsNameText (name_symbols all) (closed buffer.new ++ Root)) (λ f. NotANameText (name_symbols all) f) }
+    ensures { (all : Items) → AlwaysYields I.next_gives (λ x. x) items all →
+        ReadsName (name_symbols all) buffer.new result }
 {
     let first = match items.next() {
         None => return Err(TextFault::ShortInput),
@@ -71,8 +68,8 @@ fn refuse_final_dot(
     buffer: &NameBuffer,
     read: Result<(), TextFault>,
 ) -> Result<(), Option<TextFault>>
-    ensures { (ps : List NameSymbol) → MatchResult read (λ _. Makes empty_state ps buffer.now) (λ f. (built : BuilderState) × StopsAt empty_state ps built f) →
-        MatchResult result (λ _. IsRelativeText ps (closed buffer.now)) (λ why. NoRelative ps why) }
+    ensures { (ps : List NameSymbol) → ReadsParts (λ _. buffer.now) ps read →
+        ReadsRelative ps buffer.now result }
 {
     match read {
         Ok(()) => {}
@@ -96,8 +93,8 @@ fn read_relative_text<I: Iterator<Item = Result<Symbol, SymbolCharsError>> + Dro
     requires empty { buffer.old ≡ empty_state }
     requires can { I.can_next items }
     requires ends { IsFinite (I.remaining items) }
-    ensures { (all : List (Result Symbol SymbolCharsError)) → AlwaysYields I.next_gives (λ x. x) items all →
-        MatchResult result (λ _. IsRelativeText (name_symbols all) (closed buffer.new)) (λ why. NoRelative (name_symbols all) why) }
+    ensures { (all : Items) → AlwaysYields I.next_gives (λ x. x) items all →
+        ReadsRelative (name_symbols all) buffer.new result }
 {
     let read = buffer.push_name_symbols(items);
     refuse_final_dot(buffer, read)
@@ -107,8 +104,8 @@ fn read_relative_text<I: Iterator<Item = Result<Symbol, SymbolCharsError>> + Dro
 #[inline(always)]
 fn read_name_str(buffer: &mut NameBuffer, text: &str) -> Result<(), TextFault>
     requires empty { buffer.old ≡ empty_state }
-    ensures { (all : List (Result Symbol SymbolCharsError)) → ReadsSymbols (chars text.now) all →
-        MatchResult result (λ _. IsNameText (name_symbols all) (closed buffer.new ++ Root)) (λ f. NotANameText (name_symbols all) f) }
+    ensures { (all : Items) → ReadsSymbols (chars text.now) all →
+        ReadsName (name_symbols all) buffer.new result }
 {
     if is_plain(text.as_bytes()) {
         return buffer.read_plain(text.as_bytes());
@@ -120,8 +117,8 @@ fn read_name_str(buffer: &mut NameBuffer, text: &str) -> Result<(), TextFault>
 #[inline(always)]
 fn read_relative_str(buffer: &mut NameBuffer, text: &str) -> Result<(), Option<TextFault>>
     requires empty { buffer.old ≡ empty_state }
-    ensures { (all : List (Result Symbol SymbolCharsError)) → ReadsSymbols (chars text.now) all →
-        MatchResult result (λ _. IsRelativeText (name_symbols all) (closed buffer.new)) (λ why. NoRelative (name_symbols all) why) }
+    ensures { (all : Items) → ReadsSymbols (chars text.now) all →
+        ReadsRelative (name_symbols all) buffer.new result }
 {
     if is_plain(text.as_bytes()) {
         let read = buffer.read_plain(text.as_bytes());
@@ -142,8 +139,8 @@ fn absolute_octets<Octs: FromBuilder + Drop>(
 where
     Octs::Builder: EmptyBuilder + Drop,
     ensures wire { IfOk result (λ octets. IsAbsoluteWire (Octs.octets octets)) }
-    ensures text { (ps : List NameSymbol) → MatchResult read (λ _. IsNameText ps (closed buffer.old ++ Root)) (NotANameText ps) →
-        MatchResult result (λ octets. IsNameText ps (labels_in (Octs.octets octets))) (NoNameMade Octs.Builder.ROOM ps) }
+    ensures text { (ps : List NameSymbol) → ReadsName ps buffer.old read →
+        MakesName (λ octets. labels_in (Octs.octets octets)) Octs.Builder.ROOM ps result }
 {
     read?;
     let mut target = Octs::Builder::with_capacity(alloc, buffer.len() + 1)?;
@@ -166,8 +163,8 @@ fn relative_octets<Octs: FromBuilder + Drop>(
 where
     Octs::Builder: EmptyBuilder + Drop,
     ensures wire { IfOk result (λ octets. IsRelativeWire (Octs.octets octets)) }
-    ensures text { (ps : List NameSymbol) → MatchResult read (λ _. IsRelativeText ps (closed buffer.old)) (NoRelative ps) →
-        MatchResult result (λ octets. IsRelativeText ps (labels_in (Octs.octets octets))) (NoRelativeMade Octs.Builder.ROOM ps) }
+    ensures text { (ps : List NameSymbol) → ReadsRelative ps buffer.old read →
+        MakesRelative (λ octets. labels_in (Octs.octets octets)) Octs.Builder.ROOM ps result }
 {
     match read {
         Ok(()) => {}
@@ -198,8 +195,9 @@ where
     requires can { I.can_next items }
     requires ends { IsFinite (I.remaining items) }
     ensures wire { IfOk result (λ octets. IsAbsoluteWire (Octs.octets octets)) }
-    ensures text { (all : List (Result Symbol SymbolCharsError)) → AlwaysYields I.next_gives (λ x. x) items all →
-        MatchResult result (λ octets. IsNameText (name_symbols all) (labels_in (Octs.octets octets))) (NoNameMade Octs.Builder.ROOM (name_symbols all)) }
+    ensures text { (all : Items) → AlwaysYields I.next_gives (λ x. x) items all →
+        MakesName (λ octets. labels_in (Octs.octets octets)) Octs.Builder.ROOM
+        (name_symbols all) result }
 {
     let mut buffer = NameBuffer::new();
     let read = read_name_text(&mut buffer, items);
@@ -217,12 +215,8 @@ where
     requires can { I.can_next chars }
     requires ends { IsFinite (I.remaining chars) }
     ensures wire { IfOk result (λ octets. IsAbsoluteWire (Octs.octets octets)) }
-    ensures ok { (cs : List ℕ) → AlwaysYields I.next_gives (λ c. c) chars cs → IfOk result (λ octets. IsTextOfName cs (labels_in (Octs.octets octets))) }
-    ensures err { (cs : List ℕ) → AlwaysYields I.next_gives (λ c. c) chars cs → IfErr result (NoNameRead Octs.Builder.ROOM cs) }
-    ensures accepts { (cs : List ℕ) (ls : List (List ℕ)) → AlwaysYields I.next_gives (λ c. c) chars cs → IsTextOfName cs ls →
-        MatchResult result (λ octets. labels_in (Octs.octets octets) ≡ ls) (LacksCapacity Octs.Builder.ROOM ls) }
-    ensures exact { (cs : List ℕ) (f : TextFault) → AlwaysYields I.next_gives (λ c. c) chars cs → IsTextOfNoName cs f →
-        MatchResult result (λ _. ⊥) (IsErrorOfText f) }
+    ensures text { (cs : List ℕ) → AlwaysYields I.next_gives (λ c. c) chars cs →
+        ReadsNameText (λ octets. labels_in (Octs.octets octets)) Octs.Builder.ROOM cs result }
 {
     absolute_from_items(alloc, Symbols::new(chars))
 }
@@ -238,12 +232,8 @@ where
     requires can { I.can_next chars }
     requires ends { IsFinite (I.remaining chars) }
     ensures wire { IfOk result (λ octets. IsRelativeWire (Octs.octets octets)) }
-    ensures ok { (cs : List ℕ) → AlwaysYields I.next_gives (λ c. c) chars cs → IfOk result (λ octets. IsTextOfRelative cs (labels_in (Octs.octets octets))) }
-    ensures err { (cs : List ℕ) → AlwaysYields I.next_gives (λ c. c) chars cs → IfErr result (NoRelativeRead Octs.Builder.ROOM cs) }
-    ensures accepts { (cs : List ℕ) (ls : List (List ℕ)) → AlwaysYields I.next_gives (λ c. c) chars cs → IsTextOfRelative cs ls →
-        MatchResult result (λ octets. labels_in (Octs.octets octets) ≡ ls) (RelativeLacksCapacity Octs.Builder.ROOM ls) }
-    ensures exact { (cs : List ℕ) (why : Option TextFault) → AlwaysYields I.next_gives (λ c. c) chars cs → IsTextOfNoRelative cs why →
-        MatchResult result (λ _. ⊥) (IsErrorOfRelativeText why) }
+    ensures text { (cs : List ℕ) → AlwaysYields I.next_gives (λ c. c) chars cs →
+        ReadsRelativeText (λ octets. labels_in (Octs.octets octets)) Octs.Builder.ROOM cs result }
 {
     let mut buffer = NameBuffer::new();
     let read = read_relative_text(&mut buffer, Symbols::new(chars));
@@ -262,7 +252,8 @@ where
     requires ends { IsFinite (I.remaining symbols) }
     ensures wire { IfOk result (λ octets. IsAbsoluteWire (Octs.octets octets)) }
     ensures text { (ss : List Symbol) → AlwaysYields I.next_gives (λ x. x) symbols ss →
-        MatchResult result (λ octets. IsNameText (symbols_in_name ss) (labels_in (Octs.octets octets))) (NoNameMade Octs.Builder.ROOM (symbols_in_name ss)) }
+        MakesName (λ octets. labels_in (Octs.octets octets)) Octs.Builder.ROOM
+        (symbols_in_name ss) result }
 {
     absolute_from_items(alloc, WholeSymbols::new(symbols))
 }
@@ -276,11 +267,8 @@ pub fn absolute_from_str<Octs: FromBuilder + Drop>(
 where
     Octs::Builder: EmptyBuilder + Drop,
     ensures wire { IfOk result (λ octets. IsAbsoluteWire (Octs.octets octets)) }
-    ensures ok { IfOk result (λ octets. IsTextOfName (chars text.now) (labels_in (Octs.octets octets))) }
-    ensures err { IfErr result (NoNameRead Octs.Builder.ROOM (chars text.now)) }
-    ensures accepts { (ls : List (List ℕ)) → IsTextOfName (chars text.now) ls →
-        MatchResult result (λ octets. labels_in (Octs.octets octets) ≡ ls) (LacksCapacity Octs.Builder.ROOM ls) }
-    ensures exact { (f : TextFault) → IsTextOfNoName (chars text.now) f → MatchResult result (λ _. ⊥) (IsErrorOfText f) }
+    ensures text { ReadsNameText (λ octets. labels_in (Octs.octets octets)) Octs.Builder.ROOM
+        (chars text.now) result }
 {
     let mut buffer = NameBuffer::new();
     let read = read_name_str(&mut buffer, text);
@@ -296,11 +284,8 @@ pub fn relative_from_str<Octs: FromBuilder + Drop>(
 where
     Octs::Builder: EmptyBuilder + Drop,
     ensures wire { IfOk result (λ octets. IsRelativeWire (Octs.octets octets)) }
-    ensures ok { IfOk result (λ octets. IsTextOfRelative (chars text.now) (labels_in (Octs.octets octets))) }
-    ensures err { IfErr result (NoRelativeRead Octs.Builder.ROOM (chars text.now)) }
-    ensures accepts { (ls : List (List ℕ)) → IsTextOfRelative (chars text.now) ls →
-        MatchResult result (λ octets. labels_in (Octs.octets octets) ≡ ls) (RelativeLacksCapacity Octs.Builder.ROOM ls) }
-    ensures exact { (why : Option TextFault) → IsTextOfNoRelative (chars text.now) why → MatchResult result (λ _. ⊥) (IsErrorOfRelativeText why) }
+    ensures text { ReadsRelativeText (λ octets. labels_in (Octs.octets octets)) Octs.Builder.ROOM
+        (chars text.now) result }
 {
     let mut buffer = NameBuffer::new();
     let read = read_relative_str(&mut buffer, text);
@@ -318,8 +303,8 @@ fn absolute_array<const N: usize>(
 ) -> Result<(), FromStrError>
     requires empty { octets.old.items ≡ [] }
     ensures wire { OnOk result (IsAbsoluteWire octets.new.items) }
-    ensures text { (ps : List NameSymbol) → MatchResult read (λ _. IsNameText ps (closed buffer.old ++ Root)) (NotANameText ps) →
-        MatchResult result (λ _. IsNameText ps (labels_in octets.new.items)) (NoNameMade (Some N) ps) }
+    ensures text { (ps : List NameSymbol) → ReadsName ps buffer.old read →
+        MakesName (λ _. labels_in octets.new.items) (Some N) ps result }
 {
     read?;
     Ok(buffer.append_name(octets)?)
@@ -334,8 +319,8 @@ fn relative_array<const N: usize>(
 ) -> Result<(), RelativeFromStrError>
     requires empty { octets.old.items ≡ [] }
     ensures wire { OnOk result (IsRelativeWire octets.new.items) }
-    ensures text { (ps : List NameSymbol) → MatchResult read (λ _. IsRelativeText ps (closed buffer.old)) (NoRelative ps) →
-        MatchResult result (λ _. IsRelativeText ps (labels_in octets.new.items)) (NoRelativeMade (Some N) ps) }
+    ensures text { (ps : List NameSymbol) → ReadsRelative ps buffer.old read →
+        MakesRelative (λ _. labels_in octets.new.items) (Some N) ps result }
 {
     match read {
         Ok(()) => {}
@@ -358,11 +343,8 @@ pub fn absolute_into_array<const N: usize>(
 ) -> Result<(), FromStrError>
     requires empty { octets.old.items ≡ [] }
     ensures wire { OnOk result (IsAbsoluteWire octets.new.items) }
-    ensures ok { OnOk result (IsTextOfName (chars text.now) (labels_in octets.new.items)) }
-    ensures err { IfErr result (NoNameRead (Some N) (chars text.now)) }
-    ensures accepts { (ls : List (List ℕ)) → IsTextOfName (chars text.now) ls →
-        MatchResult result (λ _. labels_in octets.new.items ≡ ls) (LacksCapacity (Some N) ls) }
-    ensures exact { (f : TextFault) → IsTextOfNoName (chars text.now) f → MatchResult result (λ _. ⊥) (IsErrorOfText f) }
+    ensures text { ReadsNameText (λ _. labels_in octets.new.items) (Some N)
+        (chars text.now) result }
 {
     let mut buffer = NameBuffer::new();
     let read = read_name_str(&mut buffer, text);
@@ -377,11 +359,8 @@ pub fn relative_into_array<const N: usize>(
 ) -> Result<(), RelativeFromStrError>
     requires empty { octets.old.items ≡ [] }
     ensures wire { OnOk result (IsRelativeWire octets.new.items) }
-    ensures ok { OnOk result (IsTextOfRelative (chars text.now) (labels_in octets.new.items)) }
-    ensures err { IfErr result (NoRelativeRead (Some N) (chars text.now)) }
-    ensures accepts { (ls : List (List ℕ)) → IsTextOfRelative (chars text.now) ls →
-        MatchResult result (λ _. labels_in octets.new.items ≡ ls) (RelativeLacksCapacity (Some N) ls) }
-    ensures exact { (why : Option TextFault) → IsTextOfNoRelative (chars text.now) why → MatchResult result (λ _. ⊥) (IsErrorOfRelativeText why) }
+    ensures text { ReadsRelativeText (λ _. labels_in octets.new.items) (Some N)
+        (chars text.now) result }
 {
     let mut buffer = NameBuffer::new();
     let read = read_relative_str(&mut buffer, text);

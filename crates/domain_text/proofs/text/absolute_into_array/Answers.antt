@@ -2,17 +2,8 @@ use Rattle.std.proofs.Common.{Some}
 use Rattle.std.specs.Str.{chars}
 use Rattle.domain_label.specs.Wire.{labels_in}
 use Rattle.domain_text.specs.NameSymbols.{name_symbols}
-use Rattle.domain_text.proofs.Outcomes.{items_of, items_read, name_ok, name_err, name_accepts, name_exact}
+use Rattle.domain_text.proofs.Outcomes.{items_of, items_read, name_read}
 use Rattle.domain_text.proofs.text.absolute_into_array.Goals as goal
 
-pub returns-clause-ok : goal.returns-clause-ok
-returns-clause-ok g c = name_ok (λ _. labels_in c.absolute_array.new.octets.items) (Some g.row.N) (chars c.args.text.now) c.absolute_array.result (c.absolute_array.ensures.text (name_symbols (items_of (chars c.args.text.now))) (c.read_name_str-read.ensures (items_of (chars c.args.text.now)) (items_read (chars c.args.text.now))))
-
-pub returns-clause-err : goal.returns-clause-err
-returns-clause-err g c = name_err (λ _. labels_in c.absolute_array.new.octets.items) (Some g.row.N) (chars c.args.text.now) c.absolute_array.result (c.absolute_array.ensures.text (name_symbols (items_of (chars c.args.text.now))) (c.read_name_str-read.ensures (items_of (chars c.args.text.now)) (items_read (chars c.args.text.now))))
-
-pub returns-clause-accepts : goal.returns-clause-accepts
-returns-clause-accepts g c = λ ls s. name_accepts (λ _. labels_in c.absolute_array.new.octets.items) (Some g.row.N) (chars c.args.text.now) c.absolute_array.result (c.absolute_array.ensures.text (name_symbols (items_of (chars c.args.text.now))) (c.read_name_str-read.ensures (items_of (chars c.args.text.now)) (items_read (chars c.args.text.now)))) ls s
-
-pub returns-clause-exact : goal.returns-clause-exact
-returns-clause-exact g c = λ f s. name_exact (λ _. labels_in c.absolute_array.new.octets.items) (Some g.row.N) (chars c.args.text.now) c.absolute_array.result (c.absolute_array.ensures.text (name_symbols (items_of (chars c.args.text.now))) (c.read_name_str-read.ensures (items_of (chars c.args.text.now)) (items_read (chars c.args.text.now)))) f s
+pub returns-clause-text : goal.returns-clause-text
+returns-clause-text g c = name_read (λ _. labels_in c.absolute_array.new.octets.items) (Some g.row.N) (chars c.args.text.now) c.absolute_array.result (c.absolute_array.ensures.text (name_symbols (items_of (chars c.args.text.now))) (c.read_name_str-read.ensures (items_of (chars c.args.text.now)) (items_read (chars c.args.text.now))))
