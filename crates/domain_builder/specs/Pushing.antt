@@ -1,5 +1,5 @@
 -- When a builder refuses octets, and what its errors tell.
-use Rattle.std.specs.Prelude.{◌≡◌, ◌≢◌, ℕ, ◌<◌, ◌≤◌, Some, None, Result, Ok, Err, MatchResult, List, codes}
+use Rattle.std.specs.Prelude.{◌≡◌, ◌≢◌, ℕ, ◌<◌, ◌≤◌, Option, Some, None, Result, Ok, Err, MatchResult, IfErr, List, length, codes}
 use Rattle.domain_text.specs.BuilderState.{BuilderState, size, symbol_fault, after, Makes, StopsAt, LacksRoom}
 use Rattle.domain_text.specs.TextErrors.{MatchFromStr}
 use Rattle.domain_text.specs.declared.error.FromStrError.{FromStrError}
@@ -7,6 +7,7 @@ use Rattle.domain_text.specs.declared.error.FromStrError.TheVariants as short
 use Rattle.domain_text.specs.declared.name_symbol.TextFault.TheVariants as fault
 use Rattle.domain_text.specs.declared.name_symbol.NameSymbol.{NameSymbol}
 use Rattle.domain_text.specs.declared.name_symbol.NameSymbol.TheVariants.{Dot}
+use Rattle.domain_builder.specs.Inside.{Held, room}
 use Rattle.domain_builder.specs.declared.push_error.PushNameError.{PushNameError}
 use Rattle.domain_builder.specs.declared.push_error.PushNameError.TheVariants as name
 use Rattle.domain_builder.specs.declared.push_error.PushError.{PushError}
@@ -31,10 +32,22 @@ NameThenLabel label whole room r =
     MatchResult r (λ _. (label ≤ 63) × (whole ≤ 254))
     (λ e. MatchPushError e ((whole ≤ 254) × (63 < label)) (254 < whole) ((label ≤ 63) × (whole ≤ 254) × (room < whole)))
 
+-- The same of octets in the open label, of what they would make.
+abbrev pub OpenLabelThenName : (made : BuilderState) (room : ℕ) → Result (Unit {0}) PushError → Type 0
+OpenLabelThenName made room r = LabelThenName (length made.open_label) (size made) room r
+
+-- The same, where a long name is told first.
+abbrev pub NameThenOpenLabel : (made : BuilderState) (room : ℕ) → Result (Unit {0}) PushError → Type 0
+NameThenOpenLabel made room r = NameThenLabel (length made.open_label) (size made) room r
+
 -- The same, where the label can't be long.
 abbrev pub NameAlone : (whole room : ℕ) → Result (Unit {0}) PushError → Type 0
 NameAlone whole room r =
     MatchResult r (λ _. whole ≤ 254) (λ e. MatchPushError e ⊥ (254 < whole) ((whole ≤ 254) × (room < whole)))
+
+-- The same, where the name can't be long either.
+abbrev pub RoomAlone : {A : Type 0} → (whole room : ℕ) → Result A PushError → Type 0
+RoomAlone whole room r = IfErr r (λ e. (e ≡ ShortBuf) × (room < whole))
 
 -- A part of a text is taken, or nothing changes: it is refused, or else what it makes doesn't fit. A dot
 -- takes no room.
@@ -47,6 +60,14 @@ TakesSymbol room b p r new =
 abbrev pub TakesSymbols : (room : ℕ) → BuilderState → List NameSymbol → Result (Unit {0}) FromStrError → BuilderState → Type 0
 TakesSymbols room b ps r new =
     MatchResult r (λ _. Makes b ps new) (λ e. MatchFromStr e (StopsAt b ps new) (LacksRoom room b ps new))
+
+-- The same of a builder, where so many octets are fixed for its type.
+abbrev pub AddsSymbol : (limit : Option ℕ) → Held → NameSymbol → Result (Unit {0}) FromStrError → Held → Type 0
+AddsSymbol limit b p r new = TakesSymbol (room limit new) b.built p r new.built
+
+-- The same of parts in turn.
+abbrev pub AddsSymbols : (limit : Option ℕ) → Held → List NameSymbol → Result (Unit {0}) FromStrError → Held → Type 0
+AddsSymbols limit b ps r new = TakesSymbols (room limit new) b.built ps r new.built
 
 -- What a refusal of octets is told as, where the octets are those of a text.
 abbrev pub PushErrorBecomes : PushError → FromStrError → Type 0

@@ -11,9 +11,13 @@ use Rattle.domain_label.specs.Wire.{Root}
 abbrev pub ipv4_name : List ℕ → List (List ℕ)
 ipv4_name octets = map decimal (reverse octets) ++ codes "in-addr" ∷ codes "arpa" ∷ Root
 
+-- The lowest four bits of an octet as one upper case digit.
+abbrev pub hex_label : ℕ → List ℕ
+hex_label c = digit_glyph true (c % 16) ∷ []
+
 -- The lowest four bits of an octet and the highest as upper case digits.
 abbrev pub nibbles : ℕ → List (List ℕ)
-nibbles c = (digit_glyph true (c % 16) ∷ []) ∷ (digit_glyph true (c / 16 % 16) ∷ []) ∷ []
+nibbles c = hex_label c ∷ hex_label (c / 16) ∷ []
 
 -- Four bits of each octet after another, the last first, under ip6.arpa (RFC 3596, 2.5).
 abbrev pub ipv6_name : List ℕ → List (List ℕ)

@@ -1,13 +1,11 @@
 //! Building by the symbols of a text.
-ghost use Rattle.std.specs.Prelude.{ℕ, ◌≤◌, List, Result};
+ghost use Rattle.std.specs.Prelude.{ℕ, ◌≤◌, List};
 ghost use Rattle.std.specs.Iterator.{AlwaysYields, IsFinite};
 ghost use Rattle.std.specs.Str.{chars};
 ghost use Rattle.domain_label.specs.declared.symbol.Symbol.{Symbol};
-ghost use Rattle.domain_label.specs.declared.symbol.SymbolCharsError.{SymbolCharsError};
 ghost use Rattle.domain_label.specs.Spelling.{ReadsSymbols};
-ghost use Rattle.domain_text.specs.NameSymbols.{name_symbols, symbol_in_name, symbols_in_name};
-ghost use Rattle.domain_builder.specs.Pushing.{TakesSymbol, TakesSymbols};
-ghost use Rattle.domain_builder.specs.Inside.{room};
+ghost use Rattle.domain_text.specs.NameSymbols.{Items, name_symbols, symbol_in_name, symbols_in_name};
+ghost use Rattle.domain_builder.specs.Pushing.{AddsSymbol, AddsSymbols};
 
 use crate::labels::LabelsBuilder;
 use domain_label::scan::{Symbol, SymbolCharsError, Symbols};
@@ -17,7 +15,7 @@ use octseq::{OctetsBuilder, OctetsMut};
 impl<B: OctetsBuilder + OctetsMut> LabelsBuilder<B> {
     /// Adds a part of a text: a dot ends the open label.
     fn push_name_symbol(&mut self, part: NameSymbol) -> Result<(), FromStrError>
-        ensures takes { TakesSymbol (room B.limit self.new) self.old.built part result self.new.built }
+        ensures takes { AddsSymbol B.limit self.old part result self.new }
         ensures capacity { self.old.capacity ≤ self.new.capacity }
     {
         match part {
@@ -45,7 +43,7 @@ impl<B: OctetsBuilder + OctetsMut> LabelsBuilder<B> {
     /// `\[` where none is open; `BadSymbol` at a character that stands for no octet; else the refusals of
     /// `push`. A refused call changes nothing.
     pub fn push_symbol(&mut self, symbol: Symbol) -> Result<(), FromStrError>
-        ensures takes { TakesSymbol (room B.limit self.new) self.old.built (symbol_in_name symbol) result self.new.built }
+        ensures takes { AddsSymbol B.limit self.old (symbol_in_name symbol) result self.new }
         ensures capacity { self.old.capacity ≤ self.new.capacity }
     {
         self.push_name_symbol(name_symbol_of(Ok(symbol)))
@@ -58,8 +56,8 @@ impl<B: OctetsBuilder + OctetsMut> LabelsBuilder<B> {
     ) -> Result<(), FromStrError>
         requires can { I.can_next items }
         requires ends { IsFinite (I.remaining items) }
-        ensures takes { (all : List (Result Symbol SymbolCharsError)) → AlwaysYields I.next_gives (λ x. x) items all →
-            TakesSymbols (room B.limit self.new) self.old.built (name_symbols all) result self.new.built }
+        ensures takes { (all : Items) → AlwaysYields I.next_gives (λ x. x) items all →
+            AddsSymbols B.limit self.old (name_symbols all) result self.new }
         ensures capacity { self.old.capacity ≤ self.new.capacity }
     {
         for item in items {
@@ -78,8 +76,9 @@ impl<B: OctetsBuilder + OctetsMut> LabelsBuilder<B> {
     ) -> Result<(), FromStrError>
         requires can { I.can_next chars }
         requires ends { IsFinite (I.remaining chars) }
-        ensures takes { (cs : List ℕ) (items : List (Result Symbol SymbolCharsError)) → AlwaysYields I.next_gives (λ c. c) chars cs → ReadsSymbols cs items →
-            TakesSymbols (room B.limit self.new) self.old.built (name_symbols items) result self.new.built }
+        ensures takes { (cs : List ℕ) (items : Items) →
+            AlwaysYields I.next_gives (λ c. c) chars cs → ReadsSymbols cs items →
+            AddsSymbols B.limit self.old (name_symbols items) result self.new }
         ensures capacity { self.old.capacity ≤ self.new.capacity }
     {
         self.append_items(Symbols::new(chars))
@@ -93,7 +92,7 @@ impl<B: OctetsBuilder + OctetsMut> LabelsBuilder<B> {
         requires can { I.can_next symbols }
         requires ends { IsFinite (I.remaining symbols) }
         ensures takes { (ss : List Symbol) → AlwaysYields I.next_gives (λ x. x) symbols ss →
-            TakesSymbols (room B.limit self.new) self.old.built (symbols_in_name ss) result self.new.built }
+            AddsSymbols B.limit self.old (symbols_in_name ss) result self.new }
         ensures capacity { self.old.capacity ≤ self.new.capacity }
     {
         self.append_items(WholeSymbols::new(symbols))
@@ -101,8 +100,8 @@ impl<B: OctetsBuilder + OctetsMut> LabelsBuilder<B> {
 
     /// Pushes the symbols of a text in turn, as `append_chars` does those of its characters.
     pub fn append_str(&mut self, text: &str) -> Result<(), FromStrError>
-        ensures takes { (items : List (Result Symbol SymbolCharsError)) → ReadsSymbols (chars text.now) items →
-            TakesSymbols (room B.limit self.new) self.old.built (name_symbols items) result self.new.built }
+        ensures takes { (items : Items) → ReadsSymbols (chars text.now) items →
+            AddsSymbols B.limit self.old (name_symbols items) result self.new }
         ensures capacity { self.old.capacity ≤ self.new.capacity }
     {
         self.append_chars(text.chars())

@@ -1,10 +1,11 @@
 //! Labels put together in the octets of a builder. A builder of names is made of one.
-ghost use Rattle.std.specs.Prelude.{◌≡◌, ◌++◌, ℕ, List, [], ◌∷◌, ◌≤◌, ◌<◌, ◌^◌, ◌+◌, ◌%◌, nat_lt, length, take, true, Some, None, IfOk, OnOk, OnErr, IfErr, IfSome, IsSome, IsOk};
+ghost use Rattle.std.specs.Prelude.{◌≡◌, ◌++◌, ℕ, List, [], ◌∷◌, ◌≤◌, ◌<◌, ◌^◌, ◌+◌, ◌%◌, nat_lt, length, true, Some, None, IfOk, OnOk, OnErr, IfSome, IsSome, IsOk};
 ghost use Rattle.std.specs.Fmt.{decimal, digit_glyph};
 ghost use Rattle.domain_label.specs.Wire.{wire, IsAbsoluteWire, IsRelativeName, IsRelativeWire, labels_in};
 ghost use Rattle.domain_text.specs.BuilderState.{empty_state, finished, closed, pushed, ended, labelled, named, encoded, size};
 ghost use Rattle.domain_builder.specs.Inside.{closed_at, room};
-ghost use Rattle.domain_builder.specs.Pushing.{NameThenLabel, LabelThenName, NameAlone, NameFits, OriginFits};
+ghost use Rattle.domain_builder.specs.Pushing.{LabelThenName, OpenLabelThenName, NameThenOpenLabel, NameAlone, RoomAlone, NameFits, OriginFits};
+ghost use Rattle.domain_builder.specs.Reverse.{hex_label};
 
 use crate::push_error::{PushError, PushNameError};
 use arrayvec::ArrayVec;
@@ -27,7 +28,10 @@ impl<B: OctetsBuilder + OctetsMut> Model for LabelsBuilder<B> {
 
     ghost Value = { Held };
 
-    ghost view = { λ s. record { built = view_of (B.octets s.builder) s.head; capacity = B.capacity s.builder } };
+    ghost view = { λ s. record {
+      built = view_of (B.octets s.builder) s.head;
+      capacity = B.capacity s.builder;
+    } };
 
     ghost invariant = { λ s. IsInside (B.octets s.builder) s.head };
 }
@@ -145,7 +149,8 @@ impl<B: OctetsBuilder + OctetsMut> LabelsBuilder<B> {
         requires name { size (pushed self.old.built slice.now) ≤ 254 }
         ensures made { OnOk result (self.new.built ≡ pushed self.old.built slice.now) }
         ensures unchanged { OnErr result (self.new.built ≡ self.old.built) }
-        ensures err { IfErr result (λ e. (e ≡ PushError.ShortBuf) × (room B.limit self.new < size (pushed self.old.built slice.now))) }
+        ensures err { RoomAlone (size (pushed self.old.built slice.now))
+            (room B.limit self.new) result }
         ensures capacity { self.old.capacity ≤ self.new.capacity }
     {
         if self.head.is_some() {
@@ -168,7 +173,8 @@ impl<B: OctetsBuilder + OctetsMut> LabelsBuilder<B> {
     pub fn push(&mut self, ch: u8) -> Result<(), PushError>
         ensures made { OnOk result (self.new.built ≡ pushed self.old.built (ch ∷ [])) }
         ensures unchanged { OnErr result (self.new.built ≡ self.old.built) }
-        ensures answer { NameThenLabel (length (pushed self.old.built (ch ∷ [])).open_label) (size (pushed self.old.built (ch ∷ []))) (room B.limit self.new) result }
+        ensures answer { NameThenOpenLabel (pushed self.old.built (ch ∷ []))
+            (room B.limit self.new) result }
         ensures capacity { self.old.capacity ≤ self.new.capacity }
     {
         if self.len_with(1) > 254 {
@@ -186,7 +192,8 @@ impl<B: OctetsBuilder + OctetsMut> LabelsBuilder<B> {
     pub fn append_slice(&mut self, slice: &[u8]) -> Result<(), PushError>
         ensures made { OnOk result (self.new.built ≡ pushed self.old.built slice.now) }
         ensures unchanged { OnErr result (self.new.built ≡ self.old.built) }
-        ensures answer { LabelThenName (length (pushed self.old.built slice.now).open_label) (size (pushed self.old.built slice.now)) (room B.limit self.new) result }
+        ensures answer { OpenLabelThenName (pushed self.old.built slice.now)
+            (room B.limit self.new) result }
         ensures nothing { slice.now ≡ [] → IsOk result }
         ensures capacity { self.old.capacity ≤ self.new.capacity }
     {
@@ -221,7 +228,8 @@ impl<B: OctetsBuilder + OctetsMut> LabelsBuilder<B> {
     pub fn append_label(&mut self, slice: &[u8]) -> Result<(), PushError>
         ensures made { OnOk result (self.new.built ≡ labelled self.old.built slice.now) }
         ensures unchanged { OnErr result (self.new.built ≡ self.old.built) }
-        ensures answer { LabelThenName (length slice.now) (size (labelled self.old.built slice.now)) (room B.limit self.new) result }
+        ensures answer { LabelThenName (length slice.now) (size (labelled self.old.built slice.now))
+            (room B.limit self.new) result }
         ensures nothing { slice.now ≡ [] → IsOk result }
         ensures capacity { self.old.capacity ≤ self.new.capacity }
     {
@@ -248,7 +256,8 @@ impl<B: OctetsBuilder + OctetsMut> LabelsBuilder<B> {
         requires name { size (labelled self.old.built slice.now) ≤ 254 }
         ensures made { OnOk result (self.new.built ≡ labelled self.old.built slice.now) }
         ensures unchanged { OnErr result (self.new.built ≡ self.old.built) }
-        ensures err { IfErr result (λ e. (e ≡ PushError.ShortBuf) × (room B.limit self.new < size (labelled self.old.built slice.now))) }
+        ensures err { RoomAlone (size (labelled self.old.built slice.now))
+            (room B.limit self.new) result }
         ensures capacity { self.old.capacity ≤ self.new.capacity }
     {
         let end = self.builder.as_slice().len();
@@ -265,7 +274,8 @@ impl<B: OctetsBuilder + OctetsMut> LabelsBuilder<B> {
     pub fn append_dec_u8_label(&mut self, value: u8) -> Result<(), PushError>
         ensures made { OnOk result (self.new.built ≡ labelled self.old.built (decimal value)) }
         ensures unchanged { OnErr result (self.new.built ≡ self.old.built) }
-        ensures answer { NameAlone (size (labelled self.old.built (decimal value))) (room B.limit self.new) result }
+        ensures answer { NameAlone (size (labelled self.old.built (decimal value)))
+            (room B.limit self.new) result }
         ensures capacity { self.old.capacity ≤ self.new.capacity }
     {
         let (high, middle, low) = (
@@ -284,9 +294,10 @@ impl<B: OctetsBuilder + OctetsMut> LabelsBuilder<B> {
 
     /// Finishes the open label and adds a label of one upper case digit, that of the lowest four bits.
     pub fn append_hex_digit_label(&mut self, nibble: u8) -> Result<(), PushError>
-        ensures made { OnOk result (self.new.built ≡ labelled self.old.built (digit_glyph true (nibble % 16) ∷ [])) }
+        ensures made { OnOk result (self.new.built ≡ labelled self.old.built (hex_label nibble)) }
         ensures unchanged { OnErr result (self.new.built ≡ self.old.built) }
-        ensures answer { NameAlone (size (labelled self.old.built (digit_glyph true (nibble % 16) ∷ []))) (room B.limit self.new) result }
+        ensures answer { NameAlone (size (labelled self.old.built (hex_label nibble)))
+            (room B.limit self.new) result }
         ensures capacity { self.old.capacity ≤ self.new.capacity }
     {
         self.append_label(&[hex_character(nibble)])
@@ -301,7 +312,8 @@ impl<B: OctetsBuilder + OctetsMut> LabelsBuilder<B> {
     ) -> Result<(), PushNameError>
         ensures made { OnOk result (self.new.built ≡ named self.old.built (N.labels name.now)) }
         ensures unchanged { OnErr result (self.new.built ≡ self.old.built) }
-        ensures answer { NameFits (size (named self.old.built (N.labels name.now))) (room B.limit self.new) result }
+        ensures answer { NameFits (size (named self.old.built (N.labels name.now)))
+            (room B.limit self.new) result }
         ensures capacity { self.old.capacity ≤ self.new.capacity }
     {
         if let Some(flat) = name.as_flat_slice() {
@@ -318,7 +330,8 @@ impl<B: OctetsBuilder + OctetsMut> LabelsBuilder<B> {
         requires labels { IsRelativeWire slice.now }
         ensures made { OnOk result (self.new.built ≡ named self.old.built (labels_in slice.now)) }
         ensures unchanged { OnErr result (self.new.built ≡ self.old.built) }
-        ensures answer { NameFits (size (named self.old.built (labels_in slice.now))) (room B.limit self.new) result }
+        ensures answer { NameFits (size (named self.old.built (labels_in slice.now)))
+            (room B.limit self.new) result }
         ensures capacity { self.old.capacity ≤ self.new.capacity }
     {
         if self.len() + slice.len() > 254 {
@@ -333,7 +346,8 @@ impl<B: OctetsBuilder + OctetsMut> LabelsBuilder<B> {
         requires short { size self.old.built + length slice.now ≤ 254 }
         ensures made { OnOk result (self.new.built ≡ named self.old.built (labels_in slice.now)) }
         ensures unchanged { OnErr result (self.new.built ≡ self.old.built) }
-        ensures full { OnErr result (room B.limit self.new < size self.old.built + length slice.now) }
+        ensures full { OnErr result
+            (room B.limit self.new < size self.old.built + length slice.now) }
         ensures capacity { self.old.capacity ≤ self.new.capacity }
     {
         let len = self.builder.as_slice().len();
@@ -382,8 +396,11 @@ where
     pub fn finish_with(self, origin: &[u8]) -> Result<B::Octets, ShortBuf>
         requires origin { IsAbsoluteWire origin.now }
         requires short { size self.built + length origin.now ≤ 255 }
-        ensures wire { IfOk result (λ octets. IsAbsoluteWire (⟦<B::Octets as Octets>⟧.octets octets)) }
-        ensures labels { IfOk result (λ octets. labels_in (⟦<B::Octets as Octets>⟧.octets octets) ≡ closed self.built ++ labels_in origin.now) }
+        ensures wire { IfOk result (λ octets.
+            IsAbsoluteWire (⟦<B::Octets as Octets>⟧.octets octets)) }
+        ensures labels { IfOk result (λ octets.
+            labels_in (⟦<B::Octets as Octets>⟧.octets octets)
+            ≡ closed self.built ++ labels_in origin.now) }
         ensures full { OnErr result (room B.limit self < size self.built + length origin.now) }
     {
         let mut builder = self.into_builder();
@@ -397,9 +414,13 @@ where
         self,
         origin: &'a N,
     ) -> Result<B::Octets, PushNameError>
-        ensures wire { IfOk result (λ octets. IsAbsoluteWire (⟦<B::Octets as Octets>⟧.octets octets)) }
-        ensures labels { IfOk result (λ octets. labels_in (⟦<B::Octets as Octets>⟧.octets octets) ≡ closed self.built ++ N.labels origin.now) }
-        ensures answer { OriginFits (size self.built + length (wire (N.labels origin.now))) (room B.limit self) result }
+        ensures wire { IfOk result (λ octets.
+            IsAbsoluteWire (⟦<B::Octets as Octets>⟧.octets octets)) }
+        ensures labels { IfOk result (λ octets.
+            labels_in (⟦<B::Octets as Octets>⟧.octets octets)
+            ≡ closed self.built ++ N.labels origin.now) }
+        ensures answer { OriginFits (size self.built + length (wire (N.labels origin.now)))
+            (room B.limit self) result }
     {
         if let Some(flat) = origin.as_flat_slice() {
             return self.append_origin_wire(flat);
@@ -414,9 +435,13 @@ where
     #[inline(always)]
     fn append_origin_wire(self, origin: &[u8]) -> Result<B::Octets, PushNameError>
         requires origin { IsAbsoluteWire origin.now }
-        ensures wire { IfOk result (λ octets. IsAbsoluteWire (⟦<B::Octets as Octets>⟧.octets octets)) }
-        ensures labels { IfOk result (λ octets. labels_in (⟦<B::Octets as Octets>⟧.octets octets) ≡ closed self.built ++ labels_in origin.now) }
-        ensures answer { OriginFits (size self.built + length origin.now) (room B.limit self) result }
+        ensures wire { IfOk result (λ octets.
+            IsAbsoluteWire (⟦<B::Octets as Octets>⟧.octets octets)) }
+        ensures labels { IfOk result (λ octets.
+            labels_in (⟦<B::Octets as Octets>⟧.octets octets)
+            ≡ closed self.built ++ labels_in origin.now) }
+        ensures answer { OriginFits (size self.built + length origin.now)
+            (room B.limit self) result }
     {
         if self.len() + origin.len() > 255 {
             return Err(PushNameError::LongName);
@@ -484,7 +509,8 @@ fn append_headed<B: OctetsBuilder + OctetsMut>(
     requires { length slice.now ≤ 63 }
     ensures ok { OnOk result (B.octets builder.new ≡ B.octets builder.old ++ head ∷ slice.now) }
     ensures unchanged { OnErr result (B.octets builder.new ≡ B.octets builder.old) }
-    ensures full { OnErr result (B.capacity builder.new < length (B.octets builder.old) + length (head ∷ slice.now)) }
+    ensures full { OnErr result
+        (B.capacity builder.new < length (B.octets builder.old) + length (head ∷ slice.now)) }
     ensures capacity { B.capacity builder.old ≤ B.capacity builder.new }
 {
     if let [octet] = slice {
@@ -519,9 +545,11 @@ pub fn append_absolute<B: OctetsBuilder>(builder: &mut B, origin: &[u8]) -> Resu
     requires origin { IsAbsoluteWire origin.now }
     requires short { length (B.octets builder.old) + length origin.now ≤ 255 }
     ensures wire { OnOk result (IsAbsoluteWire (B.octets builder.new)) }
-    ensures labels { OnOk result (labels_in (B.octets builder.new) ≡ labels_in (B.octets builder.old) ++ labels_in origin.now) }
+    ensures labels { OnOk result (labels_in (B.octets builder.new)
+        ≡ labels_in (B.octets builder.old) ++ labels_in origin.now) }
     ensures unchanged { OnErr result (B.octets builder.new ≡ B.octets builder.old) }
-    ensures full { OnErr result (B.capacity builder.old < length (B.octets builder.old) + length origin.now) }
+    ensures full { OnErr result
+        (B.capacity builder.old < length (B.octets builder.old) + length origin.now) }
 {
     match builder.append_slice(origin) {
         Ok(()) => {}

@@ -1,5 +1,5 @@
 //! The names under which addresses are looked up.
-ghost use Rattle.std.specs.Prelude.{◌≡◌, ◌++◌, ◌∷◌, ◌+◌, ◌≤◌, ◌<◌, ℕ, List, length, map, reverse, codes, IfOk, OnErr};
+ghost use Rattle.std.specs.Prelude.{◌≡◌, ◌++◌, ◌∷◌, ◌≤◌, ◌<◌, length, map, reverse, codes, IfOk, OnErr};
 ghost use Rattle.std.specs.Fmt.{decimal};
 ghost use Rattle.std.specs.List.{flat_map};
 ghost use Rattle.octseq.specs.Capacity.{MayExceedCapacity};
@@ -22,7 +22,8 @@ where
     Octs::Builder: EmptyBuilder + Drop,
     ensures wire { IfOk result (λ octets. IsAbsoluteWire (Octs.octets octets)) }
     ensures labels { IfOk result (λ octets. labels_in (Octs.octets octets) ≡ reverse_name addr) }
-    ensures err { OnErr result (MayExceedCapacity Octs.Builder.ROOM (length (wire (reverse_name addr)))) }
+    ensures err { OnErr result
+        (MayExceedCapacity Octs.Builder.ROOM (length (wire (reverse_name addr)))) }
 {
     let octets = match addr {
         IpAddr::V4(addr) => under(decimal_labels(&addr.octets()), b"in-addr"),
@@ -37,7 +38,8 @@ fn under(mut labels: LabelsBuilder<ArrayVec<u8, 255>>, zone: &[u8]) -> ArrayVec<
     requires short { length zone.now ≤ 63 }
     requires some { 0 < length zone.now }
     ensures wire { IsAbsoluteWire result.items }
-    ensures labels { labels_in result.items ≡ closed labels.built ++ zone.now ∷ codes "arpa" ∷ Root }
+    ensures labels { labels_in result.items
+        ≡ closed labels.built ++ zone.now ∷ codes "arpa" ∷ Root }
 {
     let Ok(()) = labels.append_label(zone) else {
         unreachable!();
