@@ -1,13 +1,12 @@
 -- Calls of a builder, one after another.
-use Rattle.std.specs.Prelude.{◌≡◌, ◌≢◌, ℕ, ◌+◌, ◌<◌, ◌≤◌, ◌⊎◌, Bool, true, false, Option, Some, None, ◌%◌, List, [], ◌∷◌, length, Result}
-use Rattle.std.specs.Fmt.{decimal, digit_glyph}
+use Rattle.std.specs.Prelude.{◌≡◌, ◌≢◌, ℕ, ◌+◌, ◌<◌, ◌≤◌, ◌⊎◌, Bool, true, false, Option, Some, None, List, [], ◌∷◌, length}
+use Rattle.std.specs.Fmt.{decimal}
 use Rattle.std.specs.Str.{chars}
 use Rattle.domain_label.specs.Spelling.{JustOne, ReadsSymbols}
-use Rattle.domain_label.specs.declared.symbol.Symbol.{Symbol}
-use Rattle.domain_label.specs.declared.symbol.SymbolCharsError.{SymbolCharsError}
 use Rattle.domain_builder.specs.BuilderState.{BuilderState, size, pushed, ended, labelled, named, symbol_fault, after, Makes, StopsAt, LacksRoom}
 use Rattle.domain_builder.specs.Inside.{Held, room}
-use Rattle.domain_builder.specs.NameSymbols.{name_symbols, symbol_in_name}
+use Rattle.domain_builder.specs.Reverse.{hex_label}
+use Rattle.domain_builder.specs.NameSymbols.{Items, name_symbols, symbol_in_name}
 use Rattle.domain_builder.specs.declared.name_symbol.NameSymbol.TheVariants.{Dot}
 use Rattle.domain_name.specs.declared.calls.BuilderCall.{BuilderCall}
 use Rattle.domain_name.specs.declared.calls.BuilderCall.TheVariants.{Push, PushSymbol, AppendSlice, EndLabel, AppendLabel, AppendDecU8Label, AppendHexDigitLabel, AppendName, AppendChars}
@@ -30,9 +29,9 @@ Accepted b (AppendSlice s) new = (new ≡ pushed b s.now) × Fits (length new.op
 Accepted b EndLabel new = new ≡ ended b
 Accepted b (AppendLabel s) new = (new ≡ labelled b s.now) × Fits (length s.now) (size new)
 Accepted b (AppendDecU8Label n) new = (new ≡ labelled b (decimal n)) × (size new ≤ 254)
-Accepted b (AppendHexDigitLabel n) new = (new ≡ labelled b (digit_glyph true (n % 16) ∷ [])) × (size new ≤ 254)
+Accepted b (AppendHexDigitLabel n) new = (new ≡ labelled b (hex_label n)) × (size new ≤ 254)
 Accepted b (AppendName n) new = (new ≡ named b (relative_labels n)) × (size new ≤ 254)
-Accepted b (AppendChars s) new = (items : List (Result Symbol SymbolCharsError)) → ReadsSymbols (chars s.now) items → Makes b (name_symbols items) new
+Accepted b (AppendChars s) new = (items : Items) → ReadsSymbols (chars s.now) items → Makes b (name_symbols items) new
 
 -- All of them are too many octets, or exceed the capacity.
 abbrev pub IsTooMuch : ℕ → ℕ → Type 0
@@ -46,9 +45,9 @@ PassedOver room b (AppendSlice s) new = (new ≡ b) × ExceedsLimits room (lengt
 PassedOver room b EndLabel new = ⊥
 PassedOver room b (AppendLabel s) new = (new ≡ b) × ExceedsLimits room (length s.now) (size (labelled b s.now))
 PassedOver room b (AppendDecU8Label n) new = (new ≡ b) × IsTooMuch room (size (labelled b (decimal n)))
-PassedOver room b (AppendHexDigitLabel n) new = (new ≡ b) × IsTooMuch room (size (labelled b (digit_glyph true (n % 16) ∷ [])))
+PassedOver room b (AppendHexDigitLabel n) new = (new ≡ b) × IsTooMuch room (size (labelled b (hex_label n)))
 PassedOver room b (AppendName n) new = (new ≡ b) × IsTooMuch room (size (named b (relative_labels n)))
-PassedOver room b (AppendChars s) new = (items : List (Result Symbol SymbolCharsError)) → ReadsSymbols (chars s.now) items → ((f : TextFault) × StopsAt b (name_symbols items) new f) ⊎ LacksRoom room b (name_symbols items) new
+PassedOver room b (AppendChars s) new = (items : Items) → ReadsSymbols (chars s.now) items → ((f : TextFault) × StopsAt b (name_symbols items) new f) ⊎ LacksRoom room b (name_symbols items) new
 
 -- A call succeeds. No capacity is lost.
 abbrev pub TakesCall : Held → BuilderCall → Held → Type 0

@@ -1,6 +1,6 @@
 //! Absolute names.
-ghost use Rattle.std.specs.Prelude.{◌≡◌, ◌≤◌, ◌∷◌, [], ◌++◌, ◌↔◌, ℕ, List, Some, length, IsTrue, IsOk, IfOk, IfErr, IfSome, IsNone, OnOk, OnErr};
-ghost use Rattle.octseq.specs.Parsing.{message, position, left, MovesOver};
+ghost use Rattle.std.specs.Prelude.{◌≡◌, ◌≤◌, ◌∷◌, [], ◌++◌, ◌↔◌, ℕ, List, Some, length, IsTrue, IsOk, IfOk, IfErr, IfSome, IsNone, OnErr};
+ghost use Rattle.octseq.specs.Parsing.{position, left, MovesOver};
 ghost use Rattle.domain_wire.specs.Refusals.{refusal};
 ghost use Rattle.domain_label.specs.Wire.{wire, Root, IsAbsoluteName, IsAbsoluteWire};
 ghost use Rattle.domain_list.specs.FinalDot.{dotted_name};
@@ -8,7 +8,7 @@ ghost use Rattle.domain_label.specs.Lowercase.{lowercase_labels};
 ghost use Rattle.domain_label.specs.Labels.{label_octets};
 ghost use Rattle.domain_label.proofs.WireLaws.{IsAbsoluteWire_prop};
 ghost use Rattle.domain_flat.specs.Faults.{AbsoluteFault, StartFault};
-ghost use Rattle.domain_flat.specs.Flat.{NameAt, SplitsAt, IsLabelStart, IsPartOf, suffix_lists};
+ghost use Rattle.domain_flat.specs.Flat.{SplitsAt, IsLabelStart, IsPartOf, suffix_lists};
 ghost use Rattle.domain_flat.specs.FlatLabels.{name_error_kind, flat_labels_left};
 ghost use Rattle.domain_list.specs.Ends.{StartsWith, EndsWith};
 
@@ -65,7 +65,8 @@ impl<Octs: Octets + Drop> Name<Octs> {
     pub fn from_octets(octets: Octs) -> Result<Name<Octs>, NameError>
         ensures ok { IfOk result (λ name. name_octets name ≡ Octs.octets octets) }
         ensures holder { IfOk result (λ name. name_holder name ≡ octets) }
-        ensures list { (ls : List (List ℕ)) → IsAbsoluteName ls → Octs.octets octets ≡ wire ls → IfOk result (λ name. name_labels name ≡ ls) }
+        ensures list { (ls : List (List ℕ)) → IsAbsoluteName ls → Octs.octets octets ≡ wire ls →
+            IfOk result (λ name. name_labels name ≡ ls) }
         ensures accepts { IsOk result ↔ IsAbsoluteWire (Octs.octets octets) }
         ensures err { IfErr result (λ e. AbsoluteFault (Octs.octets octets) (name_error_kind e)) }
     {
@@ -75,7 +76,7 @@ impl<Octs: Octets + Drop> Name<Octs> {
 }
 
 impl<'a> Name<&'a [u8]> {
-    ghost use Rattle.domain_name.specs.Names.{name_octets, name_labels};
+    ghost use Rattle.domain_name.specs.Names.{name_octets, name_labels, NameAhead};
 
     /// The name whose wire format the octets are, with the errors of `from_octets`.
     ///
@@ -91,7 +92,8 @@ impl<'a> Name<&'a [u8]> {
     /// ```
     pub fn from_slice(octets: &'a [u8]) -> Result<Name<&'a [u8]>, NameError>
         ensures ok { IfOk result (λ name. name_octets name ≡ octets.now) }
-        ensures list { (ls : List (List ℕ)) → IsAbsoluteName ls → octets.now ≡ wire ls → IfOk result (λ name. name_labels name ≡ ls) }
+        ensures list { (ls : List (List ℕ)) → IsAbsoluteName ls → octets.now ≡ wire ls →
+            IfOk result (λ name. name_labels name ≡ ls) }
         ensures accepts { IsOk result ↔ IsAbsoluteWire octets.now }
         ensures err { IfErr result (λ e. AbsoluteFault octets.now (name_error_kind e)) }
     {
@@ -104,10 +106,13 @@ impl<'a> Name<&'a [u8]> {
     /// pointer, "invalid label type" at another octet that begins no label. After the root, "long domain name" where
     /// the name has more than 255 octets. On an error the parser is unchanged.
     pub fn parse(parser: &mut Parser<'a>) -> Result<Name<&'a [u8]>, ParseError>
-        ensures ok { IfOk result (λ name. NameAt (message parser.old) (position parser.old) (name_labels name) (position parser.new)) }
-        ensures moves { IfOk result (λ name. MovesOver parser.old parser.new (length (name_octets name))) }
-        ensures list { (ls : List (List ℕ)) (e : ℕ) → NameAt (message parser.old) (position parser.old) ls e → IfOk result (λ name. name_labels name ≡ ls) }
-        ensures accepts { (ls : List (List ℕ)) (e : ℕ) → NameAt (message parser.old) (position parser.old) ls e → IsOk result }
+        ensures ok { IfOk result
+            (λ name. NameAhead parser.old (name_labels name) (position parser.new)) }
+        ensures moves { IfOk result
+            (λ name. MovesOver parser.old parser.new (length (name_octets name))) }
+        ensures list { (ls : List (List ℕ)) (e : ℕ) → NameAhead parser.old ls e →
+            IfOk result (λ name. name_labels name ≡ ls) }
+        ensures accepts { (ls : List (List ℕ)) (e : ℕ) → NameAhead parser.old ls e → IsOk result }
         ensures err { IfErr result (λ e. StartFault (left parser.old) (refusal e)) }
         ensures unchanged { OnErr result (parser.new ≡ parser.old) }
     {
@@ -118,7 +123,8 @@ impl<'a> Name<&'a [u8]> {
 
     /// The first label, and the name of the labels after it. `None` for the root.
     pub(crate) fn split_slice(self) -> Option<(Label<'a>, Name<&'a [u8]>)>
-        ensures some { IfSome result (λ parts. name_labels self.entry ≡ label_octets parts.0 ∷ name_labels parts.1) }
+        ensures some { IfSome result
+            (λ parts. name_labels self.entry ≡ label_octets parts.0 ∷ name_labels parts.1) }
         ensures none { IsNone result ↔ (name_labels self.entry ≡ Root) }
     {
         if self.is_root() {
@@ -160,7 +166,7 @@ impl Name<&'static [u8]> {
 }
 
 impl<Octs: Octets> Name<Octs> {
-    ghost use Rattle.domain_name.specs.Names.{name_octets, name_labels, name_holder, relative_labels};
+    ghost use Rattle.domain_name.specs.Names.{name_octets, name_labels, name_holder, relative_labels, IsFirstLabel, IsLastLabel, IsParent};
     ghost use Rattle.domain_name.specs.Suffixes.{suffix_lists_left};
 
     /// The name whose wire format the octets are known to be. They aren't tested again.
@@ -265,14 +271,14 @@ impl<Octs: Octets> Name<Octs> {
 
     /// The first label: for the root the root label.
     pub fn first(&self) -> Label<'_>
-        ensures { (rest : List (List ℕ)) × (name_labels self.now ≡ label_octets result ∷ rest) }
+        ensures { IsFirstLabel (name_labels self.now) (label_octets result) }
     {
         self.iter().next().unwrap()
     }
 
     /// The last label, which is the root label for each absolute name.
     pub fn last(&self) -> Label<'static>
-        ensures last { (front : List (List ℕ)) × (name_labels self.now ≡ front ++ label_octets result ∷ []) }
+        ensures last { IsLastLabel (name_labels self.now) (label_octets result) }
         ensures root { label_octets result ≡ [] }
     {
         Label::root()
@@ -334,7 +340,8 @@ impl<Octs: Octets> Name<Octs> {
     /// The labels from an offset of the wire format on, where `is_label_start` is true there.
     pub fn slice_from(&self, begin: usize) -> Name<&[u8]>
         requires { IsLabelStart (name_labels self.now) begin }
-        ensures { (before : List (List ℕ)) × SplitsAt (name_labels self.now) begin before (name_labels result) }
+        ensures { (before : List (List ℕ))
+            × SplitsAt (name_labels self.now) begin before (name_labels result) }
     {
         let (_, after) = self.split(begin);
         after
@@ -343,14 +350,16 @@ impl<Octs: Octets> Name<Octs> {
     /// The same as `slice_from`.
     pub fn range_from(&self, begin: usize) -> Name<&[u8]>
         requires { IsLabelStart (name_labels self.now) begin }
-        ensures { (before : List (List ℕ)) × SplitsAt (name_labels self.now) begin before (name_labels result) }
+        ensures { (before : List (List ℕ))
+            × SplitsAt (name_labels self.now) begin before (name_labels result) }
     {
         self.slice_from(begin)
     }
 
     /// The first label, and the name of the labels after it. `None` for the root.
     pub fn split_first(&self) -> Option<(Label<'_>, Name<&[u8]>)>
-        ensures some { IfSome result (λ parts. name_labels self.now ≡ label_octets parts.0 ∷ name_labels parts.1) }
+        ensures some { IfSome result
+            (λ parts. name_labels self.now ≡ label_octets parts.0 ∷ name_labels parts.1) }
         ensures none { IsNone result ↔ (name_labels self.now ≡ Root) }
     {
         self.for_slice().split_slice()
@@ -358,7 +367,7 @@ impl<Octs: Octets> Name<Octs> {
 
     /// The name of the labels after the first. `None` for the root.
     pub fn parent(&self) -> Option<Name<&[u8]>>
-        ensures some { IfSome result (λ rest. (first : List ℕ) × (name_labels self.now ≡ first ∷ name_labels rest)) }
+        ensures some { IfSome result (λ rest. IsParent (name_labels self.now) (name_labels rest)) }
         ensures none { IsNone result ↔ (name_labels self.now ≡ Root) }
     {
         let (_, rest) = self.split_first()?;
@@ -387,7 +396,8 @@ impl<Octs: Truncate> Name<Octs> {
     /// The labels before an offset of the wire format, where `is_label_start` is true there.
     pub fn truncate(self, len: usize) -> RelativeName<Octs>
         requires { IsLabelStart (name_labels self) len }
-        ensures parts { (after : List (List ℕ)) × (name_labels self ≡ relative_labels result ++ after) }
+        ensures parts { (after : List (List ℕ))
+            × (name_labels self ≡ relative_labels result ++ after) }
         ensures place { length (wire (relative_labels result)) ≡ len }
     {
         let mut octets = self.into_octets();
@@ -402,7 +412,8 @@ impl<Octs: Truncate> Name<Octs> {
         base: &'a N,
     ) -> Result<RelativeName<Octs>, Name<Octs>>
         ensures exact { IsOk result ↔ EndsWith (name_labels self) (N.labels base.now) }
-        ensures ok { IfOk result (λ rest. IsStripped (name_labels self) (N.labels base.now) (relative_labels rest)) }
+        ensures ok { IfOk result
+            (λ rest. IsStripped (name_labels self) (N.labels base.now) (relative_labels rest)) }
         ensures err { IfErr result (λ name. name ≡ self) }
     {
         match suffix_place(self.octets.as_slice(), base) {

@@ -1,19 +1,13 @@
 //! Building names label by label, or symbol by symbol.
-ghost use Rattle.std.specs.Prelude.{◌≡◌, ◌++◌, ◌↔◌, ℕ, List, [], ◌∷◌, ◌≤◌, ◌<◌, ◌+◌, ◌%◌, nat_lt, length, true, IsTrue, IsOk, IfOk, IfErr, OnOk, OnErr, IfSome, IsSome, None, Result};
-ghost use Rattle.std.specs.Fmt.{decimal, digit_glyph};
-ghost use Rattle.std.specs.Iterator.{AlwaysYields, IsFinite};
-ghost use Rattle.std.specs.Str.{chars};
+ghost use Rattle.std.specs.Prelude.{◌≡◌, ◌++◌, ◌↔◌, ℕ, List, [], ◌∷◌, ◌≤◌, ◌+◌, nat_lt, length, IsTrue, IsOk, IfOk, IfErr, OnOk, OnErr, IfSome, IsSome, None};
+ghost use Rattle.std.specs.Fmt.{decimal};
 ghost use Rattle.domain_label.specs.Wire.{wire, Root, IsRelativeWire, labels_in};
-ghost use Rattle.domain_label.specs.Spelling.{ReadsSymbols};
-ghost use Rattle.domain_label.specs.declared.symbol.Symbol.{Symbol};
-ghost use Rattle.domain_label.specs.declared.symbol.SymbolCharsError.{SymbolCharsError};
 ghost use Rattle.domain_flat.specs.Faults.{RelativeFault};
 ghost use Rattle.domain_flat.specs.FlatLabels.{relative_name_error_kind};
 ghost use Rattle.domain_builder.specs.BuilderState.{empty_state, finished, closed, pushed, ended, labelled, named, encoded, size};
 ghost use Rattle.domain_builder.specs.Inside.{room};
-ghost use Rattle.domain_builder.specs.NameSymbols.{name_symbols, symbol_in_name, symbols_in_name};
-ghost use Rattle.domain_builder.specs.Pushing.{NameThenLabel, LabelThenName, NameAlone, NameFits, OriginFits, TakesSymbol, TakesSymbols};
-ghost use Rattle.domain_builder.specs.declared.push_error.PushError.TheVariants as push;
+ghost use Rattle.domain_builder.specs.Pushing.{LabelThenName, OpenLabelThenName, NameThenOpenLabel, NameAlone, RoomAlone, NameFits, OriginFits};
+ghost use Rattle.domain_builder.specs.Reverse.{hex_label};
 ghost use Rattle.domain_name.specs.Builders.{built, held};
 ghost use Rattle.domain_name.specs.Names.{name_labels, relative_labels};
 
@@ -59,7 +53,8 @@ impl<B: EmptyBuilder + OctetsMut> NameBuilder<B> {
         ensures room { IfSome B.ROOM (λ n. IfOk result (λ builder. (held builder).capacity ≡ n)) }
         ensures ok { IsSome B.ROOM → IsOk result }
         ensures none { capacity ≡ 0 → IsOk result }
-        ensures capacity { B.ROOM ≡ None → IfOk result (λ builder. capacity ≤ (held builder).capacity) }
+        ensures capacity { B.ROOM ≡ None →
+            IfOk result (λ builder. capacity ≤ (held builder).capacity) }
     {
         Ok(NameBuilder {
             labels: LabelsBuilder::with_capacity(alloc, capacity)?,
@@ -140,7 +135,8 @@ impl<B: OctetsBuilder + OctetsMut + Drop> NameBuilder<B> {
         ensures ok { IfOk result (λ made. built made ≡ finished (labels_in (B.octets builder))) }
         ensures capacity { IfOk result (λ made. (held made).capacity ≡ B.capacity builder) }
         ensures accepts { IsOk result ↔ IsRelativeWire (B.octets builder) }
-        ensures err { IfErr result (λ e. RelativeFault (B.octets builder) (relative_name_error_kind e)) }
+        ensures err { IfErr result
+            (λ e. RelativeFault (B.octets builder) (relative_name_error_kind e)) }
     {
         check_relative(builder.as_slice())?;
         Ok(NameBuilder {
@@ -205,7 +201,8 @@ impl<B: OctetsBuilder + OctetsMut> NameBuilder<B> {
     pub fn push(&mut self, ch: u8) -> Result<(), PushError>
         ensures made { OnOk result (built self.new ≡ pushed (built self.old) (ch ∷ [])) }
         ensures unchanged { OnErr result (built self.new ≡ built self.old) }
-        ensures answer { NameThenLabel (length (pushed (built self.old) (ch ∷ [])).open_label) (size (pushed (built self.old) (ch ∷ []))) (room B.limit (held self.new)) result }
+        ensures answer { NameThenOpenLabel (pushed (built self.old) (ch ∷ []))
+            (room B.limit (held self.new)) result }
         ensures grows { (held self.old).capacity ≤ (held self.new).capacity }
     {
         self.labels.push(ch)
@@ -219,7 +216,8 @@ impl<B: OctetsBuilder + OctetsMut> NameBuilder<B> {
     pub fn append_slice(&mut self, slice: &[u8]) -> Result<(), PushError>
         ensures made { OnOk result (built self.new ≡ pushed (built self.old) slice.now) }
         ensures unchanged { OnErr result (built self.new ≡ built self.old) }
-        ensures answer { LabelThenName (length (pushed (built self.old) slice.now).open_label) (size (pushed (built self.old) slice.now)) (room B.limit (held self.new)) result }
+        ensures answer { OpenLabelThenName (pushed (built self.old) slice.now)
+            (room B.limit (held self.new)) result }
         ensures grows { (held self.old).capacity ≤ (held self.new).capacity }
         ensures nothing { slice.now ≡ [] → IsOk result }
     {
@@ -243,7 +241,8 @@ impl<B: OctetsBuilder + OctetsMut> NameBuilder<B> {
     pub fn append_label(&mut self, label: &[u8]) -> Result<(), PushError>
         ensures made { OnOk result (built self.new ≡ labelled (built self.old) label.now) }
         ensures unchanged { OnErr result (built self.new ≡ built self.old) }
-        ensures answer { LabelThenName (length label.now) (size (labelled (built self.old) label.now)) (room B.limit (held self.new)) result }
+        ensures answer { LabelThenName (length label.now)
+            (size (labelled (built self.old) label.now)) (room B.limit (held self.new)) result }
         ensures grows { (held self.old).capacity ≤ (held self.new).capacity }
         ensures nothing { label.now ≡ [] → IsOk result }
     {
@@ -256,7 +255,8 @@ impl<B: OctetsBuilder + OctetsMut> NameBuilder<B> {
     pub fn append_dec_u8_label(&mut self, value: u8) -> Result<(), PushError>
         ensures made { OnOk result (built self.new ≡ labelled (built self.old) (decimal value)) }
         ensures unchanged { OnErr result (built self.new ≡ built self.old) }
-        ensures answer { NameAlone (size (labelled (built self.old) (decimal value))) (room B.limit (held self.new)) result }
+        ensures answer { NameAlone (size (labelled (built self.old) (decimal value)))
+            (room B.limit (held self.new)) result }
         ensures grows { (held self.old).capacity ≤ (held self.new).capacity }
     {
         self.labels.append_dec_u8_label(value)
@@ -267,9 +267,10 @@ impl<B: OctetsBuilder + OctetsMut> NameBuilder<B> {
     ///
     /// `LongName` where all would be more than 254 octets; else `ShortBuf`.
     pub fn append_hex_digit_label(&mut self, nibble: u8) -> Result<(), PushError>
-        ensures made { OnOk result (built self.new ≡ labelled (built self.old) (digit_glyph true (nibble % 16) ∷ [])) }
+        ensures made { OnOk result (built self.new ≡ labelled (built self.old) (hex_label nibble)) }
         ensures unchanged { OnErr result (built self.new ≡ built self.old) }
-        ensures answer { NameAlone (size (labelled (built self.old) (digit_glyph true (nibble % 16) ∷ []))) (room B.limit (held self.new)) result }
+        ensures answer { NameAlone (size (labelled (built self.old) (hex_label nibble)))
+            (room B.limit (held self.new)) result }
         ensures grows { (held self.old).capacity ≤ (held self.new).capacity }
     {
         self.labels.append_hex_digit_label(nibble)
@@ -284,7 +285,8 @@ impl<B: OctetsBuilder + OctetsMut> NameBuilder<B> {
     ) -> Result<(), PushNameError>
         ensures made { OnOk result (built self.new ≡ named (built self.old) (N.labels name.now)) }
         ensures unchanged { OnErr result (built self.new ≡ built self.old) }
-        ensures answer { NameFits (size (named (built self.old) (N.labels name.now))) (room B.limit (held self.new)) result }
+        ensures answer { NameFits (size (named (built self.old) (N.labels name.now)))
+            (room B.limit (held self.new)) result }
         ensures grows { (held self.old).capacity ≤ (held self.new).capacity }
     {
         self.labels.append_name(name)
@@ -292,13 +294,24 @@ impl<B: OctetsBuilder + OctetsMut> NameBuilder<B> {
 
     /// The same of an uncompressed name.
     pub(crate) fn append_flat(&mut self, name: RelativeName<&[u8]>) -> Result<(), PushNameError>
-        ensures made { OnOk result (built self.new ≡ named (built self.old) (relative_labels name.entry)) }
+        ensures made { OnOk result
+            (built self.new ≡ named (built self.old) (relative_labels name.entry)) }
         ensures unchanged { OnErr result (built self.new ≡ built self.old) }
-        ensures answer { NameFits (size (named (built self.old) (relative_labels name.entry))) (room B.limit (held self.new)) result }
+        ensures answer { NameFits (size (named (built self.old) (relative_labels name.entry)))
+            (room B.limit (held self.new)) result }
         ensures grows { (held self.old).capacity ≤ (held self.new).capacity }
     {
         self.labels.append_wire(name.as_slice())
     }
+}
+
+impl<B: OctetsBuilder + OctetsMut> NameBuilder<B> {
+    ghost use Rattle.std.specs.Iterator.{AlwaysYields, IsFinite};
+    ghost use Rattle.std.specs.Str.{chars};
+    ghost use Rattle.domain_label.specs.Spelling.{ReadsSymbols};
+    ghost use Rattle.domain_label.specs.declared.symbol.Symbol.{Symbol};
+    ghost use Rattle.domain_builder.specs.NameSymbols.{Items, name_symbols, symbol_in_name, symbols_in_name};
+    ghost use Rattle.domain_builder.specs.Pushing.{AddsSymbol, AddsSymbols};
 
     /// Adds what a symbol of a text stands for (RFC 1035, 5.1): a plain dot ends the open label, and any other
     /// symbol is pushed as its octet.
@@ -306,7 +319,8 @@ impl<B: OctetsBuilder + OctetsMut> NameBuilder<B> {
     /// `EmptyLabel` at a dot where no label is open, and a dot elsewhere never fails; `BinaryLabel` at `\[` where
     /// none is open; `BadSymbol` at a character that stands for no octet; else the errors of `push`.
     pub fn push_symbol(&mut self, symbol: Symbol) -> Result<(), FromStrError>
-        ensures takes { TakesSymbol (room B.limit (held self.new)) (built self.old) (symbol_in_name symbol) result (built self.new) }
+        ensures takes { AddsSymbol B.limit (held self.old) (symbol_in_name symbol)
+            result (held self.new) }
         ensures grows { (held self.old).capacity ≤ (held self.new).capacity }
     {
         self.labels.push_symbol(symbol)
@@ -322,7 +336,7 @@ impl<B: OctetsBuilder + OctetsMut> NameBuilder<B> {
         requires can { I.can_next symbols }
         requires ends { IsFinite (I.remaining symbols) }
         ensures takes { (ss : List Symbol) → AlwaysYields I.next_gives (λ x. x) symbols ss →
-            TakesSymbols (room B.limit (held self.new)) (built self.old) (symbols_in_name ss) result (built self.new) }
+            AddsSymbols B.limit (held self.old) (symbols_in_name ss) result (held self.new) }
         ensures grows { (held self.old).capacity ≤ (held self.new).capacity }
     {
         self.labels.append_symbols(symbols)
@@ -338,8 +352,9 @@ impl<B: OctetsBuilder + OctetsMut> NameBuilder<B> {
     ) -> Result<(), FromStrError>
         requires can { I.can_next chars }
         requires ends { IsFinite (I.remaining chars) }
-        ensures takes { (cs : List ℕ) (items : List (Result Symbol SymbolCharsError)) → AlwaysYields I.next_gives (λ c. c) chars cs → ReadsSymbols cs items →
-            TakesSymbols (room B.limit (held self.new)) (built self.old) (name_symbols items) result (built self.new) }
+        ensures takes { (cs : List ℕ) (items : Items) →
+            AlwaysYields I.next_gives (λ c. c) chars cs → ReadsSymbols cs items →
+            AddsSymbols B.limit (held self.old) (name_symbols items) result (held self.new) }
         ensures grows { (held self.old).capacity ≤ (held self.new).capacity }
     {
         self.labels.append_chars(chars)
@@ -347,8 +362,8 @@ impl<B: OctetsBuilder + OctetsMut> NameBuilder<B> {
 
     /// Pushes the symbols of a text in turn, as `append_chars` does those of its characters.
     pub(crate) fn append_str(&mut self, text: &str) -> Result<(), FromStrError>
-        ensures takes { (items : List (Result Symbol SymbolCharsError)) → ReadsSymbols (chars text.now) items →
-            TakesSymbols (room B.limit (held self.new)) (built self.old) (name_symbols items) result (built self.new) }
+        ensures takes { (items : Items) → ReadsSymbols (chars text.now) items →
+            AddsSymbols B.limit (held self.old) (name_symbols items) result (held self.new) }
         ensures grows { (held self.old).capacity ≤ (held self.new).capacity }
     {
         self.labels.append_str(text)
@@ -374,7 +389,7 @@ where
     #[inline(always)]
     pub fn into_name(self) -> Result<Name<B::Octets>, PushError>
         ensures ok { IfOk result (λ name. name_labels name ≡ closed (built self) ++ Root) }
-        ensures err { IfErr result (λ e. (e ≡ push.ShortBuf) × (room B.limit (held self) < size (built self) + 1)) }
+        ensures err { RoomAlone (size (built self) + 1) (room B.limit (held self)) result }
     {
         // This is `finish_with` of the root, written out, since a result between would copy an array's octets once
         // more. The length is asked for what its contract says: with the root there are at most 255 octets.
@@ -395,8 +410,10 @@ where
         self,
         origin: &'a N,
     ) -> Result<Name<B::Octets>, PushNameError>
-        ensures ok { IfOk result (λ name. name_labels name ≡ closed (built self) ++ N.labels origin.now) }
-        ensures answer { OriginFits (size (built self) + length (wire (N.labels origin.now))) (room B.limit (held self)) result }
+        ensures ok { IfOk result
+            (λ name. name_labels name ≡ closed (built self) ++ N.labels origin.now) }
+        ensures answer { OriginFits (size (built self) + length (wire (N.labels origin.now)))
+            (room B.limit (held self)) result }
     {
         let NameBuilder { labels } = self;
         match labels.append_origin(origin) {

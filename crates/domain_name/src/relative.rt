@@ -58,9 +58,11 @@ impl<Octs: Octets + Drop> RelativeName<Octs> {
     pub fn from_octets(octets: Octs) -> Result<RelativeName<Octs>, RelativeNameError>
         ensures ok { IfOk result (λ name. relative_octets name ≡ Octs.octets octets) }
         ensures holder { IfOk result (λ name. relative_holder name ≡ octets) }
-        ensures list { (ls : List (List ℕ)) → IsRelativeName ls → Octs.octets octets ≡ wire ls → IfOk result (λ name. relative_labels name ≡ ls) }
+        ensures list { (ls : List (List ℕ)) → IsRelativeName ls → Octs.octets octets ≡ wire ls →
+            IfOk result (λ name. relative_labels name ≡ ls) }
         ensures accepts { IsOk result ↔ IsRelativeWire (Octs.octets octets) }
-        ensures err { IfErr result (λ e. RelativeFault (Octs.octets octets) (relative_name_error_kind e)) }
+        ensures err { IfErr result
+            (λ e. RelativeFault (Octs.octets octets) (relative_name_error_kind e)) }
     {
         check_relative(octets.as_slice())?;
         Ok(RelativeName { octets })
@@ -73,7 +75,8 @@ impl<Octs: Octets + Drop> RelativeName<Octs> {
         self,
         other: N,
     ) -> Result<Chain<RelativeName<Octs>, N>, LongChainError>
-        ensures parts { IfOk result (λ chain. (left_part chain ≡ self) × (right_part chain ≡ other)) }
+        ensures parts { IfOk result
+            (λ chain. (left_part chain ≡ self) × (right_part chain ≡ other)) }
         ensures long { IsErr result ↔ (254 < before_root (relative_labels self ++ N.labels other)) }
     {
         Chain::new(self, other)
@@ -97,7 +100,8 @@ impl<'a> RelativeName<&'a [u8]> {
     /// The name whose wire format the octets are, with the errors of `from_octets`.
     pub fn from_slice(octets: &'a [u8]) -> Result<RelativeName<&'a [u8]>, RelativeNameError>
         ensures ok { IfOk result (λ name. relative_octets name ≡ octets.now) }
-        ensures list { (ls : List (List ℕ)) → IsRelativeName ls → octets.now ≡ wire ls → IfOk result (λ name. relative_labels name ≡ ls) }
+        ensures list { (ls : List (List ℕ)) → IsRelativeName ls → octets.now ≡ wire ls →
+            IfOk result (λ name. relative_labels name ≡ ls) }
         ensures accepts { IsOk result ↔ IsRelativeWire octets.now }
         ensures err { IfErr result (λ e. RelativeFault octets.now (relative_name_error_kind e)) }
     {
@@ -106,7 +110,8 @@ impl<'a> RelativeName<&'a [u8]> {
 
     /// The first label, and the name of the labels after it. `None` where there is no label.
     pub(crate) fn split_slice(self) -> Option<(Label<'a>, RelativeName<&'a [u8]>)>
-        ensures some { IfSome result (λ parts. relative_labels self.entry ≡ label_octets parts.0 ∷ relative_labels parts.1) }
+        ensures some { IfSome result
+            (λ parts. relative_labels self.entry ≡ label_octets parts.0 ∷ relative_labels parts.1) }
         ensures none { IsNone result ↔ (relative_labels self.entry ≡ []) }
     {
         let mut labels = NameIter::new(self.octets);
@@ -153,7 +158,7 @@ impl RelativeName<&'static [u8]> {
 }
 
 impl<Octs: Octets> RelativeName<Octs> {
-    ghost use Rattle.domain_name.specs.Names.{relative_octets, relative_labels, relative_holder};
+    ghost use Rattle.domain_name.specs.Names.{relative_octets, relative_labels, relative_holder, IsFirstLabel, IsLastLabel};
 
     /// The name whose wire format the octets are known to be. They aren't tested again.
     #[inline(always)]
@@ -244,7 +249,8 @@ impl<Octs: Octets> RelativeName<Octs> {
 
     /// The first label, or `None` where there is none.
     pub fn first(&self) -> Option<Label<'_>>
-        ensures some { IfSome result (λ label. (rest : List (List ℕ)) × (relative_labels self.now ≡ label_octets label ∷ rest)) }
+        ensures some { IfSome result
+            (λ label. IsFirstLabel (relative_labels self.now) (label_octets label)) }
         ensures none { IsNone result ↔ (relative_labels self.now ≡ []) }
     {
         self.iter().next()
@@ -252,7 +258,8 @@ impl<Octs: Octets> RelativeName<Octs> {
 
     /// The last label, or `None` where there is none.
     pub fn last(&self) -> Option<Label<'_>>
-        ensures some { IfSome result (λ label. (front : List (List ℕ)) × (relative_labels self.now ≡ front ++ label_octets label ∷ [])) }
+        ensures some { IfSome result
+            (λ label. IsLastLabel (relative_labels self.now) (label_octets label)) }
         ensures none { IsNone result ↔ (relative_labels self.now ≡ []) }
     {
         self.iter().next_back()
@@ -286,7 +293,8 @@ impl<Octs: Octets> RelativeName<Octs> {
         requires start { IsLabelEnd (relative_labels self.now) range.start }
         requires end { IsLabelEnd (relative_labels self.now) range.end }
         requires ordered { range.start ≤ range.end }
-        ensures { IsPartOf (relative_labels self.now) range.start range.end (relative_labels result) }
+        ensures { IsPartOf (relative_labels self.now) range.start range.end
+            (relative_labels result) }
     {
         RelativeName {
             octets: &self.octets.as_slice()[range.start..range.end],
@@ -298,7 +306,8 @@ impl<Octs: Octets> RelativeName<Octs> {
         requires start { IsLabelEnd (relative_labels self.now) range.start }
         requires end { IsLabelEnd (relative_labels self.now) range.end }
         requires ordered { range.start ≤ range.end }
-        ensures { IsPartOf (relative_labels self.now) range.start range.end (relative_labels result) }
+        ensures { IsPartOf (relative_labels self.now) range.start range.end
+            (relative_labels result) }
     {
         self.slice(range)
     }
@@ -306,7 +315,8 @@ impl<Octs: Octets> RelativeName<Octs> {
     /// The labels before an offset of the wire format and those from it on, where `is_label_start` is true there.
     pub fn split(&self, mid: usize) -> (RelativeName<&[u8]>, RelativeName<&[u8]>)
         requires { IsLabelEnd (relative_labels self.now) mid }
-        ensures parts { relative_labels result.0 ++ relative_labels result.1 ≡ relative_labels self.now }
+        ensures parts { relative_labels result.0 ++ relative_labels result.1
+            ≡ relative_labels self.now }
         ensures place { length (wire (relative_labels result.0)) ≡ mid }
     {
         let (before, after) = self.octets.as_slice().split_at(mid);
@@ -318,11 +328,12 @@ impl<Octs: Octets> RelativeName<Octs> {
 }
 
 impl<Octs: Octets> RelativeName<Octs> {
-    ghost use Rattle.domain_name.specs.Names.{relative_labels};
+    ghost use Rattle.domain_name.specs.Names.{relative_labels, IsParent};
 
     /// The first label, and the name of the labels after it. `None` where there is no label.
     pub fn split_first(&self) -> Option<(Label<'_>, RelativeName<&[u8]>)>
-        ensures some { IfSome result (λ parts. relative_labels self.now ≡ label_octets parts.0 ∷ relative_labels parts.1) }
+        ensures some { IfSome result
+            (λ parts. relative_labels self.now ≡ label_octets parts.0 ∷ relative_labels parts.1) }
         ensures none { IsNone result ↔ (relative_labels self.now ≡ []) }
     {
         self.for_slice().split_slice()
@@ -330,7 +341,8 @@ impl<Octs: Octets> RelativeName<Octs> {
 
     /// The name of the labels after the first. `None` where there is no label.
     pub fn parent(&self) -> Option<RelativeName<&[u8]>>
-        ensures some { IfSome result (λ rest. (first : List ℕ) × (relative_labels self.now ≡ first ∷ relative_labels rest)) }
+        ensures some { IfSome result
+            (λ rest. IsParent (relative_labels self.now) (relative_labels rest)) }
         ensures none { IsNone result ↔ (relative_labels self.now ≡ []) }
     {
         let (_, rest) = self.split_first()?;
@@ -344,7 +356,8 @@ impl<Octs: Truncate> RelativeName<Octs> {
     /// Keeps the labels before an offset of the wire format where `is_label_start` is true.
     pub fn truncate(&mut self, len: usize)
         requires { IsLabelEnd (relative_labels self.old) len }
-        ensures parts { (after : List (List ℕ)) × (relative_labels self.old ≡ relative_labels self.new ++ after) }
+        ensures parts { (after : List (List ℕ))
+            × (relative_labels self.old ≡ relative_labels self.new ++ after) }
         ensures place { length (wire (relative_labels self.new)) ≡ len }
     {
         self.octets.truncate(len);
@@ -358,7 +371,8 @@ impl<Octs: Truncate> RelativeName<Octs> {
         base: &'a N,
     ) -> Result<(), StripSuffixError>
         ensures exact { IsOk result ↔ EndsWith (relative_labels self.old) (N.labels base.now) }
-        ensures ok { OnOk result (IsStripped (relative_labels self.old) (N.labels base.now) (relative_labels self.new)) }
+        ensures ok { OnOk result
+            (IsStripped (relative_labels self.old) (N.labels base.now) (relative_labels self.new)) }
         ensures unchanged { OnErr result (self.new ≡ self.old) }
     {
         let Some(place) = suffix_place(self.octets.as_slice(), base) else {
@@ -419,7 +433,8 @@ impl<Octs: SameOctets<&'static [u8]>> RelativeName<Octs> {
     /// `ShortBuf` only where a value can't be made of these two octets.
     pub fn wildcard(alloc: Global) -> Result<RelativeName<Octs>, ShortBuf>
         ensures ok { IfOk result (λ name. relative_labels name ≡ (42 ∷ []) ∷ []) }
-        ensures err { OnErr result (MayRefuse Octs.may_refuse (λ source. source.now) (wire ((42 ∷ []) ∷ []))) }
+        ensures err { OnErr result
+            (MayRefuse Octs.may_refuse (λ source. source.now) (wire ((42 ∷ []) ∷ []))) }
     {
         match RelativeName::try_octets_from(alloc, RelativeName::wildcard_ref()) {
             Ok(name) => Ok(name),

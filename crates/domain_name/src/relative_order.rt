@@ -56,7 +56,8 @@ impl<Octs: Octets> PartialOrd for RelativeName<Octs> {
 
     ghost partial_cmp = { as_partial_cmp (on relative_labels canonical_order) };
 
-    ghost laws = { partial_order_from_agreeing_total (on relative_labels canonical_order) (on_total relative_labels order_is_total) (λ a b. refl) (λ a b. refl) };
+    ghost laws = { partial_order_from_agreeing_total (on relative_labels canonical_order)
+        (on_total relative_labels order_is_total) (λ a b. refl) (λ a b. refl) };
 
     fn partial_cmp(&self, other: &RelativeName<Octs>) -> Option<Ordering> {
         Some(self.cmp(other))

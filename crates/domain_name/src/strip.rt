@@ -50,7 +50,8 @@ fn place_of(octets: &[u8], suffix: &[u8]) -> Option<usize>
 pub(crate) fn suffix_place<'a, N: ToLabelIter<'a>>(octets: &[u8], base: &'a N) -> Option<usize>
     requires { IsWire octets.now }
     ensures exact { IsSome result ↔ EndsWith (labels_in octets.now) (N.labels base.now) }
-    ensures place { IfSome result (λ place. place + length (wire (N.labels base.now)) ≡ length octets.now) }
+    ensures place { IfSome result
+        (λ place. place + length (wire (N.labels base.now)) ≡ length octets.now) }
 {
     if let Some(suffix) = base.as_flat_slice() {
         return place_of(octets, suffix);

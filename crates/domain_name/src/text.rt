@@ -1,19 +1,14 @@
 //! Names from text (RFC 1035, 5.1), from addresses, and back to builders.
-ghost use Rattle.std.specs.Prelude.{◌≡◌, ◌++◌, ◌<◌, ◌≤◌, ◌+◌, ℕ, List, Option, Some, None, Result, length, IfOk, IfErr, IfSome, OnErr, MatchResult};
+ghost use Rattle.std.specs.Prelude.{◌≡◌, ◌++◌, ◌<◌, ◌≤◌, ◌+◌, ℕ, List, Option, Some, None, length, IfOk, IfErr, IfSome, OnErr, MatchResult};
 ghost use Rattle.std.specs.Iterator.{AlwaysYields, IsFinite};
 ghost use Rattle.std.specs.Str.{chars};
-ghost use Rattle.octseq.specs.Capacity.{MayExceedCapacity};
 ghost use Rattle.domain_label.specs.Wire.{wire, Root};
 ghost use Rattle.domain_label.specs.declared.symbol.Symbol.{Symbol};
-ghost use Rattle.domain_builder.specs.BuilderState.{finished};
 ghost use Rattle.domain_builder.specs.NameSymbols.{symbols_in_name};
-ghost use Rattle.domain_builder.specs.TextGrammar.{IsNameText, IsTextOfName, IsTextOfNoName, IsTextOfRelative, IsTextOfNoRelative};
-ghost use Rattle.domain_builder.specs.Reverse.{reverse_name};
-ghost use Rattle.domain_builder.specs.TextErrors.{NoNameMade, NoNameRead, NoRelativeRead, LacksCapacity, RelativeLacksCapacity, IsErrorOfText, IsErrorOfRelativeText};
+ghost use Rattle.domain_builder.specs.TextGrammar.{IsTextOfName, IsTextOfNoName, IsTextOfRelative, IsTextOfNoRelative};
+ghost use Rattle.domain_builder.specs.TextErrors.{MakesName, NoNameRead, NoRelativeRead, LacksCapacity, RelativeLacksCapacity, IsErrorOfText, IsErrorOfRelativeText, ReadsNameText, ReadsRelativeText};
 ghost use Rattle.domain_builder.specs.declared.name_symbol.TextFault.{TextFault};
 ghost use Rattle.domain_builder.specs.declared.push_error.PushError.TheVariants.{ShortBuf};
-ghost use Rattle.domain_builder.specs.Inside.{room};
-ghost use Rattle.domain_name.specs.Builders.{built, held};
 ghost use Rattle.domain_name.specs.Names.{name_labels, relative_holder, relative_labels};
 
 use crate::absolute::Name;
@@ -50,11 +45,16 @@ where
     ) -> Result<Self, FromStrError>
         requires can { I.can_next chars }
         requires ends { IsFinite (I.remaining chars) }
-        ensures ok { (cs : List ℕ) → AlwaysYields I.next_gives (λ c. c) chars cs → IfOk result (λ name. IsTextOfName cs (name_labels name)) }
-        ensures err { (cs : List ℕ) → AlwaysYields I.next_gives (λ c. c) chars cs → IfErr result (NoNameRead Octs.Builder.ROOM cs) }
-        ensures accepts { (cs : List ℕ) (ls : List (List ℕ)) → AlwaysYields I.next_gives (λ c. c) chars cs → IsTextOfName cs ls →
-            MatchResult result (λ name. name_labels name ≡ ls) (LacksCapacity Octs.Builder.ROOM ls) }
-        ensures exact { (cs : List ℕ) (f : TextFault) → AlwaysYields I.next_gives (λ c. c) chars cs → IsTextOfNoName cs f →
+        ensures ok { (cs : List ℕ) → AlwaysYields I.next_gives (λ c. c) chars cs →
+            IfOk result (λ name. IsTextOfName cs (name_labels name)) }
+        ensures err { (cs : List ℕ) → AlwaysYields I.next_gives (λ c. c) chars cs →
+            IfErr result (NoNameRead Octs.Builder.ROOM cs) }
+        ensures accepts { (cs : List ℕ) (ls : List (List ℕ)) →
+            AlwaysYields I.next_gives (λ c. c) chars cs → IsTextOfName cs ls →
+            MatchResult result (λ name. name_labels name ≡ ls)
+            (LacksCapacity Octs.Builder.ROOM ls) }
+        ensures exact { (cs : List ℕ) (f : TextFault) →
+            AlwaysYields I.next_gives (λ c. c) chars cs → IsTextOfNoName cs f →
             MatchResult result (λ _. ⊥) (IsErrorOfText f) }
     {
         match absolute_from_chars(alloc, chars) {
@@ -72,7 +72,7 @@ where
         requires can { I.can_next symbols }
         requires ends { IsFinite (I.remaining symbols) }
         ensures { (ss : List Symbol) → AlwaysYields I.next_gives (λ x. x) symbols ss →
-            MatchResult result (λ name. IsNameText (symbols_in_name ss) (name_labels name)) (NoNameMade Octs.Builder.ROOM (symbols_in_name ss)) }
+            MakesName name_labels Octs.Builder.ROOM (symbols_in_name ss) result }
     {
         match absolute_from_symbols(alloc, symbols) {
             Ok(octets) => Ok(Name::from_wire(octets)),
@@ -85,6 +85,9 @@ impl<Octs: FromBuilder + Drop> Name<Octs>
 where
     Octs::Builder: EmptyBuilder + Drop,
 {
+    ghost use Rattle.octseq.specs.Capacity.{MayExceedCapacity};
+    ghost use Rattle.domain_builder.specs.Reverse.{reverse_name};
+
     /// The name under which an address is looked up: for IPv4 its octets in decimal, the last first, under
     /// `in-addr.arpa` (RFC 1035, 3.5); for IPv6 each four bits as an upper case digit, the last first,
     /// under `ip6.arpa` (RFC 3596, 2.5).
@@ -92,7 +95,8 @@ where
     /// `ShortBuf` only where the octets, which are appended once, don't fit, or an allocation failed.
     pub fn reverse_from_addr(alloc: Global, addr: IpAddr) -> Result<Self, PushError>
         ensures ok { IfOk result (λ name. name_labels name ≡ reverse_name addr) }
-        ensures err { IfErr result (λ e. (e ≡ ShortBuf) × MayExceedCapacity Octs.Builder.ROOM (length (wire (reverse_name addr)))) }
+        ensures err { IfErr result (λ e. (e ≡ ShortBuf)
+            × MayExceedCapacity Octs.Builder.ROOM (length (wire (reverse_name addr)))) }
     {
         match reverse_octets(alloc, addr) {
             Ok(octets) => Ok(Name::from_wire(octets)),
@@ -105,10 +109,7 @@ impl Name<Vec<u8>> {
     /// Reads an absolute name from text, as `from_chars` does. `ShortBuf` only where an allocation failed.
     #[inline(always)]
     pub fn vec_from_str(alloc: Global, text: &str) -> Result<Self, FromStrError>
-        ensures ok { IfOk result (λ name. IsTextOfName (chars text.now) (name_labels name)) }
-        ensures err { IfErr result (NoNameRead None (chars text.now)) }
-        ensures accepts { (ls : List (List ℕ)) → IsTextOfName (chars text.now) ls → MatchResult result (λ name. name_labels name ≡ ls) (LacksCapacity None ls) }
-        ensures exact { (f : TextFault) → IsTextOfNoName (chars text.now) f → MatchResult result (λ _. ⊥) (IsErrorOfText f) }
+        ensures { ReadsNameText name_labels None (chars text.now) result }
     {
         match absolute_from_str(alloc, text) {
             Ok(octets) => Ok(Name::from_wire(octets)),
@@ -120,8 +121,6 @@ impl Name<Vec<u8>> {
 /// Reads an absolute name from text, as `from_chars` does. `ShortBuf` exactly where a name has more than
 /// `N` octets.
 impl<const N: usize> FromStr for Name<ArrayVec<u8, N>> {
-    ghost use Rattle.domain_builder.specs.TextErrors.{ReadsNameText};
-
     type Err = FromStrError;
 
     ghost from_str_gives = { λ text r. ReadsNameText name_labels (Some N) (chars text) r };
@@ -153,11 +152,16 @@ where
     ) -> Result<Self, RelativeFromStrError>
         requires can { I.can_next chars }
         requires ends { IsFinite (I.remaining chars) }
-        ensures ok { (cs : List ℕ) → AlwaysYields I.next_gives (λ c. c) chars cs → IfOk result (λ name. IsTextOfRelative cs (relative_labels name)) }
-        ensures err { (cs : List ℕ) → AlwaysYields I.next_gives (λ c. c) chars cs → IfErr result (NoRelativeRead Octs.Builder.ROOM cs) }
-        ensures accepts { (cs : List ℕ) (ls : List (List ℕ)) → AlwaysYields I.next_gives (λ c. c) chars cs → IsTextOfRelative cs ls →
-            MatchResult result (λ name. relative_labels name ≡ ls) (RelativeLacksCapacity Octs.Builder.ROOM ls) }
-        ensures exact { (cs : List ℕ) (why : Option TextFault) → AlwaysYields I.next_gives (λ c. c) chars cs → IsTextOfNoRelative cs why →
+        ensures ok { (cs : List ℕ) → AlwaysYields I.next_gives (λ c. c) chars cs →
+            IfOk result (λ name. IsTextOfRelative cs (relative_labels name)) }
+        ensures err { (cs : List ℕ) → AlwaysYields I.next_gives (λ c. c) chars cs →
+            IfErr result (NoRelativeRead Octs.Builder.ROOM cs) }
+        ensures accepts { (cs : List ℕ) (ls : List (List ℕ)) →
+            AlwaysYields I.next_gives (λ c. c) chars cs → IsTextOfRelative cs ls →
+            MatchResult result (λ name. relative_labels name ≡ ls)
+            (RelativeLacksCapacity Octs.Builder.ROOM ls) }
+        ensures exact { (cs : List ℕ) (why : Option TextFault) →
+            AlwaysYields I.next_gives (λ c. c) chars cs → IsTextOfNoRelative cs why →
             MatchResult result (λ _. ⊥) (IsErrorOfRelativeText why) }
     {
         match relative_from_chars(alloc, chars) {
@@ -171,10 +175,7 @@ impl RelativeName<Vec<u8>> {
     /// Reads a relative name from text, as `from_chars` does. `ShortBuf` only where an allocation failed.
     #[inline(always)]
     pub fn vec_from_str(alloc: Global, text: &str) -> Result<Self, RelativeFromStrError>
-        ensures ok { IfOk result (λ name. IsTextOfRelative (chars text.now) (relative_labels name)) }
-        ensures err { IfErr result (NoRelativeRead None (chars text.now)) }
-        ensures accepts { (ls : List (List ℕ)) → IsTextOfRelative (chars text.now) ls → MatchResult result (λ name. relative_labels name ≡ ls) (RelativeLacksCapacity None ls) }
-        ensures exact { (why : Option TextFault) → IsTextOfNoRelative (chars text.now) why → MatchResult result (λ _. ⊥) (IsErrorOfRelativeText why) }
+        ensures { ReadsRelativeText relative_labels None (chars text.now) result }
     {
         match relative_from_str(alloc, text) {
             Ok(octets) => Ok(RelativeName::from_wire(octets)),
@@ -186,8 +187,6 @@ impl RelativeName<Vec<u8>> {
 /// Reads a relative name from text, as `from_chars` does. `ShortBuf` exactly where a name has more than `N`
 /// octets.
 impl<const N: usize> FromStr for RelativeName<ArrayVec<u8, N>> {
-    ghost use Rattle.domain_builder.specs.TextErrors.{ReadsRelativeText};
-
     type Err = RelativeFromStrError;
 
     ghost from_str_gives = { λ text r. ReadsRelativeText relative_labels (Some N) (chars text) r };
@@ -206,10 +205,15 @@ impl<Octs: IntoBuilder> RelativeName<Octs>
 where
     Octs::Builder: OctetsMut,
 {
+    ghost use Rattle.domain_builder.specs.BuilderState.{finished};
+    ghost use Rattle.domain_builder.specs.Inside.{room};
+    ghost use Rattle.domain_name.specs.Builders.{built, held};
+
     /// A builder with the name's labels, none of which is open, and with at least the capacity of the name's octets.
     pub fn into_builder(self) -> NameBuilder<Octs::Builder>
         ensures built { built result ≡ finished (relative_labels self) }
-        ensures room { Octs.capacity (relative_holder self) ≤ room Octs.Builder.limit (held result) }
+        ensures room { Octs.capacity (relative_holder self)
+            ≤ room Octs.Builder.limit (held result) }
     {
         NameBuilder::from_wire(self.into_octets().into_builder())
     }
@@ -227,8 +231,10 @@ where
     pub fn into_absolute(self) -> Result<Name<Octs>, PushError>
         ensures ok { IfOk result (λ name. name_labels name ≡ relative_labels self ++ Root) }
         ensures err { IfErr result (λ e. e ≡ ShortBuf) }
-        ensures spare { OnErr result (Octs.capacity (relative_holder self) < length (wire (relative_labels self)) + 1) }
-        ensures full { IfSome Octs.Builder.limit (λ n. OnErr result (n < length (wire (relative_labels self)) + 1)) }
+        ensures spare { OnErr result
+            (Octs.capacity (relative_holder self) < length (wire (relative_labels self)) + 1) }
+        ensures full { IfSome Octs.Builder.limit
+            (λ n. OnErr result (n < length (wire (relative_labels self)) + 1)) }
     {
         self.into_builder().into_name()
     }

@@ -1,4 +1,9 @@
 use Rattle.domain_name.proofs.text.Name+Vec+u8.vec_from_str.Goals as goal
 
-pub returns-in-Ok-clause-accepts : goal.returns-in-Ok-clause-accepts
-returns-in-Ok-clause-accepts c = λ ls s. rw c.from_wire.ensures (c.in-Ok.ensures.accepts ls s)
+pub returns-in-Ok : goal.returns-in-Ok
+returns-in-Ok c = record {
+  ok = rw c.from_wire.ensures c.in-Ok.ensures.text.ok;
+  err = tt;
+  accepts = λ ls s. rw c.from_wire.ensures (c.in-Ok.ensures.text.accepts ls s);
+  exact = c.in-Ok.ensures.text.exact;
+}
