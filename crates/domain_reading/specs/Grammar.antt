@@ -1,6 +1,7 @@
 -- Names in a message, with compression pointers (RFC 1035, 4.1.4). `m` is the message: the list of its octets.
 use Rattle.std.specs.Prelude.{◌≡◌, ℕ, suc, ◌+◌, ◌*◌, ◌≤◌, ◌<◌, List, [], ◌∷◌, length, slice_index, slice_range}
 use Rattle.domain_label.specs.Wire.{wire, Root}
+use Rattle.domain_reading.specs.Limits.{max_name}
 
 -- The octet o is at p.
 pub record OctetAt (m : List ℕ) (p o : ℕ) : Type 0 where
@@ -32,7 +33,11 @@ pub record Names (n : ℕ) (m : List ℕ) (p : ℕ) (ls : List (List ℕ)) : Typ
   pub pointers : ℕ
   pub reads : Reads m p pointers ls
   pub few_pointers : pointers ≤ n
-  pub short : length (wire ls) ≤ 255
+  pub short : length (wire ls) ≤ max_name
+
+-- A name of at most n pointers is at p.
+abbrev pub HasName : ℕ → List ℕ → ℕ → Type 0
+HasName n m p = (ls : List (List ℕ)) × Names n m p ls
 
 -- The labels fs are at the octets from p to r, one after the other, with no pointer between them.
 abbrev pub Flat : List ℕ → ℕ → List (List ℕ) → ℕ → Type 0

@@ -1,6 +1,8 @@
--- The labels of a name as a function of the message and the offset. Where `Names 255 m p ls`, `labels_at m p ≡ ls`.
+-- The labels of a name as a function of the message and the offset. Where `Names max_pointers m p ls`,
+-- `labels_at m p ≡ ls`.
 use Rattle.std.specs.Prelude.{ℕ, zero, suc, ◌+◌, ◌-◌, ◌*◌, ◌==◌, if◌then◌else◌, nat_lt, List, [], ◌∷◌, slice_index, slice_range}
 use Rattle.domain_label.specs.Wire.{Root}
+use Rattle.domain_reading.specs.Limits.{max_heads}
 
 -- The labels at p and after it, of at most as many labels and pointers as the number.
 unfoldable pub read_from : ℕ → List ℕ → ℕ → List (List ℕ)
@@ -13,4 +15,4 @@ read_from (suc n) m p =
 
 -- The labels of the name at p. A name has at most 127 labels, 255 pointers and the root: 383 in all.
 unfoldable pub labels_at : List ℕ → ℕ → List (List ℕ)
-labels_at m p = read_from 383 m p
+labels_at m p = read_from max_heads m p

@@ -1,3 +1,4 @@
+pub mod Limits
 pub mod Grammar
 pub mod Faults
 pub mod Labels

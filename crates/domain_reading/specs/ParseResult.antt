@@ -1,13 +1,15 @@
 -- The results of reading a name and of skipping one.
-use Rattle.std.specs.Prelude.{◌≡◌, ℕ, ◌+◌, ◌≤◌, ◌<◌, List, ◌++◌, length, true, false, unwrap_or, slice_range}
+use Rattle.std.specs.Prelude.{◌≡◌, ℕ, ◌+◌, ◌≤◌, ◌<◌, List, ◌++◌, length, true, false}
 use Rattle.domain_wire.specs.Refusals.{Refusal, refusal}
 use Rattle.domain_wire.specs.declared.error.ParseError.{ParseError}
 use Rattle.domain_label.specs.Wire.{wire, IsAbsoluteName}
 use Rattle.octseq.specs.declared.parse.Parser.{Parser}
 use Rattle.octseq.specs.Parsing.{message, position, MovesTo}
+use Rattle.domain_reading.specs.Limits.{max_labels}
 use Rattle.domain_reading.specs.Grammar.{Names, FirstLabelAt, Encoding, root, pointer, EncodingEnds}
 use Rattle.domain_reading.specs.Faults.{error_of, NameFaultAt, Skips, SkipFault}
-use Rattle.domain_reading.specs.Offsets.{AreLabelOffsets, labels_at_entries}
+use Rattle.domain_reading.specs.Offsets.{TableHasLabels, AreContiguous}
+use Rattle.domain_reading.specs.Progress.{end_offset, labels_found}
 use Rattle.domain_reading.specs.declared.fault.NameFault.{NameFault}
 use Rattle.domain_reading.specs.declared.progress.Progress.{Progress}
 
@@ -43,10 +45,18 @@ pub record StandsUncompressed (parser : Parser) (ls : List (List ℕ)) : Type 0 
 abbrev pub CountsName : ℕ → List ℕ → ℕ → List (List ℕ) → ℕ → ℕ → Type 0
 CountsName n m p ls before now = (name : Names n m p ls) × (now ≡ before + length ls + name.pointers)
 
--- The count grew by one for each label and each pointer read from p on before the error r, and by one for the label
--- or pointer, which may be missing, where it is.
+-- No name of at most n pointers is at p, and why; the count grew by one for each label and each pointer that was read,
+-- and by one for the label or pointer that can't be read, which may be missing.
+abbrev pub FaultCounted : ℕ → List ℕ → ℕ → ℕ → ℕ → NameFault → Type 0
+FaultCounted n m p before now fault = (f : NameFaultAt n m p fault) × (now ≡ before + length f.passed + f.pointers + 1)
+
+-- The same, and r is the error for it.
 abbrev pub CountsFault : ℕ → List ℕ → ℕ → Refusal → ℕ → ℕ → Type 0
-CountsFault n m p r before now = (f : NameFault) × (r ≡ error_of f) × (fault : NameFaultAt n m p f) × (now ≡ before + length fault.passed + fault.pointers + 1)
+CountsFault n m p r before now = (f : NameFault) × (r ≡ error_of f) × FaultCounted n m p before now f
+
+-- No name of at most n pointers is at p, and why; at most 128 labels and pointers more than n were read.
+abbrev pub FaultWithin : ℕ → List ℕ → ℕ → NameFault → Type 0
+FaultWithin n m p fault = (f : NameFaultAt n m p fault) × (length f.passed + f.pointers + 1 ≤ max_labels + n)
 
 -- The name at p was read, through at most n pointers, and one counted for each label and each pointer. The table has
 -- the offsets of its labels.
@@ -54,24 +64,28 @@ pub record NameRead (n : ℕ) (m : List ℕ) (p : ℕ) (w : Progress) (table : L
   pub labels : List (List ℕ)
   pub name : Names n m p labels
   pub counted : now ≡ before + length labels + name.pointers
-  pub ends : EncodingEnds m p (unwrap_or w.end (w.at + 1))
+  pub ends : EncodingEnds m p (end_offset w)
   pub base : FirstLabelAt m p w.base
-  pub placed : labels_at_entries m w.base (slice_range table 0 w.count) ≡ labels
-  pub stand : AreLabelOffsets m w.base (slice_range table 0 w.count)
+  pub placed : labels_found m w table ≡ labels
+  pub stand : TableHasLabels m w.base table 0 w.count
   pub some : 0 < w.count
-  pub few : w.count ≤ 128
+  pub few : w.count ≤ max_labels
   pub sized : w.len + 1 ≡ length (wire labels)
   pub contiguous : w.compressed ≡ false → (fs : List (List ℕ)) × (e : ℕ) × Encoding m w.base fs root e
   pub is_compressed : w.compressed ≡ true → (fs : List (List ℕ)) × (q : ℕ) × (e : ℕ) × Encoding m w.base fs (pointer q) e
   pub inside : w.compressed ≡ false → w.base + (w.len + 1) ≤ length m
-  pub octets : w.compressed ≡ false → slice_range m w.base (w.base + (w.len + 1)) ≡ wire labels
+  pub octets : w.compressed ≡ false → AreContiguous m w.base (w.len + 1) labels
+
+-- The same, and at most 128 labels and pointers more than n were read.
+abbrev pub NameReadWithin : ℕ → List ℕ → ℕ → Progress → List ℕ → Type 0
+NameReadWithin n m p w table = (heads : ℕ) × NameRead n m p w table 0 heads × (heads ≤ max_labels + n)
 
 -- The labels whose offsets the table has are in the octets o, of which the message may be the beginning, and are a
 -- name.
 pub record Holds (o : List ℕ) (w : Progress) (table : List ℕ) : Type 0 where
   pub some : 0 < w.count
-  pub few : w.count ≤ 128
-  pub stand : AreLabelOffsets o w.base (slice_range table 0 w.count)
-  pub absolute : IsAbsoluteName (labels_at_entries o w.base (slice_range table 0 w.count))
-  pub sized : w.len + 1 ≡ length (wire (labels_at_entries o w.base (slice_range table 0 w.count)))
-  pub flat : w.compressed ≡ false → slice_range o w.base (w.base + (w.len + 1)) ≡ wire (labels_at_entries o w.base (slice_range table 0 w.count))
+  pub few : w.count ≤ max_labels
+  pub stand : TableHasLabels o w.base table 0 w.count
+  pub absolute : IsAbsoluteName (labels_found o w table)
+  pub sized : w.len + 1 ≡ length (wire (labels_found o w table))
+  pub flat : w.compressed ≡ false → AreContiguous o w.base (w.len + 1) (labels_found o w table)

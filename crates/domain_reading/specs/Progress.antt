@@ -1,5 +1,7 @@
 -- The steps of reading a name.
-use Rattle.std.specs.Prelude.{ℕ, ◌+◌, ◌==◌, if◌then◌else◌, List, Some, None, unwrap_or, true, false, set}
+use Rattle.std.specs.Prelude.{◌≡◌, ℕ, ◌+◌, ◌≤◌, ◌<◌, ◌⊎◌, ◌==◌, if◌then◌else◌, List, Some, None, unwrap_or, true, false, set}
+use Rattle.domain_reading.specs.Limits.{max_before_root}
+use Rattle.domain_reading.specs.Offsets.{table_labels}
 use Rattle.domain_reading.specs.declared.progress.Progress.{Progress}
 
 -- At the first label or pointer of a name at p, where the table has no entry yet.
@@ -23,6 +25,22 @@ noted w = record w { count = w.count + 1 }
 abbrev pub label_passed : Progress → ℕ → Progress
 label_passed w n = record w { at = w.at + 1 + n; len = w.len + 1 + n; count = w.count + 1 }
 
+-- With one of n octets more, the labels and the root have at most 255 octets.
+abbrev pub HasRoom : Progress → ℕ → Type 0
+HasRoom w n = w.len + 1 + n ≤ max_before_root
+
+-- They have more.
+abbrev pub LacksRoom : Progress → ℕ → Type 0
+LacksRoom w n = max_before_root < w.len + 1 + n
+
+-- A pointer to q leads to an offset before its own, and is one of at most n.
+abbrev pub MayFollow : ℕ → Progress → ℕ → Type 0
+MayFollow n w q = (q < w.at) × (w.pointers < n)
+
+-- It doesn't lead there, or n were followed.
+abbrev pub MayNotFollow : ℕ → Progress → ℕ → Type 0
+MayNotFollow n w q = (w.at ≤ q) ⊎ (w.pointers ≡ n)
+
 -- A pointer to q was followed.
 abbrev pub pointer_followed : Progress → ℕ → Progress
 pointer_followed w q = record {
@@ -34,3 +52,11 @@ pointer_followed w q = record {
   end = Some (unwrap_or w.end (w.at + 2));
   count = w.count;
 }
+
+-- The offset after the encoding of the name that was read up to its root: after its first pointer, or after the root.
+abbrev pub end_offset : Progress → ℕ
+end_offset w = unwrap_or w.end (w.at + 1)
+
+-- the labels of the name that was read, at the offsets that the table has for them
+abbrev pub labels_found : List ℕ → Progress → List ℕ → List (List ℕ)
+labels_found m w table = table_labels m w.base table 0 w.count

@@ -28,7 +28,7 @@ pub fn read_head<L: Ledger>(
     at: usize,
     heads: &mut Heads<L>,
 ) -> Result<Head, NameFault>
-    ensures found { MatchResult result (λ head. IsHeadAt message.now at head) (λ fault. BrokenAt message.now at fault) }
+    ensures found { MatchResult result (IsHeadAt message.now at) (BrokenAt message.now at) }
     ensures counted { heads.new ≡ heads.old + 1 }
 {
     heads.count();

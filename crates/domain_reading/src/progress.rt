@@ -1,5 +1,6 @@
 //! How far a name was read.
-ghost use Rattle.std.specs.Prelude.{◌≡◌, ◌+◌, ◌≤◌, ◌<◌, ◌^◌, ◌⊎◌, MatchResult, true, false, unwrap_or};
+ghost use Rattle.std.specs.Prelude.{◌≡◌, ◌+◌, ◌≤◌, ◌<◌, ◌^◌, MatchResult, true};
+ghost use Rattle.domain_reading.specs.Limits.{max_labels, max_before_root};
 
 use crate::fault::NameFault;
 use crate::table::{FAR, MAX_LABELS};
@@ -26,6 +27,7 @@ pub struct Progress {
 
 impl Progress {
     ghost use Rattle.domain_reading.specs.Progress.{beginning, noted, table_noted, label_passed, pointer_followed};
+    ghost use Rattle.domain_reading.specs.Progress.{HasRoom, LacksRoom, MayFollow, MayNotFollow, end_offset};
 
     /// The most octets that the labels of a name have before its root.
     const MAX_BEFORE_ROOT: u16 = 254;
@@ -49,7 +51,7 @@ impl Progress {
     /// Adds the offset of the next label to the table.
     #[inline(always)]
     pub fn note_offset(&mut self, entries: &mut [u16; MAX_LABELS])
-        requires few { self.old.count < 128 }
+        requires few { self.old.count < max_labels }
         requires low { self.old.compressed ≡ true → self.old.at < 2 ^ 15 }
         ensures moved { self.new ≡ noted self.old }
         ensures table { entries.new ≡ table_noted self.old entries.old }
@@ -72,11 +74,15 @@ impl Progress {
         entries: &mut [u16; MAX_LABELS],
     ) -> Result<(), NameFault>
         requires room { self.old.at + 1 + octets < 2 ^ 64 }
-        requires short { self.old.len ≤ 254 }
-        requires few { self.old.count < 128 }
+        requires short { self.old.len ≤ max_before_root }
+        requires few { self.old.count < max_labels }
         requires low { self.old.compressed ≡ true → self.old.at < 2 ^ 15 }
-        ensures moved { MatchResult result (λ _. (self.new ≡ label_passed self.old octets) × (entries.new ≡ table_noted self.old entries.old)) (λ _. (self.new ≡ self.old) × (entries.new ≡ entries.old)) }
-        ensures long { MatchResult result (λ _. self.old.len + 1 + octets ≤ 254) (λ fault. (fault ≡ NameFault.LongName) × (254 < self.old.len + 1 + octets)) }
+        ensures moved { MatchResult result
+            (λ _. (self.new ≡ label_passed self.old octets)
+            × (entries.new ≡ table_noted self.old entries.old))
+            (λ _. (self.new ≡ self.old) × (entries.new ≡ entries.old)) }
+        ensures long { MatchResult result (λ _. HasRoom self.old octets)
+            (λ fault. (fault ≡ NameFault.LongName) × LacksRoom self.old octets) }
     {
         let len = self.len + 1 + u16::from(octets);
         if len > Progress::MAX_BEFORE_ROOT {
@@ -94,8 +100,10 @@ impl Progress {
     pub fn follow(&mut self, target: usize, limit: u8) -> Result<(), NameFault>
         requires room { self.old.at + 2 < 2 ^ 64 }
         requires few { self.old.pointers ≤ limit }
-        ensures moved { MatchResult result (λ _. self.new ≡ pointer_followed self.old target) (λ _. self.new ≡ self.old) }
-        ensures err { MatchResult result (λ _. (target < self.old.at) × (self.old.pointers < limit)) (λ fault. (fault ≡ NameFault.TooManyPointers) × ((self.old.at ≤ target) ⊎ (self.old.pointers ≡ limit))) }
+        ensures moved { MatchResult result
+            (λ _. self.new ≡ pointer_followed self.old target) (λ _. self.new ≡ self.old) }
+        ensures err { MatchResult result (λ _. MayFollow limit self.old target)
+            (λ fault. (fault ≡ NameFault.TooManyPointers) × MayNotFollow limit self.old target) }
     {
         if target >= self.at || self.pointers >= limit {
             return Err(NameFault::TooManyPointers);
@@ -117,7 +125,7 @@ impl Progress {
     #[inline(always)]
     pub fn end_offset(&self) -> usize
         requires { self.now.at + 1 < 2 ^ 64 }
-        ensures { result ≡ unwrap_or self.now.end (self.now.at + 1) }
+        ensures { result ≡ end_offset self.now }
     {
         match self.end {
             Some(end) => end,

@@ -1,10 +1,11 @@
 //! Reading a name in a message and skipping one, label after label.
 //!
-//! Reading counts the labels and pointers for its caller; skipping doesn't. The module `alone` has the functions for
+//! Reading counts the labels and pointers for its caller; skipping doesn't. The module `uncounted` has the functions for
 //! callers without a count.
 ghost use Rattle.std.specs.Prelude.{◌≡◌, ◌+◌, ◌≤◌, ◌<◌, length, IfOk, IfErr, OnOk};
-ghost use Rattle.domain_reading.specs.Faults.{NameFaultAt, Skips, SkipFault};
-ghost use Rattle.domain_reading.specs.ParseResult.{NameRead};
+ghost use Rattle.domain_reading.specs.Faults.{Skips, SkipFault};
+ghost use Rattle.domain_reading.specs.Limits.{max_labels};
+ghost use Rattle.domain_reading.specs.ParseResult.{NameRead, FaultCounted};
 ghost use Rattle.domain_reading.specs.Progress.{beginning};
 
 use crate::fault::NameFault;
@@ -30,10 +31,12 @@ pub fn read_name_counted<L: Ledger>(
     heads: &mut Heads<L>,
 ) -> Result<(), NameFault>
     requires { progress.old ≡ beginning progress.old.at }
-    ensures name { OnOk result (NameRead limit message.now progress.old.at progress.new entries.new heads.old heads.new) }
+    ensures name { OnOk result
+        (NameRead limit message.now progress.old.at progress.new entries.new heads.old heads.new) }
     ensures inside { OnOk result (progress.new.at < length message.now) }
-    ensures fault { IfErr result (λ fault. (f : NameFaultAt limit message.now progress.old.at fault) × (heads.new ≡ heads.old + length f.passed + f.pointers + 1)) }
-    ensures few_heads { heads.new ≤ heads.old + 128 + limit }
+    ensures fault { IfErr result
+        (FaultCounted limit message.now progress.old.at heads.old heads.new) }
+    ensures few_heads { heads.new ≤ heads.old + max_labels + limit }
 {
     // The label names the loop in its proof.
     'heads: loop {
@@ -59,9 +62,9 @@ pub(crate) fn encoding_end_with<L: Ledger>(
     requires ledger { blank.name ≡ L.name }
     requires parts { blank.parts ≡ L.parts }
     requires some { 0 < blank.parts }
-    ensures skips { IfOk result (λ end. Skips message.now pos end) }
+    ensures skips { IfOk result (Skips message.now pos) }
     ensures inside { IfOk result (λ end. end ≤ length message.now) }
-    ensures fault { IfErr result (λ fault. SkipFault message.now pos fault) }
+    ensures fault { IfErr result (SkipFault message.now pos) }
 {
     let mut heads = Heads::<L>::new(blank);
     let mut at = pos;

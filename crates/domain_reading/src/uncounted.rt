@@ -4,10 +4,10 @@
 //! passes `Brand` as this parameter to a function that is generic over ledgers, and only such a function can start a
 //! count. So there are two functions for each: the public one, which passes `Brand`, and a generic one, which starts
 //! the count. The generic one of `encoding_end` is in `read`, since its loop is there; the others are here.
-ghost use Rattle.std.specs.Prelude.{◌≡◌, ℕ, ◌+◌, ◌≤◌, ◌<◌, length, IfOk, IfErr, OnOk};
+ghost use Rattle.std.specs.Prelude.{◌≡◌, ◌≤◌, ◌<◌, length, IfOk, IfErr, OnOk};
 ghost use Rattle.domain_label.specs.Labels.{label_octets};
-ghost use Rattle.domain_reading.specs.Faults.{NameFaultAt, Skips, SkipFault};
-ghost use Rattle.domain_reading.specs.ParseResult.{NameRead};
+ghost use Rattle.domain_reading.specs.Faults.{Skips, SkipFault};
+ghost use Rattle.domain_reading.specs.ParseResult.{NameReadWithin, FaultWithin};
 ghost use Rattle.domain_reading.specs.Offsets.{IsLabelOffset, label_at};
 ghost use Rattle.domain_reading.specs.Progress.{beginning};
 
@@ -33,9 +33,10 @@ pub fn read_name(
     limit: u8,
 ) -> Result<(), NameFault>
     requires { progress.old ≡ beginning progress.old.at }
-    ensures name { OnOk result ((n : ℕ) × NameRead limit message.now progress.old.at progress.new entries.new 0 n × (n ≤ 128 + limit)) }
+    ensures name { OnOk result
+        (NameReadWithin limit message.now progress.old.at progress.new entries.new) }
     ensures inside { OnOk result (progress.new.at < length message.now) }
-    ensures fault { IfErr result (λ fault. (f : NameFaultAt limit message.now progress.old.at fault) × (length f.passed + f.pointers + 1 ≤ 128 + limit)) }
+    ensures fault { IfErr result (FaultWithin limit message.now progress.old.at) }
 {
     read_name_with::<Brand>(message, progress, entries, limit, Blank::new(1))
 }
@@ -52,9 +53,10 @@ fn read_name_with<L: Ledger>(
     requires ledger { blank.name ≡ L.name }
     requires parts { blank.parts ≡ L.parts }
     requires some { 0 < blank.parts }
-    ensures name { OnOk result ((n : ℕ) × NameRead limit message.now progress.old.at progress.new entries.new 0 n × (n ≤ 128 + limit)) }
+    ensures name { OnOk result
+        (NameReadWithin limit message.now progress.old.at progress.new entries.new) }
     ensures inside { OnOk result (progress.new.at < length message.now) }
-    ensures fault { IfErr result (λ fault. (f : NameFaultAt limit message.now progress.old.at fault) × (length f.passed + f.pointers + 1 ≤ 128 + limit)) }
+    ensures fault { IfErr result (FaultWithin limit message.now progress.old.at) }
 {
     read_name_counted(
         message,
@@ -68,9 +70,9 @@ fn read_name_with<L: Ledger>(
 /// The offset after the encoding of the name at an offset: after its root or first pointer, wherever that leads to.
 #[inline(always)]
 pub fn encoding_end(message: &[u8], pos: usize) -> Result<usize, NameFault>
-    ensures skips { IfOk result (λ end. Skips message.now pos end) }
+    ensures skips { IfOk result (Skips message.now pos) }
     ensures inside { IfOk result (λ end. end ≤ length message.now) }
-    ensures fault { IfErr result (λ fault. SkipFault message.now pos fault) }
+    ensures fault { IfErr result (SkipFault message.now pos) }
 {
     encoding_end_with::<Brand>(message, pos, Blank::new(1))
 }
