@@ -5,8 +5,8 @@ use Rattle.domain_rdata.specs.Rtypes.{has_lowercase_names}
 use Rattle.domain_rdata.specs.declared.record_data.CanonicalError.{CanonicalError}
 use Rattle.domain_rdata.specs.declared.record_data.CanonicalError.TheVariants.{Append, Long, UnknownNames}
 
--- The canonical form of data of the type t, whose octets with no name compressed are these, and are those with all names in lowercase
--- where it is known which octets are names. Names of other types keep their case (RFC 3597, 7).
+-- The canonical form of data of the type t, whose octets with no name compressed are these, and are those with all
+-- names in lowercase where it is known which octets are names. Names of other types keep their case (RFC 3597, 7).
 abbrev pub canonical_form : ℕ → List ℕ → Option (List ℕ) → Option (List ℕ)
 canonical_form t uncompressed lowercase = if has_lowercase_names t then lowercase else Some uncompressed
 

@@ -2,11 +2,12 @@
 use Rattle.std.specs.Prelude.{◌≡◌, ℕ, ◌+◌, ◌<◌, ◌≤◌, List, ◌++◌, length}
 use Rattle.domain_label.specs.Lowercase.{lowercase_labels}
 use Rattle.domain_label.specs.Wire.{wire}
+use Rattle.domain_reading.specs.Limits.{max_pointers}
 use Rattle.domain_reading.specs.Grammar.{Names, EncodingEnds}
 
 -- A name that equals ls without case is read at the offset p of t (RFC 1035, 4.1.4).
 abbrev pub StandsAt : List ℕ → ℕ → List (List ℕ) → Type 0
-StandsAt t p ls = (c : List (List ℕ)) × Names 255 t p c × (lowercase_labels c ≡ lowercase_labels ls)
+StandsAt t p ls = (c : List (List ℕ)) × Names max_pointers t p c × (lowercase_labels c ≡ lowercase_labels ls)
 
 -- After the octets t, the octets s are read as a name that equals ls without case, and end where its front
 -- ends. They are no more than those of the wire format.

@@ -1,5 +1,5 @@
 //! What messages are composed into.
-ghost use Rattle.std.specs.Prelude.{◌≡◌, ℕ, ◌++◌, ◌+◌, ◌<◌, ◌≤◌, List, length, OnOk, OnErr, Bool, false, refl};
+ghost use Rattle.std.specs.Prelude.{◌≡◌, ℕ, ◌++◌, ◌+◌, ◌<◌, ◌≤◌, List, OnOk, OnErr, Bool, false};
 ghost use Rattle.domain_label.specs.Wire.{wire, labels_in, IsAbsoluteName, IsAbsoluteWire};
 ghost use Rattle.domain_rdata.specs.ReadBack.{ReadsBack, Appended, Exceeds};
 ghost use Rattle.domain_rdata.specs.FlatNames.{flat_appended, flat_reads_back};

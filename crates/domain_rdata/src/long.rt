@@ -1,5 +1,5 @@
 //! How long record data may be.
-ghost use Rattle.std.specs.Prelude.{◌≡◌, ◌+◌, ◌≤◌, ◌<◌, ◌↔◌, IsErr, Some, codes, sum};
+ghost use Rattle.std.specs.Prelude.{◌≡◌, ◌+◌, ◌<◌, ◌↔◌, IsErr, Some, codes, sum};
 ghost use Rattle.domain_wire.specs.Refusals.{refusal, form};
 
 use domain_wire::ParseError;

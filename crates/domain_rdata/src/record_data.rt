@@ -74,11 +74,12 @@ impl<E: fmt::Debug + Drop> Error for CanonicalError<E> {}
 const MOST_OCTETS: usize = 65535;
 
 /// Writes a length over the two octets at an offset.
-fn write_length(octets: &mut [u8], place: usize, len: u16)
-    requires { place + 2 ≤ length octets.old }
-    ensures { octets.new ≡ take place octets.old ++ (to_be_bytes w16 len ++ drop (place + 2) octets.old) }
+fn write_length(octets: &mut [u8], offset: usize, len: u16)
+    requires { offset + 2 ≤ length octets.old }
+    ensures { octets.new
+        ≡ take offset octets.old ++ (to_be_bytes w16 len ++ drop (offset + 2) octets.old) }
 {
-    octets[place..place + 2].copy_from_slice(&len.to_be_bytes());
+    octets[offset..offset + 2].copy_from_slice(&len.to_be_bytes());
 }
 
 /// Data of a record.
