@@ -3,7 +3,7 @@ use Rattle.std.specs.Prelude.{◌≡◌, ◌⊎◌, ℕ, ◌+◌, ◌≤◌, ◌
 use Rattle.std.specs.List.{All}
 use Rattle.domain_label.specs.Wire.{labels_in, IsWire, IsAbsoluteWire}
 use Rattle.domain_compress.specs.Compressing.{Compresses, remembered_from}
-use Rattle.domain_compress.specs.Planned.{places_in_table, offsets, WritesPointer, WritesFlat}
+use Rattle.domain_compress.specs.Planned.{remembered_in_table, offsets, WritesPointer, WritesFlat}
 use Rattle.dnsnames_c.specs.Answers.{PutsAt}
 
 -- At most 128 offsets to which a pointer can lead.
@@ -14,8 +14,8 @@ IsTable table = (length table ≤ 128) × All (λ p. p < 16384) table
 -- absolute name (9). With any number but 0 nothing changed.
 abbrev pub Plans : List ℕ → List ℕ → List ℕ → ℕ → ℕ → ℕ → ℕ → ℕ → Type 0
 Plans t table name status old_begin begin old_offset offset =
-    ((status ≡ 0) × IsTable table × IsAbsoluteWire name × WritesPointer t (places_in_table table) name begin offset)
-    ⊎ ((status ≡ 17) × IsTable table × IsAbsoluteWire name × WritesFlat t (places_in_table table) name × (begin ≡ old_begin) × (offset ≡ old_offset))
+    ((status ≡ 0) × IsTable table × IsAbsoluteWire name × WritesPointer t (remembered_in_table table) name begin offset)
+    ⊎ ((status ≡ 17) × IsTable table × IsAbsoluteWire name × WritesFlat t (remembered_in_table table) name × (begin ≡ old_begin) × (offset ≡ old_offset))
     ⊎ ((status ≡ 16) × (IsTable table → ⊥) × (begin ≡ old_begin) × (offset ≡ old_offset))
     ⊎ ((status ≡ 9) × IsTable table × (IsAbsoluteWire name → ⊥) × (begin ≡ old_begin) × (offset ≡ old_offset))
 
@@ -23,7 +23,7 @@ Plans t table name status old_begin begin old_offset offset =
 -- its end. What was written ends at end, and the octets after it are unchanged.
 pub record WritesName (o : List ℕ) (start : ℕ) (table name : List ℕ) (begin end : ℕ) (o' : List ℕ) : Type 0 where
   pub octets : List ℕ
-  pub compresses : Compresses (take start o) (places_in_table table) (labels_in name) (labels_in (take begin name)) octets
+  pub compresses : Compresses (take start o) (remembered_in_table table) (labels_in name) (labels_in (take begin name)) octets
   pub wire_form : IsWire (take begin name)
   pub inside : begin ≤ length name
   pub ends : end ≡ start + length octets
@@ -34,7 +34,7 @@ pub record WritesName (o : List ℕ) (start : ℕ) (table name : List ℕ) (begi
 pub record HasNoRoom (o : List ℕ) (start : ℕ) (table name : List ℕ) : Type 0 where
   pub labels : List (List ℕ)
   pub octets : List ℕ
-  pub compresses : Compresses (take start o) (places_in_table table) (labels_in name) labels octets
+  pub compresses : Compresses (take start o) (remembered_in_table table) (labels_in name) labels octets
   pub long : length o < start + length octets
 
 -- The table, and the offsets of these labels, written from start on, up to 128 in all and as many as there is room for.

@@ -20,15 +20,15 @@ before_relative t ws name end w f =
     let some : 0 < length f.after = omega (arith, f.longest.more) in
     begins_relative f.before f.after (subst IsAbsolute f.longest.parts w.1.0) some
 
-read_so : (t : List ℕ) (ws : List RememberedLabel) (name : List ℕ) (end : WrittenSuffix) → IsAbsoluteWire name → (f : SuffixFound t ws name end) → (end.pointers ≡ 255 → ⊥) → IsRead t (labels_in name) f.before end.place
+read_so : (t : List ℕ) (ws : List RememberedLabel) (name : List ℕ) (end : WrittenSuffix) → IsAbsoluteWire name → (f : SuffixFound t ws name end) → (end.pointers ≡ 255 → ⊥) → IsRead t (labels_in name) f.before end.offset
 read_so t ws name end w f few =
-    pointed_read t (labels_in name) f.before f.after end.place end.pointers w.1 f.longest.parts (before_relative t ws name end w f) f.through (omega (arith, few, f.through.few))
+    pointed_read t (labels_in name) f.before f.after end.offset end.pointers w.1 f.longest.parts (before_relative t ws name end w f) f.through (omega (arith, few, f.through.few))
 
 -- The beginning and the pointer are what is to be written.
-pub planned : (t : List ℕ) (ws : List RememberedLabel) (name : List ℕ) (end : WrittenSuffix) → IsAbsoluteWire name → SuffixFound t ws name end → (end.pointers ≡ 255 → ⊥) → WritesPointer t ws name end.begin end.place
+pub planned : (t : List ℕ) (ws : List RememberedLabel) (name : List ℕ) (end : WrittenSuffix) → IsAbsoluteWire name → SuffixFound t ws name end → (end.pointers ≡ 255 → ⊥) → WritesPointer t ws name end.begin end.offset
 planned t ws name end w f few = record {
   labels = f.before;
-  compresses = subst (λ o. Compresses t ws (labels_in name) f.before (o ++ pointer_to end.place)) (sym f.octets) (pointer f.longest (read_so t ws name end w f few));
+  compresses = subst (λ o. Compresses t ws (labels_in name) f.before (o ++ pointer_to end.offset)) (sym f.octets) (pointer f.longest (read_so t ws name end w f few));
   spelled = ap labels_in f.octets ∙ labels_in_wire f.before;
   wire_form = subst IsWire (sym f.octets) (IsWire_wire f.before (relative_labels f.before (before_relative t ws name end w f)));
   inside = f.inside;
@@ -52,7 +52,7 @@ pointed_so t ws name begin offset t' p all =
 
 pub not_pointed : (t : List ℕ) (ws : List RememberedLabel) (name : List ℕ) (end : WrittenSuffix) → IsAbsoluteWire name → SuffixFound t ws name end → end.pointers ≡ 255 → Compresses t ws (labels_in name) (labels_in name) (wire (labels_in name))
 not_pointed t ws name end w f many =
-    unread f.longest (pointed_unread t (labels_in name) f.before f.after end.place end.pointers (before_relative t ws name end w f) f.through many)
+    unread f.longest (pointed_unread t (labels_in name) f.before f.after end.offset end.pointers (before_relative t ws name end w f) f.through many)
 
 pub exceeds_pointed : (t : List ℕ) (ws : List RememberedLabel) (name : List ℕ) (begin offset cap : ℕ) → WritesPointer t ws name begin offset → cap < length t + length (take begin name ++ pointer_to offset) → Exceeds (MayWrite t ws (labels_in name)) t cap
 exceeds_pointed t ws name begin offset cap p full = record {
@@ -70,7 +70,7 @@ adds_pointer t ws ws' name at t' x e = record {
   octets = x.octets;
   compresses = x.compresses;
   all = x.all;
-  places = e ∙ (ap (λ n. take 128 (ws ++ remembered_from (length t) n (labels_in (take at name)))) (ap length x.all ∙ length-append t x.octets) ∙ ap (λ l. take 128 (ws ++ remembered_from (length t) (length t + length x.octets) l)) x.spelled);
+  offsets = e ∙ (ap (λ n. take 128 (ws ++ remembered_from (length t) n (labels_in (take at name)))) (ap length x.all ∙ length-append t x.octets) ∙ ap (λ l. take 128 (ws ++ remembered_from (length t) (length t + length x.octets) l)) x.spelled);
 }
 
 pub adds_flat : (t : List ℕ) (ws ws' : List RememberedLabel) (name t' : List ℕ) → IsAbsoluteWire name → Compresses t ws (labels_in name) (labels_in name) (wire (labels_in name)) → t' ≡ t ++ name → ws' ≡ take 128 (ws ++ remembered_from (length t) (length t') (labels_in name)) → Adds t ws (labels_in name) t' ws'
@@ -81,5 +81,5 @@ adds_flat t ws ws' name t' w x all e =
       octets = wire (labels_in name);
       compresses = x;
       all = whole;
-      places = e ∙ ap (λ n. take 128 (ws ++ remembered_from (length t) n (labels_in name))) (ap length whole ∙ length-append t (wire (labels_in name)));
+      offsets = e ∙ ap (λ n. take 128 (ws ++ remembered_from (length t) n (labels_in name))) (ap length whole ∙ length-append t (wire (labels_in name)));
     }

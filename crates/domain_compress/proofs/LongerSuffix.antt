@@ -1,4 +1,4 @@
--- The longest end that stands at one of the offsets, with one place more.
+-- The longest suffix that stands at one of the offsets, with one offset more.
 use Rattle.std.proofs.Common.{◌≡◌, ℕ, ◌≤◌, ◌<◌, inl, inr, List, [], ◌∷◌, ◌++◌, length, take, refl, sym, ap, subst, ◌∙◌, arith, length-append, append_assoc, append-nil, Option, None, Some}
 use Rattle.std.proofs.lemmas.Grind.{common_steps}
 use Rattle.std.proofs.lemmas.List.{length-map}
@@ -52,7 +52,7 @@ kept_end t name w ws (Some end) wire_form none old =
       longest = record {
         parts = old.longest.parts;
         more = old.longest.more;
-        place = first_more t old.after end.place ws (w ∷ []) old.longest.place;
+        offset = first_more t old.after end.offset ws (w ∷ []) old.longest.offset;
         longest = λ xs ys e lt.
             let same = sym e ∙ old.longest.parts in
             none_more t ys ws (w ∷ []) (old.longest.longest xs ys e lt)
@@ -71,13 +71,13 @@ none_before t name ws (Some end) old xs ys e more lt =
     let size = taken_size name end.begin old.before (omega (arith, old.inside)) old.octets in
     old.longest.longest xs ys e (fewer xs old.before ys old.after (sym e ∙ old.longest.parts) (omega (arith, size, lt)))
 
--- At one place stand ends of one length only.
+-- At one offset stand suffixes of one length only.
 one_length : (t : List ℕ) (p : ℕ) (xs ys : List (List ℕ)) → StandsAt t p xs → StandsAt t p ys → length xs ≡ length ys
 one_length t p xs ys a b =
     let same : lowercase_labels xs ≡ lowercase_labels ys = sym a.2 ∙ (ap lowercase_labels (reads_once a.1.reads b.1.reads).1 ∙ b.2) in
     sym (length-map xs lowercase) ∙ (ap length same ∙ length-map ys lowercase)
 
-pub longer_found : (t : List ℕ) (name : List ℕ) (w : RememberedLabel) (ws : List RememberedLabel) (best : Option WrittenSuffix) (end : WrittenSuffix) → IsAbsoluteWire name → w.at ≡ end.place → end.place < 16384 → SuffixAt t end.place name (begin_or_length best name) end.begin end.pointers → Longest t ws name best → SuffixFound t (ws ++ w ∷ []) name end
+pub longer_found : (t : List ℕ) (name : List ℕ) (w : RememberedLabel) (ws : List RememberedLabel) (best : Option WrittenSuffix) (end : WrittenSuffix) → IsAbsoluteWire name → w.at ≡ end.offset → end.offset < 16384 → SuffixAt t end.offset name (begin_or_length best name) end.begin end.pointers → Longest t ws name best → SuffixFound t (ws ++ w ∷ []) name end
 longer_found t name w ws best end wire_form here lowercase x old =
     let size = taken_size name end.begin x.before (omega (arith, x.inside)) x.octets in
     let short : length (wire x.after) ≤ 255 = omega (arith, ap length wire_form.0, wire_form.1.1, ap (λ ls. length (wire ls)) x.parts, length-wire_append x.before x.after) in
@@ -89,7 +89,7 @@ longer_found t name w ws best end wire_form here lowercase x old =
       longest = record {
         parts = x.parts;
         more = x.more;
-        place = subst (λ p. FirstRemembered t (ws ++ w ∷ []) x.after p) here (first_here t x.after w ws (none x.before x.after x.parts x.more (omega (arith, size, x.earlier))) stands);
+        offset = subst (λ p. FirstRemembered t (ws ++ w ∷ []) x.after p) here (first_here t x.after w ws (none x.before x.after x.parts x.more (omega (arith, size, x.earlier))) stands);
         longest = λ xs ys e lt.
             let same = sym e ∙ x.parts in
             let longer = longer_suffix xs ys x.before x.after same lt x.more in
@@ -112,7 +112,7 @@ whole_found t name ws vs end zero f =
       longest = record {
         parts = f.longest.parts;
         more = f.longest.more;
-        place = first_more t f.after end.place ws vs f.longest.place;
+        offset = first_more t f.after end.offset ws vs f.longest.offset;
         longest = λ xs ys e lt. absurd (omega (arith, lt, ap length none));
       };
       through = f.through;
@@ -123,27 +123,27 @@ whole_found t name ws vs end zero f =
 
 -- Of the offsets, those before the rest were seen.
 pub record Seen (t : List ℕ) (name : List ℕ) (all rest : List Written) (best : Option WrittenSuffix) : Type 0 where
-  pub places_seen : List RememberedLabel
-  pub split : all_remembered all ≡ places_seen ++ all_remembered rest
-  pub longest : Longest t places_seen name best
+  pub offsets_seen : List RememberedLabel
+  pub split : all_remembered all ≡ offsets_seen ++ all_remembered rest
+  pub longest : Longest t offsets_seen name best
 
 pub seen_start : (t : List ℕ) (name : List ℕ) (all : List Written) → Seen t name all all None
-seen_start t name all = record { places_seen = []; split = refl; longest = λ xs ys e more. tt }
+seen_start t name all = record { offsets_seen = []; split = refl; longest = λ xs ys e more. tt }
 
 split_more : (seen : List RememberedLabel) (w : Written) (all rest more : List Written) → all_remembered all ≡ seen ++ all_remembered rest → rest ≡ w ∷ more → all_remembered all ≡ (seen ++ remembered w ∷ []) ++ all_remembered more
 split_more seen w all rest more split e = split ∙ (ap (λ r. seen ++ all_remembered r) e ∙ sym (append_assoc seen (remembered w ∷ []) (all_remembered more)))
 
 pub seen_next : (t : List ℕ) (name : List ℕ) (all rest more : List Written) (w : Written) (old new : Option WrittenSuffix) → (s : Seen t name all rest old) → rest ≡ w ∷ more → ((ws : List RememberedLabel) → Longest t ws name old → Longest t (ws ++ remembered w ∷ []) name new) → Seen t name all more new
 seen_next t name all rest more w old new s e improves = record {
-  places_seen = s.places_seen ++ remembered w ∷ [];
-  split = split_more s.places_seen w all rest more s.split e;
-  longest = improves s.places_seen s.longest;
+  offsets_seen = s.offsets_seen ++ remembered w ∷ [];
+  split = split_more s.offsets_seen w all rest more s.split e;
+  longest = improves s.offsets_seen s.longest;
 }
 
 pub seen_all : (t : List ℕ) (name : List ℕ) (all rest : List Written) (best : Option WrittenSuffix) → Seen t name all rest best → rest ≡ [] → Longest t (all_remembered all) name best
 seen_all t name all rest best s e =
-    let whole : all_remembered all ≡ s.places_seen = s.split ∙ (ap (λ r. s.places_seen ++ all_remembered r) e ∙ append-nil s.places_seen) in
+    let whole : all_remembered all ≡ s.offsets_seen = s.split ∙ (ap (λ r. s.offsets_seen ++ all_remembered r) e ∙ append-nil s.offsets_seen) in
     subst (λ ws. Longest t ws name best) (sym whole) s.longest
 
 pub seen_whole : (t : List ℕ) (name : List ℕ) (all more : List Written) (end : WrittenSuffix) → Seen t name all more (Some end) → end.begin ≡ 0 → SuffixFound t (all_remembered all) name end
-seen_whole t name all more end s zero = subst (λ ws. SuffixFound t ws name end) (sym s.split) (whole_found t name s.places_seen (all_remembered more) end zero s.longest)
+seen_whole t name all more end s zero = subst (λ ws. SuffixFound t ws name end) (sym s.split) (whole_found t name s.offsets_seen (all_remembered more) end zero s.longest)

@@ -10,11 +10,11 @@ use Rattle.domain_compress.specs.Compressing.{RememberedLabel, pointer_to, NoneR
 use Rattle.domain_compress.specs.Compressing.Compresses.{pointer, flat, unread}
 use Rattle.domain_compress.proofs.Searching.{one_cut}
 
-some_place : (t : List ℕ) (b : List (List ℕ)) (p : ℕ) (ws : List RememberedLabel) → FirstRemembered t ws b p → NoneRemembered t ws b → ⊥
-some_place t b p [] first none = absurd first
-some_place t b p (w ∷ ws) first none = elim first [
+some_offset : (t : List ℕ) (b : List (List ℕ)) (p : ℕ) (ws : List RememberedLabel) → FirstRemembered t ws b p → NoneRemembered t ws b → ⊥
+some_offset t b p [] first none = absurd first
+some_offset t b p (w ∷ ws) first none = elim first [
   | inl here ↦ none.0 here.0
-  | inr later ↦ some_place t b p ws later.1 none.1
+  | inr later ↦ some_offset t b p ws later.1 none.1
 ]
 
 first_once : (t : List ℕ) (b : List (List ℕ)) (p q : ℕ) (ws : List RememberedLabel) → FirstRemembered t ws b p → FirstRemembered t ws b q → p ≡ q
@@ -32,9 +32,9 @@ first_once t b p q (w ∷ ws) f g = elim f [
 
 as_long : {t : List ℕ} {ws : List RememberedLabel} {ls a b c d : List (List ℕ)} {p q : ℕ} → LongestSuffix t ws ls a b p → LongestSuffix t ws ls c d q → length a ≡ length c
 as_long {t} {ws} {ls} {a} {b} {c} {d} {p} {q} f g = elim (cases_lt (length a) (length c)) [
-  | inl lt ↦ absurd (some_place t b p ws f.place (g.longest a b f.parts lt))
+  | inl lt ↦ absurd (some_offset t b p ws f.offset (g.longest a b f.parts lt))
   | inr le ↦ elim (cases_lt (length c) (length a)) [
-    | inl lt ↦ absurd (some_place t d q ws g.place (f.longest c d g.parts lt))
+    | inl lt ↦ absurd (some_offset t d q ws g.offset (f.longest c d g.parts lt))
     | inr also ↦ omega (arith, le, also)
   ]
 ]
@@ -44,7 +44,7 @@ longest_once {t} {ws} {ls} {a} {b} {c} {d} {p} {q} f g =
     let size = as_long f g in
     let parts : a ++ b ≡ c ++ d = sym f.parts ∙ g.parts in
     let front : a ≡ c = sym (take-append_seam a b) ∙ (ap (take (length a)) parts ∙ (ap (λ n. take n (c ++ d)) size ∙ take-append_seam c d)) in
-    (front, first_once t b p q ws f.place (subst (λ e. FirstRemembered t ws e q) (sym (one_cut a b c d parts size)) g.place))
+    (front, first_once t b p q ws f.offset (subst (λ e. FirstRemembered t ws e q) (sym (one_cut a b c d parts size)) g.offset))
 
 same_read : (t : List ℕ) (ls : List (List ℕ)) {a c : List (List ℕ)} {p q : ℕ} → (a ≡ c) × (p ≡ q) → IsRead t ls a p → IsRead t ls c q
 same_read t ls {a} {c} {p} {q} e r = subst (λ k. IsRead t ls c k) e.1 (subst (λ x. IsRead t ls x p) e.0 r)
@@ -53,13 +53,13 @@ pub compresses_once : (t : List ℕ) (ws : List RememberedLabel) (ls a b : List 
 compresses_once t ws ls _ _ _ _ (pointer {a} {b} {p} f x) (pointer {a = c} {b = d} {p = q} g y) =
     let e = longest_once f g in
     (e.0, ap (λ z. wire z ++ pointer_to p) e.0 ∙ ap (λ k. wire c ++ pointer_to k) e.1)
-compresses_once t ws ls _ _ _ _ (pointer {a} {b} {p} f x) (flat none) = absurd (some_place t b p ws f.place (none a b f.parts f.more))
+compresses_once t ws ls _ _ _ _ (pointer {a} {b} {p} f x) (flat none) = absurd (some_offset t b p ws f.offset (none a b f.parts f.more))
 compresses_once t ws ls _ _ _ _ (pointer f x) (unread g not) = absurd (not (same_read t ls (longest_once f g) x))
-compresses_once t ws ls _ _ _ _ (flat none) (pointer {a} {b} {p} f x) = absurd (some_place t b p ws f.place (none a b f.parts f.more))
+compresses_once t ws ls _ _ _ _ (flat none) (pointer {a} {b} {p} f x) = absurd (some_offset t b p ws f.offset (none a b f.parts f.more))
 compresses_once t ws ls _ _ _ _ (flat none) (flat also) = (refl, refl)
-compresses_once t ws ls _ _ _ _ (flat none) (unread {a} {b} {p} f not) = absurd (some_place t b p ws f.place (none a b f.parts f.more))
+compresses_once t ws ls _ _ _ _ (flat none) (unread {a} {b} {p} f not) = absurd (some_offset t b p ws f.offset (none a b f.parts f.more))
 compresses_once t ws ls _ _ _ _ (unread f not) (pointer g x) = absurd (not (same_read t ls (longest_once g f) x))
-compresses_once t ws ls _ _ _ _ (unread {a} {b} {p} f not) (flat none) = absurd (some_place t b p ws f.place (none a b f.parts f.more))
+compresses_once t ws ls _ _ _ _ (unread {a} {b} {p} f not) (flat none) = absurd (some_offset t b p ws f.offset (none a b f.parts f.more))
 compresses_once t ws ls _ _ _ _ (unread f not) (unread g also) = (refl, refl)
 
 -- What is read stays after more octets, and where octets are cut after it.

@@ -21,8 +21,8 @@ use Rattle.domain_compress.proofs.OneResult.{stands_more}
 
 -- ---- more octets, fewer octets, other octets before n
 
-place_more : (n : ℕ) (t u : List ℕ) (w : RememberedLabel) → RememberedStands n t w → RememberedStands n (t ++ u) w
-place_more n t u w x = record {
+offset_more : (n : ℕ) (t u : List ℕ) (w : RememberedLabel) → RememberedStands n t w → RememberedStands n (t ++ u) w
+offset_more n t u w x = record {
   labels = x.labels;
   reads = subst (λ o. ReadsFrom n o w.at x.labels) (sym (take-append-le w.end t u x.inside)) x.reads;
   inside = omega (arith, x.inside, length-append t u);
@@ -30,10 +30,10 @@ place_more n t u w x = record {
 
 pub remembered_more : (n : ℕ) (t u : List ℕ) (ws : List RememberedLabel) → AllRememberedStand n t ws → AllRememberedStand n (t ++ u) ws
 remembered_more n t u [] a = All-nil (RememberedStands n (t ++ u))
-remembered_more n t u (w ∷ ws) a = All-cons (RememberedStands n (t ++ u)) w ws (place_more n t u w (All-head (RememberedStands n t) w ws a)) (remembered_more n t u ws (All-tail (RememberedStands n t) w ws a))
+remembered_more n t u (w ∷ ws) a = All-cons (RememberedStands n (t ++ u)) w ws (offset_more n t u w (All-head (RememberedStands n t) w ws a)) (remembered_more n t u ws (All-tail (RememberedStands n t) w ws a))
 
-place_cut : (n e : ℕ) (t : List ℕ) (w : RememberedLabel) → w.end ≤ e → RememberedStands n t w → RememberedStands n (take e t) w
-place_cut n e t w le x =
+offset_cut : (n e : ℕ) (t : List ℕ) (w : RememberedLabel) → w.end ≤ e → RememberedStands n t w → RememberedStands n (take e t) w
+offset_cut n e t w le x =
     record {
       labels = x.labels;
       reads = subst (λ o. ReadsFrom n o w.at x.labels) (sym (take-take w.end e t le)) x.reads;
@@ -46,7 +46,7 @@ remembered_cut n e t (w ∷ ws) a =
     let here = All-head (RememberedStands n t) w ws a in
     let rest = remembered_cut n e t ws (All-tail (RememberedStands n t) w ws a) in
     elim (nat_le w.end e) as (λ b. nat_le w.end e ≡ b → All (RememberedStands n (take e t)) (if b then w ∷ remembered_within e ws else remembered_within e ws)) [
-      | true ↦ λ test. All-cons (RememberedStands n (take e t)) w (remembered_within e ws) (place_cut n e t w (grind (arith, nat_tests)) here) rest
+      | true ↦ λ test. All-cons (RememberedStands n (take e t)) w (remembered_within e ws) (offset_cut n e t w (grind (arith, nat_tests)) here) rest
       | false ↦ λ test. rest
     ] refl
 
@@ -61,8 +61,8 @@ cut_drop n e m = elim (cases_lt e n) [
       ap (λ k. drop n (take k m)) (sym whole) ∙ drop-take n (e - n) m
 ]
 
-place_kept : (n : ℕ) (t o : List ℕ) (w : RememberedLabel) → drop n o ≡ drop n t → length o ≡ length t → RememberedStands n t w → RememberedStands n o w
-place_kept n t o w same size x =
+offset_kept : (n : ℕ) (t o : List ℕ) (w : RememberedLabel) → drop n o ≡ drop n t → length o ≡ length t → RememberedStands n t w → RememberedStands n o w
+offset_kept n t o w same size x =
     record {
       labels = x.labels;
       reads = after_kept (take w.end o) x.reads (cut_drop n w.end o ∙ (ap (take (w.end - n)) same ∙ sym (cut_drop n w.end t)));
@@ -71,7 +71,7 @@ place_kept n t o w same size x =
 
 pub remembered_kept : (n : ℕ) (t o : List ℕ) (ws : List RememberedLabel) → drop n o ≡ drop n t → length o ≡ length t → AllRememberedStand n t ws → AllRememberedStand n o ws
 remembered_kept n t o [] same size a = All-nil (RememberedStands n o)
-remembered_kept n t o (w ∷ ws) same size a = All-cons (RememberedStands n o) w ws (place_kept n t o w same size (All-head (RememberedStands n t) w ws a)) (remembered_kept n t o ws same size (All-tail (RememberedStands n t) w ws a))
+remembered_kept n t o (w ∷ ws) same size a = All-cons (RememberedStands n o) w ws (offset_kept n t o w same size (All-head (RememberedStands n t) w ws a)) (remembered_kept n t o ws same size (All-tail (RememberedStands n t) w ws a))
 
 pub stands_kept : (n : ℕ) (t o : List ℕ) (p : ℕ) (c ls : List (List ℕ)) → ReadsFrom n t p c → drop n o ≡ drop n t → StandsAt t p ls → StandsAt o p ls
 stands_kept n t o p c ls x same s = (s.0, names_kept o x same s.1, s.2)
@@ -122,7 +122,7 @@ flat_stands n (pointer x lt r) e le = absurd (omega (arith, e))
 
 -- what is written for a name, and the offsets of its labels
 pub record NewStands (n : ℕ) (t octets : List ℕ) (labels : List (List ℕ)) : Type 0 where
-  pub places : AllRememberedStand n (t ++ octets) (remembered_from (length t) (length (t ++ octets)) labels)
+  pub offsets : AllRememberedStand n (t ++ octets) (remembered_from (length t) (length (t ++ octets)) labels)
   pub read : List (List ℕ)
   pub reads : ReadsFrom n (t ++ octets) (length t) read
 
@@ -130,7 +130,7 @@ new_flat : (n : ℕ) (t : List ℕ) (ls : List (List ℕ)) → IsAbsoluteName ls
 new_flat n t ls name le =
     let names : Names 0 (t ++ wire ls) (length t) ls = rw (← append-nil (t ++ wire ls)) (plain_names t [] ls name) in
     record {
-      places = flat_stands n names.reads (omega (arith, names.few_pointers)) le;
+      offsets = flat_stands n names.reads (omega (arith, names.few_pointers)) le;
       read = ls;
       reads = after_from n (names_after names) le;
     }
@@ -138,12 +138,12 @@ new_flat n t ls name le =
 new_pointed : (n : ℕ) (t : List ℕ) (ws : List RememberedLabel) (ls a b : List (List ℕ)) (p : ℕ) → IsAbsoluteName ls → n ≤ length t → AllRememberedStand n t ws → LongestSuffix t ws ls a b p → NewStands n t (wire a ++ pointer_to p) a
 new_pointed n t ws ls a b p name le stand found =
     let rel : IsRelative a = begins_relative a b (subst IsAbsolute found.parts name.0) (omega (arith, found.more)) in
-    let end = first_stands n t b p ws stand found.place in
+    let end = first_stands n t b p ws stand found.offset in
     let inside : p < length t = reads_inside end.1.reads in
     let at = pointer_after (omega (arith, le)) (pointer_plain t a p) (omega (arith, inside)) (after_more (wire a ++ pointer_to p) end.1) in
     let flat = flat_plain a t (pointer_to p) rel in
     record {
-      places = labels_stand n (t ++ (wire a ++ pointer_to p)) a (length t) (length t + length (wire a)) end.0 le flat at;
+      offsets = labels_stand n (t ++ (wire a ++ pointer_to p)) a (length t) (length t + length (wire a)) end.0 le flat at;
       read = a ++ end.0;
       reads = labels_after a (length t) le flat at;
     }
@@ -160,9 +160,9 @@ added n t u ws vs ls name le stand x =
     let m = t ++ x.octets in
     let P = RememberedStands n m in
     let new = new_stands n t ws ls x.labels x.octets name le stand x.compresses in
-    let both : All P (ws ++ remembered_from (length t) (length m) x.labels) = All-append P ws (remembered_from (length t) (length m) x.labels) (remembered_more n t x.octets ws stand) new.places in
+    let both : All P (ws ++ remembered_from (length t) (length m) x.labels) = All-append P ws (remembered_from (length t) (length m) x.labels) (remembered_more n t x.octets ws stand) new.offsets in
     let all : All P (take 128 (ws ++ remembered_from (length t) (length t + length x.octets) x.labels)) = subst (λ e. All P (take 128 (ws ++ remembered_from (length t) e x.labels))) (length-append t x.octets) (All-take P 128 (ws ++ remembered_from (length t) (length m) x.labels) both) in
-    let same : All P vs = subst (λ vs. All P vs) (sym x.places) all in
+    let same : All P vs = subst (λ vs. All P vs) (sym x.offsets) all in
     (subst (λ o. AllRememberedStand n o vs) (sym x.all) same, (new.read, subst (λ o. ReadsFrom n o (length t) new.read) (sym x.all) new.reads))
 
 -- So a name that was written is read at its offset after more octets, and whatever is written before n.

@@ -12,25 +12,25 @@ pub record RememberedLabel : Type 0 where
 abbrev pub pointer_to : ℕ → List ℕ
 pointer_to p = (192 + p / 256) ∷ p % 256 ∷ []
 
--- A name that equals b without case stands at none of the places.
+-- A name that equals b without case stands at none of the offsets.
 abbrev pub NoneRemembered : List ℕ → List RememberedLabel → List (List ℕ) → Type 0
 NoneRemembered t [] b = ⊤
 NoneRemembered t (w ∷ ws) b = (StandsAt t w.at b → ⊥) × NoneRemembered t ws b
 
--- Such a name stands at p, the first such one of the places.
+-- Such a name stands at p, the first such one of the offsets.
 abbrev pub FirstRemembered : List ℕ → List RememberedLabel → List (List ℕ) → ℕ → Type 0
 FirstRemembered t [] b p = ⊥
 FirstRemembered t (w ∷ ws) b p = (StandsAt t w.at b × (p ≡ w.at)) ⊎ ((StandsAt t w.at b → ⊥) × FirstRemembered t ws b p)
 
--- ls is a and then b, which isn't the root alone. b is the longest end of ls that stands at one of the offsets,
+-- ls is a and then b, which isn't the root alone. b is the longest suffix of ls that stands at one of the offsets,
 -- and p is the first of these.
 pub record LongestSuffix (t : List ℕ) (ws : List RememberedLabel) (ls a b : List (List ℕ)) (p : ℕ) : Type 0 where
   pub parts : ls ≡ a ++ b
   pub more : 1 < length b
-  pub place : FirstRemembered t ws b p
+  pub offset : FirstRemembered t ws b p
   pub longest : (xs ys : List (List ℕ)) → ls ≡ xs ++ ys → length xs < length a → NoneRemembered t ws ys
 
--- No end of ls but the root stands at any of the places.
+-- No suffix of ls but the root stands at any of the offsets.
 abbrev pub NoSuffix : List ℕ → List RememberedLabel → List (List ℕ) → Type 0
 NoSuffix t ws ls = (xs ys : List (List ℕ)) → ls ≡ xs ++ ys → 1 < length ys → NoneRemembered t ws ys
 
@@ -51,9 +51,14 @@ remembered_from p end [] = []
 remembered_from p end (l ∷ ls) =
     if nat_lt 0 (length l) then (if nat_lt p 16384 then record { at = p; end = end } ∷ remembered_from (p + 1 + length l) end ls else []) else []
 
--- The offsets ws, and those of the labels that were written after t, up to 128 in all.
+-- The offsets ws, and those of these labels, which were written from p on for a name that ends at `end`, up to 128 in
+-- all.
+abbrev pub remembered_too : List RememberedLabel → ℕ → ℕ → List (List ℕ) → List RememberedLabel
+remembered_too ws p end labels = take 128 (ws ++ remembered_from p end labels)
+
+-- The offsets ws, and those of the labels that were written after t.
 abbrev pub more_remembered : List RememberedLabel → List ℕ → List (List ℕ) → List ℕ → List RememberedLabel
-more_remembered ws t labels s = take 128 (ws ++ remembered_from (length t) (length t + length s) labels)
+more_remembered ws t labels s = remembered_too ws (length t) (length t + length s) labels
 
 -- The offsets of names that end within the first n octets.
 abbrev pub remembered_within : ℕ → List RememberedLabel → List RememberedLabel
@@ -65,4 +70,4 @@ pub record Adds (t : List ℕ) (ws : List RememberedLabel) (ls : List (List ℕ)
   pub octets : List ℕ
   pub compresses : Compresses t ws ls labels octets
   pub all : t' ≡ t ++ octets
-  pub places : ws' ≡ more_remembered ws t labels octets
+  pub offsets : ws' ≡ more_remembered ws t labels octets

@@ -1,4 +1,4 @@
--- The ends of a name by their first labels.
+-- The suffixes of a name by their first labels.
 use Rattle.std.specs.Prelude.{◌≡◌, ℕ, ◌+◌, ◌*◌, ◌/◌, ◌%◌, ◌^◌, ◌<◌, List, [], ◌∷◌, ◌++◌, fold, length, slice_index}
 use Rattle.domain_label.specs.Wire.{labels_in}
 
@@ -25,6 +25,6 @@ slot_of h = h % 256
 abbrev pub IsMarked : List ℕ → List (List ℕ) → Type 0
 IsMarked marks ls = slice_index marks (slot_of (first_hash ls)) ≡ 1
 
--- So is that of each end of the name but the root.
+-- So is that of each suffix of the name but the root.
 abbrev pub AreMarked : List ℕ → List ℕ → Type 0
 AreMarked marks name = (xs ys : List (List ℕ)) → labels_in name ≡ xs ++ ys → 1 < length ys → IsMarked marks ys

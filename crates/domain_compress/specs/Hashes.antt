@@ -13,9 +13,9 @@ abbrev pub HasHash : List ℕ → ℕ → ℕ → Type 0
 HasHash t p h = (slice_index t p < 64) × (p + 1 + slice_index t p < length t) × (h ≡ hash_at t p)
 
 abbrev pub IsHashed : List ℕ → Written → Type 0
-IsHashed t w = HasHash t w.place w.hash
+IsHashed t w = HasHash t w.offset w.hash
 
--- Where the hashes count, they are those of the labels at the places.
+-- Where the hashes count, they are those of the labels at the offsets.
 abbrev pub IsKnown : Bool → List ℕ → List Written → Type 0
 IsKnown hashed t ws = hashed ≡ true → All (IsHashed t) ws
 

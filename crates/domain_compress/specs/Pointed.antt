@@ -29,10 +29,10 @@ label_plain t l u some few = record {
 flat_after : (t l u : List ℕ) (a : List (List ℕ)) → 0 < length l → length l ≤ 63 → Flat ((t ++ length l ∷ l) ++ (wire a ++ u)) (length (t ++ length l ∷ l)) a (length (t ++ length l ∷ l) + length (wire a)) → Flat (t ++ (wire (l ∷ a) ++ u)) (length t) (l ∷ a) (length t + length (wire (l ∷ a)))
 flat_after t l u a some few tail =
     let whole : (t ++ length l ∷ l) ++ (wire a ++ u) ≡ t ++ (length l ∷ ((l ++ wire a) ++ u)) = append_assoc t (length l ∷ l) (wire a ++ u) ∙ ap (λ xs. t ++ (length l ∷ xs)) (sym (append_assoc l (wire a) u)) in
-    let place : length (t ++ length l ∷ l) ≡ length t + 1 + length l = omega (arith, length-append t (length l ∷ l)) in
+    let offset : length (t ++ length l ∷ l) ≡ length t + 1 + length l = omega (arith, length-append t (length l ∷ l)) in
     let end : length t + 1 + length l + length (wire a) ≡ length t + length (wire (l ∷ a)) = omega (arith, length-append l (wire a)) in
     let m = t ++ (length l ∷ ((l ++ wire a) ++ u)) in
-    let moved = subst (λ p. Flat m p a (p + length (wire a))) place (subst (λ m. Flat m (length (t ++ length l ∷ l)) a (length (t ++ length l ∷ l) + length (wire a))) whole tail) in
+    let moved = subst (λ p. Flat m p a (p + length (wire a))) offset (subst (λ m. Flat m (length (t ++ length l ∷ l)) a (length (t ++ length l ∷ l) + length (wire a))) whole tail) in
     let here = subst (λ xs. LabelAt (t ++ (length l ∷ xs)) (length t) l) (sym (append_assoc l (wire a) u)) (label_plain t l (wire a ++ u) some few) in
     (here, subst (λ r. Flat m (length t + 1 + length l) a r) end moved)
 
@@ -48,7 +48,7 @@ nothing_after a b h some =
     let e : length (a ++ b) ≡ 0 = ap length h in
     omega (arith, length-append a b, e)
 
--- What stands before the end of an absolute list is relative.
+-- What stands before a suffix of an absolute list is relative.
 pub begins_relative : (a b : List (List ℕ)) → IsAbsolute (a ++ b) → 0 < length b → IsRelative a
 begins_relative [] b h some = tt
 begins_relative ([] ∷ a) b h some = absurd (nothing_after a b h some)
@@ -71,7 +71,7 @@ pointer_after t a p =
     let Q : ℕ → Type 0 = λ n. PointerAt ((t ++ wire a) ++ pointer_to p) n p in
     subst P (append_assoc t (wire a) (pointer_to p)) (subst Q (length-append t (wire a)) (pointer_plain (t ++ wire a) p))
 
--- A list of more than one label whose end is left has more than three octets there.
+-- A list of more than one label has at least two octets.
 end_size : (b : List (List ℕ)) → 1 < length b → 2 ≤ length (wire b)
 end_size [] h = absurd (omega arith)
 end_size (l ∷ []) h = absurd (omega arith)

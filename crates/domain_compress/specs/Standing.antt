@@ -10,6 +10,6 @@ pub record RememberedStands (n : ℕ) (t : List ℕ) (w : RememberedLabel) : Typ
   pub reads : ReadsFrom n (take w.end t) w.at labels
   pub inside : w.end ≤ length t
 
--- So they are at each of the places.
+-- So they are at each of the offsets.
 abbrev pub AllRememberedStand : ℕ → List ℕ → List RememberedLabel → Type 0
 AllRememberedStand n t ws = All (RememberedStands n t) ws

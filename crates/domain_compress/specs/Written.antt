@@ -10,7 +10,7 @@ use Rattle.domain_compress.specs.Compressing.{RememberedLabel, NoSuffix, FirstRe
 
 -- the offset at which a label was written, and the end of its name
 abbrev pub remembered : Written → RememberedLabel
-remembered w = record { at = w.place; end = w.end }
+remembered w = record { at = w.offset; end = w.end }
 
 -- the same of each entry of the table
 abbrev pub all_remembered : List Written → List RememberedLabel
@@ -23,7 +23,7 @@ pub record StandsThrough (t : List ℕ) (p : ℕ) (ls : List (List ℕ)) (k : �
   pub same : lowercase_labels labels ≡ lowercase_labels ls
   pub few : k ≤ 255
 
--- The end of the name that begins at the offset at of its wire format, before upto, stands at p.
+-- The suffix of the name that begins at the offset at of its wire format, before upto, stands at p.
 pub record SuffixAt (t : List ℕ) (p : ℕ) (name : List ℕ) (upto at k : ℕ) : Type 0 where
   pub before : List (List ℕ)
   pub after : List (List ℕ)
@@ -34,7 +34,7 @@ pub record SuffixAt (t : List ℕ) (p : ℕ) (name : List ℕ) (upto at k : ℕ)
   pub inside : at + 2 ≤ length name
   pub earlier : at < upto
 
--- No end of the name but the root that begins before upto stands at p.
+-- No suffix of the name but the root that begins before upto stands at p.
 abbrev pub NoSuffixAt : List ℕ → ℕ → List ℕ → ℕ → Type 0
 NoSuffixAt t p name upto = (xs ys : List (List ℕ)) → labels_in name ≡ xs ++ ys → 1 < length ys → length (wire xs) < upto → StandsAt t p ys → ⊥
 
@@ -44,18 +44,18 @@ pub record FirstFound (t : List ℕ) (ws : List Written) (ls : List (List ℕ)) 
   pub through : StandsThrough t p ls k
   pub low : p < 16384
 
--- The labels of the wire format up to where the end begins are before, and those after are the longest end that
+-- The labels of the wire format up to where the suffix begins are before, and those after are the longest suffix that
 -- stands anywhere, at its offset first.
 pub record SuffixFound (t : List ℕ) (ws : List RememberedLabel) (name : List ℕ) (end : WrittenSuffix) : Type 0 where
   pub before : List (List ℕ)
   pub after : List (List ℕ)
-  pub longest : LongestSuffix t ws (labels_in name) before after end.place
-  pub through : StandsThrough t end.place after end.pointers
+  pub longest : LongestSuffix t ws (labels_in name) before after end.offset
+  pub through : StandsThrough t end.offset after end.pointers
   pub octets : take end.begin name ≡ wire before
-  pub low : end.place < 16384
+  pub low : end.offset < 16384
   pub inside : end.begin + 2 ≤ length name
 
--- The longest end of the name that stands at one of the offsets, if any does.
+-- The longest suffix of the name that stands at one of the offsets, if any does.
 abbrev pub Longest : List ℕ → List RememberedLabel → List ℕ → Option WrittenSuffix → Type 0
 Longest t ws name None = NoSuffix t ws (labels_in name)
 Longest t ws name (Some end) = SuffixFound t ws name end
@@ -65,6 +65,6 @@ abbrev pub begin_or_length : Option WrittenSuffix → List ℕ → ℕ
 begin_or_length None name = length name
 begin_or_length (Some end) name = end.begin
 
--- With one place more, the longest end becomes another.
+-- With one offset more, the longest suffix becomes another.
 abbrev pub Improves : List ℕ → Written → List ℕ → Option WrittenSuffix → Option WrittenSuffix → Type 0
 Improves t w name old new = (ws : List RememberedLabel) → Longest t ws name old → Longest t (ws ++ remembered w ∷ []) name new

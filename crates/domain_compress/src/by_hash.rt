@@ -1,4 +1,4 @@
-//! Finding the longest end of a name by the hashes of labels.
+//! Finding the longest suffix of a name by the hashes of labels.
 ghost use Rattle.std.specs.Prelude.{◌≡◌, ◌<◌, length, map, IfSome, IsNone};
 ghost use Rattle.std.specs.List.{All};
 ghost use Rattle.domain_label.specs.Wire.{labels_in, IsAbsoluteWire};
@@ -14,7 +14,7 @@ use crate::written::{Written, WrittenSuffix};
 
 /// The first of the offsets at which the name is read, without case, and how many pointers lead along it there. Only
 /// where the hash is that of the name's first label are the octets read.
-fn first_place(
+fn first_offset(
     octets: &[u8],
     written: &[Written],
     hashes: &[u16],
@@ -26,24 +26,25 @@ fn first_place(
     requires known { All (IsHashed octets.now) written.now }
     requires hashes { hashes.now ≡ map hash_of written.now }
     requires hash { hash ≡ first_hash (labels_in name.now) }
-    ensures none { IsNone result → NoneRemembered octets.now (all_remembered written.now) (labels_in name.now) }
+    ensures none { IsNone result
+        → NoneRemembered octets.now (all_remembered written.now) (labels_in name.now) }
     ensures some { IfSome result (λ r. FirstFound octets.now written.now (labels_in name.now) r.0 r.1) }
 {
     let mut at = find_hash(hashes, 0, hash);
-    'places: while at < written.len() {
-        let place = written[at].place;
-        if let Some(pointers) = pointers_at(octets, usize::from(place), name) {
-            return Some((place, pointers));
+    'offsets: while at < written.len() {
+        let offset = written[at].offset;
+        if let Some(pointers) = pointers_at(octets, usize::from(offset), name) {
+            return Some((offset, pointers));
         }
         at = find_hash(hashes, at + 1, hash);
     }
     None
 }
 
-/// The longest end of the name that is read at one of the offsets, without case, and the first of these. The root
-/// alone is no end.
+/// The longest suffix of the name that is read at one of the offsets, ignoring case, and the first of these. The root
+/// alone is none.
 ///
-/// The ends are tried from the longest one on, so that the first that is found is the one.
+/// The suffixes are tried from the longest one on, so that the first that is found is the one.
 pub(crate) fn longest_by_hash(
     octets: &[u8],
     written: &[Written],
@@ -54,14 +55,14 @@ pub(crate) fn longest_by_hash(
     requires known { All (IsHashed octets.now) written.now }
     requires hashes { hashes.now ≡ map hash_of written.now }
     ensures none { IsNone result → NoSuffix octets.now (all_remembered written.now) (labels_in name.now) }
-    ensures some { IfSome result (λ end. SuffixFound octets.now (all_remembered written.now) name.now end) }
+    ensures some { IfSome result (SuffixFound octets.now (all_remembered written.now) name.now) }
 {
     let mut begin = 0;
     'ends: while name[begin] != 0 {
         let start = begin + 1;
         let end = start + usize::from(name[begin]);
         let first = hash(&name[start..end]);
-        if let Some((place, pointers)) = first_place(
+        if let Some((offset, pointers)) = first_offset(
             octets,
             written,
             hashes,
@@ -70,7 +71,7 @@ pub(crate) fn longest_by_hash(
         ) {
             return Some(WrittenSuffix {
                 begin,
-                place,
+                offset,
                 pointers,
             });
         }

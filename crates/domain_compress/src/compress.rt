@@ -3,10 +3,9 @@ ghost use Rattle.std.specs.Prelude.{◌≡◌, ◌≤◌, ◌<◌, ◌+◌, ◌+
 ghost use Rattle.std.proofs.lemmas.Bool.{true≢false, false≢true};
 ghost use Rattle.std.proofs.Props.{props};
 ghost use Rattle.domain_label.specs.Wire.{labels_in, IsAbsoluteWire};
-ghost use Rattle.domain_rdata.specs.ReadBack.{Appended, Exceeds};
 ghost use Rattle.domain_compress.specs.Compressing.{Adds, RememberedLabel, remembered_within};
 ghost use Rattle.domain_compress.specs.Hashes.{IsKnown, hash_of};
-ghost use Rattle.domain_compress.specs.MayWrite.{MayWrite, adds_appended};
+ghost use Rattle.domain_compress.specs.MayWrite.{MayWrite, NameAppended, NameExceeds, adds_appended};
 ghost use Rattle.domain_compress.specs.Written.{all_remembered};
 
 use crate::append::append_beginning;
@@ -17,14 +16,14 @@ use arrayvec::ArrayVec;
 use domain_rdata::Composer;
 use octseq::{Octets, OctetsBuilder, OctetsMut, Truncate};
 
-/// A composer that writes a name shorter where an end of it was written before (RFC 1035, 4.1.4).
+/// A composer that writes a name shorter where a suffix of it was written before (RFC 1035, 4.1.4).
 ///
 /// It appends to a target, which is any other composer, and remembers where labels of names were written: at
 /// most 128 offsets, those before the octet 16,384, to which a pointer can lead. Pointers count from the first
-/// octet of the target, so the message begins there. For a name it takes the longest end of it, other than the
+/// octet of the target, so the message begins there. For a name it takes the longest suffix of it, other than the
 /// root, that is read without case at an offset that it remembers, and writes the labels before it and a pointer
 /// to the first such offset. Where there is none, or a reader would have to follow more than 255 pointers, the
-/// name is written flat. Either way it is read back as an equal name.
+/// name is written uncompressed. Either way it is read back as an equal name.
 ///
 /// What the target held before is never pointed to. Octets that are written over through `as_slice_mut` are
 /// read anew for each name, so a pointer is right whatever they are; names that were written before may be no
@@ -47,7 +46,7 @@ impl<T: Composer> CompressComposer<T> {
     /// A composer of messages that begin with what the target holds. No offset in that is remembered.
     pub fn new(target: T) -> Self
         ensures target { target_of result ≡ target }
-        ensures places { remembered_labels result ≡ [] }
+        ensures offsets { remembered_labels result ≡ [] }
     {
         CompressComposer {
             target,
@@ -99,7 +98,7 @@ impl<T: Composer> Truncate for CompressComposer<T> {
     fn truncate(&mut self, len: usize)
         ensures octets { T.octets self.new.target ≡ take len (T.octets self.old.target) }
         ensures capacity { T.capacity self.new.target ≡ T.capacity self.old.target }
-        ensures places { remembered_labels self.new ≡ remembered_within len (remembered_labels self.old) }
+        ensures offsets { remembered_labels self.new ≡ remembered_within len (remembered_labels self.old) }
     {
         // While octets go away under the offsets, no hash counts.
         self.hashed = false;
@@ -119,10 +118,11 @@ impl<T: Composer> OctetsBuilder for CompressComposer<T> {
     fn append_slice(&mut self, slice: &[u8]) -> Result<(), T::AppendError>
         ensures ok { OnOk result (T.octets self.new.target ≡ T.octets self.old.target ++ slice.now) }
         ensures unchanged { OnErr result (T.octets self.new.target ≡ T.octets self.old.target) }
-        ensures full { OnErr result (T.capacity self.new.target < length (T.octets self.old.target) + length slice.now) }
+        ensures full { OnErr result
+            (T.capacity self.new.target < length (T.octets self.old.target) + length slice.now) }
         ensures capacity { T.capacity self.old.target ≤ T.capacity self.new.target }
         ensures within { IfSome T.limit (λ n. length (T.octets self.new.target) ≤ n) }
-        ensures places { remembered_labels self.new ≡ remembered_labels self.old }
+        ensures offsets { remembered_labels self.new ≡ remembered_labels self.old }
     {
         self.target.append_slice(slice)
     }
@@ -144,7 +144,7 @@ impl<T: Composer> Composer for CompressComposer<T> {
 
     ghost appends = { λ c ls d. Adds (T.octets c.target) (remembered_labels c) ls (T.octets d.target) (remembered_labels d) };
 
-    /// Appends the labels before the longest end of the name that stands at an offset that is remembered, and a
+    /// Appends the labels before the longest suffix of the name that stands at an offset that is remembered, and a
     /// pointer to the first such offset; or the wire format. The offsets of the labels that were written are
     /// remembered.
     ///
@@ -152,11 +152,17 @@ impl<T: Composer> Composer for CompressComposer<T> {
     /// then as before.
     fn append_flat_name(&mut self, name: &[u8]) -> Result<(), T::AppendError>
         requires { IsAbsoluteWire name.now }
-        ensures appends { OnOk result (Adds (T.octets self.old.target) (remembered_labels self.old) (labels_in name.now) (T.octets self.new.target) (remembered_labels self.new)) }
-        ensures ok { OnOk result (Appended (MayWrite (T.octets self.old.target) (remembered_labels self.old) (labels_in name.now)) (T.octets self.old.target) (T.octets self.new.target)) }
+        ensures appends { OnOk result (Adds
+            (T.octets self.old.target) (remembered_labels self.old) (labels_in name.now)
+            (T.octets self.new.target) (remembered_labels self.new)) }
+        ensures ok { OnOk result (NameAppended
+            (T.octets self.old.target) (remembered_labels self.old) (labels_in name.now)
+            (T.octets self.new.target)) }
         ensures unchanged { OnErr result (T.octets self.new.target ≡ T.octets self.old.target) }
         ensures memory_unchanged { OnErr result (remembered_labels self.new ≡ remembered_labels self.old) }
-        ensures full { OnErr result (Exceeds (MayWrite (T.octets self.old.target) (remembered_labels self.old) (labels_in name.now)) (T.octets self.old.target) (T.capacity self.old.target)) }
+        ensures full { OnErr result (NameExceeds
+            (T.octets self.old.target) (remembered_labels self.old) (labels_in name.now)
+            (T.capacity self.old.target)) }
         ensures capacity { T.capacity self.old.target ≤ T.capacity self.new.target }
     {
         let start = self.target.as_slice().len();

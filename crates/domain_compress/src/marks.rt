@@ -1,4 +1,4 @@
-//! Passing over offsets where no end of a name can stand, by a hash of the first label there.
+//! Passing over offsets where no suffix of a name can stand, by a hash of the first label there.
 ghost use Rattle.std.specs.Prelude.{◌≡◌, ◌<◌, ℕ, List, length, slice_index, nat_eq, IsTrue, true, MatchResult};
 ghost use Rattle.domain_label.specs.Wire.{IsAbsoluteWire};
 ghost use Rattle.domain_rdata.specs.ReadBack.{StandsAt};
@@ -40,7 +40,7 @@ fn is_marked(marks: &[u8; 256], hash: u16) -> bool
     marks[slot(hash)] == 1
 }
 
-/// Marks the hashes of the labels with which the ends of a name begin by a 1 each.
+/// Marks the hashes of the labels with which the suffixes of a name begin by a 1 each.
 pub(crate) fn mark_firsts(marks: &mut [u8; 256], name: &[u8])
     requires { IsAbsoluteWire name.now }
     ensures { AreMarked marks.new name.now }
@@ -55,33 +55,33 @@ pub(crate) fn mark_firsts(marks: &mut [u8; 256], name: &[u8])
 }
 
 /// What is at the offset, as `read_head` tells it.
-fn head_at(octets: &[u8], place: usize) -> Result<Head, NameFault>
-    ensures { MatchResult result (IsHeadAt octets.now place) (BrokenAt octets.now place) }
+fn head_at(octets: &[u8], offset: usize) -> Result<Head, NameFault>
+    ensures { MatchResult result (IsHeadAt octets.now offset) (BrokenAt octets.now offset) }
 {
-    head_at_with::<Brand>(octets, place, Blank::new(1))
+    head_at_with::<Brand>(octets, offset, Blank::new(1))
 }
 
 /// The same over a count of heads, of which no clause tells.
 #[inline(always)]
-fn head_at_with<L: Ledger>(octets: &[u8], place: usize, blank: Blank) -> Result<Head, NameFault>
+fn head_at_with<L: Ledger>(octets: &[u8], offset: usize, blank: Blank) -> Result<Head, NameFault>
     requires ledger { blank.name ≡ L.name }
     requires parts { blank.parts ≡ L.parts }
     requires some { 0 < blank.parts }
-    ensures { MatchResult result (IsHeadAt octets.now place) (BrokenAt octets.now place) }
+    ensures { MatchResult result (IsHeadAt octets.now offset) (BrokenAt octets.now offset) }
 {
     let mut heads = Heads::<L>::new(blank);
-    read_head(octets, place, &mut heads)
+    read_head(octets, offset, &mut heads)
 }
 
 /// The hash of the label at the offset, and whether a label stands there at all, with another octet after it.
-pub(crate) fn hash_there(octets: &[u8], place: usize) -> (bool, u16)
-    requires { place < 16384 }
-    ensures { result.0 ≡ true → HasHash octets.now place result.1 }
+pub(crate) fn hash_there(octets: &[u8], offset: usize) -> (bool, u16)
+    requires { offset < 16384 }
+    ensures { result.0 ≡ true → HasHash octets.now offset result.1 }
 {
-    let Ok(Head::Label(len)) = head_at(octets, place) else {
+    let Ok(Head::Label(len)) = head_at(octets, offset) else {
         return (false, 0);
     };
-    let start = place + 1;
+    let start = offset + 1;
     let end = start + usize::from(len);
     if end >= octets.len() {
         return (false, 0);
@@ -90,17 +90,18 @@ pub(crate) fn hash_there(octets: &[u8], place: usize) -> (bool, u16)
 }
 
 /// Whether a name whose first label has a marked hash may stand at the offset. Where a pointer stands it may.
-pub(crate) fn may_stand(octets: &[u8], place: usize, marks: &[u8; 256]) -> bool
-    requires { place < 16384 }
-    ensures { (ls : List (List ℕ)) → 0 < length (first_label ls) → IsMarked marks.now ls → StandsAt octets.now place ls → IsTrue result }
+pub(crate) fn may_stand(octets: &[u8], offset: usize, marks: &[u8; 256]) -> bool
+    requires { offset < 16384 }
+    ensures { (ls : List (List ℕ)) → 0 < length (first_label ls)
+        → IsMarked marks.now ls → StandsAt octets.now offset ls → IsTrue result }
 {
-    let Ok(head) = head_at(octets, place) else {
+    let Ok(head) = head_at(octets, offset) else {
         return false;
     };
     match head {
         Head::Root => false,
         Head::Label(len) => {
-            let start = place + 1;
+            let start = offset + 1;
             is_marked(marks, hash(&octets[start..start + usize::from(len)]))
         }
         Head::Pointer(_target) => true,

@@ -1,14 +1,14 @@
-//! How a name is to be written: the labels before its longest end that stands somewhere, and a pointer to that.
+//! How a name is to be written: the labels before its longest suffix that stands somewhere, and a pointer to that.
 ghost use Rattle.std.specs.Prelude.{◌≡◌, ◌<◌, ◌≤◌, ◌+◌, ◌++◌, length, take, IfSome, IsNone};
 ghost use Rattle.std.specs.List.{All};
 ghost use Rattle.domain_label.specs.Wire.{labels_in, IsWire, IsAbsoluteWire};
 ghost use Rattle.domain_compress.specs.Compressing.{pointer_to, remembered_from};
 ghost use Rattle.domain_compress.specs.Hashes.{IsKnown, AreListed};
-ghost use Rattle.domain_compress.specs.Planned.{places_in_table, offsets, WritesPointer, WritesFlat};
+ghost use Rattle.domain_compress.specs.Planned.{remembered_in_table, offsets, WritesBeginning, WritesFlat};
 ghost use Rattle.domain_compress.specs.Written.{all_remembered};
 
 use crate::remember::remember;
-use crate::search::longest_end;
+use crate::search::longest_written;
 use crate::written::Written;
 use arrayvec::ArrayVec;
 use domain_list::composing::put_octets;
@@ -19,14 +19,14 @@ const MAX_POINTERS: u8 = 255;
 /// The beginning of a name that is to be written, and where a pointer after it leads to.
 #[derive(Clone, Copy, Debug)]
 pub struct Beginning {
-    /// How many octets of the name stand before the end that a pointer stands for.
+    /// How many octets of the name stand before the suffix that a pointer stands for.
     pub begin: usize,
     /// The offset that the pointer leads to.
     pub offset: u16,
 }
 
-/// The beginning of the name before its longest end that stands where something was written, and the first such
-/// offset. `None` where no end stands at any, or one pointer too many would lead along the name.
+/// The beginning of the name before its longest suffix that stands where something was written, and the first such
+/// offset. `None` where no suffix stands at any, or one pointer too many would lead along the name.
 pub(crate) fn find_beginning(
     octets: &[u8],
     written: &[Written],
@@ -37,10 +37,10 @@ pub(crate) fn find_beginning(
     requires wire { IsAbsoluteWire name.now }
     requires known { IsKnown hashed octets.now written.now }
     requires listed { AreListed hashed hashes.now written.now }
-    ensures some { IfSome result (λ b. WritesPointer octets.now (all_remembered written.now) name.now b.begin b.offset) }
+    ensures some { IfSome result (WritesBeginning octets.now (all_remembered written.now) name.now) }
     ensures none { IsNone result → WritesFlat octets.now (all_remembered written.now) name.now }
 {
-    let Some(end) = longest_end(octets, written, hashes, name, hashed) else {
+    let Some(end) = longest_written(octets, written, hashes, name, hashed) else {
         return None;
     };
     if end.pointers == MAX_POINTERS {
@@ -48,7 +48,7 @@ pub(crate) fn find_beginning(
     }
     Some(Beginning {
         begin: end.begin,
-        offset: end.place,
+        offset: end.offset,
     })
 }
 
@@ -82,12 +82,12 @@ pub fn put_pointed(name: &[u8], begin: usize, offset: u16, octets: &mut [u8; 255
 fn written_at(table: &[u16]) -> ArrayVec<Written, 128>
     requires few { length table.now ≤ 128 }
     requires low { All (λ p. p < 16384) table.now }
-    ensures { all_remembered result.items ≡ places_in_table table.now }
+    ensures { all_remembered result.items ≡ remembered_in_table table.now }
 {
     let mut written = ArrayVec::new();
     for offset in table {
         written.push(Written {
-            place: *offset,
+            offset: *offset,
             end: 0,
             hash: 0,
         });
@@ -96,17 +96,17 @@ fn written_at(table: &[u16]) -> ArrayVec<Written, 128>
 }
 
 /// How a name is to be written after octets, for callers that keep octets and offsets themselves: the beginning of
-/// the name before its longest end, other than the root, that is read without case at an offset of the table, and the
+/// the name before its longest suffix, other than the root, that is read without case at an offset of the table, and the
 /// first such offset.
 ///
-/// `None` where no end is read at any, or more than 255 pointers would lead along the name: it is then to be written
+/// `None` where no suffix is read at any, or more than 255 pointers would lead along the name: it is then to be written
 /// with no pointer. It needs no memory.
 pub fn plan(octets: &[u8], table: &[u16], name: &[u8]) -> Option<Beginning>
     requires wire { IsAbsoluteWire name.now }
     requires few { length table.now ≤ 128 }
     requires low { All (λ p. p < 16384) table.now }
-    ensures some { IfSome result (λ b. WritesPointer octets.now (places_in_table table.now) name.now b.begin b.offset) }
-    ensures none { IsNone result → WritesFlat octets.now (places_in_table table.now) name.now }
+    ensures some { IfSome result (WritesBeginning octets.now (remembered_in_table table.now) name.now) }
+    ensures none { IsNone result → WritesFlat octets.now (remembered_in_table table.now) name.now }
 {
     find_beginning(octets, written_at(table).as_slice(), &[], name, false)
 }
@@ -118,7 +118,7 @@ fn offsets_of(written: &[Written]) -> ArrayVec<u16, 128>
 {
     let mut table = ArrayVec::new();
     for label in written {
-        table.push(label.place);
+        table.push(label.offset);
     }
     table
 }
@@ -129,7 +129,8 @@ pub fn more_offsets(table: &[u16], labels: &[u8], start: usize) -> ArrayVec<u16,
     requires few { length table.now ≤ 128 }
     requires low { All (λ p. p < 16384) table.now }
     requires labels { IsWire labels.now }
-    ensures { result.items ≡ take 128 (table.now ++ offsets (remembered_from start start (labels_in labels.now))) }
+    ensures { result.items
+        ≡ take 128 (table.now ++ offsets (remembered_from start start (labels_in labels.now))) }
 {
     let mut written = written_at(table);
     remember(&mut written, false, &[], labels, start, start);

@@ -1,7 +1,7 @@
 //! Remembering where labels were written.
-ghost use Rattle.std.specs.Prelude.{◌≡◌, ◌++◌, ◌+◌, ◌≤◌, length, take};
+ghost use Rattle.std.specs.Prelude.{◌≡◌, ◌+◌, ◌≤◌, length, take};
 ghost use Rattle.domain_label.specs.Wire.{labels_in, IsWire};
-ghost use Rattle.domain_compress.specs.Compressing.{remembered_from, remembered_within};
+ghost use Rattle.domain_compress.specs.Compressing.{remembered_too, remembered_within};
 ghost use Rattle.domain_compress.specs.Hashes.{IsKnown};
 ghost use Rattle.domain_compress.specs.Written.{all_remembered};
 
@@ -10,7 +10,7 @@ use crate::written::Written;
 use arrayvec::ArrayVec;
 
 /// A pointer leads to offsets below this one.
-const PLACES_END: usize = 16384;
+const OFFSETS_END: usize = 16384;
 
 /// Remembers where these labels stand, but for the root, that were written from `start` on for a name that ends
 /// at `end`. Tells whether all hashes are still those of the labels in the octets.
@@ -24,9 +24,11 @@ pub(crate) fn remember(
 ) -> bool
     requires labels { IsWire labels.now }
     requires end { end ≤ start + 255 }
-    ensures known { IsKnown hashed octets.now written.old.items → IsKnown result octets.now written.new.items }
+    ensures known { IsKnown hashed octets.now written.old.items
+        → IsKnown result octets.now written.new.items }
     ensures kept { take (length written.old.items) written.new.items ≡ written.old.items }
-    ensures places { all_remembered written.new.items ≡ take 128 (all_remembered written.old.items ++ remembered_from start end (labels_in labels.now)) }
+    ensures offsets { all_remembered written.new.items
+        ≡ remembered_too (all_remembered written.old.items) start end (labels_in labels.now) }
 {
     if written.remaining_capacity() == 0 {
         return hashed;
@@ -39,10 +41,10 @@ pub(crate) fn remember(
             return holds;
         }
         // Past the end none of the label's offsets counts, and the sum below can't wrap before it.
-        if start >= PLACES_END {
+        if start >= OFFSETS_END {
             return holds;
         }
-        if start + at >= PLACES_END {
+        if start + at >= OFFSETS_END {
             return holds;
         }
         if written.remaining_capacity() == 0 {
@@ -50,7 +52,7 @@ pub(crate) fn remember(
         }
         let (stands, hash) = hash_there(octets, start + at);
         written.push(Written {
-            place: (start + at) as u16,
+            offset: (start + at) as u16,
             end: end as u16,
             hash,
         });
@@ -64,17 +66,18 @@ pub(crate) fn remember(
 /// are those of the labels in the octets.
 pub(crate) fn forget(written: &mut ArrayVec<Written, 128>, octets: &[u8], len: usize) -> bool
     ensures known { IsKnown result octets.now written.new.items }
-    ensures places { all_remembered written.new.items ≡ remembered_within len (all_remembered written.old.items) }
+    ensures offsets { all_remembered written.new.items
+        ≡ remembered_within len (all_remembered written.old.items) }
 {
     let _room = written.remaining_capacity();
     let mut kept = ArrayVec::new();
     let mut holds = true;
     let mut rest = written.as_slice();
-    'places: while let [first, more @ ..] = rest {
+    'offsets: while let [first, more @ ..] = rest {
         if usize::from(first.end) <= len {
-            let (stands, hash) = hash_there(octets, usize::from(first.place));
+            let (stands, hash) = hash_there(octets, usize::from(first.offset));
             kept.push(Written {
-                place: first.place,
+                offset: first.offset,
                 end: first.end,
                 hash,
             });

@@ -1,4 +1,4 @@
-//! Finding the longest end of a name that was written before.
+//! Finding the longest suffix of a name that was written before.
 ghost use Rattle.std.specs.Prelude.{◌≡◌, ◌<◌, IfSome, IsNone};
 ghost use Rattle.domain_label.specs.Wire.{labels_in, IsAbsoluteWire};
 ghost use Rattle.domain_rdata.specs.ReadBack.{StandsAt};
@@ -16,27 +16,32 @@ use std::marker::Brand;
 use std::sync::ledger::{Blank, Ledger};
 
 /// How many pointers lead along the name at the offset, where it is this one without case.
-pub(crate) fn pointers_at(octets: &[u8], place: usize, name: &[u8]) -> Option<u8>
+pub(crate) fn pointers_at(octets: &[u8], offset: usize, name: &[u8]) -> Option<u8>
     requires { IsAbsoluteWire name.now }
-    ensures none { IsNone result → StandsAt octets.now place (labels_in name.now) → ⊥ }
-    ensures some { IfSome result (λ _. StandsAt octets.now place (labels_in name.now)) }
-    ensures through { IfSome result (λ k. StandsThrough octets.now place (labels_in name.now) k) }
+    ensures none { IsNone result → StandsAt octets.now offset (labels_in name.now) → ⊥ }
+    ensures some { IfSome result (λ _. StandsAt octets.now offset (labels_in name.now)) }
+    ensures through { IfSome result (StandsThrough octets.now offset (labels_in name.now)) }
 {
-    pointers_at_with::<Brand>(octets, place, name, Blank::new(1))
+    pointers_at_with::<Brand>(octets, offset, name, Blank::new(1))
 }
 
 /// The same over a count of heads, of which no clause tells.
-fn pointers_at_with<L: Ledger>(octets: &[u8], place: usize, name: &[u8], blank: Blank) -> Option<u8>
+fn pointers_at_with<L: Ledger>(
+    octets: &[u8],
+    offset: usize,
+    name: &[u8],
+    blank: Blank,
+) -> Option<u8>
     requires wire { IsAbsoluteWire name.now }
     requires ledger { blank.name ≡ L.name }
     requires parts { blank.parts ≡ L.parts }
     requires some { 0 < blank.parts }
-    ensures none { IsNone result → StandsAt octets.now place (labels_in name.now) → ⊥ }
-    ensures some { IfSome result (λ _. StandsAt octets.now place (labels_in name.now)) }
-    ensures through { IfSome result (λ k. StandsThrough octets.now place (labels_in name.now) k) }
+    ensures none { IsNone result → StandsAt octets.now offset (labels_in name.now) → ⊥ }
+    ensures some { IfSome result (λ _. StandsAt octets.now offset (labels_in name.now)) }
+    ensures through { IfSome result (StandsThrough octets.now offset (labels_in name.now)) }
 {
     let mut heads = Heads::<L>::new(blank);
-    let mut at = place;
+    let mut at = offset;
     let mut passed = 0;
     let mut pointers = 0u8;
     'heads: loop {
@@ -80,17 +85,17 @@ fn pointers_at_with<L: Ledger>(octets: &[u8], place: usize, name: &[u8], blank: 
 
 /// The longest suffix of the name that is read at the offset, ignoring case, of those that begin before `upto`, and
 /// through how many pointers it is read. The root alone is none.
-fn suffix_at(octets: &[u8], place: usize, name: &[u8], upto: usize) -> Option<(usize, u8)>
+fn suffix_at(octets: &[u8], offset: usize, name: &[u8], upto: usize) -> Option<(usize, u8)>
     requires { IsAbsoluteWire name.now }
-    ensures none { IsNone result → NoSuffixAt octets.now place name.now upto }
-    ensures some { IfSome result (λ r. SuffixAt octets.now place name.now upto r.0 r.1) }
+    ensures none { IsNone result → NoSuffixAt octets.now offset name.now upto }
+    ensures some { IfSome result (λ r. SuffixAt octets.now offset name.now upto r.0 r.1) }
 {
     let mut begin = 0;
     'ends: while begin < upto {
         if name[begin] == 0 {
             return None;
         }
-        if let Some(pointers) = pointers_at(octets, place, &name[begin..]) {
+        if let Some(pointers) = pointers_at(octets, offset, &name[begin..]) {
             return Some((begin, pointers));
         }
         begin = begin + 1 + usize::from(name[begin]);
@@ -98,7 +103,7 @@ fn suffix_at(octets: &[u8], place: usize, name: &[u8], upto: usize) -> Option<(u
     None
 }
 
-/// Where the end begins; where there is none, how long the name is.
+/// Where the suffix begins; where there is none, how long the name is.
 fn begin_or_len(end: Option<WrittenSuffix>, name: &[u8]) -> usize
     ensures { result ≡ begin_or_length end name.now }
 {
@@ -108,7 +113,7 @@ fn begin_or_len(end: Option<WrittenSuffix>, name: &[u8]) -> usize
     }
 }
 
-/// The longer one of the longest end that was found so far and the one that is read at a further offset.
+/// The longer one of the longest suffix that was found so far and the one that is read at a further offset.
 fn better_suffix(
     octets: &[u8],
     written: Written,
@@ -118,34 +123,34 @@ fn better_suffix(
     requires { IsAbsoluteWire name.now }
     ensures { Improves octets.now written name.now best result }
 {
-    let place = usize::from(written.place);
-    match suffix_at(octets, place, name, begin_or_len(best, name)) {
+    let offset = usize::from(written.offset);
+    match suffix_at(octets, offset, name, begin_or_len(best, name)) {
         Some((begin, pointers)) => Some(WrittenSuffix {
             begin,
-            place: written.place,
+            offset: written.offset,
             pointers,
         }),
         None => best,
     }
 }
 
-/// The longest end of the name that is read at one of the offsets, without case, and the first of these. The
-/// root alone is no end.
+/// The longest suffix of the name that is read at one of the offsets, ignoring case, and the first of these. The
+/// root alone is none.
 ///
 /// It goes over the offsets once, and reads no hash that was kept. What stands at most of the offsets begins with a
-/// label of another hash than any end of the name: no more is read there.
+/// label of another hash than any suffix of the name: no more is read there.
 fn longest_suffix(octets: &[u8], written: &[Written], name: &[u8]) -> Option<WrittenSuffix>
     requires { IsAbsoluteWire name.now }
     ensures none { IsNone result → NoSuffix octets.now (all_remembered written.now) (labels_in name.now) }
-    ensures some { IfSome result (λ end. SuffixFound octets.now (all_remembered written.now) name.now end) }
+    ensures some { IfSome result (SuffixFound octets.now (all_remembered written.now) name.now) }
 {
     let mut marks = [0u8; 256];
     mark_firsts(&mut marks, name);
     let mut best = None;
     let mut rest = written;
-    'places: while let Some((first, more)) = rest.split_first() {
+    'offsets: while let Some((first, more)) = rest.split_first() {
         rest = more;
-        if !may_stand(octets, usize::from(first.place), &marks) {
+        if !may_stand(octets, usize::from(first.offset), &marks) {
             continue;
         }
         best = better_suffix(octets, *first, name, best);
@@ -159,7 +164,7 @@ fn longest_suffix(octets: &[u8], written: &[Written], name: &[u8]) -> Option<Wri
 }
 
 /// The same, by the hashes where they count.
-pub(crate) fn longest_end(
+pub(crate) fn longest_written(
     octets: &[u8],
     written: &[Written],
     hashes: &[u16],
@@ -170,7 +175,7 @@ pub(crate) fn longest_end(
     requires known { IsKnown hashed octets.now written.now }
     requires listed { AreListed hashed hashes.now written.now }
     ensures none { IsNone result → NoSuffix octets.now (all_remembered written.now) (labels_in name.now) }
-    ensures some { IfSome result (λ end. SuffixFound octets.now (all_remembered written.now) name.now end) }
+    ensures some { IfSome result (SuffixFound octets.now (all_remembered written.now) name.now) }
 {
     if hashed {
         return longest_by_hash(octets, written, hashes, name);

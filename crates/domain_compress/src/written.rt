@@ -4,29 +4,29 @@ ghost use Rattle.std.specs.Prelude.{◌<◌};
 /// Where a label was written, where the name ends that it was written for, and a hash of the label.
 #[derive(Clone, Copy)]
 pub(crate) struct Written {
-    pub(crate) place: u16,
+    pub(crate) offset: u16,
     pub(crate) end: u16,
     pub(crate) hash: u16,
-    ghost low: { place < 16384 },
+    ghost low: { offset < 16384 },
 }
 
 impl Default for Written {
     fn default() -> Written {
         Written {
-            place: 0,
+            offset: 0,
             end: 0,
             hash: 0,
         }
     }
 }
 
-/// An end of a name that stands at an offset of the octets.
+/// A suffix of a name that stands at an offset of the octets.
 #[derive(Clone, Copy)]
 pub(crate) struct WrittenSuffix {
     /// Where it begins in the octets of the name.
     pub(crate) begin: usize,
     /// The offset.
-    pub(crate) place: u16,
+    pub(crate) offset: u16,
     /// How many pointers lead along it there.
     pub(crate) pointers: u8,
 }

@@ -17,18 +17,18 @@ bounds-name-begin c = (ahead _ _ c.requires.wire c.ends.invariant).inside
 pub slice_bounds-hash-end : goal.slice_bounds-hash-end
 slice_bounds-hash-end c = omega (arith, (ahead _ _ c.requires.wire c.ends.invariant).head_fits, c.from.ensures)
 
-pub first_place-requires-clause-wire : goal.first_place-requires-clause-wire
-first_place-requires-clause-wire c =
+pub first_offset-requires-clause-wire : goal.first_offset-requires-clause-wire
+first_offset-requires-clause-wire c =
     subst IsAbsoluteWire (sym (after_all c.args.name.now c.ends.begin)) (ahead _ _ c.requires.wire c.ends.invariant).wire_form
 
-pub first_place-requires-clause-some : goal.first_place-requires-clause-some
-first_place-requires-clause-some c =
+pub first_offset-requires-clause-some : goal.first_offset-requires-clause-some
+first_offset-requires-clause-some c =
     let s = c.ends.invariant in
     let spelled : labels_in _ ≡ s.after = ap labels_in (after_all c.args.name.now c.ends.begin) ∙ (ahead _ _ c.requires.wire s).spelled in
     subst (λ (b : List (List ℕ)). 0 < length (first_label b)) (sym spelled) (first_some _ _ _ _ s.meets s.absolute c.ends-test.true)
 
-pub first_place-requires-clause-hash : goal.first_place-requires-clause-hash
-first_place-requires-clause-hash c =
+pub first_offset-requires-clause-hash : goal.first_offset-requires-clause-hash
+first_offset-requires-clause-hash c =
     let s = c.ends.invariant in
     let name = c.args.name.now in
     let spelled : labels_in _ ≡ s.after = ap labels_in (after_all name c.ends.begin) ∙ (ahead _ _ c.requires.wire s).spelled in
@@ -37,7 +37,7 @@ first_place-requires-clause-hash c =
 
 pub returns-in-Some-clause-some : goal.returns-in-Some-clause-some
 returns-in-Some-clause-some c =
-    let P : List ℕ → Type 0 = λ o. FirstFound c.args.octets.now c.args.written.now (labels_in o) c.in-Some.place c.in-Some.pointers in
+    let P : List ℕ → Type 0 = λ o. FirstFound c.args.octets.now c.args.written.now (labels_in o) c.in-Some.offset c.in-Some.pointers in
     found_end _ _ _ _ _ _ c.requires.wire c.ends.invariant c.ends-test.true (subst P (after_all c.args.name.now c.ends.begin) c.in-Some.ensures.some)
 
 pub ends-preserved : goal.ends-preserved

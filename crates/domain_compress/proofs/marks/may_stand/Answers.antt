@@ -12,5 +12,5 @@ returns-in-Root c = λ ls some marked s. absurd (root_stands _ _ ls (rw c.in-Roo
 pub returns-in-Label : goal.returns-in-Label
 returns-in-Label c = λ ls some marked s.
     let x = rw c.in-Label.is at c.in-Ok.ensures in
-    let hashed = c.hash.ensures ∙ ap (λ n. label_hash (slice_range c.args.octets.now (c.args.place + 1) (c.args.place + 1 + n))) c.from.ensures in
+    let hashed = c.hash.ensures ∙ ap (λ n. label_hash (slice_range c.args.octets.now (c.args.offset + 1) (c.args.offset + 1 + n))) c.from.ensures in
     c.is_marked.ensures ∙ ap (λ z. nat_eq z 1) (seen_marked _ _ _ _ ls (label_low _ _ _ x) (label_here _ _ _ _ x hashed) some marked s)

@@ -6,4 +6,4 @@ use Rattle.domain_compress.proofs.plan.more_offsets.Goals as goal
 
 pub returns : goal.returns
 returns c =
-    c.offsets_of.ensures ∙ (ap (λ ws. offsets (all_remembered ws)) c.as_slice.ensures.value ∙ (ap offsets c.remember.ensures.places ∙ offsets_more _ _ _ c.written_at-written.ensures))
+    c.offsets_of.ensures ∙ (ap (λ ws. offsets (all_remembered ws)) c.as_slice.ensures.value ∙ (ap offsets c.remember.ensures.offsets ∙ offsets_more _ _ _ c.written_at-written.ensures))

@@ -4,12 +4,12 @@ use Rattle.domain_compress.specs.Hashes.{IsKnown}
 use Rattle.domain_compress.specs.Written.{all_remembered}
 use Rattle.domain_compress.proofs.remember.forget.Given as goal
 
-abbrev pub invariant-places : goal.invariant-places
-invariant-places l = record {
+abbrev pub invariant-offsets : goal.invariant-offsets
+invariant-offsets l = record {
   all : remembered_within l.len (all_remembered l.fn.written.items) ≡ all_remembered l.kept.items ++ remembered_within l.len (all_remembered l.rest);
   known : IsKnown l.holds l.octets l.kept.items;
   few : length l.kept.items + length l.rest ≤ 128;
 }
 
-abbrev pub decreases-places : goal.decreases-places
-decreases-places l = length l.rest
+abbrev pub decreases-offsets : goal.decreases-offsets
+decreases-offsets l = length l.rest

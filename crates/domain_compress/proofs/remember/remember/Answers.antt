@@ -14,22 +14,22 @@ labels-init c = record {
   few = omega (arith, remembered_size c.args.written.now.items, c.remaining_capacity.ensures);
 }
 
-pub returns-then-remaining_capacity-eq0-clause-places : goal.returns-then-remaining_capacity-eq0-clause-places
-returns-then-remaining_capacity-eq0-clause-places c =
+pub returns-then-remaining_capacity-eq0-clause-offsets : goal.returns-then-remaining_capacity-eq0-clause-offsets
+returns-then-remaining_capacity-eq0-clause-offsets c =
     remember_full _ _ c.args.labels.now _ _ 0 (remember_start (all_remembered c.args.written.now.items) c.args.labels.now c.args.start c.args.end c.requires.labels) (omega (arith, remembered_size c.args.written.now.items, c.remaining_capacity.ensures))
 
-pub returns-then-remaining_capacity-eq0-2-clause-places : goal.returns-then-remaining_capacity-eq0-2-clause-places
-returns-then-remaining_capacity-eq0-2-clause-places c =
+pub returns-then-remaining_capacity-eq0-2-clause-offsets : goal.returns-then-remaining_capacity-eq0-2-clause-offsets
+returns-then-remaining_capacity-eq0-2-clause-offsets c =
     remember_full _ _ _ _ _ _ c.labels.invariant.done (omega (arith, remembered_size c.labels.written.items, c.remaining_capacity-in-labels.ensures))
 
-pub returns-then-len-eq0-clause-places : goal.returns-then-len-eq0-clause-places
-returns-then-len-eq0-clause-places c = remember_root _ _ _ _ _ _ c.labels.invariant.done c.labels.invariant.few (sym c.from-len.ensures ∙ c.if-len-eq0.true)
+pub returns-then-len-eq0-clause-offsets : goal.returns-then-len-eq0-clause-offsets
+returns-then-len-eq0-clause-offsets c = remember_root _ _ _ _ _ _ c.labels.invariant.done c.labels.invariant.few (sym c.from-len.ensures ∙ c.if-len-eq0.true)
 
-pub returns-then-start-ge-PLACES_END-clause-places : goal.returns-then-start-ge-PLACES_END-clause-places
-returns-then-start-ge-PLACES_END-clause-places c = remember_far _ _ _ _ _ _ c.labels.invariant.done c.labels.invariant.few (omega arith)
+pub returns-then-start-ge-OFFSETS_END-clause-offsets : goal.returns-then-start-ge-OFFSETS_END-clause-offsets
+returns-then-start-ge-OFFSETS_END-clause-offsets c = remember_far _ _ _ _ _ _ c.labels.invariant.done c.labels.invariant.few (omega arith)
 
-pub returns-then-start-at-ge-PLACES_END-clause-places : goal.returns-then-start-at-ge-PLACES_END-clause-places
-returns-then-start-at-ge-PLACES_END-clause-places c = remember_far _ _ _ _ _ _ c.labels.invariant.done c.labels.invariant.few (omega arith)
+pub returns-then-start-at-ge-OFFSETS_END-clause-offsets : goal.returns-then-start-at-ge-OFFSETS_END-clause-offsets
+returns-then-start-at-ge-OFFSETS_END-clause-offsets c = remember_far _ _ _ _ _ _ c.labels.invariant.done c.labels.invariant.few (omega arith)
 
 pub labels-preserved : goal.labels-preserved
 labels-preserved c =
@@ -43,8 +43,8 @@ labels-preserved c =
       few = omega (arith, remembered_size c.push.new.self.items, size, c.remaining_capacity-in-labels.ensures);
     }
 
-pub returns-clause-places : goal.returns-clause-places
-returns-clause-places c = remember_all _ _ _ _ _ _ c.labels.invariant.done c.labels.invariant.few (omega arith)
+pub returns-clause-offsets : goal.returns-clause-offsets
+returns-clause-offsets c = remember_all _ _ _ _ _ _ c.labels.invariant.done c.labels.invariant.few (omega arith)
 
 pub returns-then-remaining_capacity-eq0-clause-kept : goal.returns-then-remaining_capacity-eq0-clause-kept
 returns-then-remaining_capacity-eq0-clause-kept c = take_all_items c.args.written.now.items

@@ -3,11 +3,11 @@ use Rattle.domain_compress.specs.Ends.{AreMarked}
 use Rattle.domain_compress.proofs.LongerSuffix.{Seen}
 use Rattle.domain_compress.proofs.search.longest_suffix.Given as goal
 
-abbrev pub invariant-places : goal.invariant-places
-invariant-places l = record {
+abbrev pub invariant-offsets : goal.invariant-offsets
+invariant-offsets l = record {
   seen : Seen l.octets l.name l.written l.rest l.best;
   marked : AreMarked l.marks l.name;
 }
 
-abbrev pub decreases-places : goal.decreases-places
-decreases-places l = length l.rest
+abbrev pub decreases-offsets : goal.decreases-offsets
+decreases-offsets l = length l.rest

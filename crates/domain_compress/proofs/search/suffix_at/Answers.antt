@@ -20,12 +20,12 @@ pointers_at-requires c =
 
 pub returns-in-Some-clause-some : goal.returns-in-Some-clause-some
 returns-in-Some-clause-some c =
-    let P : List ℕ → Type 0 = λ o. StandsThrough c.args.octets.now c.args.place (labels_in o) c.in-Some.pointers in
+    let P : List ℕ → Type 0 = λ o. StandsThrough c.args.octets.now c.args.offset (labels_in o) c.in-Some.pointers in
     end_stands _ _ _ _ _ _ c.requires c.ends.invariant c.ends-test.true c.if-name-begin-eq0.false (subst P (after_all c.args.name.now c.ends.begin) c.in-Some.ensures.through)
 
 pub ends-preserved : goal.ends-preserved
 ends-preserved c =
-    let None : List (List ℕ) → Type 0 = λ ys. StandsAt c.args.octets.now c.args.place ys → ⊥ in
+    let None : List (List ℕ) → Type 0 = λ ys. StandsAt c.args.octets.now c.args.offset ys → ⊥ in
     let P : ℕ → Type 0 = λ k. Passed None c.args.name.now (c.ends.begin + 1 + k) in
     let here = subst None (ahead _ _ c.requires c.ends.invariant).spelled (subst (λ o. None (labels_in o)) (after_all c.args.name.now c.ends.begin) (c.in_default.ensures.none refl)) in
     subst P (sym c.from.ensures) (passed_next _ _ c.ends.invariant here c.if-name-begin-eq0.false)

@@ -18,7 +18,7 @@ begun g c =
     let t = c.append_slice.new.self.target.items in
     let empty : length c.new-message.result.target.items ≡ 0 = ap (λ m. length m.items) c.new-message.ensures.target ∙ ap length c.new.ensures in
     let size : length t ≡ 12 = ap length started.ok ∙ length-append c.new-message.result.target.items _ ∙ ap (λ n. n + 12) empty in
-    (size, subst (AllRememberedStand 12 t) (sym (started.places ∙ c.new-message.ensures.places)) (c.compress_laws.ensures.remembered_none 12 t))
+    (size, subst (AllRememberedStand 12 t) (sym (started.offsets ∙ c.new-message.ensures.offsets)) (c.compress_laws.ensures.remembered_none 12 t))
 
 pub returns-clause-first : goal.returns-clause-first
 returns-clause-first g c =
@@ -44,7 +44,7 @@ returns-clause-second g c =
     let adds = c.in_ok-append_compressed_name.ensures.appends in
     let more = c.in_ok-append_slice-2.ensures in
     let stand = (laws.remembered_added 12 t u _ _ _ (g.met.N.Absolute.absolute c.args.first.now) few start.1 adds).0 in
-    let kept : AllRememberedStand 12 v (remembered_labels c.append_slice-2.new.self) = subst (λ m. AllRememberedStand 12 m (remembered_labels c.append_slice-2.new.self)) (sym more.ok) (subst (AllRememberedStand 12 (u ++ _)) (sym more.places) (laws.remembered_more 12 u _ _ stand)) in
+    let kept : AllRememberedStand 12 v (remembered_labels c.append_slice-2.new.self) = subst (λ m. AllRememberedStand 12 m (remembered_labels c.append_slice-2.new.self)) (sym more.ok) (subst (AllRememberedStand 12 (u ++ _)) (sym more.offsets) (laws.remembered_more 12 u _ _ stand)) in
     let longer = ap length adds.all in
     let longest = ap length more.ok ∙ length-append u _ in
     let enough : 12 ≤ length v = omega (arith, size, longer, longest, length-append t adds.octets) in
