@@ -118,4 +118,4 @@ pub fault_counted : {T : Type 0} {n : ℕ} {m : List ℕ} {p : ℕ} {d : NameFau
     → (f : NameFaultAt n m p d) × (now ≡ before + length f.passed + f.pointers + 1) → MatchResult r Q (λ e. CountsFault n (message parser) (position parser) (refusal e) before now)
 fault_counted Q before now parser (Ok x) a b err t f = cc
 fault_counted {n = n} {m} {p} {d} Q before now parser (Err e) a b err t f =
-    subst (λ p. CountsFault n (message parser) p (refusal e) before now) b (subst (λ m. CountsFault n m p (refusal e) before now) a (d, t, f.0, f.1))
+    subst (λ p. CountsFault n (message parser) p (refusal e) before now) b (subst (λ m. CountsFault n m p (refusal e) before now) a (d, t, f))

@@ -1,10 +1,10 @@
 -- How contracts describe a name in a message, and the iterators over it.
-use Rattle.std.specs.Prelude.{ℕ, Bool, List, [], ◌∷◌, if◌then◌else◌, slice_range}
+use Rattle.std.specs.Prelude.{ℕ, Bool, List, [], ◌∷◌, if◌then◌else◌}
 use Rattle.octseq.specs.declared.octets.Octets.{Ghosts}
 use Rattle.domain_parsed.specs.declared.parsed.ParsedName.{ParsedName}
 use Rattle.domain_parsed.specs.declared.iter.ParsedNameIter.{ParsedNameIter}
 use Rattle.domain_parsed.specs.declared.suffixes.ParsedSuffixIter.{ParsedSuffixIter}
-use Rattle.domain_reading.specs.Offsets.{labels_at_entries}
+use Rattle.domain_reading.specs.Offsets.{labels_at_entries, table_labels}
 
 -- the octets of the message that the name is in
 abbrev pub parsed_octets : {O : Type 0} {g : Ghosts O} → ParsedName O g → List ℕ
@@ -12,7 +12,7 @@ parsed_octets {g = g} n = g.octets n.octets
 
 -- its labels, the root among them: those at the offsets that remain
 abbrev pub parsed_labels : {O : Type 0} {g : Ghosts O} → ParsedName O g → List (List ℕ)
-parsed_labels {g = g} n = labels_at_entries (g.octets n.octets) n.base (slice_range n.entries n.dropped n.count)
+parsed_labels {g = g} n = table_labels (g.octets n.octets) n.base n.entries n.dropped n.count
 
 -- what `is_compressed` returns
 abbrev pub may_be_compressed : {O : Type 0} {g : Ghosts O} → ParsedName O g → Bool
@@ -31,6 +31,10 @@ abbrev pub suffixes : List ℕ → Bool → List (List ℕ) → List (List ℕ �
 suffixes o c [] = []
 suffixes o c (l ∷ ls) = (o, c, l ∷ ls) ∷ suffixes o c ls
 
+-- the names that are its suffixes, itself among them
+abbrev pub suffixes_of : {O : Type 0} {g : Ghosts O} → ParsedName O g → List (List ℕ × Bool × List (List ℕ))
+suffixes_of n = suffixes (parsed_octets n) (may_be_compressed n) (parsed_labels n)
+
 -- the names that an iterator still gives
 abbrev pub suffixes_left : ParsedSuffixIter → List (List ℕ × Bool × List (List ℕ))
-suffixes_left it = if it.ended then [] else suffixes (parsed_octets it.name) (may_be_compressed it.name) (parsed_labels it.name)
+suffixes_left it = if it.ended then [] else suffixes_of it.name

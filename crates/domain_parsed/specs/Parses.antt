@@ -3,29 +3,49 @@ use Rattle.std.specs.Prelude.{◌≡◌, ℕ, ◌+◌, ◌↔◌, List, length, 
 use Rattle.octseq.specs.declared.octets.Octets.{Ghosts}
 use Rattle.octseq.specs.declared.parse.Parser.{Parser}
 use Rattle.octseq.specs.Parsing.{slice_of, message, position}
+use Rattle.domain_wire.specs.Refusals.{refusal}
 use Rattle.domain_wire.specs.declared.error.ParseError.{ParseError}
 use Rattle.domain_label.specs.Wire.{wire}
-use Rattle.domain_reading.specs.Grammar.{Names, IsContiguous}
-use Rattle.domain_reading.specs.ParseResult.{MovesPastName, IsErrorOfName, StandsUncompressed}
+use Rattle.domain_reading.specs.Grammar.{Names, HasName, IsContiguous}
+use Rattle.domain_reading.specs.ParseResult.{MovesPastName, IsErrorOfName, StandsUncompressed, CountsName, CountsFault}
 use Rattle.domain_parsed.specs.declared.parsed.ParsedName.{ParsedName}
 use Rattle.domain_parsed.specs.ParsedNames.{parsed_octets, parsed_labels, may_be_compressed}
+
+-- By its flag the name is uncompressed exactly where the name at the parser's position is, from its first label on.
+abbrev pub TellsCompression : {O : Type 0} {g : Ghosts O} → Parser → ParsedName O g → Type 0
+TellsCompression parser name = (may_be_compressed name ≡ false) ↔ IsContiguous (message parser) (position parser)
+
+-- It is the uncompressed name ls, and the parser was moved past the octets of this.
+abbrev pub IsUncompressed : {O : Type 0} {g : Ghosts O} → Parser → Parser → List (List ℕ) → ParsedName O g → Type 0
+IsUncompressed old new ls name = (parsed_labels name ≡ ls) × (may_be_compressed name ≡ false) × (position new ≡ position old + length (wire ls))
+
+-- A result is that name, and no error.
+abbrev pub GivesUncompressed : {O E : Type 0} {g : Ghosts O} → Parser → Parser → Result (ParsedName O g) E → List (List ℕ) → Type 0
+GivesUncompressed old new result ls = MatchResult result (IsUncompressed old new ls) (λ _. ⊥)
+
+-- One was counted for each label and each pointer of the name at the parser's position; where an error is the result,
+-- for each that was read before it, and for the one that can't be read.
+abbrev pub CountsHeads : {O : Type 0} {g : Ghosts O} → ℕ → Parser → ℕ → ℕ → Result (ParsedName O g) ParseError → Type 0
+CountsHeads limit parser before now result = MatchResult result
+    (λ name. CountsName limit (message parser) (position parser) (parsed_labels name) before now)
+    (λ e. CountsFault limit (message parser) (position parser) (refusal e) before now)
 
 -- A result is the name at the parser's position, read through at most `limit` pointers, and the parser was moved past
 -- it. Nothing is said of an error.
 pub record GivesName {O E : Type 0} {g : Ghosts O} (limit : ℕ) (old new : Parser) (result : Result (ParsedName O g) E) : Type 0 where
   pub labels : IfOk result (λ name. Names limit (message old) (position old) (parsed_labels name))
   pub octets : IfOk result (λ name. parsed_octets name ≡ slice_of old)
-  pub is_compressed : IfOk result (λ name. (may_be_compressed name ≡ false) ↔ IsContiguous (message old) (position old))
+  pub is_compressed : IfOk result (TellsCompression old)
   pub moves : OnOk result (MovesPastName old new)
-  pub uncompressed : (ls : List (List ℕ)) → StandsUncompressed old ls → IfOk result (λ name. (parsed_labels name ≡ ls) × (may_be_compressed name ≡ false) × (position new ≡ position old + length (wire ls)))
+  pub uncompressed : (ls : List (List ℕ)) → StandsUncompressed old ls → IfOk result (IsUncompressed old new ls)
 
 -- What `ParsedName::parse` promises, clause by clause, where at most `limit` pointers are followed.
 pub record ParsesName {O : Type 0} {g : Ghosts O} (limit : ℕ) (old new : Parser) (result : Result (ParsedName O g) ParseError) : Type 0 where
-  pub exact : IsOk result ↔ ((ls : List (List ℕ)) × Names limit (message old) (position old) ls)
+  pub exact : IsOk result ↔ HasName limit (message old) (position old)
   pub labels : IfOk result (λ name. Names limit (message old) (position old) (parsed_labels name))
   pub octets : IfOk result (λ name. parsed_octets name ≡ slice_of old)
-  pub is_compressed : IfOk result (λ name. (may_be_compressed name ≡ false) ↔ IsContiguous (message old) (position old))
+  pub is_compressed : IfOk result (TellsCompression old)
   pub moves : OnOk result (MovesPastName old new)
-  pub uncompressed : (ls : List (List ℕ)) → StandsUncompressed old ls → MatchResult result (λ name. (parsed_labels name ≡ ls) × (may_be_compressed name ≡ false) × (position new ≡ position old + length (wire ls))) (λ _. ⊥)
-  pub err : IfErr result (λ e. IsErrorOfName limit old e)
+  pub uncompressed : (ls : List (List ℕ)) → StandsUncompressed old ls → GivesUncompressed old new result ls
+  pub err : IfErr result (IsErrorOfName limit old)
   pub unchanged : OnErr result (new ≡ old)

@@ -8,6 +8,14 @@ use Rattle.domain_name.specs.Names.{relative_labels}
 use Rattle.domain_parsed.specs.declared.parsed.ParsedName.{ParsedName}
 use Rattle.domain_parsed.specs.ParsedNames.{parsed_octets, parsed_labels, may_be_compressed}
 
+-- The name new is old without its first label.
+abbrev pub IsParent : {O : Type 0} {g : Ghosts O} → ParsedName O g → ParsedName O g → Type 0
+IsParent old new = (label : List ℕ) × (parsed_labels old ≡ label ∷ parsed_labels new)
+
+-- The relative name has one label, the first one of the name.
+abbrev pub IsFirstLabel : {O : Type 0} {g : Ghosts O} {P : Type 0} {h : Ghosts P} → ParsedName O g → RelativeName P h → Type 0
+IsFirstLabel old first = (label : List ℕ) × (rest : List (List ℕ)) × (relative_labels first ≡ label ∷ []) × (parsed_labels old ≡ label ∷ rest)
+
 -- The name new is old without its first label, which is in the octets at this range.
 pub record DropsFirst {O : Type 0} {g : Ghosts O} (old : ParsedName O g) (range : Range ℕ) (new : ParsedName O g) : Type 0 where
   pub label : List ℕ

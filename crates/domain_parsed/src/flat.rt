@@ -1,8 +1,8 @@
 //! The labels of a name in uncompressed wire format, found as those of a name in a message.
-ghost use Rattle.std.specs.Prelude.{◌≡◌, slice_range, false};
+ghost use Rattle.std.specs.Prelude.{◌≡◌, false};
 ghost use Rattle.domain_label.specs.Wire.{IsAbsoluteWire, labels_in};
 ghost use Rattle.domain_reading.specs.ParseResult.{Holds};
-ghost use Rattle.domain_reading.specs.Offsets.{labels_at_entries};
+ghost use Rattle.domain_reading.specs.Progress.{labels_found};
 
 use domain_reading::progress::Progress;
 use domain_reading::table::MAX_LABELS;
@@ -12,7 +12,7 @@ use domain_reading::uncounted::read_name;
 pub(crate) fn read_flat(octets: &[u8], entries: &mut [u16; MAX_LABELS]) -> Progress
     requires { IsAbsoluteWire octets.now }
     ensures held { Holds octets.now result entries.new }
-    ensures labels { labels_at_entries octets.now result.base (slice_range entries.new 0 result.count) ≡ labels_in octets.now }
+    ensures labels { labels_found octets.now result entries.new ≡ labels_in octets.now }
     ensures contiguous { result.compressed ≡ false }
 {
     let mut progress = Progress::new(0);

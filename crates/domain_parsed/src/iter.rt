@@ -44,7 +44,8 @@ impl<'a> ParsedNameIter<'a> {
     #[inline(always)]
     pub fn next_counted<L: Ledger>(&mut self, heads: &mut Heads<L>) -> Option<Label<'a>>
         ensures first { YieldsFirstBy label_octets labels_left self.old result self.new }
-        ensures counted { MatchOption result (heads.new ≡ heads.old) (λ _. heads.new ≡ heads.old + 1) }
+        ensures counted { MatchOption result
+            (heads.new ≡ heads.old) (λ _. heads.new ≡ heads.old + 1) }
     {
         let (first, rest) = self.entries.split_first()?;
         let offset = entry_offset(self.base, *first);
@@ -57,7 +58,8 @@ impl<'a> ParsedNameIter<'a> {
     #[inline(always)]
     pub fn next_back_counted<L: Ledger>(&mut self, heads: &mut Heads<L>) -> Option<Label<'a>>
         ensures last { YieldsLastBy label_octets labels_left self.old result self.new }
-        ensures counted { MatchOption result (heads.new ≡ heads.old) (λ _. heads.new ≡ heads.old + 1) }
+        ensures counted { MatchOption result
+            (heads.new ≡ heads.old) (λ _. heads.new ≡ heads.old + 1) }
     {
         let (last, front) = self.entries.split_last()?;
         let offset = entry_offset(self.base, *last);

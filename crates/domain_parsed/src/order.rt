@@ -57,7 +57,8 @@ impl<Octs: Octets> PartialOrd for ParsedName<Octs> {
 
     ghost partial_cmp = { as_partial_cmp (on parsed_labels canonical_order) };
 
-    ghost laws = { partial_order_from_agreeing_total (on parsed_labels canonical_order) (on_total parsed_labels order_is_total) (λ a b. refl) (λ a b. refl) };
+    ghost laws = { partial_order_from_agreeing_total (on parsed_labels canonical_order)
+        (on_total parsed_labels order_is_total) (λ a b. refl) (λ a b. refl) };
 
     fn partial_cmp(&self, other: &ParsedName<Octs>) -> Option<Ordering> {
         Some(self.cmp(other))

@@ -1,10 +1,13 @@
 //! A name in a message.
-ghost use Rattle.std.specs.Prelude.{◌≡◌, ◌≤◌, ◌<◌, ◌+◌, ◌^◌, ◌∷◌, ◌++◌, ◌↔◌, ℕ, List, [], length, slice_range, take, unwrap_or, IfOk, IfErr, IfSome, IsSome, IsNone, OnOk, OnErr, IsOk, IsTrue, MatchBool, MatchResult, true, false, ⊤};
+ghost use Rattle.std.specs.Prelude.{◌≡◌, ◌≤◌, ◌<◌, ◌+◌, ◌^◌, ◌∷◌, ◌++◌, ◌↔◌, ℕ, List, [], length, slice_range, take, true, false, ⊤};
+ghost use Rattle.std.specs.Prelude.{IfOk, IfErr, IfSome, IsSome, IsNone, OnOk, OnErr, IsOk, IsTrue, MatchBool};
 ghost use Rattle.domain_label.specs.Wire.{wire, Root, IsAbsoluteName};
 ghost use Rattle.domain_label.proofs.WireLaws.{IsAbsoluteName_prop};
-ghost use Rattle.domain_reading.specs.Grammar.{Names, IsContiguous};
+ghost use Rattle.domain_reading.specs.Limits.{max_name, max_labels, max_pointers};
+ghost use Rattle.domain_reading.specs.Grammar.{Names, HasName};
 ghost use Rattle.domain_label.specs.Labels.{label_octets};
-ghost use Rattle.domain_reading.specs.Offsets.{AreLabelOffsets, labels_at_entries};
+ghost use Rattle.domain_reading.specs.Offsets.{table_labels, TableHasLabels, AreContiguous};
+ghost use Rattle.domain_reading.specs.Progress.{end_offset, labels_found};
 
 use crate::flat::read_flat;
 use crate::iter::ParsedNameIter;
@@ -58,13 +61,18 @@ pub struct ParsedName<Octs: Octets> {
     // There is a label, and at most 128 are there; at the offset of each entry is a whole label, and these are an
     // absolute name.
     ghost some: { dropped < count },
-    ghost few: { count ≤ 128 },
-    ghost stand: { AreLabelOffsets (Octs.octets octets) base (slice_range entries dropped count) },
-    ghost absolute: { IsAbsoluteName (labels_at_entries (Octs.octets octets) base (slice_range entries dropped count)) } by { IsAbsoluteName_prop (labels_at_entries (Octs.octets octets) base (slice_range entries dropped count)) },
-    // `name_len` is its size, and it had at most 255 octets; with the flag false it stands in a row.
-    ghost sized: { name_len ≡ length (wire (labels_at_entries (Octs.octets octets) base (slice_range entries dropped count))) },
-    ghost short: { dropped_len + name_len ≤ 255 },
-    ghost flat: { compressed ≡ false → slice_range (Octs.octets octets) (base + dropped_len) (base + dropped_len + name_len) ≡ wire (labels_at_entries (Octs.octets octets) base (slice_range entries dropped count)) },
+    ghost few: { count ≤ max_labels },
+    ghost stand: { TableHasLabels (Octs.octets octets) base entries dropped count },
+    ghost absolute: { IsAbsoluteName
+        (table_labels (Octs.octets octets) base entries dropped count) } by { IsAbsoluteName_prop
+            (table_labels (Octs.octets octets) base entries dropped count) },
+    // `name_len` is its size, and it had at most 255 octets; with the flag false it is contiguous.
+    ghost sized: { name_len
+        ≡ length (wire (table_labels (Octs.octets octets) base entries dropped count)) },
+    ghost short: { dropped_len + name_len ≤ max_name },
+    ghost flat: { compressed ≡ false
+        → AreContiguous (Octs.octets octets) (base + dropped_len) name_len
+        (table_labels (Octs.octets octets) base entries dropped count) },
 }
 
 impl<Octs: Octets + Copy> Copy for ParsedName<Octs> {}
@@ -81,11 +89,10 @@ impl<Octs: Octets + Copy> Clone for ParsedName<Octs> {
 
 impl<'a> ParsedName<&'a [u8]> {
     ghost use Rattle.domain_parsed.specs.ParsedNames.{parsed_octets, parsed_labels, may_be_compressed};
-    ghost use Rattle.domain_parsed.specs.Parses.{GivesName, ParsesName};
+    ghost use Rattle.domain_parsed.specs.Parses.{GivesName, ParsesName, TellsCompression, GivesUncompressed, CountsHeads};
     ghost use Rattle.octseq.specs.Parsing.{slice_of, message, position, MovesTo};
-    ghost use Rattle.domain_reading.specs.Faults.{NameFaultAt, Skips};
-    ghost use Rattle.domain_wire.specs.Refusals.{refusal};
-    ghost use Rattle.domain_reading.specs.ParseResult.{Holds, MovesPastName, IsErrorOfName, SkipsName, IsErrorOfSkip, StandsUncompressed, CountsName, CountsFault};
+    ghost use Rattle.domain_reading.specs.Faults.{NameFaultAt, HasSkip};
+    ghost use Rattle.domain_reading.specs.ParseResult.{Holds, MovesPastName, IsErrorOfName, SkipsName, IsErrorOfSkip, StandsUncompressed};
 
     /// Reads the name at the parser's position, and moves the parser after the name's root or first pointer.
     ///
@@ -121,13 +128,16 @@ impl<'a> ParsedName<&'a [u8]> {
     /// ```
     #[inline(always)]
     pub fn parse(parser: &mut Parser<'a>) -> Result<ParsedName<&'a [u8]>, ParseError>
-        ensures exact { IsOk result ↔ ((ls : List (List ℕ)) × Names 255 (message parser.old) (position parser.old) ls) }
-        ensures labels { IfOk result (λ name. Names 255 (message parser.old) (position parser.old) (parsed_labels name)) }
+        ensures exact { IsOk result
+            ↔ HasName max_pointers (message parser.old) (position parser.old) }
+        ensures labels { IfOk result (λ name.
+            Names max_pointers (message parser.old) (position parser.old) (parsed_labels name)) }
         ensures octets { IfOk result (λ name. parsed_octets name ≡ slice_of parser.old) }
-        ensures is_compressed { IfOk result (λ name. (may_be_compressed name ≡ false) ↔ IsContiguous (message parser.old) (position parser.old)) }
+        ensures is_compressed { IfOk result (TellsCompression parser.old) }
         ensures moves { OnOk result (MovesPastName parser.old parser.new) }
-        ensures uncompressed { (ls : List (List ℕ)) → StandsUncompressed parser.old ls → MatchResult result (λ name. (parsed_labels name ≡ ls) × (may_be_compressed name ≡ false) × (position parser.new ≡ position parser.old + length (wire ls))) (λ _. ⊥) }
-        ensures err { IfErr result (λ e. IsErrorOfName 255 parser.old e) }
+        ensures uncompressed { (ls : List (List ℕ)) → StandsUncompressed parser.old ls
+            → GivesUncompressed parser.old parser.new result ls }
+        ensures err { IfErr result (IsErrorOfName max_pointers parser.old) }
         ensures unchanged { OnErr result (parser.new ≡ parser.old) }
     {
         ParsedName::parse_with::<Brand>(parser, MAX_POINTERS, Blank::new(1))
@@ -136,7 +146,7 @@ impl<'a> ParsedName<&'a [u8]> {
     /// The same as `parse`.
     #[inline(always)]
     pub fn parse_ref(parser: &mut Parser<'a>) -> Result<ParsedName<&'a [u8]>, ParseError>
-        ensures { ParsesName 255 parser.old parser.new result }
+        ensures { ParsesName max_pointers parser.old parser.new result }
     {
         ParsedName::parse(parser)
     }
@@ -152,7 +162,7 @@ impl<'a> ParsedName<&'a [u8]> {
         ParsedName::parse_with::<Brand>(parser, limit, Blank::new(1))
     }
 
-    /// `parse_counted` with a new counter, which is dropped. (Why `Brand` and `Blank`: `domain_reading`, `alone.rt`.)
+    /// `parse_counted` with a new counter, which is dropped. (Why `Brand` and `Blank`: `domain_reading`, `uncounted.rt`.)
     #[inline(always)]
     fn parse_with<L: Ledger>(
         parser: &mut Parser<'a>,
@@ -176,16 +186,18 @@ impl<'a> ParsedName<&'a [u8]> {
         limit: u8,
         heads: &mut Heads<L>,
     ) -> Result<ParsedName<&'a [u8]>, ParseError>
-        ensures exact { IsOk result ↔ ((ls : List (List ℕ)) × Names limit (message parser.old) (position parser.old) ls) }
-        ensures labels { IfOk result (λ name. Names limit (message parser.old) (position parser.old) (parsed_labels name)) }
+        ensures exact { IsOk result ↔ HasName limit (message parser.old) (position parser.old) }
+        ensures labels { IfOk result (λ name.
+            Names limit (message parser.old) (position parser.old) (parsed_labels name)) }
         ensures octets { IfOk result (λ name. parsed_octets name ≡ slice_of parser.old) }
-        ensures is_compressed { IfOk result (λ name. (may_be_compressed name ≡ false) ↔ IsContiguous (message parser.old) (position parser.old)) }
+        ensures is_compressed { IfOk result (TellsCompression parser.old) }
         ensures moves { OnOk result (MovesPastName parser.old parser.new) }
-        ensures uncompressed { (ls : List (List ℕ)) → StandsUncompressed parser.old ls → MatchResult result (λ name. (parsed_labels name ≡ ls) × (may_be_compressed name ≡ false) × (position parser.new ≡ position parser.old + length (wire ls))) (λ _. ⊥) }
-        ensures err { IfErr result (λ e. IsErrorOfName limit parser.old e) }
+        ensures uncompressed { (ls : List (List ℕ)) → StandsUncompressed parser.old ls
+            → GivesUncompressed parser.old parser.new result ls }
+        ensures err { IfErr result (IsErrorOfName limit parser.old) }
         ensures unchanged { OnErr result (parser.new ≡ parser.old) }
-        ensures counted { MatchResult result (λ name. CountsName limit (message parser.old) (position parser.old) (parsed_labels name) heads.old heads.new) (λ e. CountsFault limit (message parser.old) (position parser.old) (refusal e) heads.old heads.new) }
-        ensures few_heads { heads.new ≤ heads.old + 128 + limit }
+        ensures counted { CountsHeads limit parser.old heads.old heads.new result }
+        ensures few_heads { heads.new ≤ heads.old + max_labels + limit }
     {
         let mut entries = [0; MAX_LABELS];
         let mut found = Progress::new(parser.pos());
@@ -203,7 +215,7 @@ impl<'a> ParsedName<&'a [u8]> {
         limit: u8,
     ) -> Result<ParsedName<&'a [u8]>, NameFault>
         ensures ok { GivesName limit parser.old parser.new result }
-        ensures err { IfErr result (λ fault. NameFaultAt limit (message parser.old) (position parser.old) fault) }
+        ensures err { IfErr result (NameFaultAt limit (message parser.old) (position parser.old)) }
         ensures unchanged { OnErr result (parser.new ≡ parser.old) }
     {
         let mut entries = [0; MAX_LABELS];
@@ -220,12 +232,13 @@ impl<'a> ParsedName<&'a [u8]> {
         entries: [u16; MAX_LABELS],
     ) -> ParsedName<&'a [u8]>
         requires holds { Holds (slice_of parser.old) found.now entries }
-        requires inside { unwrap_or found.now.end (found.now.at + 1) ≤ length (message parser.old) }
+        requires inside { end_offset found.now ≤ length (message parser.old) }
         requires room { found.now.at + 1 < 2 ^ 64 }
         ensures octets { parsed_octets result ≡ slice_of parser.old }
-        ensures labels { parsed_labels result ≡ labels_at_entries (slice_of parser.old) found.now.base (slice_range entries 0 found.now.count) }
+        ensures labels { parsed_labels result
+            ≡ labels_found (slice_of parser.old) found.now entries }
         ensures is_compressed { may_be_compressed result ≡ found.now.compressed }
-        ensures moves { MovesTo parser.old parser.new (unwrap_or found.now.end (found.now.at + 1)) }
+        ensures moves { MovesTo parser.old parser.new (end_offset found.now) }
     {
         let Ok(()) = parser.seek(found.end_offset()) else {
             unreachable!();
@@ -256,9 +269,9 @@ impl<'a> ParsedName<&'a [u8]> {
     /// ```
     #[inline(always)]
     pub fn skip(parser: &mut Parser<'a>) -> Result<(), ParseError>
-        ensures exact { IsOk result ↔ ((e : ℕ) × Skips (message parser.old) (position parser.old) e) }
+        ensures exact { IsOk result ↔ HasSkip (message parser.old) (position parser.old) }
         ensures moves { OnOk result (SkipsName parser.old parser.new) }
-        ensures err { IfErr result (λ e. IsErrorOfSkip parser.old e) }
+        ensures err { IfErr result (IsErrorOfSkip parser.old) }
         ensures unchanged { OnErr result (parser.new ≡ parser.old) }
     {
         let end = encoding_end(parser.as_slice(), parser.pos())?;
@@ -271,9 +284,8 @@ impl<'a> ParsedName<&'a [u8]> {
 
 impl<Octs: Octets> ParsedName<Octs> {
     ghost use Rattle.domain_list.specs.Ends.{StartsWith, EndsWith};
-    ghost use Rattle.domain_parsed.specs.ParsedNames.{parsed_octets, parsed_labels, may_be_compressed, labels_left, suffixes, suffixes_left};
-    ghost use Rattle.domain_name.specs.Names.{relative_labels};
-    ghost use Rattle.domain_parsed.specs.Splitting.{SplitsFirst, DropsFirst};
+    ghost use Rattle.domain_parsed.specs.ParsedNames.{parsed_octets, parsed_labels, may_be_compressed, labels_left, suffixes_of, suffixes_left};
+    ghost use Rattle.domain_parsed.specs.Splitting.{IsParent, IsFirstLabel, SplitsFirst, DropsFirst};
     ghost use Rattle.domain_reading.specs.ParseResult.{Holds};
     ghost use Rattle.domain_parsed.specs.contracts.parsed.ParsedName.{the_row};
     ghost use Rattle.std.specs.Borrow.{follows_so, sem};
@@ -284,7 +296,8 @@ impl<Octs: Octets> ParsedName<Octs> {
     fn of(octets: Octs, found: &Progress, entries: [u16; MAX_LABELS]) -> Self
         requires { Holds (Octs.octets octets) found.now entries }
         ensures octets { parsed_octets result ≡ Octs.octets octets }
-        ensures labels { parsed_labels result ≡ labels_at_entries (Octs.octets octets) found.now.base (slice_range entries 0 found.now.count) }
+        ensures labels { parsed_labels result
+            ≡ labels_found (Octs.octets octets) found.now entries }
         ensures is_compressed { may_be_compressed result ≡ found.now.compressed }
     {
         ParsedName {
@@ -299,7 +312,7 @@ impl<Octs: Octets> ParsedName<Octs> {
         }
     }
 
-    /// False: from the first label on, all labels stand in a row. True: a pointer comes after the first label, or did
+    /// False: from the first label on, all labels are contiguous. True: a pointer comes after the first label, or did
     /// before `parent` or `split_first`.
     pub fn is_compressed(&self) -> bool
         ensures { result ≡ may_be_compressed self.now }
@@ -314,14 +327,16 @@ impl<Octs: Octets> ParsedName<Octs> {
         self.name_len == 1
     }
 
-    /// The same name with its octets borrowed.
-    pub fn ref_octets(&self) -> ParsedName<&Octs>
+    /// The same name over octets that equal its own.
+    #[inline(always)]
+    fn over<Other: Octets>(&self, octets: Other) -> ParsedName<Other>
+        requires { Other.octets octets ≡ parsed_octets self.now }
         ensures octets { parsed_octets result ≡ parsed_octets self.now }
         ensures labels { parsed_labels result ≡ parsed_labels self.now }
         ensures is_compressed { may_be_compressed result ≡ may_be_compressed self.now }
     {
         ParsedName {
-            octets: &self.octets,
+            octets,
             base: self.base,
             entries: self.entries,
             count: self.count,
@@ -332,6 +347,15 @@ impl<Octs: Octets> ParsedName<Octs> {
         }
     }
 
+    /// The same name with its octets borrowed.
+    pub fn ref_octets(&self) -> ParsedName<&Octs>
+        ensures octets { parsed_octets result ≡ parsed_octets self.now }
+        ensures labels { parsed_labels result ≡ parsed_labels self.now }
+        ensures is_compressed { may_be_compressed result ≡ may_be_compressed self.now }
+    {
+        self.over(&self.octets)
+    }
+
     /// The same name over the octets as a slice.
     #[inline(always)]
     pub(crate) fn for_slice(&self) -> ParsedName<&[u8]>
@@ -339,16 +363,7 @@ impl<Octs: Octets> ParsedName<Octs> {
         ensures labels { parsed_labels result ≡ parsed_labels self.now }
         ensures is_compressed { may_be_compressed result ≡ may_be_compressed self.now }
     {
-        ParsedName {
-            octets: self.octets.as_slice(),
-            base: self.base,
-            entries: self.entries,
-            count: self.count,
-            dropped: self.dropped,
-            dropped_len: self.dropped_len,
-            name_len: self.name_len,
-            compressed: self.compressed,
-        }
+        self.over(self.octets.as_slice())
     }
 
     /// The labels, the root label last. They can be taken from either end.
@@ -399,7 +414,7 @@ impl<Octs: Octets> ParsedName<Octs> {
     /// The name, then the name without its first label, and so on to the root.
     #[inline(always)]
     pub fn iter_suffixes(&self) -> ParsedSuffixIter<'_>
-        ensures { suffixes_left result ≡ suffixes (parsed_octets self.now) (may_be_compressed self.now) (parsed_labels self.now) }
+        ensures { suffixes_left result ≡ suffixes_of self.now }
     {
         ParsedSuffixIter::new(self.for_slice())
     }
@@ -425,7 +440,8 @@ impl<Octs: Octets> ParsedName<Octs> {
 
     /// The last label, which is the root label.
     pub fn last(&self) -> Label<'static>
-        ensures last { (front : List (List ℕ)) × (parsed_labels self.now ≡ front ++ label_octets result ∷ []) }
+        ensures last { (front : List (List ℕ))
+            × (parsed_labels self.now ≡ front ++ label_octets result ∷ []) }
         ensures root { label_octets result ≡ [] }
     {
         Label::root()
@@ -436,7 +452,8 @@ impl<Octs: Octets> ParsedName<Octs> {
     /// False for the root, which is unchanged. `is_compressed` returns what it did before.
     #[inline(always)]
     pub fn parent(&mut self) -> bool
-        ensures labels { MatchBool result ((l : List ℕ) × (parsed_labels self.old ≡ l ∷ parsed_labels self.new)) ((self.new ≡ self.old) × (parsed_labels self.old ≡ Root)) }
+        ensures labels { MatchBool result (IsParent self.old self.new)
+            ((self.new ≡ self.old) × (parsed_labels self.old ≡ Root)) }
         ensures more { IsTrue result → 1 < length (parsed_labels self.old) }
         ensures octets { parsed_octets self.new ≡ parsed_octets self.old }
         ensures is_compressed { may_be_compressed self.new ≡ may_be_compressed self.old }
@@ -450,8 +467,10 @@ impl<Octs: Octets> ParsedName<Octs> {
     // The clause `after`: once the borrow that is returned ends, the name is as `SplitsFirst` says.
     pub fn split_first(&mut self) -> Option<RelativeName<&[u8]>>
         ensures none { IsNone result ↔ (parsed_labels self.old ≡ Root) }
-        ensures some { IfSome result (λ first. (l : List ℕ) × (rest : List (List ℕ)) × (relative_labels first ≡ l ∷ []) × (parsed_labels self.old ≡ l ∷ rest)) }
-        ensures* after { sem 𝓛 (follows_so (the_row Octs.row Octs.Octets) (the_row Octs.row Octs.Octets) self.entry.ghost_name none (λ _ _. ⊤) (λ new. SplitsFirst self.old result new)) }
+        ensures some { IfSome result (IsFirstLabel self.old) }
+        ensures* after { sem 𝓛 (follows_so
+            (the_row Octs.row Octs.Octets) (the_row Octs.row Octs.Octets) self.entry.ghost_name
+            none (λ _ _. ⊤) (λ new. SplitsFirst self.old result new)) }
     {
         let Range { start, end } = self.drop_first_label()?;
         let Ok(first) = RelativeName::from_slice(&self.octets.as_slice()[start..end]) else {
@@ -491,8 +510,8 @@ impl<Octs: Octets> ParsedName<Octs> {
         self.name_len
     }
 
-    /// Appends the wire format, without compression (RFC 1035, 3.1), or nothing: what `ToName::compose` does, in less
-    /// time. Labels that stand in a row in the message are copied at once.
+    /// Appends the wire format, without compression (RFC 1035, 3.1), or nothing, as `ToName::compose` does. Labels that
+    /// are contiguous in the message are copied at once, where that one copies those of a compressed name one by one.
     ///
     /// The target's error where the octets don't fit, or where there was no memory for them; the target is then as
     /// before. Where they fit its spare capacity, there is none.
@@ -501,9 +520,11 @@ impl<Octs: Octets> ParsedName<Octs> {
         &self,
         target: &mut Target,
     ) -> Result<(), Target::AppendError>
-        ensures ok { OnOk result (Target.octets target.new ≡ Target.octets target.old ++ wire (parsed_labels self.now)) }
+        ensures ok { OnOk result
+            (Target.octets target.new ≡ Target.octets target.old ++ wire (parsed_labels self.now)) }
         ensures unchanged { OnErr result (Target.octets target.new ≡ Target.octets target.old) }
-        ensures full { OnErr result (Target.capacity target.old < length (Target.octets target.old) + length (wire (parsed_labels self.now))) }
+        ensures full { OnErr result (Target.capacity target.old
+            < length (Target.octets target.old) + length (wire (parsed_labels self.now))) }
         ensures capacity { Target.capacity target.old ≤ Target.capacity target.new }
         ensures within { IfSome Target.limit (λ n. length (Target.octets target.new) ≤ n) }
         ensures fixed { IfSome Target.limit (λ n. Target.capacity target.old ≡ n) }
@@ -524,7 +545,7 @@ impl<Octs: Octets> ParsedName<Octs> {
         requires some { 0 < blank.parts }
         ensures size { result ≡ length (wire (parsed_labels self.now)) }
         ensures wire { take result octets.new ≡ wire (parsed_labels self.now) }
-        ensures fits { result ≤ 255 }
+        ensures fits { result ≤ max_name }
     {
         let entries = self.remaining_entries();
         let mut heads = Heads::<L>::new(blank);
@@ -562,16 +583,7 @@ impl<'a, Octs: Octets> ParsedName<&'a Octs> {
         ensures is_compressed { may_be_compressed result ≡ may_be_compressed self.now }
     {
         let octets: &'a Octs = self.octets;
-        ParsedName {
-            octets: octets.as_slice(),
-            base: self.base,
-            entries: self.entries,
-            count: self.count,
-            dropped: self.dropped,
-            dropped_len: self.dropped_len,
-            name_len: self.name_len,
-            compressed: self.compressed,
-        }
+        self.over(octets.as_slice())
     }
 }
 
@@ -580,7 +592,8 @@ impl<Octs: Octets> From<Name<Octs>> for ParsedName<Octs> {
     ghost use Rattle.domain_name.specs.Names.{name_octets, name_labels};
     ghost use Rattle.domain_parsed.specs.ParsedNames.{parsed_octets, parsed_labels, may_be_compressed};
 
-    ghost from_gives = { λ flat name. (parsed_octets name ≡ name_octets flat) × (parsed_labels name ≡ name_labels flat) × (may_be_compressed name ≡ false) };
+    ghost from_gives = { λ flat name. (parsed_octets name ≡ name_octets flat)
+        × (parsed_labels name ≡ name_labels flat) × (may_be_compressed name ≡ false) };
 
     fn from(flat: Name<Octs>) -> ParsedName<Octs> {
         let mut entries = [0; MAX_LABELS];
@@ -597,16 +610,7 @@ impl ParsedName<Vec<u8>> {
         ensures { IfOk result (λ name. parsed_model name ≡ parsed_model self.now) }
     {
         let octets = Vec::try_octets_from(alloc, self.octets.as_slice())?;
-        Ok(ParsedName {
-            octets,
-            base: self.base,
-            entries: self.entries,
-            count: self.count,
-            dropped: self.dropped,
-            dropped_len: self.dropped_len,
-            name_len: self.name_len,
-            compressed: self.compressed,
-        })
+        Ok(self.over(octets))
     }
 }
 
@@ -619,15 +623,6 @@ impl<const N: usize> ParsedName<ArrayVec<u8, N>> {
         ensures made { IsOk result }
     {
         let octets = ArrayVec::try_octets_from(alloc, self.octets.as_slice())?;
-        Ok(ParsedName {
-            octets,
-            base: self.base,
-            entries: self.entries,
-            count: self.count,
-            dropped: self.dropped,
-            dropped_len: self.dropped_len,
-            name_len: self.name_len,
-            compressed: self.compressed,
-        })
+        Ok(self.over(octets))
     }
 }

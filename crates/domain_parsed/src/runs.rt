@@ -1,6 +1,8 @@
-//! Putting together the wire format of a name in a message run by run: labels that stand in a row are copied at once.
+//! Putting together the wire format of a name in a message run by run: labels that are contiguous are copied
+//! at once.
 ghost use Rattle.std.specs.Prelude.{◌≡◌, ◌≤◌, length, take};
 ghost use Rattle.domain_label.specs.Wire.{wire};
+ghost use Rattle.domain_reading.specs.Limits.{max_name};
 ghost use Rattle.domain_reading.specs.Offsets.{AreLabelOffsets, labels_at_entries};
 
 use domain_list::composing::put_octets;
@@ -19,7 +21,7 @@ pub(crate) fn put_runs<L: Ledger>(
     heads: &mut Heads<L>,
 ) -> usize
     requires stand { AreLabelOffsets message.now base entries.now }
-    requires room { length (wire (labels_at_entries message.now base entries.now)) ≤ 255 }
+    requires room { length (wire (labels_at_entries message.now base entries.now)) ≤ max_name }
     ensures size { result ≡ length (wire (labels_at_entries message.now base entries.now)) }
     ensures wire { take result octets.new ≡ wire (labels_at_entries message.now base entries.now) }
 {

@@ -12,12 +12,12 @@ pub struct ParsedSuffixIter<'a> {
 }
 
 impl<'a> ParsedSuffixIter<'a> {
-    ghost use Rattle.domain_parsed.specs.ParsedNames.{parsed_octets, parsed_labels, may_be_compressed, suffixes, suffixes_left};
+    ghost use Rattle.domain_parsed.specs.ParsedNames.{suffixes_of, suffixes_left};
 
     /// The suffixes of a name.
     #[inline(always)]
     pub(crate) fn new(name: ParsedName<&'a [u8]>) -> Self
-        ensures { suffixes_left result ≡ suffixes (parsed_octets name.entry) (may_be_compressed name.entry) (parsed_labels name.entry) }
+        ensures { suffixes_left result ≡ suffixes_of name.entry }
     {
         ParsedSuffixIter { name, ended: false }
     }
