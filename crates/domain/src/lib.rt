@@ -4,4 +4,4 @@
 pub mod base;
 pub mod rdata;
 
-pub use domain_tool::{section, tool};
+pub use domain_tool::{entry_kind, tool};

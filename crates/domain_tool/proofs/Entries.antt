@@ -11,9 +11,9 @@ use Rattle.domain_reading.specs.ParseResult.{MovesPastName}
 use Rattle.domain_parsed.specs.ParsedNames.{parsed_labels}
 use Rattle.domain_tool.specs.declared.entry.RecordHeader.{RecordHeader}
 use Rattle.domain_tool.specs.Entries.{IsRecordHeader}
-use Rattle.domain_tool.specs.declared.section.Section.{Section}
-use Rattle.domain_tool.specs.declared.section.Section.TheVariants.{Question}
-use Rattle.domain_tool.specs.Lines.{IsLineOf, IsQuestion, section_word, NameTo, NoQuestionLine, NoRecordLine, number_in_16_bits, number_in_32_bits}
+use Rattle.domain_tool.specs.declared.entry_kind.EntryKind.{EntryKind}
+use Rattle.domain_tool.specs.declared.entry_kind.EntryKind.TheVariants.{Question}
+use Rattle.domain_tool.specs.Lines.{IsLineOf, IsQuestion, kind_word, NameTo, NoQuestionLine, NoRecordLine, number_in_16_bits, number_in_32_bits}
 use Rattle.domain_tool.specs.Lines.NoQuestionLine.{cut}
 use Rattle.domain_tool.specs.Lines.NoRecordLine.{cut as cut_record}
 
@@ -56,9 +56,9 @@ place_inside p =
     omega (arith, e, p.ordered)
 
 -- the line of a question
-pub line_of_question : (m : List ℕ) (s : Section) (p e : ℕ) (shown : List ℕ) → s ≡ Question → IsQuestion m p shown e → IsLineOf m s p (section_word Question ++ shown) e
+pub line_of_question : (m : List ℕ) (s : EntryKind) (p e : ℕ) (shown : List ℕ) → s ≡ Question → IsQuestion m p shown e → IsLineOf m s p (kind_word Question ++ shown) e
 line_of_question m s p e shown is question =
-    subst (λ x. IsLineOf m x p (section_word Question ++ shown) e) (sym is) (shown, question, refl)
+    subst (λ x. IsLineOf m x p (kind_word Question ++ shown) e) (sym is) (shown, question, refl)
 
 -- moved and then moved on
 pub moves_on : (old mid new : Parser) (n k : ℕ) → MovesTo old mid n → MovesTo mid new k → MovesTo old new k

@@ -8,7 +8,7 @@ use Rattle.domain_tool.specs.Engines.{IfRefused}
 use Rattle.domain_tool.specs.declared.tool.ToolError.{ToolError}
 use Rattle.domain_tool.specs.declared.tool.ToolError.TheVariants.{Parse, Text, Read, Write, Memory}
 use Rattle.domain_wire.specs.declared.error.ParseError.{ParseError}
-use Rattle.domain_tool.specs.declared.section.Section.{Section}
+use Rattle.domain_tool.specs.declared.entry_kind.EntryKind.{EntryKind}
 use Rattle.domain_tool.specs.Lines.{Lists, NoEntry, StopsListing, counted_entries}
 use Rattle.domain_tool.specs.Lines.StopsListing.{no_entry}
 use Rattle.domain_tool.specs.Written.{WritesEntry, WritesEntries, WritesUpTo}
@@ -25,13 +25,13 @@ appends_nothing None = tt
 appends_nothing (Some x) = sym (append-nil x)
 
 -- entries and then further entries
-pub lists_join : (m : List ℕ) (ss ts : List Section) (p q e : ℕ) (a b : List ℕ) → Lists m ss p a q → Lists m ts q b e → Lists m (ss ++ ts) p (a ++ b) e
+pub lists_join : (m : List ℕ) (ss ts : List EntryKind) (p q e : ℕ) (a b : List ℕ) → Lists m ss p a q → Lists m ts q b e → Lists m (ss ++ ts) p (a ++ b) e
 unfolding Lists
 lists_join m [] ts p q e a b (empty, there) others = rw empty (subst (λ x. Lists m ts x b e) there others)
 lists_join m (s ∷ ss) ts p q e a b (line, r, rest, one, text, more) others =
     (line, r, rest ++ b, one, ap (λ t. t ++ b) text ∙ append_assoc (line ++ 10 ∷ []) rest b, lists_join m ss ts r q e rest b more others)
 
-pub writes_join : (m : List ℕ) (ss ts : List Section) (p q e : ℕ) (old mid new : Option (List ℕ)) → WritesEntries m ss p q old mid → WritesEntries m ts q e mid new → WritesEntries m (ss ++ ts) p e old new
+pub writes_join : (m : List ℕ) (ss ts : List EntryKind) (p q e : ℕ) (old mid new : Option (List ℕ)) → WritesEntries m ss p q old mid → WritesEntries m ts q e mid new → WritesEntries m (ss ++ ts) p e old new
 writes_join m ss ts p q e old mid new (a, listed, first) (b, others, second) =
     (a ++ b, lists_join m ss ts p q e a b listed others, appends_more old mid new a b first second)
 
@@ -39,18 +39,18 @@ pub writes_none : (m : List ℕ) (p : ℕ) (old : Option (List ℕ)) → WritesE
 unfolding Lists
 writes_none m p old = ([], (refl, refl), appends_nothing old)
 
-pub writes_one : (m : List ℕ) (s : Section) (p e : ℕ) (old new : Option (List ℕ)) → WritesEntry m s p e old new → WritesEntries m (s ∷ []) p e old new
+pub writes_one : (m : List ℕ) (s : EntryKind) (p e : ℕ) (old new : Option (List ℕ)) → WritesEntry m s p e old new → WritesEntries m (s ∷ []) p e old new
 unfolding Lists
 writes_one m s p e old new (line, one, written) =
     (line ++ 10 ∷ [], (line, e, [], one, sym (append-nil (line ++ 10 ∷ [])), (refl, refl)), written)
 
 -- one more entry of a section
-pub writes_next : (m : List ℕ) (s : Section) (n p q e : ℕ) (old mid new : Option (List ℕ)) → WritesEntries m (replicate n s) p q old mid → WritesEntry m s q e mid new → WritesEntries m (replicate (n + 1) s) p e old new
+pub writes_next : (m : List ℕ) (s : EntryKind) (n p q e : ℕ) (old mid new : Option (List ℕ)) → WritesEntries m (replicate n s) p q old mid → WritesEntry m s q e mid new → WritesEntries m (replicate (n + 1) s) p e old new
 writes_next m s n p q e old mid new before one =
     subst (λ ss. WritesEntries m ss p e old new) (sym (replicate_next n s)) (writes_join m (replicate n s) (s ∷ []) p q e old mid new before (writes_one m s q e mid new one))
 
 -- fewer of the same and then the rest
-replicate_cut : (b n : ℕ) (s : Section) → b < n → replicate n s ≡ replicate b s ++ s ∷ replicate (n - b - 1) s
+replicate_cut : (b n : ℕ) (s : EntryKind) → b < n → replicate n s ≡ replicate b s ++ s ∷ replicate (n - b - 1) s
 replicate_cut zero zero s few = absurd (omega (arith, few))
 replicate_cut zero (suc n) s few =
     let e : suc n - 0 - 1 ≡ n = omega arith in
@@ -61,7 +61,7 @@ replicate_cut (suc b) (suc n) s few =
     rw e (ap (λ ss. s ∷ ss) (replicate_cut b n s (omega (arith, few))))
 
 -- the entries before one that isn't there
-pub stops : (m : List ℕ) (done after : List Section) (s : Section) (n p : ℕ) (old mid new : Option (List ℕ)) (why : ParseError) → counted_entries m ≡ done ++ (replicate n s ++ after)
+pub stops : (m : List ℕ) (done after : List EntryKind) (s : EntryKind) (n p : ℕ) (old mid new : Option (List ℕ)) (why : ParseError) → counted_entries m ≡ done ++ (replicate n s ++ after)
     → WritesEntries m done 12 p old mid → WritesUpTo m s n p mid new why → 12 ≤ length m → (text : List ℕ) × StopsListing m text why × Appends old new text
 stops m done after s n p old mid new why all before up header =
     let part : WritesEntries m (done ++ replicate up.before s) 12 up.place old new = writes_join m done (replicate up.before s) 12 p up.place old mid new before up.written in (
@@ -69,7 +69,7 @@ stops m done after s n p old mid new why all before up header =
       no_entry (record {
         header = header;
         before = done ++ replicate up.before s;
-        section = s;
+        kind = s;
         after = replicate (n - up.before - 1) s ++ after;
         all = all ∙ (ap (λ ss. done ++ (ss ++ after)) (replicate_cut up.before n s up.few) ∙ (ap (λ ss. done ++ ss) (append_assoc (replicate up.before s) (s ∷ replicate (n - up.before - 1) s) after) ∙ sym (append_assoc done (replicate up.before s) (s ∷ replicate (n - up.before - 1) s ++ after))));
         place = up.place;
@@ -80,14 +80,14 @@ stops m done after s n p old mid new why all before up header =
     )
 
 -- what was written stays where nothing more is
-pub writes_kept : (m : List ℕ) (ss : List Section) (p e : ℕ) (old mid new : Option (List ℕ)) → WritesEntries m ss p e old mid → Keeps mid new → WritesEntries m ss p e old new
+pub writes_kept : (m : List ℕ) (ss : List EntryKind) (p e : ℕ) (old mid new : Option (List ℕ)) → WritesEntries m ss p e old mid → Keeps mid new → WritesEntries m ss p e old new
 writes_kept m ss p e None mid new (text, listed, written) kept = (text, listed, tt)
 writes_kept m ss p e (Some x) None new (text, listed, written) kept = absurd written
 writes_kept m ss p e (Some x) (Some y) None (text, listed, written) kept = absurd kept
 writes_kept m ss p e (Some x) (Some y) (Some z) (text, listed, written) kept = (text, listed, kept ∙ written)
 
 -- an entry that isn't there, after so many that were written
-pub writes_up_to : (m seen : List ℕ) (s : Section) (b n p q : ℕ) (old mid new : Option (List ℕ)) (e : ToolError) → WritesEntries m (replicate b s) p q old mid → b < n → seen ≡ m
+pub writes_up_to : (m seen : List ℕ) (s : EntryKind) (b n p q : ℕ) (old mid new : Option (List ℕ)) (e : ToolError) → WritesEntries m (replicate b s) p q old mid → b < n → seen ≡ m
     → IfRefused (Err e) (λ why. NoEntry seen s q why) → IfRefused (Err e) (λ _. Keeps mid new) → IfRefused (Err e) (λ why. WritesUpTo m s n p old new why)
 writes_up_to m seen s b n p q old mid new (Parse why) written few same missing kept = record {
   before = b;

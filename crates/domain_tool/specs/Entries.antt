@@ -6,13 +6,13 @@ use Rattle.domain_parsed.specs.ParsedNames.{parsed_labels}
 use Rattle.domain_rdata.specs.AnyData.{unknown_text}
 use Rattle.domain_rdata.specs.Rtypes.{rtype_number}
 use Rattle.domain_rdata.specs.Unknown.{data_octets}
-use Rattle.domain_tool.specs.Lines.{NameTo, number_in_16_bits, number_in_32_bits, section_word}
+use Rattle.domain_tool.specs.Lines.{NameTo, number_in_16_bits, number_in_32_bits, kind_word}
 use Rattle.domain_tool.specs.declared.entry.Question.{Question}
 use Rattle.domain_tool.specs.declared.entry.RecordHeader.{RecordHeader}
 use Rattle.domain_tool.specs.declared.entry.Record.{Record}
 use Rattle.domain_tool.specs.declared.entry.Entry.{Entry}
 use Rattle.domain_tool.specs.declared.entry.Entry.TheVariants.{Question as AsQuestion, Record as AsRecord}
-use Rattle.domain_tool.specs.declared.section.Section.TheVariants.{Question as Questions}
+use Rattle.domain_tool.specs.declared.entry_kind.EntryKind.TheVariants.{Question as Questions}
 
 -- the line of a question without its first word: name, type and class (RFC 1035, 4.1.2)
 abbrev pub question_line : Question → List ℕ
@@ -34,7 +34,7 @@ abbrev pub record_line : Record → List ℕ
 record_line it = 32 ∷ text_with_final_dot (parsed_labels it.head.name) ++ 32 ∷ decimal it.head.rtype ++ 32 ∷ decimal it.head.class
     ++ 32 ∷ decimal it.head.time_to_live ++ 32 ∷ unknown_text (data_octets it.data)
 
--- the line of a question or a resource record: the word of its section, then the rest
+-- the line of a question or a resource record: the word of its kind, then the rest
 abbrev pub entry_line : Entry → List ℕ
-entry_line (AsQuestion it) = section_word Questions ++ question_line it
-entry_line (AsRecord section it) = section_word section ++ record_line it
+entry_line (AsQuestion it) = kind_word Questions ++ question_line it
+entry_line (AsRecord kind it) = kind_word kind ++ record_line it

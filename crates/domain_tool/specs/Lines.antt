@@ -8,8 +8,8 @@ use Rattle.domain_label.specs.Text.{text_with_final_dot}
 use Rattle.domain_reading.specs.Grammar.{Names, EncodingEnds}
 use Rattle.domain_rdata.specs.AnyData.{unknown_text}
 use Rattle.domain_tool.specs.NameFaults.{NoNameAt}
-use Rattle.domain_tool.specs.declared.section.Section.{Section}
-use Rattle.domain_tool.specs.declared.section.Section.TheVariants.{Question, Answer, Authority, Additional}
+use Rattle.domain_tool.specs.declared.entry_kind.EntryKind.{EntryKind}
+use Rattle.domain_tool.specs.declared.entry_kind.EntryKind.TheVariants.{Question, Answer, Authority, Additional}
 
 -- the numbers that are at an offset in 16 and in 32 bits
 abbrev pub number_in_16_bits : List ℕ → ℕ → ℕ
@@ -19,12 +19,12 @@ number_in_16_bits m p = from_be_bytes w16 (slice_range m p (p + 2))
 abbrev pub number_in_32_bits : List ℕ → ℕ → ℕ
 number_in_32_bits m p = from_be_bytes w32 (slice_range m p (p + 4))
 
--- what the lines of a section begin with
-abbrev pub section_word : Section → List ℕ
-section_word Question = codes "question"
-section_word Answer = codes "answer"
-section_word Authority = codes "authority"
-section_word Additional = codes "additional"
+-- what the lines of a kind begin with
+abbrev pub kind_word : EntryKind → List ℕ
+kind_word Question = codes "question"
+kind_word Answer = codes "answer"
+kind_word Authority = codes "authority"
+kind_word Additional = codes "additional"
 
 -- The name at p is ls, and e is the offset after it (RFC 1035, 4.1.4).
 pub record NameTo (m : List ℕ) (p : ℕ) (ls : List (List ℕ)) (e : ℕ) : Type 0 where
@@ -67,33 +67,33 @@ pub data NoRecordLine (m : List ℕ) (p : ℕ) (why : ParseError) : Type 0 where
   no_name : NoNameAt m p why → NoRecordLine m p why
   cut : (ls : List (List ℕ)) (q : ℕ) → NameTo m p ls q → (length m < q + 10) ⊎ (length m < q + 10 + number_in_16_bits m (q + 8)) → why ≡ ShortInput → NoRecordLine m p why
 
--- An entry of a section is at p and ends before e, and is shown so.
-abbrev pub IsEntry : List ℕ → Section → ℕ → List ℕ → ℕ → Type 0
+-- An entry of this kind is at p and ends before e, and is shown so.
+abbrev pub IsEntry : List ℕ → EntryKind → ℕ → List ℕ → ℕ → Type 0
 IsEntry m Question p line e = IsQuestion m p line e
 IsEntry m Answer p line e = IsRecord m p line e
 IsEntry m Authority p line e = IsRecord m p line e
 IsEntry m Additional p line e = IsRecord m p line e
 
--- No question or resource record of this section is at p, and why.
-abbrev pub NoEntry : List ℕ → Section → ℕ → ParseError → Type 0
+-- No entry of this kind is at p, and why.
+abbrev pub NoEntry : List ℕ → EntryKind → ℕ → ParseError → Type 0
 NoEntry m Question p why = NoQuestionLine m p why
 NoEntry m Answer p why = NoRecordLine m p why
 NoEntry m Authority p why = NoRecordLine m p why
 NoEntry m Additional p why = NoRecordLine m p why
 
--- An entry of a section is at p and ends before e, and this is its line: the word of the section, and what is shown
+-- An entry of this kind is at p and ends before e, and this is its line: the word of the kind, and what is shown
 -- of the entry.
-abbrev pub IsLineOf : List ℕ → Section → ℕ → List ℕ → ℕ → Type 0
-IsLineOf m s p line e = (shown : List ℕ) × IsEntry m s p shown e × (line ≡ section_word s ++ shown)
+abbrev pub IsLineOf : List ℕ → EntryKind → ℕ → List ℕ → ℕ → Type 0
+IsLineOf m s p line e = (shown : List ℕ) × IsEntry m s p shown e × (line ≡ kind_word s ++ shown)
 
--- Entries of these sections are at p and end before e, one after the other, and these are their lines.
-unfoldable pub Lists : List ℕ → List Section → ℕ → List ℕ → ℕ → Type 0
+-- Entries of these kinds are at p and end before e, one after the other, and these are their lines.
+unfoldable pub Lists : List ℕ → List EntryKind → ℕ → List ℕ → ℕ → Type 0
 Lists m [] p text e = (text ≡ []) × (e ≡ p)
 Lists m (s ∷ ss) p text e = (line : List ℕ) × (q : ℕ) × (rest : List ℕ) × IsLineOf m s p line q
     × (text ≡ (line ++ 10 ∷ []) ++ rest) × Lists m ss q rest e
 
 -- The entries that the header counts (RFC 1035, 4.1.1).
-abbrev pub counted_entries : List ℕ → List Section
+abbrev pub counted_entries : List ℕ → List EntryKind
 counted_entries m = replicate (number_in_16_bits m 4) Question
     ++ (replicate (number_in_16_bits m 6) Answer ++ (replicate (number_in_16_bits m 8) Authority ++ replicate (number_in_16_bits m 10) Additional))
 
@@ -104,13 +104,13 @@ IsListing m text = (12 ≤ length m) × (e : ℕ) × Lists m (counted_entries m)
 -- An entry that the header counts isn't there. The lines are those of the entries before it, and the error says why.
 pub record StopsAtEntry (m : List ℕ) (text : List ℕ) (why : ParseError) : Type 0 where
   pub header : 12 ≤ length m
-  pub before : List Section
-  pub section : Section
-  pub after : List Section
-  pub all : counted_entries m ≡ before ++ section ∷ after
+  pub before : List EntryKind
+  pub kind : EntryKind
+  pub after : List EntryKind
+  pub all : counted_entries m ≡ before ++ kind ∷ after
   pub place : ℕ
   pub listed : Lists m before 12 text place
-  pub missing : NoEntry m section place why
+  pub missing : NoEntry m kind place why
 
 -- The header or an entry isn't there.
 pub data StopsListing (m : List ℕ) (text : List ℕ) (why : ParseError) : Type 0 where

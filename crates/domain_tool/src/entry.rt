@@ -3,7 +3,7 @@ ghost use Rattle.std.specs.Prelude.{◌≡◌, ◌++◌, ◌∷◌, Some, IfOk, 
 ghost use Rattle.std.specs.Fmt.{decimal};
 ghost use Rattle.octseq.specs.Parsing.{message, position, MovesTo};
 
-use crate::section::Section;
+use crate::entry_kind::EntryKind;
 use domain_list::dotted::DisplayWithDot;
 use domain_parsed::ParsedName;
 use domain_rdata::{Rtype, UnknownRecordData};
@@ -160,31 +160,31 @@ impl<'a> fmt::Display for Record<'a> {
     }
 }
 
-/// An entry of a section.
+/// An entry of a message.
 #[derive(Clone, Copy)]
 pub(crate) enum Entry<'a> {
     Question(Question<'a>),
-    Record(Section, Record<'a>),
+    Record(EntryKind, Record<'a>),
 }
 
 impl<'a> Entry<'a> {
     ghost use Rattle.domain_tool.specs.Entries.{entry_line};
     ghost use Rattle.domain_tool.specs.Lines.{IsLineOf, NoEntry};
 
-    /// Reads an entry of this section, and moves the parser past it.
-    pub(crate) fn parse(section: Section, parser: &mut Parser<'a>) -> Result<Entry<'a>, ParseError>
-        ensures ok { IfOk result (λ it. IsLineOf (message parser.old) section (position parser.old) (entry_line it) (position parser.new)) }
+    /// Reads an entry of this kind, and moves the parser past it.
+    pub(crate) fn parse(kind: EntryKind, parser: &mut Parser<'a>) -> Result<Entry<'a>, ParseError>
+        ensures ok { IfOk result (λ it. IsLineOf (message parser.old) kind (position parser.old) (entry_line it) (position parser.new)) }
         ensures moves { OnOk result (MovesTo parser.old parser.new (position parser.new)) }
-        ensures err { IfErr result (λ e. NoEntry (message parser.old) section (position parser.old) e) }
+        ensures err { IfErr result (λ e. NoEntry (message parser.old) kind (position parser.old) e) }
     {
-        match section {
-            Section::Question => match Question::parse(parser) {
+        match kind {
+            EntryKind::Question => match Question::parse(parser) {
                 Ok(question) => Ok(Entry::Question(question)),
                 Err(e) => Err(e),
             },
-            Section::Answer | Section::Authority | Section::Additional => {
+            EntryKind::Answer | EntryKind::Authority | EntryKind::Additional => {
                 match Record::parse(parser) {
-                    Ok(record) => Ok(Entry::Record(section, record)),
+                    Ok(record) => Ok(Entry::Record(kind, record)),
                     Err(e) => Err(e),
                 }
             }
@@ -192,7 +192,7 @@ impl<'a> Entry<'a> {
     }
 }
 
-/// The word of the section and the entry.
+/// The word of the kind and the entry.
 impl<'a> fmt::Display for Entry<'a> {
     ghost use Rattle.domain_tool.specs.Entries.{entry_line};
 
@@ -201,7 +201,7 @@ impl<'a> fmt::Display for Entry<'a> {
     fn fmt<W: fmt::Write>(&self, f: &mut fmt::Formatter<W>) -> fmt::Result {
         match self {
             Entry::Question(question) => write!(f, "question{question}"),
-            Entry::Record(section, record) => write!(f, "{section}{record}"),
+            Entry::Record(kind, record) => write!(f, "{kind}{record}"),
         }
     }
 }

@@ -4,9 +4,9 @@
 mod asked;
 mod buffer;
 mod entry;
+pub mod entry_kind;
 mod line;
 mod list;
-pub mod section;
 mod text;
 pub mod tool;
 pub mod words;

@@ -2,14 +2,16 @@
 ghost use Rattle.std.specs.Prelude.{◌≡◌, ◌<◌, ◌≤◌, ℕ, List, length, replicate, OnOk, OnErr, IfOk, IfErr, IfSome};
 ghost use Rattle.std.specs.Io.KnownBytes.{Appends, Keeps, IsAtEnd, append_known};
 ghost use Rattle.octseq.specs.Parsing.{message, position, MovesTo};
+ghost use Rattle.domain_tool.specs.Counted.{IsCounted};
 ghost use Rattle.domain_tool.specs.Engines.{IfRefused, OnAnswer, OnNoWork};
 ghost use Rattle.domain_tool.specs.Lines.{IsListing, NoEntry, StopsListing};
 ghost use Rattle.domain_tool.specs.Written.{WritesEntry, WritesEntries, WritesUpTo};
 
 use crate::buffer::{put_line, write_lines};
 use crate::entry::Entry;
-use crate::section::Section;
+use crate::entry_kind::EntryKind;
 use crate::tool::{ToolError, read_all};
+use domain_header::counts::HeaderCounts;
 use domain_wire::error::ParseError;
 use octseq::{Parser, ShortInput};
 use std::alloc::Global;
@@ -18,18 +20,18 @@ use std::io::{Read, Write};
 /// Writes the line of the entry at the parser's position after the lines that aren't written yet, and moves
 /// the parser after it.
 fn write_entry<W: Write>(
-    section: Section,
+    kind: EntryKind,
     parser: &mut Parser<'_>,
     lines: &mut Vec<u8>,
     output: &mut W,
 ) -> Result<(), ToolError>
-    ensures written { OnOk result (WritesEntry (message parser.old) section (position parser.old) (position parser.new) (append_known (W.contents output.old) lines.old.items) (append_known (W.contents output.new) lines.new.items)) }
+    ensures written { OnOk result (WritesEntry (message parser.old) kind (position parser.old) (position parser.new) (append_known (W.contents output.old) lines.old.items) (append_known (W.contents output.new) lines.new.items)) }
     ensures moves { OnOk result (MovesTo parser.old parser.new (position parser.new)) }
-    ensures refused { IfRefused result (λ e. NoEntry (message parser.old) section (position parser.old) e) }
+    ensures refused { IfRefused result (λ e. NoEntry (message parser.old) kind (position parser.old) e) }
     ensures nothing_written { IfRefused result (λ _. Keeps (append_known (W.contents output.old) lines.old.items) (append_known (W.contents output.new) lines.new.items)) }
     ensures err { IfErr result (λ e. (e ≡ ToolError.Read) → ⊥) }
 {
-    let entry = match Entry::parse(section, parser) {
+    let entry = match Entry::parse(kind, parser) {
         Ok(entry) => entry,
         Err(e) => return Err(ToolError::Parse(e)),
     };
@@ -37,54 +39,37 @@ fn write_entry<W: Write>(
     Ok(())
 }
 
-/// Writes the lines of this many entries of a section, and moves the parser past them.
-fn write_section<W: Write>(
-    section: Section,
+/// Writes the lines of this many entries of this kind, and moves the parser past them.
+fn write_entries<W: Write>(
+    kind: EntryKind,
     count: u16,
     parser: &mut Parser<'_>,
     lines: &mut Vec<u8>,
     output: &mut W,
 ) -> Result<(), ToolError>
-    ensures written { OnOk result (WritesEntries (message parser.old) (replicate count section) (position parser.old) (position parser.new) (append_known (W.contents output.old) lines.old.items) (append_known (W.contents output.new) lines.new.items)) }
+    ensures written { OnOk result (WritesEntries (message parser.old) (replicate count kind) (position parser.old) (position parser.new) (append_known (W.contents output.old) lines.old.items) (append_known (W.contents output.new) lines.new.items)) }
     ensures moves { OnOk result (MovesTo parser.old parser.new (position parser.new)) }
-    ensures refused { IfRefused result (λ e. WritesUpTo (message parser.old) section count (position parser.old) (append_known (W.contents output.old) lines.old.items) (append_known (W.contents output.new) lines.new.items) e) }
+    ensures refused { IfRefused result (λ e. WritesUpTo (message parser.old) kind count (position parser.old) (append_known (W.contents output.old) lines.old.items) (append_known (W.contents output.new) lines.new.items) e) }
     ensures err { IfErr result (λ e. (e ≡ ToolError.Read) → ⊥) }
 {
     for _entry in 0..count {
-        if let Err(e) = write_entry(section, parser, lines, output) {
+        if let Err(e) = write_entry(kind, parser, lines, output) {
             return Err(e);
         }
     }
     Ok(())
 }
 
-/// How many entries each section has.
-#[derive(Clone, Copy)]
-struct Counts {
-    questions: u16,
-    answers: u16,
-    authority: u16,
-    additional: u16,
-}
-
-impl Counts {
-    ghost use Rattle.domain_tool.specs.Counted.{IsCounted};
-
-    /// Reads the header of a message, and moves the parser past its 12 octets (RFC 1035, 4.1.1).
-    fn parse(parser: &mut Parser<'_>) -> Result<Counts, ShortInput>
-        requires { position parser.old ≡ 0 }
-        ensures ok { IfOk result (λ counts. IsCounted (message parser.old) counts) }
-        ensures moves { OnOk result (MovesTo parser.old parser.new 12) }
-        ensures short { OnErr result (length (message parser.old) < 12) }
-    {
-        parser.advance(4)?;
-        Ok(Counts {
-            questions: parser.parse_u16_be()?,
-            answers: parser.parse_u16_be()?,
-            authority: parser.parse_u16_be()?,
-            additional: parser.parse_u16_be()?,
-        })
-    }
+/// How many entries each section of the message has, by its header (RFC 1035, 4.1.1). The parser is moved past the
+/// header's 12 octets.
+fn parse_counts(parser: &mut Parser<'_>) -> Result<HeaderCounts, ShortInput>
+    requires { position parser.old ≡ 0 }
+    ensures ok { IfOk result (λ counts. IsCounted (message parser.old) counts) }
+    ensures moves { OnOk result (MovesTo parser.old parser.new 12) }
+    ensures short { OnErr result (length (message parser.old) < 12) }
+{
+    parser.advance(12)?;
+    Ok(HeaderCounts::for_message_slice(parser.as_slice()))
 }
 
 /// Writes the lines of the message after the lines that aren't written yet.
@@ -98,34 +83,26 @@ fn list_message<W: Write>(
     ensures err { IfErr result (λ e. (e ≡ ToolError.Read) → ⊥) }
 {
     let mut parser = Parser::from_ref(message);
-    let counts = match Counts::parse(&mut parser) {
+    let counts = match parse_counts(&mut parser) {
         Ok(counts) => counts,
         Err(e) => return Err(ToolError::Parse(ParseError::from(e))),
     };
-    if let Err(e) = write_section(
-        Section::Question,
-        counts.questions,
-        &mut parser,
-        lines,
-        output,
-    ) {
+    let questions = counts.qdcount();
+    let answers = counts.ancount();
+    let authority = counts.nscount();
+    let additional = counts.arcount();
+    if let Err(e) = write_entries(EntryKind::Question, questions, &mut parser, lines, output) {
         return Err(e);
     }
-    if let Err(e) = write_section(Section::Answer, counts.answers, &mut parser, lines, output) {
+    if let Err(e) = write_entries(EntryKind::Answer, answers, &mut parser, lines, output) {
         return Err(e);
     }
-    if let Err(e) = write_section(
-        Section::Authority,
-        counts.authority,
-        &mut parser,
-        lines,
-        output,
-    ) {
+    if let Err(e) = write_entries(EntryKind::Authority, authority, &mut parser, lines, output) {
         return Err(e);
     }
-    write_section(
-        Section::Additional,
-        counts.additional,
+    write_entries(
+        EntryKind::Additional,
+        additional,
         &mut parser,
         lines,
         output,

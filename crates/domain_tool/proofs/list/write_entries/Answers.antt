@@ -4,7 +4,7 @@ use Rattle.octseq.specs.Parsing.{position}
 use Rattle.domain_tool.specs.Written.{WritesEntry}
 use Rattle.domain_tool.proofs.Entries.{same_message, moves_on}
 use Rattle.domain_tool.proofs.Listing.{writes_none, writes_next, writes_up_to}
-use Rattle.domain_tool.proofs.list.write_section.Goals as goal
+use Rattle.domain_tool.proofs.list.write_entries.Goals as goal
 
 pub loop-entry-init : goal.loop-entry-init
 loop-entry-init g c = (writes_none _ _ _, search rules)
@@ -14,7 +14,7 @@ loop-entry-preserved g c =
     let before = c.loop-entry.invariant in
     let same = same_message _ _ _ before.1 in
     let one = c.in_default.ensures.written in
-    (writes_next _ _ c.loop-entry._entry _ _ _ _ _ _ before.0 (subst (λ m. WritesEntry m c.args.section (position c.loop-entry.parser) (position c.write_entry.new.parser) (append_known (g.W.Write.contents c.loop-entry.output) c.loop-entry.lines.items) (append_known (g.W.Write.contents c.write_entry.new.output) c.write_entry.new.lines.items)) same one), moves_on _ _ _ _ _ before.1 c.in_default.ensures.moves)
+    (writes_next _ _ c.loop-entry._entry _ _ _ _ _ _ before.0 (subst (λ m. WritesEntry m c.args.kind (position c.loop-entry.parser) (position c.write_entry.new.parser) (append_known (g.W.Write.contents c.loop-entry.output) c.loop-entry.lines.items) (append_known (g.W.Write.contents c.write_entry.new.output) c.write_entry.new.lines.items)) same one), moves_on _ _ _ _ _ before.1 c.in_default.ensures.moves)
 
 pub returns-in-Err-clause-refused : goal.returns-in-Err-clause-refused
 returns-in-Err-clause-refused g c =
