@@ -13,6 +13,7 @@ pub use Rattle.domain_label.specs.Spelling
 pub use Rattle.domain_label.specs.LabelText
 pub use Rattle.domain_label.specs.Labels as LabelViews
 pub use Rattle.domain_reading.specs.Grammar
+pub use Rattle.domain_reading.specs.Limits
 pub use Rattle.domain_reading.specs.Faults
 pub use Rattle.domain_reading.specs.ParseResult
 pub use Rattle.domain_reading.specs.Touched
