@@ -16,10 +16,9 @@
  *   PTRDIFF_MAX octets, aligned as its type wants, and a result's pointer to one value;
  * - a buffer or a result overlaps nothing else that the call is passed, and nobody else writes what is passed or reads
  *   the results while the call runs.
- * Null is looked for by the guards below, which are plain C: a null pointer whose length or capacity is 0 stands for
- * no octets, and one with a length, or a null result, is refused as DNSNAMES_NULL. They stand in this header, so a
- * caller from another language, who calls the symbols of the library, owes pointers that aren't null, also at
- * length 0. The same holds where DNSNAMES_NO_GUARDS is defined before this header is included.
+ * - a null pointer stands for no octets where its length or capacity is 0. With another length, or where a result or
+ *   a key is to be, it is refused as DNSNAMES_NULL, and nothing is written. The library looks for it (guards.c, which is
+ *   plain C and not proved) before the proved call is made, so this holds for callers from any language.
  */
 #ifndef DNSNAMES_H
 #define DNSNAMES_H
@@ -33,14 +32,19 @@ extern "C" {
 
 /* The most octets of an uncompressed name: a buffer of this size has room for each. */
 #define DNSNAMES_MAX_LEN 255
-/* The most octets of a name's text, with no zero octet after it: a buffer of this size has room for each. */
+/* The most octets of a name's text, with a zero octet after it: a buffer of this size has room for each. */
 #define DNSNAMES_MAX_TEXT 1020
 /* The limit of pointers that allows all that a name can have. */
 #define DNSNAMES_MAX_POINTERS 255
 /* The most offsets that a table for compressing has. */
 #define DNSNAMES_MAX_TABLE 128
+/* The octets of a key of dnsnames_hash. */
+#define DNSNAMES_KEY_LEN 16
 
-enum {
+/* The version of this header; dnsnames_version tells that of the library. */
+#define DNSNAMES_VERSION "0.2.0"
+
+typedef enum dnsnames_status {
     DNSNAMES_OK = 0,
     /* The octets or the text end too soon. */
     DNSNAMES_SHORT_INPUT = 1,
@@ -81,8 +85,13 @@ enum {
     /* Octets of a relative name: a root label stands in them. */
     DNSNAMES_ABSOLUTE = 19,
     /* A length that is passed is larger than the capacity beside it. */
-    DNSNAMES_BAD_LENGTH = 20
-};
+    DNSNAMES_BAD_LENGTH = 20,
+    /* Data of records of this type have no such name. */
+    DNSNAMES_NO_FIELD = 21
+} dnsnames_status;
+
+/* The version of the library: a text that stays. */
+const char *dnsnames_version(void);
 
 /* ---- Names in messages ---- */
 
@@ -102,23 +111,23 @@ enum {
  *     if (status != DNSNAMES_OK)
  *         fprintf(stderr, "%s\n", dnsnames_strerror(status));
  */
-uint32_t dnsnames_read(const uint8_t *message, size_t message_len, size_t offset, uint8_t limit, uint8_t *buffer,
-                       size_t capacity, size_t *length, size_t *end, uint32_t *compressed);
+dnsnames_status dnsnames_read(const uint8_t *message, size_t message_len, size_t offset, uint8_t limit,
+                              uint8_t *buffer, size_t capacity, size_t *length, size_t *end, uint32_t *compressed);
 
 /* *end becomes the offset after the root or the first pointer of the name at an offset; the pointer is not followed,
  * so it may lead anywhere. SHORT_INPUT, LABEL_TYPE, LONG_NAME. */
-uint32_t dnsnames_skip(const uint8_t *message, size_t message_len, size_t offset, size_t *end);
+dnsnames_status dnsnames_skip(const uint8_t *message, size_t message_len, size_t offset, size_t *end);
 
 /* ---- Octets and text ---- */
 
 /* Whether octets are an uncompressed name: OK. LONG_NAME where there are more than 255; otherwise the fault that a
  * walk along them meets first: SHORT_INPUT, LABEL_TYPE, COMPRESSED, RELATIVE, TRAILING_DATA. */
-uint32_t dnsnames_check(const uint8_t *octets, size_t len);
+dnsnames_status dnsnames_check(const uint8_t *octets, size_t len);
 
 /* Whether octets are an uncompressed relative name, which is labels with no root label after them, or no label at all:
  * OK. LONG_NAME where there are more than 254; otherwise the fault that a walk along them meets first: SHORT_INPUT,
  * LABEL_TYPE, COMPRESSED, ABSOLUTE. */
-uint32_t dnsnames_check_relative(const uint8_t *octets, size_t len);
+dnsnames_status dnsnames_check_relative(const uint8_t *octets, size_t len);
 
 /* Reads the text of an absolute name (RFC 1035, 5.1), which is UTF-8; a final dot may be left out. The buffer gets the
  * uncompressed name, *length its size.
@@ -129,52 +138,61 @@ uint32_t dnsnames_check_relative(const uint8_t *octets, size_t len);
  *     const char text[] = "www.example.com";
  *     uint32_t status = dnsnames_from_text((const uint8_t *)text, strlen(text), name, sizeof name, &len);
  */
-uint32_t dnsnames_from_text(const uint8_t *text, size_t text_len, uint8_t *buffer, size_t capacity, size_t *length);
+dnsnames_status dnsnames_from_text(const uint8_t *text, size_t text_len, uint8_t *buffer, size_t capacity,
+                                   size_t *length);
 
 /* The text of an uncompressed name, which is ASCII: space, dot and backslash have a backslash before them, and what is
- * not printed is a backslash and three digits. *length becomes its size; there is no zero octet after it. With
- * final_dot 0 labels have dots between them, otherwise also after the last; either way the root alone is a dot.
+ * not printed is a backslash and three digits. *length becomes its size; a zero octet follows where the buffer has room
+ * for it, and isn't counted. With final_dot 0 labels have dots between them, otherwise also after the last; either way the root alone is a dot.
  * NO_NAME, NO_ROOM. */
-uint32_t dnsnames_to_text(const uint8_t *name, size_t len, uint32_t final_dot, uint8_t *buffer, size_t capacity,
-                          size_t *length);
+dnsnames_status dnsnames_to_text(const uint8_t *name, size_t len, uint32_t final_dot, uint8_t *buffer,
+                                 size_t capacity, size_t *length);
 
 /* The canonical form of an uncompressed name: A to Z as a to z (RFC 4034, 6.2). *length becomes its size, which is
  * len. NO_NAME, NO_ROOM. */
-uint32_t dnsnames_lower(const uint8_t *name, size_t len, uint8_t *buffer, size_t capacity, size_t *length);
+dnsnames_status dnsnames_lower(const uint8_t *name, size_t len, uint8_t *buffer, size_t capacity, size_t *length);
 
 /* ---- Comparing ---- */
 
 /* *equal becomes 1 where two names are equal without ASCII case (RFC 4343, 3), otherwise 0. NO_NAME where one is no
  * name. */
-uint32_t dnsnames_eq(const uint8_t *left, size_t left_len, const uint8_t *right, size_t right_len, uint32_t *equal);
+dnsnames_status dnsnames_eq(const uint8_t *left, size_t left_len, const uint8_t *right, size_t right_len,
+                            uint32_t *equal);
 
 /* *order becomes -1, 0 or 1: the canonical order of two names (RFC 4034, 6.1). NO_NAME where one is no name. */
-uint32_t dnsnames_compare(const uint8_t *left, size_t left_len, const uint8_t *right, size_t right_len,
-                          int32_t *order);
+dnsnames_status dnsnames_compare(const uint8_t *left, size_t left_len, const uint8_t *right, size_t right_len,
+                                 int32_t *order);
 
 /* *ends becomes 1 where the labels of the suffix, compared without ASCII case, are the last ones of the name,
  * otherwise 0. NO_NAME where one is none. */
-uint32_t dnsnames_ends_with(const uint8_t *name, size_t len, const uint8_t *suffix, size_t suffix_len, uint32_t *ends);
+dnsnames_status dnsnames_ends_with(const uint8_t *name, size_t len, const uint8_t *suffix, size_t suffix_len,
+                                   uint32_t *ends);
 
-/* *hash becomes FNV-1a over 64 bits of the canonical form: names that are equal have one hash. NO_NAME. */
-uint32_t dnsnames_hash(const uint8_t *name, size_t len, uint64_t *hash);
+/* *hash becomes the SipHash-2-4 of the canonical form under a key of DNSNAMES_KEY_LEN octets: names that are equal have
+ * one hash. NO_NAME.
+ *
+ * It is for tables that strangers fill, as those of a cache: who doesn't know the key can't choose names that fall
+ * together. So draw the key at random when the program starts (by getrandom or getentropy), one for all tables or one
+ * for each, and keep it: neither a constant, nor the time, nor a number that is told to others. Hashes under one key
+ * must not be told either, nor be kept for another run. */
+dnsnames_status dnsnames_hash(const uint8_t *key, const uint8_t *name, size_t len, uint64_t *hash);
 
 /* ---- Labels ---- */
 
 /* *count becomes the number of labels, the root among them: 1 to 128. NO_NAME. */
-uint32_t dnsnames_label_count(const uint8_t *name, size_t len, size_t *count);
+dnsnames_status dnsnames_label_count(const uint8_t *name, size_t len, size_t *count);
 
 /* *offset becomes that of the label that has `index` labels before it. name[*offset] is its length, and its octets
  * follow; name + *offset is an uncompressed name itself, of len - *offset octets. NO_LABEL where the name has no more
  * than `index` labels; NO_NAME. */
-uint32_t dnsnames_label(const uint8_t *name, size_t len, size_t index, size_t *offset);
+dnsnames_status dnsnames_label(const uint8_t *name, size_t len, size_t index, size_t *offset);
 
 /* The same of the label that has `index` labels after it: the root has none after it. NO_LABEL, NO_NAME. */
-uint32_t dnsnames_label_back(const uint8_t *name, size_t len, size_t index, size_t *offset);
+dnsnames_status dnsnames_label_back(const uint8_t *name, size_t len, size_t index, size_t *offset);
 
 /* *offset becomes that of the second label: name + *offset is the parent, an uncompressed name of len - *offset
  * octets. NO_LABEL for the root, which has none; NO_NAME. */
-uint32_t dnsnames_parent(const uint8_t *name, size_t len, size_t *offset);
+dnsnames_status dnsnames_parent(const uint8_t *name, size_t len, size_t *offset);
 
 /* ---- Writing names with compression (RFC 1035, 4.1.4) ---- */
 
@@ -185,8 +203,8 @@ uint32_t dnsnames_parent(const uint8_t *name, size_t len, size_t *offset);
  * are 0xc0 + *offset / 256 and *offset % 256. The pointer stands for the longest end of the name, but the root, that
  * is read without ASCII case at one of the offsets, and leads to the first such one. FLAT: no end is read at any of
  * them, or more than 255 pointers would lead along the name; all of it is to be written. NO_TABLE, NO_NAME. */
-uint32_t dnsnames_plan(const uint8_t *octets, size_t octets_len, const uint16_t *table, size_t table_len,
-                       const uint8_t *name, size_t len, size_t *begin, uint16_t *offset);
+dnsnames_status dnsnames_plan(const uint8_t *octets, size_t octets_len, const uint16_t *table, size_t table_len,
+                              const uint8_t *name, size_t len, size_t *begin, uint16_t *offset);
 
 /* Writes a name after the first *octets_len octets of a message, as dnsnames_plan tells, and adds its size there to
  * *octets_len. The offsets of the labels that were written, but of the root, are added to the table as long as they
@@ -203,27 +221,82 @@ uint32_t dnsnames_plan(const uint8_t *octets, size_t octets_len, const uint16_t 
  *     status = dnsnames_append(message, sizeof message, &message_len, table, DNSNAMES_MAX_TABLE, &table_len, name,
  *                              len);
  */
-uint32_t dnsnames_append(uint8_t *octets, size_t capacity, size_t *octets_len, uint16_t *table, size_t table_capacity,
-                         size_t *table_len, const uint8_t *name, size_t len);
+dnsnames_status dnsnames_append(uint8_t *octets, size_t capacity, size_t *octets_len, uint16_t *table,
+                                size_t table_capacity, size_t *table_len, const uint8_t *name, size_t len);
 
 /* ---- Messages (RFC 1035, 4.1) ---- */
 
-/* The twelve octets that a message begins with: its identifier, its sixteen bits of flags (QR is 0x8000, RCODE the low
- * four), and how many questions and records it says to have. SHORT_INPUT where it has fewer octets. */
-uint32_t dnsnames_header(const uint8_t *message, size_t message_len, uint16_t *id, uint16_t *flags,
-                         uint16_t *questions, uint16_t *answers, uint16_t *authority, uint16_t *additional);
+/* The flags of a message's header. The four bits of the opcode are flags >> 11 & 15, those of the response code
+ * flags & 15. */
+enum {
+    DNSNAMES_FLAG_QR = 0x8000,
+    DNSNAMES_FLAG_AA = 0x0400,
+    DNSNAMES_FLAG_TC = 0x0200,
+    DNSNAMES_FLAG_RD = 0x0100,
+    DNSNAMES_FLAG_RA = 0x0080,
+    DNSNAMES_FLAG_AD = 0x0020,
+    DNSNAMES_FLAG_CD = 0x0010
+};
 
-/* The question at an offset: the name begins there (dnsnames_read reads it), and the type, the class and the offset
- * after the question are given. SHORT_INPUT, LABEL_TYPE, LONG_NAME as dnsnames_skip has them; SHORT_INPUT also where
- * fewer than four octets follow the name. The first question is at offset 12. */
-uint32_t dnsnames_question(const uint8_t *message, size_t message_len, size_t offset, uint16_t *type, uint16_t *class_,
-                           size_t *end);
+/* The twelve octets that a message begins with (RFC 1035, 4.1.1): its identifier, its sixteen bits of flags, and how
+ * many questions and records it says to have. */
+typedef struct dnsnames_header_fields {
+    uint16_t id;
+    uint16_t flags;
+    uint16_t questions;
+    uint16_t answers;
+    uint16_t authority;
+    uint16_t additional;
+} dnsnames_header_fields;
 
-/* The record at an offset: the name begins there, and the type, the class, the time to live in seconds, the offset and
- * the size of the data and the offset after the record are given. SHORT_INPUT, LABEL_TYPE, LONG_NAME as dnsnames_skip
- * has them; SHORT_INPUT also where the ten octets after the name, or the data, end past the message. */
-uint32_t dnsnames_record(const uint8_t *message, size_t message_len, size_t offset, uint16_t *type, uint16_t *class_,
-                         uint32_t *ttl, size_t *data, size_t *data_len, size_t *end);
+/* A question (RFC 1035, 4.1.2) after its name, and the offset after it. */
+typedef struct dnsnames_question_fields {
+    uint16_t type;
+    uint16_t class_;
+    size_t end;
+} dnsnames_question_fields;
+
+/* A record (RFC 1035, 4.1.3) after its name: its time to live in seconds, the offset and the size of its data, and the
+ * offset after it. */
+typedef struct dnsnames_record_fields {
+    uint16_t type;
+    uint16_t class_;
+    uint32_t ttl;
+    size_t data;
+    size_t data_len;
+    size_t end;
+} dnsnames_record_fields;
+
+/* The header of a message. SHORT_INPUT where it has fewer than twelve octets. */
+dnsnames_status dnsnames_header(const uint8_t *message, size_t message_len, dnsnames_header_fields *header);
+
+/* The question at an offset, whose name begins there (dnsnames_read reads it). SHORT_INPUT, LABEL_TYPE, LONG_NAME as
+ * dnsnames_skip has them; SHORT_INPUT also where fewer than four octets follow the name. The first question is at
+ * offset 12. */
+dnsnames_status dnsnames_question(const uint8_t *message, size_t message_len, size_t offset,
+                                  dnsnames_question_fields *question);
+
+/* The record at an offset, whose name begins there. SHORT_INPUT, LABEL_TYPE, LONG_NAME as dnsnames_skip has them;
+ * SHORT_INPUT also where the ten octets after the name, or the data, end past the message. */
+dnsnames_status dnsnames_record(const uint8_t *message, size_t message_len, size_t offset,
+                                dnsnames_record_fields *record);
+
+/* The name with `index` names before it in the data of a record: data, data_len and type are those that dnsnames_record
+ * gives. The buffer gets the uncompressed name, *length its size. Unlike dnsnames_read it reads no octet after the data
+ * as a part of the name: pointers lead before, and none leads back into what follows.
+ *
+ * NO_FIELD where data of this type have no such name. Known are the types of RFC 1035, 3.3, with names (NS, MD, MF,
+ * CNAME, SOA, MB, MG, MR, PTR, MX, and MINFO; SOA and MINFO have two), RP with two and AFSDB and RT (RFC 1183), PX with
+ * two (RFC 2163), KX (RFC 2230), SRV (RFC 2782) and DNAME (RFC 6672).
+ * SHORT_INPUT where the data end past the message, or a name or what follows it past the data; TRAILING_DATA where the
+ * data go on after all that such data have; LABEL_TYPE, LONG_NAME as dnsnames_skip has them for any of the names. Then
+ * TOO_MANY_POINTERS and the others, as dnsnames_read has them, for the name that is asked for; NO_ROOM.
+ *
+ *     if (dnsnames_data_name(message, message_len, data, data_len, 15, 0, name, sizeof name, &len) == DNSNAMES_OK)
+ *         the exchange of an MX record is in name
+ */
+dnsnames_status dnsnames_data_name(const uint8_t *message, size_t message_len, size_t data, size_t data_len,
+                                   uint16_t type, size_t index, uint8_t *buffer, size_t capacity, size_t *length);
 
 /* ---- Statuses ---- */
 
@@ -252,219 +325,10 @@ static inline const char *dnsnames_strerror(uint32_t status)
     case DNSNAMES_NULL: return "null pointer";
     case DNSNAMES_ABSOLUTE: return "absolute domain name";
     case DNSNAMES_BAD_LENGTH: return "length larger than its capacity";
+    case DNSNAMES_NO_FIELD: return "no such name in data of this type";
     default: return "unknown status";
     }
 }
-
-/* ---- Guards against null ---- */
-
-#ifndef DNSNAMES_NO_GUARDS
-
-/* Null with a length, or null with none, for which the second pointer stands. */
-static inline int dnsnames_is_null(const void *pointer, size_t len)
-{
-    return pointer == NULL && len != 0;
-}
-static inline const uint8_t *dnsnames_octets(const uint8_t *octets)
-{
-    static const uint8_t none[1] = {0};
-    return octets == NULL ? none : octets;
-}
-
-static inline uint32_t dnsnames_guarded_read(const uint8_t *message, size_t message_len, size_t offset, uint8_t limit,
-                                             uint8_t *buffer, size_t capacity, size_t *length, size_t *end,
-                                             uint32_t *compressed)
-{
-    uint8_t none[1] = {0};
-    if (dnsnames_is_null(message, message_len) || dnsnames_is_null(buffer, capacity) || length == NULL || end == NULL
-        || compressed == NULL)
-        return DNSNAMES_NULL;
-    return dnsnames_read(dnsnames_octets(message), message_len, offset, limit, buffer == NULL ? none : buffer,
-                         capacity, length, end, compressed);
-}
-#define dnsnames_read dnsnames_guarded_read
-
-static inline uint32_t dnsnames_guarded_skip(const uint8_t *message, size_t message_len, size_t offset, size_t *end)
-{
-    if (dnsnames_is_null(message, message_len) || end == NULL)
-        return DNSNAMES_NULL;
-    return dnsnames_skip(dnsnames_octets(message), message_len, offset, end);
-}
-#define dnsnames_skip dnsnames_guarded_skip
-
-static inline uint32_t dnsnames_guarded_check(const uint8_t *octets, size_t len)
-{
-    if (dnsnames_is_null(octets, len))
-        return DNSNAMES_NULL;
-    return dnsnames_check(dnsnames_octets(octets), len);
-}
-#define dnsnames_check dnsnames_guarded_check
-
-static inline uint32_t dnsnames_guarded_check_relative(const uint8_t *octets, size_t len)
-{
-    if (dnsnames_is_null(octets, len))
-        return DNSNAMES_NULL;
-    return dnsnames_check_relative(dnsnames_octets(octets), len);
-}
-#define dnsnames_check_relative dnsnames_guarded_check_relative
-
-static inline uint32_t dnsnames_guarded_from_text(const uint8_t *text, size_t text_len, uint8_t *buffer,
-                                                  size_t capacity, size_t *length)
-{
-    uint8_t none[1] = {0};
-    if (dnsnames_is_null(text, text_len) || dnsnames_is_null(buffer, capacity) || length == NULL)
-        return DNSNAMES_NULL;
-    return dnsnames_from_text(dnsnames_octets(text), text_len, buffer == NULL ? none : buffer, capacity, length);
-}
-#define dnsnames_from_text dnsnames_guarded_from_text
-
-static inline uint32_t dnsnames_guarded_to_text(const uint8_t *name, size_t len, uint32_t final_dot, uint8_t *buffer,
-                                                size_t capacity, size_t *length)
-{
-    uint8_t none[1] = {0};
-    if (dnsnames_is_null(name, len) || dnsnames_is_null(buffer, capacity) || length == NULL)
-        return DNSNAMES_NULL;
-    return dnsnames_to_text(dnsnames_octets(name), len, final_dot, buffer == NULL ? none : buffer, capacity, length);
-}
-#define dnsnames_to_text dnsnames_guarded_to_text
-
-static inline uint32_t dnsnames_guarded_lower(const uint8_t *name, size_t len, uint8_t *buffer, size_t capacity,
-                                              size_t *length)
-{
-    uint8_t none[1] = {0};
-    if (dnsnames_is_null(name, len) || dnsnames_is_null(buffer, capacity) || length == NULL)
-        return DNSNAMES_NULL;
-    return dnsnames_lower(dnsnames_octets(name), len, buffer == NULL ? none : buffer, capacity, length);
-}
-#define dnsnames_lower dnsnames_guarded_lower
-
-static inline uint32_t dnsnames_guarded_eq(const uint8_t *left, size_t left_len, const uint8_t *right,
-                                           size_t right_len, uint32_t *equal)
-{
-    if (dnsnames_is_null(left, left_len) || dnsnames_is_null(right, right_len) || equal == NULL)
-        return DNSNAMES_NULL;
-    return dnsnames_eq(dnsnames_octets(left), left_len, dnsnames_octets(right), right_len, equal);
-}
-#define dnsnames_eq dnsnames_guarded_eq
-
-static inline uint32_t dnsnames_guarded_compare(const uint8_t *left, size_t left_len, const uint8_t *right,
-                                                size_t right_len, int32_t *order)
-{
-    if (dnsnames_is_null(left, left_len) || dnsnames_is_null(right, right_len) || order == NULL)
-        return DNSNAMES_NULL;
-    return dnsnames_compare(dnsnames_octets(left), left_len, dnsnames_octets(right), right_len, order);
-}
-#define dnsnames_compare dnsnames_guarded_compare
-
-static inline uint32_t dnsnames_guarded_ends_with(const uint8_t *name, size_t len, const uint8_t *suffix,
-                                                  size_t suffix_len, uint32_t *ends)
-{
-    if (dnsnames_is_null(name, len) || dnsnames_is_null(suffix, suffix_len) || ends == NULL)
-        return DNSNAMES_NULL;
-    return dnsnames_ends_with(dnsnames_octets(name), len, dnsnames_octets(suffix), suffix_len, ends);
-}
-#define dnsnames_ends_with dnsnames_guarded_ends_with
-
-static inline uint32_t dnsnames_guarded_hash(const uint8_t *name, size_t len, uint64_t *hash)
-{
-    if (dnsnames_is_null(name, len) || hash == NULL)
-        return DNSNAMES_NULL;
-    return dnsnames_hash(dnsnames_octets(name), len, hash);
-}
-#define dnsnames_hash dnsnames_guarded_hash
-
-static inline uint32_t dnsnames_guarded_label_count(const uint8_t *name, size_t len, size_t *count)
-{
-    if (dnsnames_is_null(name, len) || count == NULL)
-        return DNSNAMES_NULL;
-    return dnsnames_label_count(dnsnames_octets(name), len, count);
-}
-#define dnsnames_label_count dnsnames_guarded_label_count
-
-static inline uint32_t dnsnames_guarded_label(const uint8_t *name, size_t len, size_t index, size_t *offset)
-{
-    if (dnsnames_is_null(name, len) || offset == NULL)
-        return DNSNAMES_NULL;
-    return dnsnames_label(dnsnames_octets(name), len, index, offset);
-}
-#define dnsnames_label dnsnames_guarded_label
-
-static inline uint32_t dnsnames_guarded_label_back(const uint8_t *name, size_t len, size_t index, size_t *offset)
-{
-    if (dnsnames_is_null(name, len) || offset == NULL)
-        return DNSNAMES_NULL;
-    return dnsnames_label_back(dnsnames_octets(name), len, index, offset);
-}
-#define dnsnames_label_back dnsnames_guarded_label_back
-
-static inline uint32_t dnsnames_guarded_parent(const uint8_t *name, size_t len, size_t *offset)
-{
-    if (dnsnames_is_null(name, len) || offset == NULL)
-        return DNSNAMES_NULL;
-    return dnsnames_parent(dnsnames_octets(name), len, offset);
-}
-#define dnsnames_parent dnsnames_guarded_parent
-
-static inline uint32_t dnsnames_guarded_plan(const uint8_t *octets, size_t octets_len, const uint16_t *table,
-                                             size_t table_len, const uint8_t *name, size_t len, size_t *begin,
-                                             uint16_t *offset)
-{
-    static const uint16_t none[1] = {0};
-    if (dnsnames_is_null(octets, octets_len) || dnsnames_is_null(table, table_len) || dnsnames_is_null(name, len)
-        || begin == NULL || offset == NULL)
-        return DNSNAMES_NULL;
-    return dnsnames_plan(dnsnames_octets(octets), octets_len, table == NULL ? none : table, table_len,
-                         dnsnames_octets(name), len, begin, offset);
-}
-#define dnsnames_plan dnsnames_guarded_plan
-
-static inline uint32_t dnsnames_guarded_append(uint8_t *octets, size_t capacity, size_t *octets_len, uint16_t *table,
-                                               size_t table_capacity, size_t *table_len, const uint8_t *name,
-                                               size_t len)
-{
-    uint8_t none[1] = {0};
-    uint16_t no_offsets[1] = {0};
-    if (dnsnames_is_null(octets, capacity) || octets_len == NULL || dnsnames_is_null(table, table_capacity)
-        || table_len == NULL || dnsnames_is_null(name, len))
-        return DNSNAMES_NULL;
-    return dnsnames_append(octets == NULL ? none : octets, capacity, octets_len, table == NULL ? no_offsets : table,
-                           table_capacity, table_len, dnsnames_octets(name), len);
-}
-#define dnsnames_append dnsnames_guarded_append
-
-static inline uint32_t dnsnames_guarded_header(const uint8_t *message, size_t message_len, uint16_t *id,
-                                               uint16_t *flags, uint16_t *questions, uint16_t *answers,
-                                               uint16_t *authority, uint16_t *additional)
-{
-    if (dnsnames_is_null(message, message_len) || id == NULL || flags == NULL || questions == NULL || answers == NULL
-        || authority == NULL || additional == NULL)
-        return DNSNAMES_NULL;
-    return dnsnames_header(dnsnames_octets(message), message_len, id, flags, questions, answers, authority,
-                           additional);
-}
-#define dnsnames_header dnsnames_guarded_header
-
-static inline uint32_t dnsnames_guarded_question(const uint8_t *message, size_t message_len, size_t offset,
-                                                 uint16_t *type, uint16_t *class_, size_t *end)
-{
-    if (dnsnames_is_null(message, message_len) || type == NULL || class_ == NULL || end == NULL)
-        return DNSNAMES_NULL;
-    return dnsnames_question(dnsnames_octets(message), message_len, offset, type, class_, end);
-}
-#define dnsnames_question dnsnames_guarded_question
-
-static inline uint32_t dnsnames_guarded_record(const uint8_t *message, size_t message_len, size_t offset,
-                                               uint16_t *type, uint16_t *class_, uint32_t *ttl, size_t *data,
-                                               size_t *data_len, size_t *end)
-{
-    if (dnsnames_is_null(message, message_len) || type == NULL || class_ == NULL || ttl == NULL || data == NULL
-        || data_len == NULL || end == NULL)
-        return DNSNAMES_NULL;
-    return dnsnames_record(dnsnames_octets(message), message_len, offset, type, class_, ttl, data, data_len, end);
-}
-#define dnsnames_record dnsnames_guarded_record
-
-#endif /* DNSNAMES_NO_GUARDS */
 
 #ifdef __cplusplus
 }

@@ -1,10 +1,13 @@
 //! Finds the library: in the folder that DNSNAMES_LIB_DIR names, else by pkg-config.
 
-use std::path::Path;
 use std::process::Command;
 
 fn main() {
     println!("cargo:rerun-if-env-changed=DNSNAMES_LIB_DIR");
+    // Pages need no library: there is none where docs.rs makes them.
+    if std::env::var_os("DOCS_RS").is_some() {
+        return;
+    }
     println!("cargo:rerun-if-env-changed=PKG_CONFIG_PATH");
     match std::env::var("DNSNAMES_LIB_DIR") {
         Ok(folder) => link_archive(&folder),
@@ -12,19 +15,15 @@ fn main() {
     }
 }
 
-/// The archive has one name where it is built and another where it is installed.
 fn link_archive(folder: &str) {
     let folder = std::fs::canonicalize(folder).unwrap_or_else(|error| panic!("DNSNAMES_LIB_DIR is {folder}: {error}"));
-    let Some(name) = ["dnsnames", "dnsnames_c"].into_iter().find(|name| has_archive(&folder, name)) else {
+    let archive = folder.join("libdnsnames.a");
+    if !archive.exists() {
         panic!("DNSNAMES_LIB_DIR: no libdnsnames.a in {}", folder.display());
-    };
-    println!("cargo:rerun-if-changed={}", folder.join(format!("lib{name}.a")).display());
+    }
+    println!("cargo:rerun-if-changed={}", archive.display());
     println!("cargo:rustc-link-search=native={}", folder.display());
-    println!("cargo:rustc-link-lib=static={name}");
-}
-
-fn has_archive(folder: &Path, name: &str) -> bool {
-    folder.join(format!("lib{name}.a")).exists()
+    println!("cargo:rustc-link-lib=static=dnsnames");
 }
 
 fn link_by_pkg_config() {

@@ -31,6 +31,7 @@ const FAULTS = new Map([
     [16, ["NoTable", "invalid table of offsets", ""]],
     [19, ["AbsoluteName", "absolute domain name", "RFC 1035, 3.1"]],
     [20, ["BadLength", "length larger than its capacity", ""]],
+    [21, ["NoField", "no such name in data of this type", ""]],
 ]);
 
 /** Why something is refused: `fault` is its name, `status` the module's number, `section` the standard's. */
@@ -53,7 +54,7 @@ export async function load(octets) {
 }
 
 /** The calls of one module. Each copies what it is given into the module's memory, and the results out of it. */
-class DnsNames {
+export class DnsNames {
     #exports;
     #next = 0;
 
@@ -127,12 +128,10 @@ class DnsNames {
         return this.#ofTwo("ends_with", name, suffix) === 1;
     }
 
-    /** 64 bits, as a BigInt, that are the same for equal names. */
-    hash(name) {
-        const [slice] = this.#begin(name);
-        const [hash] = this.#results(1);
-        this.#call("hash", undefined, ...slice, hash);
-        return this.#view().getBigUint64(Number(hash), true);
+    /** A text that is the same for equal names, for the keys of a Map or a Set: the octets of `lower`, each a character.
+     *  The hash behind it is the browser's own, so strangers can't choose names that fall together. */
+    key(name) {
+        return String.fromCharCode(...this.lower(name));
     }
 
     /** The octets of a name's labels, the root's last. */
@@ -177,6 +176,19 @@ class DnsNames {
             ttl: this.#view().getUint32(Number(ttl), true), dataOffset,
             data: message.slice(dataOffset, dataOffset + this.#size(dataLen)), end: this.#size(end),
         };
+    }
+
+    /** The name with so many names before it in the data of a record of this message: its octets, text and labels. It
+     *  doesn't leave the data. NoField where data of its type have no such name, TrailingData where they go on. */
+    nameInData(message, record, index = 0) {
+        const [slice, room] = this.#begin(message, MAX_LEN);
+        const [length] = this.#results(1);
+        const { dataOffset, data, type } = record;
+        this.#call(
+            "data_name", dataOffset, ...slice, toSize(dataOffset), BigInt(data.length), type, toSize(index), ...room, length,
+        );
+        const octets = this.#octets(room, length);
+        return { octets, text: this.toText(octets), labels: labelsOf(octets) };
     }
 
     /** The questions and records of a message in turn, each with its `section`. */

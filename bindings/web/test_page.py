@@ -156,7 +156,7 @@ class Page(unittest.TestCase):
                 0xc0, 12, 0, 5, 0, 1, 0, 0, 0, 60, 0, 2, 0xc0, 12);
             const entries = [...dns.entries(message)];
             return [
-                sorted.map(text).join(" "), dns.equal(from("WWW"), from("www")), dns.hash(from(".")).toString(16),
+                sorted.map(text).join(" "), dns.equal(from("WWW"), from("www")), dns.key(from("WWW")) === dns.key(from("www")),
                 text(dns.parent(from("www.com"))), text(dns.lower(from("WWW"))), dns.endsWith(from("a.b"), from("B")),
                 dns.endsWith(from("ab"), from("b")), dns.toText(from("a\\\\.b"), { finalDot: false }),
                 dns.labels(from("a.b")).length, dns.skipName(Uint8Array.of(0xc0, 0), 0),
@@ -168,14 +168,16 @@ class Page(unittest.TestCase):
                 [[], [3, 119], [1, 97], [0, 0], [0xc0, 0], [0x40]]
                     .map((name) => faultOf(() => dns.checkName(Uint8Array.from(name)))).join(" "),
                 faultOf(() => dns.checkRelativeName(Uint8Array.of(0))), faultOf(() => dns.parent(from("."))),
-                dns.readName(new Uint8Array(200000), 199999).end,
+                dns.readName(new Uint8Array(200000), 199999).end, dns.nameInData(message, entries[1]).text,
+                faultOf(() => dns.nameInData(message, entries[1], 1)),
+                faultOf(() => dns.nameInData(message, { ...entries[1], data: entries[1].data.slice(1) })),
             ].map(String);
         """), [
-            "example. a.example. Z.a.example. z.example.", "true", "af63bd4c8601b7df", "com.", "www.", "true", "false",
+            "example. a.example. Z.a.example. z.example.", "true", "true", "com.", "www.", "true", "false",
             "a\\.b", "3", "2", "3,119,119,119,192,0", "NoRoom", "19", "questions 1 19 answers 5 33", "60", "7", "192,12",
             "EmptyLabel ShortInput BadEscape BadSymbol BadSymbol BinaryLabel LongLabel LongName",
             "ShortInput ShortInput RelativeName TrailingData CompressedName BadLabelType", "AbsoluteName", "NoLabel",
-            "200000",
+            "200000", "a.", "NoField", "ShortInput",
         ])
 
     def test_screenshot(self):

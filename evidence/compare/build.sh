@@ -4,7 +4,7 @@
 #   evidence/compare/build.sh WORK
 #
 # WORK              the folder to build in; nothing is written beside this script
-# DNSNAMES_ARCHIVE  this project's library for C (crates/dnsnames_c/out/libdnsnames_c.a, which bindings/build makes)
+# DNSNAMES_ARCHIVE  this project's library for C (bindings/c/out/libdnsnames.a, which bindings/build makes)
 # DNSNAMES_HEADER   the folder of its header (bindings/c)
 # DOMAIN_SOURCE     a folder with the Rust crates `domain` and `octseq`, each in a folder of its name; nothing of them
 #                   is here
@@ -112,11 +112,11 @@ package_version() {
     dpkg-query -W -f '${Version}' "$1" 2> /dev/null || echo unknown
 }
 
-library=${DNSNAMES_ARCHIVE:-$top/crates/dnsnames_c/out/libdnsnames_c.a}
+library=${DNSNAMES_ARCHIVE:-$top/bindings/c/out/libdnsnames.a}
 header=${DNSNAMES_HEADER:-$top/bindings/c}
 if [ -e "$library" ] && [ -e "$header/dnsnames.h" ]; then
     version="$(sed -n 's/^VERSION = //p' "$top/bindings/c/Makefile"), SHA-256 $(sha256sum "$library" | cut -c 1-12).."
-    build this "see WORK/log/this" cc -O2 "${warnings[@]}" -DDNSNAMES_VERSION="\"$version\"" -I "$header" \
+    build this "see WORK/log/this" cc -O2 "${warnings[@]}" -DLIBRARY_VERSION="\"$version\"" -I "$header" \
         -o "$work/drivers/this" "$source/this.c" "$library"
 else
     miss this "its library for C isn't there: run bindings/build"

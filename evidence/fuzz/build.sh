@@ -2,7 +2,7 @@
 # Builds the harnesses of libFuzzer: evidence/fuzz/build.sh WORK [FLAG ..]
 #
 # WORK              the folder to build in; the FLAGs go to the compiler
-# DNSNAMES_ARCHIVE  this project's library for C (crates/dnsnames_c/out/libdnsnames_c.a, which bindings/build makes)
+# DNSNAMES_ARCHIVE  this project's library for C (bindings/c/out/libdnsnames.a, which bindings/build makes)
 # DNSNAMES_HEADER   the folder of its header (bindings/c)
 #
 # It needs clang with its runtime (apt-get install clang libclang-rt-14-dev). With libknot (libknot-dev) the harnesses
@@ -12,7 +12,7 @@ here=$(cd "$(dirname "$0")" && pwd)
 top=$(dirname "$(dirname "$here")")
 work=${1:?a folder to build in}
 shift
-library=${DNSNAMES_ARCHIVE:-$top/crates/dnsnames_c/out/libdnsnames_c.a}
+library=${DNSNAMES_ARCHIVE:-$top/bindings/c/out/libdnsnames.a}
 header=${DNSNAMES_HEADER:-$top/bindings/c}
 if [ ! -e "$library" ]; then
     echo "no $library: run bindings/build" >&2

@@ -5,7 +5,7 @@
 # build.sh tells the variables.
 set -u
 here=$(cd "$(dirname "$0")" && pwd)
-library=${DNSNAMES_ARCHIVE:-$(dirname "$(dirname "$here")")/crates/dnsnames_c/out/libdnsnames_c.a}
+library=${DNSNAMES_ARCHIVE:-$(dirname "$(dirname "$here")")/bindings/c/out/libdnsnames.a}
 work=$(mktemp -d)
 trap 'rm -rf "$work"' EXIT
 

@@ -64,7 +64,7 @@ def build(work, source):
     def clang(*words):
         subprocess.run(["clang", "-O1", f"-I{C}", *words], check=True)
     (work / "second.c").write_text(source)
-    clang("-std=c99", "-w", "-DDNSNAMES_NO_GUARDS", "-DSECOND(call)=dnsnames_##call", f"-I{C / 'check'}", "-c",
+    clang("-std=c99", "-w", "-DSECOND(call)=dnsnames_##call", f"-I{C / 'check'}", "-c",
           "-o", work / "second.o", work / "second.c")
     for harness in HARNESSES:
         if not (work / f"{harness}.o").exists():

@@ -33,11 +33,10 @@ int LLVMFuzzerTestOneInput(const uint8_t *data, size_t size)
     for (size_t i = 0; i < left.len; i++)
         MUST(low.wire[i] == reader_low(left.wire[i]));
 
-    uint64_t hash, low_hash, want_hash = 0xcbf29ce484222325u;
-    for (size_t i = 0; i < low.len; i++)
-        want_hash = (want_hash ^ low.wire[i]) * 0x100000001b3u;
-    MUST(dnsnames_hash(left.wire, left.len, &hash) == DNSNAMES_OK && hash == want_hash);
-    MUST(dnsnames_hash(low.wire, low.len, &low_hash) == DNSNAMES_OK && low_hash == hash);
+    static const uint8_t key[DNSNAMES_KEY_LEN] = { 0, 1, 2, 3, 4, 5, 6, 7, 8, 9, 10, 11, 12, 13, 14, 15 };
+    uint64_t hash, low_hash;
+    MUST(dnsnames_hash(key, left.wire, left.len, &hash) == DNSNAMES_OK);
+    MUST(dnsnames_hash(key, low.wire, low.len, &low_hash) == DNSNAMES_OK && low_hash == hash);
 #ifdef WITH_LIBKNOT
     /* libknot compares labels as if an octet 0 ended each, so it isn't asked where a label has one. */
     bool zero = false;

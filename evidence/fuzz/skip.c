@@ -17,34 +17,31 @@ int LLVMFuzzerTestOneInput(const uint8_t *data, size_t size)
     MUST((dnsnames_skip(message, len, offset, &end) == DNSNAMES_OK) == accepts);
     MUST(end == (accepts ? want : 7));
 
-    uint16_t type = 7, class = 7;
-    uint32_t ttl = 7;
-    size_t begin = 7, data_len = 7;
+    dnsnames_question_fields asked = { 7, 7, 7 };
     bool question = accepts && len - want >= 4;
-    end = 7;
-    MUST((dnsnames_question(message, len, offset, &type, &class, &end) == DNSNAMES_OK) == question);
+    MUST((dnsnames_question(message, len, offset, &asked) == DNSNAMES_OK) == question);
     if (question)
-        MUST(type == number(message + want) && class == number(message + want + 2) && end == want + 4);
+        MUST(asked.type == number(message + want) && asked.class_ == number(message + want + 2)
+             && asked.end == want + 4);
     else
-        MUST(type == 7 && class == 7 && end == 7);
+        MUST(asked.type == 7 && asked.class_ == 7 && asked.end == 7);
 
-    type = class = 7;
-    end = 7;
+    dnsnames_record_fields got = { 7, 7, 7, 7, 7, 7 };
     bool record = accepts && len - want >= 10 && len - want - 10 >= number(message + want + 8);
-    uint32_t status = dnsnames_record(message, len, offset, &type, &class, &ttl, &begin, &data_len, &end);
-    MUST((status == DNSNAMES_OK) == record);
+    MUST((dnsnames_record(message, len, offset, &got) == DNSNAMES_OK) == record);
     if (record) {
-        MUST(type == number(message + want) && class == number(message + want + 2));
-        MUST(ttl == number(message + want + 4) * 65536u + number(message + want + 6));
-        MUST(begin == want + 10 && data_len == number(message + want + 8) && end == begin + data_len);
+        MUST(got.type == number(message + want) && got.class_ == number(message + want + 2));
+        MUST(got.ttl == number(message + want + 4) * 65536u + number(message + want + 6));
+        MUST(got.data == want + 10 && got.data_len == number(message + want + 8) && got.end == got.data + got.data_len);
     } else {
-        MUST(type == 7 && class == 7 && ttl == 7 && begin == 7 && data_len == 7 && end == 7);
+        MUST(got.type == 7 && got.class_ == 7 && got.ttl == 7 && got.data == 7 && got.data_len == 7 && got.end == 7);
     }
 
-    uint16_t head[6] = { 7, 7, 7, 7, 7, 7 };
+    dnsnames_header_fields header = { 7, 7, 7, 7, 7, 7 };
     bool whole = len >= 12;
-    status = dnsnames_header(message, len, head, head + 1, head + 2, head + 3, head + 4, head + 5);
-    MUST((status == DNSNAMES_OK) == whole);
+    MUST((dnsnames_header(message, len, &header) == DNSNAMES_OK) == whole);
+    const uint16_t head[6] = { header.id, header.flags, header.questions, header.answers, header.authority,
+                               header.additional };
     for (size_t i = 0; i < 6; i++)
         MUST(head[i] == (whole ? number(message + 2 * i) : 7));
     return 0;

@@ -281,6 +281,11 @@ static void is_shown(const uint8_t *name, size_t name_len, uint32_t dot, const u
     mark();
     CHECK(dnsnames_to_text(name, name_len, dot, buffer, text_len, &length) == DNSNAMES_OK);
     CHECK(length == text_len && holds(text, text_len));
+    /* With room for it a zero octet follows, and nothing else. */
+    CHECK(dnsnames_to_text(name, name_len, dot, buffer, sizeof buffer, &length) == DNSNAMES_OK);
+    CHECK(length == text_len && buffer[text_len] == 0);
+    buffer[text_len] = 0x5a;
+    CHECK(holds(text, text_len));
 }
 
 static uint32_t from(const uint8_t *text, size_t text_len)
@@ -350,12 +355,39 @@ static const char *const SORTED[] = {"example", "a.example", "yljkjljk.a.example
                                      "z.example", "\\001.z.example", "*.z.example", "\\200.z.example"};
 enum { SORTED_LEN = sizeof SORTED / sizeof *SORTED };
 
+/* The hashes are those that OpenSSL has of the octets under the key 0, 1, 2 and so on. */
+static void hashing(void)
+{
+    uint8_t key[DNSNAMES_KEY_LEN], longest[DNSNAMES_MAX_LEN];
+    uint64_t hash = 77, other = 77;
+    size_t i;
+
+    for (i = 0; i < sizeof key; i++)
+        key[i] = (uint8_t)i;
+    for (i = 0; i < sizeof longest; i++)
+        longest[i] = i == 254 ? 0 : i % 2 == 0 ? 1 : 'a';
+    CHECK(dnsnames_hash(key, NAME(""), &hash) == DNSNAMES_OK && hash == 0x74f839c593dc67fdu);
+    CHECK(dnsnames_hash(key, NAME("\3www"), &hash) == DNSNAMES_OK && hash == 0x97a50a29856cbc4eu);
+    CHECK(dnsnames_hash(key, NAME("\3WwW"), &other) == DNSNAMES_OK && hash == other);
+    CHECK(dnsnames_hash(key, NAME("\3www\7EXAMPLE\3com"), &hash) == DNSNAMES_OK && hash == 0x5b0354ca837acfd7u);
+    CHECK(dnsnames_hash(key, longest, sizeof longest, &hash) == DNSNAMES_OK && hash == 0x15499418958d68f8u);
+    for (i = 0; i < sizeof longest; i++)
+        longest[i] = longest[i] == 'a' ? 'A' : longest[i];
+    CHECK(dnsnames_hash(key, longest, sizeof longest, &other) == DNSNAMES_OK && hash == other);
+    for (i = 0; i < sizeof key; i++) {
+        key[i] ^= 0x80;
+        CHECK(dnsnames_hash(key, longest, sizeof longest, &hash) == DNSNAMES_OK && hash != other);
+        key[i] ^= 0x80;
+    }
+    hash = 77;
+    CHECK(dnsnames_hash(key, SPELLED("\3www"), &hash) == DNSNAMES_NO_NAME && hash == 77);
+}
+
 static void comparing(void)
 {
     uint8_t names[SORTED_LEN][DNSNAMES_MAX_LEN];
     size_t lens[SORTED_LEN], i, k;
     int32_t order = 77;
-    uint64_t hash = 77, other = 77;
 
     for (i = 0; i < SORTED_LEN; i++)
         CHECK(dnsnames_from_text(OCTETS(SORTED[i]), strlen(SORTED[i]), names[i], sizeof names[i], &lens[i]) ==
@@ -381,11 +413,7 @@ static void comparing(void)
     CHECK(dnsnames_compare(SPELLED("\3www"), NAME(""), &order) == DNSNAMES_NO_NAME && order == 77);
     CHECK(dnsnames_compare(NAME(""), OCTETS(""), 0, &order) == DNSNAMES_NO_NAME && order == 77);
 
-    CHECK(dnsnames_hash(NAME("\3WWW"), &hash) == DNSNAMES_OK && dnsnames_hash(NAME("\3www"), &other) == DNSNAMES_OK);
-    CHECK(hash == other);
-    CHECK(dnsnames_hash(NAME(""), &hash) == DNSNAMES_OK && hash == 0xaf63bd4c8601b7dfu); /* FNV-1a of a zero octet */
-    CHECK(dnsnames_hash(SPELLED("\3www"), &other) == DNSNAMES_NO_NAME);
-    CHECK(dnsnames_hash(NAME("\3WWW"), &hash) == DNSNAMES_OK && hash == other);
+    hashing();
 
     mark();
     CHECK(dnsnames_lower(NAME("\3WWW\4A-@["), buffer, 10, &length) == DNSNAMES_OK && length == 10);
@@ -425,44 +453,110 @@ static void labels(void)
 
 static void messages(void)
 {
-    uint16_t id = 77, flags = 77, counts[4] = {77, 77, 77, 77}, type = 77, class_ = 77;
-    uint32_t ttl = 77;
-    size_t data = 77, data_len = 77, len;
+    dnsnames_header_fields header = {77, 77, 77, 77, 77, 77};
+    dnsnames_question_fields question = {77, 77, 77};
+    dnsnames_record_fields record = {77, 77, 77, 77, 77, 77};
+    size_t len;
 
-    CHECK(dnsnames_header(RESPONSE, 11, &id, &flags, &counts[0], &counts[1], &counts[2], &counts[3]) ==
-          DNSNAMES_SHORT_INPUT);
-    CHECK(dnsnames_header(RESPONSE, 0, &id, &flags, &counts[0], &counts[1], &counts[2], &counts[3]) ==
-          DNSNAMES_SHORT_INPUT);
-    CHECK(id == 77 && flags == 77 && counts[0] == 77 && counts[1] == 77 && counts[2] == 77 && counts[3] == 77);
-    CHECK(dnsnames_header(RESPONSE, 12, &id, &flags, &counts[0], &counts[1], &counts[2], &counts[3]) == DNSNAMES_OK);
-    CHECK(id == 0x1234 && flags == 0x8180);
-    CHECK(counts[0] == 1 && counts[1] == 2 && counts[2] == 0 && counts[3] == 1);
+    CHECK(dnsnames_header(RESPONSE, 11, &header) == DNSNAMES_SHORT_INPUT);
+    CHECK(dnsnames_header(RESPONSE, 0, &header) == DNSNAMES_SHORT_INPUT);
+    CHECK(header.id == 77 && header.flags == 77 && header.questions == 77 && header.answers == 77);
+    CHECK(header.authority == 77 && header.additional == 77);
+    CHECK(dnsnames_header(RESPONSE, 12, &header) == DNSNAMES_OK);
+    CHECK(header.id == 0x1234 && header.flags == (DNSNAMES_FLAG_QR | DNSNAMES_FLAG_RD | DNSNAMES_FLAG_RA));
+    CHECK(header.questions == 1 && header.answers == 2 && header.authority == 0 && header.additional == 1);
 
     for (len = QUESTION; len < CNAME; len++)
-        REFUSES(DNSNAMES_SHORT_INPUT, dnsnames_question(RESPONSE, len, QUESTION, &type, &class_, &end));
-    REFUSES(DNSNAMES_SHORT_INPUT, dnsnames_question(RESPONSE, RESPONSE_LEN, SIZE_MAX, &type, &class_, &end));
-    REFUSES(DNSNAMES_LABEL_TYPE, dnsnames_question(HOSTILE, HOSTILE_LEN, 10, &type, &class_, &end));
-    CHECK(type == 77 && class_ == 77);
-    CHECK(dnsnames_question(RESPONSE, CNAME, QUESTION, &type, &class_, &end) == DNSNAMES_OK);
-    CHECK(type == 1 && class_ == 1 && end == CNAME);
+        CHECK(dnsnames_question(RESPONSE, len, QUESTION, &question) == DNSNAMES_SHORT_INPUT);
+    CHECK(dnsnames_question(RESPONSE, RESPONSE_LEN, SIZE_MAX, &question) == DNSNAMES_SHORT_INPUT);
+    CHECK(dnsnames_question(HOSTILE, HOSTILE_LEN, 10, &question) == DNSNAMES_LABEL_TYPE);
+    CHECK(question.type == 77 && question.class_ == 77 && question.end == 77);
+    CHECK(dnsnames_question(RESPONSE, CNAME, QUESTION, &question) == DNSNAMES_OK);
+    CHECK(question.type == 1 && question.class_ == 1 && question.end == CNAME);
 
-    type = class_ = 77;
     for (len = CNAME; len < ADDRESS; len++)
-        REFUSES(DNSNAMES_SHORT_INPUT,
-                dnsnames_record(RESPONSE, len, CNAME, &type, &class_, &ttl, &data, &data_len, &end));
-    REFUSES(DNSNAMES_SHORT_INPUT,
-            dnsnames_record(RESPONSE, RESPONSE_LEN, SIZE_MAX, &type, &class_, &ttl, &data, &data_len, &end));
-    CHECK(type == 77 && class_ == 77 && ttl == 77 && data == 77 && data_len == 77);
-    CHECK(dnsnames_record(RESPONSE, ADDRESS, CNAME, &type, &class_, &ttl, &data, &data_len, &end) == DNSNAMES_OK);
-    CHECK(type == 5 && class_ == 1 && ttl == 3600 && data == 45 && data_len == 7 && end == ADDRESS);
-    reads(RESPONSE, RESPONSE_LEN, data, NAME("\4host\7example\3com"), data + data_len, 1);
-    CHECK(dnsnames_record(RESPONSE, RESPONSE_LEN, ADDRESS, &type, &class_, &ttl, &data, &data_len, &end) ==
-          DNSNAMES_OK);
-    CHECK(type == 1 && ttl == 60 && data_len == 4 && end == EMPTY);
-    CHECK(memcmp(RESPONSE + data, "\300\0\2\1", 4) == 0);
-    CHECK(dnsnames_record(RESPONSE, RESPONSE_LEN, EMPTY, &type, &class_, &ttl, &data, &data_len, &end) ==
-          DNSNAMES_OK);
-    CHECK(type == 41 && class_ == 4096 && ttl == 0 && data == RESPONSE_LEN && data_len == 0 && end == RESPONSE_LEN);
+        CHECK(dnsnames_record(RESPONSE, len, CNAME, &record) == DNSNAMES_SHORT_INPUT);
+    CHECK(dnsnames_record(RESPONSE, RESPONSE_LEN, SIZE_MAX, &record) == DNSNAMES_SHORT_INPUT);
+    CHECK(record.type == 77 && record.class_ == 77 && record.ttl == 77 && record.data == 77);
+    CHECK(record.data_len == 77 && record.end == 77);
+    CHECK(dnsnames_record(RESPONSE, ADDRESS, CNAME, &record) == DNSNAMES_OK);
+    CHECK(record.type == 5 && record.class_ == 1 && record.ttl == 3600);
+    CHECK(record.data == 45 && record.data_len == 7 && record.end == ADDRESS);
+    reads(RESPONSE, RESPONSE_LEN, record.data, NAME("\4host\7example\3com"), record.data + record.data_len, 1);
+    CHECK(dnsnames_record(RESPONSE, RESPONSE_LEN, ADDRESS, &record) == DNSNAMES_OK);
+    CHECK(record.type == 1 && record.ttl == 60 && record.data_len == 4 && record.end == EMPTY);
+    CHECK(memcmp(RESPONSE + record.data, "\300\0\2\1", 4) == 0);
+    CHECK(dnsnames_record(RESPONSE, RESPONSE_LEN, EMPTY, &record) == DNSNAMES_OK);
+    CHECK(record.type == 41 && record.class_ == 4096 && record.ttl == 0);
+    CHECK(record.data == RESPONSE_LEN && record.data_len == 0 && record.end == RESPONSE_LEN);
+}
+
+static uint32_t name_in(const uint8_t *message, size_t len, size_t data, size_t data_len, uint16_t type, size_t index,
+                        size_t capacity)
+{
+    return dnsnames_data_name(message, len, data, data_len, type, index, buffer, capacity, &length);
+}
+
+/* The name in data from an offset on, so many octets, of this type. */
+static void has_name(const uint8_t *message, size_t len, size_t data, size_t data_len, uint16_t type, size_t index,
+                     const uint8_t *name, size_t name_len)
+{
+    size_t capacity;
+
+    for (capacity = 0; capacity < name_len; capacity++) {
+        mark();
+        CHECK(name_in(message, len, data, data_len, type, index, capacity) == DNSNAMES_NO_ROOM);
+        CHECK(length == name_len && holds(name, 0));
+    }
+    mark();
+    CHECK(name_in(message, len, data, data_len, type, index, name_len) == DNSNAMES_OK);
+    CHECK(length == name_len && holds(name, name_len));
+}
+
+static void names_in_data(void)
+{
+    /* com at 0, two octets, a.com and b.com at 7, and 20 octets. */
+    static const uint8_t octets[] = "\3com\0\0\12\1a\300\0\1b\300\0" "12345678901234567890";
+    static const uint16_t alone[] = {2, 3, 4, 5, 7, 8, 9, 12, 39}, after_two[] = {15, 18, 21, 36};
+    static const uint16_t none[] = {0, 1, 10, 11, 13, 16, 28, 41, 46, 257, 65535};
+    size_t i, all = sizeof octets - 1;
+
+    for (i = 0; i < sizeof alone / sizeof *alone; i++) {
+        has_name(octets, all, 7, 4, alone[i], 0, NAME("\1a\3com"));
+        REFUSES(DNSNAMES_NO_FIELD, name_in(octets, all, 7, 4, alone[i], 1, 255));
+        REFUSES(DNSNAMES_NO_FIELD, name_in(octets, all, 7, 4, alone[i], SIZE_MAX, 255));
+    }
+    for (i = 0; i < sizeof after_two / sizeof *after_two; i++)
+        has_name(octets, all, 5, 6, after_two[i], 0, NAME("\1a\3com"));
+    has_name(octets, all, 1, 10, 33, 0, NAME("\1a\3com"));
+    has_name(octets, all, 7, 8, 14, 0, NAME("\1a\3com"));
+    has_name(octets, all, 7, 8, 17, 1, NAME("\1b\3com"));
+    has_name(octets, all, 5, 10, 26, 1, NAME("\1b\3com"));
+    has_name(octets, all, 7, 28, 6, 0, NAME("\1a\3com"));
+    has_name(octets, all, 7, 28, 6, 1, NAME("\1b\3com"));
+    has_name(RESPONSE, RESPONSE_LEN, 45, 7, 5, 0, NAME("\4host\7example\3com"));
+    for (i = 0; i < sizeof none / sizeof *none; i++)
+        REFUSES(DNSNAMES_NO_FIELD, name_in(octets, all, 7, 4, none[i], 0, 255));
+
+    /* The name goes on after the data, or what follows it does; the data go on after them. */
+    for (i = 0; i < 4; i++)
+        REFUSES(DNSNAMES_SHORT_INPUT, name_in(octets, all, 7, i, 5, 0, 255));
+    for (i = 0; i < 6; i++)
+        REFUSES(DNSNAMES_SHORT_INPUT, name_in(octets, all, 5, i, 15, 0, 255));
+    for (i = 0; i < 28; i++)
+        REFUSES(DNSNAMES_SHORT_INPUT, name_in(octets, all, 7, i, 6, 0, 255));
+    for (i = 5; i <= all - 7; i++)
+        REFUSES(DNSNAMES_TRAILING_DATA, name_in(octets, all, 7, i, 5, 0, 255));
+    /* The data end past the message. */
+    REFUSES(DNSNAMES_SHORT_INPUT, name_in(octets, 10, 7, 4, 5, 0, 255));
+    REFUSES(DNSNAMES_SHORT_INPUT, name_in(octets, all, all + 1, 0, 5, 0, 255));
+    REFUSES(DNSNAMES_SHORT_INPUT, name_in(octets, all, SIZE_MAX, 4, 5, 0, 255));
+    REFUSES(DNSNAMES_SHORT_INPUT, name_in(octets, all, 7, SIZE_MAX, 5, 0, 255));
+    REFUSES(DNSNAMES_SHORT_INPUT, name_in(octets, all, SIZE_MAX, SIZE_MAX, 33, 0, 255));
+
+    REFUSES(DNSNAMES_TOO_MANY_POINTERS, name_in(HOSTILE, HOSTILE_LEN, 0, 2, 5, 0, 255));
+    REFUSES(DNSNAMES_LONG_NAME, name_in(HOSTILE, HOSTILE_LEN, 6, 4, 5, 0, 255));
+    REFUSES(DNSNAMES_LABEL_TYPE, name_in(HOSTILE, HOSTILE_LEN, 10, 2, 5, 0, 255));
 }
 
 static void planning(void)
@@ -562,12 +656,13 @@ static void statuses(void)
 {
     uint32_t i, k;
 
-    for (i = 0; i <= DNSNAMES_BAD_LENGTH; i++) {
+    for (i = 0; i <= DNSNAMES_NO_FIELD; i++) {
         CHECK(dnsnames_strerror(i) != NULL && dnsnames_strerror(i)[0] != 0);
         for (k = 0; k < i; k++)
             CHECK(strcmp(dnsnames_strerror(i), dnsnames_strerror(k)) != 0);
     }
     CHECK(dnsnames_strerror(UINT32_MAX) != NULL);
+    CHECK(strcmp(dnsnames_version(), DNSNAMES_VERSION) == 0);
 }
 
 int main(void)
@@ -580,6 +675,7 @@ int main(void)
     comparing();
     labels();
     messages();
+    names_in_data();
     planning();
     appending();
     far_off();

@@ -25,7 +25,7 @@ printf '\300\020\000\017\000\001\000\000\000\074\000\004\000\012\300\014' >> $re
 printf '\000\000\051\020\000\000\000\000\000\000\000' >> $response
 is names 0 'question   www.example.com. 1
 answer     www.example.com. 5
-  data     host.example.com. 5 (compressed)
+  data     host.example.com. 5
 answer     host.example.com. 1 (compressed)
 answer     example.com. 15
   data     www.example.com. 15
@@ -38,7 +38,7 @@ short=$(echo 03 | out/tell_hex | sed 's/.*: //')
 head -c 60 $response > out/cut
 is 'names, of a cut message' 1 'question   www.example.com. 1
 answer     www.example.com. 5
-  data     host.example.com. 5 (compressed)
+  data     host.example.com. 5
 record at offset 52: '"$short" out/names out/cut
 
 # Two aliases that lead to each other.
@@ -48,6 +48,23 @@ is 'follow_cname, of a ring' 1 'a.
 b.
 a.
 the aliases lead in a ring' out/follow_cname out/ring
+
+# A CNAME whose data are cut off after the label: the target goes on in the record behind it.
+printf '\000\000\201\200\000\001\000\002\000\000\000\000\001a\000\000\001\000\001' > out/leaving
+printf '\300\014\000\005\000\001\000\000\000\000\000\002\001b' >> out/leaving
+printf '\000\000\005\000\001\000\000\000\000\000\002\300\014' >> out/leaving
+is 'follow_cname, of a name that leaves its data' 1 "a.
+refused: $short" out/follow_cname out/leaving
+is 'names, of a name that leaves its data' 1 "question   a. 1
+answer     a. 5
+data at offset 31: $short" out/names out/leaving
+
+# 65,535 answers by the header, and one that is there: the ring is told after two steps.
+printf '\000\000\201\200\000\001\377\377\000\000\000\000\001a\000\000\001\000\001' > out/counts
+printf '\300\014\000\005\000\001\000\000\000\000\000\002\300\014' >> out/counts
+is 'follow_cname, of a count that is not so' 1 'a.
+a.
+the aliases lead in a ring' out/follow_cname out/counts
 
 printf '03777777 00\nc000\n0377\n\n0g\n' > out/lines
 out/tell_hex < out/lines > out/told

@@ -5,11 +5,15 @@
 
 static const uint8_t *const NONE = NULL;
 static const uint8_t NAME[] = "\3www"; /* 5 octets with the root */
+static const uint8_t KEY[DNSNAMES_KEY_LEN];
 
 static uint8_t buffer[DNSNAMES_MAX_TEXT];
-static size_t length, end, other;
+static size_t length, end;
 static uint16_t number[6], table[DNSNAMES_MAX_TABLE];
-static uint32_t flag, ttl;
+static uint32_t flag;
+static dnsnames_header_fields header;
+static dnsnames_question_fields question;
+static dnsnames_record_fields record;
 static int32_t order;
 static uint64_t hash;
 
@@ -17,12 +21,26 @@ static uint64_t hash;
 static void mark(void)
 {
     memset(buffer, 0x5a, sizeof buffer);
-    length = end = other = 77;
+    length = end = 77;
     memset(number, 0x5a, sizeof number);
     memset(table, 0x5a, sizeof table);
-    flag = ttl = 77;
+    memset(&header, 0x5a, sizeof header);
+    memset(&question, 0x5a, sizeof question);
+    memset(&record, 0x5a, sizeof record);
+    flag = 77;
     order = 77;
     hash = 77;
+}
+
+static int is_5a(const void *octets, size_t len)
+{
+    const uint8_t *at = octets;
+
+    while (len > 0 && *at == 0x5a) {
+        at++;
+        len--;
+    }
+    return len == 0;
 }
 
 static int is_marked(void)
@@ -35,8 +53,8 @@ static int is_marked(void)
     for (i = 0; i < 6; i++)
         if (number[i] != 0x5a5a)
             return 0;
-    return length == 77 && end == 77 && other == 77 && table[0] == 0x5a5a && flag == 77 && ttl == 77 && order == 77 &&
-           hash == 77;
+    return length == 77 && end == 77 && table[0] == 0x5a5a && flag == 77 && order == 77 && hash == 77 &&
+           is_5a(&header, sizeof header) && is_5a(&question, sizeof question) && is_5a(&record, sizeof record);
 }
 
 #define REFUSES(status, call)      \
@@ -64,18 +82,17 @@ static void empty(void)
     REFUSES(DNSNAMES_NO_NAME, dnsnames_compare(NAME, sizeof NAME, NONE, 0, &order));
     REFUSES(DNSNAMES_NO_NAME, dnsnames_ends_with(NONE, 0, NAME, sizeof NAME, &flag));
     REFUSES(DNSNAMES_NO_NAME, dnsnames_ends_with(NAME, sizeof NAME, NONE, 0, &flag));
-    REFUSES(DNSNAMES_NO_NAME, dnsnames_hash(NONE, 0, &hash));
+    REFUSES(DNSNAMES_NO_NAME, dnsnames_hash(KEY, NONE, 0, &hash));
     REFUSES(DNSNAMES_NO_NAME, dnsnames_label_count(NONE, 0, &length));
     REFUSES(DNSNAMES_NO_NAME, dnsnames_label(NONE, 0, 0, &length));
     REFUSES(DNSNAMES_NO_NAME, dnsnames_label_back(NONE, 0, 0, &length));
     REFUSES(DNSNAMES_NO_NAME, dnsnames_parent(NONE, 0, &length));
     REFUSES(DNSNAMES_NO_NAME, dnsnames_plan(NONE, 0, NULL, 0, NONE, 0, &length, &number[0]));
     REFUSES(DNSNAMES_FLAT, dnsnames_plan(NONE, 0, NULL, 0, NAME, sizeof NAME, &length, &number[0]));
-    REFUSES(DNSNAMES_SHORT_INPUT, dnsnames_header(NONE, 0, &number[0], &number[1], &number[2], &number[3], &number[4],
-                                                  &number[5]));
-    REFUSES(DNSNAMES_SHORT_INPUT, dnsnames_question(NONE, 0, 0, &number[0], &number[1], &end));
-    REFUSES(DNSNAMES_SHORT_INPUT,
-            dnsnames_record(NONE, 0, 0, &number[0], &number[1], &ttl, &length, &other, &end));
+    REFUSES(DNSNAMES_SHORT_INPUT, dnsnames_header(NONE, 0, &header));
+    REFUSES(DNSNAMES_SHORT_INPUT, dnsnames_question(NONE, 0, 0, &question));
+    REFUSES(DNSNAMES_SHORT_INPUT, dnsnames_record(NONE, 0, 0, &record));
+    REFUSES(DNSNAMES_SHORT_INPUT, dnsnames_data_name(NONE, 0, 0, 0, 5, 0, buffer, sizeof buffer, &length));
 }
 
 /* So is a buffer: the answer tells how many octets it needs. */
@@ -88,6 +105,7 @@ static void no_buffer(void)
     CHECK(dnsnames_from_text(NAME + 1, 3, NULL, 0, &length) == DNSNAMES_NO_ROOM && length == 5);
     CHECK(dnsnames_to_text(NAME, sizeof NAME, 1, NULL, 0, &length) == DNSNAMES_NO_ROOM && length == 4);
     CHECK(dnsnames_lower(NAME, sizeof NAME, NULL, 0, &length) == DNSNAMES_NO_ROOM && length == 5);
+    CHECK(dnsnames_data_name(NAME, sizeof NAME, 0, 5, 5, 0, NULL, 0, &length) == DNSNAMES_NO_ROOM && length == 5);
     CHECK(dnsnames_append(NULL, 0, &octets_len, NULL, 0, &table_len, NAME, sizeof NAME) != DNSNAMES_OK);
     CHECK(octets_len == 0 && table_len == 0);
 }
@@ -115,7 +133,7 @@ static void slices(void)
     NULLED(dnsnames_compare(NAME, sizeof NAME, NONE, 1, &order));
     NULLED(dnsnames_ends_with(NONE, 1, NAME, sizeof NAME, &flag));
     NULLED(dnsnames_ends_with(NAME, sizeof NAME, NONE, 1, &flag));
-    NULLED(dnsnames_hash(NONE, 1, &hash));
+    NULLED(dnsnames_hash(KEY, NONE, 1, &hash));
     NULLED(dnsnames_label_count(NONE, 1, &length));
     NULLED(dnsnames_label(NONE, 1, 0, &length));
     NULLED(dnsnames_label_back(NONE, 1, 0, &length));
@@ -127,17 +145,18 @@ static void slices(void)
     NULLED(dnsnames_append(buffer, sizeof buffer, &octets_len, NULL, 1, &table_len, NAME, sizeof NAME));
     NULLED(dnsnames_append(buffer, sizeof buffer, &octets_len, table, 128, &table_len, NONE, 1));
     CHECK(octets_len == 0 && table_len == 0);
-    NULLED(dnsnames_header(NONE, 12, &number[0], &number[1], &number[2], &number[3], &number[4], &number[5]));
-    NULLED(dnsnames_question(NONE, 1, 0, &number[0], &number[1], &end));
-    NULLED(dnsnames_record(NONE, 1, 0, &number[0], &number[1], &ttl, &length, &other, &end));
+    NULLED(dnsnames_header(NONE, 12, &header));
+    NULLED(dnsnames_question(NONE, 1, 0, &question));
+    NULLED(dnsnames_record(NONE, 1, 0, &record));
+    NULLED(dnsnames_data_name(NONE, 1, 0, 0, 5, 0, buffer, sizeof buffer, &length));
+    NULLED(dnsnames_data_name(NAME, sizeof NAME, 0, 5, 5, 0, NULL, 1, &length));
 }
 
 /* So is one where a result is to go. */
 static void results(void)
 {
     static const uint8_t message[29] = {0};
-    uint16_t *to[6];
-    size_t octets_len = 0, table_len = 0, i, k;
+    size_t octets_len = 0, table_len = 0;
 
     NULLED(dnsnames_read(NAME, sizeof NAME, 0, 255, buffer, sizeof buffer, NULL, &end, &flag));
     NULLED(dnsnames_read(NAME, sizeof NAME, 0, 255, buffer, sizeof buffer, &length, NULL, &flag));
@@ -149,7 +168,9 @@ static void results(void)
     NULLED(dnsnames_eq(NAME, sizeof NAME, NAME, sizeof NAME, NULL));
     NULLED(dnsnames_compare(NAME, sizeof NAME, NAME, sizeof NAME, NULL));
     NULLED(dnsnames_ends_with(NAME, sizeof NAME, NAME, sizeof NAME, NULL));
-    NULLED(dnsnames_hash(NAME, sizeof NAME, NULL));
+    NULLED(dnsnames_hash(KEY, NAME, sizeof NAME, NULL));
+    NULLED(dnsnames_hash(NULL, NAME, sizeof NAME, &hash));
+    NULLED(dnsnames_data_name(NAME, sizeof NAME, 0, 5, 5, 0, buffer, sizeof buffer, NULL));
     NULLED(dnsnames_label_count(NAME, sizeof NAME, NULL));
     NULLED(dnsnames_label(NAME, sizeof NAME, 0, NULL));
     NULLED(dnsnames_label_back(NAME, sizeof NAME, 0, NULL));
@@ -159,20 +180,9 @@ static void results(void)
     NULLED(dnsnames_append(buffer, sizeof buffer, NULL, table, 128, &table_len, NAME, sizeof NAME));
     NULLED(dnsnames_append(buffer, sizeof buffer, &octets_len, table, 128, NULL, NAME, sizeof NAME));
     CHECK(octets_len == 0 && table_len == 0);
-    for (i = 0; i < 6; i++) {
-        for (k = 0; k < 6; k++)
-            to[k] = k == i ? NULL : &number[k];
-        NULLED(dnsnames_header(message, sizeof message, to[0], to[1], to[2], to[3], to[4], to[5]));
-    }
-    NULLED(dnsnames_question(message, sizeof message, 12, NULL, &number[1], &end));
-    NULLED(dnsnames_question(message, sizeof message, 12, &number[0], NULL, &end));
-    NULLED(dnsnames_question(message, sizeof message, 12, &number[0], &number[1], NULL));
-    NULLED(dnsnames_record(message, sizeof message, 12, NULL, &number[1], &ttl, &length, &other, &end));
-    NULLED(dnsnames_record(message, sizeof message, 12, &number[0], NULL, &ttl, &length, &other, &end));
-    NULLED(dnsnames_record(message, sizeof message, 12, &number[0], &number[1], NULL, &length, &other, &end));
-    NULLED(dnsnames_record(message, sizeof message, 12, &number[0], &number[1], &ttl, NULL, &other, &end));
-    NULLED(dnsnames_record(message, sizeof message, 12, &number[0], &number[1], &ttl, &length, NULL, &end));
-    NULLED(dnsnames_record(message, sizeof message, 12, &number[0], &number[1], &ttl, &length, &other, NULL));
+    NULLED(dnsnames_header(message, sizeof message, NULL));
+    NULLED(dnsnames_question(message, sizeof message, 12, NULL));
+    NULLED(dnsnames_record(message, sizeof message, 12, NULL));
 }
 
 int main(void)

@@ -14,12 +14,14 @@
 
 /* All that one call may write. Both sides begin with the same octets. */
 struct answer {
-    uint32_t status, flag, ttl;
+    uint32_t status, flag;
     int32_t order;
     uint64_t hash;
     size_t size[3];
-    uint16_t number[6];
-    uint16_t table[DNSNAMES_MAX_TABLE];
+    uint16_t number[1];
+    dnsnames_header_fields header;
+    dnsnames_question_fields question;
+    dnsnames_record_fields record;
     uint8_t buffer[1100];
 };
 
@@ -123,16 +125,18 @@ static size_t make_long(uint8_t *octets)
 
 static void ask_of_name(const uint8_t *name, size_t len, const uint8_t *other, size_t other_len)
 {
+    static uint8_t key[DNSNAMES_KEY_LEN];
     size_t index = random_below(6), text_capacity = random_below(60), capacity = random_below(30);
     uint32_t dot = random_below(2);
 
+    key[random_below(sizeof key)] = (uint8_t)random_below(256);
     BOTH(check, name, len);
     BOTH(check_relative, name, len);
     BOTH(to_text, name, len, dot, x->buffer, sizeof x->buffer, &x->size[0]);
     BOTH(to_text, name, len, dot, x->buffer, text_capacity, &x->size[0]);
     BOTH(lower, name, len, x->buffer, sizeof x->buffer, &x->size[0]);
     BOTH(lower, name, len, x->buffer, capacity, &x->size[0]);
-    BOTH(hash, name, len, &x->hash);
+    BOTH(hash, key, name, len, &x->hash);
     BOTH(label_count, name, len, &x->size[0]);
     BOTH(label, name, len, index, &x->size[0]);
     BOTH(label_back, name, len, index, &x->size[0]);
@@ -191,6 +195,23 @@ static void ask_to_append(uint8_t names[][255], const size_t *lens, size_t count
     }
 }
 
+/* Names in data that begin at an offset: of any type and size, and as large as the names there are. */
+static void ask_of_data(const uint8_t *message, size_t len, size_t offset)
+{
+    static const uint16_t types[] = {1, 2, 5, 6, 12, 14, 15, 17, 18, 26, 33, 39};
+    uint16_t type = random_below(8) == 0 ? (uint16_t)random_below(70) : types[random_below(12)];
+    size_t index = random_below(6) == 0 ? random_below(3) : random_below(2), capacity = random_below(20), end = offset;
+    size_t data_len = random_below(100), begin = offset;
+
+    BOTH(data_name, message, len, offset, data_len, type, index, x->buffer, sizeof x->buffer, &x->size[0]);
+    if (second_skip(message, len, offset, &end) == DNSNAMES_OK && random_below(2) == 0)
+        second_skip(message, len, end, &end);
+    begin -= begin < 2 ? 0 : 2 * random_below(2);
+    data_len = end - begin + (random_below(3) == 0 ? 20 : 0) + random_below(2);
+    BOTH(data_name, message, len, begin, data_len, type, index, x->buffer, sizeof x->buffer, &x->size[0]);
+    BOTH(data_name, message, len, begin, data_len, type, index, x->buffer, capacity, &x->size[0]);
+}
+
 static void ask_of_message(const uint8_t *message, size_t len)
 {
     static uint8_t names[8][255];
@@ -205,15 +226,14 @@ static void ask_of_message(const uint8_t *message, size_t len)
         BOTH(read, message, len, offset, limit, x->buffer, sizeof x->buffer, &x->size[0], &x->size[1], &x->flag);
         BOTH(read, message, len, offset, limit, x->buffer, capacity, &x->size[0], &x->size[1], &x->flag);
         BOTH(skip, message, len, offset, &x->size[0]);
-        BOTH(question, message, len, offset, &x->number[0], &x->number[1], &x->size[0]);
-        BOTH(record, message, len, offset, &x->number[0], &x->number[1], &x->ttl, &x->size[0], &x->size[1],
-             &x->size[2]);
+        BOTH(question, message, len, offset, &x->question);
+        BOTH(record, message, len, offset, &x->record);
+        ask_of_data(message, len, offset);
         if (count < 8 && second_read(message, len, offset, 255, names[count], 255, &lens[count], &end,
                                      &compressed) == DNSNAMES_OK)
             count++;
     }
-    BOTH(header, message, len, &x->number[0], &x->number[1], &x->number[2], &x->number[3], &x->number[4],
-         &x->number[5]);
+    BOTH(header, message, len, &x->header);
     if (len > 0) {
         size_t from = random_below((uint32_t)len), size = random_below((uint32_t)(len - from) + 1);
         ask_of_name(message + from, size, message, len);

@@ -1,5 +1,4 @@
 #include "second.h"
-#include "dnsnames.h"
 #include <string.h>
 
 /* What stands at an offset (RFC 1035, 4.1.4). */
@@ -303,11 +302,12 @@ uint32_t SECOND(to_text)(const uint8_t *name, size_t len, uint32_t final_dot, ui
 {
     uint8_t text[1020];
     size_t size = 0, at = 0, k;
+    uint32_t status;
 
     if (SECOND(check)(name, len) != DNSNAMES_OK)
         return DNSNAMES_NO_NAME;
     if (len == 1)
-        return give((const uint8_t *)".", 1, buffer, capacity, length);
+        text[size++] = '.';
     while (name[at] != 0) {
         for (k = 0; k < name[at]; k++) {
             uint8_t c = name[at + 1 + k];
@@ -325,7 +325,10 @@ uint32_t SECOND(to_text)(const uint8_t *name, size_t len, uint32_t final_dot, ui
         text[size++] = '.';
         at += 1 + (size_t)name[at];
     }
-    return give(text, final_dot ? size : size - 1, buffer, capacity, length);
+    status = give(text, final_dot || len == 1 ? size : size - 1, buffer, capacity, length);
+    if (status == DNSNAMES_OK && *length < capacity)
+        buffer[*length] = 0;
+    return status;
 }
 
 static uint8_t low(uint8_t c)
@@ -423,17 +426,74 @@ uint32_t SECOND(ends_with)(const uint8_t *name, size_t len, const uint8_t *suffi
     return DNSNAMES_OK;
 }
 
-uint32_t SECOND(hash)(const uint8_t *name, size_t len, uint64_t *hash)
+/* SipHash-2-4, from the text of its paper. */
+struct sip {
+    uint64_t v[4];
+};
+
+static uint64_t turned(uint64_t word, int by)
+{
+    return word << by | word >> (64 - by);
+}
+
+static void sip_rounds(struct sip *s, int count)
+{
+    while (count-- > 0) {
+        int half;
+        for (half = 0; half < 2; half++) {
+            int other = half == 0 ? 1 : 3;
+            s->v[0] += s->v[other];
+            s->v[2] += s->v[4 - other];
+            s->v[other] = turned(s->v[other], half == 0 ? 13 : 21) ^ s->v[0];
+            s->v[4 - other] = turned(s->v[4 - other], half == 0 ? 16 : 17) ^ s->v[2];
+            s->v[half == 0 ? 0 : 2] = turned(s->v[half == 0 ? 0 : 2], 32);
+        }
+    }
+}
+
+/* The eight octets from an offset on, the low one first; zero past the end. */
+static uint64_t sip_word(const uint8_t *octets, size_t len, size_t at)
+{
+    uint64_t word = 0;
+    size_t i;
+
+    for (i = 0; i < 8; i++)
+        if (at + i < len)
+            word |= (uint64_t)octets[at + i] << (8 * i);
+    return word;
+}
+
+static uint64_t sip_hash(const uint8_t *key, const uint8_t *octets, size_t len)
+{
+    static const uint64_t begin[4] = {0x736f6d6570736575u, 0x646f72616e646f6du, 0x6c7967656e657261u,
+                                      0x7465646279746573u};
+    struct sip s;
+    size_t at;
+    int i;
+
+    for (i = 0; i < 4; i++)
+        s.v[i] = sip_word(key, 16, i % 2 == 0 ? 0 : 8) ^ begin[i];
+    for (at = 0; at <= len; at += 8) {
+        uint64_t word = sip_word(octets, len, at);
+        if (len - at < 8)
+            word |= (uint64_t)(len & 255) << 56;
+        s.v[3] ^= word;
+        sip_rounds(&s, 2);
+        s.v[0] ^= word;
+    }
+    s.v[2] ^= 255;
+    sip_rounds(&s, 4);
+    return s.v[0] ^ s.v[1] ^ s.v[2] ^ s.v[3];
+}
+
+uint32_t SECOND(hash)(const uint8_t *key, const uint8_t *name, size_t len, uint64_t *hash)
 {
     uint8_t lowered[255];
-    uint64_t h = 0xcbf29ce484222325u;
-    size_t size, i;
+    size_t size;
 
     if (SECOND(lower)(name, len, lowered, sizeof lowered, &size) != DNSNAMES_OK)
         return DNSNAMES_NO_NAME;
-    for (i = 0; i < size; i++)
-        h = (h ^ lowered[i]) * 0x100000001b3u;
-    *hash = h;
+    *hash = sip_hash(key, lowered, size);
     return DNSNAMES_OK;
 }
 
@@ -562,22 +622,21 @@ static uint16_t number16(const uint8_t *octets)
     return (uint16_t)(octets[0] << 8 | octets[1]);
 }
 
-uint32_t SECOND(header)(const uint8_t *message, size_t message_len, uint16_t *id, uint16_t *flags,
-                        uint16_t *questions, uint16_t *answers, uint16_t *authority, uint16_t *additional)
+uint32_t SECOND(header)(const uint8_t *message, size_t message_len, dnsnames_header_fields *header)
 {
     if (message_len < 12)
         return DNSNAMES_SHORT_INPUT;
-    *id = number16(message);
-    *flags = number16(message + 2);
-    *questions = number16(message + 4);
-    *answers = number16(message + 6);
-    *authority = number16(message + 8);
-    *additional = number16(message + 10);
+    header->id = number16(message);
+    header->flags = number16(message + 2);
+    header->questions = number16(message + 4);
+    header->answers = number16(message + 6);
+    header->authority = number16(message + 8);
+    header->additional = number16(message + 10);
     return DNSNAMES_OK;
 }
 
-uint32_t SECOND(question)(const uint8_t *message, size_t message_len, size_t offset, uint16_t *type,
-                          uint16_t *class_, size_t *end)
+uint32_t SECOND(question)(const uint8_t *message, size_t message_len, size_t offset,
+                          dnsnames_question_fields *question)
 {
     size_t at;
     uint32_t status = SECOND(skip)(message, message_len, offset, &at);
@@ -586,14 +645,13 @@ uint32_t SECOND(question)(const uint8_t *message, size_t message_len, size_t off
         return status;
     if (message_len - at < 4)
         return DNSNAMES_SHORT_INPUT;
-    *type = number16(message + at);
-    *class_ = number16(message + at + 2);
-    *end = at + 4;
+    question->type = number16(message + at);
+    question->class_ = number16(message + at + 2);
+    question->end = at + 4;
     return DNSNAMES_OK;
 }
 
-uint32_t SECOND(record)(const uint8_t *message, size_t message_len, size_t offset, uint16_t *type, uint16_t *class_,
-                        uint32_t *ttl, size_t *data, size_t *data_len, size_t *end)
+uint32_t SECOND(record)(const uint8_t *message, size_t message_len, size_t offset, dnsnames_record_fields *record)
 {
     size_t at, len;
     uint32_t status = SECOND(skip)(message, message_len, offset, &at);
@@ -605,11 +663,49 @@ uint32_t SECOND(record)(const uint8_t *message, size_t message_len, size_t offse
     len = number16(message + at + 8);
     if (message_len - at - 10 < len)
         return DNSNAMES_SHORT_INPUT;
-    *type = number16(message + at);
-    *class_ = number16(message + at + 2);
-    *ttl = (uint32_t)number16(message + at + 4) << 16 | number16(message + at + 6);
-    *data = at + 10;
-    *data_len = len;
-    *end = at + 10 + len;
+    record->type = number16(message + at);
+    record->class_ = number16(message + at + 2);
+    record->ttl = (uint32_t)number16(message + at + 4) << 16 | number16(message + at + 6);
+    record->data = at + 10;
+    record->data_len = len;
+    record->end = at + 10 + len;
     return DNSNAMES_OK;
+}
+
+/* What is before the names in data of a type, how many names there are, and what is after them. */
+static const struct {
+    unsigned type;
+    size_t before, names, after;
+} DATA[] = {
+    {2, 0, 1, 0},  {3, 0, 1, 0},  {4, 0, 1, 0},  {5, 0, 1, 0},  {6, 0, 2, 20}, {7, 0, 1, 0},  {8, 0, 1, 0},
+    {9, 0, 1, 0},  {12, 0, 1, 0}, {14, 0, 2, 0}, {15, 2, 1, 0}, {17, 0, 2, 0}, {18, 2, 1, 0}, {21, 2, 1, 0},
+    {26, 2, 2, 0}, {33, 6, 1, 0}, {36, 2, 1, 0}, {39, 0, 1, 0},
+};
+
+uint32_t SECOND(data_name)(const uint8_t *message, size_t message_len, size_t data, size_t data_len, uint16_t type,
+                           size_t index, uint8_t *buffer, size_t capacity, size_t *length)
+{
+    uint8_t name[255];
+    size_t row, end, at, begin = 0, len, k;
+    uint32_t status, through;
+
+    for (row = 0; row < sizeof DATA / sizeof *DATA && DATA[row].type != type; row++)
+        ;
+    if (row == sizeof DATA / sizeof *DATA || index >= DATA[row].names)
+        return DNSNAMES_NO_FIELD;
+    if (data > message_len || data_len > message_len - data || data_len < DATA[row].before)
+        return DNSNAMES_SHORT_INPUT;
+    end = data + data_len;
+    at = data + DATA[row].before;
+    for (k = 0; k < DATA[row].names; k++) {
+        if (k == index)
+            begin = at;
+        status = SECOND(skip)(message, end, at, &at);
+        if (status != DNSNAMES_OK)
+            return status;
+    }
+    if (end - at != DATA[row].after)
+        return end - at < DATA[row].after ? DNSNAMES_SHORT_INPUT : DNSNAMES_TRAILING_DATA;
+    status = walk(message, end, begin, 255, name, &len, &at, &through);
+    return status == DNSNAMES_OK ? give(name, len, buffer, capacity, length) : status;
 }

@@ -6,8 +6,7 @@
 #ifndef SECOND_H
 #define SECOND_H
 
-#include <stddef.h>
-#include <stdint.h>
+#include "dnsnames.h"
 
 /* With this macro defined as dnsnames_ the file second.c stands in for the library itself. */
 #ifndef SECOND
@@ -28,7 +27,7 @@ uint32_t SECOND(compare)(const uint8_t *left, size_t left_len, const uint8_t *ri
                          int32_t *order);
 uint32_t SECOND(ends_with)(const uint8_t *name, size_t len, const uint8_t *suffix, size_t suffix_len,
                            uint32_t *ends);
-uint32_t SECOND(hash)(const uint8_t *name, size_t len, uint64_t *hash);
+uint32_t SECOND(hash)(const uint8_t *key, const uint8_t *name, size_t len, uint64_t *hash);
 uint32_t SECOND(label_count)(const uint8_t *name, size_t len, size_t *count);
 uint32_t SECOND(label)(const uint8_t *name, size_t len, size_t index, size_t *offset);
 uint32_t SECOND(label_back)(const uint8_t *name, size_t len, size_t index, size_t *offset);
@@ -37,11 +36,11 @@ uint32_t SECOND(plan)(const uint8_t *octets, size_t octets_len, const uint16_t *
                       const uint8_t *name, size_t len, size_t *begin, uint16_t *offset);
 uint32_t SECOND(append)(uint8_t *octets, size_t capacity, size_t *octets_len, uint16_t *table,
                         size_t table_capacity, size_t *table_len, const uint8_t *name, size_t len);
-uint32_t SECOND(header)(const uint8_t *message, size_t message_len, uint16_t *id, uint16_t *flags,
-                        uint16_t *questions, uint16_t *answers, uint16_t *authority, uint16_t *additional);
-uint32_t SECOND(question)(const uint8_t *message, size_t message_len, size_t offset, uint16_t *type,
-                          uint16_t *class_, size_t *end);
-uint32_t SECOND(record)(const uint8_t *message, size_t message_len, size_t offset, uint16_t *type, uint16_t *class_,
-                        uint32_t *ttl, size_t *data, size_t *data_len, size_t *end);
+uint32_t SECOND(header)(const uint8_t *message, size_t message_len, dnsnames_header_fields *header);
+uint32_t SECOND(question)(const uint8_t *message, size_t message_len, size_t offset,
+                          dnsnames_question_fields *question);
+uint32_t SECOND(record)(const uint8_t *message, size_t message_len, size_t offset, dnsnames_record_fields *record);
+uint32_t SECOND(data_name)(const uint8_t *message, size_t message_len, size_t data, size_t data_len, uint16_t type,
+                           size_t index, uint8_t *buffer, size_t capacity, size_t *length);
 
 #endif

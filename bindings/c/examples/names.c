@@ -1,5 +1,5 @@
 /* Prints every name of the DNS message in a file: those that questions and records are of, with their type, and those
- * in the data of the types of RFC 1035 whose data may be compressed.
+ * in the data of records.
  *
  *     names FILE
  *
@@ -11,80 +11,85 @@
 static uint8_t message[65535];
 static size_t message_len;
 
-static int refuse(const char *what, size_t offset, uint32_t status)
+static int refuse(const char *what, size_t offset, dnsnames_status status)
 {
     fprintf(stderr, "%s at offset %lu: %s\n", what, (unsigned long)offset, dnsnames_strerror(status));
     return 1;
 }
 
-/* Prints the name at an offset. */
-static int print_name(const char *section, size_t offset, unsigned type)
+static int print(const char *section, const uint8_t *name, size_t len, unsigned type, const char *note)
 {
-    uint8_t name[DNSNAMES_MAX_LEN], text[DNSNAMES_MAX_TEXT];
-    size_t length, end, text_len;
-    uint32_t compressed, status;
+    uint8_t text[DNSNAMES_MAX_TEXT];
+    size_t text_len;
+    dnsnames_status status = dnsnames_to_text(name, len, 1, text, sizeof text, &text_len);
 
-    status = dnsnames_read(message, message_len, offset, DNSNAMES_MAX_POINTERS, name, sizeof name, &length, &end,
-                           &compressed);
     if (status != DNSNAMES_OK)
-        return refuse("name", offset, status);
-    status = dnsnames_to_text(name, length, 1, text, sizeof text, &text_len);
-    if (status != DNSNAMES_OK)
-        return refuse("name", offset, status);
-    printf("%-10s %.*s %u%s\n", section, (int)text_len, (const char *)text, type, compressed ? " (compressed)" : "");
+        return refuse("name", 0, status);
+    printf("%-10s %.*s %u%s\n", section, (int)text_len, (const char *)text, type, note);
     return 0;
 }
 
-/* Prints the names in a record's data. */
-static int print_data(unsigned type, size_t data)
+/* Prints the name at an offset. */
+static int print_name(const char *section, size_t offset, unsigned type)
 {
-    size_t mailbox;
-    uint32_t status;
+    uint8_t name[DNSNAMES_MAX_LEN];
+    size_t len, end;
+    uint32_t compressed;
+    dnsnames_status status = dnsnames_read(message, message_len, offset, DNSNAMES_MAX_POINTERS, name, sizeof name,
+                                           &len, &end, &compressed);
 
-    switch (type) {
-    case 2:  /* NS */
-    case 5:  /* CNAME */
-    case 12: /* PTR */
-        return print_name("  data", data, type);
-    case 15: /* MX, behind its preference */
-        return print_name("  data", data + 2, type);
-    case 6: /* SOA: the server and the mailbox */
-        if (print_name("  data", data, type) != 0)
+    if (status != DNSNAMES_OK)
+        return refuse("name", offset, status);
+    return print(section, name, len, type, compressed ? " (compressed)" : "");
+}
+
+/* Prints the names in a record's data, of which data of most types have none. */
+static int print_data(const dnsnames_record_fields *record)
+{
+    uint8_t name[DNSNAMES_MAX_LEN];
+    size_t index, len;
+
+    for (index = 0;; index++) {
+        dnsnames_status status = dnsnames_data_name(message, message_len, record->data, record->data_len, record->type,
+                                                    index, name, sizeof name, &len);
+        if (status == DNSNAMES_NO_FIELD)
+            return 0;
+        if (status != DNSNAMES_OK)
+            return refuse("data", record->data, status);
+        if (print("  data", name, len, record->type, "") != 0)
             return 1;
-        status = dnsnames_skip(message, message_len, data, &mailbox);
-        return status == DNSNAMES_OK ? print_name("  data", mailbox, type) : refuse("name", data, status);
-    default:
-        return 0;
     }
 }
 
 static int print_names(void)
 {
     static const char *const sections[] = {"answer", "authority", "additional"};
-    uint16_t id, flags, questions, records[3], type, class_;
-    size_t offset = 12, end, data, data_len;
-    uint32_t ttl, status;
-    unsigned section, i;
+    dnsnames_header_fields header;
+    dnsnames_question_fields question;
+    dnsnames_record_fields record;
+    size_t offset = 12;
+    unsigned counts[3], section, i;
+    dnsnames_status status = dnsnames_header(message, message_len, &header);
 
-    status = dnsnames_header(message, message_len, &id, &flags, &questions, &records[0], &records[1], &records[2]);
     if (status != DNSNAMES_OK)
         return refuse("header", 0, status);
-    for (i = 0; i < questions; i++) {
-        status = dnsnames_question(message, message_len, offset, &type, &class_, &end);
+    for (i = 0; i < header.questions; i++, offset = question.end) {
+        status = dnsnames_question(message, message_len, offset, &question);
         if (status != DNSNAMES_OK)
             return refuse("question", offset, status);
-        if (print_name("question", offset, type) != 0)
+        if (print_name("question", offset, question.type) != 0)
             return 1;
-        offset = end;
     }
+    counts[0] = header.answers;
+    counts[1] = header.authority;
+    counts[2] = header.additional;
     for (section = 0; section < 3; section++) {
-        for (i = 0; i < records[section]; i++) {
-            status = dnsnames_record(message, message_len, offset, &type, &class_, &ttl, &data, &data_len, &end);
+        for (i = 0; i < counts[section]; i++, offset = record.end) {
+            status = dnsnames_record(message, message_len, offset, &record);
             if (status != DNSNAMES_OK)
                 return refuse("record", offset, status);
-            if (print_name(sections[section], offset, type) != 0 || print_data(type, data) != 0)
+            if (print_name(sections[section], offset, record.type) != 0 || print_data(&record) != 0)
                 return 1;
-            offset = end;
         }
     }
     return 0;

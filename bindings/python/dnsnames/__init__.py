@@ -6,28 +6,30 @@
     >>> str(Name("www.example.com").parent())
     'example.com.'
 
-What octets and texts spell is decided by the library; this package passes them on, and raises a fault of its own
-class where they are refused. The library is what the variable DNSNAMES_LIBRARY names, else `libdnsnames.so.0` where
-the system finds it. To turn a name into Unicode text or back (IDNA) is left to the caller: labels are octets here.
+What octets and texts spell is decided by the library; this package passes them on, and raises an error of its own
+class below DnsError where they are refused. The library is what the variable DNSNAMES_LIBRARY names, else the one that
+the package's wheel carries, else `libdnsnames.so.0` where the system finds it. To turn a name into Unicode text or back
+(IDNA) is left to the caller: labels are octets here.
 """
 
+from ._library import VERSION as __version__
 from ._library import (
-    BadEscape, BadLabelType, BadSymbol, BinaryLabel, CompressedName, EmptyLabel, LongLabel, LongName, NameFault,
-    NoLabel, NoRoom, RelativeName, ShortInput, TooManyPointers, TrailingData,
+    BadEscape, BadLabelType, BadSymbol, BinaryLabel, CompressedName, DnsError, EmptyLabel, LongLabel, LongName,
+    NoField, NoLabel, NoRoom, RelativeName, ShortInput, TooManyPointers, TrailingData,
 )
 from ._message import Composer, Header, Message, Question, Record
 from ._name import Name, Reading, read, skip
 
 for _public in (
-    BadEscape, BadLabelType, BadSymbol, BinaryLabel, CompressedName, EmptyLabel, LongLabel, LongName, NameFault,
-    NoLabel, NoRoom, RelativeName, ShortInput, TooManyPointers, TrailingData,
+    BadEscape, BadLabelType, BadSymbol, BinaryLabel, CompressedName, DnsError, EmptyLabel, LongLabel, LongName,
+    NoField, NoLabel, NoRoom, RelativeName, ShortInput, TooManyPointers, TrailingData,
     Composer, Header, Message, Question, Record, Name, Reading, read, skip,
 ):
     _public.__module__ = __name__
 del _public
 
 __all__ = [
-    "BadEscape", "BadLabelType", "BadSymbol", "BinaryLabel", "Composer", "CompressedName", "EmptyLabel", "Header",
-    "LongLabel", "LongName", "Message", "Name", "NameFault", "NoLabel", "NoRoom", "Question", "Reading", "Record",
-    "RelativeName", "ShortInput", "TooManyPointers", "TrailingData", "read", "skip",
+    "BadEscape", "BadLabelType", "BadSymbol", "BinaryLabel", "Composer", "CompressedName", "DnsError", "EmptyLabel",
+    "Header", "LongLabel", "LongName", "Message", "Name", "NoField", "NoLabel", "NoRoom", "Question", "Reading",
+    "Record", "RelativeName", "ShortInput", "TooManyPointers", "TrailingData", "read", "skip",
 ]

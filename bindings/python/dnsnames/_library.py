@@ -5,9 +5,12 @@ from __future__ import annotations
 import ctypes
 import ctypes.util
 import os
+import pathlib
 from typing import Optional, Union
 
 Octets = Union[bytes, bytearray, memoryview]
+
+VERSION = "0.2.0"
 
 MAX_LEN = 255
 MAX_TEXT = 1020
@@ -16,110 +19,120 @@ MAX_TABLE = 128
 _MAX_SIZE = 2 ** (8 * ctypes.sizeof(ctypes.c_size_t)) - 1
 
 
-class NameFault(ValueError):
-    """Why octets or a text are no name, or a message is none. Each fault has a class of its own below this one.
+class DnsError(ValueError):
+    """Why octets or a text are no name, or a message or what is asked of it is refused. Each reason has a class of its
+    own below this one.
 
-    `status` is the number that the library answered, and `offset` the offset at which the name, the question or the
-    record begins that was asked for; None where none was.
+    `status` is the number that the library answered, and `offset` the offset at which the name, the question, the
+    record or its data begin that were asked for; None where none was.
     """
 
     status: int = 0
-    text: str = ""
+    text: str = "refused by the library"
 
     def __init__(self, offset: Optional[int] = None) -> None:
         super().__init__(self.text if offset is None else f"{self.text} (asked for at offset {offset})")
         self.offset = offset
 
+    def __reduce__(self) -> tuple:
+        return type(self), (self.offset,)
 
-class ShortInput(NameFault):
+
+class ShortInput(DnsError):
     """The octets or the text end too soon."""
 
     status, text = 1, "unexpected end of input"
 
 
-class BadLabelType(NameFault):
+class BadLabelType(DnsError):
     """A label is of a type that isn't in use (RFC 1035, 4.1.4; RFC 6891, 5)."""
 
     status, text = 2, "invalid label type"
 
 
-class TooManyPointers(NameFault):
+class TooManyPointers(DnsError):
     """A pointer doesn't lead back, or is one more than the limit allows (RFC 1035, 4.1.4)."""
 
     status, text = 3, "too many compression pointers"
 
 
-class LongName(NameFault):
+class LongName(DnsError):
     """The name has more than 255 octets (RFC 1035, 3.1)."""
 
     status, text = 4, "long domain name"
 
 
-class CompressedName(NameFault):
+class CompressedName(DnsError):
     """A pointer stands where a name without compression is wanted."""
 
     status, text = 5, "compressed domain name"
 
 
-class RelativeName(NameFault):
+class RelativeName(DnsError):
     """The octets end behind a label that isn't the root."""
 
     status, text = 6, "relative domain name"
 
 
-class TrailingData(NameFault):
+class TrailingData(DnsError):
     """Octets follow the root."""
 
     status, text = 7, "trailing data"
 
 
-class NoLabel(NameFault, IndexError):
+class NoLabel(DnsError, IndexError):
     """The name has no such label, or, for the root, no parent."""
 
     status, text = 10, "no such label"
 
 
-class BadEscape(NameFault):
+class BadEscape(DnsError):
     """The text has a broken escape (RFC 1035, 5.1)."""
 
     status, text = 11, "invalid escape sequence"
 
 
-class BadSymbol(NameFault):
+class BadSymbol(DnsError):
     """A character of the text stands for no octet."""
 
     status, text = 12, "invalid character"
 
 
-class BinaryLabel(NameFault):
+class BinaryLabel(DnsError):
     """A label's text begins with `\\[` (RFC 6891, 5)."""
 
     status, text = 13, "binary label"
 
 
-class LongLabel(NameFault):
+class LongLabel(DnsError):
     """A label has more than 63 octets (RFC 1035, 3.1)."""
 
     status, text = 14, "long label"
 
 
-class EmptyLabel(NameFault):
+class EmptyLabel(DnsError):
     """A label of the text is empty."""
 
     status, text = 15, "empty label"
 
 
-class NoRoom(NameFault):
+class NoRoom(DnsError):
     """What is composed doesn't fit."""
 
     status, text = 8, "buffer too small"
+
+
+class NoField(DnsError):
+    """Data of records of this type have no such name."""
+
+    status, text = 21, "no such name in data of this type"
 
 
 FAULTS = {
     fault.status: fault
     for fault in (
         ShortInput, BadLabelType, TooManyPointers, LongName, CompressedName, RelativeName, TrailingData, NoRoom,
-        NoLabel, BadEscape, BadSymbol, BinaryLabel, LongLabel, EmptyLabel,
+        NoLabel, BadEscape, BadSymbol, BinaryLabel, LongLabel, EmptyLabel, NoField,
     )
 }
 
@@ -128,7 +141,23 @@ _to_size = ctypes.POINTER(ctypes.c_size_t)
 _to_16 = ctypes.POINTER(ctypes.c_uint16)
 _to_32 = ctypes.POINTER(ctypes.c_uint32)
 
-# As dnsnames.h declares them. No call here passes a null pointer.
+
+class HeaderFields(ctypes.Structure):
+    _fields_ = [(name, ctypes.c_uint16) for name in ("id", "flags", "questions", "answers", "authority", "additional")]
+
+
+class QuestionFields(ctypes.Structure):
+    _fields_ = [("type", ctypes.c_uint16), ("class_", ctypes.c_uint16), ("end", ctypes.c_size_t)]
+
+
+class RecordFields(ctypes.Structure):
+    _fields_ = [
+        ("type", ctypes.c_uint16), ("class_", ctypes.c_uint16), ("ttl", ctypes.c_uint32), ("data", ctypes.c_size_t),
+        ("data_len", ctypes.c_size_t), ("end", ctypes.c_size_t),
+    ]
+
+
+# As dnsnames.h declares them.
 _ARGUMENTS = {
     "read": [_octets, _size, _size, ctypes.c_uint8, _buffer, _size, _to_size, _to_size, _to_32],
     "skip": [_octets, _size, _size, _to_size],
@@ -136,26 +165,37 @@ _ARGUMENTS = {
     "from_text": [_octets, _size, _buffer, _size, _to_size],
     "to_text": [_octets, _size, ctypes.c_uint32, _buffer, _size, _to_size],
     "lower": [_octets, _size, _buffer, _size, _to_size],
-    "eq": [_octets, _size, _octets, _size, _to_32],
     "compare": [_octets, _size, _octets, _size, ctypes.POINTER(ctypes.c_int32)],
     "ends_with": [_octets, _size, _octets, _size, _to_32],
-    "hash": [_octets, _size, ctypes.POINTER(ctypes.c_uint64)],
-    "label_count": [_octets, _size, _to_size],
-    "label": [_octets, _size, _size, _to_size],
-    "parent": [_octets, _size, _to_size],
     "append": [_buffer, _size, _to_size, _to_16, _size, _to_size, _octets, _size],
-    "header": [_octets, _size, _to_16, _to_16, _to_16, _to_16, _to_16, _to_16],
-    "question": [_octets, _size, _size, _to_16, _to_16, _to_size],
-    "record": [_octets, _size, _size, _to_16, _to_16, _to_32, _to_size, _to_size, _to_size],
+    "header": [_octets, _size, ctypes.POINTER(HeaderFields)],
+    "question": [_octets, _size, _size, ctypes.POINTER(QuestionFields)],
+    "record": [_octets, _size, _size, ctypes.POINTER(RecordFields)],
+    "data_name": [_octets, _size, _size, _size, ctypes.c_uint16, _size, _buffer, _size, _to_size],
 }
+# The shared object that a wheel carries.
+_BUNDLED = pathlib.Path(__file__).with_name("libdnsnames.so.0")
+
+
+def _path() -> str:
+    named = os.environ.get("DNSNAMES_LIBRARY")
+    if named:
+        return named
+    if _BUNDLED.exists():
+        return str(_BUNDLED)
+    return ctypes.util.find_library("dnsnames") or "libdnsnames.so.0"
 
 
 def _load() -> ctypes.CDLL:
-    path = os.environ.get("DNSNAMES_LIBRARY") or ctypes.util.find_library("dnsnames") or "libdnsnames.so.0"
+    path = _path()
     try:
         library = ctypes.CDLL(path)
-    except OSError as error:
-        raise ImportError(f"the library isn't there: {error}. DNSNAMES_LIBRARY names it") from error
+        library.dnsnames_version.restype = ctypes.c_char_p
+        version = library.dnsnames_version().decode("ascii")
+    except (OSError, AttributeError) as error:
+        raise ImportError(f"the library isn't there, or is too old: {error}. DNSNAMES_LIBRARY names it") from error
+    if version != VERSION:
+        raise ImportError(f"this is dnsnames {VERSION}, and the library {path} is {version}")
     for name, arguments in _ARGUMENTS.items():
         call = getattr(library, "dnsnames_" + name)
         call.argtypes, call.restype = arguments, ctypes.c_uint32
@@ -166,8 +206,8 @@ library = _load()
 
 
 def refuse(status: int, offset: Optional[int] = None) -> None:
-    """Raises the fault of a status that isn't 0."""
-    raise FAULTS[status](offset)
+    """Raises the error of a status that isn't 0."""
+    raise FAULTS.get(status, DnsError)(offset)
 
 
 def as_octets(value: Octets) -> bytes:

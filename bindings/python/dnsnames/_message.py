@@ -2,10 +2,13 @@
 
 from __future__ import annotations
 
-from ctypes import byref, c_size_t, c_uint16, c_uint32, create_string_buffer
-from typing import Iterator, NamedTuple
+from ctypes import byref, c_size_t, c_uint16, create_string_buffer
+from typing import Iterator, NamedTuple, Tuple
 
-from ._library import MAX_TABLE, Octets, as_octets, as_size, library, refuse
+from ._library import (
+    MAX_LEN, MAX_TABLE, Buffer, HeaderFields, NoField, Octets, QuestionFields, RecordFields, as_octets, as_size, library,
+    refuse,
+)
 from ._name import Name, read
 
 
@@ -25,30 +28,56 @@ class Header(NamedTuple):
         return self.flags & 0x8000 != 0
 
     @property
+    def opcode(self) -> int:
+        return self.flags >> 11 & 15
+
+    @property
+    def is_authoritative(self) -> bool:
+        return self.flags & 0x0400 != 0
+
+    @property
     def is_truncated(self) -> bool:
         return self.flags & 0x0200 != 0
 
     @property
+    def is_recursion_desired(self) -> bool:
+        return self.flags & 0x0100 != 0
+
+    @property
+    def is_recursion_available(self) -> bool:
+        return self.flags & 0x0080 != 0
+
+    @property
     def rcode(self) -> int:
+        """The four bits that the header has; with EDNS there are eight more (RFC 6891, 6.1.3)."""
         return self.flags & 15
 
 
 class Question(NamedTuple):
-    """A question (RFC 1035, 4.1.2): it begins at `offset` and ends before `end`."""
+    """A question (RFC 1035, 4.1.2) of the message with these octets: it begins at `offset` and ends before `end`. Its
+    name is read when it is asked for, so a bad one stops nothing else."""
 
-    name: Name
+    message: bytes
     type: int
     class_: int
     offset: int
     end: int
 
+    @property
+    def name(self) -> Name:
+        """Raises what `read` raises."""
+        return read(self.message, self.offset).name
+
+    def __repr__(self) -> str:
+        return f"<question of type {self.type} at offset {self.offset}>"
+
 
 class Record(NamedTuple):
-    """A resource record (RFC 1035, 4.1.3): it begins at `offset`, and its data, which a name may be read in, at
-    `data_offset`. `section` is "answer", "authority" or "additional"."""
+    """A resource record (RFC 1035, 4.1.3) of the message with these octets: it begins at `offset`, and its data at
+    `data_offset`. `section` is "answer", "authority" or "additional". Its names are read when they are asked for."""
 
+    message: bytes
     section: str
-    name: Name
     type: int
     class_: int
     ttl: int
@@ -56,6 +85,38 @@ class Record(NamedTuple):
     offset: int
     data_offset: int
     end: int
+
+    @property
+    def name(self) -> Name:
+        """Whose record it is. Raises what `read` raises."""
+        return read(self.message, self.offset).name
+
+    def name_in_data(self, index: int = 0) -> Name:
+        """The name with so many names before it in the data; it doesn't leave them.
+
+        Raises NoField where data of this type have no such name, ShortInput where a name or what follows it ends past
+        the data, TrailingData where they go on, and what `read` raises.
+        """
+        buffer, length = Buffer(), c_size_t()
+        status = library.dnsnames_data_name(
+            self.message, len(self.message), self.data_offset, len(self.data), self.type, as_size(index), buffer,
+            MAX_LEN, byref(length),
+        )
+        if status:
+            refuse(status, self.data_offset)
+        return Name._of(buffer[: length.value])
+
+    def names_in_data(self) -> Tuple[Name, ...]:
+        """All names in the data: none, one or two. Raises as `name_in_data`, but not NoField."""
+        names = []
+        try:
+            while True:
+                names.append(self.name_in_data(len(names)))
+        except NoField:
+            return tuple(names)
+
+    def __repr__(self) -> str:
+        return f"<record of type {self.type} in section {self.section} at offset {self.offset}>"
 
 
 class Message:
@@ -69,7 +130,7 @@ class Message:
     ...     print(question.name, question.type)
     a. 1
     >>> for record in message.answers():
-    ...     print(record.name, record.ttl, message.name(record.data_offset))
+    ...     print(record.name, record.ttl, *record.names_in_data())
     a. 60 a.
     """
 
@@ -84,38 +145,31 @@ class Message:
     @property
     def header(self) -> Header:
         """Raises ShortInput where there are fewer than 12 octets."""
-        fields = [c_uint16() for _ in Header._fields]
-        status = library.dnsnames_header(self._octets, len(self._octets), *map(byref, fields))
+        found = HeaderFields()
+        status = library.dnsnames_header(self._octets, len(self._octets), byref(found))
         if status:
             refuse(status, 0)
-        return Header(*(field.value for field in fields))
+        return Header(found.id, found.flags, found.questions, found.answers, found.authority, found.additional)
 
     def name(self, offset: int) -> Name:
         """The name at an offset, as `read` reads it."""
         return read(self._octets, offset).name
 
     def _question(self, offset: int) -> Question:
-        type_, class_, end = c_uint16(), c_uint16(), c_size_t()
-        status = library.dnsnames_question(
-            self._octets, len(self._octets), as_size(offset), byref(type_), byref(class_), byref(end)
-        )
+        found = QuestionFields()
+        status = library.dnsnames_question(self._octets, len(self._octets), as_size(offset), byref(found))
         if status:
             refuse(status, offset)
-        return Question(self.name(offset), type_.value, class_.value, offset, end.value)
+        return Question(self._octets, found.type, found.class_, offset, found.end)
 
     def _record(self, section: str, offset: int) -> Record:
-        type_, class_, ttl = c_uint16(), c_uint16(), c_uint32()
-        data, data_len, end = c_size_t(), c_size_t(), c_size_t()
-        status = library.dnsnames_record(
-            self._octets, len(self._octets), as_size(offset), byref(type_), byref(class_), byref(ttl), byref(data),
-            byref(data_len), byref(end),
-        )
+        found = RecordFields()
+        status = library.dnsnames_record(self._octets, len(self._octets), as_size(offset), byref(found))
         if status:
             refuse(status, offset)
-        octets = self._octets[data.value : data.value + data_len.value]
-        return Record(
-            section, self.name(offset), type_.value, class_.value, ttl.value, octets, offset, data.value, end.value
-        )
+        data = found.data
+        octets = self._octets[data : data + found.data_len]
+        return Record(self._octets, section, found.type, found.class_, found.ttl, octets, offset, data, found.end)
 
     def questions(self) -> Iterator[Question]:
         """The questions that the header counts."""
@@ -138,12 +192,24 @@ class Message:
                 yield record
                 offset = record.end
 
+    def _of(self, section: str, sections: Tuple[str, ...]) -> Iterator[Record]:
+        for record in self.records():
+            if record.section == section:
+                yield record
+            elif record.section not in sections:
+                return
+
     def answers(self) -> Iterator[Record]:
         """The records of the answer section."""
-        for record in self.records():
-            if record.section != "answer":
-                return
-            yield record
+        return self._of("answer", ())
+
+    def authority(self) -> Iterator[Record]:
+        """The records of the authority section."""
+        return self._of("authority", ("answer",))
+
+    def additional(self) -> Iterator[Record]:
+        """The records of the additional section."""
+        return self._of("additional", ("answer", "authority"))
 
 
 class Composer:
@@ -182,6 +248,13 @@ class Composer:
             refuse(8)
         self._buffer[length : length + len(octets)] = octets
         self._length.value += len(octets)
+
+    def set16(self, offset: int, number: int) -> None:
+        """The two octets at an offset of what was composed become this number, the high one first: a count of the
+        header, or the length of data behind it. Raises IndexError where they aren't there."""
+        if not 0 <= offset <= self._length.value - 2:
+            raise IndexError("no two octets were composed there")
+        self._buffer[offset : offset + 2] = number.to_bytes(2, "big")
 
     def __len__(self) -> int:
         return self._length.value

@@ -2,39 +2,53 @@
 
 from __future__ import annotations
 
-from ctypes import byref, c_int32, c_size_t, c_uint32, c_uint64
+from ctypes import byref, c_int32, c_size_t, c_uint32
 from typing import Iterator, NamedTuple, Tuple
 
 from ._library import (
-    MAX_LEN, MAX_POINTERS, MAX_TEXT, Buffer, Octets, Text, as_octets, as_size, library, refuse,
+    MAX_LEN, MAX_POINTERS, MAX_TEXT, Buffer, NoLabel, Octets, Text, as_octets, as_size, library, refuse,
 )
+
+
+_set = object.__setattr__
 
 
 class Name:
     """An absolute domain name: labels of octets, the root label last. It doesn't change.
 
-    Names are equal, ordered and hashed without ASCII case, in the canonical order of RFC 4034, 6.1.
+    Names are equal, ordered and hashed without ASCII case, in the canonical order of RFC 4034, 6.1. The hash is Python's
+    own of the octets in lower case, which has a key that strangers don't know (PYTHONHASHSEED unset).
 
     >>> Name.from_text("www.Example.com") == Name.from_text("WWW.example.com.")
     True
     >>> sorted(map(Name.from_text, ["z.example", "a.example", "example", "Z.a.example"]))
     [Name('example.'), Name('a.example.'), Name('Z.a.example.'), Name('z.example.')]
-    >>> Name.from_text("www.example.com") in Name.from_text("example.com")
-    True
+    >>> list(Name.from_text("www.example.com"))
+    [b'www', b'example', b'com', b'']
     """
 
-    __slots__ = ("_octets",)
+    __slots__ = ("_octets", "_hash")
     _octets: bytes
+    _hash: int
 
     def __init__(self, text: str) -> None:
         """The name that a text spells, as `from_text`."""
-        self._octets = Name.from_text(text)._octets
+        _set(self, "_octets", Name.from_text(text)._octets)
 
     @classmethod
     def _of(cls, octets: bytes) -> Name:
         name = object.__new__(cls)
-        name._octets = octets
+        _set(name, "_octets", octets)
         return name
+
+    def __setattr__(self, name: str, value: object) -> None:
+        raise AttributeError("a name doesn't change")
+
+    def __delattr__(self, name: str) -> None:
+        raise AttributeError("a name doesn't change")
+
+    def __reduce__(self) -> tuple:
+        return Name.from_wire, (self._octets,)
 
     @classmethod
     def from_text(cls, text: str) -> Name:
@@ -104,9 +118,7 @@ class Name:
     def __eq__(self, other: object) -> bool:
         if not isinstance(other, Name):
             return NotImplemented
-        equal = c_uint32()
-        library.dnsnames_eq(self._octets, len(self._octets), other._octets, len(other._octets), byref(equal))
-        return equal.value == 1
+        return self._octets.lower() == other._octets.lower()
 
     def _order(self, other: Name) -> int:
         order = c_int32()
@@ -126,25 +138,24 @@ class Name:
         return self._order(other) >= 0 if isinstance(other, Name) else NotImplemented
 
     def __hash__(self) -> int:
-        answer = c_uint64()
-        library.dnsnames_hash(self._octets, len(self._octets), byref(answer))
-        return hash(answer.value)
+        try:
+            return self._hash
+        except AttributeError:
+            # Length octets are below 64, so none of them is a letter.
+            _set(self, "_hash", hash(self._octets.lower()))
+            return self._hash
 
-    def ends_with(self, suffix: Name) -> bool:
-        """Whether the name ends with all labels of another: it is that name, or lies below it.
+    def is_subdomain_of(self, zone: Name) -> bool:
+        """Whether the name is the zone's or lies below it: whether it ends with all labels of the other.
 
-        >>> Name("www.example.com").ends_with(Name("EXAMPLE.com")), Name("wwwexample").ends_with(Name("example"))
-        (True, False)
+        >>> Name("www.example.com").is_subdomain_of(Name("EXAMPLE.com"))
+        True
+        >>> Name("wwwexample").is_subdomain_of(Name("example"))
+        False
         """
         ends = c_uint32()
-        library.dnsnames_ends_with(
-            self._octets, len(self._octets), suffix._octets, len(suffix._octets), byref(ends)
-        )
+        library.dnsnames_ends_with(self._octets, len(self._octets), zone._octets, len(zone._octets), byref(ends))
         return ends.value == 1
-
-    def __contains__(self, name: object) -> bool:
-        """`name in zone`: whether the name is the zone's or lies below it."""
-        return isinstance(name, Name) and name.ends_with(self)
 
     def lower(self) -> Name:
         """The canonical form: A to Z become a to z (RFC 4034, 6.2)."""
@@ -152,11 +163,23 @@ class Name:
         library.dnsnames_lower(self._octets, len(self._octets), buffer, MAX_LEN, byref(length))
         return Name._of(buffer[: length.value])
 
+    @property
+    def labels(self) -> Tuple[bytes, ...]:
+        """The octets of the labels, that of the root last: 1 to 128.
+
+        >>> Name("www.com").labels
+        (b'www', b'com', b'')
+        """
+        octets, labels, size, at = self._octets, [], 1, 0
+        while size:
+            size = octets[at]
+            labels.append(octets[at + 1 : at + 1 + size])
+            at += 1 + size
+        return tuple(labels)
+
     def __len__(self) -> int:
-        """How many labels there are, the root among them: 1 to 128."""
-        count = c_size_t()
-        library.dnsnames_label_count(self._octets, len(self._octets), byref(count))
-        return count.value
+        """How many labels there are, the root among them."""
+        return len(self.labels)
 
     def __getitem__(self, index: int) -> bytes:
         """The octets of a label; a negative index counts from the root, which is -1. Raises NoLabel.
@@ -164,28 +187,13 @@ class Name:
         >>> Name("www.example.com")[0], Name("www.example.com")[-2]
         (b'www', b'com')
         """
-        if index < 0:
-            index += len(self)
-            if index < 0:
-                refuse(10)
-        offset = c_size_t()
-        status = library.dnsnames_label(self._octets, len(self._octets), as_size(index), byref(offset))
-        if status:
-            refuse(status)
-        start = offset.value + 1
-        return self._octets[start : start + self._octets[start - 1]]
+        try:
+            return self.labels[index]
+        except IndexError:
+            raise NoLabel() from None
 
     def __iter__(self) -> Iterator[bytes]:
-        return (self[index] for index in range(len(self)))
-
-    @property
-    def labels(self) -> Tuple[bytes, ...]:
-        """The octets of the labels, that of the root last.
-
-        >>> Name("www.com").labels
-        (b'www', b'com', b'')
-        """
-        return tuple(self)
+        return iter(self.labels)
 
     def parent(self) -> Name:
         """The name without its first label. Raises NoLabel for the root.
@@ -193,11 +201,9 @@ class Name:
         >>> Name("www.example.com").parent()
         Name('example.com.')
         """
-        offset = c_size_t()
-        status = library.dnsnames_parent(self._octets, len(self._octets), byref(offset))
-        if status:
-            refuse(status)
-        return Name._of(self._octets[offset.value :])
+        if self.is_root():
+            raise NoLabel()
+        return Name._of(self._octets[1 + self._octets[0] :])
 
     def is_root(self) -> bool:
         return len(self._octets) == 1

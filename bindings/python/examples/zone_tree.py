@@ -10,7 +10,7 @@ status is 1 then.
 import sys
 from typing import Iterable, List
 
-from dnsnames import Name, NameFault
+from dnsnames import DnsError, Name
 
 
 def tree(origin: Name, names: Iterable[Name]) -> List[str]:
@@ -25,7 +25,7 @@ def tree(origin: Name, names: Iterable[Name]) -> List[str]:
     lines, seen = [], set()
     for name in sorted({origin, *names}):
         above = []
-        while name not in seen and name in origin:
+        while name not in seen and name.is_subdomain_of(origin):
             above.append(name)
             seen.add(name)
             if name == origin:
@@ -43,11 +43,11 @@ def main() -> int:
     for line in map(str.strip, sys.stdin):
         try:
             name = Name(line)
-        except NameFault as fault:
+        except DnsError as fault:
             print(f"{line}: {fault}", file=sys.stderr)
             status = 1
             continue
-        if name in origin:
+        if name.is_subdomain_of(origin):
             names.append(name)
         else:
             print(f"{line}: not in {origin}", file=sys.stderr)

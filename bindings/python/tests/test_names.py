@@ -1,9 +1,14 @@
 """The worked cases of RFC 1035 and RFC 4034, every fault, and that this package agrees with dnsnames.h."""
 
+import copy
 import doctest
+import os
 import pathlib
+import pickle
 import random
 import re
+import subprocess
+import sys
 import unittest
 
 import dnsnames
@@ -135,10 +140,53 @@ class Names(unittest.TestCase):
             Name(".").parent()
 
     def test_below(self):
-        self.assertIn(Name("www.example.com"), Name("EXAMPLE.com"))
-        self.assertIn(Name("com"), Name("com"))
-        self.assertNotIn(Name("badexample.com"), Name("example.com"))
-        self.assertNotIn("www.example.com", Name("example.com"))
+        zone = Name("EXAMPLE.com")
+        self.assertTrue(Name("www.example.com").is_subdomain_of(zone))
+        self.assertTrue(zone.is_subdomain_of(zone) and zone.is_subdomain_of(Name(".")))
+        self.assertFalse(Name("badexample.com").is_subdomain_of(zone))
+        self.assertFalse(Name("com").is_subdomain_of(zone))
+        self.assertIn(b"example", Name("www.example.com"))
+        self.assertNotIn(Name("www.example.com"), zone)
+
+    def test_it_does_not_change(self):
+        name = Name("www.example.com")
+        for attribute in ("_octets", "_hash", "other"):
+            with self.assertRaises(AttributeError):
+                setattr(name, attribute, b"\0")
+            with self.assertRaises(AttributeError):
+                delattr(name, attribute)
+        self.assertFalse(hasattr(name, "__dict__"))
+
+    def test_pickled_and_copied(self):
+        name = Name("www.Example.com")
+        hash(name)
+        for other in (pickle.loads(pickle.dumps(name)), copy.copy(name), copy.deepcopy(name)):
+            self.assertEqual(bytes(other), bytes(name))
+            self.assertEqual(hash(other), hash(name))
+        error = pickle.loads(pickle.dumps(dnsnames.ShortInput(7)))
+        self.assertEqual((type(error), error.offset), (dnsnames.ShortInput, 7))
+
+    def test_the_hash_has_a_key(self):
+        code = "from dnsnames import Name; print(hash(Name('www.example.com')))"
+        hashes = {
+            subprocess.run(
+                [sys.executable, "-c", code], capture_output=True, check=True,
+                env={**os.environ, "PYTHONHASHSEED": seed, "PYTHONPATH": str(pathlib.Path(__file__).parents[1])},
+            ).stdout
+            for seed in ("1", "2")
+        }
+        self.assertEqual(len(hashes), 2)
+
+    def test_lower_case_as_the_library_has_it(self):
+        names = random.Random(2)
+        for _ in range(300):
+            labels = [names.randbytes(names.randint(1, 40)) for _ in range(names.randint(0, 6))]
+            octets = b"".join(bytes([len(label)]) + label for label in labels) + b"\0"
+            name = Name.from_wire(octets)
+            self.assertEqual(bytes(name.lower()), octets.lower())
+            self.assertEqual(hash(name), hash(name.lower()))
+            self.assertEqual(name, name.lower())
+            self.assertEqual(name.labels, (*labels, b""))
 
 
 class Messages(unittest.TestCase):
@@ -146,14 +194,47 @@ class Messages(unittest.TestCase):
         message = Message(RESPONSE)
         self.assertEqual(message.header, (0x1234, 0x8180, 1, 2, 0, 1))
         self.assertTrue(message.header.is_response and not message.header.is_truncated)
+        self.assertTrue(message.header.is_recursion_desired and message.header.is_recursion_available)
+        self.assertEqual((message.header.opcode, message.header.is_authoritative, message.header.rcode), (0, False, 0))
         (question,) = message.questions()
         self.assertEqual((str(question.name), question.type, question.class_, question.end), ("www.example.com.", 1, 1, 33))
         alias, address, options = message.records()
         self.assertEqual((alias.section, alias.type, alias.ttl), ("answer", 5, 3600))
         self.assertEqual(message.name(alias.data_offset), Name("host.example.com"))
+        self.assertEqual(alias.names_in_data(), (Name("host.example.com"),))
+        self.assertEqual((address.names_in_data(), options.names_in_data()), ((), ()))
         self.assertEqual((str(address.name), address.data), ("host.example.com.", b"\xc0\0\2\1"))
         self.assertEqual((options.section, options.name, options.type, options.data), ("additional", Name("."), 41, b""))
         self.assertEqual(list(message.answers()), [alias, address])
+        self.assertEqual((list(message.authority()), list(message.additional())), ([], [options]))
+
+    def test_names_in_data(self):
+        # A CNAME whose name goes on in the record behind it, an SOA, and an MX with an octet too many.
+        leaving = Message(bytes.fromhex("000081800000000200000000" "00000500010000000000020162" "00000500010000000000020162"))
+        with self.assertRaises(dnsnames.ShortInput) as caught:
+            next(leaving.records()).name_in_data()
+        self.assertEqual(caught.exception.offset, 23)
+        soa = Message(bytes.fromhex("000081800000000000010000" "0000060001000000000018" "0161000162c017") + bytes(17))
+        with self.assertRaises(dnsnames.ShortInput):
+            next(soa.authority()).names_in_data()
+        soa = Message(bytes.fromhex("000081800000000000010000" "000006000100000000001b" "0161000162c017") + bytes(20))
+        self.assertEqual([str(name) for name in next(soa.authority()).names_in_data()], ["a.", "b.a."])
+        with self.assertRaises(dnsnames.NoField):
+            next(soa.authority()).name_in_data(2)
+        trailing = Message(bytes.fromhex("000081800000000100000000" "00000f0001000000000006" "000a01610000"))
+        with self.assertRaises(dnsnames.TrailingData):
+            next(trailing.records()).name_in_data()
+
+    def test_a_bad_name_stops_its_own_entry_alone(self):
+        message = Message(bytes.fromhex("000081800001000200000000" "c00c00010001" "c0120001000100000000000401020304"
+                                        "00000100010000000000040a020304"))
+        (question,) = message.questions()
+        with self.assertRaises(dnsnames.TooManyPointers):
+            question.name
+        bad, good = message.answers()
+        with self.assertRaises(dnsnames.TooManyPointers):
+            bad.name
+        self.assertEqual((str(good.name), good.data), (".", b"\n\2\3\4"))
 
     def test_a_cut_message(self):
         for length in range(len(RESPONSE)):
@@ -175,6 +256,11 @@ class Messages(unittest.TestCase):
         with self.assertRaises(dnsnames.NoRoom):
             composer.append_octets(bytes(5))
         self.assertEqual(len(composer), 36)
+        composer.set16(4, 0x102)
+        self.assertEqual(bytes(composer)[3:7], b"\0\1\2\0")
+        for offset in (-1, 35, 36):
+            with self.subTest(offset=offset), self.assertRaises(IndexError):
+                composer.set16(offset, 0)
         self.assertEqual(read(bytes(composer), 29).name, Name("mail.example.com"))
         with self.assertRaises(dnsnames.NoRoom):
             Composer(0).append(Name("."))
@@ -192,12 +278,25 @@ class TheHeader(unittest.TestCase):
             self.assertIn(name.replace("_", ""), (fault.__name__.upper(), fault.__name__.upper().replace("NAME", ""),
                                                   fault.__name__.upper().replace("BAD", "")))
 
+    def test_version(self):
+        self.assertIn(f'#define DNSNAMES_VERSION "{dnsnames.__version__}"', HEADER.read_text())
+        self.assertIn(f'version = "{dnsnames.__version__}"', (pathlib.Path(__file__).parents[1] / "pyproject.toml").read_text())
+
+    def test_structs(self):
+        kinds = {"uint16_t": "c_ushort", "uint32_t": "c_uint", "size_t": "c_ulong"}
+        header = HEADER.read_text()
+        for kind in (_library.HeaderFields, _library.QuestionFields, _library.RecordFields):
+            name = kind.__name__.replace("Fields", "").lower()
+            body = re.search(rf"typedef struct dnsnames_{name}_fields \{{(.*?)\}}", header, re.DOTALL)[1]
+            wanted = [(field, kinds[c]) for c, field in re.findall(r"(\w+) (\w+);", body)]
+            self.assertEqual([(field, ours.__name__) for field, ours in kind._fields_], wanted)
+
     def test_arguments(self):
         kinds = {
             "const uint8_t *": _library._octets, "uint8_t *": _library._buffer, "size_t": _library._size,
             "size_t *": _library._to_size, "uint16_t *": _library._to_16, "uint32_t *": _library._to_32,
         }
-        declared = re.findall(r"^uint32_t dnsnames_(\w+)\(([^)]*)\);", HEADER.read_text(), re.MULTILINE)
+        declared = re.findall(r"^dnsnames_status dnsnames_(\w+)\(([^)]*)\);", HEADER.read_text(), re.MULTILINE)
         self.assertGreaterEqual({name for name, _ in declared}, set(_library._ARGUMENTS))
         for name, arguments in declared:
             if name not in _library._ARGUMENTS:

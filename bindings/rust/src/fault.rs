@@ -34,6 +34,10 @@ pub enum Fault {
     EmptyLabel,
     /// A root label stands in a relative name.
     AbsoluteName,
+    /// Data of records of this type have no such name.
+    NoField,
+    /// What a newer library answers, by its number.
+    Other(u32),
 }
 
 impl Fault {
@@ -54,10 +58,12 @@ impl Fault {
             Fault::LongLabel => 14,
             Fault::EmptyLabel => 15,
             Fault::AbsoluteName => 19,
+            Fault::NoField => 21,
+            Fault::Other(status) => status,
         }
     }
 
-    /// What a status tells: nothing, or a fault. No call here passes what the other statuses are for.
+    /// What a status tells: nothing, or a fault.
     pub(crate) fn check(status: u32, needed: Option<usize>) -> Result<(), Fault> {
         Err(match status {
             0 => return Ok(()),
@@ -75,7 +81,8 @@ impl Fault {
             14 => Fault::LongLabel,
             15 => Fault::EmptyLabel,
             19 => Fault::AbsoluteName,
-            status => panic!("the library answered {status}"),
+            21 => Fault::NoField,
+            status => Fault::Other(status),
         })
     }
 }
@@ -97,6 +104,8 @@ impl fmt::Display for Fault {
             Fault::LongLabel => "long label",
             Fault::EmptyLabel => "empty label",
             Fault::AbsoluteName => "absolute domain name",
+            Fault::NoField => "no such name in data of this type",
+            Fault::Other(_) => "refused by the library",
         })
     }
 }

@@ -11,18 +11,25 @@
 //! ```
 //!
 //! What octets and texts spell is decided by the library. What is here passes slices on; it isn't proved. Nothing is
-//! allocated: what a call makes goes into a buffer of the caller's.
+//! allocated but by `NameBuf`, which the feature `alloc` has: what a call makes goes into a buffer of the caller's.
 #![no_std]
+
+#[cfg(feature = "alloc")]
+extern crate alloc;
 
 mod fault;
 mod message;
 mod name;
+#[cfg(feature = "alloc")]
+mod name_buf;
 #[rustfmt::skip]
 mod sys;
 
 pub use fault::Fault;
 pub use message::{Composer, Header, Message, Question, Questions, Record, Records, Section};
-pub use name::{check_relative, read, skip, Name, Read};
+pub use name::{check_relative, read, skip, Labels, Name, Read};
+#[cfg(feature = "alloc")]
+pub use name_buf::NameBuf;
 
 /// The most octets of a name: a buffer of this size has room for each.
 pub const MAX_LEN: usize = 255;

@@ -7,6 +7,7 @@ use crate::{MAX_POINTERS, MAX_TABLE};
 
 /// A message's first 12 octets (RFC 1035, 4.1.1).
 #[derive(Clone, Copy, Debug, PartialEq, Eq, Default)]
+#[repr(C)]
 pub struct Header {
     pub id: u16,
     /// The sixteen bits of flags: QR is 0x8000, RCODE the low four.
@@ -15,6 +16,27 @@ pub struct Header {
     pub answers: u16,
     pub authority: u16,
     pub additional: u16,
+}
+
+/// What the library tells of a question.
+#[derive(Clone, Copy, Default)]
+#[repr(C)]
+pub(crate) struct QuestionFields {
+    qtype: u16,
+    class: u16,
+    end: usize,
+}
+
+/// What the library tells of a record.
+#[derive(Clone, Copy, Default)]
+#[repr(C)]
+pub(crate) struct RecordFields {
+    rtype: u16,
+    class: u16,
+    ttl: u32,
+    data: usize,
+    data_len: usize,
+    end: usize,
 }
 
 /// A question (RFC 1035, 4.1.2). Its name is read at its offset.
@@ -34,7 +56,8 @@ pub enum Section {
     Additional,
 }
 
-/// A resource record (RFC 1035, 4.1.3). Its name is read at its offset, and a name in its data at `data_offset`.
+/// A resource record (RFC 1035, 4.1.3). Its name is read at its offset, and those in its data
+/// by [`Message::name_in_data`].
 #[derive(Clone, Copy, Debug, PartialEq, Eq)]
 pub struct Record<'a> {
     pub section: Section,
@@ -81,18 +104,7 @@ impl<'a> Message<'a> {
     pub fn header(&self) -> Result<Header, Fault> {
         let mut header = Header::default();
         // SAFETY: as in `read`.
-        let status = unsafe {
-            dnsnames_header(
-                self.octets.as_ptr(),
-                self.octets.len(),
-                &mut header.id,
-                &mut header.flags,
-                &mut header.questions,
-                &mut header.answers,
-                &mut header.authority,
-                &mut header.additional,
-            )
-        };
+        let status = unsafe { dnsnames_header(self.octets.as_ptr(), self.octets.len(), &mut header) };
         Fault::check(status, None)?;
         Ok(header)
     }
@@ -104,43 +116,65 @@ impl<'a> Message<'a> {
 
     /// The question at an offset: `ShortInput`, `BadLabelType`, `LongName`. The name's pointer isn't followed.
     pub fn question(&self, offset: usize) -> Result<Question, Fault> {
-        let mut question = Question { offset, qtype: 0, class: 0, end: 0 };
+        let mut found = QuestionFields::default();
         // SAFETY: as in `read`.
-        let status = unsafe {
-            dnsnames_question(
-                self.octets.as_ptr(),
-                self.octets.len(),
-                offset,
-                &mut question.qtype,
-                &mut question.class,
-                &mut question.end,
-            )
-        };
+        let status = unsafe { dnsnames_question(self.octets.as_ptr(), self.octets.len(), offset, &mut found) };
         Fault::check(status, None)?;
-        Ok(question)
+        Ok(Question { offset, qtype: found.qtype, class: found.class, end: found.end })
     }
 
     /// The record at an offset, of this section: `ShortInput`, `BadLabelType`, `LongName`. The name's pointer isn't
     /// followed.
     pub fn record(&self, section: Section, offset: usize) -> Result<Record<'a>, Fault> {
-        let (mut rtype, mut class, mut ttl, mut data, mut data_len, mut end) = (0, 0, 0, 0, 0, 0);
+        let mut found = RecordFields::default();
+        // SAFETY: as in `read`.
+        let status = unsafe { dnsnames_record(self.octets.as_ptr(), self.octets.len(), offset, &mut found) };
+        Fault::check(status, None)?;
+        let RecordFields { rtype, class, ttl, data, data_len, end } = found;
+        Ok(Record {
+            section,
+            offset,
+            rtype,
+            class,
+            ttl,
+            data_offset: data,
+            data: &self.octets[data..][..data_len],
+            end,
+        })
+    }
+
+    /// The name with `index` names before it in the data of a record of this message; it doesn't leave them. `NoField`
+    /// where data of this type have no such name, `ShortInput` where a name or what follows it ends past the data,
+    /// `TrailingData` where they go on, and the faults of [`read`].
+    ///
+    /// ```
+    /// use dnsnames::{Fault, Message, MAX_LEN};
+    ///
+    /// let message = Message::new(b"\0\0\x81\x80\0\0\0\x01\0\0\0\0\0\0\x0f\0\x01\0\0\0\0\0\x05\0\x0a\x01a\0");
+    /// let mut buffer = [0; MAX_LEN];
+    /// let record = message.records()?.next().unwrap()?;
+    /// assert_eq!(message.name_in_data(&record, 0, &mut buffer)?.to_string(), "a");
+    /// assert_eq!(message.name_in_data(&record, 1, &mut buffer), Err(Fault::NoField));
+    /// # Ok::<(), Fault>(())
+    /// ```
+    pub fn name_in_data<'b>(&self, record: &Record<'_>, index: usize, buffer: &'b mut [u8]) -> Result<Name<'b>, Fault> {
+        let mut length = 0;
         // SAFETY: as in `read`.
         let status = unsafe {
-            dnsnames_record(
+            dnsnames_data_name(
                 self.octets.as_ptr(),
                 self.octets.len(),
-                offset,
-                &mut rtype,
-                &mut class,
-                &mut ttl,
-                &mut data,
-                &mut data_len,
-                &mut end,
+                record.data_offset,
+                record.data.len(),
+                record.rtype,
+                index,
+                buffer.as_mut_ptr(),
+                buffer.len(),
+                &mut length,
             )
         };
-        Fault::check(status, None)?;
-        let octets = &self.octets[data..][..data_len];
-        Ok(Record { section, offset, rtype, class, ttl, data_offset: data, data: octets, end })
+        Fault::check(status, Some(length))?;
+        Ok(Name::of(&buffer[..length]))
     }
 
     /// The questions that the header counts, up to the first that can't be read, whose fault ends them.
@@ -258,6 +292,18 @@ impl<'a> Composer<'a> {
         room.ok_or(Fault::NoRoom(Some(octets.len())))?.copy_from_slice(octets);
         self.len += octets.len();
         Ok(())
+    }
+
+    /// The two octets at an offset of what was composed become this number, the high one first: a count of the header,
+    /// or the length of data after it. `false` where they aren't there: nothing is changed.
+    pub fn set_u16(&mut self, offset: usize, number: u16) -> bool {
+        match self.octets[..self.len].get_mut(offset..).and_then(|rest| rest.get_mut(..2)) {
+            Some(place) => {
+                place.copy_from_slice(&number.to_be_bytes());
+                true
+            }
+            None => false,
+        }
     }
 
     /// What was composed.

@@ -2,10 +2,11 @@
 
 use crate::fault::Fault;
 use crate::sys::*;
-use crate::MAX_TEXT;
+use crate::{MAX_LEN, MAX_TEXT};
 use core::cmp::Ordering;
 use core::fmt;
 use core::hash::{Hash, Hasher};
+use core::ops::Range;
 
 /// An absolute name in its wire format without compression (RFC 1035, 3.1): labels, the root last, at most 255 octets.
 ///
@@ -92,6 +93,11 @@ pub fn check_relative(octets: &[u8]) -> Result<(), Fault> {
 }
 
 impl<'a> Name<'a> {
+    /// Octets that the library has answered, or that were checked.
+    pub(crate) fn of(octets: &'a [u8]) -> Name<'a> {
+        Name { octets }
+    }
+
     /// The root.
     pub const ROOT: Name<'static> = Name { octets: &[0] };
 
@@ -176,34 +182,20 @@ impl<'a> Name<'a> {
 
     /// How many labels there are, the root among them: 1 to 128.
     pub fn label_count(&self) -> usize {
-        let mut count = 0;
-        // SAFETY: as in `ends_with`.
-        unsafe { dnsnames_label_count(self.octets.as_ptr(), self.octets.len(), &mut count) };
-        count
+        self.labels().len()
     }
 
     /// The label that has so many labels before it.
     pub fn label(&self, index: usize) -> Option<&'a [u8]> {
-        let mut offset = 0;
-        // SAFETY: as in `read`.
-        let status = unsafe { dnsnames_label(self.octets.as_ptr(), self.octets.len(), index, &mut offset) };
-        (status == 0).then(|| self.label_at(offset))
+        self.labels().nth(index)
     }
 
     /// The label that has so many labels after it: the root has none.
     pub fn label_back(&self, index: usize) -> Option<&'a [u8]> {
-        let mut offset = 0;
-        // SAFETY: as in `read`.
-        let status = unsafe { dnsnames_label_back(self.octets.as_ptr(), self.octets.len(), index, &mut offset) };
-        (status == 0).then(|| self.label_at(offset))
+        self.labels().nth_back(index)
     }
 
-    fn label_at(&self, offset: usize) -> &'a [u8] {
-        let len = usize::from(self.octets[offset]);
-        &self.octets[offset + 1..][..len]
-    }
-
-    /// The labels, from the front or the back, the root among them.
+    /// The labels, from the front or the back, the root among them. The name is walked once.
     ///
     /// ```
     /// let name = dnsnames::Name::from_slice(b"\x03www\x03com\x00")?;
@@ -211,19 +203,72 @@ impl<'a> Name<'a> {
     /// assert!(name.labels().rev().skip(1).eq([&b"com"[..], b"www"]));
     /// # Ok::<(), dnsnames::Fault>(())
     /// ```
-    pub fn labels(&self) -> impl DoubleEndedIterator<Item = &'a [u8]> + ExactSizeIterator {
-        let name = *self;
-        (0..self.label_count()).map(move |index| name.label(index).expect("a name has as many labels as it counts"))
+    pub fn labels(&self) -> Labels<'a> {
+        let (mut begins, mut count, mut at) = ([0; 128], 0, 0);
+        while at < self.octets.len() {
+            begins[count] = at as u8;
+            count += 1;
+            at += 1 + usize::from(self.octets[at]);
+        }
+        Labels { octets: self.octets, begins, left: 0..count }
     }
 
     /// The name without its first label; the root has no parent.
     pub fn parent(&self) -> Option<Name<'a>> {
-        let mut offset = 0;
-        // SAFETY: as in `read`.
-        let status = unsafe { dnsnames_parent(self.octets.as_ptr(), self.octets.len(), &mut offset) };
-        (status == 0).then(|| Name { octets: &self.octets[offset..] })
+        let rest = &self.octets[1 + usize::from(self.octets[0])..];
+        (!rest.is_empty()).then_some(Name { octets: rest })
+    }
+
+    /// The name with octets of its own.
+    #[cfg(feature = "alloc")]
+    pub fn to_buf(&self) -> crate::NameBuf {
+        crate::NameBuf::from(*self)
     }
 }
+
+/// The labels of a name.
+#[derive(Clone, Debug)]
+pub struct Labels<'a> {
+    octets: &'a [u8],
+    /// Where each label begins, of the at most 128.
+    begins: [u8; 128],
+    left: Range<usize>,
+}
+
+impl<'a> Labels<'a> {
+    fn label(&self, index: usize) -> &'a [u8] {
+        let begin = usize::from(self.begins[index]);
+        &self.octets[begin + 1..][..usize::from(self.octets[begin])]
+    }
+}
+
+impl<'a> Iterator for Labels<'a> {
+    type Item = &'a [u8];
+
+    fn next(&mut self) -> Option<&'a [u8]> {
+        self.left.next().map(|index| self.label(index))
+    }
+
+    fn nth(&mut self, n: usize) -> Option<&'a [u8]> {
+        self.left.nth(n).map(|index| self.label(index))
+    }
+
+    fn size_hint(&self) -> (usize, Option<usize>) {
+        self.left.size_hint()
+    }
+}
+
+impl<'a> DoubleEndedIterator for Labels<'a> {
+    fn next_back(&mut self) -> Option<&'a [u8]> {
+        self.left.next_back().map(|index| self.label(index))
+    }
+
+    fn nth_back(&mut self, n: usize) -> Option<&'a [u8]> {
+        self.left.nth_back(n).map(|index| self.label(index))
+    }
+}
+
+impl ExactSizeIterator for Labels<'_> {}
 
 impl PartialEq for Name<'_> {
     fn eq(&self, other: &Name<'_>) -> bool {
@@ -261,12 +306,15 @@ impl PartialOrd for Name<'_> {
     }
 }
 
+/// The octets in lower case go to the caller's hasher, so the key is its own: that of a `HashMap` is drawn at random.
 impl Hash for Name<'_> {
     fn hash<H: Hasher>(&self, state: &mut H) {
-        let mut hash = 0;
-        // SAFETY: as in `Name::ends_with`.
-        unsafe { dnsnames_hash(self.octets.as_ptr(), self.octets.len(), &mut hash) };
-        state.write_u64(hash);
+        // Length octets are below 64, so none of them is a letter.
+        let mut lower = [0; MAX_LEN];
+        for (low, octet) in lower.iter_mut().zip(self.octets) {
+            *low = octet.to_ascii_lowercase();
+        }
+        state.write(&lower[..self.octets.len()]);
     }
 }
 

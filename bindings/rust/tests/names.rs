@@ -181,6 +181,81 @@ fn composing() {
     assert_eq!(Composer::new(&mut []).append(Name::ROOT), Err(Fault::NoRoom(None)));
 }
 
+#[test]
+fn names_in_data() {
+    let mut buffer = [0; MAX_LEN];
+    let message = Message::new(RESPONSE);
+    let records: Vec<Record> = message.records().unwrap().map(Result::unwrap).collect();
+    let found = message.name_in_data(&records[0], 0, &mut buffer).unwrap();
+    assert_eq!(found.to_string(), "host.example.com");
+    assert_eq!(message.name_in_data(&records[0], 0, &mut buffer[..17]), Err(Fault::NoRoom(Some(18))));
+    assert_eq!(message.name_in_data(&records[0], 1, &mut buffer), Err(Fault::NoField));
+    assert_eq!(message.name_in_data(&records[1], 0, &mut buffer), Err(Fault::NoField));
+    // A CNAME whose name goes on in the record behind it, and one with an octet too many.
+    for (octets, fault) in [
+        (&b"\0\0\x81\x80\0\0\0\x01\0\0\0\0\0\0\x05\0\x01\0\0\0\0\0\x02\x01b\0"[..], Fault::ShortInput),
+        (b"\0\0\x81\x80\0\0\0\x01\0\0\0\0\0\0\x05\0\x01\0\0\0\0\0\x04\x01b\0\0", Fault::TrailingData),
+        (b"\0\0\x81\x80\0\0\0\x01\0\0\0\0\0\0\x05\0\x01\0\0\0\0\0\x02\xc0\x17", Fault::TooManyPointers),
+    ] {
+        let message = Message::new(octets);
+        let record = message.records().unwrap().next().unwrap().unwrap();
+        assert_eq!(message.name_in_data(&record, 0, &mut buffer), Err(fault));
+    }
+}
+
+/// What a hasher is fed.
+#[derive(Default)]
+struct Fed(Vec<u8>);
+
+impl std::hash::Hasher for Fed {
+    fn finish(&self) -> u64 {
+        0
+    }
+
+    fn write(&mut self, octets: &[u8]) {
+        self.0.extend_from_slice(octets);
+    }
+}
+
+/// The hasher gets the octets in lower case and not a hash of them, so that its own key decides.
+#[test]
+fn what_is_hashed() {
+    use std::hash::Hash;
+    let mut buffer = [0; MAX_LEN];
+    let mut fed = Fed::default();
+    name("www.EXAMPLE.com", &mut buffer).hash(&mut fed);
+    assert_eq!(fed.0, b"\x03www\x07example\x03com\0");
+}
+
+#[cfg(feature = "alloc")]
+#[test]
+fn names_of_their_own() {
+    let names: Vec<NameBuf> = ["b.example", "A.example", "a.EXAMPLE"].map(|text| text.parse().unwrap()).into();
+    assert_eq!((&names[1], names[1].as_name(), names[1].as_slice().len()), (&names[2], names[2].as_name(), 11));
+    assert!(names[1] < names[0] && names[1] == names[2].as_name());
+    assert_eq!(names.iter().collect::<HashSet<_>>().len(), 2);
+    assert_eq!(format!("{} {:#} {:?}", names[1], names[1], names[1].clone()), "A.example A.example. Name(A.example.)");
+    assert_eq!("a..b".parse::<NameBuf>(), Err(Fault::EmptyLabel));
+    let owned = { names[0].as_name().parent().unwrap().to_buf() };
+    assert_eq!(owned.to_string(), "example");
+}
+
+#[test]
+fn patching() {
+    let mut octets = [0; 5];
+    let mut composer = Composer::new(&mut octets);
+    composer.append_octets(b"abcd").unwrap();
+    assert!(composer.set_u16(2, 0x102) && !composer.set_u16(3, 0) && !composer.set_u16(4, 0));
+    assert!(!composer.set_u16(usize::MAX, 0));
+    assert_eq!(composer.as_slice(), b"ab\x01\x02");
+}
+
+#[test]
+fn what_a_newer_library_answers() {
+    assert_eq!((Fault::Other(77).status(), Fault::NoField.status()), (77, 21));
+    assert_eq!(Fault::Other(77).to_string(), "refused by the library");
+}
+
 /// Each call as Rust declares it has the arguments that dnsnames.h declares.
 #[test]
 fn declarations() {
@@ -195,11 +270,33 @@ fn declarations() {
         let (call, rest) = line.split_once('(').unwrap();
         let arguments = rest.strip_suffix(") -> u32;").unwrap();
         let wanted: Vec<String> = arguments.split(", ").map(as_c).collect();
-        let declaration = format!("uint32_t {call}({});", wanted.join(", "));
+        let declaration = format!("dnsnames_status {call}({});", wanted.join(", "));
         assert!(header.contains(&declaration), "{declaration}");
         compared += 1;
     }
-    assert_eq!(compared, 19);
+    assert_eq!(compared, 15);
+}
+
+/// The structs have the fields that dnsnames.h gives them, in its order.
+#[test]
+fn structs() {
+    let folder = std::path::Path::new(env!("CARGO_MANIFEST_DIR"));
+    let Ok(header) = std::fs::read_to_string(folder.join("../c/dnsnames.h")) else {
+        return; // the crate stands alone
+    };
+    let source = std::fs::read_to_string(folder.join("src/message.rs")).unwrap();
+    for (name, c_name) in [("Header", "header"), ("QuestionFields", "question"), ("RecordFields", "record")]
+        .map(|(a, b)| (a.to_string(), b))
+    {
+        let body = |text: &str, begin: &str| text.split(begin).nth(1).unwrap().split('}').next().unwrap().to_string();
+        let fields = body(&source, &format!("struct {name} {{"));
+        let lines = fields.lines().map(str::trim).filter(|line| !line.starts_with("//"));
+        let kinds = lines.filter_map(|line| line.trim_end_matches(',').split_once(": ")).map(|(_, kind)| kind);
+        let ours = kinds.map(|kind| if kind == "usize" { "size_t".into() } else { kind.replace('u', "uint") + "_t" });
+        let theirs = body(&header, &format!("typedef struct dnsnames_{c_name}_fields {{"));
+        let theirs = theirs.split(';').filter_map(|field| field.split_whitespace().next().map(str::to_string));
+        assert_eq!(ours.collect::<Vec<_>>(), theirs.collect::<Vec<_>>());
+    }
 }
 
 fn as_c(argument: &str) -> String {
@@ -212,6 +309,9 @@ fn as_c(argument: &str) -> String {
     let kind = match kind {
         "usize" => "size_t".to_string(),
         "i32" => "int32_t".to_string(),
+        "Header" | "QuestionFields" | "RecordFields" => {
+            format!("dnsnames_{}_fields", kind.trim_end_matches("Fields").to_lowercase())
+        }
         kind => kind.replace('u', "uint") + "_t",
     };
     let name = name.trim_start_matches("r#");

@@ -1,4 +1,3 @@
-pub mod Hashing
 pub mod LabelOffsets
 pub mod Dots
 pub mod Writing

@@ -1,22 +1,20 @@
 //! Comparing names.
-ghost use Rattle.std.specs.Prelude.{◌≡◌, ◌≢◌, ◌≤◌, ℕ, List, length, IsTrue, ◌↔◌};
+ghost use Rattle.std.specs.Prelude.{◌≡◌, ◌≢◌, ◌≤◌, ℕ, List, length, IsTrue, IsSome, IfSome, ◌↔◌};
 ghost use Rattle.domain_label.specs.Lowercase.{lowercase_labels};
 ghost use Rattle.domain_label.specs.Wire.{wire, labels_in, IsAbsoluteWire};
 ghost use Rattle.domain_list.specs.Ends.{EndsWith};
 ghost use Rattle.domain_list.specs.Order.{canonical_order};
+ghost use Rattle.domain_siphash.specs.SipHash.{siphash};
 ghost use Rattle.dnsnames_c.specs.Answers.{GivesOf};
-ghost use Rattle.dnsnames_c.specs.Fnv.{fnv};
 ghost use Rattle.dnsnames_c.specs.Status.{order_number};
 
-use crate::fnv::Fnv;
 use crate::put::give;
 use arrayvec::ArrayVec;
 use domain_list::comparing::{eq_names, order_names};
 use domain_list::composing::compose_canonical_name;
-use domain_list::hashing::hash_name;
 use domain_name::Name;
+use domain_siphash::siphash_2_4;
 use std::cmp::Ordering;
-use std::hash::Hasher;
 
 /// The number of an order.
 fn number_of_order(order: Ordering) -> i32
@@ -74,20 +72,33 @@ pub extern "C" fn dnsnames_ends_with(name: &[u8], suffix: &[u8], ends: &mut u32)
     0
 }
 
-/// The hash of a name, FNV-1a over 64 bits of its wire format in lower case: equal names have one hash. 9 where it
-/// is no name.
+/// The canonical form of a name, A to Z as a to z (RFC 4034, 6.2). `None` where the octets are no name.
+fn canonical_form(octets: &[u8]) -> Option<ArrayVec<u8, 255>>
+    ensures named { IsSome result ↔ IsAbsoluteWire octets.now }
+    ensures some { IfSome result (λ form. form.items ≡ wire (lowercase_labels (labels_in octets.now))) }
+{
+    let Ok(name) = Name::from_slice(octets) else {
+        return None;
+    };
+    let mut form = ArrayVec::<u8, 255>::new();
+    let Ok(()) = compose_canonical_name(&name, &mut form) else {
+        unreachable!();
+    };
+    Some(form)
+}
+
+/// The hash of a name under a key: the SipHash-2-4 of its canonical form, so equal names have one hash. Strangers who
+/// don't know the key can't choose names that have one hash. 9 where it is no name.
 #[unsafe(no_mangle)]
-pub extern "C" fn dnsnames_hash(name: &[u8], hash: &mut u64) -> u32
+pub extern "C" fn dnsnames_hash(key: &[u8; 16], name: &[u8], hash: &mut u64) -> u32
     ensures named { (result ≡ 0) ↔ IsAbsoluteWire name.now }
-    ensures hash { result ≡ 0 → hash.new ≡ fnv (wire (lowercase_labels (labels_in name.now))) }
+    ensures hash { result ≡ 0 → hash.new ≡ siphash key.now (wire (lowercase_labels (labels_in name.now))) }
     ensures err { result ≢ 0 → (result ≡ 9) × (hash.new ≡ hash.old) }
 {
-    let Ok(name) = Name::from_slice(name) else {
+    let Some(form) = canonical_form(name) else {
         return 9;
     };
-    let mut fnv = Fnv::new();
-    hash_name(&name, &mut fnv);
-    *hash = fnv.finish();
+    *hash = siphash_2_4(key, form.as_slice());
     0
 }
 
@@ -97,12 +108,8 @@ pub extern "C" fn dnsnames_hash(name: &[u8], hash: &mut u64) -> u32
 pub extern "C" fn dnsnames_lower(name: &[u8], buffer: &mut [u8], length: &mut usize) -> u32
     ensures { GivesOf name.now (wire (lowercase_labels (labels_in name.now))) result buffer.old buffer.new length.old length.new }
 {
-    let Ok(name) = Name::from_slice(name) else {
+    let Some(form) = canonical_form(name) else {
         return 9;
     };
-    let mut octets = ArrayVec::<u8, 255>::new();
-    let Ok(()) = compose_canonical_name(&name, &mut octets) else {
-        unreachable!();
-    };
-    give(octets.as_slice(), buffer, length)
+    give(form.as_slice(), buffer, length)
 }

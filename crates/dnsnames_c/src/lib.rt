@@ -6,7 +6,7 @@
 
 mod check;
 mod compare;
-mod fnv;
+mod data;
 mod label;
 mod message;
 mod plan;

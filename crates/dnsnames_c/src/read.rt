@@ -34,14 +34,14 @@ fn number_of_bit(bit: bool) -> u32
 
 /// A name that was read: how many octets it has, the offset after it, and whether a pointer follows a label.
 #[derive(Clone, Copy)]
-struct Found {
-    len: usize,
+pub(crate) struct Found {
+    pub(crate) len: usize,
     end: usize,
     compressed: bool,
 }
 
 /// Puts the name at the offset at the beginning of a buffer.
-fn read_into(
+pub(crate) fn read_into(
     message: &[u8],
     offset: usize,
     limit: u8,

@@ -2,13 +2,13 @@
 #include "dnsnames.h"
 #include "line.h"
 
-#ifndef DNSNAMES_VERSION
-#define DNSNAMES_VERSION "unknown"
+#ifndef LIBRARY_VERSION
+#define LIBRARY_VERSION "unknown"
 #endif
 
 static const char *version(void)
 {
-    return DNSNAMES_VERSION;
+    return LIBRARY_VERSION;
 }
 
 static bool read_name(const uint8_t *message, size_t len, size_t offset, struct name *name, size_t *end)
