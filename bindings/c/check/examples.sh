@@ -66,6 +66,12 @@ is 'follow_cname, of a count that is not so' 1 'a.
 a.
 the aliases lead in a ring' out/follow_cname out/counts
 
+# As dnspython writes the query, but for its identifier.
+is ask 0 123401000001000000000000076578616d706c6503636f6d00000f0001 out/ask example.com 15
+is 'ask, of the root' 0 1234010000010000000000000000ff0001 out/ask . 255
+is 'ask, of no name' 1 '
+empty label' out/ask a..b 1
+
 printf '03777777 00\nc000\n0377\n\n0g\n' > out/lines
 out/tell_hex < out/lines > out/told
 grep -q '^www\.$' out/told && [ "$(grep -c '^refused' out/told)" -eq 4 ] || {

@@ -1,4 +1,4 @@
-"""The example."""
+"""The examples."""
 
 import os
 import pathlib
@@ -7,6 +7,18 @@ import sys
 import unittest
 
 FOLDER = pathlib.Path(__file__).parents[1]
+
+
+class Answer(unittest.TestCase):
+    def test_what_is_written(self):
+        run = subprocess.run(
+            [sys.executable, FOLDER / "examples" / "answer.py"], capture_output=True, text=True, check=True,
+            env={**os.environ, "PYTHONPATH": str(FOLDER)},
+        )
+        self.assertEqual(run.stdout.split("\n"), [
+            "123481800001000100000000076578616d706c6503636f6d00000f0001" "c00c000f000100000e100009000a046d61696cc00c",
+            "example.com. 3600 mail.example.com.", "",
+        ])
 
 
 class ZoneTree(unittest.TestCase):
