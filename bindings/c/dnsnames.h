@@ -11,14 +11,14 @@
  *
  * What is proved of each call is what it says here, for all octets and all lengths: which results it gives, when it
  * refuses and with which status, what it leaves, that it ends, and that it reads and writes within the lengths that it
- * is passed. No proof can see what a pointer from C leads to. So the caller owes:
+ * is passed. Before it stands plain C (guards.c), which looks for null pointers, passes the fields of a struct one by
+ * one, and puts a zero octet after a text. No proof can see what a pointer from C leads to. So the caller owes:
  * - a pointer leads to as many octets (of a table: numbers) as the length or capacity beside it says, at most
  *   PTRDIFF_MAX octets, aligned as its type wants, and a result's pointer to one value;
  * - a buffer or a result overlaps nothing else that the call is passed, and nobody else writes what is passed or reads
  *   the results while the call runs.
  * - a null pointer stands for no octets where its length or capacity is 0. With another length, or where a result or
- *   a key is to be, it is refused as DNSNAMES_NULL, and nothing is written. The library looks for it (guards.c, which is
- *   plain C and not proved) before the proved call is made, so this holds for callers from any language.
+ *   a key is to be, it is refused as DNSNAMES_NULL, and nothing is written. This holds for callers from any language.
  */
 #ifndef DNSNAMES_H
 #define DNSNAMES_H
@@ -106,8 +106,8 @@ const char *dnsnames_version(void);
  *     uint8_t name[DNSNAMES_MAX_LEN];
  *     size_t len, end;
  *     uint32_t compressed;
- *     uint32_t status = dnsnames_read(message, message_len, 12, DNSNAMES_MAX_POINTERS, name, sizeof name, &len, &end,
- *                                     &compressed);
+ *     dnsnames_status status = dnsnames_read(message, message_len, 12, DNSNAMES_MAX_POINTERS, name, sizeof name, &len,
+ *                                            &end, &compressed);
  *     if (status != DNSNAMES_OK)
  *         fprintf(stderr, "%s\n", dnsnames_strerror(status));
  */
@@ -136,7 +136,7 @@ dnsnames_status dnsnames_check_relative(const uint8_t *octets, size_t len);
  * LONG_LABEL, EMPTY_LABEL; NO_ROOM.
  *
  *     const char text[] = "www.example.com";
- *     uint32_t status = dnsnames_from_text((const uint8_t *)text, strlen(text), name, sizeof name, &len);
+ *     dnsnames_status status = dnsnames_from_text((const uint8_t *)text, strlen(text), name, sizeof name, &len);
  */
 dnsnames_status dnsnames_from_text(const uint8_t *text, size_t text_len, uint8_t *buffer, size_t capacity,
                                    size_t *length);
@@ -175,7 +175,7 @@ dnsnames_status dnsnames_ends_with(const uint8_t *name, size_t len, const uint8_
  * together. So draw the key at random when the program starts (by getrandom or getentropy), one for all tables or one
  * for each, and keep it: neither a constant, nor the time, nor a number that is told to others. Hashes under one key
  * must not be told either, nor be kept for another run. */
-dnsnames_status dnsnames_hash(const uint8_t *key, const uint8_t *name, size_t len, uint64_t *hash);
+dnsnames_status dnsnames_hash(const uint8_t key[DNSNAMES_KEY_LEN], const uint8_t *name, size_t len, uint64_t *hash);
 
 /* ---- Labels ---- */
 
@@ -292,8 +292,11 @@ dnsnames_status dnsnames_record(const uint8_t *message, size_t message_len, size
  * data go on after all that such data have; LABEL_TYPE, LONG_NAME as dnsnames_skip has them for any of the names. Then
  * TOO_MANY_POINTERS and the others, as dnsnames_read has them, for the name that is asked for; NO_ROOM.
  *
- *     if (dnsnames_data_name(message, message_len, data, data_len, 15, 0, name, sizeof name, &len) == DNSNAMES_OK)
- *         the exchange of an MX record is in name
+ *     dnsnames_record_fields record;
+ *     status = dnsnames_record(message, message_len, offset, &record);
+ *     if (status == DNSNAMES_OK)
+ *         status = dnsnames_data_name(message, message_len, record.data, record.data_len, record.type, 0, name,
+ *                                     sizeof name, &len);
  */
 dnsnames_status dnsnames_data_name(const uint8_t *message, size_t message_len, size_t data, size_t data_len,
                                    uint16_t type, size_t index, uint8_t *buffer, size_t capacity, size_t *length);

@@ -144,7 +144,7 @@ dnsnames_status dnsnames_ends_with(const uint8_t *name, size_t len, const uint8_
                    proved_dnsnames_ends_with(octets_at(name), len, octets_at(suffix), suffix_len, ends));
 }
 
-dnsnames_status dnsnames_hash(const uint8_t *key, const uint8_t *name, size_t len, uint64_t *hash)
+dnsnames_status dnsnames_hash(const uint8_t key[DNSNAMES_KEY_LEN], const uint8_t *name, size_t len, uint64_t *hash)
 {
     return GUARDED(key == NULL || is_null(name, len) || hash == NULL,
                    proved_dnsnames_hash(key, octets_at(name), len, hash));

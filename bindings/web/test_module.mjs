@@ -1,0 +1,46 @@
+// The calls of dnsnames.mjs over the proved module, in node: test_module.mjs MODULE
+//
+//     node --experimental-wasm-memory64 test_module.mjs dnsnames_c.wasm
+import assert from "node:assert/strict";
+import { readFileSync } from "node:fs";
+import { DnsNames, load, NameFault } from "./dnsnames.mjs";
+
+const dns = await load(readFileSync(process.argv[2]));
+const from = (text) => dns.fromText(text);
+const faultOf = (call) => {
+    try {
+        call();
+    } catch (error) {
+        assert.ok(error instanceof NameFault, String(error));
+        return error.fault;
+    }
+    return "";
+};
+
+assert.ok(dns instanceof DnsNames);
+
+// Keys of a Map: the same for equal names, and for no others.
+const hosts = new Map([[dns.key(from("www.Example.com")), 1]]);
+assert.equal(hosts.get(dns.key(from("WWW.example.COM."))), 1);
+assert.equal(hosts.get(dns.key(from("example.com"))), undefined);
+assert.equal(dns.key(from("\\255")).charCodeAt(1), 255);
+
+// A response: the name a, answered by a CNAME record whose data are a pointer to it, and an SOA record.
+const octets = (text) => Uint8Array.from(text.match(/../g), (digits) => parseInt(digits, 16));
+const message = octets(
+    "000781800001000100010000" + "016100" + "00010001" + "c00c000500010000003c0002c00c" +
+    "00000600010000000000" + "1b" + "016200" + "0163c02c" + "00".repeat(20),
+);
+const [question, alias, authority] = [...dns.entries(message)];
+assert.deepEqual([question.section, alias.section, authority.section], ["questions", "answers", "authority"]);
+assert.equal(dns.nameInData(message, alias).text, "a.");
+assert.equal(faultOf(() => dns.nameInData(message, alias, 1)), "NoField");
+assert.deepEqual([0, 1].map((index) => dns.nameInData(message, authority, index).text), ["b.", "c.b."]);
+assert.equal(faultOf(() => dns.nameInData(message, authority, 2)), "NoField");
+
+// Data that end in the name, or go on after it.
+const cut = { ...alias, data: alias.data.slice(1) };
+assert.equal(faultOf(() => dns.nameInData(message, cut)), "ShortInput");
+const longer = { ...alias, data: message.slice(alias.dataOffset, alias.dataOffset + 3) };
+assert.equal(faultOf(() => dns.nameInData(message, longer)), "TrailingData");
+console.log("passed");
