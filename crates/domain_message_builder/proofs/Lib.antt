@@ -2,6 +2,7 @@ pub mod Replying
 pub mod Blank
 pub mod Composing
 pub mod Cutting
+pub mod Ending
 pub mod Finishing
 pub mod Ordering
 pub mod Pushing

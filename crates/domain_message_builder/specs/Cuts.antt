@@ -1,9 +1,14 @@
 -- Messages that are cut, and the OPT record at their end.
-use Rattle.std.specs.Prelude.{◌≡◌, ℕ, Bool, List}
-use Rattle.domain_header.specs.Headers.{SetsHigh}
+use Rattle.std.specs.Prelude.{◌≡◌, ℕ, ◌+◌, ◌<◌, ◌⊎◌, Bool, true, false, List, length, Option, None, Some, Result, Ok, Err}
+use Rattle.domain_header.specs.Headers.{SetsHigh, additional_count}
+use Rattle.domain_header.specs.declared.flags.Header.{Header}
 use Rattle.domain_message.specs.declared.section.Section.TheVariants.{Answer, Additional}
+use Rattle.domain_message_builder.specs.Contents.{PushedRecord, Content, Holds}
+use Rattle.domain_message_builder.specs.Errors.{is_for_room}
 use Rattle.domain_message_builder.specs.Opt.{Opt, opt_head}
-use Rattle.domain_message_builder.specs.Pushes.{with_header, with_reserved, PushesRecord, Rewinds}
+use Rattle.domain_message_builder.specs.Places.{place_of}
+use Rattle.domain_message_builder.specs.Pushes.{with_header, with_reserved, record_added, emptied, PushesRecord, Rewinds}
+use Rattle.domain_message_builder.specs.Reading.{IsMessageOf}
 use Rattle.domain_message_builder.specs.Refusals.{RecordRefused}
 use Rattle.domain_message_builder.specs.State.{State}
 use Rattle.domain_message_builder.specs.declared.error.PushError.{PushError}
@@ -24,3 +29,42 @@ OptRefused compresses o s capacity e = RecordRefused compresses Additional (opt_
 pub record Truncates (compresses : Bool) (old new : State) : Type 0 where
   pub header : SetsHigh 2 2 1 old.header new.header
   pub rewinds : Rewinds compresses Answer (with_header new.header old) new
+
+-- the OPT record as a message has it
+abbrev pub opt_record : Opt → PushedRecord
+opt_record o = record { head = opt_head o; rdata = o.options }
+
+-- with this OPT record at the end, if there is one
+abbrev pub with_opt : Option Opt → Content → Content
+with_opt None it = it
+with_opt (Some o) it = record_added Additional it (opt_record o)
+
+-- After n octets the OPT record, of eleven octets and its options, exceeds the target's capacity or the limit.
+abbrev pub HasNoRoomFor : Opt → ℕ → ℕ → ℕ → Type 0
+HasNoRoomFor o n capacity limit = (capacity < n + 11 + length o.options) ⊎ (limit < n + 11 + length o.options)
+
+-- The OPT record can't be pushed: there is no room for it, or there are 65,535 additional records.
+abbrev pub CannotAddOpt : Opt → ℕ → State → Type 0
+CannotAddOpt o capacity s = HasNoRoomFor o (length s.octets) capacity s.limit ⊎ (additional_count s.counts ≡ 65535)
+
+-- The answer is cut: a push of it was refused.
+abbrev pub is_cut : {A E : Type 0} → Result A E → Bool
+is_cut (Ok _) = false
+is_cut (Err _) = true
+
+-- The header of an answer: as it was set, and with TC if the answer is cut (RFC 1035, 4.1.1).
+abbrev pub EndsHeader : Bool → Header → Header → Type 0
+EndsHeader false old new = new ≡ old
+EndsHeader true old new = SetsHigh 2 2 1 old new
+
+-- The octets are the answer that was held, and the OPT record at its end, if there is one. TC is set if the answer is cut; it
+-- is set, and no record but the OPT record is there, if that can't be pushed after the others (RFC 6891, 7).
+pub data EndsAnswer (compresses : Bool) (cut : Bool) (opt : Option Opt) (capacity : ℕ) (s : State) (m : List ℕ) : Type 0 where
+  whole : (h : Header) → EndsHeader cut s.header h → ((it : Content) → Holds compresses s it → IsMessageOf h (with_opt opt it) m) → EndsAnswer compresses cut opt capacity s m
+  bare : (o : Opt) → opt ≡ Some o → CannotAddOpt o capacity s → (h : Header) → SetsHigh 2 2 1 s.header h → ((it : Content) → Holds compresses s it → IsMessageOf h (with_opt opt (emptied Answer it)) m) → EndsAnswer compresses cut opt capacity s m
+
+-- Why it wasn't finished: a push was refused, and not for want of room; or the OPT record has no room even after the questions
+-- alone.
+pub data NotEnded {A E : Type 0} (pushed : Result A (PushError E)) (opt : Option Opt) (capacity : ℕ) (s : State) (e : PushError E) : Type 0 where
+  refused : pushed ≡ Err e → is_for_room e ≡ false → NotEnded pushed opt capacity s e
+  no_room : (o : Opt) → opt ≡ Some o → is_for_room e ≡ true → HasNoRoomFor o (place_of Answer s.places) capacity s.limit → NotEnded pushed opt capacity s e

@@ -1,5 +1,5 @@
--- What errors write.
-use Rattle.std.specs.Prelude.{ℕ, List, codes}
+-- What errors say, and what they write.
+use Rattle.std.specs.Prelude.{ℕ, Bool, true, false, List, codes}
 use Rattle.domain_message_builder.specs.declared.error.PushError.{PushError}
 use Rattle.domain_message_builder.specs.declared.error.PushError.TheVariants.{Append, Long, Count, Limit, Order}
 use Rattle.domain_message_builder.specs.declared.error.StartError.{StartError}
@@ -18,3 +18,19 @@ push_error_text (Long _) = codes "record data too long"
 push_error_text Count = codes "too many entries in a section"
 push_error_text Limit = codes "message size exceeded"
 push_error_text Order = codes "a later section was begun"
+
+-- The push was refused for want of room: in the target, or up to the limit.
+abbrev pub is_for_room : {E : Type 0} → PushError E → Bool
+is_for_room (Append _) = true
+is_for_room (Long _) = false
+is_for_room Count = false
+is_for_room Limit = true
+is_for_room Order = false
+
+-- The push was refused before anything was composed.
+abbrev pub is_early : {E : Type 0} → PushError E → Bool
+is_early (Append _) = false
+is_early (Long _) = false
+is_early Count = true
+is_early Limit = false
+is_early Order = true

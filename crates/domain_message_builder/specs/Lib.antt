@@ -1,6 +1,7 @@
 pub mod Answers
 pub mod Contents
 pub mod Cuts
+pub mod Ends
 pub mod Errors
 pub mod Laws
 pub mod Opt
@@ -10,4 +11,5 @@ pub mod Pushes
 pub mod Reading
 pub mod Refusals
 pub mod State
+pub mod Streams
 pub mod Views

@@ -1,5 +1,5 @@
 -- What contracts see of a builder of OPT records.
-use Rattle.std.specs.Prelude.{ℕ}
+use Rattle.std.specs.Prelude.{ℕ, Option, None, Some}
 use Rattle.octseq.specs.declared.octets.Octets.{Ghosts}
 use Rattle.domain_message_builder.specs.Opt.{Opt}
 use Rattle.domain_message_builder.specs.declared.opt.OptBuilder.{OptBuilder}
@@ -11,3 +11,8 @@ opt_of {g = g} b = record { udp_payload_size = b.udp_payload_size; rcode_ext = b
 -- how many octets of options fit in all without new memory
 abbrev pub options_room : {O : Type 0} {g : Ghosts O} → OptBuilder O g → ℕ
 options_room {g = g} b = g.capacity b.options
+
+-- what is seen of a builder, if there is one
+abbrev pub opt_given : {O : Type 0} {g : Ghosts O} → Option (OptBuilder O g) → Option Opt
+opt_given None = None
+opt_given (Some b) = Some (opt_of b)

@@ -1,9 +1,10 @@
 //! A builder of messages.
-ghost use Rattle.std.specs.Prelude.{◌≡◌, ◌≤◌, ◌<◌, ◌+◌, ◌↔◌, ◌++◌, length, take, drop, IfOk, IfErr, IsErr, OnOk, OnErr};
+ghost use Rattle.std.specs.Prelude.{◌≡◌, ◌≤◌, ◌<◌, ◌+◌, ◌↔◌, ◌++◌, true, length, take, drop, IfOk, IfErr, IsErr, OnOk, OnErr};
 ghost use Rattle.std.proofs.Props.{props};
 ghost use Rattle.domain_header.specs.Headers.{header_octets, counts_octets};
 ghost use Rattle.domain_message.specs.RecordParts.{data_of};
 ghost use Rattle.domain_message_builder.specs.Contents.{blank_header, Content, Holds};
+ghost use Rattle.domain_message_builder.specs.Errors.{is_early};
 ghost use Rattle.domain_message_builder.specs.Places.{IsInOrder};
 ghost use Rattle.domain_message_builder.specs.Pushes.{asked, headed, PushesQuestion, PushesRecord, Rewinds, RewindsAll};
 ghost use Rattle.domain_message_builder.specs.Refusals.{NotBegun, QuestionRefused, RecordRefused};
@@ -43,7 +44,7 @@ pub struct MessageBuilder<Target: Composer> {
 }
 
 impl<Target: Composer + Drop> MessageBuilder<Target> {
-    ghost use Rattle.domain_message_builder.specs.Views.{state_of};
+    ghost use Rattle.domain_message_builder.specs.Views.{state_of, target_of};
     ghost use Rattle.domain_message_builder.specs.Pushes.{IsBegun};
 
     /// Begins a message of at most 65,535 octets, as `with_limit` does.
@@ -51,6 +52,8 @@ impl<Target: Composer + Drop> MessageBuilder<Target> {
         ensures ok { IfOk result (λ it. IsBegun Target.compresses 65535 (state_of Target.octets it)) }
         ensures why { IfErr result (λ e.
             NotBegun (Target.octets target) (Target.capacity target) 65535 e) }
+        ensures capacity { IfOk result (λ it.
+            Target.capacity target ≤ Target.capacity (target_of it)) }
     {
         MessageBuilder::with_limit(target, 65535)
     }
@@ -63,6 +66,8 @@ impl<Target: Composer + Drop> MessageBuilder<Target> {
         ensures ok { IfOk result (λ it. IsBegun Target.compresses limit (state_of Target.octets it)) }
         ensures why { IfErr result (λ e.
             NotBegun (Target.octets target) (Target.capacity target) limit e) }
+        ensures capacity { IfOk result (λ it.
+            Target.capacity target ≤ Target.capacity (target_of it)) }
         ensures short { limit < 12 → IsErr result }
         ensures not_empty { 0 < length (Target.octets target) → IsErr result }
     {
@@ -122,6 +127,13 @@ impl<Target: Composer> MessageBuilder<Target> {
         self.target.as_slice().len()
     }
 
+    /// How many octets the message has at most.
+    pub fn limit(&self) -> u16
+        ensures { result ≡ (state_of Target.octets self.now).limit }
+    {
+        self.limit
+    }
+
     /// How many octets are set aside.
     pub fn reserved(&self) -> u16
         ensures { result ≡ (state_of Target.octets self.now).reserved }
@@ -153,7 +165,7 @@ impl<Target: Composer> MessageBuilder<Target> {
     ///
     /// `Order` exactly if a record was pushed, else `Count` exactly if there are 65,535 questions; else `Limit` or
     /// `Append` only if octets that may be composed for it exceed the limit, less what is set aside, or the target's
-    /// room. Nothing is then changed.
+    /// room. Nothing is then changed; after `Order` and `Count` nothing at all, also of what the target remembers.
     pub fn push_question<'a, N: AbsoluteLabels<'a>>(
         &mut self,
         question: &'a Question<N>,
@@ -162,6 +174,7 @@ impl<Target: Composer> MessageBuilder<Target> {
             (state_of Target.octets self.old) (state_of Target.octets self.new)) }
         ensures unchanged { OnErr result
             (state_of Target.octets self.new ≡ state_of Target.octets self.old) }
+        ensures early { IfErr result (λ e. is_early e ≡ true → self.new ≡ self.old) }
         ensures why { IfErr result (λ e. QuestionRefused Target.compresses
             (asked N.labels question.now) (state_of Target.octets self.old)
             (Target.capacity (target_of self.old)) e) }
@@ -190,7 +203,8 @@ impl<Target: Composer> MessageBuilder<Target> {
     ///
     /// `Order` exactly if a later section has a record, else `Count` exactly if this one has 65,535; else `Long` only if
     /// data that may be composed for it has over 65,535 octets, and `Limit` or `Append` only if octets that may be
-    /// composed exceed the limit, less what is set aside, or the target's room. Nothing is then changed.
+    /// composed exceed the limit, less what is set aside, or the target's room. Nothing is then changed; after `Order` and
+    /// `Count` nothing at all, also of what the target remembers.
     pub fn push<'a, N: AbsoluteLabels<'a>, D: ComposeRecordData>(
         &mut self,
         section: Section,
@@ -202,6 +216,7 @@ impl<Target: Composer> MessageBuilder<Target> {
             (state_of Target.octets self.old) (state_of Target.octets self.new)) }
         ensures unchanged { OnErr result
             (state_of Target.octets self.new ≡ state_of Target.octets self.old) }
+        ensures early { IfErr result (λ e. is_early e ≡ true → self.new ≡ self.old) }
         ensures why { IfErr result (λ e. RecordRefused Target.compresses section
             (headed N.labels D.type_number resource.now)
             (D.composed (data_of resource.now) Target.compresses)
@@ -227,6 +242,7 @@ impl<Target: Composer> MessageBuilder<Target> {
             (state_of Target.octets self.new)) }
         ensures unchanged { OnErr result
             (state_of Target.octets self.new ≡ state_of Target.octets self.old) }
+        ensures early { IfErr result (λ e. is_early e ≡ true → self.new ≡ self.old) }
         ensures why { IfErr result (λ e. RecordRefused Target.compresses section
             (headed N.labels D.type_number resource.now)
             (D.composed (data_of resource.now) Target.compresses)
@@ -286,6 +302,7 @@ impl<Target: Composer> MessageBuilder<Target> {
             ≡ header_octets (state_of Target.octets self).header
             ++ counts_octets (state_of Target.octets self).counts }
         ensures rest { drop 12 (Target.octets result) ≡ drop 12 (Target.octets (target_of self)) }
+        ensures size { length (Target.octets result) ≡ length (Target.octets (target_of self)) }
         ensures within { length (Target.octets result) ≤ (state_of Target.octets self).limit }
     {
         let MessageBuilder {

@@ -47,6 +47,21 @@ pub enum PushError<E> {
     Order,
 }
 
+impl<E> PushError<E> {
+    ghost use Rattle.std.specs.Prelude.{◌≡◌};
+    ghost use Rattle.domain_message_builder.specs.Errors.{is_for_room};
+
+    /// Whether it was for want of room: in the target, or up to the limit of the message.
+    pub fn is_for_room(&self) -> bool
+        ensures { result ≡ is_for_room self.now }
+    {
+        match self {
+            PushError::Append(_) | PushError::Limit => true,
+            PushError::Long(_) | PushError::Count | PushError::Order => false,
+        }
+    }
+}
+
 impl<E> fmt::Display for PushError<E> {
     ghost use Rattle.domain_message_builder.specs.Errors.{push_error_text};
 

@@ -9,6 +9,7 @@ pub mod error;
 pub mod laws;
 pub mod opt;
 pub mod places;
+mod stream;
 mod truncating;
 
 pub use builder::MessageBuilder;
