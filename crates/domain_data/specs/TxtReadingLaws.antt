@@ -1,10 +1,13 @@
 -- Text in a message is a reading.
-use Rattle.std.specs.Prelude.{◌≡◌, ℕ, List, length, drop}
-use Rattle.std.proofs.Common.{arith, ap, sym, ◌∙◌, length-drop}
+use Rattle.std.specs.Prelude.{◌≡◌, ℕ, ◌<◌, ◌≤◌, List, ◌++◌, length, drop, refl}
+use Rattle.std.proofs.Common.{arith, ap, sym, ◌∙◌, length-append, length-drop}
+use Rattle.std.proofs.Math.Seq.{drop-append_seam}
 use Rattle.domain_wire.specs.declared.error.ParseError.{ParseError}
 use Rattle.domain_wire.specs.Refusals.{refusal}
 use Rattle.domain_wire.specs.Values.{IsReading}
+use Rattle.domain_fields.specs.ReadBack.{IsReadBackWhole}
 use Rattle.domain_data.specs.Cutting.{strings_once, whole_or_cut}
+use Rattle.domain_data.specs.Strings.{strings_in, HasStrings}
 use Rattle.domain_data.specs.TxtReading.{TextAt, NoText}
 use Rattle.domain_data.specs.TxtReading.NoText.{none, cut, long}
 
@@ -32,3 +35,18 @@ text_reading = record {
   not_both = text_or_fault;
   one_fault = one_told;
 }
+
+-- text that was composed is read back as its strings
+pub text_read_back : (octets : List ℕ) → HasStrings octets → 0 < length octets → length octets ≤ 65535 → IsReadBackWhole (λ _ _ s. s ≡ octets) TextAt (λ it. it ≡ strings_in octets)
+text_read_back octets has some few compresses t s same =
+    let here : drop (length t) (t ++ s) ≡ octets = drop-append_seam t s ∙ same in (
+      strings_in octets,
+      record {
+        octets = here ∙ sym has.0;
+        strings = has.1;
+        some = omega (arith, some, ap length here);
+        few = omega (arith, few, ap length here);
+        end = sym (length-append t s);
+      },
+      refl,
+    )

@@ -5,13 +5,13 @@ ghost use Rattle.std.specs.Ordering.{nat_cmp, on};
 ghost use Rattle.domain_rdata.specs.Rtypes.{has_lowercase_names};
 
 use crate::fields::FieldsData;
-use domain_fields::OrderedField;
+use domain_fields::OrderedLast;
 use domain_rdata::Rtype;
 use domain_wire::CanonicalOrd;
 use std::cmp::Ordering;
 
 /// The order of the octets of the canonical forms from the left; a missing octet comes before any (RFC 4034, 6.3).
-impl<const TYPE: u16, F: OrderedField> CanonicalOrd for FieldsData<TYPE, F> {
+impl<const TYPE: u16, F: OrderedLast> CanonicalOrd for FieldsData<TYPE, F> {
     ghost use Rattle.domain_data.specs.Views.{fields_of};
 
     ghost value_order = { on (λ it. F.uncompressed (fields_of it) (has_lowercase_names TYPE)) (slice_cmp nat_cmp) };
@@ -20,6 +20,6 @@ impl<const TYPE: u16, F: OrderedField> CanonicalOrd for FieldsData<TYPE, F> {
 
     fn canonical_cmp(&self, other: &FieldsData<TYPE, F>) -> Ordering {
         let lowercase = Rtype::from_int(TYPE).has_lowercase_names();
-        self.fields.canonical_field_cmp(&other.fields, lowercase)
+        self.fields.canonical_last_cmp(&other.fields, lowercase)
     }
 }

@@ -16,14 +16,16 @@ pub mod later;
 pub mod mail;
 mod parse;
 mod quoted;
+mod read_back;
 pub mod txt;
 pub mod txt_iter;
 
 pub use address::{A, Aaaa};
 pub use all::AllRecordData;
 pub use domain_fields::{
-    DataField, DataName, FieldError, FlattenField, NameField, OrderedField, ReadField, Sequence,
-    UncompressedNameField, field, name_field, order, read, read_all, sequence,
+    DataField, DataName, FieldError, FlattenField, NameField, OrderedField, OrderedLast,
+    ReadBackData, ReadBackField, ReadBackLast, ReadField, Sequence, UncompressedNameField, field,
+    name_field, order, read, read_all, sequence,
 };
 pub use fields::FieldsData;
 pub use host::{Cname, Dname, Mx, Ns, Ptr, Soa, Srv};

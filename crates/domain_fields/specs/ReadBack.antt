@@ -7,6 +7,7 @@ use Rattle.domain_label.specs.Wire.{wire, IsAbsoluteName}
 use Rattle.domain_reading.proofs.Reading.{octet_more, label_more, pointer_more, names_more}
 use Rattle.domain_reading.specs.Grammar.{Flat, EncodingEnds, Stop, StopAt}
 use Rattle.domain_reading.specs.Grammar.Stop.{root, pointer}
+use Rattle.domain_rdata.specs.AnyData.{IsAllThatIsLeft}
 use Rattle.domain_rdata.specs.FlatNames.{wire_reads_back}
 use Rattle.domain_rdata.specs.RecordData.{NameOctets}
 use Rattle.domain_wire.specs.Values.{FixedAt}
@@ -40,7 +41,7 @@ name_read_back ls compresses t s u done = (done.read.stands.0, record { named = 
 pub wire_read_back : (ls : List (List ℕ)) → IsAbsoluteName ls → IsReadBack (λ _ _ s. s ≡ wire ls) NameFieldAt (λ it. lowercase_labels it ≡ lowercase_labels ls)
 wire_read_back ls name compresses t s u same = name_read_back ls compresses t s u (subst (λ o. NameOctets ls compresses t o) (sym same) (record { read = wire_reads_back t ls name; flat = λ _. refl }))
 
-slice_after : (a b c : List ℕ) (p e : ℕ) → p ≡ length a → e ≡ length a + length b → slice_range (a ++ (b ++ c)) p e ≡ b
+pub slice_after : (a b c : List ℕ) (p e : ℕ) → p ≡ length a → e ≡ length a + length b → slice_range (a ++ (b ++ c)) p e ≡ b
 slice_after a b c p e start end =
     let k : e - p ≡ length b = omega (arith, start, end) in
     let d : drop p (a ++ (b ++ c)) ≡ b ++ c = ap (λ n. drop n (a ++ (b ++ c))) start ∙ drop-append_seam a (b ++ c) in
@@ -80,9 +81,44 @@ both_read_back First Rest FirstAt RestAt LikeFirst LikeRest first rest compresse
     let two_at = subst (λ e. RestAt (t ++ s ++ u) (length t + length a) two.0 e) end two_from in
     ((one.0, two.0), record { middle = length t + length a; first = one_at; rest = two_at }, (one.2, two.2))
 
--- data that has all octets up to the end
-pub whole_read_back : {A : Type 0} (May : Bool → List ℕ → List ℕ → Type 0) (At : List ℕ → ℕ → A → ℕ → Type 0) (Like : A → Type 0) → IsReadBack May At Like → IsReadBackWhole May (AllAt At) Like
-whole_read_back May At Like law compresses t s may =
+-- a field that ends where its own octets tell, as the last one
+pub last_read_back : {A : Type 0} (May : Bool → List ℕ → List ℕ → Type 0) (At : List ℕ → ℕ → A → ℕ → Type 0) (Like : A → Type 0) → IsReadBack May At Like → IsReadBackWhole May At Like
+last_read_back May At Like law compresses t s may =
     let seen = law compresses t s [] may in
-    let at = subst (λ m. At m (length t) seen.0 (length t + length s)) (append-nil (t ++ s)) seen.1 in
-    (seen.0, record { fields = at; whole = sym (length-append t s) }, seen.2)
+    (seen.0, subst (λ m. At m (length t) seen.0 (length t + length s)) (append-nil (t ++ s)) seen.1, seen.2)
+
+-- a field, and those after it up to the last one
+pub both_last_read_back : {A B : Type 0} (First Rest : Bool → List ℕ → List ℕ → Type 0) (FirstAt : List ℕ → ℕ → A → ℕ → Type 0) (RestAt : List ℕ → ℕ → B → ℕ → Type 0) (LikeFirst : A → Type 0) (LikeRest : B → Type 0) → IsReadBack First FirstAt LikeFirst → IsReadBackWhole Rest RestAt LikeRest
+    → IsReadBackWhole (λ c. BothComposed (First c) (Rest c)) (BothAt FirstAt RestAt) (λ it. LikeFirst it.0 × LikeRest it.1)
+both_last_read_back First Rest FirstAt RestAt LikeFirst LikeRest first rest compresses t s both =
+    let a = both.first in
+    let b = both.rest in
+    let whole : t ++ a ++ b ≡ t ++ s = append_assoc t a b ∙ ap (λ x. t ++ x) (sym both.all) in
+    let one = first compresses t a b both.first_allowed in
+    let two = rest compresses (t ++ a) b both.rest_allowed in
+    let seam : length (t ++ a) ≡ length t + length a = length-append t a in
+    let end : length (t ++ a) + length b ≡ length t + length s = sym (length-append (t ++ a) b) ∙ (ap length whole ∙ length-append t s) in
+    let one_at = subst (λ m. FirstAt m (length t) one.0 (length t + length a)) whole one.1 in
+    let two_in = subst (λ m. RestAt m (length (t ++ a)) two.0 (length (t ++ a) + length b)) whole two.1 in
+    let two_from = subst (λ p. RestAt (t ++ s) p two.0 (length (t ++ a) + length b)) seam two_in in
+    let two_at = subst (λ e. RestAt (t ++ s) (length t + length a) two.0 e) end two_from in
+    ((one.0, two.0), record { middle = length t + length a; first = one_at; rest = two_at }, (one.2, two.2))
+
+-- fields that have all octets up to the end
+pub all_read_back : {A : Type 0} (May : Bool → List ℕ → List ℕ → Type 0) (At : List ℕ → ℕ → A → ℕ → Type 0) (Like : A → Type 0) → IsReadBackWhole May At Like → IsReadBackWhole May (AllAt At) Like
+all_read_back May At Like law compresses t s may =
+    let seen = law compresses t s may in
+    (seen.0, record { fields = seen.1; whole = sym (length-append t s) }, seen.2)
+
+-- octets that are all that is left
+pub left_read_back : (octets : List ℕ) → length octets ≤ 65535 → IsReadBackWhole (λ _ _ s. s ≡ octets) IsAllThatIsLeft (λ it. it ≡ octets)
+left_read_back octets few compresses t s same = (
+  octets,
+  record {
+    inside = omega (arith, length-append t s);
+    all = sym (drop-append_seam t s ∙ same);
+    few = few;
+    after = sym (length-append t s);
+  },
+  refl,
+)

@@ -1,7 +1,8 @@
 //! Fields of record data.
-ghost use Rattle.std.specs.Prelude.{◌≡◌, ℕ, ◌++◌, ◌+◌, ◌<◌, ◌≤◌, List, length, OnOk, OnErr, Bool, false, Option, Some, refl};
+ghost use Rattle.std.specs.Prelude.{◌≡◌, ℕ, ◌++◌, ◌∷◌, [], ◌+◌, ◌<◌, ◌≤◌, List, length, OnOk, OnErr, Bool, false, Option, Some, refl};
 ghost use Rattle.domain_rdata.specs.ReadBack.{Appended, Exceeds};
 ghost use Rattle.domain_fields.specs.FieldLaws.{fixed_size};
+ghost use Rattle.domain_fields.specs.Parts.{Part, no_name, parts_octets, one_part};
 
 use domain_rdata::Composer;
 use domain_wire::FixedLen;
@@ -11,7 +12,12 @@ use domain_wire::FixedLen;
 /// Numbers and addresses have the same number of octets whatever they are. A name may be written shorter,
 /// where the target writes names shorter and the type of the record allows it.
 pub trait DataField {
+    /// The names and the other octets that the field is made of, one after the other.
+    ghost parts: { Self → List Part };
+
     /// The octets of the field with no name compressed: each name in lowercase if so, else with its case.
+    ///
+    /// By the law `forms` they are those of its parts, so the two forms differ in the case of names alone.
     ghost uncompressed: { Self → Bool → List ℕ };
 
     /// The octets that may be appended to these octets of a target, which may write names shorter or not.
@@ -59,6 +65,9 @@ pub trait DataField {
         ensures full { OnErr result (Target.capacity target.old < length (Target.octets target.old) + length (uncompressed self.now lowercase)) }
         ensures capacity { Target.capacity target.old ≤ Target.capacity target.new };
 
+    /// In both forms the octets are those of the parts: names in lowercase, or with their case, and other octets as they are.
+    ghost forms: { (it : Self) (lowercase : Bool) → uncompressed it lowercase ≡ parts_octets lowercase (parts it) };
+
     /// The field may always be written with no name compressed.
     ghost plain: { (it : Self) (compresses : Bool) (t : List ℕ) → composed it compresses t (uncompressed it false) };
 
@@ -74,6 +83,8 @@ pub trait DataField {
 
 /// A number or an address: the octets are the same in each form.
 impl<T: FixedLen> DataField for T {
+    ghost parts = { λ it. no_name (T.composed_octets it) ∷ [] };
+
     ghost uncompressed = { λ it _. T.composed_octets it };
 
     ghost composed = { λ it _ _ s. s ≡ T.composed_octets it };
@@ -100,6 +111,8 @@ impl<T: FixedLen> DataField for T {
     ) -> Result<(), Target::AppendError> {
         self.compose(target)
     }
+
+    ghost forms = { λ it lowercase. one_part lowercase (no_name (T.composed_octets it)) };
 
     ghost plain = { λ _ _ _. refl };
 

@@ -24,6 +24,16 @@ pub trait FlattenField<Target>: Sized {
         ensures err { OnErr result (may_refuse self) };
 }
 
+impl FlattenField<u8> for u8 {
+    ghost same = { λ it made. made ≡ it };
+
+    ghost may_refuse = { λ _. ⊥ };
+
+    fn flatten_field(self, _alloc: Global) -> Result<u8, ShortBuf> {
+        Ok(self)
+    }
+}
+
 impl FlattenField<u16> for u16 {
     ghost same = { λ it made. made ≡ it };
 

@@ -1,5 +1,5 @@
 //! Names in record data.
-ghost use Rattle.std.specs.Prelude.{◌≡◌, ◌++◌, ◌+◌, ◌<◌, ◌≤◌, ℕ, List, length, OnOk, OnErr, None, Some, if◌then◌else◌, refl};
+ghost use Rattle.std.specs.Prelude.{◌≡◌, ◌++◌, ◌∷◌, [], ◌+◌, ◌<◌, ◌≤◌, ℕ, List, length, OnOk, OnErr, None, Some, if◌then◌else◌, refl};
 ghost use Rattle.domain_label.specs.Lowercase.{lowercase_labels};
 ghost use Rattle.domain_label.specs.Wire.{wire};
 ghost use Rattle.domain_list.specs.Order.{composed_order, lowercase_composed_order};
@@ -9,6 +9,7 @@ ghost use Rattle.domain_rdata.specs.RecordData.{NameOctets};
 ghost use Rattle.domain_fields.specs.Cases.{cased_labels};
 ghost use Rattle.domain_fields.specs.FieldLaws.{fixed_size, cased_size, name_size, wire_octets};
 ghost use Rattle.domain_fields.specs.Names.{NameFieldAt, NoNameField, name_reading};
+ghost use Rattle.domain_fields.specs.Parts.{a_name, one_part};
 ghost use Rattle.domain_fields.specs.Reading.{any_reading};
 
 use crate::field::DataField;
@@ -177,6 +178,8 @@ impl<'a> ReadField<'a, ParseError> for NameField<ParsedName<&'a [u8]>> {
 }
 
 impl<N: DataName> DataField for NameField<N> {
+    ghost parts = { λ it. a_name (N.labels it.name) ∷ [] };
+
     ghost uncompressed = { λ it lowercase. wire (cased_labels lowercase (N.labels it.name)) };
 
     ghost composed = { λ it c t s. NameOctets (N.labels it.name) c t s };
@@ -206,6 +209,8 @@ impl<N: DataName> DataField for NameField<N> {
     ) -> Result<(), Target::AppendError> {
         self.name.append_cased(lowercase, target)
     }
+
+    ghost forms = { λ it lowercase. one_part lowercase (a_name (N.labels it.name)) };
 
     ghost plain = { λ it c t. wire_octets (N.labels it.name) c t (N.absolute it.name) };
 
@@ -248,6 +253,8 @@ impl<'a> ReadField<'a, ParseError> for UncompressedNameField<ParsedName<&'a [u8]
 }
 
 impl<N: DataName> DataField for UncompressedNameField<N> {
+    ghost parts = { λ it. a_name (N.labels it.name) ∷ [] };
+
     ghost uncompressed = { λ it lowercase. wire (cased_labels lowercase (N.labels it.name)) };
 
     ghost composed = { λ it _ _ s. s ≡ wire (N.labels it.name) };
@@ -274,6 +281,8 @@ impl<N: DataName> DataField for UncompressedNameField<N> {
     ) -> Result<(), Target::AppendError> {
         self.name.append_cased(lowercase, target)
     }
+
+    ghost forms = { λ it lowercase. one_part lowercase (a_name (N.labels it.name)) };
 
     ghost plain = { λ _ _ _. refl };
 

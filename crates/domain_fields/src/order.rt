@@ -10,6 +10,8 @@ use domain_wire::net::{Ipv4Addr, Ipv6Addr};
 use std::cmp::Ordering;
 
 /// A field whose canonical form ends where its own octets tell, so that data is compared field by field.
+///
+/// The last field of data has [`OrderedLast`], too, by which the data is ordered.
 pub trait OrderedField: DataField {
     /// The order of the octets of the canonical forms from the left; what begins another comes first (RFC 4034, 6.3).
     ///
@@ -18,6 +20,25 @@ pub trait OrderedField: DataField {
         ensures order { result ≡ slice_cmp nat_cmp (Self.uncompressed self.now lowercase) (Self.uncompressed other.now lowercase) }
         // With other fields after them, these are looked at only where the two are the same.
         ensures followed { (s t : List ℕ) → slice_cmp nat_cmp (Self.uncompressed self.now lowercase ++ s) (Self.uncompressed other.now lowercase ++ t) ≡ ordering_then result (slice_cmp nat_cmp s t) };
+}
+
+/// A field that is ordered where it is the last one: nothing follows it.
+///
+/// Each field that is an [`OrderedField`] is; a field that takes all that is left can be.
+pub trait OrderedLast: DataField {
+    /// The order of the octets of the canonical forms from the left; what begins another comes first (RFC 4034, 6.3).
+    ///
+    /// Names are in lowercase there if `lowercase`, which the type of the record tells.
+    fn canonical_last_cmp(&self, other: &Self, lowercase: bool) -> Ordering
+        ensures { result ≡ slice_cmp nat_cmp (Self.uncompressed self.now lowercase) (Self.uncompressed other.now lowercase) };
+}
+
+impl OrderedField for u8 {
+    fn canonical_field_cmp(&self, other: &u8, _lowercase: bool) -> Ordering {
+        self.to_be_bytes()
+            .as_slice()
+            .cmp(other.to_be_bytes().as_slice())
+    }
 }
 
 impl OrderedField for u16 {
@@ -67,6 +88,52 @@ impl<A: OrderedField, B: OrderedField> OrderedField for Sequence<A, B> {
     fn canonical_field_cmp(&self, other: &Sequence<A, B>, lowercase: bool) -> Ordering {
         match self.first.canonical_field_cmp(&other.first, lowercase) {
             Ordering::Equal => self.rest.canonical_field_cmp(&other.rest, lowercase),
+            order => order,
+        }
+    }
+}
+
+impl OrderedLast for u16 {
+    fn canonical_last_cmp(&self, other: &u16, lowercase: bool) -> Ordering {
+        self.canonical_field_cmp(other, lowercase)
+    }
+}
+
+impl OrderedLast for u32 {
+    fn canonical_last_cmp(&self, other: &u32, lowercase: bool) -> Ordering {
+        self.canonical_field_cmp(other, lowercase)
+    }
+}
+
+impl OrderedLast for Ipv4Addr {
+    fn canonical_last_cmp(&self, other: &Ipv4Addr, lowercase: bool) -> Ordering {
+        self.canonical_field_cmp(other, lowercase)
+    }
+}
+
+impl OrderedLast for Ipv6Addr {
+    fn canonical_last_cmp(&self, other: &Ipv6Addr, lowercase: bool) -> Ordering {
+        self.canonical_field_cmp(other, lowercase)
+    }
+}
+
+impl<N: DataName> OrderedLast for NameField<N> {
+    fn canonical_last_cmp(&self, other: &NameField<N>, lowercase: bool) -> Ordering {
+        self.canonical_field_cmp(other, lowercase)
+    }
+}
+
+impl<N: DataName> OrderedLast for UncompressedNameField<N> {
+    fn canonical_last_cmp(&self, other: &UncompressedNameField<N>, lowercase: bool) -> Ordering {
+        self.canonical_field_cmp(other, lowercase)
+    }
+}
+
+/// The first fields, and the rest where these are the same.
+impl<A: OrderedField, B: OrderedLast> OrderedLast for Sequence<A, B> {
+    fn canonical_last_cmp(&self, other: &Sequence<A, B>, lowercase: bool) -> Ordering {
+        match self.first.canonical_field_cmp(&other.first, lowercase) {
+            Ordering::Equal => self.rest.canonical_last_cmp(&other.rest, lowercase),
             order => order,
         }
     }

@@ -1,6 +1,6 @@
 //! Reading fields of record data.
 ghost use Rattle.std.specs.Prelude.{◌≡◌, ℕ, ◌<◌, List, codes, length, IfOk, IfErr, OnOk, OnErr};
-ghost use Rattle.std.specs.Int.{w16, w32, from_be_bytes};
+ghost use Rattle.std.specs.Int.{w8, w16, w32, from_be_bytes};
 ghost use Rattle.octseq.specs.Parsing.{message, position, MovesTo};
 ghost use Rattle.domain_wire.specs.Addresses.{ipv4_of, ipv6_of};
 ghost use Rattle.domain_wire.specs.FixedLength.{fixed_reading};
@@ -79,6 +79,22 @@ pub fn read_all<'a, E: FieldError, F: ReadField<'a, E> + Drop>(
     }
     *parser = ahead;
     Ok(value)
+}
+
+impl<'a> ReadField<'a, ParseError> for u8 {
+    ghost View = { ℕ };
+
+    ghost model = { λ value. value };
+
+    ghost encodes = { FixedAt 1 (from_be_bytes w8) };
+
+    ghost fails_with = { ShortAt 1 };
+
+    fn read_field(parser: &mut Parser<'a>) -> Result<u8, ParseError> {
+        u8::parse(parser)
+    }
+
+    ghost lawful = { any_reading (fixed_reading 1 (from_be_bytes w8)) };
 }
 
 impl<'a> ReadField<'a, ParseError> for u16 {

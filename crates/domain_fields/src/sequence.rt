@@ -1,5 +1,6 @@
 //! One field after another.
 ghost use Rattle.std.specs.Prelude.{◌++◌, false};
+ghost use Rattle.domain_fields.specs.Parts.{both_parts};
 ghost use Rattle.domain_fields.specs.Sequences.{BothComposed, BothWritten, BothAt, NotBoth, both_reading, both_len, both_plain, both_flat, both_sized, both_canonical};
 
 use crate::field::DataField;
@@ -44,6 +45,8 @@ impl<'a, E: FieldError, A: ReadField<'a, E> + Drop, B: ReadField<'a, E> + Drop> 
 
 /// The octets of the first field, and then those of the rest.
 impl<A: DataField, B: DataField> DataField for Sequence<A, B> {
+    ghost parts = { λ it. A.parts it.first ++ B.parts it.rest };
+
     ghost uncompressed = { λ it lowercase. A.uncompressed it.first lowercase ++ B.uncompressed it.rest lowercase };
 
     ghost composed = { λ it c. BothComposed (A.composed it.first c) (B.composed it.rest c) };
@@ -95,6 +98,8 @@ impl<A: DataField, B: DataField> DataField for Sequence<A, B> {
         }
         Ok(())
     }
+
+    ghost forms = { λ it lowercase. both_parts (A.uncompressed it.first lowercase) (B.uncompressed it.rest lowercase) lowercase (A.parts it.first) (B.parts it.rest) (A.forms it.first lowercase) (B.forms it.rest lowercase) };
 
     ghost plain = { λ it c t. both_plain (A.composed it.first c) (B.composed it.rest c) t (A.uncompressed it.first false) (B.uncompressed it.rest false) (A.plain it.first c t) (B.plain it.rest c (t ++ A.uncompressed it.first false)) };
 
