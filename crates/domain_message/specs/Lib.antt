@@ -3,6 +3,7 @@ pub mod AliasLaws
 pub mod AliasParts
 pub mod Answering
 pub mod Composing
+pub mod MayCompose
 pub mod Entries
 pub mod Facts
 pub mod HeaderLaws

@@ -3,7 +3,8 @@ ghost use Rattle.std.specs.Prelude.{◌≡◌, ◌≤◌, Some, OnOk, OnErr};
 ghost use Rattle.domain_header.specs.Values.{class_number};
 ghost use Rattle.domain_rdata.specs.ReadBack.{Appended, Exceeds};
 ghost use Rattle.domain_rdata.specs.Rtypes.{rtype_number};
-ghost use Rattle.domain_message.specs.Composing.{BeginsWithName, type_and_class, QuestionOctets};
+ghost use Rattle.domain_message.specs.Composing.{BeginsWithName, type_and_class};
+ghost use Rattle.domain_message.specs.MayCompose.{after_qname, MayComposeQuestion};
 ghost use Rattle.domain_message.specs.Entries.{QuestionFields, QuestionAt, NoQuestion};
 ghost use Rattle.domain_message.specs.Readings.{question_reading};
 ghost use Rattle.domain_message.specs.Texts.{question_text};
@@ -131,10 +132,10 @@ impl<'a, N: AbsoluteLabels<'a>> Question<N> {
         &'a self,
         target: &mut Target,
     ) -> Result<(), Target::AppendError>
-        ensures ok { OnOk result (Appended (QuestionOctets (N.labels (question_name self.now)) (rtype_number (question_type self.now)) (class_number (question_class self.now)) Target.compresses (Target.octets target.old)) (Target.octets target.old) (Target.octets target.new)) }
-        ensures name { OnOk result (Appended (BeginsWithName (Target.may_append target.old (N.labels (question_name self.now))) (type_and_class (rtype_number (question_type self.now)) (class_number (question_class self.now)))) (Target.octets target.old) (Target.octets target.new)) }
+        ensures ok { OnOk result (Appended (MayComposeQuestion N.labels self.now Target.compresses (Target.octets target.old)) (Target.octets target.old) (Target.octets target.new)) }
+        ensures name { OnOk result (Appended (BeginsWithName (Target.may_append target.old (N.labels (question_name self.now))) (after_qname self.now)) (Target.octets target.old) (Target.octets target.new)) }
         ensures unchanged { OnErr result (Target.octets target.new ≡ Target.octets target.old) }
-        ensures full { OnErr result (Exceeds (QuestionOctets (N.labels (question_name self.now)) (rtype_number (question_type self.now)) (class_number (question_class self.now)) Target.compresses (Target.octets target.old)) (Target.octets target.old) (Target.capacity target.old)) }
+        ensures full { OnErr result (Exceeds (MayComposeQuestion N.labels self.now Target.compresses (Target.octets target.old)) (Target.octets target.old) (Target.capacity target.old)) }
         ensures capacity { Target.capacity target.old ≤ Target.capacity target.new }
     {
         let start = target.as_slice().len();

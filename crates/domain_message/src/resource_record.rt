@@ -8,7 +8,8 @@ ghost use Rattle.std.specs.Int.{w16, w32, to_be_bytes};
 ghost use Rattle.domain_rdata.specs.ReadBack.{Appended};
 ghost use Rattle.domain_rdata.specs.Rtypes.{rtype_number};
 ghost use Rattle.domain_header.specs.Values.{class_number, ttl_seconds};
-ghost use Rattle.domain_message.specs.Composing.{BeginsWithName, before_length, RecordOctets, RecordRefused};
+ghost use Rattle.domain_message.specs.Composing.{BeginsWithName, before_length};
+ghost use Rattle.domain_message.specs.MayCompose.{after_owner, MayComposeRecord, MayRefuseRecord};
 ghost use Rattle.domain_message.specs.Texts.{text_before_data};
 
 use crate::rtype_text::RtypeText;
@@ -169,10 +170,10 @@ impl<'a, N: AbsoluteLabels<'a>, D: ComposeRecordData> Record<N, D> {
         &'a self,
         target: &mut Target,
     ) -> Result<(), ComposeRdataError<Target::AppendError>>
-        ensures ok { OnOk result (Appended (RecordOctets (N.labels (owner_of self.now)) (D.type_number (data_of self.now)) (class_number (class_of self.now)) (ttl_seconds (ttl_of self.now)) (D.composed (data_of self.now) Target.compresses) Target.compresses (Target.octets target.old)) (Target.octets target.old) (Target.octets target.new)) }
-        ensures name { OnOk result (Appended (BeginsWithName (Target.may_append target.old (N.labels (owner_of self.now))) (before_length (D.type_number (data_of self.now)) (class_number (class_of self.now)) (ttl_seconds (ttl_of self.now)))) (Target.octets target.old) (Target.octets target.new)) }
+        ensures ok { OnOk result (Appended (MayComposeRecord N.labels D.type_number D.composed self.now Target.compresses (Target.octets target.old)) (Target.octets target.old) (Target.octets target.new)) }
+        ensures name { OnOk result (Appended (BeginsWithName (Target.may_append target.old (N.labels (owner_of self.now))) (after_owner D.type_number self.now)) (Target.octets target.old) (Target.octets target.new)) }
         ensures unchanged { OnErr result (Target.octets target.new ≡ Target.octets target.old) }
-        ensures why { IfErr result (λ e. RecordRefused (N.labels (owner_of self.now)) (D.type_number (data_of self.now)) (class_number (class_of self.now)) (ttl_seconds (ttl_of self.now)) (D.composed (data_of self.now) Target.compresses) Target.compresses (Target.octets target.old) (Target.capacity target.old) e) }
+        ensures why { IfErr result (λ e. MayRefuseRecord N.labels D.type_number D.composed self.now Target.compresses (Target.octets target.old) (Target.capacity target.old) e) }
         ensures capacity { Target.capacity target.old ≤ Target.capacity target.new }
     {
         let start = target.as_slice().len();
