@@ -10,7 +10,7 @@ use crate::names::{
     put_prel, put_room, put_sized,
 };
 use crate::records::{put_lengths, put_longdata, put_rdata, put_rdatacmp};
-use conformance_answer::{Answer, Fields};
+use conformance_answer::{Answer, Fields, is};
 
 /// Answers a line whose word is one of these; else it is false.
 pub fn answer_parsed(fields: Fields<'_>, out: &mut Answer) -> bool {
@@ -32,12 +32,19 @@ fn answer_message(fields: Fields<'_>, out: &mut Answer) -> bool {
         fields.expect(4, out);
         end = fields.number(3, out);
     }
-    let octets = octets.as_slice();
-    match fields.at(0) {
-        b"parse" => put_parse(out, octets, place, end),
-        b"skip" => put_skip(out, octets, place, end),
-        b"nparse" => put_nparse(out, octets, place, end),
-        _ => return out.is_other_word(),
+    call_on_message(fields.at(0), octets.as_slice(), place, end, out) || out.is_other_word()
+}
+
+/// The calls of `answer_message`, by the word: false where it names none of them.
+fn call_on_message(word: &[u8], octets: &[u8], place: usize, end: usize, out: &mut Answer) -> bool {
+    if is(word, b"parse") {
+        put_parse(out, octets, place, end);
+    } else if is(word, b"skip") {
+        put_skip(out, octets, place, end);
+    } else if is(word, b"nparse") {
+        put_nparse(out, octets, place, end);
+    } else {
+        return false;
     }
     true
 }
@@ -47,13 +54,21 @@ fn answer_place(fields: Fields<'_>, out: &mut Answer) -> bool {
     fields.expect(3, out);
     let octets = fields.octets(1, out);
     let place = fields.number(2, out);
-    let octets = octets.as_slice();
-    match fields.at(0) {
-        b"walk" => put_walk(out, octets, place),
-        b"parentswalk" => put_parentswalk(out, octets, place),
-        b"pforms" => put_parsed_forms(out, octets, place),
-        b"fromflat" => put_fromflat(out, octets, place),
-        _ => return out.is_other_word(),
+    call_on_place(fields.at(0), octets.as_slice(), place, out) || out.is_other_word()
+}
+
+/// The calls of `answer_place`, by the word: false where it names none of them.
+fn call_on_place(word: &[u8], octets: &[u8], place: usize, out: &mut Answer) -> bool {
+    if is(word, b"walk") {
+        put_walk(out, octets, place);
+    } else if is(word, b"parentswalk") {
+        put_parentswalk(out, octets, place);
+    } else if is(word, b"pforms") {
+        put_parsed_forms(out, octets, place);
+    } else if is(word, b"fromflat") {
+        put_fromflat(out, octets, place);
+    } else {
+        return false;
     }
     true
 }
@@ -64,15 +79,31 @@ fn answer_places(fields: Fields<'_>, out: &mut Answer) -> bool {
     let octets = fields.octets(1, out);
     let first = fields.number(2, out);
     let second = fields.number(3, out);
-    let octets = octets.as_slice();
-    match fields.at(0) {
-        b"parselimit" => put_limited(out, octets, first, second),
-        b"rest" => put_rest(out, octets, first, second),
-        b"pcmp" => put_pcmp(out, octets, first, second),
-        b"pcanonical" => put_parsed_canonical(out, octets, first, second),
-        b"room" => put_room(out, octets, first, second),
-        b"sized" => put_sized(out, octets, first, second),
-        _ => return out.is_other_word(),
+    call_on_places(fields.at(0), octets.as_slice(), first, second, out) || out.is_other_word()
+}
+
+/// The calls of `answer_places`, by the word: false where it names none of them.
+fn call_on_places(
+    word: &[u8],
+    octets: &[u8],
+    first: usize,
+    second: usize,
+    out: &mut Answer,
+) -> bool {
+    if is(word, b"parselimit") {
+        put_limited(out, octets, first, second);
+    } else if is(word, b"rest") {
+        put_rest(out, octets, first, second);
+    } else if is(word, b"pcmp") {
+        put_pcmp(out, octets, first, second);
+    } else if is(word, b"pcanonical") {
+        put_parsed_canonical(out, octets, first, second);
+    } else if is(word, b"room") {
+        put_room(out, octets, first, second);
+    } else if is(word, b"sized") {
+        put_sized(out, octets, first, second);
+    } else {
+        return false;
     }
     true
 }
@@ -83,12 +114,29 @@ fn answer_beside(fields: Fields<'_>, out: &mut Answer) -> bool {
     let octets = fields.octets(1, out);
     let place = fields.number(2, out);
     let other = fields.octets(3, out);
-    let octets = octets.as_slice();
-    let other = other.as_slice();
-    match fields.at(0) {
-        b"pname" => put_pname(out, octets, place, other),
-        b"prel" => put_prel(out, octets, place, other),
-        _ => return out.is_other_word(),
+    call_on_beside(
+        fields.at(0),
+        octets.as_slice(),
+        place,
+        other.as_slice(),
+        out,
+    ) || out.is_other_word()
+}
+
+/// The calls of `answer_beside`, by the word: false where it names none of them.
+fn call_on_beside(
+    word: &[u8],
+    octets: &[u8],
+    place: usize,
+    other: &[u8],
+    out: &mut Answer,
+) -> bool {
+    if is(word, b"pname") {
+        put_pname(out, octets, place, other);
+    } else if is(word, b"prel") {
+        put_prel(out, octets, place, other);
+    } else {
+        return false;
     }
     true
 }
@@ -98,18 +146,21 @@ fn answer_long(fields: Fields<'_>, out: &mut Answer) -> bool {
     fields.expect(5, out);
     let octets = fields.octets(1, out);
     let place = fields.number(2, out);
-    let octets = octets.as_slice();
-    match fields.at(0) {
-        b"mixture" => {
-            let labels = fields.number(3, out);
-            put_mixture(out, octets, place, labels, fields.at(4));
-        }
-        b"pchain" => {
-            let left = fields.octets(3, out);
-            let right = fields.octets(4, out);
-            put_pchain(out, octets, place, left.as_slice(), right.as_slice());
-        }
-        _ => return out.is_other_word(),
+    call_on_fields(fields, octets.as_slice(), place, out) || out.is_other_word()
+}
+
+/// The calls of `answer_long`, by the word: false where it names none of them.
+fn call_on_fields(fields: Fields<'_>, octets: &[u8], place: usize, out: &mut Answer) -> bool {
+    let word = fields.at(0);
+    if is(word, b"mixture") {
+        let labels = fields.number(3, out);
+        put_mixture(out, octets, place, labels, fields.at(4));
+    } else if is(word, b"pchain") {
+        let left = fields.octets(3, out);
+        let right = fields.octets(4, out);
+        put_pchain(out, octets, place, left.as_slice(), right.as_slice());
+    } else {
+        return false;
     }
     true
 }
@@ -117,47 +168,47 @@ fn answer_long(fields: Fields<'_>, out: &mut Answer) -> bool {
 /// `WORD OCTETS`, or two
 fn answer_data(fields: Fields<'_>, out: &mut Answer) -> bool {
     let octets = fields.octets(1, out);
-    match fields.at(0) {
-        b"everywhere" => {
-            fields.expect(2, out);
-            put_everywhere(out, octets.as_slice());
-        }
-        b"rdata" => {
-            fields.expect(2, out);
-            put_rdata(out, octets.as_slice());
-        }
-        b"rdatacmp" => {
-            fields.expect(3, out);
-            let other = fields.octets(2, out);
-            put_rdatacmp(out, octets.as_slice(), other.as_slice());
-        }
-        _ => return out.is_other_word(),
+    call_on_data(fields, octets.as_slice(), out) || out.is_other_word()
+}
+
+/// The calls of `answer_data`, by the word: false where it names none of them.
+fn call_on_data(fields: Fields<'_>, octets: &[u8], out: &mut Answer) -> bool {
+    let word = fields.at(0);
+    if is(word, b"everywhere") {
+        fields.expect(2, out);
+        put_everywhere(out, octets);
+    } else if is(word, b"rdata") {
+        fields.expect(2, out);
+        put_rdata(out, octets);
+    } else if is(word, b"rdatacmp") {
+        fields.expect(3, out);
+        let other = fields.octets(2, out);
+        put_rdatacmp(out, octets, other.as_slice());
+    } else {
+        return false;
     }
     true
 }
 
 /// `WORD` with fields that aren't octets
 fn answer_calls(fields: Fields<'_>, out: &mut Answer) -> bool {
-    match fields.at(0) {
-        b"compress" => {
-            fields.expect(2, out);
-            put_compressed(out, fields.at(1));
-        }
-        b"compresscap" => {
-            fields.expect(3, out);
-            let room = fields.number(1, out);
-            put_compressedcap(out, room, fields.at(2));
-        }
-        b"longdata" => {
-            fields.expect(2, out);
-            let len = fields.number(1, out);
-            put_longdata(out, len);
-        }
-        b"lengths" => {
-            fields.expect(2, out);
-            put_lengths(out, fields.at(1));
-        }
-        _ => return out.is_other_word(),
+    let word = fields.at(0);
+    if is(word, b"compress") {
+        fields.expect(2, out);
+        put_compressed(out, fields.at(1));
+    } else if is(word, b"compresscap") {
+        fields.expect(3, out);
+        let room = fields.number(1, out);
+        put_compressedcap(out, room, fields.at(2));
+    } else if is(word, b"longdata") {
+        fields.expect(2, out);
+        let len = fields.number(1, out);
+        put_longdata(out, len);
+    } else if is(word, b"lengths") {
+        fields.expect(2, out);
+        put_lengths(out, fields.at(1));
+    } else {
+        return out.is_other_word();
     }
     true
 }

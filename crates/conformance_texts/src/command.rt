@@ -5,7 +5,7 @@ use crate::capacity::put_capacity;
 use crate::errors::put_errors;
 use crate::reverse::put_rev;
 use crate::text::{put_labeltext, put_reltext, put_reltextroom, put_text, put_textroom};
-use conformance_answer::{Answer, Fields};
+use conformance_answer::{Answer, Fields, is};
 
 /// Answers a line whose word is one of these; else it is false.
 pub fn answer_texts(fields: Fields<'_>, out: &mut Answer) -> bool {
@@ -16,14 +16,23 @@ pub fn answer_texts(fields: Fields<'_>, out: &mut Answer) -> bool {
 fn answer_octets(fields: Fields<'_>, out: &mut Answer) -> bool {
     fields.expect(2, out);
     let octets = fields.octets(1, out);
-    let octets = octets.as_slice();
-    match fields.at(0) {
-        b"text" => put_text(out, octets),
-        b"reltext" => put_reltext(out, octets),
-        b"labeltext" => put_labeltext(out, octets),
-        b"rev" => put_rev(out, octets),
-        b"absolute" => put_absolute(out, octets),
-        _ => return out.is_other_word(),
+    call_on_octets(fields.at(0), octets.as_slice(), out) || out.is_other_word()
+}
+
+/// The calls of `answer_octets`, by the word: false where it names none of them.
+fn call_on_octets(word: &[u8], octets: &[u8], out: &mut Answer) -> bool {
+    if is(word, b"text") {
+        put_text(out, octets);
+    } else if is(word, b"reltext") {
+        put_reltext(out, octets);
+    } else if is(word, b"labeltext") {
+        put_labeltext(out, octets);
+    } else if is(word, b"rev") {
+        put_rev(out, octets);
+    } else if is(word, b"absolute") {
+        put_absolute(out, octets);
+    } else {
+        return false;
     }
     true
 }
@@ -33,36 +42,39 @@ fn answer_room(fields: Fields<'_>, out: &mut Answer) -> bool {
     fields.expect(3, out);
     let octets = fields.octets(1, out);
     let number = fields.number(2, out);
-    let octets = octets.as_slice();
-    match fields.at(0) {
-        b"textroom" => put_textroom(out, octets, number),
-        b"reltextroom" => put_reltextroom(out, octets, number),
-        _ => return out.is_other_word(),
+    call_on_room(fields.at(0), octets.as_slice(), number, out) || out.is_other_word()
+}
+
+/// The calls of `answer_room`, by the word: false where it names none of them.
+fn call_on_room(word: &[u8], octets: &[u8], number: usize, out: &mut Answer) -> bool {
+    if is(word, b"textroom") {
+        put_textroom(out, octets, number);
+    } else if is(word, b"reltextroom") {
+        put_reltextroom(out, octets, number);
+    } else {
+        return false;
     }
     true
 }
 
 /// `WORD` with fields that aren't octets
 fn answer_calls(fields: Fields<'_>, out: &mut Answer) -> bool {
-    match fields.at(0) {
-        b"build" => {
-            fields.expect(2, out);
-            put_build(out, fields.at(1));
-        }
-        b"buildcap" => {
-            fields.expect(3, out);
-            let room = fields.number(1, out);
-            put_buildcap(out, room, fields.at(2));
-        }
-        b"capacity" => {
-            fields.expect(2, out);
-            put_capacity(out, fields.at(1));
-        }
-        b"errors" => {
-            fields.expect(1, out);
-            put_errors(out);
-        }
-        _ => return out.is_other_word(),
+    let word = fields.at(0);
+    if is(word, b"build") {
+        fields.expect(2, out);
+        put_build(out, fields.at(1));
+    } else if is(word, b"buildcap") {
+        fields.expect(3, out);
+        let room = fields.number(1, out);
+        put_buildcap(out, room, fields.at(2));
+    } else if is(word, b"capacity") {
+        fields.expect(2, out);
+        put_capacity(out, fields.at(1));
+    } else if is(word, b"errors") {
+        fields.expect(1, out);
+        put_errors(out);
+    } else {
+        return out.is_other_word();
     }
     true
 }
