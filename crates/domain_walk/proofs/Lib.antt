@@ -1,2 +1,5 @@
+pub mod HexTexts
 pub mod Telling
 pub mod Showing
+pub mod Failing
+pub mod Entries

@@ -75,6 +75,5 @@ appends_kept (Some x) (Some y) None bs p q = absurd q
 appends_kept (Some x) (Some y) (Some z) bs p q = q ∙ p
 
 -- What was written stays so where no more is.
-pub still_followed : (p : ℕ) (input old mid new : Option (List ℕ)) (found : Bool) → IfSome input (λ m. WritesFollowed m p found old mid) → Keeps mid new → IfSome input (λ m. WritesFollowed m p found old new)
-still_followed p None old mid new found x k = tt
-still_followed p (Some m) old mid new found x k = record { lines = x.lines; last = x.last; count = x.count; few = x.few; followed = x.followed; ends = x.ends; appends = appends_kept old mid new _ x.appends k }
+pub still_followed : (m : List ℕ) (p : ℕ) (old mid new : Option (List ℕ)) (found : Bool) → WritesFollowed m p found old mid → Keeps mid new → WritesFollowed m p found old new
+still_followed m p old mid new found x k = record { lines = x.lines; last = x.last; count = x.count; few = x.few; followed = x.followed; ends = x.ends; appends = appends_kept old mid new _ x.appends k }

@@ -1,8 +1,11 @@
 -- What the words after the program's name ask for.
-use Rattle.std.specs.Prelude.{◌≡◌, List, ℕ, [], ◌∷◌, Option, Bool, codes}
+use Rattle.std.specs.Prelude.{◌≡◌, ◌⊎◌, List, ℕ, [], ◌∷◌, Option, Bool, true, false, codes}
+use Rattle.std.specs.Io.KnownBytes.{Keeps}
 use Rattle.domain_tool.specs.Numerals.{IsOffsetWord}
 use Rattle.domain_walk.specs.Engines.{WritesFollowed}
+use Rattle.domain_walk.specs.Hexadecimal.{start, IsHexText, IsHexFault}
 use Rattle.domain_walk.specs.Messages.{WritesShown}
+use Rattle.domain_walk.specs.declared.hexadecimal.HexFault.{HexFault}
 use Rattle.domain_walk.specs.declared.engine.Asked.{Asked}
 use Rattle.domain_walk.specs.declared.engine.Asked.TheVariants.{Name, Message}
 
@@ -11,15 +14,34 @@ abbrev pub WordAsks : List ℕ → Asked → Type 0
 WordAsks word (Name offset) = IsOffsetWord word offset
 WordAsks word Message = word ≡ codes "message"
 
--- There is one word, and it asks for this.
-abbrev pub AsksTo : List (List ℕ) → Asked → Type 0
-AsksTo words asked = (word : List ℕ) × (words ≡ word ∷ []) × WordAsks word asked
+-- The words are one that asks for this, and `--hex` behind it where the message is given in hexadecimal digits.
+abbrev pub AsksTo : List (List ℕ) → Asked → Bool → Type 0
+AsksTo words asked false = (word : List ℕ) × (words ≡ word ∷ []) × WordAsks word asked
+AsksTo words asked true = (word : List ℕ) × (words ≡ word ∷ codes "--hex" ∷ []) × WordAsks word asked
 
 -- The words ask for something.
 abbrev pub AsksForSomething : List (List ℕ) → Type 0
-AsksForSomething words = (asked : Asked) × AsksTo words asked
+AsksForSomething words = (asked : Asked) × (hex : Bool) × AsksTo words asked hex
+
+-- What is given is the message m as it is, or in hexadecimal digits.
+abbrev pub IsMessage : Bool → List ℕ → List ℕ → Type 0
+IsMessage false given m = m ≡ given
+IsMessage true given m = IsHexText given m
 
 -- What was asked for was written: whether it is in the message, and what there is of it.
 abbrev pub WritesAsked : Asked → List ℕ → Bool → Option (List ℕ) → Option (List ℕ) → Type 0
 WritesAsked (Name offset) m found old new = WritesFollowed m offset found old new
 WritesAsked Message m found old new = WritesShown m found old new
+
+-- The message is given, and what was asked for was written of it.
+abbrev pub WritesGiven : Asked → Bool → List ℕ → Bool → Option (List ℕ) → Option (List ℕ) → Type 0
+WritesGiven asked hex given found old new = (m : List ℕ) × IsMessage hex given m × WritesAsked asked m found old new
+
+-- The words say that the message is in hexadecimal digits, and it isn't. Nothing was written.
+abbrev pub NotInDigits : Bool → List ℕ → Option (List ℕ) → Option (List ℕ) → Type 0
+NotInDigits hex given old new = (hex ≡ true) × ((fault : HexFault) × (line : ℕ) × (column : ℕ) × IsHexFault start given fault line column) × Keeps old new
+
+-- What was asked for was written; or it isn't in the message, and what there is of it was written, or no message is given.
+abbrev pub IsAnswer : Asked → Bool → List ℕ → Bool → Option (List ℕ) → Option (List ℕ) → Type 0
+IsAnswer asked hex given true old new = WritesGiven asked hex given true old new
+IsAnswer asked hex given false old new = WritesGiven asked hex given false old new ⊎ NotInDigits hex given old new

@@ -1,5 +1,5 @@
 -- What the program writes of a message.
-use Rattle.std.specs.Prelude.{◌≡◌, ℕ, ◌<◌, ◌≤◌, ◌⊎◌, Bool, true, false, cond, nat_eq, List, [], ◌∷◌, ◌++◌, length, slice_index, codes, Option}
+use Rattle.std.specs.Prelude.{◌≡◌, ℕ, ◌<◌, ◌≤◌, Bool, true, false, List, [], ◌∷◌, ◌++◌, length, slice_index, codes, Option}
 use Rattle.std.specs.Fmt.{decimal}
 use Rattle.std.specs.Io.KnownBytes.{Appends}
 use Rattle.domain_wire.specs.declared.error.ParseError.{ParseError}
@@ -7,16 +7,13 @@ use Rattle.domain_wire.specs.declared.error.ParseError.TheVariants.{ShortInput}
 use Rattle.domain_header.specs.Bits.{bits, bit}
 use Rattle.domain_header.specs.Numbers.{number16}
 use Rattle.domain_header.specs.Tables.{opcode_text, rcode_text}
-use Rattle.domain_message.specs.Entries.{QuestionFields, QuestionAt, NoQuestion, RecordFields, RecordAt, NoRecord}
+use Rattle.domain_message.specs.Entries.{QuestionFields, QuestionAt, NoQuestion, RecordAt, NoRecord}
 use Rattle.domain_message.specs.Sections.{Run, counted}
-use Rattle.domain_message.specs.Texts.{question_text, text_before_data}
+use Rattle.domain_message.specs.Texts.{question_text}
 use Rattle.domain_message.specs.declared.section.Section.{Section}
 use Rattle.domain_message.specs.declared.section.Section.TheVariants.{Answer, Authority, Additional}
-use Rattle.domain_data.specs.AllData.{AllFields, AllDataAt, NoAllData, fields_text}
-
--- the word, where the flag is set
-abbrev pub flag_text : ℕ → List ℕ → List ℕ
-flag_text set word = cond (nat_eq set 1) word []
+use Rattle.domain_walk.specs.Flags.{flag_text}
+use Rattle.domain_walk.specs.Records.{IsEntryText}
 
 -- The flags that are set, of the third and fourth octet of a header (RFC 1035, 4.1.1; AD and CD RFC 4035, 3.1.6 and 3.2);
 -- and that the bit Z is, which must be zero.
@@ -49,69 +46,58 @@ section_heading Answer = codes ";; ANSWER SECTION"
 section_heading Authority = codes ";; AUTHORITY SECTION"
 section_heading Additional = codes ";; ADDITIONAL SECTION"
 
--- The line of a question: name, class and type.
-abbrev pub IsQuestionLine : QuestionFields → List ℕ → Type 0
-IsQuestionLine it line = line ≡ question_text it.name it.class it.rtype
+-- the response code in the header: the lower four bits of it (RFC 1035, 4.1.1; RFC 6891, 6.1.3)
+abbrev pub header_rcode : List ℕ → ℕ
+header_rcode m = bits 1 16 (slice_index m 3)
 
--- The line of a record: the owner's name, TTL, class and type, and the data as its type has it.
-pub record IsRecordLine (it : RecordFields) (line : List ℕ) : Type 0 where
-  pub fields : AllFields
-  pub end : ℕ
-  pub data_is : AllDataAt it.header.rtype it.octets it.start fields end
-  pub is : line ≡ text_before_data it.header.owner it.header.ttl it.header.class it.header.rtype ++ fields_text fields
+-- The line of a question, whichever are before it: name, class and type.
+abbrev pub IsQuestionText : List QuestionFields → QuestionFields → List ℕ → Type 0
+IsQuestionText before it text = text ≡ question_text it.name it.class it.rtype ++ 10 ∷ []
 
--- The data of a record can't be read, and why.
-abbrev pub HasNoLine : RecordFields → ParseError → Type 0
-HasNoLine it why = NoAllData it.header.rtype it.octets it.start why
+-- After the entries before, the text has the lines of each entry, in their order.
+abbrev pub AreTextsOf : {V : Type 0} → (List V → V → List ℕ → Type 0) → List V → List V → List ℕ → Type 0
+AreTextsOf IsText before [] text = text ≡ []
+AreTextsOf IsText before (x ∷ xs) text = (first : List ℕ) × (rest : List ℕ) × IsText before x first × AreTextsOf IsText (before ++ x ∷ []) xs rest × (text ≡ first ++ rest)
 
--- The text has a line for each entry, in their order.
-abbrev pub AreLinesOf : {V : Type 0} → (V → List ℕ → Type 0) → List V → List ℕ → Type 0
-AreLinesOf Line [] text = text ≡ []
-AreLinesOf Line (x ∷ xs) text = (line : List ℕ) × (rest : List ℕ) × Line x line × AreLinesOf Line xs rest × (text ≡ line ++ (10 ∷ rest))
-
--- All n entries are at p and end before e, and the text has a line for each.
-pub record ShowsAll {V : Type 0} (At : List ℕ → ℕ → V → ℕ → Type 0) (Line : V → List ℕ → Type 0) (m : List ℕ) (p n e : ℕ) (text : List ℕ) : Type 0 where
+-- All n entries are at p and end before e, and the text has the lines of each.
+pub record ShowsAll {V : Type 0} (At : List ℕ → ℕ → V → ℕ → Type 0) (IsText : List V → V → List ℕ → Type 0) (m : List ℕ) (p n e : ℕ) (text : List ℕ) : Type 0 where
   pub entries : List V
   pub many : length entries ≡ n
   pub run : Run At m p entries e
-  pub lines : AreLinesOf Line entries text
+  pub lines : AreTextsOf IsText [] entries text
 
--- Fewer than n entries can be shown: the text has a line for each, and the next is missing, or has no line, and why.
-pub record ShowsSome {V : Type 0} (At : List ℕ → ℕ → V → ℕ → Type 0) (Fails : List ℕ → ℕ → ParseError → Type 0) (Line : V → List ℕ → Type 0) (NoLine : V → ParseError → Type 0) (m : List ℕ) (p n : ℕ) (text : List ℕ) (why : ParseError) : Type 0 where
+-- Fewer than n entries are at p: the text has the lines of each, and the next is missing, and why.
+pub record ShowsSome {V : Type 0} (At : List ℕ → ℕ → V → ℕ → Type 0) (Fails : List ℕ → ℕ → ParseError → Type 0) (IsText : List V → V → List ℕ → Type 0) (m : List ℕ) (p n : ℕ) (text : List ℕ) (why : ParseError) : Type 0 where
   pub entries : List V
   pub few : length entries < n
   pub offset : ℕ
   pub run : Run At m p entries offset
-  pub lines : AreLinesOf Line entries text
-  pub next : Fails m offset why ⊎ ((x : V) × (e : ℕ) × At m offset x e × NoLine x why)
+  pub lines : AreTextsOf IsText [] entries text
+  pub next : Fails m offset why
 
--- All n entries were written, a line for each.
-abbrev pub WritesAll : {V : Type 0} → (List ℕ → ℕ → V → ℕ → Type 0) → (V → List ℕ → Type 0) → List ℕ → ℕ → ℕ → ℕ → Option (List ℕ) → Option (List ℕ) → Type 0
-WritesAll At Line m p n e old new = (text : List ℕ) × ShowsAll At Line m p n e text × Appends old new text
+-- All n entries were written.
+abbrev pub WritesAll : {V : Type 0} → (List ℕ → ℕ → V → ℕ → Type 0) → (List V → V → List ℕ → Type 0) → List ℕ → ℕ → ℕ → ℕ → Option (List ℕ) → Option (List ℕ) → Type 0
+WritesAll At IsText m p n e old new = (text : List ℕ) × ShowsAll At IsText m p n e text × Appends old new text
 
--- Some of n entries were written, a line for each, and the next can't be, and why.
-abbrev pub WritesSome : {V : Type 0} → (List ℕ → ℕ → V → ℕ → Type 0) → (List ℕ → ℕ → ParseError → Type 0) → (V → List ℕ → Type 0) → (V → ParseError → Type 0) → List ℕ → ℕ → ℕ → Option (List ℕ) → Option (List ℕ) → ParseError → Type 0
-WritesSome At Fails Line NoLine m p n old new why = (text : List ℕ) × ShowsSome At Fails Line NoLine m p n text why × Appends old new text
-
--- A question has a line always.
-abbrev pub NeverFails : QuestionFields → ParseError → Type 0
-NeverFails it why = ⊥
+-- Some of n entries were written, and the next is missing, and why.
+abbrev pub WritesSome : {V : Type 0} → (List ℕ → ℕ → V → ℕ → Type 0) → (List ℕ → ℕ → ParseError → Type 0) → (List V → V → List ℕ → Type 0) → List ℕ → ℕ → ℕ → Option (List ℕ) → Option (List ℕ) → ParseError → Type 0
+WritesSome At Fails IsText m p n old new why = (text : List ℕ) × ShowsSome At Fails IsText m p n text why × Appends old new text
 
 -- The header and all questions are shown, and the questions end before e.
 abbrev pub ShowsQuestions : List ℕ → ℕ → List ℕ → Type 0
-ShowsQuestions m e text = (lines : List ℕ) × (12 ≤ length m) × ShowsAll QuestionAt IsQuestionLine m 12 (number16 m 4) e lines × (text ≡ header_lines m ++ questions_heading ++ lines)
+ShowsQuestions m e text = (lines : List ℕ) × (12 ≤ length m) × ShowsAll QuestionAt IsQuestionText m 12 (number16 m 4) e lines × (text ≡ header_lines m ++ questions_heading ++ lines)
 
 -- The header and some questions are shown, and the next is missing, and why.
 abbrev pub StopsAtQuestion : List ℕ → List ℕ → ParseError → Type 0
-StopsAtQuestion m text why = (lines : List ℕ) × (12 ≤ length m) × ShowsSome QuestionAt NoQuestion IsQuestionLine NeverFails m 12 (number16 m 4) lines why × (text ≡ header_lines m ++ questions_heading ++ lines)
+StopsAtQuestion m text why = (lines : List ℕ) × (12 ≤ length m) × ShowsSome QuestionAt NoQuestion IsQuestionText m 12 (number16 m 4) lines why × (text ≡ header_lines m ++ questions_heading ++ lines)
 
 -- The records of a section at p, as many as the header counts, are shown under its heading, and end before e.
 abbrev pub ShowsSection : List ℕ → Section → ℕ → ℕ → List ℕ → Type 0
-ShowsSection m s p e text = (lines : List ℕ) × ShowsAll RecordAt IsRecordLine m p (counted m s) e lines × (text ≡ (section_heading s ++ 10 ∷ []) ++ lines)
+ShowsSection m s p e text = (lines : List ℕ) × ShowsAll RecordAt (IsEntryText (header_rcode m) s) m p (counted m s) e lines × (text ≡ (section_heading s ++ 10 ∷ []) ++ lines)
 
--- Some records of a section at p are shown under its heading; the next is missing, or its data can't be read, and why.
+-- Some records of a section at p are shown under its heading; the next is missing, and why.
 abbrev pub StopsInSection : List ℕ → Section → ℕ → List ℕ → ParseError → Type 0
-StopsInSection m s p text why = (lines : List ℕ) × ShowsSome RecordAt NoRecord IsRecordLine HasNoLine m p (counted m s) lines why × (text ≡ (section_heading s ++ 10 ∷ []) ++ lines)
+StopsInSection m s p text why = (lines : List ℕ) × ShowsSome RecordAt NoRecord (IsEntryText (header_rcode m) s) m p (counted m s) lines why × (text ≡ (section_heading s ++ 10 ∷ []) ++ lines)
 
 -- All up to the end of the answers is shown.
 abbrev pub ShowsAnswers : List ℕ → ℕ → List ℕ → Type 0

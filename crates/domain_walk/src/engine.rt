@@ -1,22 +1,27 @@
 //! The engine of the program `dnswalk`, over any reader and writer.
-ghost use Rattle.std.specs.Prelude.{◌≡◌, ◌≤◌, ◌∷◌, ◌++◌, ◌↔◌, ◌⊎◌, [], map, true, false, ℕ, Some, IfOk, IfErr, IfSome, IsNone, OnOk, OnErr};
+ghost use Rattle.std.specs.Prelude.{◌≡◌, ◌≤◌, ◌↔◌, ◌⊎◌, map, true, false, Bool, Some, IfOk, IfErr, IfSome, IsNone, OnOk, OnErr};
+ghost use Rattle.std.specs.Bool.{OnTrue};
 ghost use Rattle.std.specs.Io.KnownBytes.{IsAtEnd};
+ghost use Rattle.domain_walk.specs.Asked.{AsksTo, AsksForSomething, WordAsks, WritesAsked, IsAnswer, IsMessage};
 ghost use Rattle.domain_tool.specs.declared.tool.ToolError.{ToolError};
-ghost use Rattle.domain_walk.specs.Asked.{AsksTo, AsksForSomething, WordAsks, WritesAsked};
 ghost use Rattle.domain_walk.specs.Engines.{WritesFollowed};
+ghost use Rattle.domain_walk.specs.Hexadecimal.{start, IsHexFault};
 ghost use Rattle.domain_walk.specs.Messages.{WritesShown};
 ghost use Rattle.domain_walk.specs.declared.engine.Asked.{Asked};
 
 use crate::follow::write_lines;
+use crate::hexadecimal::{HexError, read_octets};
 pub use crate::message::show_message;
+use crate::message::write_message;
+use crate::streams::{Sink, Source};
 use domain_list::dotted::DisplayWithDot;
 use domain_parsed::ParsedName;
 use domain_tool::offset_of_word;
-use domain_tool::tool::{ToolError, parse_at, read_all, write_line};
+use domain_tool::tool::{ToolError, WriteFault, parse_at, write_line};
 use domain_wire::error::ParseError;
 use std::alloc::Global;
 use std::fmt;
-use std::io::{Read, Write};
+use std::io::Write;
 
 /// The last line where there is a name: the name, and how many labels and pointers were read.
 #[derive(Clone, Copy)]
@@ -53,12 +58,31 @@ impl fmt::Display for RefusedLine {
     }
 }
 
+/// Writes a line for each label and pointer that reading the name at an offset of a message comes to, and a last line with
+/// the name or the reason why there is none. Returns whether there is a name.
+fn follow_in<W: Sink>(message: &[u8], output: &mut W, offset: u32) -> Result<bool, WriteFault>
+    ensures written { IfOk result (λ found. WritesFollowed message.now offset found (W.contents output.old) (W.contents output.new)) }
+    ensures failed { OnErr result (W.failed output.new) }
+{
+    let count = write_lines(message, offset as usize, output)?;
+    match parse_at(message, offset, u8::MAX) {
+        Ok(name) => {
+            output.put_line(NameLine { name: &name, count })?;
+            Ok(true)
+        }
+        Err(why) => {
+            output.put_line(RefusedLine { why, count })?;
+            Ok(false)
+        }
+    }
+}
+
 /// Reads the input to its end, and writes a line for each label and pointer that reading the name at the offset comes
 /// to, and a last line with the name or the reason why there is none. Returns whether there is a name.
 ///
 /// The name may have compression pointers (RFC 1035, 4.1.4), at most 255. `Read`, `Write` or `Memory` where one of these
 /// failed; a message without a name there is no error.
-pub fn follow_name<R: Read, W: Write>(
+pub fn follow_name<R: Source, W: Sink>(
     alloc: Global,
     input: &mut R,
     output: &mut W,
@@ -67,23 +91,17 @@ pub fn follow_name<R: Read, W: Write>(
     ensures whole { OnOk result (IsAtEnd (R.remaining input.new)) }
     ensures written { IfOk result (λ found. IfSome (R.remaining input.old) (λ m. WritesFollowed m offset found (W.contents output.old) (W.contents output.new))) }
     ensures err { IfErr result (λ e. (e ≡ ToolError.Read) ⊎ (e ≡ ToolError.Write) ⊎ (e ≡ ToolError.Memory)) }
+    ensures failed { OnErr result ((R.failed input.new × (output.new ≡ output.old)) ⊎ W.failed output.new) }
 {
-    let octets = read_all(alloc, input)?;
-    let message = octets.as_slice();
-    let count = write_lines(message, offset as usize, output)?;
-    match parse_at(message, offset, u8::MAX) {
-        Ok(name) => {
-            write_line(output, NameLine { name: &name, count })?;
-            Ok(true)
-        }
-        Err(why) => {
-            write_line(output, RefusedLine { why, count })?;
-            Ok(false)
-        }
-    }
+    let octets = match input.read_whole(alloc) {
+        Ok(octets) => octets,
+        Err(e) => return Err(e),
+    };
+    let found = follow_in(octets.as_slice(), output, offset)?;
+    Ok(found)
 }
 
-const USAGE: &str = "usage: dnswalk OFFSET | dnswalk message";
+const USAGE: &str = "usage: dnswalk OFFSET [--hex] | dnswalk message [--hex]";
 
 /// What the words ask for.
 #[derive(Clone, Copy)]
@@ -95,9 +113,12 @@ enum Asked {
 }
 
 /// Carries out the words that follow the program's name, and flushes the output. The answer is the status to end with:
-/// 0 where the name or message was written, 1 where there is none, 2 for other words than one offset or `message`, 3 where
-/// reading, writing or memory failed. Why a name can't be read is on `output`; the other reasons are on `errors`.
-pub fn run<R: Read, W: Write, E: Write>(
+/// 0 where the name or message was written, 1 where there is none, 2 for other words than one offset or `message`, and
+/// `--hex` or not; 3 where reading, writing or memory failed, and for nothing else. Why a name can't be read is on
+/// `output`; the other reasons are on `errors`.
+///
+/// With `--hex` the input is the message's octets in hexadecimal digits. Where it isn't, nothing is written.
+pub fn run<R: Source, W: Sink, E: Write>(
     alloc: Global,
     words: &[&str],
     input: &mut R,
@@ -105,16 +126,18 @@ pub fn run<R: Read, W: Write, E: Write>(
     errors: &mut E,
 ) -> u8
     ensures status { result ≤ 3 }
-    ensures done { result ≡ 0 → (asked : Asked) × AsksTo (map (λ word. word.now) words.now) asked × IfSome (R.remaining input.old) (λ m. WritesAsked asked m true (W.contents output.old) (W.contents output.new)) }
-    ensures none { result ≡ 1 → (asked : Asked) × AsksTo (map (λ word. word.now) words.now) asked × IfSome (R.remaining input.old) (λ m. WritesAsked asked m false (W.contents output.old) (W.contents output.new)) }
+    ensures done { result ≡ 0 → (asked : Asked) × (hex : Bool) × AsksTo (map (λ word. word.now) words.now) asked hex × IfSome (R.remaining input.old) (λ given. IsAnswer asked hex given true (W.contents output.old) (W.contents output.new)) }
+    ensures none { result ≡ 1 → (asked : Asked) × (hex : Bool) × AsksTo (map (λ word. word.now) words.now) asked hex × IfSome (R.remaining input.old) (λ given. IsAnswer asked hex given false (W.contents output.old) (W.contents output.new)) }
     ensures usage { result ≡ 2 ↔ (AsksForSomething (map (λ word. word.now) words.now) → ⊥) }
     ensures untouched { result ≡ 2 → (input.new ≡ input.old) × (output.new ≡ output.old) }
+    ensures failed { result ≡ 3 → ((R.failed input.new × (output.new ≡ output.old)) ⊎ W.failed output.new) }
+    ensures quiet { result ≡ 0 → errors.new ≡ errors.old }
 {
-    let Some(asked) = asked_for(words) else {
+    let Some((asked, hex)) = asked_for(words) else {
         let _ = write_line(errors, USAGE);
         return 2;
     };
-    match carry_out(alloc, asked, input, output, errors) {
+    match carry_out(alloc, asked, hex, input, output, errors) {
         Ok(true) => 0,
         Ok(false) => 1,
         Err(e) => {
@@ -124,68 +147,118 @@ pub fn run<R: Read, W: Write, E: Write>(
     }
 }
 
-/// Does what is asked for, and flushes the output. Returns whether there is such a name or message; why a message can't be
-/// shown to its end is written to `errors`.
-fn carry_out<R: Read, W: Write, E: Write>(
+/// Reads the message, does what is asked for, and flushes the output. Returns whether there is such a name or message; why
+/// a message can't be shown to its end, or isn't in hexadecimal digits, is written to `errors`.
+fn carry_out<R: Source, W: Sink, E: Write>(
     alloc: Global,
     asked: Asked,
+    hex: bool,
     input: &mut R,
     output: &mut W,
     errors: &mut E,
 ) -> Result<bool, ToolError>
-    ensures { IfOk result (λ found. IfSome (R.remaining input.old) (λ m. WritesAsked asked m found (W.contents output.old) (W.contents output.new))) }
+    ensures done { IfOk result (λ found. IfSome (R.remaining input.old) (λ given. IsAnswer asked hex given found (W.contents output.old) (W.contents output.new))) }
+    ensures failed { OnErr result ((R.failed input.new × (output.new ≡ output.old)) ⊎ W.failed output.new) }
+    ensures quiet { IfOk result (λ found. OnTrue found (errors.new ≡ errors.old)) }
+{
+    let mut octets = match input.read_whole(alloc) {
+        Ok(octets) => octets,
+        Err(e) => return Err(e),
+    };
+    let message = match octets_of(hex, &mut octets) {
+        Ok(message) => message,
+        Err(why) => {
+            let _ = write_line(errors, why);
+            return Ok(false);
+        }
+    };
+    answer(asked, message, output, errors)
+}
+
+/// The octets of a message that is given as they are, or in hexadecimal digits.
+fn octets_of(hex: bool, given: &mut Vec<u8>) -> Result<&[u8], HexError>
+    ensures ok { IfOk result (λ m. IsMessage hex given.old.items m.now) }
+    ensures err { IfErr result (λ e. (hex ≡ true) × IsHexFault start given.old.items e.fault e.line e.column) }
+{
+    if !hex {
+        return Ok(given.as_slice());
+    }
+    let count = read_octets(given.as_mut_slice())?;
+    Ok(&given.as_slice()[..count])
+}
+
+/// Does what is asked for of a message, and flushes the output. Returns whether there is such a name or message; why a
+/// message can't be shown to its end is written to `errors`.
+fn answer<W: Sink, E: Write>(
+    asked: Asked,
+    message: &[u8],
+    output: &mut W,
+    errors: &mut E,
+) -> Result<bool, ToolError>
+    ensures written { IfOk result (λ found. WritesAsked asked message.now found (W.contents output.old) (W.contents output.new)) }
+    ensures failed { OnErr result (W.failed output.new) }
+    ensures quiet { IfOk result (λ found. OnTrue found (errors.new ≡ errors.old)) }
 {
     match asked {
-        Asked::Name(offset) => follow(alloc, input, output, offset),
-        Asked::Message => show(alloc, input, output, errors),
+        Asked::Name(offset) => follow(message, output, offset),
+        Asked::Message => show(message, output, errors),
     }
 }
 
 /// Follows the name, and flushes the output.
-fn follow<R: Read, W: Write>(
-    alloc: Global,
-    input: &mut R,
-    output: &mut W,
-    offset: u32,
-) -> Result<bool, ToolError>
-    ensures written { IfOk result (λ found. IfSome (R.remaining input.old) (λ m. WritesFollowed m offset found (W.contents output.old) (W.contents output.new))) }
+fn follow<W: Sink>(message: &[u8], output: &mut W, offset: u32) -> Result<bool, ToolError>
+    ensures written { IfOk result (λ found. WritesFollowed message.now offset found (W.contents output.old) (W.contents output.new)) }
+    ensures failed { OnErr result (W.failed output.new) }
 {
-    let found = follow_name(alloc, input, output, offset)?;
-    match output.flush() {
-        Ok(()) => Ok(found),
-        Err(_) => Err(ToolError::Write),
-    }
+    let found = follow_in(message, output, offset)?;
+    output.send()?;
+    Ok(found)
 }
 
 /// Shows the message, and flushes the output. Returns whether it was shown to its end; if not, why is written to `errors`.
-fn show<R: Read, W: Write, E: Write>(
-    alloc: Global,
-    input: &mut R,
+fn show<W: Sink, E: Write>(
+    message: &[u8],
     output: &mut W,
     errors: &mut E,
 ) -> Result<bool, ToolError>
-    ensures written { IfOk result (λ whole. IfSome (R.remaining input.old) (λ m. WritesShown m whole (W.contents output.old) (W.contents output.new))) }
+    ensures written { IfOk result (λ whole. WritesShown message.now whole (W.contents output.old) (W.contents output.new)) }
+    ensures failed { OnErr result (W.failed output.new) }
+    ensures quiet { IfOk result (λ whole. OnTrue whole (errors.new ≡ errors.old)) }
 {
-    match show_message(alloc, input, output) {
-        Ok(()) => match output.flush() {
-            Ok(()) => Ok(true),
-            Err(_) => Err(ToolError::Write),
-        },
-        Err(ToolError::Parse(why)) => match output.flush() {
-            Ok(()) => {
+    match write_message(message, output) {
+        Ok(()) => {
+            output.send()?;
+            Ok(true)
+        }
+        Err(e) => match e {
+            ToolError::Parse(why) => {
+                output.send()?;
                 let _ = write_line(errors, why);
                 Ok(false)
             }
-            Err(_) => Err(ToolError::Write),
+            _ => Err(e),
         },
-        Err(e) => Err(e),
     }
 }
 
-/// What the words ask for: one to ten decimal digits, at most 4,294,967,295, or `message`.
-fn asked_for(words: &[&str]) -> Option<Asked>
-    ensures some { IfSome result (λ asked. AsksTo (map (λ word. word.now) words.now) asked) }
+/// What the words ask for, and whether the message is in hexadecimal digits.
+fn asked_for(words: &[&str]) -> Option<(Asked, bool)>
+    ensures some { IfSome result (λ asked. AsksTo (map (λ word. word.now) words.now) asked.0 asked.1) }
     ensures none { IsNone result → AsksForSomething (map (λ word. word.now) words.now) → ⊥ }
+{
+    if let Some(asked) = asked_plainly(words) {
+        return Some((asked, false));
+    }
+    match asked_in_digits(words) {
+        Some(asked) => Some((asked, true)),
+        None => None,
+    }
+}
+
+/// What one word alone asks for.
+fn asked_plainly(words: &[&str]) -> Option<Asked>
+    ensures some { IfSome result (λ asked. AsksTo (map (λ word. word.now) words.now) asked false) }
+    ensures none { IsNone result → (asked : Asked) → AsksTo (map (λ word. word.now) words.now) asked false → ⊥ }
 {
     match words {
         [word] => asked_by(word),
@@ -193,7 +266,18 @@ fn asked_for(words: &[&str]) -> Option<Asked>
     }
 }
 
-/// What one word asks for.
+/// What a word with `--hex` behind it asks for.
+fn asked_in_digits(words: &[&str]) -> Option<Asked>
+    ensures some { IfSome result (λ asked. AsksTo (map (λ word. word.now) words.now) asked true) }
+    ensures none { IsNone result → (asked : Asked) → AsksTo (map (λ word. word.now) words.now) asked true → ⊥ }
+{
+    match words {
+        [word, "--hex"] => asked_by(word),
+        _ => None,
+    }
+}
+
+/// What one word asks for: one to ten decimal digits, at most 4,294,967,295, or `message`.
 fn asked_by(word: &str) -> Option<Asked>
     ensures some { IfSome result (λ asked. WordAsks word.now asked) }
     ensures none { IsNone result → (asked : Asked) → WordAsks word.now asked → ⊥ }

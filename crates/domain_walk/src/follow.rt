@@ -1,5 +1,5 @@
 //! Following a name: a line for each label and each pointer that reading it comes to.
-ghost use Rattle.std.specs.Prelude.{◌≡◌, ◌≤◌, ◌<◌, ◌+◌, ℕ, List, length, IfOk};
+ghost use Rattle.std.specs.Prelude.{◌≡◌, ◌≤◌, ◌<◌, ◌+◌, ℕ, List, length, IfOk, OnErr};
 ghost use Rattle.std.specs.Io.KnownBytes.{Appends};
 ghost use Rattle.domain_label.specs.Labels.{label_octets};
 ghost use Rattle.domain_reading.specs.Grammar.{LabelAt};
@@ -8,14 +8,14 @@ ghost use Rattle.domain_walk.specs.Following.{FollowedThrough, broken_line};
 ghost use Rattle.domain_walk.specs.Lines.{step_line, refused_line};
 
 use crate::step::Step;
+use crate::streams::Sink;
 use domain_label::Label;
 use domain_reading::fault::NameFault;
 use domain_reading::head::{Head, read_head};
 use domain_reading::heads::Heads;
 use domain_reading::progress::Progress;
 use domain_reading::table::MAX_LABELS;
-use domain_tool::tool::{WriteFault, write_line};
-use std::io::Write;
+use domain_tool::tool::WriteFault;
 use std::marker::Brand;
 use std::sync::ledger::{Blank, Ledger};
 
@@ -69,7 +69,7 @@ fn read_so_far(progress: &Progress) -> u16
 }
 
 /// Writes a line for each label and pointer from an offset on, and answers how many were read.
-fn write_steps<W: Write, L: Ledger>(
+fn write_steps<W: Sink, L: Ledger>(
     message: &[u8],
     offset: usize,
     table: &mut [u16; MAX_LABELS],
@@ -78,6 +78,7 @@ fn write_steps<W: Write, L: Ledger>(
 ) -> Result<u16, WriteFault>
     ensures followed { IfOk result (λ count. (lines : List ℕ) × FollowedThrough message.now offset lines count × Appends (W.contents output.old) (W.contents output.new) lines) }
     ensures few { IfOk result (λ count. count ≤ 383) }
+    ensures failed { OnErr result (W.failed output.new) }
 {
     let mut progress = Progress::new(offset);
     'heads: loop {
@@ -85,36 +86,36 @@ fn write_steps<W: Write, L: Ledger>(
         let head = match read_head(message, at, heads) {
             Ok(head) => head,
             Err(fault) => {
-                write_line(output, broken(message, at, fault))?;
+                output.put_line(broken(message, at, fault))?;
                 return Ok(read_so_far(&progress));
             }
         };
         match head {
             Head::Root => {
-                write_line(output, Step::Root { offset: at })?;
+                output.put_line(Step::Root { offset: at })?;
                 return Ok(read_so_far(&progress));
             }
             Head::Label(len) => {
                 let label = label_at(message, at, len);
                 if let Err(_) = progress.pass_label(len, table) {
-                    write_line(output, Step::LongName { offset: at, label })?;
+                    output.put_line(Step::LongName { offset: at, label })?;
                     return Ok(read_so_far(&progress));
                 }
-                write_line(output, Step::Label { offset: at, label })?;
+                output.put_line(Step::Label { offset: at, label })?;
             }
             Head::Pointer(target) => {
                 if let Err(_) = progress.follow(target, MAX_POINTERS) {
-                    write_line(output, refused_pointer(at, target))?;
+                    output.put_line(refused_pointer(at, target))?;
                     return Ok(read_so_far(&progress));
                 }
-                write_line(output, Step::Pointer { offset: at, target })?;
+                output.put_line(Step::Pointer { offset: at, target })?;
             }
         }
     }
 }
 
 /// The same with a count of its own.
-fn write_counted<W: Write, L: Ledger>(
+fn write_counted<W: Sink, L: Ledger>(
     message: &[u8],
     offset: usize,
     output: &mut W,
@@ -125,6 +126,7 @@ fn write_counted<W: Write, L: Ledger>(
     requires some { 0 < blank.parts }
     ensures followed { IfOk result (λ count. (lines : List ℕ) × FollowedThrough message.now offset lines count × Appends (W.contents output.old) (W.contents output.new) lines) }
     ensures few { IfOk result (λ count. count ≤ 383) }
+    ensures failed { OnErr result (W.failed output.new) }
 {
     let mut table = [0; MAX_LABELS];
     let mut heads = Heads::<L>::new(blank);
@@ -133,13 +135,14 @@ fn write_counted<W: Write, L: Ledger>(
 
 /// Writes a line for each label and pointer that reading the name at an offset comes to, the last of them the root or
 /// what can't be read, and returns how many they are: at most 383.
-pub fn write_lines<W: Write>(
+pub fn write_lines<W: Sink>(
     message: &[u8],
     offset: usize,
     output: &mut W,
 ) -> Result<u16, WriteFault>
     ensures followed { IfOk result (λ count. (lines : List ℕ) × FollowedThrough message.now offset lines count × Appends (W.contents output.old) (W.contents output.new) lines) }
     ensures few { IfOk result (λ count. count ≤ 383) }
+    ensures failed { OnErr result (W.failed output.new) }
 {
     write_counted::<W, Brand>(message, offset, output, Blank::new(1))
 }

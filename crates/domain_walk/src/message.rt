@@ -1,31 +1,26 @@
 //! A message, shown in presentation format: the header, the questions, and the records of each section.
-ghost use Rattle.std.specs.Prelude.{◌≡◌, ◌≤◌, ◌∷◌, ◌++◌, [], ℕ, List, length, cond, Some, OnOk, IfOk, IfErr, IfSome};
+ghost use Rattle.std.specs.Prelude.{◌≡◌, ◌≤◌, ◌++◌, ◌⊎◌, ℕ, List, length, Some, OnOk, IfSome};
 ghost use Rattle.std.specs.Io.KnownBytes.{Appends, IsAtEnd};
 ghost use Rattle.octseq.specs.Parsing.{message, position, MovesTo};
+ghost use Rattle.domain_header.specs.Values.{rcode_number};
 ghost use Rattle.domain_message.specs.Entries.{QuestionAt, NoQuestion, RecordAt, NoRecord};
-ghost use Rattle.domain_message.specs.RecordModel.{record_fields};
 ghost use Rattle.domain_message.specs.Sections.{counted};
 ghost use Rattle.domain_tool.specs.Engines.{IfRefused, OnAnswer};
-ghost use Rattle.domain_walk.specs.Messages.{flags_text, codes_line, counts_line, header_lines, questions_heading, section_heading, IsQuestionLine, IsRecordLine, HasNoLine, NeverFails, WritesAll, WritesSome, ShowsQuestions, ShowsAnswers, ShowsAuthority, ShowsSection, StopsInSection, WritesMessage, WritesUntil};
+ghost use Rattle.domain_walk.specs.Failures.{IfWritingFailed, IfStreamFailed};
+ghost use Rattle.domain_walk.specs.Records.{IsEntryText};
+ghost use Rattle.domain_walk.specs.Messages.{flags_text, codes_line, counts_line, header_lines, header_rcode, questions_heading, section_heading, IsQuestionText, WritesAll, WritesSome, ShowsQuestions, ShowsAnswers, ShowsAuthority, ShowsSection, StopsInSection, WritesMessage, WritesUntil};
 
-use domain_data::AllRecordData;
-use domain_header::{Header, HeaderCounts};
-use domain_message::{ParsedRecord, Question, Record, Section};
-use domain_rdata::ParseAnyRecordData;
-use domain_tool::tool::{ToolError, read_all, write_line};
+use crate::flags::word_if;
+use crate::record::write_entry;
+use crate::streams::{Sink, Source};
+use domain_header::{Header, HeaderCounts, Rcode};
+use domain_message::{ParsedRecord, Question, Section};
+use domain_tool::tool::ToolError;
 use domain_wire::ParseError;
 use domain_wire::parse::Parse;
 use octseq::Parser;
 use std::alloc::Global;
 use std::fmt;
-use std::io::{Read, Write};
-
-/// The word, where the flag is set.
-fn word_if(set: bool, word: &'static str) -> &'static str
-    ensures { result.now ≡ cond set word.now [] }
-{
-    if set { word } else { "" }
-}
 
 /// The flags that are set, a space before each, and the bit Z, which must be zero.
 #[derive(Clone, Copy)]
@@ -120,81 +115,68 @@ impl fmt::Display for Heading {
 const QUESTIONS: &str = ";; QUESTION SECTION";
 
 /// Writes the lines of the header, and the line above the questions.
-fn write_header<W: Write>(message: &[u8], output: &mut W) -> Result<(), ToolError>
+fn write_header<W: Sink>(message: &[u8], output: &mut W) -> Result<(), ToolError>
     requires { 12 ≤ length message.now }
     ensures written { OnOk result (Appends (W.contents output.old) (W.contents output.new) (header_lines message.now ++ questions_heading)) }
     ensures refused { IfRefused result (λ _. ⊥) }
+    ensures failed { IfWritingFailed result (W.failed output.new) }
 {
     let header = Header::for_message_slice(message);
     let counts = HeaderCounts::for_message_slice(message);
-    write_line(output, CodesLine { header })?;
-    write_line(output, CountsLine { header, counts })?;
-    write_line(output, QUESTIONS)?;
+    output.put_line(CodesLine { header })?;
+    output.put_line(CountsLine { header, counts })?;
+    output.put_line(QUESTIONS)?;
     Ok(())
 }
 
 /// Writes the lines of this many questions, and moves the parser past them.
-fn write_questions<W: Write>(
+fn write_questions<W: Sink>(
     count: u16,
     parser: &mut Parser<'_>,
     output: &mut W,
 ) -> Result<(), ToolError>
-    ensures written { OnOk result (WritesAll QuestionAt IsQuestionLine (message parser.old) (position parser.old) count (position parser.new) (W.contents output.old) (W.contents output.new)) }
+    ensures written { OnOk result (WritesAll QuestionAt IsQuestionText (message parser.old) (position parser.old) count (position parser.new) (W.contents output.old) (W.contents output.new)) }
     ensures moves { OnOk result (MovesTo parser.old parser.new (position parser.new)) }
-    ensures refused { IfRefused result (λ e. WritesSome QuestionAt NoQuestion IsQuestionLine NeverFails (message parser.old) (position parser.old) count (W.contents output.old) (W.contents output.new) e) }
+    ensures refused { IfRefused result (λ e. WritesSome QuestionAt NoQuestion IsQuestionText (message parser.old) (position parser.old) count (W.contents output.old) (W.contents output.new) e) }
+    ensures failed { IfWritingFailed result (W.failed output.new) }
 {
     for _question in 0..count {
         let question = match Question::parse(parser) {
             Ok(question) => question,
             Err(e) => return Err(ToolError::Parse(e)),
         };
-        write_line(output, question)?;
+        output.put_line(question)?;
     }
     Ok(())
 }
 
-/// Writes the line of a record, with its data as its type has it.
-fn write_record<W: Write>(found: &ParsedRecord<'_>, output: &mut W) -> Result<(), ToolError>
-    ensures written { OnOk result ((line : List ℕ) × IsRecordLine (record_fields found.now) line × Appends (W.contents output.old) (W.contents output.new) (line ++ 10 ∷ [])) }
-    ensures refused { IfRefused result (λ e. HasNoLine (record_fields found.now) e) }
-    ensures nothing_written { IfRefused result (λ _. output.new ≡ output.old) }
-{
-    let mut data = found.data();
-    let rdata = match AllRecordData::parse_any_rdata(found.rtype(), &mut data) {
-        Ok(rdata) => rdata,
-        Err(e) => return Err(ToolError::Parse(e)),
-    };
-    write_line(
-        output,
-        Record::new(found.owner(), found.class(), found.ttl(), rdata),
-    )?;
-    Ok(())
-}
-
-/// Writes the lines of this many records, and moves the parser past them.
-fn write_records<W: Write>(
+/// Writes this many records of a section, and moves the parser past them.
+fn write_records<W: Sink>(
+    section: Section,
+    rcode: Rcode,
     count: u16,
     parser: &mut Parser<'_>,
     output: &mut W,
 ) -> Result<(), ToolError>
-    ensures written { OnOk result (WritesAll RecordAt IsRecordLine (message parser.old) (position parser.old) count (position parser.new) (W.contents output.old) (W.contents output.new)) }
+    ensures written { OnOk result (WritesAll RecordAt (IsEntryText (rcode_number rcode) section) (message parser.old) (position parser.old) count (position parser.new) (W.contents output.old) (W.contents output.new)) }
     ensures moves { OnOk result (MovesTo parser.old parser.new (position parser.new)) }
-    ensures refused { IfRefused result (λ e. WritesSome RecordAt NoRecord IsRecordLine HasNoLine (message parser.old) (position parser.old) count (W.contents output.old) (W.contents output.new) e) }
+    ensures refused { IfRefused result (λ e. WritesSome RecordAt NoRecord (IsEntryText (rcode_number rcode) section) (message parser.old) (position parser.old) count (W.contents output.old) (W.contents output.new) e) }
+    ensures failed { IfWritingFailed result (W.failed output.new) }
 {
+    let mut opt_seen = false;
     for _record in 0..count {
         let found = match ParsedRecord::parse(parser) {
             Ok(found) => found,
             Err(e) => return Err(ToolError::Parse(e)),
         };
-        if let Err(e) = write_record(&found, output) {
-            return Err(e);
-        }
+        let seen = write_entry(section, rcode, opt_seen, &found, output)?;
+        opt_seen = seen;
     }
     Ok(())
 }
 
 /// Writes a section of records under its heading, and moves the parser past it.
-fn write_section<W: Write>(
+fn write_section<W: Sink>(
     section: Section,
     parser: &mut Parser<'_>,
     output: &mut W,
@@ -203,10 +185,12 @@ fn write_section<W: Write>(
     ensures written { OnOk result ((text : List ℕ) × ShowsSection (message parser.old) section (position parser.old) (position parser.new) text × Appends (W.contents output.old) (W.contents output.new) text) }
     ensures moves { OnOk result (MovesTo parser.old parser.new (position parser.new)) }
     ensures refused { IfRefused result (λ e. (text : List ℕ) × StopsInSection (message parser.old) section (position parser.old) text e × Appends (W.contents output.old) (W.contents output.new) text) }
+    ensures failed { IfWritingFailed result (W.failed output.new) }
 {
-    write_line(output, Heading { section })?;
+    output.put_line(Heading { section })?;
     let count = count_of(section, parser.as_slice());
-    write_records(count, parser, output)
+    let rcode = rcode_of(parser.as_slice());
+    write_records(section, rcode, count, parser, output)
 }
 
 /// How many records the header counts in a section.
@@ -222,13 +206,22 @@ fn count_of(section: Section, message: &[u8]) -> u16
     }
 }
 
+/// The response code of the header.
+fn rcode_of(message: &[u8]) -> Rcode
+    requires { 12 ≤ length message.now }
+    ensures { rcode_number result ≡ header_rcode message.now }
+{
+    Header::for_message_slice(message).rcode()
+}
+
 /// Writes the header and the questions, and moves the parser past these.
-fn write_to_questions<W: Write>(parser: &mut Parser<'_>, output: &mut W) -> Result<(), ToolError>
+fn write_to_questions<W: Sink>(parser: &mut Parser<'_>, output: &mut W) -> Result<(), ToolError>
     requires long { 12 ≤ length (message parser.old) }
     requires start { position parser.old ≡ 12 }
     ensures written { OnOk result ((text : List ℕ) × ShowsQuestions (message parser.old) (position parser.new) text × Appends (W.contents output.old) (W.contents output.new) text) }
     ensures moves { OnOk result (MovesTo parser.old parser.new (position parser.new)) }
     ensures refused { IfRefused result (λ e. WritesUntil (message parser.old) e (W.contents output.old) (W.contents output.new)) }
+    ensures failed { IfWritingFailed result (W.failed output.new) }
 {
     let message = parser.as_slice();
     if let Err(e) = write_header(message, output) {
@@ -239,12 +232,13 @@ fn write_to_questions<W: Write>(parser: &mut Parser<'_>, output: &mut W) -> Resu
 }
 
 /// Writes all up to the end of the answers, and moves the parser past these.
-fn write_to_answers<W: Write>(parser: &mut Parser<'_>, output: &mut W) -> Result<(), ToolError>
+fn write_to_answers<W: Sink>(parser: &mut Parser<'_>, output: &mut W) -> Result<(), ToolError>
     requires long { 12 ≤ length (message parser.old) }
     requires start { position parser.old ≡ 12 }
     ensures written { OnOk result ((text : List ℕ) × ShowsAnswers (message parser.old) (position parser.new) text × Appends (W.contents output.old) (W.contents output.new) text) }
     ensures moves { OnOk result (MovesTo parser.old parser.new (position parser.new)) }
     ensures refused { IfRefused result (λ e. WritesUntil (message parser.old) e (W.contents output.old) (W.contents output.new)) }
+    ensures failed { IfWritingFailed result (W.failed output.new) }
 {
     if let Err(e) = write_to_questions(parser, output) {
         return Err(e);
@@ -253,12 +247,13 @@ fn write_to_answers<W: Write>(parser: &mut Parser<'_>, output: &mut W) -> Result
 }
 
 /// Writes all up to the end of the authority section, and moves the parser past it.
-fn write_to_authority<W: Write>(parser: &mut Parser<'_>, output: &mut W) -> Result<(), ToolError>
+fn write_to_authority<W: Sink>(parser: &mut Parser<'_>, output: &mut W) -> Result<(), ToolError>
     requires long { 12 ≤ length (message parser.old) }
     requires start { position parser.old ≡ 12 }
     ensures written { OnOk result ((text : List ℕ) × ShowsAuthority (message parser.old) (position parser.new) text × Appends (W.contents output.old) (W.contents output.new) text) }
     ensures moves { OnOk result (MovesTo parser.old parser.new (position parser.new)) }
     ensures refused { IfRefused result (λ e. WritesUntil (message parser.old) e (W.contents output.old) (W.contents output.new)) }
+    ensures failed { IfWritingFailed result (W.failed output.new) }
 {
     if let Err(e) = write_to_answers(parser, output) {
         return Err(e);
@@ -267,9 +262,13 @@ fn write_to_authority<W: Write>(parser: &mut Parser<'_>, output: &mut W) -> Resu
 }
 
 /// Writes the header, the questions, and the records of each section.
-fn write_message<W: Write>(message: &[u8], output: &mut W) -> Result<(), ToolError>
+///
+/// `Parse` says why the message can't be shown to its end: it has fewer than twelve octets, or a question or record that
+/// the header counts is missing. All lines before that are written. The other errors are of writing.
+pub(crate) fn write_message<W: Sink>(message: &[u8], output: &mut W) -> Result<(), ToolError>
     ensures written { OnOk result (WritesMessage message.now (W.contents output.old) (W.contents output.new)) }
     ensures refused { IfRefused result (λ e. WritesUntil message.now e (W.contents output.old) (W.contents output.new)) }
+    ensures failed { IfWritingFailed result (W.failed output.new) }
 {
     let mut parser = Parser::from_ref(message);
     if let Err(_) = parser.seek(12) {
@@ -284,9 +283,12 @@ fn write_message<W: Write>(message: &[u8], output: &mut W) -> Result<(), ToolErr
 /// Reads the input to its end, and writes the message in presentation format: two lines of the header, and for each section
 /// its heading and a line for each question or record.
 ///
-/// `Parse` says why the message can't be shown to its end: it has fewer than twelve octets, a question or record that the
-/// header counts is missing, or the data of a record can't be read. All lines before that are written.
-pub fn show_message<R: Read, W: Write>(
+/// Data of a record that can't be read is shown in the form of RFC 3597, 5, with the reason after it. An OPT record of the
+/// root in the additional section has a line of its version, flags and size, and one for each option (RFC 6891, 6.1).
+///
+/// `Parse` says why the message can't be shown to its end: it has fewer than twelve octets, or a question or record that
+/// the header counts is missing. All lines before that are written. `Read`, `Write` or `Memory` where one of these failed.
+pub fn show_message<R: Source, W: Sink>(
     alloc: Global,
     input: &mut R,
     output: &mut W,
@@ -294,7 +296,11 @@ pub fn show_message<R: Read, W: Write>(
     ensures whole { OnAnswer result (IsAtEnd (R.remaining input.new)) }
     ensures written { OnOk result (IfSome (R.remaining input.old) (λ m. WritesMessage m (W.contents output.old) (W.contents output.new))) }
     ensures refused { IfRefused result (λ e. IfSome (R.remaining input.old) (λ m. WritesUntil m e (W.contents output.old) (W.contents output.new))) }
+    ensures failed { IfStreamFailed result ((R.failed input.new × (output.new ≡ output.old)) ⊎ W.failed output.new) }
 {
-    let octets = read_all(alloc, input)?;
+    let octets = match input.read_whole(alloc) {
+        Ok(octets) => octets,
+        Err(e) => return Err(e),
+    };
     write_message(octets.as_slice(), output)
 }

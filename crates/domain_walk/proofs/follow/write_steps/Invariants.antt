@@ -3,7 +3,7 @@ use Rattle.domain_walk.proofs.Telling.{IsErrorOfText}
 use Rattle.domain_walk.proofs.follow.write_steps.Given as goal
 
 abbrev pub invariant-heads : goal.invariant-heads
-invariant-heads g l = IsErrorOfText l.message l.offset l.progress l.table l.initial.heads l.heads (g.W.Write.contents l.initial.output) (g.W.Write.contents l.output)
+invariant-heads g l = IsErrorOfText l.message l.offset l.progress l.table l.initial.heads l.heads (g.W.Sink.contents l.initial.output) (g.W.Sink.contents l.output)
 
 -- a label makes the octets more, and a pointer the pointers
 abbrev pub decreases-heads : goal.decreases-heads

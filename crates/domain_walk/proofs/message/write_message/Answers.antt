@@ -9,13 +9,13 @@ use Rattle.domain_walk.proofs.message.write_message.Goals as goal
 pub returns-in-Err-clause-refused : goal.returns-in-Err-clause-refused
 returns-in-Err-clause-refused g c =
     let short = subst (λ o. length o < 12) c.from_ref-parser.ensures.message (c.in-Err.ensures.short.0 refl) in
-    stopped_short c.args.message.now (g.W.Write.contents c.args.output.now) short
+    stopped_short c.args.message.now (g.W.Sink.contents c.args.output.now) short
 
 pub returns-clause-written : goal.returns-clause-written
 returns-clause-written g c =
     let m = c.args.message.now in
-    let old = g.W.Write.contents c.args.output.now in
-    let mid = g.W.Write.contents c.write_to_authority.new.output in
+    let old = g.W.Sink.contents c.args.output.now in
+    let mid = g.W.Sink.contents c.write_to_authority.new.output in
     let start : message c.seek.new.self ≡ m = same_message _ _ _ c.in_default.ensures.ok ∙ c.from_ref-parser.ensures.message in
     let before = subst (λ o. Wrote (ShowsAuthority o (position c.write_to_authority.new.parser)) old mid) start c.in_default-write_to_authority.ensures.written in
     let same = same_message _ _ _ c.in_default-write_to_authority.ensures.moves ∙ start in
@@ -24,8 +24,8 @@ returns-clause-written g c =
 pub returns-clause-refused : goal.returns-clause-refused
 returns-clause-refused g c =
     let m = c.args.message.now in
-    let old = g.W.Write.contents c.args.output.now in
-    let mid = g.W.Write.contents c.write_to_authority.new.output in
+    let old = g.W.Sink.contents c.args.output.now in
+    let mid = g.W.Sink.contents c.write_to_authority.new.output in
     let start : message c.seek.new.self ≡ m = same_message _ _ _ c.in_default.ensures.ok ∙ c.from_ref-parser.ensures.message in
     let before = subst (λ o. Wrote (ShowsAuthority o (position c.write_to_authority.new.parser)) old mid) start c.in_default-write_to_authority.ensures.written in
     let same = same_message _ _ _ c.in_default-write_to_authority.ensures.moves ∙ start in

@@ -1,7 +1,6 @@
-use Rattle.domain_message.specs.Entries.{RecordAt}
-use Rattle.domain_walk.specs.Messages.{IsRecordLine}
-use Rattle.domain_walk.proofs.Showing.{Written}
+use Rattle.domain_header.specs.Values.{rcode_number}
+use Rattle.domain_walk.proofs.Showing.{Recorded}
 use Rattle.domain_walk.proofs.message.write_records.Given as goal
 
 abbrev pub invariant-loop-record : goal.invariant-loop-record
-invariant-loop-record g l = Written RecordAt IsRecordLine l.initial.parser l._record l.parser (g.W.Write.contents l.initial.output) (g.W.Write.contents l.output)
+invariant-loop-record g l = Recorded (rcode_number l.rcode) l.section l.initial.parser l._record l.parser (g.W.Sink.contents l.initial.output) (g.W.Sink.contents l.output) l.opt_seen
