@@ -1,11 +1,13 @@
 #!/usr/bin/env python3
-"""Answers the lines `answers` and `limit` of the conformance table of messages, written from the standards.
+"""Answers the lines `answers`, `limit` and `any` of the conformance table of messages, written from the standards.
 
     second.py < LINES
 
 It is a reader of its own: RFC 1035, 3.3, 3.4, 4.1 and 5.1 for messages, data and texts, RFC 5452, 9.1 for which message
-answers which query, RFC 2782, 3596 and 6672 for SRV, AAAA and DNAME, RFC 5952 for IPv6 addresses. The texts of errors,
-and which of several comes first, are those of the Rust crate. Another line is answered by nothing.
+answers which query, RFC 2782, 3596 and 6672 for SRV, AAAA and DNAME, RFC 5952 for IPv6 addresses; for `any` the RFC of each
+type beside it, RFC 4034, 6.2, with RFC 6840, 5.1, for the canonical form, RFC 3597, 4 and 5, for what may be compressed and
+for types that aren't known. The texts of errors, and which of several comes first, are those of the Rust crate. Another
+line is answered by nothing.
 """
 import ipaddress
 import sys
@@ -125,6 +127,76 @@ TYPES = {"a": (1, of_a), "ns": (2, of_name), "cname": (5, of_name), "soa": (6, o
          "mx": (15, of_mx), "txt": (16, of_txt), "aaaa": (28, of_aaaa), "srv": (33, of_srv), "dname": (39, of_name)}
 
 
+# What the data of a type is, one letter a field: n a name that may be compressed, w one that is written whole, 1, 2 and 4 a
+# number of as many octets, a and A an address.
+SHAPES = {
+    1: "a", 2: "n", 3: "n", 4: "n", 5: "n", 6: "nn44444", 7: "n", 8: "n", 9: "n", 12: "n", 14: "nn", 15: "2n",  # RFC 1035
+    17: "ww", 18: "2w", 21: "2w",  # RFC 1183
+    26: "2ww",  # RFC 2163
+    28: "A",  # RFC 3596
+    33: "222w",  # RFC 2782
+    36: "2w",  # RFC 2230
+    39: "w",  # RFC 6672
+}
+# RFC 4034, 6.2, without NSEC, and without HINFO, which has no name (RFC 6840, 5.1)
+LOWERCASE = {2, 3, 4, 5, 6, 7, 8, 9, 12, 14, 15, 17, 18, 21, 24, 26, 30, 33, 35, 36, 38, 39, 46}
+
+
+def name_octets(labels):
+    return b"".join(bytes([len(label)]) + label for label in labels) + b"\0"
+
+
+def field(data, kind, lowercase):
+    """A field: its octets, those of the canonical form, and its text."""
+    if kind in "nw":
+        labels = data.name()
+        return name_octets(labels), name_octets([label.lower() if lowercase else label for label in labels]), name_text(labels)
+    start = data.place
+    if kind in "aA":
+        text = of_a(data) if kind == "a" else of_aaaa(data)
+    else:
+        text = str(data.number(int(kind)))
+    octets = data.octets[start:data.place]
+    return octets, octets, text
+
+
+def of_any(rtype, data):
+    """Data of any type: its octets, the canonical form or None, the length where it is known, and its text."""
+    if rtype in SHAPES:
+        shape = SHAPES[rtype]
+        composed, canonical, texts = zip(*(field(data, kind, rtype in LOWERCASE) for kind in shape))
+        if data.place < data.end:
+            raise Refused("trailing data")
+        length = "-" if "n" in shape else str(sum(map(len, composed)))
+        return b"".join(composed), b"".join(canonical), length, " ".join(texts)
+    whole = data.octets[data.place:data.end]
+    if len(whole) > 65535:
+        raise Refused("record data too long")
+    if rtype == 16:
+        return whole, whole, str(len(whole)), of_txt(data)
+    text = "\\# " + " ".join([str(len(whole))] + ["%02x" % octet for octet in whole])
+    return whole, None if rtype in LOWERCASE else whole, str(len(whole)), text
+
+
+def any_answer(fields):
+    """The answer to a line `any`."""
+    try:
+        rtype, begin, size = (int(fields[place]) for place in (0, 2, 3))
+        octets = octets_of(fields[1])
+    except ValueError:
+        return "bad"
+    if rtype > 65535 or begin + size > len(octets):
+        return "bad"
+    try:
+        composed, canonical, length, text = of_any(rtype, Reader(octets, begin, begin + size))
+    except Refused as why:
+        return f"err {why}"
+    shown = [it.hex() or "-" for it in (composed, canonical or b"")]
+    if canonical is None:
+        shown[1] = "unknown"
+    return f"ok {shown[0]} {shown[1]} {length} {text}"
+
+
 class Message:
     def __init__(self, octets):
         if len(octets) < 12:
@@ -173,6 +245,8 @@ def kept(message, word, only_in):
 def answer(line):
     """The answer to a line."""
     word, *fields = line.split(" ")
+    if word == "any" and len(fields) == 4:
+        return any_answer(fields)
     if len(fields) != 2 or word not in ("answers", "limit"):
         return "bad"
     try:

@@ -4,8 +4,8 @@
     table.py ANSWERER [WORD ..]
     table.py --random COUNT SEED
 
-ANSWERER is a command that answers the lines of README.md beside this file; those of `answers` and `limit` are answered by
-second.py. No answer comes from the program itself. Parts of answers that stand here beside their line must be in what is
+ANSWERER is a command that answers the lines of README.md beside this file; those of `answers`, `limit` and `any` are answered
+by second.py. No answer comes from the program itself. Parts of answers that stand here beside their line must be in what is
 answered.
 
 With --random it prints lines of so many random and mutated messages, always the same for a SEED.
@@ -417,6 +417,65 @@ def limit_rows():
     limited("a", b"", "err short message")
 
 
+# Data of each type that `any` reads by its fields: octets, and the text that its RFC has for them or that is in its form.
+ANY = (
+    (3, name("Mail.Example."), "Mail.Example."), (4, name("mail.example."), "mail.example."), (7, name("a.B."), "a.B."),
+    (8, name("A."), "A."), (9, b"\0", "."), (14, name("Who.a.") + name("err.B."), "Who.a. err.B."),
+    (17, name("Louie.Trantor.umd.edu.") + name("LAM1.people.umd.edu."), "Louie.Trantor.umd.edu. LAM1.people.umd.edu."),
+    (18, u16(1) + name("Bigbird.toaster.com."), "1 Bigbird.toaster.com."), (21, u16(10) + name("NET.prime.com."), "10 NET.prime.com."),
+    (26, u16(50) + name("ab.net2.it.") + name("O-ab.PRMD-net2.ADMDb.C-it."), "50 ab.net2.it. O-ab.PRMD-net2.ADMDb.C-it."),
+    (36, u16(2) + name("rodney-KX.iana.org."), "2 rodney-KX.iana.org."),
+    (13, b"\1a\1b", "\\# 4 01 61 01 62"), (35, u16(1) + u16(2) + b"\0\0\0" + name("A."), "\\# 10 00 01 00 02 00 00 00 01 41 00"),
+    (16, b"\1a\0", '"a" ""'), (1, b"\1\2\3\4", "1.2.3.4"), (46, b"\0\1", "\\# 2 00 01"), (47, name("B.") + b"\0\1\x40", "\\# 6 01 42 00 00 01 40"),
+    (65280, b"", "\\# 0"), (99, b"\xff", "\\# 1 ff"),
+)
+
+
+def any_rows():
+    topic("data of any type: by its fields where they are known, cut and too long, and as octets")
+    for rtype, octets, text in ANY:
+        row("any", rtype, octets, 0, len(octets), told=" " + text)
+        for size in range(len(octets)):
+            row("any", rtype, octets, 0, size)
+        for more in (1, 255):
+            row("any", rtype, octets + b"\1" * more, 0, len(octets) + more)
+        row("any", rtype, b"\xff" + octets + b"\xff", 1, len(octets), told="ok " + (octets.hex() or "-") + " ")
+    for rtype, octets, _text in ANY + tuple((rtype, octets, "") for rtype, octets in OF_TYPE.items()):
+        for other in (*second.SHAPES, 16, 46, 99):
+            row("any", other, octets, 0, len(octets))
+    topic("data of any type: names with pointers, in capitals")
+    before = header() + name("WWW.Example.com.")
+    at = len(before)
+    for rtype, shape in second.SHAPES.items():
+        for last in (pointer(12), pointer(16), b"\1A" + pointer(12), pointer(at), b"\xc0", pointer(at + 1), b"\0", name("Z.")):
+            fields = {"n": pointer(12), "w": b"\2aB" + pointer(12), "2": u16(515), "4": u32(67438087), "a": b"\1\2\3\4", "A": bytes(16)}
+            data = b"".join(last if place == len(shape) - 1 and kind in "nw" else fields[kind] for place, kind in enumerate(shape))
+            row("any", rtype, before + data, at, len(data))
+            row("any", rtype, before + data + b"\0", at, len(data))
+    topic("data of any type: drawn at random, and as long as it may be")
+    rng = random.Random(2)
+    for _row in range(1500):
+        rtype = rng.choice((*second.SHAPES, 16, 16, 47, 65280))
+        octets = header() + name("Ns1.Example.org.")
+        at = len(octets)
+        sizes = {"2": 2, "4": 4, "a": 4, "A": 16}
+        for kind in second.SHAPES.get(rtype, "ss" if rtype == 16 else "h"):
+            if kind in "nw":
+                octets += random_name(rng, [12, 16], len(octets))
+            elif kind in "st":
+                size = rng.choice((0, 1, 2, 5, 20, 255))
+                octets += bytes([size]) + bytes(rng.randrange(256) if rng.random() < 0.3 else rng.randrange(48, 123) for _octet in range(size))
+            else:
+                octets += bytes(rng.randrange(256) for _octet in range(sizes.get(kind) or rng.choice((0, 1, 2, 3, 20, 32, 64))))
+        if rng.random() < 0.3:
+            octets = octets[:at] + mutated(rng, octets[at:])
+        row("any", rtype, octets, at, len(octets) - at)
+    for rtype in (16, 65280):
+        row("any", rtype, "zeros:65536", 0, 65536, told="err record data too long")
+    for line in ("any 13 00 0", "any 65536 00 0 1", "any 13 00 0 2", "any 13 00 2 0", "any x 00 0 1", "any 13 0 0 0"):
+        row(line, told="bad")
+
+
 def random_name(rng, places, at):
     """Labels of a few words, in any case, and then the root or a pointer to a name, sometimes to anywhere."""
     octets = b""
@@ -510,7 +569,7 @@ def random_lines(count, seed):
 
 def answers_to(lines, answerer):
     """The answer to each line, by second.py or by the command."""
-    ours = [line.split(" ")[0] in ("answers", "limit") for line in lines]
+    ours = [line.split(" ")[0] in ("answers", "limit", "any") for line in lines]
     text = "".join(line + "\n" for line, is_ours in zip(lines, ours) if not is_ours)
     ran = subprocess.run(answerer, input=text.encode(), stdout=subprocess.PIPE, check=True)
     others = ran.stdout.decode().splitlines()
@@ -527,7 +586,7 @@ def main():
     answerer = sys.argv[1:]
     if not answerer:
         sys.exit(__doc__)
-    for make in (header_rows, section_rows, long_rows, data_rows, chain_rows, answers_rows, limit_rows):
+    for make in (header_rows, section_rows, long_rows, data_rows, chain_rows, answers_rows, limit_rows, any_rows):
         make()
     topic("random and mutated messages")
     for line in random_lines(400, 1):

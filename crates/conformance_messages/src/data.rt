@@ -1,9 +1,11 @@
 //! Record data by its type.
 
-use conformance_answer::{Answer, Fail, Fields};
-use domain_data::{A, Aaaa, Cname, Dname, Mx, Ns, Ptr, Soa, Srv};
+use conformance_answer::{Answer, Fail, Fields, is};
+use domain_data::{A, Aaaa, AllRecordData, Cname, Dname, Mx, Ns, Ptr, Soa, Srv};
 use domain_parsed::ParsedName;
-use domain_rdata::{ComposeRecordData, ParseRecordData, Rtype};
+use domain_rdata::{
+    CanonicalError, ComposeRecordData, ParseAnyRecordData, ParseRecordData, RecordData, Rtype,
+};
 use domain_traits::ToName;
 use octseq::Parser;
 
@@ -15,7 +17,7 @@ pub fn put_name(out: &mut Answer, word: &[u8], name: &Read<'_>) {
     out.put_text_after(word, name.fmt_with_dot());
 }
 
-/// `data TYPE OCTETS OFFSET LENGTH`: asks each type of data.
+/// `data TYPE OCTETS OFFSET LENGTH`: asks each type of data. `any` with the same words reads data of any type.
 pub fn put_data(out: &mut Answer, fields: Fields<'_>) {
     let rtype = fields.number(1, out);
     let octets = fields.octets(2, out);
@@ -26,6 +28,9 @@ pub fn put_data(out: &mut Answer, fields: Fields<'_>) {
     }
     let rtype = Rtype::from_int(rtype as u16);
     let parser = Parser::with_range(octets.as_slice(), offset..end);
+    if is(fields.at(0), b"any") {
+        return put_any(out, rtype, parser);
+    }
     put_a(out, rtype, parser);
     put_aaaa(out, rtype, parser);
     put_ns(out, rtype, parser);
@@ -37,6 +42,23 @@ pub fn put_data(out: &mut Answer, fields: Fields<'_>) {
     put_soa(out, rtype, parser);
     if out.len() == 0 {
         out.put(b"none");
+    }
+}
+
+/// Reads data by its fields where the type is known, else as octets.
+fn put_any(out: &mut Answer, rtype: Rtype, parser: Parser<'_>) {
+    let mut left = parser;
+    match AllRecordData::parse_any_rdata(rtype, &mut left) {
+        Ok(data) => {
+            out.agree(left.remaining() == 0, b"parse_any_rdata");
+            out.agree(data.rtype() == rtype, b"rtype");
+            put_forms(out, &data);
+            out.put_text_after(b"", data);
+        }
+        Err(error) => {
+            out.agree(left.pos() == parser.pos(), b"parse_any_rdata");
+            out.put_text_after(b"err ", error);
+        }
     }
 }
 
@@ -66,19 +88,22 @@ fn read<'a, D: ParseRecordData<'a> + ComposeRecordData + Drop>(
     }
 }
 
-/// The octets with no name compressed, the canonical form, and the length if it is known where names are compressed.
+/// The octets with no name compressed, the canonical form, or that it isn't known, and the length if it is known where names are
+/// compressed.
 fn put_forms<D: ComposeRecordData>(out: &mut Answer, data: &D) {
     let mut composed: Vec<u8> = Vec::new(out.alloc());
     let mut canonical: Vec<u8> = Vec::new(out.alloc());
-    if data.compose_rdata(&mut composed).is_err()
-        || data.compose_canonical_rdata(&mut canonical).is_err()
-    {
+    if data.compose_rdata(&mut composed).is_err() {
         out.fail(Fail::Memory);
     }
     out.put(b"ok ");
     out.put_hex(composed.as_slice());
     out.put(b" ");
-    out.put_hex(canonical.as_slice());
+    match data.compose_canonical_rdata(&mut canonical) {
+        Ok(()) => out.put_hex(canonical.as_slice()),
+        Err(CanonicalError::UnknownNames) => out.put(b"unknown"),
+        Err(_) => out.fail(Fail::Memory),
+    }
     match data.rdlen(true) {
         Some(len) => out.put_text_after(b" ", len),
         None => out.put(b" -"),

@@ -24,7 +24,7 @@ use std::process::ExitCode;
 fn respond(line: &[u8], out: &mut Answer) {
     let fields = Fields::new(line);
     let word = fields.at(0);
-    if is(word, b"data") {
+    if is(word, b"data") || is(word, b"any") {
         fields.expect(5, out);
         put_data(out, fields);
     } else if is(word, b"write") {
