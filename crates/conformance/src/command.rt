@@ -26,23 +26,29 @@ pub fn answer_parsed(fields: Fields<'_>, out: &mut Answer) -> bool {
 /// `WORD OCTETS OFFSET`, and maybe an end
 fn answer_message(fields: Fields<'_>, out: &mut Answer) -> bool {
     let octets = fields.octets(1, out);
-    let place = fields.number(2, out);
+    let offset = fields.number(2, out);
     let mut end = octets.len();
     if fields.count() != 3 {
         fields.expect(4, out);
         end = fields.number(3, out);
     }
-    call_on_message(fields.at(0), octets.as_slice(), place, end, out) || out.is_other_word()
+    call_on_message(fields.at(0), octets.as_slice(), offset, end, out) || out.is_other_word()
 }
 
 /// The calls of `answer_message`, by the word: false where it names none of them.
-fn call_on_message(word: &[u8], octets: &[u8], place: usize, end: usize, out: &mut Answer) -> bool {
+fn call_on_message(
+    word: &[u8],
+    octets: &[u8],
+    offset: usize,
+    end: usize,
+    out: &mut Answer,
+) -> bool {
     if is(word, b"parse") {
-        put_parse(out, octets, place, end);
+        put_parse(out, octets, offset, end);
     } else if is(word, b"skip") {
-        put_skip(out, octets, place, end);
+        put_skip(out, octets, offset, end);
     } else if is(word, b"nparse") {
-        put_nparse(out, octets, place, end);
+        put_nparse(out, octets, offset, end);
     } else {
         return false;
     }
@@ -53,20 +59,20 @@ fn call_on_message(word: &[u8], octets: &[u8], place: usize, end: usize, out: &m
 fn answer_place(fields: Fields<'_>, out: &mut Answer) -> bool {
     fields.expect(3, out);
     let octets = fields.octets(1, out);
-    let place = fields.number(2, out);
-    call_on_place(fields.at(0), octets.as_slice(), place, out) || out.is_other_word()
+    let offset = fields.number(2, out);
+    call_on_place(fields.at(0), octets.as_slice(), offset, out) || out.is_other_word()
 }
 
 /// The calls of `answer_place`, by the word: false where it names none of them.
-fn call_on_place(word: &[u8], octets: &[u8], place: usize, out: &mut Answer) -> bool {
+fn call_on_place(word: &[u8], octets: &[u8], offset: usize, out: &mut Answer) -> bool {
     if is(word, b"walk") {
-        put_walk(out, octets, place);
+        put_walk(out, octets, offset);
     } else if is(word, b"parentswalk") {
-        put_parentswalk(out, octets, place);
+        put_parentswalk(out, octets, offset);
     } else if is(word, b"pforms") {
-        put_parsed_forms(out, octets, place);
+        put_parsed_forms(out, octets, offset);
     } else if is(word, b"fromflat") {
-        put_fromflat(out, octets, place);
+        put_fromflat(out, octets, offset);
     } else {
         return false;
     }
@@ -112,12 +118,12 @@ fn call_on_places(
 fn answer_beside(fields: Fields<'_>, out: &mut Answer) -> bool {
     fields.expect(4, out);
     let octets = fields.octets(1, out);
-    let place = fields.number(2, out);
+    let offset = fields.number(2, out);
     let other = fields.octets(3, out);
     call_on_beside(
         fields.at(0),
         octets.as_slice(),
-        place,
+        offset,
         other.as_slice(),
         out,
     ) || out.is_other_word()
@@ -127,14 +133,14 @@ fn answer_beside(fields: Fields<'_>, out: &mut Answer) -> bool {
 fn call_on_beside(
     word: &[u8],
     octets: &[u8],
-    place: usize,
+    offset: usize,
     other: &[u8],
     out: &mut Answer,
 ) -> bool {
     if is(word, b"pname") {
-        put_pname(out, octets, place, other);
+        put_pname(out, octets, offset, other);
     } else if is(word, b"prel") {
-        put_prel(out, octets, place, other);
+        put_prel(out, octets, offset, other);
     } else {
         return false;
     }
@@ -145,20 +151,20 @@ fn call_on_beside(
 fn answer_long(fields: Fields<'_>, out: &mut Answer) -> bool {
     fields.expect(5, out);
     let octets = fields.octets(1, out);
-    let place = fields.number(2, out);
-    call_on_fields(fields, octets.as_slice(), place, out) || out.is_other_word()
+    let offset = fields.number(2, out);
+    call_on_fields(fields, octets.as_slice(), offset, out) || out.is_other_word()
 }
 
 /// The calls of `answer_long`, by the word: false where it names none of them.
-fn call_on_fields(fields: Fields<'_>, octets: &[u8], place: usize, out: &mut Answer) -> bool {
+fn call_on_fields(fields: Fields<'_>, octets: &[u8], offset: usize, out: &mut Answer) -> bool {
     let word = fields.at(0);
     if is(word, b"mixture") {
         let labels = fields.number(3, out);
-        put_mixture(out, octets, place, labels, fields.at(4));
+        put_mixture(out, octets, offset, labels, fields.at(4));
     } else if is(word, b"pchain") {
         let left = fields.octets(3, out);
         let right = fields.octets(4, out);
-        put_pchain(out, octets, place, left.as_slice(), right.as_slice());
+        put_pchain(out, octets, offset, left.as_slice(), right.as_slice());
     } else {
         return false;
     }

@@ -98,15 +98,15 @@ fn put_raw<T: Composer>(out: &mut Answer, target: &mut CompressComposer<T>, digi
 
 /// Octets over those that stand at an offset.
 fn put_over<T: Composer>(out: &mut Answer, target: &mut CompressComposer<T>, field: &[u8]) {
-    let (place, digits) = split_once(field, b',');
-    let (Ok(place), Ok(octets)) = (
-        decimal(place),
+    let (offset, digits) = split_once(field, b',');
+    let (Ok(offset), Ok(octets)) = (
+        decimal(offset),
         octets_of(digits.unwrap_or(b""), out.alloc()),
     ) else {
         return out.fail(Fail::Bad);
     };
     for (at, octet) in octets.iter().enumerate() {
-        match target.as_slice_mut().get_mut(place.saturating_add(at)) {
+        match target.as_slice_mut().get_mut(offset.saturating_add(at)) {
             Some(written) => *written = *octet,
             None => out.fail(Fail::Bad),
         }

@@ -12,8 +12,8 @@ use domain_parsed::ParsedName;
 pub fn put_everywhere(out: &mut Answer, message: &[u8]) {
     let mut pairs: usize = 0;
     for end in 0..message.len().saturating_add(1) {
-        if let Some((place, what)) = first_difference(message, end) {
-            out.put_number(place);
+        if let Some((offset, what)) = first_difference(message, end) {
+            out.put_number(offset);
             out.put_number_after(b" ", end);
             return out.put_text_after(b" ", what);
         }
@@ -24,35 +24,35 @@ pub fn put_everywhere(out: &mut Answer, message: &[u8]) {
 
 /// The first offset where an answer differs, and what differs there. The octets from the end on don't count.
 fn first_difference(message: &[u8], end: usize) -> Option<(usize, &'static str)> {
-    for place in 0..end.saturating_add(1) {
-        if let Some(what) = difference_at(message, place, end) {
-            return Some((place, what));
+    for offset in 0..end.saturating_add(1) {
+        if let Some(what) = difference_at(message, offset, end) {
+            return Some((offset, what));
         }
     }
     None
 }
 
-fn difference_at(message: &[u8], place: usize, end: usize) -> Option<&'static str> {
+fn difference_at(message: &[u8], offset: usize, end: usize) -> Option<&'static str> {
     let Some(before) = message.get(..end) else {
         return Some("end");
     };
-    match parse_difference(message, before, place) {
-        None => skip_difference(message, before, place),
+    match parse_difference(message, before, offset) {
+        None => skip_difference(message, before, offset),
         what => what,
     }
 }
 
 /// What `parse` answers otherwise than the slow reader. That one has only the octets before the end.
-fn parse_difference(message: &[u8], before: &[u8], place: usize) -> Option<&'static str> {
-    let Some(mut parser) = parser_at(message, place, before.len()) else {
+fn parse_difference(message: &[u8], before: &[u8], offset: usize) -> Option<&'static str> {
+    let Some(mut parser) = parser_at(message, offset, before.len()) else {
         return Some("parser");
     };
-    match (ParsedName::parse(&mut parser), read_slowly(before, place)) {
+    match (ParsedName::parse(&mut parser), read_slowly(before, offset)) {
         (Ok(name), Ok(slow)) => name_difference(name, parser.pos(), &slow),
         (Err(error), Err(fault)) => {
             if error != fault {
                 Some("error of parse")
-            } else if parser.pos() != place {
+            } else if parser.pos() != offset {
                 Some("parser after a refused parse")
             } else {
                 None
@@ -88,15 +88,15 @@ fn has_labels(name: ParsedName<&[u8]>, octets: &[u8]) -> bool {
 }
 
 /// What `skip` answers otherwise than the slow reader.
-fn skip_difference(message: &[u8], before: &[u8], place: usize) -> Option<&'static str> {
-    let Some(mut parser) = parser_at(message, place, before.len()) else {
+fn skip_difference(message: &[u8], before: &[u8], offset: usize) -> Option<&'static str> {
+    let Some(mut parser) = parser_at(message, offset, before.len()) else {
         return Some("parser");
     };
-    match (ParsedName::skip(&mut parser), skip_slowly(before, place)) {
+    match (ParsedName::skip(&mut parser), skip_slowly(before, offset)) {
         (Ok(()), Ok(behind)) if parser.pos() != behind => Some("parser after skip"),
         (Ok(()), Ok(_)) => None,
         (Err(error), Err(fault)) if error != fault => Some("error of skip"),
-        (Err(_), Err(_)) if parser.pos() != place => Some("parser after a refused skip"),
+        (Err(_), Err(_)) if parser.pos() != offset => Some("parser after a refused skip"),
         (Err(_), Err(_)) => None,
         _ => Some("skip"),
     }

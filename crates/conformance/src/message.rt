@@ -12,21 +12,21 @@ use domain_wire::ParseError;
 use octseq::Octets;
 
 /// The name at an offset of a message.
-pub fn name_at(message: &[u8], place: usize) -> Option<ParsedName<&[u8]>> {
-    let mut parser = parser_at(message, place, message.len())?;
+pub fn name_at(message: &[u8], offset: usize) -> Option<ParsedName<&[u8]>> {
+    let mut parser = parser_at(message, offset, message.len())?;
     match ParsedName::parse(&mut parser) {
         Ok(name) => Some(name),
         Err(_) => None,
     }
 }
 
-fn put_refusal(out: &mut Answer, place: usize, error: ParseError) {
-    out.put_number_after(b"err ", place);
+fn put_refusal(out: &mut Answer, offset: usize, error: ParseError) {
+    out.put_number_after(b"err ", offset);
     out.put_text_after(b" ", error);
 }
 
-pub fn put_parse(out: &mut Answer, message: &[u8], place: usize, end: usize) {
-    let Some(mut parser) = parser_at(message, place, end) else {
+pub fn put_parse(out: &mut Answer, message: &[u8], offset: usize, end: usize) {
+    let Some(mut parser) = parser_at(message, offset, end) else {
         return out.fail(Fail::Bad);
     };
     let mut twin = parser;
@@ -41,11 +41,11 @@ pub fn put_parse(out: &mut Answer, message: &[u8], place: usize, end: usize) {
 }
 
 /// By `parse_with_limit`: as `put_parse`, with so many pointers at most.
-pub fn put_limited(out: &mut Answer, message: &[u8], place: usize, limit: usize) {
+pub fn put_limited(out: &mut Answer, message: &[u8], offset: usize, limit: usize) {
     if limit > 255 {
         return out.fail(Fail::Bad);
     }
-    let Some(mut parser) = parser_at(message, place, message.len()) else {
+    let Some(mut parser) = parser_at(message, offset, message.len()) else {
         return out.fail(Fail::Bad);
     };
     let mut twin = parser;
@@ -78,13 +78,13 @@ fn is_same_name(a: &ParsedName<&[u8]>, b: &ParsedName<&[u8]>) -> bool {
     a == b && a.is_compressed() == b.is_compressed()
 }
 
-fn put_read(out: &mut Answer, name: ParsedName<&[u8]>, place: usize) {
+fn put_read(out: &mut Answer, name: ParsedName<&[u8]>, offset: usize) {
     let Ok(flat) = name.to_vec(out.alloc()) else {
         return out.fail(Fail::Memory);
     };
     out.put_hex_after(b"ok ", flat.as_slice());
     out.put(if name.is_compressed() { b" c " } else { b" f " });
-    out.put_number(place);
+    out.put_number(offset);
     is_measured_as(out, name, flat.for_slice());
     has_parts_of(out, name, flat.for_slice());
     is_flattened(out, name, flat.as_slice());
@@ -134,8 +134,8 @@ fn is_flattened(out: &mut Answer, name: ParsedName<&[u8]>, wire: &[u8]) {
     }
 }
 
-pub fn put_skip(out: &mut Answer, message: &[u8], place: usize, end: usize) {
-    let Some(mut parser) = parser_at(message, place, end) else {
+pub fn put_skip(out: &mut Answer, message: &[u8], offset: usize, end: usize) {
+    let Some(mut parser) = parser_at(message, offset, end) else {
         return out.fail(Fail::Bad);
     };
     match ParsedName::skip(&mut parser) {
@@ -146,8 +146,8 @@ pub fn put_skip(out: &mut Answer, message: &[u8], place: usize, end: usize) {
     }
 }
 
-pub fn put_nparse(out: &mut Answer, message: &[u8], place: usize, end: usize) {
-    let Some(mut parser) = parser_at(message, place, end) else {
+pub fn put_nparse(out: &mut Answer, message: &[u8], offset: usize, end: usize) {
+    let Some(mut parser) = parser_at(message, offset, end) else {
         return out.fail(Fail::Bad);
     };
     match Name::parse(&mut parser) {
@@ -159,8 +159,8 @@ pub fn put_nparse(out: &mut Answer, message: &[u8], place: usize, end: usize) {
     }
 }
 
-pub fn put_walk(out: &mut Answer, message: &[u8], place: usize) {
-    let Some(mut parser) = parser_at(message, place, message.len()) else {
+pub fn put_walk(out: &mut Answer, message: &[u8], offset: usize) {
+    let Some(mut parser) = parser_at(message, offset, message.len()) else {
         return out.fail(Fail::Bad);
     };
     match ParsedName::parse(&mut parser) {
@@ -260,8 +260,8 @@ fn put_canonical(out: &mut Answer, name: ParsedName<&[u8]>) {
 }
 
 /// `rest MSG PLACE N`: the labels of what is left of a name without its first labels, from both ends.
-pub fn put_rest(out: &mut Answer, message: &[u8], place: usize, labels: usize) {
-    let Some(name) = name_at(message, place) else {
+pub fn put_rest(out: &mut Answer, message: &[u8], offset: usize, labels: usize) {
+    let Some(name) = name_at(message, offset) else {
         return out.fail(Fail::Bad);
     };
     let mut rest = name;
@@ -276,8 +276,8 @@ pub fn put_rest(out: &mut Answer, message: &[u8], place: usize, labels: usize) {
 }
 
 /// `parentswalk MSG PLACE`: the labels from both ends, of the name and of what each `parent` leaves.
-pub fn put_parentswalk(out: &mut Answer, message: &[u8], place: usize) {
-    let Some(mut rest) = name_at(message, place) else {
+pub fn put_parentswalk(out: &mut Answer, message: &[u8], offset: usize) {
+    let Some(mut rest) = name_at(message, offset) else {
         return out.fail(Fail::Bad);
     };
     put_orders(out, rest.iter());
@@ -300,8 +300,8 @@ pub fn leave_out<Octs: Octets>(name: &mut ParsedName<Octs>, labels: usize) {
 }
 
 /// `mixture MSG PLACE N CALLS`: without the first N labels, what calls on either end give, also on the same name as a `Name`.
-pub fn put_mixture(out: &mut Answer, message: &[u8], place: usize, labels: usize, calls: &[u8]) {
-    let Some(mut rest) = name_at(message, place) else {
+pub fn put_mixture(out: &mut Answer, message: &[u8], offset: usize, labels: usize, calls: &[u8]) {
+    let Some(mut rest) = name_at(message, offset) else {
         return out.fail(Fail::Bad);
     };
     leave_out(&mut rest, labels);

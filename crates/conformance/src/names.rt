@@ -55,8 +55,8 @@ fn is_cloned_in_an_array(out: &mut Answer, octets: &[u8]) {
 }
 
 /// `pforms MSG PLACE`
-pub fn put_parsed_forms(out: &mut Answer, message: &[u8], place: usize) {
-    match name_at(message, place) {
+pub fn put_parsed_forms(out: &mut Answer, message: &[u8], offset: usize) {
+    match name_at(message, offset) {
         Some(name) => put_forms(out, &name),
         None => out.fail(Fail::Bad),
     }
@@ -64,8 +64,8 @@ pub fn put_parsed_forms(out: &mut Answer, message: &[u8], place: usize) {
 
 /// `room MSG PLACE N`: what the name composes where there is room for N octets, then the same name as a `Name`, and then that
 /// without its root label.
-pub fn put_room(out: &mut Answer, message: &[u8], place: usize, room: usize) {
-    let Some(name) = name_at(message, place) else {
+pub fn put_room(out: &mut Answer, message: &[u8], offset: usize, room: usize) {
+    let Some(name) = name_at(message, offset) else {
         return out.fail(Fail::Bad);
     };
     if room > SIZE {
@@ -79,8 +79,8 @@ pub fn put_room(out: &mut Answer, message: &[u8], place: usize, room: usize) {
 }
 
 /// `sized MSG PLACE N`: the name and its canonical form made over an array of N octets.
-pub fn put_sized(out: &mut Answer, message: &[u8], place: usize, size: usize) {
-    let Some(name) = name_at(message, place) else {
+pub fn put_sized(out: &mut Answer, message: &[u8], offset: usize, size: usize) {
+    let Some(name) = name_at(message, offset) else {
         return out.fail(Fail::Bad);
     };
     match size {
@@ -165,8 +165,8 @@ fn put_beside_flat(out: &mut Answer, parsed: ParsedName<&[u8]>, flat: Name<&[u8]
 }
 
 /// `pname MSG PLACE NAME`
-pub fn put_pname(out: &mut Answer, message: &[u8], place: usize, octets: &[u8]) {
-    let Some(parsed) = name_at(message, place) else {
+pub fn put_pname(out: &mut Answer, message: &[u8], offset: usize, octets: &[u8]) {
+    let Some(parsed) = name_at(message, offset) else {
         return out.fail(Fail::Bad);
     };
     match Name::from_slice(octets) {
@@ -176,8 +176,8 @@ pub fn put_pname(out: &mut Answer, message: &[u8], place: usize, octets: &[u8]) 
 }
 
 /// `prel MSG PLACE RELATIVE`
-pub fn put_prel(out: &mut Answer, message: &[u8], place: usize, octets: &[u8]) {
-    let Some(parsed) = name_at(message, place) else {
+pub fn put_prel(out: &mut Answer, message: &[u8], offset: usize, octets: &[u8]) {
+    let Some(parsed) = name_at(message, offset) else {
         return out.fail(Fail::Bad);
     };
     match RelativeName::from_slice(octets) {
@@ -207,8 +207,8 @@ fn are_flat_in_order(out: &mut Answer, left: ParsedName<&[u8]>, right: ParsedNam
 }
 
 /// `pchain MSG PLACE L R`
-pub fn put_pchain(out: &mut Answer, message: &[u8], place: usize, left: &[u8], right: &[u8]) {
-    let Some(parsed) = name_at(message, place) else {
+pub fn put_pchain(out: &mut Answer, message: &[u8], offset: usize, left: &[u8], right: &[u8]) {
+    let Some(parsed) = name_at(message, offset) else {
         return out.fail(Fail::Bad);
     };
     match absolute_chain(left, right) {

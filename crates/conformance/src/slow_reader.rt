@@ -23,8 +23,8 @@ enum Stands<'a> {
 }
 
 /// What stands at an offset of a message, where all of it is there.
-fn stands_at(message: &[u8], place: usize) -> Result<Stands<'_>, ParseError> {
-    let Some([head, rest @ ..]) = message.get(place..) else {
+fn stands_at(message: &[u8], offset: usize) -> Result<Stands<'_>, ParseError> {
+    let Some([head, rest @ ..]) = message.get(offset..) else {
         return Err(ParseError::ShortInput);
     };
     match *head {
@@ -51,8 +51,8 @@ fn pointer_of(rest: &[u8], head: usize) -> Result<Stands<'_>, ParseError> {
 }
 
 /// The offset behind a label that stands at one.
-fn behind_label(place: usize, label: &[u8]) -> usize {
-    place.saturating_add(1).saturating_add(label.len())
+fn behind_label(offset: usize, label: &[u8]) -> usize {
+    offset.saturating_add(1).saturating_add(label.len())
 }
 
 /// A name, as far as it was read.
@@ -89,13 +89,13 @@ impl SlowName {
     }
 
     /// Goes on at an earlier offset.
-    fn follow(&mut self, place: usize, target: usize) -> Result<(), ParseError> {
-        if target >= place || self.pointers == MOST_POINTERS {
+    fn follow(&mut self, offset: usize, target: usize) -> Result<(), ParseError> {
+        if target >= offset || self.pointers == MOST_POINTERS {
             return Err(ParseError::form_error("too many compression pointers"));
         }
         self.pointers = self.pointers.saturating_add(1);
         self.is_compressed = !self.octets.is_empty();
-        self.passed(place.saturating_add(2));
+        self.passed(offset.saturating_add(2));
         Ok(())
     }
 
@@ -115,21 +115,21 @@ pub fn read_slowly(message: &[u8], start: usize) -> Result<SlowName, ParseError>
         behind: None,
         pointers: 0,
     };
-    let mut place = start;
+    let mut offset = start;
     for _head in 0..MOST_HEADS {
-        match stands_at(message, place)? {
+        match stands_at(message, offset)? {
             Stands::Root => {
-                name.passed(place.saturating_add(1));
+                name.passed(offset.saturating_add(1));
                 let _ = name.append(b"");
                 return Ok(name);
             }
             Stands::Label(label) => {
                 name.take(label)?;
-                place = behind_label(place, label);
+                offset = behind_label(offset, label);
             }
             Stands::Pointer(target) => {
-                name.follow(place, target)?;
-                place = target;
+                name.follow(offset, target)?;
+                offset = target;
             }
         }
     }
@@ -138,12 +138,12 @@ pub fn read_slowly(message: &[u8], start: usize) -> Result<SlowName, ParseError>
 
 /// The offset behind the root or the first pointer of the name at an offset, or the first fault before it.
 pub fn skip_slowly(message: &[u8], start: usize) -> Result<usize, ParseError> {
-    let mut place = start;
+    let mut offset = start;
     for _head in 0..MOST_HEADS {
-        match stands_at(message, place)? {
-            Stands::Root => return end_at(start, place.saturating_add(1)),
-            Stands::Label(label) => place = end_at(start, behind_label(place, label))?,
-            Stands::Pointer(_) => return Ok(place.saturating_add(2)),
+        match stands_at(message, offset)? {
+            Stands::Root => return end_at(start, offset.saturating_add(1)),
+            Stands::Label(label) => offset = end_at(start, behind_label(offset, label))?,
+            Stands::Pointer(_) => return Ok(offset.saturating_add(2)),
         }
     }
     Err(ParseError::form_error("more heads than a name has"))

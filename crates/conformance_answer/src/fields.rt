@@ -18,8 +18,8 @@ impl<'a> Fields<'a> {
         let mut fields: [&'a [u8]; 6] = [b""; 6];
         let mut count: usize = 0;
         for field in line.split(|octet| *octet == b' ') {
-            if let Some(place) = fields.get_mut(count) {
-                *place = field;
+            if let Some(offset) = fields.get_mut(count) {
+                *offset = field;
             }
             count = count.saturating_add(1);
         }
@@ -38,16 +38,16 @@ impl<'a> Fields<'a> {
     }
 
     /// The field at an offset, nothing where there is none. The word is at 0.
-    pub fn at(&self, place: usize) -> &'a [u8] {
-        match self.fields.get(place) {
+    pub fn at(&self, offset: usize) -> &'a [u8] {
+        match self.fields.get(offset) {
             Some(field) => *field,
             None => b"",
         }
     }
 
     /// The octets that a field tells. If it tells none, that is noted.
-    pub fn octets(&self, place: usize, out: &mut Answer) -> Vec<u8> {
-        match octets_of(self.at(place), out.alloc()) {
+    pub fn octets(&self, offset: usize, out: &mut Answer) -> Vec<u8> {
+        match octets_of(self.at(offset), out.alloc()) {
             Ok(octets) => octets,
             Err(fail) => {
                 out.fail(fail);
@@ -57,8 +57,8 @@ impl<'a> Fields<'a> {
     }
 
     /// A decimal number. If the field is none, that is noted.
-    pub fn number(&self, place: usize, out: &mut Answer) -> usize {
-        match decimal(self.at(place)) {
+    pub fn number(&self, offset: usize, out: &mut Answer) -> usize {
+        match decimal(self.at(offset)) {
             Ok(number) => number,
             Err(fail) => {
                 out.fail(fail);

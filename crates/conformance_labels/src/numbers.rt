@@ -10,16 +10,16 @@ use octseq::{OctetsBuilder, Parser};
 use std::fmt::Display;
 
 /// A value that was parsed, or the error, and the parser's position.
-fn put_parsed<T: Display + Drop>(out: &mut Answer, value: Result<T, ParseError>, place: usize) {
+fn put_parsed<T: Display + Drop>(out: &mut Answer, value: Result<T, ParseError>, offset: usize) {
     match value {
         Ok(value) => out.put_text(value),
         Err(error) => out.put_text(error),
     }
-    put_place(out, place);
+    put_place(out, offset);
 }
 
-fn put_place(out: &mut Answer, place: usize) {
-    out.put_number_after(b"@", place);
+fn put_place(out: &mut Answer, offset: usize) {
+    out.put_number_after(b"@", offset);
     out.put(b";");
 }
 
@@ -31,8 +31,8 @@ fn put_number<'a, T: Parse<'a> + Display + Drop>(out: &mut Answer, parser: Parse
 }
 
 /// `ints OCTETS PLACE`
-pub fn put_ints(out: &mut Answer, octets: &[u8], place: usize) {
-    let Some(parser) = parser_at(octets, place, octets.len()) else {
+pub fn put_ints(out: &mut Answer, octets: &[u8], offset: usize) {
+    let Some(parser) = parser_at(octets, offset, octets.len()) else {
         return out.fail(Fail::Bad);
     };
     put_number::<i8>(out, parser);
@@ -64,8 +64,8 @@ fn put_addresses(out: &mut Answer, parser: Parser<'_>) {
 }
 
 /// `arrays OCTETS PLACE`: an array of no octets, of 3, and of 16.
-pub fn put_arrays(out: &mut Answer, octets: &[u8], place: usize) {
-    let Some(parser) = parser_at(octets, place, octets.len()) else {
+pub fn put_arrays(out: &mut Answer, octets: &[u8], offset: usize) {
+    let Some(parser) = parser_at(octets, offset, octets.len()) else {
         return out.fail(Fail::Bad);
     };
     let mut none = parser;

@@ -39,9 +39,9 @@ pub fn put_truncate(out: &mut Answer, octets: &[u8], len: usize) {
 }
 
 /// Writes one octet at an offset of octets of any kind.
-fn put_written<T: OctetsMut + Drop>(out: &mut Answer, octets: T, place: usize, octet: u8) {
+fn put_written<T: OctetsMut + Drop>(out: &mut Answer, octets: T, offset: usize, octet: u8) {
     let mut octets = octets;
-    match octets.as_slice_mut().get_mut(place) {
+    match octets.as_slice_mut().get_mut(offset) {
         Some(written) => *written = octet,
         None => out.fail(Fail::Bad),
     }
@@ -49,17 +49,17 @@ fn put_written<T: OctetsMut + Drop>(out: &mut Answer, octets: T, place: usize, o
 }
 
 /// `write OCTETS PLACE OCTET`: over a `Vec`, and over an array.
-pub fn put_write(out: &mut Answer, octets: &[u8], place: usize, written: &[u8]) {
+pub fn put_write(out: &mut Answer, octets: &[u8], offset: usize, written: &[u8]) {
     let [octet] = written else {
         return out.fail(Fail::Bad);
     };
     match Vec::from_slice(out.alloc(), octets) {
-        Ok(copy) => put_written(out, copy, place, *octet),
+        Ok(copy) => put_written(out, copy, offset, *octet),
         Err(_) => out.fail(Fail::Memory),
     }
     out.put(b" ");
     match ArrayVec::<u8, 255>::try_from(octets) {
-        Ok(mut copy) => put_written(out, &mut copy, place, *octet),
+        Ok(mut copy) => put_written(out, &mut copy, offset, *octet),
         Err(_) => out.fail(Fail::Bad),
     }
 }

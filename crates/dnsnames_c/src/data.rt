@@ -41,7 +41,9 @@ fn shape_of(rtype: u16) -> Option<Shape>
 fn name_begin(octets: &[u8], start: usize, index: usize) -> Result<usize, NameFault>
     ensures begins { IfOk result (λ q. NameBegins octets.now start index q) }
     ensures inside { 0 < index → IfOk result (λ q. q ≤ length octets.now) }
-    ensures fault { IfErr result (λ f. (i : ℕ) × (q : ℕ) × (i < index) × NameBegins octets.now start i q × SkipFault octets.now q f) }
+    ensures fault { IfErr result
+        (λ f. (i : ℕ) × (q : ℕ) × (i < index) × NameBegins octets.now start i q
+        × SkipFault octets.now q f) }
 {
     let mut begin = start;
     for passed in 0..index {
@@ -58,7 +60,8 @@ fn check_shape(octets: &[u8], data_at: usize, shape: Shape) -> u32
     requires names { 0 < shape.names }
     requires begin { data_at ≤ length octets.now }
     requires small { shape.before ≤ 6 }
-    ensures { ((result ≡ 0) × FitsShape octets.now data_at shape) ⊎ ((result ≢ 0) × BreaksShape octets.now data_at shape result) }
+    ensures { ((result ≡ 0) × FitsShape octets.now data_at shape)
+        ⊎ ((result ≢ 0) × BreaksShape octets.now data_at shape result) }
 {
     let end = match name_begin(octets, data_at + shape.before, shape.names) {
         Ok(end) => end,
@@ -103,7 +106,8 @@ pub extern "C" fn dnsnames_data_name(
     buffer: &mut [u8],
     length: &mut usize,
 ) -> u32
-    ensures { GivesDataName message.now data_at data_len rtype index result buffer.old buffer.new length.old length.new }
+    ensures { GivesDataName message.now data_at data_len rtype index result buffer.old buffer.new
+        length.old length.new }
 {
     let Some(shape) = shape_of(rtype) else {
         return 21;

@@ -1,5 +1,5 @@
 //! The labels of a name.
-ghost use Rattle.std.specs.Prelude.{◌≡◌, ◌≢◌, ◌<◌, ◌≤◌, ◌+◌, ℕ, List, length, take, ◌↔◌, ◌⊎◌};
+ghost use Rattle.std.specs.Prelude.{◌≡◌, ◌≢◌, ◌<◌, ◌+◌, length, take, ◌↔◌};
 ghost use Rattle.domain_label.specs.Wire.{wire, labels_in, IsAbsoluteWire};
 ghost use Rattle.dnsnames_c.specs.Labels.{GivesOffset, GivesOffsetBack};
 

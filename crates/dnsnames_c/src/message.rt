@@ -35,14 +35,18 @@ pub extern "C" fn dnsnames_header(
     authority: &mut u16,
     additional: &mut u16,
 ) -> u32
-    ensures status { ((result ≡ 0) × (12 ≤ length message.now)) ⊎ ((result ≡ 1) × (length message.now < 12)) }
+    ensures status { ((result ≡ 0) × (12 ≤ length message.now))
+        ⊎ ((result ≡ 1) × (length message.now < 12)) }
     ensures id { result ≡ 0 → id.new ≡ number_16 message.now 0 }
     ensures flags { result ≡ 0 → flags.new ≡ number_16 message.now 2 }
     ensures questions { result ≡ 0 → questions.new ≡ number_16 message.now 4 }
     ensures answers { result ≡ 0 → answers.new ≡ number_16 message.now 6 }
     ensures authority { result ≡ 0 → authority.new ≡ number_16 message.now 8 }
     ensures additional { result ≡ 0 → additional.new ≡ number_16 message.now 10 }
-    ensures err { result ≢ 0 → (id.new ≡ id.old) × (flags.new ≡ flags.old) × (questions.new ≡ questions.old) × (answers.new ≡ answers.old) × (authority.new ≡ authority.old) × (additional.new ≡ additional.old) }
+    ensures err { result ≢ 0 →
+        (id.new ≡ id.old) × (flags.new ≡ flags.old) × (questions.new ≡ questions.old)
+        × (answers.new ≡ answers.old) × (authority.new ≡ authority.old)
+        × (additional.new ≡ additional.old) }
 {
     if message.len() < 12 {
         return 1;
@@ -68,7 +72,8 @@ pub extern "C" fn dnsnames_question(
     class: &mut u16,
     end: &mut usize,
 ) -> u32
-    ensures { GivesQuestionParts message.now offset result rtype.old rtype.new class.old class.new end.old end.new }
+    ensures { GivesQuestionParts message.now offset result rtype.old rtype.new class.old class.new
+        end.old end.new }
 {
     let after = match encoding_end(message, offset) {
         Ok(after) => after,
@@ -100,7 +105,8 @@ pub extern "C" fn dnsnames_record(
     data_len: &mut usize,
     end: &mut usize,
 ) -> u32
-    ensures { GivesRecordParts message.now offset result rtype.old rtype.new class.old class.new ttl.old ttl.new data_at.old data_at.new data_len.old data_len.new end.old end.new }
+    ensures { GivesRecordParts message.now offset result rtype.old rtype.new class.old class.new
+        ttl.old ttl.new data_at.old data_at.new data_len.old data_len.new end.old end.new }
 {
     let after = match encoding_end(message, offset) {
         Ok(after) => after,

@@ -1,6 +1,5 @@
 //! Writing names with compression (RFC 1035, 4.1.4).
-ghost use Rattle.std.specs.Prelude.{◌≡◌, ◌≢◌, ◌<◌, ◌≤◌, ◌+◌, length, take, drop, IsTrue, ◌↔◌, IfSome, IsNone};
-ghost use Rattle.std.specs.List.{All};
+ghost use Rattle.std.specs.Prelude.{◌≡◌, ◌<◌, ◌≤◌, ◌+◌, length, take, drop, IsTrue, ◌↔◌, IfSome, IsNone};
 ghost use Rattle.domain_label.specs.Wire.{labels_in, IsWire, IsAbsoluteWire};
 ghost use Rattle.dnsnames_c.specs.Plans.{IsTable, Plans, WritesName, HasNoRoom, Appends, more_of_table};
 
@@ -65,8 +64,10 @@ fn write_name(octets: &mut [u8], start: usize, table: &[u16], name: &[u8]) -> Op
     requires start { start ≤ length octets.old }
     requires table { IsTable table.now }
     requires wire { IsAbsoluteWire name.now }
-    ensures some { IfSome result (λ w. WritesName octets.old start table.now name.now w.begin w.end octets.new) }
-    ensures none { IsNone result → HasNoRoom octets.old start table.now name.now × (octets.new ≡ octets.old) }
+    ensures some { IfSome result
+        (λ w. WritesName octets.old start table.now name.now w.begin w.end octets.new) }
+    ensures none { IsNone result →
+        HasNoRoom octets.old start table.now name.now × (octets.new ≡ octets.old) }
 {
     match plan(&octets[..start], table, name) {
         Some(beginning) => {
@@ -99,7 +100,8 @@ fn add_offsets(table: &mut [u16], count: usize, labels: &[u8], start: usize) -> 
     requires few { IsTable (take count table.old) }
     requires labels { IsWire labels.now }
     ensures fits { result ≤ length table.new }
-    ensures table { take result table.new ≡ more_of_table (length table.old) (take count table.old) start (labels_in labels.now) }
+    ensures table { take result table.new
+        ≡ more_of_table (length table.old) (take count table.old) start (labels_in labels.now) }
     ensures rest { drop result table.new ≡ drop result table.old }
 {
     let more = more_offsets(&table[..count], labels, start);
@@ -122,7 +124,8 @@ pub extern "C" fn dnsnames_append(
     table_len: &mut usize,
     name: &[u8],
 ) -> u32
-    ensures { Appends octets.old octets_len.old table.old table_len.old name.now result octets.new octets_len.new table.new table_len.new }
+    ensures { Appends octets.old octets_len.old table.old table_len.old name.now result octets.new
+        octets_len.new table.new table_len.new }
 {
     let start = *octets_len;
     let count = *table_len;

@@ -1,11 +1,14 @@
 //! Writing octets into a caller's buffer.
-ghost use Rattle.std.specs.Prelude.{◌≡◌, ◌<◌, ◌≤◌, ◌+◌, ℕ, length, MatchBool};
+ghost use Rattle.std.specs.Prelude.{◌≡◌, ◌<◌, ◌≤◌, ◌+◌, length, MatchBool};
 ghost use Rattle.dnsnames_c.specs.Answers.{PutsAt, Gives};
 
 /// Puts the octets into the buffer from an offset on, or nothing where they don't fit.
 pub(crate) fn put(octets: &[u8], buffer: &mut [u8], offset: usize) -> bool
     requires { offset ≤ length buffer.old }
-    ensures { MatchBool result ((offset + length octets.now ≤ length buffer.old) × PutsAt offset octets.now buffer.old buffer.new) ((length buffer.old < offset + length octets.now) × (buffer.new ≡ buffer.old)) }
+    ensures { MatchBool result
+        ((offset + length octets.now ≤ length buffer.old)
+        × PutsAt offset octets.now buffer.old buffer.new)
+        ((length buffer.old < offset + length octets.now) × (buffer.new ≡ buffer.old)) }
 {
     let len = octets.len();
     if buffer.len() - offset < len {

@@ -47,8 +47,11 @@ pub(crate) fn read_into(
     limit: u8,
     octets: &mut [u8; 255],
 ) -> Result<Found, NameFault>
-    ensures name { IfOk result (λ found. (ls : List (List ℕ)) × Names limit message.now offset ls × EncodingEnds message.now offset found.end × (take found.len octets.new ≡ wire ls)) }
-    ensures compressed { IfOk result (λ found. (found.compressed ≡ false) ↔ IsContiguous message.now offset) }
+    ensures name { IfOk result
+        (λ found. (ls : List (List ℕ)) × Names limit message.now offset ls
+        × EncodingEnds message.now offset found.end × (take found.len octets.new ≡ wire ls)) }
+    ensures compressed { IfOk result
+        (λ found. (found.compressed ≡ false) ↔ IsContiguous message.now offset) }
     ensures fits { IfOk result (λ found. found.len ≤ 255) }
     ensures fault { IfErr result (λ fault. NameFaultAt limit message.now offset fault) }
 {
@@ -83,7 +86,8 @@ pub extern "C" fn dnsnames_read(
     end: &mut usize,
     compressed: &mut u32,
 ) -> u32
-    ensures { ReadsName limit message.now offset result buffer.old buffer.new length.old length.new end.old end.new compressed.old compressed.new }
+    ensures { ReadsName limit message.now offset result buffer.old buffer.new length.old length.new
+        end.old end.new compressed.old compressed.new }
 {
     let mut octets = [0; 255];
     let found = match read_into(message, offset, limit, &mut octets) {

@@ -46,7 +46,8 @@ fn number_of(kind: PresentationErrorKind) -> u32
 /// The name that a text spells, or the number of its fault.
 fn name_of(text: &str) -> Result<Name<ArrayVec<u8, 255>>, u32>
     ensures name { IfOk result (λ name. IsTextOfName (chars text.now) (name_labels name)) }
-    ensures fault { IfErr result (λ number. (f : TextFault) × IsTextOfNoName (chars text.now) f × (number ≡ text_number f)) }
+    ensures fault { IfErr result
+        (λ number. (f : TextFault) × IsTextOfNoName (chars text.now) f × (number ≡ text_number f)) }
 {
     match text.parse::<Name<ArrayVec<u8, 255>>>() {
         Ok(name) => Ok(name),
@@ -76,7 +77,8 @@ pub extern "C" fn dnsnames_from_text(text: &[u8], buffer: &mut [u8], length: &mu
 
 /// The text of an absolute name without its final dot, which the root keeps.
 fn without_final_dot<'a>(text: &'a [u8]) -> &'a [u8]
-    ensures { (ls : List (List ℕ)) → IsAbsolute ls → text.now ≡ text_with_final_dot ls → result.now ≡ displayed ls }
+    ensures { (ls : List (List ℕ)) → IsAbsolute ls → text.now ≡ text_with_final_dot ls →
+        result.now ≡ displayed ls }
 {
     if text.len() > 1 {
         &text[..text.len() - 1]
@@ -95,7 +97,8 @@ pub extern "C" fn dnsnames_to_text(
     buffer: &mut [u8],
     length: &mut usize,
 ) -> u32
-    ensures { GivesOf name.now (name_text final_dot (labels_in name.now)) result buffer.old buffer.new length.old length.new }
+    ensures { GivesOf name.now (name_text final_dot (labels_in name.now)) result buffer.old
+        buffer.new length.old length.new }
 {
     let Ok(name) = Name::from_slice(name) else {
         return 9;

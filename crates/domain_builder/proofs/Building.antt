@@ -164,9 +164,9 @@ open_octets s u h b v i = subst (λ (w : BuilderState). set (s ++ u) h (length s
     parts : (ls : List (List ℕ)) (o : List ℕ) → s ≡ wire ls ++ encoded_label o → Some h ≡ head_of (record { labels = ls; open_label = o }) → set (s ++ u) h (length s - h - 1) ≡ wire (closed_with ls o) ++ u
     parts ls [] e eh = absurd (cc)
     parts ls (c ∷ cs) e eh =
-        let place : h ≡ length (wire ls) = cc in
-        let n : length s - h - 1 ≡ length (c ∷ cs) = omega (arith, ap length e, length-append (wire ls) (0 ∷ c ∷ cs), place) in
-        rw n (rw place (rw e (set_closes ls c cs u)))
+        let offset : h ≡ length (wire ls) = cc in
+        let n : length s - h - 1 ≡ length (c ∷ cs) = omega (arith, ap length e, length-append (wire ls) (0 ∷ c ∷ cs), offset) in
+        rw n (rw offset (rw e (set_closes ls c cs u)))
 
 pub none_octets : (s : List ℕ) (b : BuilderState) → view_of s None ≡ b → IsInside s None → s ≡ wire (closed b)
 none_octets s b v i = subst (λ (w : BuilderState). s ≡ wire (closed w)) v (i.octets ∙ append-nil (wire (view_of s None).labels))

@@ -20,11 +20,11 @@ view_of s (Some h) = record { labels = labels_in (take h s); open_label = drop (
 
 -- The offset of the open label's length octet.
 abbrev pub head_of : BuilderState → Option ℕ
-head_of b = place (length (wire b.labels)) b.open_label
+head_of b = offset (length (wire b.labels)) b.open_label
   where
-    place : ℕ → List ℕ → Option ℕ
-    place h [] = None
-    place h (c ∷ cs) = Some h
+    offset : ℕ → List ℕ → Option ℕ
+    offset h [] = None
+    offset h (c ∷ cs) = Some h
 
 -- Octets once the length of the open label, if there is one, is written; its octets end at n.
 abbrev pub closed_at : List ℕ → Option ℕ → ℕ → List ℕ

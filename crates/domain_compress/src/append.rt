@@ -22,8 +22,9 @@ pub(crate) fn append_beginning<Target: OctetsBuilder>(
     requires wire { IsAbsoluteWire name.now }
     requires known { IsKnown hashed (Target.octets target.now) written.now }
     requires listed { AreListed hashed hashes.now written.now }
-    ensures ok { IfOk result (λ begun. BeginningWritten begun
-        (Target.octets target.old) (all_remembered written.now) name.now (Target.octets target.new)) }
+    ensures ok { IfOk result
+        (λ begun. BeginningWritten begun (Target.octets target.old) (all_remembered written.now)
+        name.now (Target.octets target.new)) }
     ensures unchanged { OnErr result (Target.octets target.new ≡ Target.octets target.old) }
     ensures full { OnErr result (NameExceeds
         (Target.octets target.old) (all_remembered written.now) (labels_in name.now)

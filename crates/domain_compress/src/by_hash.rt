@@ -28,7 +28,8 @@ fn first_offset(
     requires hash { hash ≡ first_hash (labels_in name.now) }
     ensures none { IsNone result
         → NoneRemembered octets.now (all_remembered written.now) (labels_in name.now) }
-    ensures some { IfSome result (λ r. FirstFound octets.now written.now (labels_in name.now) r.0 r.1) }
+    ensures some { IfSome result
+        (λ r. FirstFound octets.now written.now (labels_in name.now) r.0 r.1) }
 {
     let mut at = find_hash(hashes, 0, hash);
     'offsets: while at < written.len() {
@@ -54,7 +55,8 @@ pub(crate) fn longest_by_hash(
     requires wire { IsAbsoluteWire name.now }
     requires known { All (IsHashed octets.now) written.now }
     requires hashes { hashes.now ≡ map hash_of written.now }
-    ensures none { IsNone result → NoSuffix octets.now (all_remembered written.now) (labels_in name.now) }
+    ensures none { IsNone result →
+        NoSuffix octets.now (all_remembered written.now) (labels_in name.now) }
     ensures some { IfSome result (SuffixFound octets.now (all_remembered written.now) name.now) }
 {
     let mut begin = 0;

@@ -98,7 +98,8 @@ impl<T: Composer> Truncate for CompressComposer<T> {
     fn truncate(&mut self, len: usize)
         ensures octets { T.octets self.new.target ≡ take len (T.octets self.old.target) }
         ensures capacity { T.capacity self.new.target ≡ T.capacity self.old.target }
-        ensures offsets { remembered_labels self.new ≡ remembered_within len (remembered_labels self.old) }
+        ensures offsets { remembered_labels self.new
+            ≡ remembered_within len (remembered_labels self.old) }
     {
         // While octets go away under the offsets, no hash counts.
         self.hashed = false;
@@ -116,7 +117,8 @@ impl<T: Composer> OctetsBuilder for CompressComposer<T> {
 
     /// Appends all of the octets, or none, as the target does. The offsets stay.
     fn append_slice(&mut self, slice: &[u8]) -> Result<(), T::AppendError>
-        ensures ok { OnOk result (T.octets self.new.target ≡ T.octets self.old.target ++ slice.now) }
+        ensures ok { OnOk result
+            (T.octets self.new.target ≡ T.octets self.old.target ++ slice.now) }
         ensures unchanged { OnErr result (T.octets self.new.target ≡ T.octets self.old.target) }
         ensures full { OnErr result
             (T.capacity self.new.target < length (T.octets self.old.target) + length slice.now) }
@@ -134,7 +136,8 @@ impl<T: Composer> Composer for CompressComposer<T> {
     ghost use Rattle.domain_compress.specs.Composers.{remembered_labels};
     ghost use Rattle.domain_compress.specs.Pointed.{compressed_reads_back};
 
-    ghost may_append = { λ c ls s. MayWrite (T.octets c.target) (all_remembered c.written.items) ls s };
+    ghost may_append = { λ c ls s.
+        MayWrite (T.octets c.target) (all_remembered c.written.items) ls s };
 
     ghost compresses = { true };
 
@@ -142,7 +145,8 @@ impl<T: Composer> Composer for CompressComposer<T> {
 
     ghost memory = { remembered_labels };
 
-    ghost appends = { λ c ls d. Adds (T.octets c.target) (remembered_labels c) ls (T.octets d.target) (remembered_labels d) };
+    ghost appends = { λ c ls d. Adds (T.octets c.target) (remembered_labels c) ls
+        (T.octets d.target) (remembered_labels d) };
 
     /// Appends the labels before the longest suffix of the name that stands at an offset that is remembered, and a
     /// pointer to the first such offset; or the wire format. The offsets of the labels that were written are
@@ -159,7 +163,8 @@ impl<T: Composer> Composer for CompressComposer<T> {
             (T.octets self.old.target) (remembered_labels self.old) (labels_in name.now)
             (T.octets self.new.target)) }
         ensures unchanged { OnErr result (T.octets self.new.target ≡ T.octets self.old.target) }
-        ensures memory_unchanged { OnErr result (remembered_labels self.new ≡ remembered_labels self.old) }
+        ensures memory_unchanged { OnErr result
+            (remembered_labels self.new ≡ remembered_labels self.old) }
         ensures full { OnErr result (NameExceeds
             (T.octets self.old.target) (remembered_labels self.old) (labels_in name.now)
             (T.capacity self.old.target)) }
@@ -204,9 +209,11 @@ impl<T: Composer> Composer for CompressComposer<T> {
         true
     }
 
-    ghost appended = { λ c d ls. adds_appended (T.octets c.target) (remembered_labels c) (remembered_labels d) ls (T.octets d.target) };
+    ghost appended = { λ c d ls. adds_appended (T.octets c.target) (remembered_labels c)
+        (remembered_labels d) ls (T.octets d.target) };
 
-    ghost reads_back = { λ c ls s name w. compressed_reads_back (T.octets c.target) (all_remembered c.written.items) ls w.0 s name w.1 };
+    ghost reads_back = { λ c ls s name w. compressed_reads_back (T.octets c.target)
+        (all_remembered c.written.items) ls w.0 s name w.1 };
 
     ghost flat = { λ c ls s h w. absurd (true≢false h) };
 }

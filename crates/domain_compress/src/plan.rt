@@ -37,7 +37,8 @@ pub(crate) fn find_beginning(
     requires wire { IsAbsoluteWire name.now }
     requires known { IsKnown hashed octets.now written.now }
     requires listed { AreListed hashed hashes.now written.now }
-    ensures some { IfSome result (WritesBeginning octets.now (all_remembered written.now) name.now) }
+    ensures some { IfSome result
+        (WritesBeginning octets.now (all_remembered written.now) name.now) }
     ensures none { IsNone result → WritesFlat octets.now (all_remembered written.now) name.now }
 {
     let Some(end) = longest_written(octets, written, hashes, name, hashed) else {
@@ -105,7 +106,8 @@ pub fn plan(octets: &[u8], table: &[u16], name: &[u8]) -> Option<Beginning>
     requires wire { IsAbsoluteWire name.now }
     requires few { length table.now ≤ 128 }
     requires low { All (λ p. p < 16384) table.now }
-    ensures some { IfSome result (WritesBeginning octets.now (remembered_in_table table.now) name.now) }
+    ensures some { IfSome result
+        (WritesBeginning octets.now (remembered_in_table table.now) name.now) }
     ensures none { IsNone result → WritesFlat octets.now (remembered_in_table table.now) name.now }
 {
     find_beginning(octets, written_at(table).as_slice(), &[], name, false)

@@ -141,7 +141,8 @@ fn better_suffix(
 /// label of another hash than any suffix of the name: no more is read there.
 fn longest_suffix(octets: &[u8], written: &[Written], name: &[u8]) -> Option<WrittenSuffix>
     requires { IsAbsoluteWire name.now }
-    ensures none { IsNone result → NoSuffix octets.now (all_remembered written.now) (labels_in name.now) }
+    ensures none { IsNone result →
+        NoSuffix octets.now (all_remembered written.now) (labels_in name.now) }
     ensures some { IfSome result (SuffixFound octets.now (all_remembered written.now) name.now) }
 {
     let mut marks = [0u8; 256];
@@ -174,7 +175,8 @@ pub(crate) fn longest_written(
     requires wire { IsAbsoluteWire name.now }
     requires known { IsKnown hashed octets.now written.now }
     requires listed { AreListed hashed hashes.now written.now }
-    ensures none { IsNone result → NoSuffix octets.now (all_remembered written.now) (labels_in name.now) }
+    ensures none { IsNone result →
+        NoSuffix octets.now (all_remembered written.now) (labels_in name.now) }
     ensures some { IfSome result (SuffixFound octets.now (all_remembered written.now) name.now) }
 {
     if hashed {

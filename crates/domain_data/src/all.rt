@@ -390,10 +390,15 @@ fn read<'a, D: ParseRecordData<'a>, E: From<ParseError>>(
     parser: &mut Parser<'a>,
 ) -> Result<D, E>
     requires { D.reads_type (rtype_number rtype) ≡ true }
-    ensures ok { IfOk result (λ it. D.encodes (rtype_number rtype) (message parser.old) (position parser.old) (D.model it) (position parser.new)) }
+    ensures ok { IfOk result
+        (λ it. D.encodes (rtype_number rtype) (message parser.old) (position parser.old)
+        (D.model it) (position parser.new)) }
     ensures of_type { IfOk result (λ it. D.type_number it ≡ rtype_number rtype) }
     ensures moves { OnOk result (MovesTo parser.old parser.new (position parser.new)) }
-    ensures err { IfErr result (λ e. (why : ParseError) × D.fails_with (rtype_number rtype) (message parser.old) (position parser.old) why × E.from_gives why e) }
+    ensures err { IfErr result
+        (λ e. (why : ParseError)
+        × D.fails_with (rtype_number rtype) (message parser.old) (position parser.old) why
+        × E.from_gives why e) }
     ensures unchanged { OnErr result (parser.new ≡ parser.old) }
 {
     match D::parse_rdata(rtype, parser) {

@@ -14,9 +14,11 @@ use std::cmp::Ordering;
 impl<const TYPE: u16, F: OrderedLast> CanonicalOrd for FieldsData<TYPE, F> {
     ghost use Rattle.domain_data.specs.Views.{fields_of};
 
-    ghost value_order = { on (λ it. F.uncompressed (fields_of it) (has_lowercase_names TYPE)) (slice_cmp nat_cmp) };
+    ghost value_order = { on (λ it. F.uncompressed (fields_of it) (has_lowercase_names TYPE))
+        (slice_cmp nat_cmp) };
 
-    ghost total = { on_total (λ it. F.uncompressed (fields_of it) (has_lowercase_names TYPE)) nat_list_cmp_total };
+    ghost total = { on_total (λ it. F.uncompressed (fields_of it) (has_lowercase_names TYPE))
+        nat_list_cmp_total };
 
     fn canonical_cmp(&self, other: &FieldsData<TYPE, F>) -> Ordering {
         let lowercase = Rtype::from_int(TYPE).has_lowercase_names();

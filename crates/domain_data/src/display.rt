@@ -37,7 +37,8 @@ impl<const TYPE: u16, Octs: Octets> fmt::Display
 /// The fields with a space between.
 impl<const TYPE: u16, A: fmt::Display, B: fmt::Display> fmt::Display
     for FieldsData<TYPE, Sequence<A, B>> {
-    ghost output = { λ it. A.output it.fields.first ++? Some (codes " ") ++? B.output it.fields.rest };
+    ghost output = { λ it.
+        A.output it.fields.first ++? Some (codes " ") ++? B.output it.fields.rest };
 
     fn fmt<W: fmt::Write>(&self, f: &mut fmt::Formatter<W>) -> fmt::Result {
         write!(f, "{}", self.fields)

@@ -29,12 +29,18 @@ impl<const TYPE: u16, F> FieldsData<TYPE, F> {
     ) -> Result<Option<FieldsData<TYPE, F>>, E>
     where
         F: ReadField<'a, E> + Drop,
-        ensures ok { IfOk result (λ read. IfSome read (λ it. AllAt F.encodes (message parser.old) (position parser.old) (F.model (fields_of it)) (position parser.new))) }
+        ensures ok { IfOk result
+            (λ read. IfSome read
+            (λ it. AllAt F.encodes (message parser.old) (position parser.old)
+            (F.model (fields_of it)) (position parser.new))) }
         ensures of_type { IfOk result (λ read. IfSome read (λ _. TYPE ≡ rtype_number rtype)) }
-        ensures none { IfOk result (λ read. IsNone read ↔ (nat_eq (rtype_number rtype) TYPE ≡ false)) }
+        ensures none { IfOk result
+            (λ read. IsNone read ↔ (nat_eq (rtype_number rtype) TYPE ≡ false)) }
         ensures passed { IfOk result (λ read. IsNone read → parser.new ≡ parser.old) }
         ensures moves { OnOk result (MovesTo parser.old parser.new (position parser.new)) }
-        ensures err { IfErr result (λ e. NotAll E.said F.encodes F.fails_with (message parser.old) (position parser.old) e) }
+        ensures err { IfErr result
+            (λ e.
+            NotAll E.said F.encodes F.fails_with (message parser.old) (position parser.old) e) }
         ensures err_type { OnErr result (nat_eq (rtype_number rtype) TYPE ≡ true) }
         ensures unchanged { OnErr result (parser.new ≡ parser.old) }
     {

@@ -108,7 +108,13 @@ impl<'a, const TYPE: u16> ParseRecordData<'a>
     > {
     ghost View = { ℕ × (ℕ × (ℕ × (List (List ℕ)))) };
 
-    ghost model = { λ it. ((fields_of it).first, ((fields_of it).rest.first, ((fields_of it).rest.rest.first, parsed_labels (fields_of it).rest.rest.rest.name))) };
+    ghost model = { λ it. (
+      (fields_of it).first,
+      (
+        (fields_of it).rest.first,
+        ((fields_of it).rest.rest.first, parsed_labels (fields_of it).rest.rest.rest.name),
+      ),
+    ) };
 
     ghost reads_type = { λ t. nat_eq t TYPE };
 
@@ -137,7 +143,25 @@ impl<'a, const TYPE: u16> ParseRecordData<'a>
     > {
     ghost View = { (List (List ℕ)) × ((List (List ℕ)) × (ℕ × (ℕ × (ℕ × (ℕ × ℕ))))) };
 
-    ghost model = { λ it. (parsed_labels (fields_of it).first.name, (parsed_labels (fields_of it).rest.first.name, ((fields_of it).rest.rest.first, ((fields_of it).rest.rest.rest.first, ((fields_of it).rest.rest.rest.rest.first, ((fields_of it).rest.rest.rest.rest.rest.first, (fields_of it).rest.rest.rest.rest.rest.rest)))))) };
+    ghost model = { λ it. (
+      parsed_labels (fields_of it).first.name,
+      (
+        parsed_labels (fields_of it).rest.first.name,
+        (
+          (fields_of it).rest.rest.first,
+          (
+            (fields_of it).rest.rest.rest.first,
+            (
+              (fields_of it).rest.rest.rest.rest.first,
+              (
+                (fields_of it).rest.rest.rest.rest.rest.first,
+                (fields_of it).rest.rest.rest.rest.rest.rest,
+              ),
+            ),
+          ),
+        ),
+      ),
+    ) };
 
     ghost reads_type = { λ t. nat_eq t TYPE };
 
@@ -161,7 +185,8 @@ impl<'a, const TYPE: u16> ParseRecordData<'a>
     > {
     ghost View = { (List (List ℕ)) × (List (List ℕ)) };
 
-    ghost model = { λ it. (parsed_labels (fields_of it).first.name, parsed_labels (fields_of it).rest.name) };
+    ghost model = { λ it.
+        (parsed_labels (fields_of it).first.name, parsed_labels (fields_of it).rest.name) };
 
     ghost reads_type = { λ t. nat_eq t TYPE };
 
@@ -188,7 +213,8 @@ impl<'a, const TYPE: u16> ParseRecordData<'a>
     > {
     ghost View = { (List (List ℕ)) × (List (List ℕ)) };
 
-    ghost model = { λ it. (parsed_labels (fields_of it).first.name, parsed_labels (fields_of it).rest.name) };
+    ghost model = { λ it.
+        (parsed_labels (fields_of it).first.name, parsed_labels (fields_of it).rest.name) };
 
     ghost reads_type = { λ t. nat_eq t TYPE };
 
@@ -218,7 +244,14 @@ impl<'a, const TYPE: u16> ParseRecordData<'a>
     > {
     ghost View = { ℕ × ((List (List ℕ)) × (List (List ℕ))) };
 
-    ghost model = { λ it. ((fields_of it).first, (parsed_labels (fields_of it).rest.first.name, parsed_labels (fields_of it).rest.rest.name)) };
+    ghost model = { λ it. (
+      (fields_of it).first,
+      (
+        parsed_labels (fields_of it).rest.first.name,
+        parsed_labels
+            (fields_of it).rest.rest.name,
+      ),
+    ) };
 
     ghost reads_type = { λ t. nat_eq t TYPE };
 

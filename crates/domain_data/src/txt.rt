@@ -1,5 +1,5 @@
 //! Data of TXT records.
-ghost use Rattle.std.specs.Prelude.{◌≡◌, ◌==◌, ◌<◌, ◌≤◌, ◌++◌, ◌∷◌, [], ℕ, List, nat_eq, length, codes, IfOk, IfErr, OnOk, OnErr, Some, MatchOption, true, refl};
+ghost use Rattle.std.specs.Prelude.{◌≡◌, ◌==◌, ◌<◌, ◌≤◌, ◌++◌, ◌∷◌, [], ℕ, List, nat_eq, length, IfOk, IfErr, OnOk, OnErr, Some, MatchOption, true, refl};
 ghost use Rattle.std.proofs.Common.{rules};
 ghost use Rattle.std.specs.Cmp.Lexicographic.{pointwise, slice_cmp};
 ghost use Rattle.std.specs.Cmp.Rules.{comparing};
@@ -151,7 +151,8 @@ impl<Octs: Octets> Txt<Octs> {
 
     /// The text, where it is a single string. `None` where there are more.
     pub fn as_flat_slice(&self) -> Option<&[u8]>
-        ensures { MatchOption result (1 < length (txt_strings self.now)) (λ s. txt_strings self.now ≡ s.now ∷ []) }
+        ensures { MatchOption result (1 < length (txt_strings self.now))
+            (λ s. txt_strings self.now ≡ s.now ∷ []) }
     {
         let Some((first, rest)) = first_string(self.octets.as_slice()) else {
             unreachable!();
@@ -193,7 +194,9 @@ impl<'a> Txt<&'a [u8]> {
     /// `ShortInput` where nothing is left, or it ends inside of a string; a form error "record data too long" where
     /// more than 65,535 octets are left. The parser is then unchanged.
     pub fn parse(parser: &mut Parser<'a>) -> Result<Txt<&'a [u8]>, ParseError>
-        ensures ok { IfOk result (λ it. TextAt (message parser.old) (position parser.old) (txt_strings it) (position parser.new)) }
+        ensures ok { IfOk result
+            (λ it. TextAt (message parser.old) (position parser.old) (txt_strings it)
+            (position parser.new)) }
         ensures moves { OnOk result (MovesTo parser.old parser.new (position parser.new)) }
         ensures err { IfErr result (λ e. NoText (message parser.old) (position parser.old) e) }
         ensures unchanged { OnErr result (parser.new ≡ parser.old) }
@@ -361,7 +364,8 @@ impl<Octs: Octets> PartialOrd for Txt<Octs> {
 
     ghost partial_cmp = { as_partial_cmp (on txt_octets (slice_cmp nat_cmp)) };
 
-    ghost laws = { partial_order_from_own_ties (Prim.search (comparing, rules)) (Prim.search (comparing, rules)) };
+    ghost laws = { partial_order_from_own_ties (Prim.search (comparing, rules))
+        (Prim.search (comparing, rules)) };
 
     fn partial_cmp(&self, other: &Txt<Octs>) -> Option<Ordering> {
         Some(self.cmp(other))

@@ -1,5 +1,5 @@
 //! Character strings, one after another.
-ghost use Rattle.std.specs.Prelude.{◌≡◌, ◌≤◌, [], length, OnOk, OnErr, MatchOption};
+ghost use Rattle.std.specs.Prelude.{◌≡◌, [], OnOk, OnErr, MatchOption};
 ghost use Rattle.domain_data.specs.Strings.{strings_in, HasStrings, EndsInside, HasFirstString};
 ghost use Rattle.domain_data.specs.OneProof.{HasStrings_prop};
 
@@ -27,7 +27,8 @@ pub fn check_strings(octets: &[u8]) -> Result<(), ShortInput>
 /// The octets of the first of character strings, and the strings after it.
 pub(crate) fn first_string(octets: &[u8]) -> Option<(&[u8], &[u8])>
     requires { HasStrings octets.now }
-    ensures { MatchOption result (octets.now ≡ []) (λ parts. HasFirstString octets.now parts.0.now parts.1.now) }
+    ensures { MatchOption result (octets.now ≡ [])
+        (λ parts. HasFirstString octets.now parts.0.now parts.1.now) }
 {
     let [len, rest @ ..] = octets else {
         return None;

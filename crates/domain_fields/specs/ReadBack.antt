@@ -51,12 +51,12 @@ slice_after a b c p e start end =
 pub fixed_read_back : {Seen : Type 0} (len : ℕ) (value_of : List ℕ → Seen) (octets : List ℕ) (Like : Seen → Type 0) → length octets ≡ len → Like (value_of octets) → IsReadBack (λ _ _ s. s ≡ octets) (FixedAt len value_of) Like
 fixed_read_back len value_of octets Like sized like compresses t s u same =
     let many : length s ≡ len = ap length same ∙ sized in
-    let place : slice_range (t ++ s ++ u) (length t) (length t + len) ≡ octets =
+    let offset : slice_range (t ++ s ++ u) (length t) (length t + len) ≡ octets =
     ap (λ m. slice_range m (length t) (length t + len)) (append_assoc t s u) ∙ (slice_after t s u (length t) (length t + len) refl (omega (arith, many)) ∙ same) in (
       value_of octets,
       record {
         whole = omega (arith, many, length-append (t ++ s) u, length-append t s);
-        value = ap value_of (sym place);
+        value = ap value_of (sym offset);
         after = omega (arith, many);
       },
       like,

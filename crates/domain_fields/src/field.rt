@@ -25,7 +25,8 @@ pub trait DataField {
 
     /// What a target becomes where the field was appended: `octets` are those of a target, and `named` is what a target
     /// becomes where a name was appended as the target may write it ([`Composer::appends`]).
-    ghost written: { Self → (T : Type 0) → (T → List ℕ) → (T → List (List ℕ) → T → Type 0) → T → T → Type 0 };
+    ghost written: { Self → (T : Type 0) → (T → List ℕ) → (T → List (List ℕ) → T → Type 0) → T → T →
+        Type 0 };
 
     /// How many octets the field has, where that is known before it is composed.
     ghost known_len: { Self → Bool → Option ℕ };
@@ -44,10 +45,15 @@ pub trait DataField {
         &self,
         target: &mut Target,
     ) -> Result<(), Target::AppendError>
-        ensures ok { OnOk result (Appended (composed self.now Target.compresses (Target.octets target.old)) (Target.octets target.old) (Target.octets target.new)) }
-        ensures names { OnOk result (written self.now Target Target.octets Target.appends target.old target.new) }
+        ensures ok { OnOk result
+            (Appended (composed self.now Target.compresses (Target.octets target.old))
+            (Target.octets target.old) (Target.octets target.new)) }
+        ensures names { OnOk result
+            (written self.now Target Target.octets Target.appends target.old target.new) }
         ensures unchanged { OnErr result (Target.octets target.new ≡ Target.octets target.old) }
-        ensures full { OnErr result (Exceeds (composed self.now Target.compresses (Target.octets target.old)) (Target.octets target.old) (Target.capacity target.old)) }
+        ensures full { OnErr result
+            (Exceeds (composed self.now Target.compresses (Target.octets target.old))
+            (Target.octets target.old) (Target.capacity target.old)) }
         ensures capacity { Target.capacity target.old ≤ Target.capacity target.new };
 
     /// Appends the canonical form of the field, or nothing (RFC 4034, 6.2): no name is compressed, and names are in lowercase
@@ -60,25 +66,33 @@ pub trait DataField {
         lowercase: bool,
         target: &mut Target,
     ) -> Result<(), Target::AppendError>
-        ensures ok { OnOk result (Target.octets target.new ≡ Target.octets target.old ++ uncompressed self.now lowercase) }
+        ensures ok { OnOk result
+            (Target.octets target.new
+            ≡ Target.octets target.old ++ uncompressed self.now lowercase) }
         ensures unchanged { OnErr result (Target.octets target.new ≡ Target.octets target.old) }
-        ensures full { OnErr result (Target.capacity target.old < length (Target.octets target.old) + length (uncompressed self.now lowercase)) }
+        ensures full { OnErr result
+            (Target.capacity target.old
+            < length (Target.octets target.old) + length (uncompressed self.now lowercase)) }
         ensures capacity { Target.capacity target.old ≤ Target.capacity target.new };
 
     /// In both forms the octets are those of the parts: names in lowercase, or with their case, and other octets as they are.
-    ghost forms: { (it : Self) (lowercase : Bool) → uncompressed it lowercase ≡ parts_octets lowercase (parts it) };
+    ghost forms: { (it : Self) (lowercase : Bool) →
+        uncompressed it lowercase ≡ parts_octets lowercase (parts it) };
 
     /// The field may always be written with no name compressed.
-    ghost plain: { (it : Self) (compresses : Bool) (t : List ℕ) → composed it compresses t (uncompressed it false) };
+    ghost plain: { (it : Self) (compresses : Bool) (t : List ℕ) →
+        composed it compresses t (uncompressed it false) };
 
     /// A target that writes no name shorter takes nothing else.
     ghost flat: { (it : Self) (t s : List ℕ) → composed it false t s → s ≡ uncompressed it false };
 
     /// A length that is known is that of all octets that may be appended.
-    ghost sized: { (it : Self) (compresses : Bool) (n : ℕ) (t s : List ℕ) → known_len it compresses ≡ Some n → composed it compresses t s → length s ≡ n };
+    ghost sized: { (it : Self) (compresses : Bool) (n : ℕ) (t s : List ℕ) →
+        known_len it compresses ≡ Some n → composed it compresses t s → length s ≡ n };
 
     /// And that of the canonical form, where no name is written shorter.
-    ghost canonical_sized: { (it : Self) (lowercase : Bool) (n : ℕ) → known_len it false ≡ Some n → length (uncompressed it lowercase) ≡ n };
+    ghost canonical_sized: { (it : Self) (lowercase : Bool) (n : ℕ) → known_len it false ≡ Some n →
+        length (uncompressed it lowercase) ≡ n };
 }
 
 /// A number or an address: the octets are the same in each form.
@@ -118,7 +132,9 @@ impl<T: FixedLen> DataField for T {
 
     ghost flat = { λ _ _ _ h. h };
 
-    ghost sized = { λ it _ n t s known is. fixed_size (T.composed_octets it) s T.LEN n (T.fixed it) known is };
+    ghost sized = { λ it _ n t s known is.
+        fixed_size (T.composed_octets it) s T.LEN n (T.fixed it) known is };
 
-    ghost canonical_sized = { λ it _ n known. fixed_size (T.composed_octets it) (T.composed_octets it) T.LEN n (T.fixed it) known refl };
+    ghost canonical_sized = { λ it _ n known.
+        fixed_size (T.composed_octets it) (T.composed_octets it) T.LEN n (T.fixed it) known refl };
 }

@@ -27,10 +27,15 @@ use std::cmp::Ordering;
 pub trait DataName: Absolute {
     /// Appends octets that the target may write for the name, or nothing, as `append_compressed_name`.
     fn append_name<Target: Composer>(&self, target: &mut Target) -> Result<(), Target::AppendError>
-        ensures ok { OnOk result (Appended (Target.may_append target.old (Self.labels self.now)) (Target.octets target.old) (Target.octets target.new)) }
-        ensures appends { OnOk result (Target.appends target.old (Self.labels self.now) target.new) }
+        ensures ok { OnOk result
+            (Appended (Target.may_append target.old (Self.labels self.now))
+            (Target.octets target.old) (Target.octets target.new)) }
+        ensures appends { OnOk result
+            (Target.appends target.old (Self.labels self.now) target.new) }
         ensures unchanged { OnErr result (Target.octets target.new ≡ Target.octets target.old) }
-        ensures full { OnErr result (Exceeds (Target.may_append target.old (Self.labels self.now)) (Target.octets target.old) (Target.capacity target.old)) }
+        ensures full { OnErr result
+            (Exceeds (Target.may_append target.old (Self.labels self.now))
+            (Target.octets target.old) (Target.capacity target.old)) }
         ensures capacity { Target.capacity target.old ≤ Target.capacity target.new };
 
     /// Appends the name with no pointer (RFC 1035, 3.1), or nothing.
@@ -38,9 +43,12 @@ pub trait DataName: Absolute {
         &self,
         target: &mut Target,
     ) -> Result<(), Target::AppendError>
-        ensures ok { OnOk result (Target.octets target.new ≡ Target.octets target.old ++ wire (Self.labels self.now)) }
+        ensures ok { OnOk result
+            (Target.octets target.new ≡ Target.octets target.old ++ wire (Self.labels self.now)) }
         ensures unchanged { OnErr result (Target.octets target.new ≡ Target.octets target.old) }
-        ensures full { OnErr result (Target.capacity target.old < length (Target.octets target.old) + length (wire (Self.labels self.now))) }
+        ensures full { OnErr result
+            (Target.capacity target.old
+            < length (Target.octets target.old) + length (wire (Self.labels self.now))) }
         ensures capacity { Target.capacity target.old ≤ Target.capacity target.new };
 
     /// Appends the name in lowercase with no pointer (RFC 4034, 6.2), or nothing.
@@ -48,9 +56,14 @@ pub trait DataName: Absolute {
         &self,
         target: &mut Target,
     ) -> Result<(), Target::AppendError>
-        ensures ok { OnOk result (Target.octets target.new ≡ Target.octets target.old ++ wire (lowercase_labels (Self.labels self.now))) }
+        ensures ok { OnOk result
+            (Target.octets target.new
+            ≡ Target.octets target.old ++ wire (lowercase_labels (Self.labels self.now))) }
         ensures unchanged { OnErr result (Target.octets target.new ≡ Target.octets target.old) }
-        ensures full { OnErr result (Target.capacity target.old < length (Target.octets target.old) + length (wire (lowercase_labels (Self.labels self.now)))) }
+        ensures full { OnErr result
+            (Target.capacity target.old
+            < length (Target.octets target.old)
+            + length (wire (lowercase_labels (Self.labels self.now)))) }
         ensures capacity { Target.capacity target.old ≤ Target.capacity target.new };
 
     /// The order of the octets of the two names with no pointer.
@@ -59,7 +72,8 @@ pub trait DataName: Absolute {
 
     /// The order of the octets of the two names in lowercase with no pointer.
     fn lowercase_cmp(&self, other: &Self) -> Ordering
-        ensures { result ≡ lowercase_composed_order (Self.labels self.now) (Self.labels other.now) };
+        ensures { result
+            ≡ lowercase_composed_order (Self.labels self.now) (Self.labels other.now) };
 
     /// Appends the name with no pointer, in lowercase if so, or nothing.
     final fn append_cased<Target: Composer>(
@@ -67,9 +81,14 @@ pub trait DataName: Absolute {
         lowercase: bool,
         target: &mut Target,
     ) -> Result<(), Target::AppendError>
-        ensures ok { OnOk result (Target.octets target.new ≡ Target.octets target.old ++ wire (cased_labels lowercase (Self.labels self.now))) }
+        ensures ok { OnOk result
+            (Target.octets target.new
+            ≡ Target.octets target.old ++ wire (cased_labels lowercase (Self.labels self.now))) }
         ensures unchanged { OnErr result (Target.octets target.new ≡ Target.octets target.old) }
-        ensures full { OnErr result (Target.capacity target.old < length (Target.octets target.old) + length (wire (cased_labels lowercase (Self.labels self.now)))) }
+        ensures full { OnErr result
+            (Target.capacity target.old
+            < length (Target.octets target.old)
+            + length (wire (cased_labels lowercase (Self.labels self.now)))) }
         ensures capacity { Target.capacity target.old ≤ Target.capacity target.new }
     {
         match lowercase {
@@ -80,7 +99,9 @@ pub trait DataName: Absolute {
 
     /// The order of the octets of the two names with no pointer, in lowercase if so.
     final fn cased_cmp(&self, other: &Self, lowercase: bool) -> Ordering
-        ensures { result ≡ composed_order (cased_labels lowercase (Self.labels self.now)) (cased_labels lowercase (Self.labels other.now)) }
+        ensures { result
+            ≡ composed_order (cased_labels lowercase (Self.labels self.now))
+            (cased_labels lowercase (Self.labels other.now)) }
     {
         match lowercase {
             true => self.lowercase_cmp(other),
@@ -218,7 +239,8 @@ impl<N: DataName> DataField for NameField<N> {
 
     ghost sized = { λ it c n t s known name. name_size (N.labels it.name) c n t s known name };
 
-    ghost canonical_sized = { λ it lowercase n known. cased_size lowercase (N.labels it.name) n known };
+    ghost canonical_sized = { λ it lowercase n known.
+        cased_size lowercase (N.labels it.name) n known };
 }
 
 /// A name that is never compressed: of all other types (RFC 3597, 4).
@@ -288,7 +310,9 @@ impl<N: DataName> DataField for UncompressedNameField<N> {
 
     ghost flat = { λ _ _ _ same. same };
 
-    ghost sized = { λ it _ n t s known is. fixed_size (wire (N.labels it.name)) s (length (wire (N.labels it.name))) n refl known is };
+    ghost sized = { λ it _ n t s known is.
+        fixed_size (wire (N.labels it.name)) s (length (wire (N.labels it.name))) n refl known is };
 
-    ghost canonical_sized = { λ it lowercase n known. cased_size lowercase (N.labels it.name) n known };
+    ghost canonical_sized = { λ it lowercase n known.
+        cased_size lowercase (N.labels it.name) n known };
 }

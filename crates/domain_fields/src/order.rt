@@ -17,9 +17,14 @@ pub trait OrderedField: DataField {
     ///
     /// Names are in lowercase there if `lowercase`, which the type of the record tells.
     fn canonical_field_cmp(&self, other: &Self, lowercase: bool) -> Ordering
-        ensures order { result ≡ slice_cmp nat_cmp (Self.uncompressed self.now lowercase) (Self.uncompressed other.now lowercase) }
+        ensures order { result
+            ≡ slice_cmp nat_cmp (Self.uncompressed self.now lowercase)
+            (Self.uncompressed other.now lowercase) }
         // With other fields after them, these are looked at only where the two are the same.
-        ensures followed { (s t : List ℕ) → slice_cmp nat_cmp (Self.uncompressed self.now lowercase ++ s) (Self.uncompressed other.now lowercase ++ t) ≡ ordering_then result (slice_cmp nat_cmp s t) };
+        ensures followed { (s t : List ℕ) →
+            slice_cmp nat_cmp (Self.uncompressed self.now lowercase ++ s)
+            (Self.uncompressed other.now lowercase ++ t)
+            ≡ ordering_then result (slice_cmp nat_cmp s t) };
 }
 
 /// A field that is ordered where it is the last one: nothing follows it.
@@ -30,7 +35,9 @@ pub trait OrderedLast: DataField {
     ///
     /// Names are in lowercase there if `lowercase`, which the type of the record tells.
     fn canonical_last_cmp(&self, other: &Self, lowercase: bool) -> Ordering
-        ensures { result ≡ slice_cmp nat_cmp (Self.uncompressed self.now lowercase) (Self.uncompressed other.now lowercase) };
+        ensures { result
+            ≡ slice_cmp nat_cmp (Self.uncompressed self.now lowercase)
+            (Self.uncompressed other.now lowercase) };
 }
 
 impl OrderedField for u8 {

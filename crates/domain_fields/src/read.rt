@@ -1,5 +1,5 @@
 //! Reading fields of record data.
-ghost use Rattle.std.specs.Prelude.{◌≡◌, ℕ, ◌<◌, List, codes, length, IfOk, IfErr, OnOk, OnErr};
+ghost use Rattle.std.specs.Prelude.{◌≡◌, ℕ, ◌<◌, List, codes, IfOk, IfErr, OnOk, OnErr};
 ghost use Rattle.std.specs.Int.{w8, w16, w32, from_be_bytes};
 ghost use Rattle.octseq.specs.Parsing.{message, position, MovesTo};
 ghost use Rattle.domain_wire.specs.Addresses.{ipv4_of, ipv6_of};
@@ -49,7 +49,9 @@ pub trait ReadField<'a, E: FieldError>: Sized {
 
     /// Reads a value at the parser's position, and moves the parser to its end. An error leaves the parser.
     fn read_field(parser: &mut Parser<'a>) -> Result<Self, E>
-        ensures ok { IfOk result (λ value. encodes (message parser.old) (position parser.old) (model value) (position parser.new)) }
+        ensures ok { IfOk result
+            (λ value. encodes (message parser.old) (position parser.old) (model value)
+            (position parser.new)) }
         ensures moves { OnOk result (MovesTo parser.old parser.new (position parser.new)) }
         ensures err { IfErr result (λ e. fails_with (message parser.old) (position parser.old) e) }
         ensures unchanged { OnErr result (parser.new ≡ parser.old) };
@@ -64,9 +66,12 @@ pub trait ReadField<'a, E: FieldError>: Sized {
 pub fn read_all<'a, E: FieldError, F: ReadField<'a, E> + Drop>(
     parser: &mut Parser<'a>,
 ) -> Result<F, E>
-    ensures ok { IfOk result (λ it. AllAt F.encodes (message parser.old) (position parser.old) (F.model it) (position parser.new)) }
+    ensures ok { IfOk result
+        (λ it. AllAt F.encodes (message parser.old) (position parser.old) (F.model it)
+        (position parser.new)) }
     ensures moves { OnOk result (MovesTo parser.old parser.new (position parser.new)) }
-    ensures err { IfErr result (λ e. NotAll E.said F.encodes F.fails_with (message parser.old) (position parser.old) e) }
+    ensures err { IfErr result
+        (λ e. NotAll E.said F.encodes F.fails_with (message parser.old) (position parser.old) e) }
     ensures unchanged { OnErr result (parser.new ≡ parser.old) }
 {
     let mut ahead = *parser;

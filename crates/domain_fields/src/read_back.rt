@@ -243,7 +243,8 @@ pub trait ReadBackData: ComposeRecordData {
 
     /// The law, for this data. It does nothing.
     fn reads_back(&self)
-        ensures { IsReadBackWhole (Self.composed self.now) (seen_at (Self.type_number self.now)) (like self.now) };
+        ensures { IsReadBackWhole (Self.composed self.now) (seen_at (Self.type_number self.now))
+            (like self.now) };
 }
 
 /// The same octets.

@@ -40,18 +40,21 @@ impl<'a, E: FieldError, A: ReadField<'a, E> + Drop, B: ReadField<'a, E> + Drop> 
         Ok(Sequence { first, rest })
     }
 
-    ghost lawful = { both_reading E.said A.encodes B.encodes A.fails_with B.fails_with A.lawful B.lawful };
+    ghost lawful = { both_reading E.said A.encodes B.encodes A.fails_with B.fails_with A.lawful
+        B.lawful };
 }
 
 /// The octets of the first field, and then those of the rest.
 impl<A: DataField, B: DataField> DataField for Sequence<A, B> {
     ghost parts = { λ it. A.parts it.first ++ B.parts it.rest };
 
-    ghost uncompressed = { λ it lowercase. A.uncompressed it.first lowercase ++ B.uncompressed it.rest lowercase };
+    ghost uncompressed = { λ it lowercase.
+        A.uncompressed it.first lowercase ++ B.uncompressed it.rest lowercase };
 
     ghost composed = { λ it c. BothComposed (A.composed it.first c) (B.composed it.rest c) };
 
-    ghost written = { λ it T octets named. BothWritten (A.written it.first T octets named) (B.written it.rest T octets named) };
+    ghost written = { λ it T octets named.
+        BothWritten (A.written it.first T octets named) (B.written it.rest T octets named) };
 
     ghost known_len = { λ it c. both_len (A.known_len it.first c) (B.known_len it.rest c) };
 
@@ -99,13 +102,24 @@ impl<A: DataField, B: DataField> DataField for Sequence<A, B> {
         Ok(())
     }
 
-    ghost forms = { λ it lowercase. both_parts (A.uncompressed it.first lowercase) (B.uncompressed it.rest lowercase) lowercase (A.parts it.first) (B.parts it.rest) (A.forms it.first lowercase) (B.forms it.rest lowercase) };
+    ghost forms = { λ it lowercase. both_parts (A.uncompressed it.first lowercase)
+        (B.uncompressed it.rest lowercase) lowercase (A.parts it.first) (B.parts it.rest)
+        (A.forms it.first lowercase) (B.forms it.rest lowercase) };
 
-    ghost plain = { λ it c t. both_plain (A.composed it.first c) (B.composed it.rest c) t (A.uncompressed it.first false) (B.uncompressed it.rest false) (A.plain it.first c t) (B.plain it.rest c (t ++ A.uncompressed it.first false)) };
+    ghost plain = { λ it c t. both_plain (A.composed it.first c) (B.composed it.rest c) t
+        (A.uncompressed it.first false) (B.uncompressed it.rest false) (A.plain it.first c t)
+        (B.plain it.rest c (t ++ A.uncompressed it.first false)) };
 
-    ghost flat = { λ it t s both. both_flat (A.composed it.first false) (B.composed it.rest false) (A.uncompressed it.first false) (B.uncompressed it.rest false) t s (A.flat it.first) (B.flat it.rest) both };
+    ghost flat = { λ it t s both. both_flat (A.composed it.first false) (B.composed it.rest false)
+        (A.uncompressed it.first false) (B.uncompressed it.rest false) t s (A.flat it.first)
+        (B.flat it.rest) both };
 
-    ghost sized = { λ it c n t s known both. both_sized (A.composed it.first c) (B.composed it.rest c) (A.known_len it.first c) (B.known_len it.rest c) n t s (λ k t s. A.sized it.first c k t s) (λ k t s. B.sized it.rest c k t s) known both };
+    ghost sized = { λ it c n t s known both. both_sized (A.composed it.first c)
+        (B.composed it.rest c) (A.known_len it.first c) (B.known_len it.rest c) n t s
+        (λ k t s. A.sized it.first c k t s) (λ k t s. B.sized it.rest c k t s) known both };
 
-    ghost canonical_sized = { λ it lowercase n known. both_canonical (A.uncompressed it.first lowercase) (B.uncompressed it.rest lowercase) (A.known_len it.first false) (B.known_len it.rest false) n (A.canonical_sized it.first lowercase) (B.canonical_sized it.rest lowercase) known };
+    ghost canonical_sized = { λ it lowercase n known. both_canonical
+        (A.uncompressed it.first lowercase) (B.uncompressed it.rest lowercase)
+        (A.known_len it.first false) (B.known_len it.rest false) n
+        (A.canonical_sized it.first lowercase) (B.canonical_sized it.rest lowercase) known };
 }

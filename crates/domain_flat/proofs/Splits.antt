@@ -10,10 +10,10 @@ use Rattle.domain_flat.proofs.LabelBounds.{Meets, IsSeam, meets_labels, read_at}
 -- ---- lists
 
 pub cut_none : (ls : List (List ℕ)) → SplitsAt ls 0 [] ls
-cut_none ls = record { parts = refl; place = refl }
+cut_none ls = record { parts = refl; offset = refl }
 
 pub cut_all : (ls : List (List ℕ)) (n : ℕ) → length (wire ls) ≡ n → SplitsAt ls n ls []
-cut_all ls n e = record { parts = sym (append-nil ls); place = e }
+cut_all ls n e = record { parts = sym (append-nil ls); offset = e }
 
 -- of two cuts, the later one is after the earlier one
 within : (xs ys xs' ys' : List (List ℕ)) → xs ++ ys ≡ xs' ++ ys' → length (wire xs) ≤ length (wire xs') → (zs : List (List ℕ)) × (xs' ≡ xs ++ zs) × (ys ≡ zs ++ ys')
@@ -26,7 +26,7 @@ within (x ∷ xs) ys (x' ∷ xs') ys' e n =
     (r.0, ap (λ y. y ∷ xs') (sym head) ∙ ap (λ y. x ∷ y) r.1, r.2)
 
 pub cut_within : (ls : List (List ℕ)) (p q : ℕ) (xs ys xs' ys' : List (List ℕ)) → SplitsAt ls p xs ys → SplitsAt ls q xs' ys' → p ≤ q → (zs : List (List ℕ)) × (xs' ≡ xs ++ zs) × (ys ≡ zs ++ ys')
-cut_within ls p q xs ys xs' ys' a b n = within xs ys xs' ys' (sym a.parts ∙ b.parts) (omega (arith, a.place, b.place, n))
+cut_within ls p q xs ys xs' ys' a b n = within xs ys xs' ys' (sym a.parts ∙ b.parts) (omega (arith, a.offset, b.offset, n))
 
 absolute_cut : (xs : List (List ℕ)) (y : List ℕ) (ys : List (List ℕ)) → IsAbsolute (xs ++ y ∷ ys) → IsRelative xs × IsAbsolute (y ∷ ys)
 absolute_cut [] y ys a = (tt, a)
@@ -45,20 +45,20 @@ cut_wire : (o : List ℕ) (p : ℕ) (xs ys : List (List ℕ)) → wire (labels_i
 cut_wire o p xs ys w c = sym (wire_append xs ys) ∙ (ap wire (sym c.parts) ∙ w)
 
 pub cut_take : (o : List ℕ) (p : ℕ) (xs ys : List (List ℕ)) → wire (labels_in o) ≡ o → SplitsAt (labels_in o) p xs ys → take p o ≡ wire xs
-cut_take o p xs ys w c = rw (sym c.place, sym (cut_wire o p xs ys w c)) (take-append_seam (wire xs) (wire ys))
+cut_take o p xs ys w c = rw (sym c.offset, sym (cut_wire o p xs ys w c)) (take-append_seam (wire xs) (wire ys))
 
 pub cut_drop : (o : List ℕ) (p : ℕ) (xs ys : List (List ℕ)) → wire (labels_in o) ≡ o → SplitsAt (labels_in o) p xs ys → drop p o ≡ wire ys
-cut_drop o p xs ys w c = rw (sym c.place, sym (cut_wire o p xs ys w c)) (drop-append_seam (wire xs) (wire ys))
+cut_drop o p xs ys w c = rw (sym c.offset, sym (cut_wire o p xs ys w c)) (drop-append_seam (wire xs) (wire ys))
 
 cut_len : (o : List ℕ) (p : ℕ) (xs ys : List (List ℕ)) → wire (labels_in o) ≡ o → SplitsAt (labels_in o) p xs ys → length o ≡ p + length (wire ys)
-cut_len o p xs ys w c = omega (arith, ap length (cut_wire o p xs ys w c), c.place, length-append (wire xs) (wire ys))
+cut_len o p xs ys w c = omega (arith, ap length (cut_wire o p xs ys w c), c.offset, length-append (wire xs) (wire ys))
 
 -- the parts of an absolute name, cut where a label begins
 pub record AbsoluteParts (o : List ℕ) (p : ℕ) (before after : List ℕ) : Type 0 where
   pub front : IsRelativeWire before
   pub back : IsAbsoluteWire after
   pub parts : labels_in before ++ labels_in after ≡ labels_in o
-  pub place : length (wire (labels_in before)) ≡ p
+  pub offset : length (wire (labels_in before)) ≡ p
 
 pub absolute_parts : (o : List ℕ) (p : ℕ) → IsAbsoluteWire o → IsLabelStart (labels_in o) p → AbsoluteParts o p (take p o) (drop p o)
 absolute_parts o p w s =
@@ -71,10 +71,10 @@ absolute_parts o p w s =
     let n = cut_len o p xs ys w.0 c in
     let m : length (wire (labels_in o)) ≡ length o = ap length w.0 in
     record {
-      front = rw t (wire_relative xs (a.0, omega (arith, n, m, w.1.1, c.place)));
+      front = rw t (wire_relative xs (a.0, omega (arith, n, m, w.1.1, c.offset)));
       back = rw d (wire_absolute ys (a.1, omega (arith, n, m, w.1.1)));
       parts = rw (t, d, labels_in_wire xs, labels_in_wire ys) (sym c.parts);
-      place = rw (t, labels_in_wire xs) c.place;
+      offset = rw (t, labels_in_wire xs) c.offset;
     }
 
 -- the parts of a relative name
@@ -82,7 +82,7 @@ pub record RelativeParts (o : List ℕ) (p : ℕ) (before after : List ℕ) : Ty
   pub front : IsRelativeWire before
   pub back : IsRelativeWire after
   pub parts : labels_in before ++ labels_in after ≡ labels_in o
-  pub place : length (wire (labels_in before)) ≡ p
+  pub offset : length (wire (labels_in before)) ≡ p
 
 pub relative_parts : (o : List ℕ) (p : ℕ) → IsRelativeWire o → IsLabelEnd (labels_in o) p → RelativeParts o p (take p o) (drop p o)
 relative_parts o p w s =
@@ -95,10 +95,10 @@ relative_parts o p w s =
     let n = cut_len o p xs ys w.0 c in
     let m : length (wire (labels_in o)) ≡ length o = ap length w.0 in
     record {
-      front = rw t (wire_relative xs (a.0, omega (arith, n, m, w.1.1, c.place)));
+      front = rw t (wire_relative xs (a.0, omega (arith, n, m, w.1.1, c.offset)));
       back = rw d (wire_relative ys (a.1, omega (arith, n, m, w.1.1)));
       parts = rw (t, d, labels_in_wire xs, labels_in_wire ys) (sym c.parts);
-      place = rw (t, labels_in_wire xs) c.place;
+      offset = rw (t, labels_in_wire xs) c.offset;
     }
 
 -- ---- a part between two cuts
@@ -117,12 +117,12 @@ between : (o : List ℕ) (p q : ℕ) (xs ys xs' ys' : List (List ℕ)) → wire 
 between o p q xs ys xs' ys' w few a b rel n =
     let z = cut_within (labels_in o) p q xs ys xs' ys' a b n in
     let len : length (wire xs') ≡ length (wire xs) + length (wire z.0) = ap (λ r. length (wire r)) z.1 ∙ length-wire_append xs z.0 in
-    let k : q ≡ p + length (wire z.0) = omega (arith, len, a.place, b.place) in
+    let k : q ≡ p + length (wire z.0) = omega (arith, len, a.offset, b.offset) in
     let e = part_octets o p q xs ys z.0 ys' w a z.2 k in
     let r = (relative_cut xs z.0 (subst IsRelative z.1 rel.0)).1 in
     rw e (record {
       relative = wire_relative z.0 (r, omega (arith, rel.1, len));
-      stands = rw (labels_in_wire z.0) (xs, ys', record { parts = a.parts ∙ ap (λ r. xs ++ r) z.2; place = a.place }, omega (arith, k));
+      stands = rw (labels_in_wire z.0) (xs, ys', record { parts = a.parts ∙ ap (λ r. xs ++ r) z.2; offset = a.offset }, omega (arith, k));
     })
 
 pub absolute_part : (o : List ℕ) (p q : ℕ) → IsAbsoluteWire o → IsLabelStart (labels_in o) p → IsLabelStart (labels_in o) q → p ≤ q → Part o p q (slice_range o p q)
@@ -130,42 +130,42 @@ absolute_part o p q w s t n =
     let a = absolute_cut t.0 t.1 t.2 (subst IsAbsolute t.3.parts w.1.0) in
     let m : length (wire (labels_in o)) ≡ length o = ap length w.0 in
     let l = cut_len o q t.0 (t.1 ∷ t.2) w.0 t.3 in
-    between o p q s.0 (s.1 ∷ s.2) t.0 (t.1 ∷ t.2) w.0 (omega (arith, m, w.1.1)) s.3 t.3 (a.0, omega (arith, l, m, w.1.1, t.3.place)) n
+    between o p q s.0 (s.1 ∷ s.2) t.0 (t.1 ∷ t.2) w.0 (omega (arith, m, w.1.1)) s.3 t.3 (a.0, omega (arith, l, m, w.1.1, t.3.offset)) n
 
 pub relative_part : (o : List ℕ) (p q : ℕ) → IsRelativeWire o → IsLabelEnd (labels_in o) p → IsLabelEnd (labels_in o) q → p ≤ q → Part o p q (slice_range o p q)
 relative_part o p q w s t n =
     let a = relative_cut t.0 t.1 (subst IsRelative t.2.parts w.1.0) in
     let m : length (wire (labels_in o)) ≡ length o = ap length w.0 in
     let l = cut_len o q t.0 t.1 w.0 t.2 in
-    between o p q s.0 s.1 t.0 t.1 w.0 (omega (arith, m, w.1.1)) s.2 t.2 (a.0, omega (arith, l, m, w.1.1, t.2.place)) n
+    between o p q s.0 s.1 t.0 t.1 w.0 (omega (arith, m, w.1.1)) s.2 t.2 (a.0, omega (arith, l, m, w.1.1, t.2.offset)) n
 
 -- ---- going from label to label
 
 pub seam_cut : (o : List ℕ) (i : ℕ) → IsSeam o i → SplitsAt (labels_in o) i (labels_in (take i o)) (labels_in (drop i o))
-seam_cut o i s = record { parts = meets_labels o i _ _ s; place = s.at }
+seam_cut o i s = record { parts = meets_labels o i _ _ s; offset = s.at }
 
-next_place : (o : List ℕ) (i place : ℕ) (xs ys zs ys' : List (List ℕ)) → Meets o i xs ys → ys ≡ zs ++ ys' → i + length (wire zs) ≡ place → i < place → i + 1 + slice_index_or o i 0 ≤ place
-next_place o i place xs ys [] ys' m e n h = absurd (omega (arith, n, h))
-next_place o i place xs ys (z ∷ zs) ys' m e n h =
+next_place : (o : List ℕ) (i offset : ℕ) (xs ys zs ys' : List (List ℕ)) → Meets o i xs ys → ys ≡ zs ++ ys' → i + length (wire zs) ≡ offset → i < offset → i + 1 + slice_index_or o i 0 ≤ offset
+next_place o i offset xs ys [] ys' m e n h = absurd (omega (arith, n, h))
+next_place o i offset xs ys (z ∷ zs) ys' m e n h =
     let there : Meets o i xs (z ∷ (zs ++ ys')) = subst (λ r. Meets o i xs r) e m in
     omega (arith, read_at o i xs z (zs ++ ys') there, n, length-append z (wire zs))
 
 -- from a label that begins before an offset where one begins or the list ends, one comes at most to it
-pub step_stays : (o : List ℕ) (i place : ℕ) → IsSeam o i → IsLabelEnd (labels_in o) place → i < place → i + 1 + slice_index_or o i 0 ≤ place
-step_stays o i place s t h =
+pub step_stays : (o : List ℕ) (i offset : ℕ) → IsSeam o i → IsLabelEnd (labels_in o) offset → i < offset → i + 1 + slice_index_or o i 0 ≤ offset
+step_stays o i offset s t h =
     let c = seam_cut o i s in
-    let z = cut_within (labels_in o) i place _ _ t.0 t.1 c t.2 (omega (arith, h)) in
+    let z = cut_within (labels_in o) i offset _ _ t.0 t.1 c t.2 (omega (arith, h)) in
     let len : length (wire t.0) ≡ length (wire (labels_in (take i o))) + length (wire z.0) = ap (λ r. length (wire r)) z.1 ∙ length-wire_append (labels_in (take i o)) z.0 in
-    next_place o i place _ _ z.0 t.1 s z.2 (omega (arith, len, c.place, t.2.place)) h
+    next_place o i offset _ _ z.0 t.1 s z.2 (omega (arith, len, c.offset, t.2.offset)) h
 
-pub end_inside : (o : List ℕ) (place : ℕ) → IsWire o → IsLabelEnd (labels_in o) place → place ≤ length o
-end_inside o place w t = omega (arith, cut_len o place t.0 t.1 w.0 t.2)
+pub end_inside : (o : List ℕ) (offset : ℕ) → IsWire o → IsLabelEnd (labels_in o) offset → offset ≤ length o
+end_inside o offset w t = omega (arith, cut_len o offset t.0 t.1 w.0 t.2)
 
 -- where the walk has come to the offset, or to the end, it tells
-pub walk_tells : (o : List ℕ) (i place : ℕ) → IsWire o → IsSeam o i → i ≤ length o → (IsLabelEnd (labels_in o) place → i ≤ place) → (place ≤ i) ⊎ (length o ≤ i) → (IsTrue (nat_eq i place) → IsLabelEnd (labels_in o) place) × (IsLabelEnd (labels_in o) place → IsTrue (nat_eq i place))
-walk_tells o i place w s n before stop = (
-  λ h. let e : i ≡ place = eqb-true i place h in let here : IsLabelEnd (labels_in o) i = (labels_in (take i o), labels_in (drop i o), seam_cut o i s) in subst (IsLabelEnd (labels_in o)) e here,
-  λ t. eq-eqb i place (⊎_elim (λ a. omega (arith, a, before t)) (λ b. omega (arith, b, before t, n, end_inside o place w t)) stop),
+pub walk_tells : (o : List ℕ) (i offset : ℕ) → IsWire o → IsSeam o i → i ≤ length o → (IsLabelEnd (labels_in o) offset → i ≤ offset) → (offset ≤ i) ⊎ (length o ≤ i) → (IsTrue (nat_eq i offset) → IsLabelEnd (labels_in o) offset) × (IsLabelEnd (labels_in o) offset → IsTrue (nat_eq i offset))
+walk_tells o i offset w s n before stop = (
+  λ h. let e : i ≡ offset = eqb-true i offset h in let here : IsLabelEnd (labels_in o) i = (labels_in (take i o), labels_in (drop i o), seam_cut o i s) in subst (IsLabelEnd (labels_in o)) e here,
+  λ t. eq-eqb i offset (⊎_elim (λ a. omega (arith, a, before t)) (λ b. omega (arith, b, before t, n, end_inside o offset w t)) stop),
 )
 
 -- ---- after the first label
@@ -207,7 +207,7 @@ start_before_end o p w s = omega (arith, ap length w, cut_len o p s.0 (s.1 ∷ s
 
 -- where the list doesn't end, a label begins
 start_of : (ls : List (List ℕ)) (p : ℕ) (xs ys : List (List ℕ)) → SplitsAt ls p xs ys → p < length (wire ls) → IsLabelStart ls p
-start_of ls p xs [] c n = absurd (omega (arith, n, c.place, ap (λ r. length (wire r)) (c.parts ∙ append-nil xs)))
+start_of ls p xs [] c n = absurd (omega (arith, n, c.offset, ap (λ r. length (wire r)) (c.parts ∙ append-nil xs)))
 start_of ls p xs (y ∷ ys) c n = (xs, y, ys, c)
 
 pub end_start : (ls : List (List ℕ)) (p : ℕ) → p < length (wire ls) → IsLabelEnd ls p → IsLabelStart ls p
@@ -217,7 +217,7 @@ end_start ls p n e = start_of ls p e.0 e.1 e.2 n
 pub root_start : (ls : List (List ℕ)) (p : ℕ) → IsAbsolute ls → p + 1 ≡ length (wire ls) → IsLabelStart ls p
 root_start ls p a n =
     let r = root_last ls a in
-    (r.0, [], [], record { parts = r.1; place = omega (arith, n, ap (λ x. length (wire x)) r.1, length-wire_append r.0 ([] ∷ [])) })
+    (r.0, [], [], record { parts = r.1; offset = omega (arith, n, ap (λ x. length (wire x)) r.1, length-wire_append r.0 ([] ∷ [])) })
 
 last_empty : (front : List (List ℕ)) (l : List ℕ) → IsAbsolute (front ++ l ∷ []) → l ≡ []
 last_empty [] [] a = refl

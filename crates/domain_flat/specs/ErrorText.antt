@@ -25,13 +25,13 @@ name_refusal kind = form (name_error_text kind)
 
 -- the error of a name that an error of a label becomes
 abbrev pub name_fault : SplitLabelError → NameErrorKind
-name_fault (split.Pointer place) = CompressedName
+name_fault (split.Pointer offset) = CompressedName
 name_fault (split.BadType label_type) = BadLabel label_type
 name_fault split.ShortInput = ShortInput
 
 -- the same of a relative name
 abbrev pub relative_name_fault : SplitLabelError → RelativeNameErrorKind
-relative_name_fault (split.Pointer place) = relative.CompressedName
+relative_name_fault (split.Pointer offset) = relative.CompressedName
 relative_name_fault (split.BadType label_type) = relative.BadLabel label_type
 relative_name_fault split.ShortInput = relative.ShortInput
 

@@ -15,7 +15,7 @@ use Rattle.domain_flat.specs.declared.error.RelativeNameErrorKind.TheVariants as
 -- After the labels fs no absolute name can go on with the octets rest.
 abbrev pub AbsoluteFaultAt : List (List ℕ) → List ℕ → NameErrorKind → Type 0
 AbsoluteFaultAt fs rest (absolute.BadLabel label_type) = SplitFault rest (BadType label_type)
-AbsoluteFaultAt fs rest absolute.CompressedName = (place : ℕ) × SplitFault rest (Pointer place)
+AbsoluteFaultAt fs rest absolute.CompressedName = (offset : ℕ) × SplitFault rest (Pointer offset)
 AbsoluteFaultAt fs rest absolute.ShortInput = SplitFault rest MissingOctets × ((fs ≡ []) ⊎ (rest ≢ []))
 AbsoluteFaultAt fs rest absolute.RelativeName = (fs ≢ []) × (rest ≡ [])
 AbsoluteFaultAt fs rest absolute.TrailingData = (c : ℕ) × (more : List ℕ) × (rest ≡ 0 ∷ c ∷ more)
@@ -29,7 +29,7 @@ AbsoluteFault o kind = (length o ≤ 255) × ((fs : List (List ℕ)) × (rest : 
 -- After the labels fs no relative name can go on with the octets rest.
 abbrev pub RelativeFaultAt : List ℕ → RelativeNameErrorKind → Type 0
 RelativeFaultAt rest (relative.BadLabel label_type) = SplitFault rest (BadType label_type)
-RelativeFaultAt rest relative.CompressedName = (place : ℕ) × SplitFault rest (Pointer place)
+RelativeFaultAt rest relative.CompressedName = (offset : ℕ) × SplitFault rest (Pointer offset)
 RelativeFaultAt rest relative.ShortInput = SplitFault rest MissingOctets × (rest ≢ [])
 RelativeFaultAt rest relative.LongName = ⊥
 RelativeFaultAt rest relative.AbsoluteName = (more : List ℕ) × (rest ≡ 0 ∷ more)

@@ -29,7 +29,7 @@ pub record HasLast (o r l : List ℕ) : Type 0 where
 -- The list ls is xs, which has p octets on the wire, and then ys.
 pub record SplitsAt (ls : List (List ℕ)) (p : ℕ) (xs ys : List (List ℕ)) : Type 0 where
   pub parts : ls ≡ xs ++ ys
-  pub place : length (wire xs) ≡ p
+  pub offset : length (wire xs) ≡ p
 
 -- A label of ls begins at the offset p of the wire format.
 abbrev pub IsLabelStart : List (List ℕ) → ℕ → Type 0

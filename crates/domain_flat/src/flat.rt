@@ -1,5 +1,5 @@
 //! Tests of octets in wire format.
-ghost use Rattle.std.specs.Prelude.{◌≡◌, ◌≢◌, ◌≤◌, ◌<◌, ◌+◌, ◌∷◌, [], ◌++◌, ◌⊎◌, ◌↔◌, ℕ, List, length, IfOk, IfErr, IsOk, OnOk};
+ghost use Rattle.std.specs.Prelude.{◌≡◌, ◌≢◌, ◌<◌, ◌+◌, ◌∷◌, [], ◌++◌, ◌⊎◌, ℕ, List, length, IfOk, IfErr, IsOk, OnOk};
 ghost use Rattle.domain_label.specs.Splitting.{SplitFault};
 ghost use Rattle.domain_label.specs.Wire.{wire, IsAbsoluteName, IsRelativeName, IsAbsoluteWire, IsRelativeWire};
 ghost use Rattle.domain_flat.specs.Flat.{LabelsBefore};
@@ -19,8 +19,12 @@ const MAX_RELATIVE_LEN: usize = 254;
 
 /// The octets after the labels that aren't the root: none, or from the root on.
 fn pass_labels(octets: &[u8]) -> Result<&[u8], SplitLabelError>
-    ensures ok { IfOk result (λ rest. ((fs : List (List ℕ)) × LabelsBefore octets.now fs rest.now) × ((rest.now ≡ []) ⊎ ((more : List ℕ) × (rest.now ≡ 0 ∷ more)))) }
-    ensures err { IfErr result (λ e. (fs : List (List ℕ)) × (rest : List ℕ) × LabelsBefore octets.now fs rest × SplitFault rest e × (rest ≢ [])) }
+    ensures ok { IfOk result
+        (λ rest. ((fs : List (List ℕ)) × LabelsBefore octets.now fs rest.now)
+        × ((rest.now ≡ []) ⊎ ((more : List ℕ) × (rest.now ≡ 0 ∷ more)))) }
+    ensures err { IfErr result
+        (λ e. (fs : List (List ℕ)) × (rest : List ℕ) × LabelsBefore octets.now fs rest
+        × SplitFault rest e × (rest ≢ [])) }
 {
     let mut rest = octets;
     while !rest.is_empty() {
@@ -73,9 +77,12 @@ pub fn check_relative(octets: &[u8]) -> Result<(), RelativeNameError>
 ///
 /// The number is tested after the root, so that an error of the format comes first.
 pub fn name_len(octets: &[u8]) -> Result<usize, ParseError>
-    ensures ok { IfOk result (λ len. (ls : List (List ℕ)) × (rest : List ℕ) × IsAbsoluteName ls × (octets.now ≡ wire ls ++ rest) × (len ≡ length (wire ls))) }
+    ensures ok { IfOk result
+        (λ len. (ls : List (List ℕ)) × (rest : List ℕ) × IsAbsoluteName ls
+        × (octets.now ≡ wire ls ++ rest) × (len ≡ length (wire ls))) }
     ensures err { IfErr result (λ e. StartFault octets.now (refusal e)) }
-    ensures exact { (ls : List (List ℕ)) (rest : List ℕ) → IsAbsoluteName ls → octets.now ≡ wire ls ++ rest → IsOk result }
+    ensures exact { (ls : List (List ℕ)) (rest : List ℕ) → IsAbsoluteName ls →
+        octets.now ≡ wire ls ++ rest → IsOk result }
 {
     let rest = pass_labels(octets)?;
     if rest.is_empty() {

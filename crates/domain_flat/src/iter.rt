@@ -77,7 +77,8 @@ impl<'a> NameIter<'a> {
 #[inline(always)]
 pub fn first_label(octets: &[u8]) -> Option<(&[u8], &[u8])>
     requires { IsWire octets.now }
-    ensures { MatchOption result (octets.now ≡ []) (λ parts. HasFirst octets.now parts.0.now parts.1.now) }
+    ensures { MatchOption result (octets.now ≡ [])
+        (λ parts. HasFirst octets.now parts.0.now parts.1.now) }
 {
     let [len, rest @ ..] = octets else {
         return None;
@@ -90,7 +91,8 @@ pub fn first_label(octets: &[u8]) -> Option<(&[u8], &[u8])>
 fn find_starts(octets: &[u8], starts: &mut [u8; MAX_LABELS]) -> Option<u8>
     requires { IsWire octets.now }
     ensures few { IfSome result (λ count. count ≤ 128) }
-    ensures table { IfSome result (λ count. take count starts.new ≡ label_starts 0 (labels_in octets.now)) }
+    ensures table { IfSome result
+        (λ count. take count starts.new ≡ label_starts 0 (labels_in octets.now)) }
     ensures room { length starts.new ≡ 128 }
 {
     if octets.len() > MAX_NAME_LEN {
@@ -110,18 +112,19 @@ fn find_starts(octets: &[u8], starts: &mut [u8; MAX_LABELS]) -> Option<u8>
 }
 
 /// The octets before an offset and those after it.
-fn split_around(octets: &[u8], place: usize) -> (&[u8], &[u8])
-    requires { place < length octets.now }
-    ensures before { result.0.now ≡ take place octets.now }
-    ensures after { result.1.now ≡ drop (place + 1) octets.now }
+fn split_around(octets: &[u8], offset: usize) -> (&[u8], &[u8])
+    requires { offset < length octets.now }
+    ensures before { result.0.now ≡ take offset octets.now }
+    ensures after { result.1.now ≡ drop (offset + 1) octets.now }
 {
-    (&octets[..place], &octets[place + 1..])
+    (&octets[..offset], &octets[offset + 1..])
 }
 
 /// The wire format before the last label of a wire format, and the octets of that label.
 pub fn last_label(octets: &[u8]) -> Option<(&[u8], &[u8])>
     requires { IsWire octets.now }
-    ensures { MatchOption result (octets.now ≡ []) (λ parts. HasLast octets.now parts.0.now parts.1.now) }
+    ensures { MatchOption result (octets.now ≡ [])
+        (λ parts. HasLast octets.now parts.0.now parts.1.now) }
 {
     if octets.is_empty() {
         return None;

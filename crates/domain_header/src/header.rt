@@ -1,6 +1,5 @@
 //! The twelve octets that a message begins with.
-ghost use Rattle.std.specs.Prelude.{◌≡◌, ◌≤◌, ◌<◌, ◌↔◌, ◌++◌, length, drop, slice_index, IfOk, IsErr, OnOk, OnErr, Some, codes};
-ghost use Rattle.domain_header.specs.Numbers.{number16};
+ghost use Rattle.std.specs.Prelude.{◌≡◌, ◌<◌, ◌↔◌, ◌++◌, length, drop, IsErr, OnOk, OnErr, Some, codes};
 
 use crate::counts::HeaderCounts;
 use crate::flags::Header;
@@ -59,7 +58,10 @@ impl HeaderSection {
     pub fn write(self, message: &mut [u8]) -> Result<(), ShortMessage>
         ensures short { IsErr result ↔ (length message.old < 12) }
         ensures unchanged { OnErr result (message.new ≡ message.old) }
-        ensures ok { OnOk result (message.new ≡ header_octets (section_header self) ++ (counts_octets (section_counts self) ++ drop 12 message.old)) }
+        ensures ok { OnOk result
+            (message.new
+            ≡ header_octets (section_header self)
+            ++ (counts_octets (section_counts self) ++ drop 12 message.old)) }
     {
         if message.len() < 12 {
             return Err(ShortMessage);

@@ -1,5 +1,5 @@
 //! Texts that name a number: a mnemonic, or a word and the number itself.
-ghost use Rattle.std.specs.Prelude.{◌≡◌, ◌≤◌, ◌<◌, ℕ, IfSome, IsNone};
+ghost use Rattle.std.specs.Prelude.{◌<◌, ℕ, IfSome, IsNone};
 ghost use Rattle.domain_header.specs.Mnemonics.{rows_of};
 ghost use Rattle.domain_header.specs.Numbered.{IsDecimal, IsNumbered, Named};
 

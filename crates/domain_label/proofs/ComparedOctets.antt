@@ -66,17 +66,17 @@ front_low o m n le =
     ap lowercase shorter ∙ sym (take-map to_ascii_lowercase m (take n o))
 
 -- a front and an end that leave no gap are all
-pub low_covered : (a b : List ℕ) (last place : ℕ) → last ≤ place → lowercase (take place a) ≡ lowercase (take place b) → lowercase (drop last a) ≡ lowercase (drop last b) → lowercase a ≡ lowercase b
-low_covered a b last place le front back =
-    let start : lowercase (take last a) ≡ lowercase (take last b) = front_low a last place le ∙ (ap (take last) front ∙ sym (front_low b last place le)) in
+pub low_covered : (a b : List ℕ) (last offset : ℕ) → last ≤ offset → lowercase (take offset a) ≡ lowercase (take offset b) → lowercase (drop last a) ≡ lowercase (drop last b) → lowercase a ≡ lowercase b
+low_covered a b last offset le front back =
+    let start : lowercase (take last a) ≡ lowercase (take last b) = front_low a last offset le ∙ (ap (take last) front ∙ sym (front_low b last offset le)) in
     split_low a last ∙ (ap (λ r. r ++ lowercase (drop last a)) start ∙ (ap (λ r. lowercase (take last b) ++ r) back ∙ sym (split_low b last)))
 
 -- a part more
-pub low_further : (a b : List ℕ) (place size n : ℕ) → n ≡ size → lowercase (take place a) ≡ lowercase (take place b) → lowercase (take n (drop place a)) ≡ lowercase (take n (drop place b)) → lowercase (take (place + size) a) ≡ lowercase (take (place + size) b)
-low_further a b place size n same front part =
-    let both : (o : List ℕ) → lowercase (take (place + size) o) ≡ lowercase (take place o) ++ lowercase (take n (drop place o)) =
-    λ o. ap lowercase (ap (λ k. take (place + k) o) (sym same) ∙ take-add place n o) ∙ map-append to_ascii_lowercase (take place o) (take n (drop place o)) in
-    both a ∙ (ap (λ r. r ++ lowercase (take n (drop place a))) front ∙ (ap (λ r. lowercase (take place b) ++ r) part ∙ sym (both b)))
+pub low_further : (a b : List ℕ) (offset size n : ℕ) → n ≡ size → lowercase (take offset a) ≡ lowercase (take offset b) → lowercase (take n (drop offset a)) ≡ lowercase (take n (drop offset b)) → lowercase (take (offset + size) a) ≡ lowercase (take (offset + size) b)
+low_further a b offset size n same front part =
+    let both : (o : List ℕ) → lowercase (take (offset + size) o) ≡ lowercase (take offset o) ++ lowercase (take n (drop offset o)) =
+    λ o. ap lowercase (ap (λ k. take (offset + k) o) (sym same) ∙ take-add offset n o) ∙ map-append to_ascii_lowercase (take offset o) (take n (drop offset o)) in
+    both a ∙ (ap (λ r. r ++ lowercase (take n (drop offset a))) front ∙ (ap (λ r. lowercase (take offset b) ++ r) part ∙ sym (both b)))
 
 low_end : (a b : List ℕ) (m : ℕ) → lowercase a ≡ lowercase b → lowercase (drop m a) ≡ lowercase (drop m b)
 low_end a b m e = sym (drop-map to_ascii_lowercase m a) ∙ (ap (drop m) e ∙ drop-map to_ascii_lowercase m b)

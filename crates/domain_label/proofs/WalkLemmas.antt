@@ -59,7 +59,7 @@ step-pointer p (head ∷ []) q f h = absurd f
 step-pointer p (head ∷ octet ∷ rest) q f h =
     let same : (head - 192) * 256 + octet ≡ q = omega (arith, f.0, f.1) in
     step-high p head (octet ∷ rest) f.0
-    ∙ subst (λ place. (if nat_le place p then at_pointer place else at_end) ≡ at_pointer q) (sym same) (if-true (nat_le q p) _ _ (within q p h))
+    ∙ subst (λ offset. (if nat_le offset p then at_pointer offset else at_end) ≡ at_pointer q) (sym same) (if-true (nat_le q p) _ _ (within q p h))
 
 pub step-forward : (p : ℕ) (o : List ℕ) (q : ℕ) → SplitFault o (Pointer q) → p < q → step_of p o ≡ at_end
 step-forward p [] q f h = cc
@@ -67,7 +67,7 @@ step-forward p (head ∷ []) q f h = absurd f
 step-forward p (head ∷ octet ∷ rest) q f h =
     let same : (head - 192) * 256 + octet ≡ q = omega (arith, f.0, f.1) in
     step-high p head (octet ∷ rest) f.0
-    ∙ subst (λ place. (if nat_le place p then at_pointer place else at_end) ≡ at_end) (sym same) (if-false (nat_le q p) _ _ (not_within q p h))
+    ∙ subst (λ offset. (if nat_le offset p then at_pointer offset else at_end) ≡ at_end) (sym same) (if-false (nat_le q p) _ _ (not_within q p h))
 
 -- a label that isn't whole
 step-cut : (p head : ℕ) (rest : List ℕ) → length rest < head → label_step p head rest ≡ at_end
@@ -123,7 +123,7 @@ drop-past s p h = none (drop p s) (length-drop p s) where
 abbrev remembered_past : ℕ → Step → (ℕ → List ℕ) → List ℕ
 remembered_past p (past_label l next) from = p ∷ from next
 remembered_past p at_root from = p ∷ []
-remembered_past p (at_pointer place) from = p ∷ from place
+remembered_past p (at_pointer offset) from = p ∷ from offset
 remembered_past p at_end from = []
 
 abbrev places : List ℕ → ℕ → ℕ → List ℕ
@@ -137,13 +137,13 @@ more-past : (s : List ℕ) (p n k : ℕ) (t : Step)
     → labels_past t (λ q. slice_walk s q k) ≡ labels_past t (λ q. slice_walk s q n)
 more-past s p n k (past_label l next) more w h = ap (λ ls. l ∷ ls) (more next w (omega (arith, h)))
 more-past s p n k at_root more w h = refl
-more-past s p n k (at_pointer place) more w h = more place w (omega (arith, h))
+more-past s p n k (at_pointer offset) more w h = more offset w (omega (arith, h))
 more-past s p n k at_end more w h = refl
 
 none-past : (s : List ℕ) (p n : ℕ) (t : Step) → length (remembered_past p t (λ q. places s q n)) ≤ 0 → [] ≡ labels_past t (λ q. slice_walk s q n)
 none-past s p n (past_label l next) h = absurd (omega (arith, h))
 none-past s p n at_root h = absurd (omega (arith, h))
-none-past s p n (at_pointer place) h = absurd (omega (arith, h))
+none-past s p n (at_pointer offset) h = absurd (omega (arith, h))
 none-past s p n at_end h = refl
 
 walk-more : (s : List ℕ) (n k p : ℕ) → WalkEnds s p n → length (places s p n) ≤ k → slice_walk s p k ≡ slice_walk s p n
@@ -158,7 +158,7 @@ same-past : (s : List ℕ) (p n k : ℕ) (t : Step)
     → remembered_past p t (λ q. places s q n) ≡ remembered_past p t (λ q. places s q k)
 same-past s p n k (past_label l next) same w v = ap (λ ps. p ∷ ps) (same next w v)
 same-past s p n k at_root same w v = refl
-same-past s p n k (at_pointer place) same w v = ap (λ ps. p ∷ ps) (same place w v)
+same-past s p n k (at_pointer offset) same w v = ap (λ ps. p ∷ ps) (same offset w v)
 same-past s p n k at_end same w v = refl
 
 same-places : (s : List ℕ) (n k p : ℕ) → WalkEnds s p n → WalkEnds s p k → places s p n ≡ places s p k
@@ -173,7 +173,7 @@ apart-past : (s : List ℕ) (p q m most : ℕ) (t : Step) → (p == q) ≡ false
     → AllByRecursion (λ y. (p == y) ≡ false) (remembered_past q t (λ r. places s r m))
 apart-past s p q m most (past_label l next) e apart w h = (e, apart next w (omega (arith, h)))
 apart-past s p q m most at_root e apart w h = (e, tt)
-apart-past s p q m most (at_pointer place) e apart w h = (e, apart place w (omega (arith, h)))
+apart-past s p q m most (at_pointer offset) e apart w h = (e, apart offset w (omega (arith, h)))
 apart-past s p q m most at_end e apart w h = tt
 
 apart-here : (s : List ℕ) (p n q m : ℕ) → WalkEnds s p n → WalkEnds s q m → length (places s q m) < length (places s p n) → (p == q) ≡ false
@@ -198,7 +198,7 @@ distinct-past : (s : List ℕ) (p n : ℕ) (t : Step) → WalkEnds s p (suc n)
 unfolding IsDistinct
 distinct-past s p n (past_label l next) v e distinct w = (apart s p (suc n) n next v w (omega (arith, e)), distinct next w)
 distinct-past s p n at_root v e distinct w = (tt, tt)
-distinct-past s p n (at_pointer place) v e distinct w = (apart s p (suc n) n place v w (omega (arith, e)), distinct place w)
+distinct-past s p n (at_pointer offset) v e distinct w = (apart s p (suc n) n offset v w (omega (arith, e)), distinct offset w)
 distinct-past s p n at_end v e distinct w = tt
 
 distinct : (s : List ℕ) (n p : ℕ) → WalkEnds s p n → IsDistinct ◌==◌ (places s p n)
@@ -223,7 +223,7 @@ below-past : (s : List ℕ) (p n q : ℕ) (t : Step) → (t ≢ at_end → p < l
     → list_any (λ x. q == x) (remembered_past p t (λ r. places s r n)) ≡ true → q < length s
 below-past s p n q (past_label l next) here below any = below-one s p q (places s next n) (here (λ e. cc)) (below next) any
 below-past s p n q at_root here below any = below-one s p q [] (here (λ e. cc)) (λ none. cc) any
-below-past s p n q (at_pointer place) here below any = below-one s p q (places s place n) (here (λ e. cc)) (below place) any
+below-past s p n q (at_pointer offset) here below any = below-one s p q (places s offset n) (here (λ e. cc)) (below offset) any
 below-past s p n q at_end here below any = cc
 
 stands : (s : List ℕ) (p : ℕ) → step_at s p ≢ at_end → p < length s

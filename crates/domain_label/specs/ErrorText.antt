@@ -19,13 +19,13 @@ label_type_text (Extended head) =
 
 -- the text of an error of splitting off a label
 abbrev pub split_text : SplitLabelError → List ℕ
-split_text (Pointer place) = codes "compressed domain name"
+split_text (Pointer offset) = codes "compressed domain name"
 split_text (BadType label_type) = label_type_text label_type
 split_text ShortInput = codes "unexpected end of input"
 
 -- the same as an error of parsing
 abbrev pub split_refusal : SplitLabelError → Refusal
-split_refusal (Pointer place) = form (codes "compressed domain name")
+split_refusal (Pointer offset) = form (codes "compressed domain name")
 split_refusal (BadType label_type) = form (codes "invalid label type")
 split_refusal ShortInput = short_input
 

@@ -22,4 +22,4 @@ owned_octets l =
 
 -- the labels that an iterator over a slice still gives
 abbrev pub walk_left : SliceLabelsIter → List (List ℕ)
-walk_left it = slice_walk it.slice.now it.place it.heads
+walk_left it = slice_walk it.slice.now it.offset it.heads

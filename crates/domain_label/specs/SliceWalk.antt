@@ -20,7 +20,7 @@ label_step p (suc len) rest =
 abbrev pub pointer_step : ℕ → ℕ → List ℕ → Step
 pointer_step p head [] = at_end
 pointer_step p head (octet ∷ rest) =
-    let place = (head - 192) * 256 + octet in if nat_le place p then at_pointer place else at_end
+    let offset = (head - 192) * 256 + octet in if nat_le offset p then at_pointer offset else at_end
 
 -- The octets from the offset p on.
 abbrev pub step_of : ℕ → List ℕ → Step
@@ -37,7 +37,7 @@ step_at s p = step_of p (drop p s)
 abbrev pub labels_past : Step → (ℕ → List (List ℕ)) → List (List ℕ)
 labels_past (past_label l next) from = l ∷ from next
 labels_past at_root from = [] ∷ []
-labels_past (at_pointer place) from = from place
+labels_past (at_pointer offset) from = from offset
 labels_past at_end from = []
 
 -- The labels among the first n labels and pointers from the offset p of s.
@@ -49,7 +49,7 @@ slice_walk s p (suc n) = labels_past (step_at s p) (λ q. slice_walk s q n)
 abbrev pub WherePast : Step → (ℕ → Type 0) → Type 0
 WherePast (past_label l next) P = P next
 WherePast at_root P = ⊤
-WherePast (at_pointer place) P = P place
+WherePast (at_pointer offset) P = P offset
 WherePast at_end P = ⊤
 
 -- The labels from the offset p of s end within n labels and pointers.

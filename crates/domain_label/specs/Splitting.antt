@@ -15,8 +15,8 @@ abbrev pub HeadFault : ℕ → List ℕ → SplitLabelError → Type 0
 HeadFault head rest ShortInput = ((head ≤ 63) × (length rest < head)) ⊎ ((192 ≤ head) × (rest ≡ []))
 HeadFault head rest (BadType (Extended value)) = (value ≡ head) × (64 ≤ head) × (head < 128)
 HeadFault head rest (BadType Undefined) = (128 ≤ head) × (head < 192)
-HeadFault head [] (Pointer place) = ⊥
-HeadFault head (low ∷ rest) (Pointer place) = (192 ≤ head) × (place + 192 * 256 ≡ head * 256 + low)
+HeadFault head [] (Pointer offset) = ⊥
+HeadFault head (low ∷ rest) (Pointer offset) = (192 ≤ head) × (offset + 192 * 256 ≡ head * 256 + low)
 
 -- The octets begin with no whole label, and why.
 abbrev pub SplitFault : List ℕ → SplitLabelError → Type 0

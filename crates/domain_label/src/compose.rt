@@ -33,9 +33,13 @@ impl<'a> Label<'a> {
         &self,
         target: &mut Target,
     ) -> Result<(), Target::AppendError>
-        ensures ok { OnOk result (Target.octets target.new ≡ Target.octets target.old ++ wire_label (label_octets self.now)) }
+        ensures ok { OnOk result
+            (Target.octets target.new
+            ≡ Target.octets target.old ++ wire_label (label_octets self.now)) }
         ensures unchanged { OnErr result (Target.octets target.new ≡ Target.octets target.old) }
-        ensures full { OnErr result (Target.capacity target.old < length (Target.octets target.old) + (1 + length (label_octets self.now))) }
+        ensures full { OnErr result
+            (Target.capacity target.old
+            < length (Target.octets target.old) + (1 + length (label_octets self.now))) }
         ensures capacity { Target.capacity target.old ≤ Target.capacity target.new }
         ensures within { IfSome Target.limit (λ n. length (Target.octets target.new) ≤ n) }
         ensures fixed { IfSome Target.limit (λ n. Target.capacity target.old ≡ n) }
@@ -54,9 +58,13 @@ impl<'a> Label<'a> {
         &self,
         target: &mut Target,
     ) -> Result<(), Target::AppendError>
-        ensures ok { OnOk result (Target.octets target.new ≡ Target.octets target.old ++ wire_label (lowercase (label_octets self.now))) }
+        ensures ok { OnOk result
+            (Target.octets target.new
+            ≡ Target.octets target.old ++ wire_label (lowercase (label_octets self.now))) }
         ensures unchanged { OnErr result (Target.octets target.new ≡ Target.octets target.old) }
-        ensures full { OnErr result (Target.capacity target.old < length (Target.octets target.old) + (1 + length (label_octets self.now))) }
+        ensures full { OnErr result
+            (Target.capacity target.old
+            < length (Target.octets target.old) + (1 + length (label_octets self.now))) }
         ensures capacity { Target.capacity target.old ≤ Target.capacity target.new }
         ensures within { IfSome Target.limit (λ n. length (Target.octets target.new) ≤ n) }
         ensures fixed { IfSome Target.limit (λ n. Target.capacity target.old ≡ n) }
@@ -70,9 +78,13 @@ fn append_wire<Target: OctetsBuilder>(
     label: &OwnedLabel,
     target: &mut Target,
 ) -> Result<(), Target::AppendError>
-    ensures ok { OnOk result (Target.octets target.new ≡ Target.octets target.old ++ wire_label (owned_octets label.now)) }
+    ensures ok { OnOk result
+        (Target.octets target.new
+        ≡ Target.octets target.old ++ wire_label (owned_octets label.now)) }
     ensures unchanged { OnErr result (Target.octets target.new ≡ Target.octets target.old) }
-    ensures full { OnErr result (Target.capacity target.old < length (Target.octets target.old) + (1 + length (owned_octets label.now))) }
+    ensures full { OnErr result
+        (Target.capacity target.old
+        < length (Target.octets target.old) + (1 + length (owned_octets label.now))) }
     ensures capacity { Target.capacity target.old ≤ Target.capacity target.new }
     ensures within { IfSome Target.limit (λ n. length (Target.octets target.new) ≤ n) }
     ensures fixed { IfSome Target.limit (λ n. Target.capacity target.old ≡ n) }

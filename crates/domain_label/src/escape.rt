@@ -12,7 +12,8 @@ use crate::symbol::{Symbol, SymbolCharsError};
 pub(crate) fn escape<I: Iterator<Item = char>>(chars: &mut I) -> Result<Symbol, SymbolCharsError>
     requires can { I.can_next chars.old }
     requires ends { IsFinite (I.remaining chars.old) }
-    ensures escape { (cs : List ℕ) → AlwaysYields I.next_gives (λ c. c) chars.old cs → GivesEscape I.next_gives cs result chars.new }
+    ensures escape { (cs : List ℕ) → AlwaysYields I.next_gives (λ c. c) chars.old cs →
+        GivesEscape I.next_gives cs result chars.new }
     ensures can { OnOk result (I.can_next chars.new) }
     ensures ends { IsFinite (I.remaining chars.new) }
     ensures fewer { OnOk result (size (I.remaining chars.new) ≤ size (I.remaining chars.old)) }
@@ -31,7 +32,8 @@ pub(crate) fn escape_at<I: Iterator<Item = char>>(
 ) -> Result<Symbol, SymbolCharsError>
     requires can { I.can_next chars.old }
     requires ends { IsFinite (I.remaining chars.old) }
-    ensures escape { (cs : List ℕ) → AlwaysYields I.next_gives (λ c. c) chars.old cs → GivesEscape I.next_gives (first ∷ cs) result chars.new }
+    ensures escape { (cs : List ℕ) → AlwaysYields I.next_gives (λ c. c) chars.old cs →
+        GivesEscape I.next_gives (first ∷ cs) result chars.new }
     ensures can { OnOk result (I.can_next chars.new) }
     ensures ends { IsFinite (I.remaining chars.new) }
     ensures fewer { OnOk result (size (I.remaining chars.new) ≤ size (I.remaining chars.old)) }
@@ -65,7 +67,8 @@ fn next_digit<I: Iterator<Item = char>>(chars: &mut I) -> Result<char, SymbolCha
     requires can { I.can_next chars.old }
     requires ends { IsFinite (I.remaining chars.old) }
     ensures value { IfOk result (λ d. IsDigit d) }
-    ensures digit { (cs : List ℕ) → AlwaysYields I.next_gives (λ c. c) chars.old cs → GivesDigit I.next_gives cs result chars.new }
+    ensures digit { (cs : List ℕ) → AlwaysYields I.next_gives (λ c. c) chars.old cs →
+        GivesDigit I.next_gives cs result chars.new }
     ensures can { OnOk result (I.can_next chars.new) }
     ensures ends { IsFinite (I.remaining chars.new) }
     ensures fewer { OnOk result (size (I.remaining chars.new) ≤ size (I.remaining chars.old)) }

@@ -46,12 +46,12 @@ fn same_parts(a: &[u8], b: &[u8]) -> bool
     if !same_each(&a[last..], &b[last..]) {
         return false;
     }
-    let mut place = 0;
-    'parts: while place < last {
-        if !same_each(&a[place..place + PART], &b[place..place + PART]) {
+    let mut offset = 0;
+    'parts: while offset < last {
+        if !same_each(&a[offset..offset + PART], &b[offset..offset + PART]) {
             return false;
         }
-        place += PART;
+        offset += PART;
     }
     true
 }

@@ -21,7 +21,8 @@ impl<'a> LabelMut<'a> {
     ///
     /// `LongLabelError` where they are more than 63. The octets stay as they are.
     pub fn from_slice_mut(octets: &'a mut [u8]) -> Result<LabelMut<'a>, LongLabelError>
-        ensures same_reference { IfOk result (λ label. label.octets.ghost_name ≡ octets.entry.ghost_name) }
+        ensures same_reference { IfOk result
+            (λ label. label.octets.ghost_name ≡ octets.entry.ghost_name) }
         ensures ok { IfOk result (λ label. label_mut_octets label ≡ octets.old) }
         ensures long { IsErr result ↔ (63 < length octets.old) }
     {
@@ -46,7 +47,8 @@ impl<'a> LabelMut<'a> {
     pub fn split_from_mut(
         octets: &'a mut [u8],
     ) -> Result<(LabelMut<'a>, &'a mut [u8]), SplitLabelError>
-        ensures ok { IfOk result (λ parts. BeginsWithLabel octets.old (label_mut_octets parts.0) parts.1.now) }
+        ensures ok { IfOk result
+            (λ parts. BeginsWithLabel octets.old (label_mut_octets parts.0) parts.1.now) }
         ensures err { IfErr result (λ e. SplitFault octets.old e) }
     {
         let (label, _) = Label::split_from(octets)?;

@@ -89,7 +89,8 @@ pub(crate) fn next_octet<I: Iterator<Item = char>>(
 ) -> Result<u8, LabelFromStrErrorKind>
     requires can { I.can_next chars.old }
     requires ends { IsFinite (I.remaining chars.old) }
-    ensures octet { (cs : List ℕ) → AlwaysYields I.next_gives (λ c. c) chars.old cs → GivesOctet I.next_gives start (c ∷ cs) result chars.new }
+    ensures octet { (cs : List ℕ) → AlwaysYields I.next_gives (λ c. c) chars.old cs →
+        GivesOctet I.next_gives start (c ∷ cs) result chars.new }
     ensures can { OnOk result (I.can_next chars.new) }
     ensures ends { IsFinite (I.remaining chars.new) }
     ensures fewer { OnOk result (size (I.remaining chars.new) ≤ size (I.remaining chars.old)) }
@@ -107,7 +108,8 @@ pub(crate) fn next_octet<I: Iterator<Item = char>>(
 fn label_escape<I: Iterator<Item = char>>(chars: &mut I) -> Result<Symbol, SymbolCharsError>
     requires can { I.can_next chars.old }
     requires ends { IsFinite (I.remaining chars.old) }
-    ensures escape { (cs : List ℕ) → AlwaysYields I.next_gives (λ c. c) chars.old cs → GivesLabelEscape I.next_gives cs result chars.new }
+    ensures escape { (cs : List ℕ) → AlwaysYields I.next_gives (λ c. c) chars.old cs →
+        GivesLabelEscape I.next_gives cs result chars.new }
     ensures can { OnOk result (I.can_next chars.new) }
     ensures ends { IsFinite (I.remaining chars.new) }
     ensures fewer { OnOk result (size (I.remaining chars.new) ≤ size (I.remaining chars.old)) }

@@ -21,15 +21,19 @@ pub fn wire_laws()
 /// What `with_octets` says of a label whose octets were borrowed: those that were written, of which there are as
 /// many, are its octets.
 pub fn lent_laws()
-    ensures { (l : OwnedLabel) (ws : List ℕ) → length ws ≡ length (owned_octets l) → owned_octets (with_octets l ws) ≡ ws }
+    ensures { (l : OwnedLabel) (ws : List ℕ) → length ws ≡ length (owned_octets l) →
+        owned_octets (with_octets l ws) ≡ ws }
 {}
 
 /// Octets begin with one label, or with none for one reason, and never both. That always one of the two holds is the
 /// contract of `Label::split_from`.
 pub fn split_laws()
-    ensures one_label { (o a b r s : List ℕ) → BeginsWithLabel o a r → BeginsWithLabel o b s → (a ≡ b) × (r ≡ s) }
-    ensures one_fault { (o : List ℕ) (d e : SplitLabelError) → SplitFault o d → SplitFault o e → d ≡ e }
-    ensures not_both { (o l rest : List ℕ) (e : SplitLabelError) → BeginsWithLabel o l rest → SplitFault o e → ⊥ }
+    ensures one_label { (o a b r s : List ℕ) → BeginsWithLabel o a r → BeginsWithLabel o b s →
+        (a ≡ b) × (r ≡ s) }
+    ensures one_fault { (o : List ℕ) (d e : SplitLabelError) → SplitFault o d → SplitFault o e →
+        d ≡ e }
+    ensures not_both { (o l rest : List ℕ) (e : SplitLabelError) → BeginsWithLabel o l rest →
+        SplitFault o e → ⊥ }
 {}
 
 /// Each text is read in exactly one way, as symbols and at most a broken escape after them; and it is the text of

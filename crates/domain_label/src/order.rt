@@ -47,7 +47,8 @@ impl<'a> Ord for Label<'a> {
 impl<'a> PartialOrd for Label<'a> {
     ghost partial_cmp = { as_partial_cmp (on label_octets cmp_ignoring_case) };
 
-    ghost laws = { partial_order_from_own_ties (Prim.search (comparing, rules)) (Prim.search (comparing, rules)) };
+    ghost laws = { partial_order_from_own_ties (Prim.search (comparing, rules))
+        (Prim.search (comparing, rules)) };
 
     fn partial_cmp(&self, other: &Label<'a>) -> Option<Ordering> {
         Some(self.cmp(other))
@@ -83,7 +84,8 @@ impl<'a> Label<'a> {
     /// The order of the labels' wire formats ignoring ASCII case: the shorter first, then by the octets in lower
     /// case.
     pub fn lowercase_composed_cmp(&self, other: &Label) -> Ordering
-        ensures { result ≡ label_lowercase_composed_order (label_octets self.now) (label_octets other.now) }
+        ensures { result
+            ≡ label_lowercase_composed_order (label_octets self.now) (label_octets other.now) }
     {
         let by_len = self.len().cmp(&other.len());
         if by_len.is_ne() {

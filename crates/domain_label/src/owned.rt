@@ -60,7 +60,8 @@ impl OwnedLabel {
     ) -> Result<OwnedLabel, LabelFromStrError>
         requires can { I.can_next chars }
         requires ends { IsFinite (I.remaining chars) }
-        ensures { (cs : List ℕ) → AlwaysYields I.next_gives (λ c. c) chars cs → ReadsLabel cs result }
+        ensures { (cs : List ℕ) → AlwaysYields I.next_gives (λ c. c) chars cs →
+            ReadsLabel cs result }
     {
         let mut chars = chars;
         let mut octets = ArrayVec::<u8, 63>::new();
@@ -174,7 +175,8 @@ impl Ord for OwnedLabel {
 impl PartialOrd for OwnedLabel {
     ghost partial_cmp = { as_partial_cmp (on owned_octets cmp_ignoring_case) };
 
-    ghost laws = { partial_order_from_own_ties (Prim.search (comparing, rules)) (Prim.search (comparing, rules)) };
+    ghost laws = { partial_order_from_own_ties (Prim.search (comparing, rules))
+        (Prim.search (comparing, rules)) };
 
     fn partial_cmp(&self, other: &OwnedLabel) -> Option<Ordering> {
         Some(self.cmp(other))

@@ -13,7 +13,7 @@ use crate::split_error::SplitLabelError;
 pub struct SliceLabelsIter<'a> {
     slice: &'a [u8],
     /// The offset of the next label or pointer.
-    place: usize,
+    offset: usize,
     /// How many labels and pointers are read at most from here on, 0 after the end.
     heads: usize,
 }
@@ -29,11 +29,12 @@ impl<'a> Label<'a> {
     pub fn iter_slice(slice: &'a [u8], start: usize) -> SliceLabelsIter<'a>
         ensures labels { walk_left result ≡ slice_walk slice.now start (length slice.now) }
         // Labels that end, within any number n of labels and pointers, are all given.
-        ensures whole { (n : ℕ) → WalkEnds slice.now start n → walk_left result ≡ slice_walk slice.now start n }
+        ensures whole { (n : ℕ) → WalkEnds slice.now start n →
+            walk_left result ≡ slice_walk slice.now start n }
     {
         SliceLabelsIter {
             slice,
-            place: start,
+            offset: start,
             heads: slice.len(),
         }
     }
@@ -49,21 +50,21 @@ impl<'a> Iterator for SliceLabelsIter<'a> {
     fn next(&mut self) -> Option<Label<'a>> {
         while self.heads > 0 {
             self.heads -= 1;
-            match split_at_place(self.slice, self.place) {
+            match split_at_place(self.slice, self.offset) {
                 Ok((label, _)) => {
                     if label.is_root() {
                         self.heads = 0;
                         return Some(label);
                     }
-                    self.place += label.len() + 1;
+                    self.offset += label.len() + 1;
                     return Some(label);
                 }
-                Err(SplitLabelError::Pointer(place)) => {
-                    if place as usize > self.place {
+                Err(SplitLabelError::Pointer(offset)) => {
+                    if offset as usize > self.offset {
                         self.heads = 0;
                         return None;
                     }
-                    self.place = place as usize;
+                    self.offset = offset as usize;
                 }
                 Err(_) => {
                     self.heads = 0;
@@ -76,13 +77,14 @@ impl<'a> Iterator for SliceLabelsIter<'a> {
 }
 
 /// The label at an offset, and the octets after it. `ShortInput` where the offset is at or after the end.
-fn split_at_place(octets: &[u8], place: usize) -> Result<(Label<'_>, &[u8]), SplitLabelError>
-    ensures ok { IfOk result (λ parts. BeginsWithLabel (drop place octets.now) (label_octets parts.0) parts.1.now) }
-    ensures err { IfErr result (λ e. SplitFault (drop place octets.now) e) }
+fn split_at_place(octets: &[u8], offset: usize) -> Result<(Label<'_>, &[u8]), SplitLabelError>
+    ensures ok { IfOk result
+        (λ parts. BeginsWithLabel (drop offset octets.now) (label_octets parts.0) parts.1.now) }
+    ensures err { IfErr result (λ e. SplitFault (drop offset octets.now) e) }
 {
-    if place >= octets.len() {
+    if offset >= octets.len() {
         return Err(SplitLabelError::ShortInput);
     }
-    let (_, octets) = octets.split_at(place);
+    let (_, octets) = octets.split_at(offset);
     Label::split_from(octets)
 }

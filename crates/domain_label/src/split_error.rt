@@ -1,5 +1,5 @@
 //! Why octets begin with no label.
-ghost use Rattle.std.specs.Prelude.{◌≡◌, Some, codes};
+ghost use Rattle.std.specs.Prelude.{◌≡◌, Some};
 ghost use Rattle.domain_label.specs.ErrorText.{label_type_text, split_text, split_refusal};
 
 use crate::hex::hex_character;

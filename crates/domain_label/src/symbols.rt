@@ -1,5 +1,5 @@
 //! An iterator over the symbols of a text.
-ghost use Rattle.std.specs.Prelude.{◌≡◌, ℕ, List, Result, false};
+ghost use Rattle.std.specs.Prelude.{ℕ, List, Result, false};
 ghost use Rattle.std.specs.Iterator.{AlwaysYields, IsFinite, count_unless};
 ghost use Rattle.domain_label.specs.declared.symbol.Symbol.{Symbol};
 ghost use Rattle.domain_label.specs.declared.symbol.SymbolCharsError.{SymbolCharsError};
@@ -24,9 +24,13 @@ impl<I: Iterator<Item = char> + Drop> Symbols<I> {
     /// The symbols that the characters spell. Nothing is read yet.
     #[inline(always)]
     pub fn new(chars: I) -> Self
-        ensures items { (cs : List ℕ) (items : List (Result Symbol SymbolCharsError)) → AlwaysYields I.next_gives (λ c. c) chars cs → ReadsSymbols cs items → AlwaysYields (SymbolSteps I.next_gives) (λ x. x) result items }
-        ensures can { I.can_next chars → IsFinite (I.remaining chars) → CanScan I.can_next I.remaining result }
-        ensures ends { IsFinite (I.remaining chars) → IsFinite (count_unless (is_done result) (I.remaining (chars_of result))) }
+        ensures items { (cs : List ℕ) (items : List (Result Symbol SymbolCharsError)) →
+            AlwaysYields I.next_gives (λ c. c) chars cs → ReadsSymbols cs items →
+            AlwaysYields (SymbolSteps I.next_gives) (λ x. x) result items }
+        ensures can { I.can_next chars → IsFinite (I.remaining chars) →
+            CanScan I.can_next I.remaining result }
+        ensures ends { IsFinite (I.remaining chars) →
+            IsFinite (count_unless (is_done result) (I.remaining (chars_of result))) }
     {
         Symbols { chars, done: false }
     }

@@ -13,8 +13,8 @@ use Rattle.domain_list.specs.Dotted.{dotted, IsShown}
 -- a dot in place of a length octet
 front_dotted : (o : List ℕ) (at n : ℕ) → at < length o → take (at + (1 + n)) (set o at 46) ≡ take at o ++ 46 ∷ take n (drop (at + 1) o)
 front_dotted o at n within =
-    let place : at + (1 + n) ≡ at + suc n = omega (arith, add-one n) in
-    ap (λ (k : ℕ). take k (set o at 46)) place
+    let offset : at + (1 + n) ≡ at + suc n = omega (arith, add-one n) in
+    ap (λ (k : ℕ). take k (set o at 46)) offset
     ∙ take-add at (suc n) (set o at 46)
     ∙ ap (λ (x : List ℕ). x ++ take (suc n) (drop at (set o at 46))) (take-set-le at o at 46 (omega arith))
     ∙ ap (λ (x : List ℕ). take at o ++ take (suc n) x) (drop-set o at 46 within)

@@ -1,5 +1,5 @@
 //! Two names, one after the other.
-ghost use Rattle.std.specs.Prelude.{◌≡◌, ◌≤◌, ◌<◌, ◌++◌, Some, IfOk, IsErr, ◌↔◌, codes};
+ghost use Rattle.std.specs.Prelude.{◌≡◌, ◌<◌, ◌++◌, Some, IfOk, IsErr, ◌↔◌, codes};
 ghost use Rattle.std.specs.Iterator.{YieldsFirstBy, YieldsLastBy, item_count};
 ghost use Rattle.domain_label.specs.Labels.{label_octets};
 ghost use Rattle.domain_label.specs.Wire.{IsRelative};
@@ -99,15 +99,18 @@ impl<L: NameLabels, R: NameLabels> NameLabels for Chain<L, R> {
         self.right.is_absolute()
     }
 
-    ghost lawful = { λ c. chain_name (L.labels c.left) (R.labels c.right) c.fits (R.lawful c.right) };
+    ghost lawful = { λ c.
+        chain_name (L.labels c.left) (R.labels c.right) c.fits (R.lawful c.right) };
 }
 
 impl<L: NameLabels, R: Absolute> Absolute for Chain<L, R> {
-    ghost absolute = { λ c. chain_absolute (L.labels c.left) (R.labels c.right) c.fits (R.absolute c.right).0 };
+    ghost absolute = { λ c.
+        chain_absolute (L.labels c.left) (R.labels c.right) c.fits (R.absolute c.right).0 };
 }
 
 impl<L: NameLabels, R: Relative> Relative for Chain<L, R> {
-    ghost relative = { λ c. chain_relative (L.labels c.left) (R.labels c.right) c.fits (R.relative c.right).0 };
+    ghost relative = { λ c.
+        chain_relative (L.labels c.left) (R.labels c.right) c.fits (R.relative c.right).0 };
 }
 
 impl<'a, L: ToLabelIter<'a>, R: ToLabelIter<'a>> ToLabelIter<'a> for Chain<L, R> {

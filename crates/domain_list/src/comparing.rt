@@ -63,7 +63,8 @@ fn eq_flat<'a, I: LabelIterator<'a>>(labels: I, len: u16, flat: &[u8]) -> bool
 
 /// Whether the labels of two names are the same ignoring ASCII case (RFC 4343).
 pub fn eq_names<'a, A: ToLabelIter<'a>, B: ToLabelIter<'a>>(a: &'a A, b: &'a B) -> bool
-    ensures { IsTrue result ↔ (lowercase_labels (A.labels a.now) ≡ lowercase_labels (B.labels b.now)) }
+    ensures { IsTrue result
+        ↔ (lowercase_labels (A.labels a.now) ≡ lowercase_labels (B.labels b.now)) }
 {
     match (a.as_flat_slice(), b.as_flat_slice()) {
         (Some(a), Some(b)) => return same_octets(a, b),
@@ -105,7 +106,8 @@ pub(crate) fn next_label<'a, I: LabelIterator<'a>>(labels: &mut I) -> Label<'a>
 
 /// Whether two labels differ, apart from ASCII case.
 fn differ(x: &Label<'_>, y: &Label<'_>) -> bool
-    ensures { MatchBool result (lowercase (label_octets x.now) ≢ lowercase (label_octets y.now)) (lowercase (label_octets x.now) ≡ lowercase (label_octets y.now)) }
+    ensures { MatchBool result (lowercase (label_octets x.now) ≢ lowercase (label_octets y.now))
+        (lowercase (label_octets x.now) ≡ lowercase (label_octets y.now)) }
 {
     x != y
 }

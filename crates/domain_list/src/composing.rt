@@ -30,7 +30,8 @@ fn put_labels<'a, I: LabelIterator<'a>>(labels: I, octets: &mut [u8; 255]) -> us
 fn put_label(label: Label, octets: &mut [u8; 255], len: usize) -> usize
     requires { len + length (wire_label (label_octets label)) ≤ 255 }
     ensures size { result ≡ len + length (wire_label (label_octets label.entry)) }
-    ensures wire { take result octets.new ≡ take len octets.old ++ wire_label (label_octets label.entry) }
+    ensures wire { take result octets.new
+        ≡ take len octets.old ++ wire_label (label_octets label.entry) }
 {
     let end = len + 1 + label.len();
     octets[len] = label.len() as u8;
@@ -42,40 +43,40 @@ fn put_label(label: Label, octets: &mut [u8; 255], len: usize) -> usize
 ///
 /// Most labels are short: they are copied without a loop and without a call.
 #[inline(always)]
-pub fn put_octets(from: &[u8], octets: &mut [u8; 255], place: usize)
-    requires { place + length from.now ≤ 255 }
-    ensures { take (place + length from.now) octets.new ≡ take place octets.old ++ from.now }
+pub fn put_octets(from: &[u8], octets: &mut [u8; 255], offset: usize)
+    requires { offset + length from.now ≤ 255 }
+    ensures { take (offset + length from.now) octets.new ≡ take offset octets.old ++ from.now }
 {
     let len = from.len();
     if len > 16 {
-        octets[place..place + len].copy_from_slice(from);
+        octets[offset..offset + len].copy_from_slice(from);
         return;
     }
     if len >= 8 {
-        return put_ends(from, octets, place, 8);
+        return put_ends(from, octets, offset, 8);
     }
     if len >= 4 {
-        return put_ends(from, octets, place, 4);
+        return put_ends(from, octets, offset, 4);
     }
     if len >= 2 {
-        return put_ends(from, octets, place, 2);
+        return put_ends(from, octets, offset, 2);
     }
     if len == 1 {
-        octets[place] = from[0];
+        octets[offset] = from[0];
     }
 }
 
 /// The same of so many octets that the first and the last `size` of them are all. The two parts may overlap.
 #[inline(always)]
-fn put_ends(from: &[u8], octets: &mut [u8; 255], place: usize, size: usize)
+fn put_ends(from: &[u8], octets: &mut [u8; 255], offset: usize, size: usize)
     requires long { size ≤ length from.now }
     requires short { length from.now ≤ size + size }
-    requires room { place + length from.now ≤ 255 }
-    ensures { take (place + length from.now) octets.new ≡ take place octets.old ++ from.now }
+    requires room { offset + length from.now ≤ 255 }
+    ensures { take (offset + length from.now) octets.new ≡ take offset octets.old ++ from.now }
 {
     let rest = from.len() - size;
-    let last = place + rest;
-    octets[place..place + size].copy_from_slice(&from[..size]);
+    let last = offset + rest;
+    octets[offset..offset + size].copy_from_slice(&from[..size]);
     octets[last..last + size].copy_from_slice(&from[rest..rest + size]);
 }
 
@@ -131,9 +132,12 @@ pub fn compose_name<'a, N: ToLabelIter<'a>, Target: OctetsBuilder>(
     name: &'a N,
     target: &mut Target,
 ) -> Result<(), Target::AppendError>
-    ensures ok { OnOk result (Target.octets target.new ≡ Target.octets target.old ++ wire (N.labels name.now)) }
+    ensures ok { OnOk result
+        (Target.octets target.new ≡ Target.octets target.old ++ wire (N.labels name.now)) }
     ensures unchanged { OnErr result (Target.octets target.new ≡ Target.octets target.old) }
-    ensures full { OnErr result (Target.capacity target.old < length (Target.octets target.old) + length (wire (N.labels name.now))) }
+    ensures full { OnErr result
+        (Target.capacity target.old
+        < length (Target.octets target.old) + length (wire (N.labels name.now))) }
     ensures capacity { Target.capacity target.old ≤ Target.capacity target.new }
     ensures within { IfSome Target.limit (λ n. length (Target.octets target.new) ≤ n) }
     ensures fixed { IfSome Target.limit (λ n. Target.capacity target.old ≡ n) }
@@ -155,9 +159,14 @@ pub fn compose_canonical_name<'a, N: ToLabelIter<'a>, Target: OctetsBuilder>(
     name: &'a N,
     target: &mut Target,
 ) -> Result<(), Target::AppendError>
-    ensures ok { OnOk result (Target.octets target.new ≡ Target.octets target.old ++ wire (lowercase_labels (N.labels name.now))) }
+    ensures ok { OnOk result
+        (Target.octets target.new
+        ≡ Target.octets target.old ++ wire (lowercase_labels (N.labels name.now))) }
     ensures unchanged { OnErr result (Target.octets target.new ≡ Target.octets target.old) }
-    ensures full { OnErr result (Target.capacity target.old < length (Target.octets target.old) + length (wire (lowercase_labels (N.labels name.now)))) }
+    ensures full { OnErr result
+        (Target.capacity target.old
+        < length (Target.octets target.old)
+        + length (wire (lowercase_labels (N.labels name.now)))) }
     ensures capacity { Target.capacity target.old ≤ Target.capacity target.new }
     ensures within { IfSome Target.limit (λ n. length (Target.octets target.new) ≤ n) }
     ensures fixed { IfSome Target.limit (λ n. Target.capacity target.old ≡ n) }

@@ -18,7 +18,8 @@ fn push_with_dot(label: Label, text: &mut ArrayVec<u8, 1020>)
     requires ascii { IsAscii text.old.items }
     ensures text { text.new.items ≡ text.old.items ++ with_dot (label_octets label.entry) }
     ensures ascii { IsAscii text.new.items }
-    ensures size { length text.new.items ≤ length text.old.items + 4 * length (label_octets label.entry) + 1 }
+    ensures size { length text.new.items
+        ≤ length text.old.items + 4 * length (label_octets label.entry) + 1 }
 {
     if label.is_root() {
         return;

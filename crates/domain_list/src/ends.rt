@@ -56,7 +56,8 @@ fn is_end<'a, A: ToLabelIter<'a>, B: ToLabelIter<'a>>(
 ) -> bool
     requires part { (front : List (List ℕ)) × (A.labels a.now ≡ front ++ A.LabelIter.left rest) }
     requires sized { length (wire (A.LabelIter.left rest)) ≡ length (wire (B.labels b.now)) }
-    ensures { IsTrue result ↔ (lowercase_labels (A.LabelIter.left rest) ≡ lowercase_labels (B.labels b.now)) }
+    ensures { IsTrue result
+        ↔ (lowercase_labels (A.LabelIter.left rest) ≡ lowercase_labels (B.labels b.now)) }
 {
     match (a.as_flat_slice(), b.as_flat_slice()) {
         (Some(a), Some(b)) => return same_octets(&a[a.len() - b.len()..], b),

@@ -31,7 +31,8 @@ fn hash_octets<H: Hasher>(octets: &[u8], state: &mut H)
 /// as one `u8`. These are the octets of the wire format in lower case.
 pub fn hash_name<'a, N: ToLabelIter<'a>, H: Hasher>(name: &'a N, state: &mut H)
     ensures fed { state.new ≡ fold H.write state.old (name_hash_input (N.labels name.now)) }
-    ensures wire { name_hash_input (N.labels name.now) ≡ as_writes (wire (lowercase_labels (N.labels name.now))) }
+    ensures wire { name_hash_input (N.labels name.now)
+        ≡ as_writes (wire (lowercase_labels (N.labels name.now))) }
 {
     match name.as_flat_slice() {
         Some(flat) => hash_octets(flat, state),

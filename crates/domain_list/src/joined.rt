@@ -28,7 +28,8 @@ fn make_room<W: fmt::Write>(
     requires ascii { IsAscii text.old.items }
     ensures room { OnOk result (length text.new.items + needed ≤ 320) }
     ensures ascii { OnOk result (IsAscii text.new.items) }
-    ensures moved { IsPlainFormatter f.old → OnOk result (HasMoved W.write_str_gives f.old text.old.items text.new.items f.new) }
+    ensures moved { IsPlainFormatter f.old →
+        OnOk result (HasMoved W.write_str_gives f.old text.old.items text.new.items f.new) }
 {
     if text.remaining_capacity() < needed {
         f.write_str(ascii_text(text.as_slice()))?;

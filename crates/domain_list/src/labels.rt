@@ -27,10 +27,12 @@ pub trait LabelIterator<'a>: Iterator<Item = Label<'a>> + DoubleEndedIterator + 
     ghost ends: { (s : Self) → IsFinite (Self.remaining s) };
 
     /// `next` takes the first of the labels that are left.
-    ghost takes_first: { (s : Self) (r : Option Label) (t : Self) → Self.next_gives s r t → YieldsFirstBy label_octets left s r t };
+    ghost takes_first: { (s : Self) (r : Option Label) (t : Self) → Self.next_gives s r t →
+        YieldsFirstBy label_octets left s r t };
 
     /// `next_back` takes the last of them.
-    ghost takes_last: { (s : Self) (r : Option Label) (t : Self) → Self.next_back_gives s r t → YieldsLastBy label_octets left s r t };
+    ghost takes_last: { (s : Self) (r : Option Label) (t : Self) → Self.next_back_gives s r t →
+        YieldsLastBy label_octets left s r t };
 }
 
 /// A value that is one list of labels: that of an absolute or of a relative name.

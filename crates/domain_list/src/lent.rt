@@ -1,5 +1,4 @@
 //! A reference to a name is a name.
-ghost use Rattle.std.specs.Prelude.{◌≡◌};
 
 use crate::labels::{Absolute, AbsoluteLabels, NameLabels, Relative, RelativeLabels, ToLabelIter};
 

@@ -64,7 +64,8 @@ pub(crate) fn put_unescaped<'a, N: AbsoluteLabels<'a>>(
     name: &'a N,
     octets: &mut [u8; 255],
 ) -> Option<usize>
-    ensures text { IfSome result (λ len. take len octets.new ≡ 46 ∷ flat_map with_dot (N.labels name.now)) }
+    ensures text { IfSome result
+        (λ len. take len octets.new ≡ 46 ∷ flat_map with_dot (N.labels name.now)) }
     ensures size { IfSome result (λ len. (0 < len) × (len ≤ 255)) }
     ensures ascii { IfSome result (λ len. IsAscii (take len octets.new)) }
 {

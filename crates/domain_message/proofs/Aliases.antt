@@ -62,10 +62,10 @@ found_nowhere name first s looked empty rs given =
     before.2 None (subst (λ ss. FirstAlias name ss None) (sym (empty before.0 before.1)) nowhere)
 
 pub nothing_left : (name : List (List ℕ)) (first s t : RecordSection) → Looked name first s → GivesRecord s None t → GivesAlias first name None
-nothing_left name first s t looked (same, section, (none, place, left)) = found_nowhere name first s looked (λ ss given. given_nothing (records_message s) (records_offset s) (entries_left (records_left s)) ss (inl none) given)
+nothing_left name first s t looked (same, section, (none, offset, left)) = found_nowhere name first s looked (λ ss given. given_nothing (records_message s) (records_offset s) (entries_left (records_left s)) ss (inl none) given)
 
 pub one_missing : (name : List (List ℕ)) (first s t : RecordSection) (why : ParseError) → Looked name first s → GivesRecord s (Some (Err why)) t → GivesAlias first name None
-one_missing name first s t why looked (same, section, (n, before, after, place, missing)) = found_nowhere name first s looked (λ ss given. given_nothing (records_message s) (records_offset s) (entries_left (records_left s)) ss (inr (λ x e at. record_reading.not_both (records_message s) (records_offset s) x e why at missing)) given)
+one_missing name first s t why looked (same, section, (n, before, after, offset, missing)) = found_nowhere name first s looked (λ ss given. given_nothing (records_message s) (records_offset s) (entries_left (records_left s)) ss (inr (λ x e at. record_reading.not_both (records_message s) (records_offset s) x e why at missing)) given)
 
 -- the target that was found first of the records before these, or none yet
 abbrev pub FirstSoFar : List (List ℕ) → Option (List (List ℕ)) → List RecordFields → List RecordFields → Type 0
@@ -129,7 +129,7 @@ counting_none name old n =
     let same : n ≡ n - 0 = omega arith in
     record {
       tally = subst (λ k. Tallied name None 0 (message old) (position old) n (position old) k) same (tallied_none name (message old) (position old) n);
-      moves = record { octets = refl; end = refl; place = refl };
+      moves = record { octets = refl; end = refl; offset = refl };
       few = omega arith;
     }
 
@@ -139,19 +139,19 @@ counting_more name first next count more old mid new n i it before left at moves
     let rest : n - i ≡ n - (i + 1) + 1 = omega (arith, left) in
     record {
       tally = tallied_more name first next count more (message old) (position old) n (position mid) (n - i) (position new) (n - (i + 1)) it before.tally rest (subst (λ m. RecordAt m (position mid) it (position new)) (same_message old mid (position mid) before.moves) at) counts finds;
-      moves = record { octets = moves.octets ∙ before.moves.octets; end = moves.end ∙ before.moves.end; place = refl };
+      moves = record { octets = moves.octets ∙ before.moves.octets; end = moves.end ∙ before.moves.end; offset = refl };
       few = omega (arith, few, one);
     }
 
 -- The parser is at the records that the section gives.
 pub record IsAtSection (s : RecordSection) (old : Parser) (n : ℕ) : Type 0 where
   pub octets : message old ≡ records_message s
-  pub place : position old ≡ records_offset s
+  pub offset : position old ≡ records_offset s
   pub many : n ≡ entries_left (records_left s)
 
 counting_end : (s : RecordSection) (name : List (List ℕ)) (first : Option (List (List ℕ))) (count : ℕ) (old : Parser) (n i : ℕ) (new : Parser) → IsAtSection s old n → Counting name first count old n i new → ((n - i ≡ 0) ⊎ NoneAt RecordAt (message old) (position new)) → (rs : List RecordFields) → GivenBy s rs → FirstAlias name rs first × (cname_count rs ≡ count)
 counting_end s name first count old n i new it counting over rs given =
-    let here = subst (λ o. Given RecordAt o (position old) n rs) (sym it.octets) (subst (λ p. Given RecordAt (records_message s) p n rs) (sym it.place) (subst (λ k. Given RecordAt (records_message s) (records_offset s) k rs) (sym it.many) given)) in
+    let here = subst (λ o. Given RecordAt o (position old) n rs) (sym it.octets) (subst (λ p. Given RecordAt (records_message s) p n rs) (sym it.offset) (subst (λ k. Given RecordAt (records_message s) (records_offset s) k rs) (sym it.many) given)) in
     let end = counting.tally rs here in
     tally_over name first count rs end.0 (given_nothing (message old) (position new) (n - i) end.0 over end.1) end.2 end.3
 
@@ -263,15 +263,15 @@ pub no_first : (m : List ℕ) (k : ℕ) (why : ParseError) → number16 m 4 ≡ 
 no_first m k why some missing = now (number16 m 4) refl (record { before = []; few = omega (arith, some); offset = 12; run = refl; missing = missing })
 
 pub no_first_of : (m : List ℕ) (s t : QuestionSection) (why : ParseError) → questions_message s ≡ m → questions_offset s ≡ 12 → questions_left s ≡ Ok (number16 m 4) → (questions_message t ≡ questions_message s) × ((n : ℕ) × (questions_left s ≡ Ok (n + 1)) × (questions_left t ≡ Err why) × (questions_offset t ≡ questions_offset s) × NoQuestion (questions_message s) (questions_offset s) why) → NoQuestions m why
-no_first_of m s t why octets place left (same, (n, before, after, unmoved, missing)) =
-    no_first m n why (ap (λ c. entries_left c) (sym left ∙ before)) (subst (λ o. NoQuestion o 12 why) octets (subst (λ p. NoQuestion (questions_message s) p why) place missing))
+no_first_of m s t why octets offset left (same, (n, before, after, unmoved, missing)) =
+    no_first m n why (ap (λ c. entries_left c) (sym left ∙ before)) (subst (λ o. NoQuestion o 12 why) octets (subst (λ p. NoQuestion (questions_message s) p why) offset missing))
 
 pub asked_of : {O : Type 0} {g : Ghosts O} (m : List ℕ) (s t : QuestionSection) (q : Question (ParsedName O g)) (answers : RecordSection) → questions_message s ≡ m → questions_offset s ≡ 12 → GivesQuestion {O = O} {g = g} s (Some (Ok q)) t → ((e : ℕ) × QuestionsTo m e × Begins m Answer e answers) → Asked m answers (parsed_labels q.qname)
-asked_of m s t q answers octets place (same, (n, before, after, at)) (start, questions, begins) = record {
+asked_of m s t q answers octets offset (same, (n, before, after, at)) (start, questions, begins) = record {
   asked = question_fields q;
   is = refl;
   question_end = questions_offset t;
-  question = subst (λ o. QuestionAt o 12 (question_fields q) (questions_offset t)) octets (subst (λ p. QuestionAt (questions_message s) p (question_fields q) (questions_offset t)) place at);
+  question = subst (λ o. QuestionAt o 12 (question_fields q) (questions_offset t)) octets (subst (λ p. QuestionAt (questions_message s) p (question_fields q) (questions_offset t)) offset at);
   start = start;
   questions = questions;
   begins = begins;

@@ -16,7 +16,7 @@ use Rattle.domain_message.specs.Entries.NoNameBefore.{too_short}
 pub name_to : (old new : Parser) (ls : List (List ℕ)) → Names 255 (message old) (position old) ls → MovesPastName old new → WholeNameAt (message old) (position old) ls (position new)
 name_to old new ls named moves = record {
   labels = named;
-  encoding = subst (λ e. EncodingEnds (message old) (position old) e) (sym moves.2.place) moves.1;
+  encoding = subst (λ e. EncodingEnds (message old) (position old) e) (sym moves.2.offset) moves.1;
 }
 
 -- the owner of a record is what a function of the message and the offset gives

@@ -21,14 +21,14 @@ pub record Skipped {V : Type 0} (At : List ℕ → ℕ → V → ℕ → Type 0)
   pub moves : MovesTo old new (position new)
 
 pub skipped_none : {V : Type 0} (At : List ℕ → ℕ → V → ℕ → Type 0) (p : Parser) → Skipped At p 0 p
-skipped_none At p = record { items = []; many = refl; run = refl; moves = record { octets = refl; end = refl; place = refl } }
+skipped_none At p = record { items = []; many = refl; run = refl; moves = record { octets = refl; end = refl; offset = refl } }
 
 pub skipped_more : {V : Type 0} (At : List ℕ → ℕ → V → ℕ → Type 0) (old mid new : Parser) (n : ℕ) (x : V) → Skipped At old n mid → At (message mid) (position mid) x (position new) → MovesTo mid new (position new) → Skipped At old (n + 1) new
 skipped_more At old mid new n x before at moves = record {
   items = before.items ++ x ∷ [];
   many = length-append before.items (x ∷ []) ∙ ap (λ k. k + 1) before.many;
   run = run_and At (message old) (position old) (position mid) (position new) before.items x before.run (subst (λ m. At m (position mid) x (position new)) (same_message old mid (position mid) before.moves) at);
-  moves = record { octets = moves.octets ∙ before.moves.octets; end = moves.end ∙ before.moves.end; place = refl };
+  moves = record { octets = moves.octets ∙ before.moves.octets; end = moves.end ∙ before.moves.end; offset = refl };
 }
 
 -- all entries were skipped, and a section begins after them

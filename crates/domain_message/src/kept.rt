@@ -1,5 +1,5 @@
 //! The records of a section that have data of one type.
-ghost use Rattle.std.specs.Prelude.{◌≡◌, ◌↔◌, false, true, length, IfOk, IfErr, IfSome, IsNone, OnErr};
+ghost use Rattle.std.specs.Prelude.{◌≡◌, ◌↔◌, false, true, IfOk, IfErr, IfSome, IsNone, OnErr};
 ghost use Rattle.std.specs.Iterator.{at_most};
 ghost use Rattle.octseq.specs.Parsing.{message, position};
 ghost use Rattle.domain_message.specs.Kept.{IsMadeOf, HasDataError, keeps, TakesKept, GivesKept, kept_parser, kept_left, kept_class};
@@ -35,9 +35,13 @@ pub struct RecordIter<'a, D, E = ParseError> {
 fn with_data<'a, D: ParseRecordData<'a>, E: From<ParseError>>(
     found: &ParsedRecord<'a>,
 ) -> Result<Option<Record<ParsedName<&'a [u8]>, D>>, E>
-    ensures some { IfOk result (λ read. IfSome read (λ made. IsMadeOf D.type_number D.model D.encodes (record_fields found.now) made)) }
-    ensures none { IfOk result (λ read. IsNone read ↔ (D.reads_type (record_fields found.now).header.rtype ≡ false)) }
-    ensures err { IfErr result (λ e. HasDataError E.from_gives D.fails_with (record_fields found.now) e) }
+    ensures some { IfOk result
+        (λ read. IfSome read
+        (λ made. IsMadeOf D.type_number D.model D.encodes (record_fields found.now) made)) }
+    ensures none { IfOk result
+        (λ read. IsNone read ↔ (D.reads_type (record_fields found.now).header.rtype ≡ false)) }
+    ensures err { IfErr result
+        (λ e. HasDataError E.from_gives D.fails_with (record_fields found.now) e) }
     ensures err_type { OnErr result (D.reads_type (record_fields found.now).header.rtype ≡ true) }
 {
     let mut data = found.data();
@@ -53,9 +57,15 @@ fn kept<'a, D: ParseRecordData<'a>, E: From<ParseError>>(
     found: &ParsedRecord<'a>,
     only_in: bool,
 ) -> Result<Option<Record<ParsedName<&'a [u8]>, D>>, E>
-    ensures some { IfOk result (λ read. IfSome read (λ made. (keeps D.reads_type only_in (record_fields found.now) ≡ true) × IsMadeOf D.type_number D.model D.encodes (record_fields found.now) made)) }
-    ensures none { IfOk result (λ read. IsNone read → keeps D.reads_type only_in (record_fields found.now) ≡ false) }
-    ensures err { IfErr result (λ e. (keeps D.reads_type only_in (record_fields found.now) ≡ true) × HasDataError E.from_gives D.fails_with (record_fields found.now) e) }
+    ensures some { IfOk result
+        (λ read. IfSome read
+        (λ made. (keeps D.reads_type only_in (record_fields found.now) ≡ true)
+        × IsMadeOf D.type_number D.model D.encodes (record_fields found.now) made)) }
+    ensures none { IfOk result
+        (λ read. IsNone read → keeps D.reads_type only_in (record_fields found.now) ≡ false) }
+    ensures err { IfErr result
+        (λ e. (keeps D.reads_type only_in (record_fields found.now) ≡ true)
+        × HasDataError E.from_gives D.fails_with (record_fields found.now) e) }
 {
     if only_in && found.class().to_int() != IN {
         return Ok(None);
@@ -70,7 +80,10 @@ fn next_kept<'a, D: ParseRecordData<'a>, E: From<ParseError>>(
     only_in: bool,
 ) -> Option<Result<Record<ParsedName<&'a [u8]>, D>, E>>
     ensures message { message parser.new ≡ message parser.old }
-    ensures takes { TakesKept (keeps D.reads_type only_in) (IsMadeOf D.type_number D.model D.encodes) (HasDataError E.from_gives D.fails_with) E.from_gives (message parser.old) (position parser.old) left.old result (position parser.new) left.new }
+    ensures takes { TakesKept (keeps D.reads_type only_in)
+        (IsMadeOf D.type_number D.model D.encodes) (HasDataError E.from_gives D.fails_with)
+        E.from_gives (message parser.old) (position parser.old) left.old result
+        (position parser.new) left.new }
 {
     while *left > 0 {
         let found = match ParsedRecord::parse(parser) {
@@ -98,7 +111,8 @@ fn next_kept<'a, D: ParseRecordData<'a>, E: From<ParseError>>(
 impl<'a, D: ParseRecordData<'a>, E: From<ParseError>> Iterator for RecordIter<'a, D, E> {
     type Item = Result<Record<ParsedName<&'a [u8]>, D>, E>;
 
-    ghost next_gives = { GivesKept D.type_number D.model D.reads_type D.encodes D.fails_with E.from_gives };
+    ghost next_gives = { GivesKept D.type_number D.model D.reads_type D.encodes D.fails_with
+        E.from_gives };
 
     ghost remaining = { λ s. at_most (kept_left s) };
 

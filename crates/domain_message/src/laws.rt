@@ -29,5 +29,6 @@ pub fn section_laws()
 /// What is composed for a question, or for a record with such data, is read back, whatever follows it.
 pub fn reads_back_laws<D: ComposeRecordData>()
     ensures question { QuestionReadsBack }
-    ensures record { (it : D) (compresses : Bool) → RecordReadsBack (D.composed it compresses) compresses }
+    ensures record { (it : D) (compresses : Bool) →
+        RecordReadsBack (D.composed it compresses) compresses }
 {}

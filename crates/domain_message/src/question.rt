@@ -104,7 +104,9 @@ impl<'a> Parse<'a> for Question<ParsedName<&'a [u8]>> {
 impl<Octs: Octets> fmt::Display for Question<ParsedName<Octs>> {
     ghost use Rattle.domain_message.specs.Models.{question_fields};
 
-    ghost output = { λ it. Some (question_text (question_fields it).name (question_fields it).class (question_fields it).rtype) };
+    ghost output = { λ it. Some
+        (question_text (question_fields it).name (question_fields it).class
+        (question_fields it).rtype) };
 
     fn fmt<W: fmt::Write>(&self, f: &mut fmt::Formatter<W>) -> fmt::Result {
         let name = self.qname.fmt_with_dot();
@@ -124,7 +126,7 @@ fn type_and_class_octets(rtype: Rtype, class: Class) -> [u8; 4]
 }
 
 impl<'a, N: AbsoluteLabels<'a>> Question<N> {
-    ghost use Rattle.domain_message.specs.Views.{question_name, question_type, question_class};
+    ghost use Rattle.domain_message.specs.Views.{question_name};
 
     /// Appends the question, or nothing: the name, which the target may compress, then the type and the class. Fails
     /// only if the question exceeds the spare capacity. The target's octets are then unchanged.
@@ -132,10 +134,19 @@ impl<'a, N: AbsoluteLabels<'a>> Question<N> {
         &'a self,
         target: &mut Target,
     ) -> Result<(), Target::AppendError>
-        ensures ok { OnOk result (Appended (MayComposeQuestion N.labels self.now Target.compresses (Target.octets target.old)) (Target.octets target.old) (Target.octets target.new)) }
-        ensures name { OnOk result (Appended (BeginsWithName (Target.may_append target.old (N.labels (question_name self.now))) (after_qname self.now)) (Target.octets target.old) (Target.octets target.new)) }
+        ensures ok { OnOk result
+            (Appended
+            (MayComposeQuestion N.labels self.now Target.compresses (Target.octets target.old))
+            (Target.octets target.old) (Target.octets target.new)) }
+        ensures name { OnOk result
+            (Appended
+            (BeginsWithName (Target.may_append target.old (N.labels (question_name self.now)))
+            (after_qname self.now)) (Target.octets target.old) (Target.octets target.new)) }
         ensures unchanged { OnErr result (Target.octets target.new ≡ Target.octets target.old) }
-        ensures full { OnErr result (Exceeds (MayComposeQuestion N.labels self.now Target.compresses (Target.octets target.old)) (Target.octets target.old) (Target.capacity target.old)) }
+        ensures full { OnErr result
+            (Exceeds
+            (MayComposeQuestion N.labels self.now Target.compresses (Target.octets target.old))
+            (Target.octets target.old) (Target.capacity target.old)) }
         ensures capacity { Target.capacity target.old ≤ Target.capacity target.new }
     {
         let start = target.as_slice().len();

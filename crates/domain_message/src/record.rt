@@ -1,5 +1,5 @@
 //! Record headers, and records that are read from a message.
-ghost use Rattle.std.specs.Prelude.{◌≡◌, ◌++◌, Some};
+ghost use Rattle.std.specs.Prelude.{◌≡◌, Some};
 ghost use Rattle.std.specs.Cmp.{partial_equiv_from_equiv, on_per, and_per};
 ghost use Rattle.std.specs.Cmp.Lexicographic.{nat_list_eq_equiv};
 ghost use Rattle.octseq.specs.Parsing.{message, position};
@@ -210,7 +210,7 @@ impl<'a> ParsedRecord<'a> {
     /// Returns a parser at the start of the data, which ends with the data.
     pub fn data(&self) -> Parser<'a>
         ensures message { message result ≡ (record_fields self.now).octets }
-        ensures place { position result ≡ (record_fields self.now).start }
+        ensures offset { position result ≡ (record_fields self.now).start }
     {
         self.data
     }
@@ -224,7 +224,8 @@ impl<'a> PartialEq for ParsedRecord<'a> {
 
     ghost eq = { same_parsed_record };
 
-    ghost laws = { and_per (on_per parsed_header (partial_equiv_from_equiv header_is_equivalence)) (on_per parsed_data (partial_equiv_from_equiv nat_list_eq_equiv)) };
+    ghost laws = { and_per (on_per parsed_header (partial_equiv_from_equiv header_is_equivalence))
+        (on_per parsed_data (partial_equiv_from_equiv nat_list_eq_equiv)) };
 
     fn eq(&self, other: &ParsedRecord<'a>) -> bool {
         self.header() == other.header() && self.data_octets() == other.data_octets()
@@ -236,7 +237,10 @@ impl<'a> PartialEq for ParsedRecord<'a> {
 impl<'a> fmt::Display for ParsedRecord<'a> {
     ghost use Rattle.domain_message.specs.RecordModel.{record_fields, parsed_data};
 
-    ghost output = { λ it. Some (record_text (record_fields it).header.owner (record_fields it).header.ttl (record_fields it).header.class (record_fields it).header.rtype (unknown_text (parsed_data it))) };
+    ghost output = { λ it. Some
+        (record_text (record_fields it).header.owner (record_fields it).header.ttl
+        (record_fields it).header.class (record_fields it).header.rtype
+        (unknown_text (parsed_data it))) };
 
     fn fmt<W: fmt::Write>(&self, f: &mut fmt::Formatter<W>) -> fmt::Result {
         let owner = self.owner();

@@ -4,7 +4,7 @@ ghost use Rattle.std.specs.Cmp.{partial_equiv_from_equiv, nat_eq_equiv, nat_cmp_
 ghost use Rattle.std.specs.Ordering.{on, eq_of_both, then_cmp, nat_cmp};
 ghost use Rattle.std.specs.Fmt.{◌++?◌};
 ghost use Rattle.domain_parsed.specs.ParsedNames.{parsed_labels};
-ghost use Rattle.std.specs.Int.{w16, w32, to_be_bytes};
+ghost use Rattle.std.specs.Int.{to_be_bytes};
 ghost use Rattle.domain_rdata.specs.ReadBack.{Appended};
 ghost use Rattle.domain_rdata.specs.Rtypes.{rtype_number};
 ghost use Rattle.domain_header.specs.Values.{class_number, ttl_seconds};
@@ -104,9 +104,12 @@ impl<N, D> Record<N, D> {
 impl<N: PartialEq, D: PartialEq> PartialEq for Record<N, D> {
     ghost use Rattle.domain_message.specs.RecordParts.{owner_of, class_of, data_of};
 
-    ghost eq = { eq_of_both (on owner_of N.eq) (eq_of_both (on (λ r. class_number (class_of r)) ◌==◌) (on data_of D.eq)) };
+    ghost eq = { eq_of_both (on owner_of N.eq)
+        (eq_of_both (on (λ r. class_number (class_of r)) ◌==◌) (on data_of D.eq)) };
 
-    ghost laws = { and_per (on_per owner_of N.laws) (and_per (on_per (λ r. class_number (class_of r)) (partial_equiv_from_equiv nat_eq_equiv)) (on_per data_of D.laws)) };
+    ghost laws = { and_per (on_per owner_of N.laws)
+        (and_per (on_per (λ r. class_number (class_of r)) (partial_equiv_from_equiv nat_eq_equiv))
+        (on_per data_of D.laws)) };
 
     fn eq(&self, other: &Record<N, D>) -> bool {
         self.owner == other.owner && self.class == other.class && self.rdata == other.rdata
@@ -116,7 +119,9 @@ impl<N: PartialEq, D: PartialEq> PartialEq for Record<N, D> {
 impl<N: Eq, D: Eq> Eq for Record<N, D> {
     ghost use Rattle.domain_message.specs.RecordParts.{owner_of, class_of, data_of};
 
-    ghost laws = { and_equiv (on_equiv owner_of N.Eq.laws) (and_equiv (on_equiv (λ r. class_number (class_of r)) nat_eq_equiv) (on_equiv data_of D.Eq.laws)) };
+    ghost laws = { and_equiv (on_equiv owner_of N.Eq.laws)
+        (and_equiv (on_equiv (λ r. class_number (class_of r)) nat_eq_equiv)
+        (on_equiv data_of D.Eq.laws)) };
 }
 
 /// The order of class, owner, type and data: within an RRset that of the data (RFC 4034, 6.3), and the RRsets of a class in
@@ -124,9 +129,14 @@ impl<N: Eq, D: Eq> Eq for Record<N, D> {
 impl<N: CanonicalOrd, D: RecordData + CanonicalOrd> CanonicalOrd for Record<N, D> {
     ghost use Rattle.domain_message.specs.RecordParts.{owner_of, class_of, data_of};
 
-    ghost value_order = { then_cmp (on (λ r. class_number (class_of r)) nat_cmp) (then_cmp (on owner_of N.value_order) (then_cmp (on (λ r. D.type_number (data_of r)) nat_cmp) (on data_of D.value_order))) };
+    ghost value_order = { then_cmp (on (λ r. class_number (class_of r)) nat_cmp)
+        (then_cmp (on owner_of N.value_order)
+        (then_cmp (on (λ r. D.type_number (data_of r)) nat_cmp) (on data_of D.value_order))) };
 
-    ghost total = { then_total (on_total (λ r. class_number (class_of r)) nat_cmp_total) (then_total (on_total owner_of N.total) (then_total (on_total (λ r. D.type_number (data_of r)) nat_cmp_total) (on_total data_of D.total))) };
+    ghost total = { then_total (on_total (λ r. class_number (class_of r)) nat_cmp_total)
+        (then_total (on_total owner_of N.total)
+        (then_total (on_total (λ r. D.type_number (data_of r)) nat_cmp_total)
+        (on_total data_of D.total))) };
 
     fn canonical_cmp(&self, other: &Record<N, D>) -> Ordering {
         let by_class = self.class.cmp(&other.class);
@@ -150,7 +160,9 @@ impl<N: CanonicalOrd, D: RecordData + CanonicalOrd> CanonicalOrd for Record<N, D
 impl<Octs: Octets, D: RecordData + fmt::Display> fmt::Display for Record<ParsedName<Octs>, D> {
     ghost use Rattle.domain_message.specs.RecordParts.{owner_of, class_of, ttl_of, data_of};
 
-    ghost output = { λ it. Some (text_before_data (parsed_labels (owner_of it)) (ttl_seconds (ttl_of it)) (class_number (class_of it)) (D.type_number (data_of it))) ++? D.output (data_of it) };
+    ghost output = { λ it. Some
+        (text_before_data (parsed_labels (owner_of it)) (ttl_seconds (ttl_of it))
+        (class_number (class_of it)) (D.type_number (data_of it))) ++? D.output (data_of it) };
 
     fn fmt<W: fmt::Write>(&self, f: &mut fmt::Formatter<W>) -> fmt::Result {
         let owner = self.owner.fmt_with_dot();
@@ -161,7 +173,7 @@ impl<Octs: Octets, D: RecordData + fmt::Display> fmt::Display for Record<ParsedN
 }
 
 impl<'a, N: AbsoluteLabels<'a>, D: ComposeRecordData> Record<N, D> {
-    ghost use Rattle.domain_message.specs.RecordParts.{owner_of, class_of, ttl_of, data_of};
+    ghost use Rattle.domain_message.specs.RecordParts.{owner_of};
 
     /// Appends the record, names as the target composes them: owner, type, class, TTL, the length of the data, the data.
     /// `Long` only if data that may be appended has more than 65,535 octets, `Append` only if the record exceeds the spare
@@ -170,10 +182,19 @@ impl<'a, N: AbsoluteLabels<'a>, D: ComposeRecordData> Record<N, D> {
         &'a self,
         target: &mut Target,
     ) -> Result<(), ComposeRdataError<Target::AppendError>>
-        ensures ok { OnOk result (Appended (MayComposeRecord N.labels D.type_number D.composed self.now Target.compresses (Target.octets target.old)) (Target.octets target.old) (Target.octets target.new)) }
-        ensures name { OnOk result (Appended (BeginsWithName (Target.may_append target.old (N.labels (owner_of self.now))) (after_owner D.type_number self.now)) (Target.octets target.old) (Target.octets target.new)) }
+        ensures ok { OnOk result
+            (Appended
+            (MayComposeRecord N.labels D.type_number D.composed self.now Target.compresses
+            (Target.octets target.old)) (Target.octets target.old) (Target.octets target.new)) }
+        ensures name { OnOk result
+            (Appended
+            (BeginsWithName (Target.may_append target.old (N.labels (owner_of self.now)))
+            (after_owner D.type_number self.now)) (Target.octets target.old)
+            (Target.octets target.new)) }
         ensures unchanged { OnErr result (Target.octets target.new ≡ Target.octets target.old) }
-        ensures why { IfErr result (λ e. MayRefuseRecord N.labels D.type_number D.composed self.now Target.compresses (Target.octets target.old) (Target.capacity target.old) e) }
+        ensures why { IfErr result
+            (λ e. MayRefuseRecord N.labels D.type_number D.composed self.now Target.compresses
+            (Target.octets target.old) (Target.capacity target.old) e) }
         ensures capacity { Target.capacity target.old ≤ Target.capacity target.new }
     {
         let start = target.as_slice().len();

@@ -57,10 +57,10 @@ pub struct QuestionSection<'a> {
 }
 
 impl<'a> QuestionSection<'a> {
-    ghost use Rattle.domain_message.specs.Sections.{questions_message, questions_offset, questions_left, records_message, records_offset, records_left, records_section, entries_left, GivesQuestion, GivesRecord, counted, Begins, BeginsAfter, Misses};
-    ghost use Rattle.domain_message.specs.Entries.{QuestionAt, NoQuestion, RecordAt, NoRecord};
+    ghost use Rattle.domain_message.specs.Sections.{questions_message, questions_offset, questions_left, BeginsAfter, Misses};
+    ghost use Rattle.domain_message.specs.Entries.{QuestionAt, NoQuestion};
     ghost use Rattle.domain_header.specs.Numbers.{number16};
-    ghost use Rattle.domain_message.specs.declared.section.Section.TheVariants.{Answer, Authority, Additional};
+    ghost use Rattle.domain_message.specs.declared.section.Section.TheVariants.{Answer};
 
     /// The questions of a message that has a header.
     pub(crate) fn of(octets: &'a [u8]) -> QuestionSection<'a>
@@ -88,8 +88,12 @@ impl<'a> QuestionSection<'a> {
 
     /// Skips the questions that are left, and returns the answer section. The error says why one of them is missing.
     pub fn answer(self) -> Result<RecordSection<'a>, ParseError>
-        ensures ok { IfOk result (λ it. BeginsAfter QuestionAt (questions_message self.entry) (questions_offset self.entry) (questions_left self.entry) Answer it) }
-        ensures err { IfErr result (λ e. Misses QuestionAt NoQuestion (questions_message self.entry) (questions_offset self.entry) (questions_left self.entry) e) }
+        ensures ok { IfOk result
+            (λ it. BeginsAfter QuestionAt (questions_message self.entry)
+            (questions_offset self.entry) (questions_left self.entry) Answer it) }
+        ensures err { IfErr result
+            (λ e. Misses QuestionAt NoQuestion (questions_message self.entry)
+            (questions_offset self.entry) (questions_left self.entry) e) }
     {
         let count = match self.count {
             Ok(count) => count,
@@ -106,7 +110,7 @@ impl<'a> QuestionSection<'a> {
 }
 
 impl<'a> Iterator for QuestionSection<'a> {
-    ghost use Rattle.domain_message.specs.Sections.{questions_message, questions_offset, questions_left, records_message, records_offset, records_left, records_section, entries_left, GivesQuestion, GivesRecord, counted, Begins, BeginsAfter, Misses};
+    ghost use Rattle.domain_message.specs.Sections.{questions_left, entries_left, GivesQuestion};
 
     type Item = Result<Question<ParsedName<&'a [u8]>>, ParseError>;
 
@@ -148,8 +152,8 @@ pub struct RecordSection<'a> {
 }
 
 impl<'a> RecordSection<'a> {
-    ghost use Rattle.domain_message.specs.Sections.{questions_message, questions_offset, questions_left, records_message, records_offset, records_left, records_section, entries_left, GivesQuestion, GivesRecord, counted, Begins, BeginsAfter, Misses};
-    ghost use Rattle.domain_message.specs.Entries.{QuestionAt, NoQuestion, RecordAt, NoRecord};
+    ghost use Rattle.domain_message.specs.Sections.{records_message, records_offset, records_left, records_section, entries_left, Begins, BeginsAfter, Misses};
+    ghost use Rattle.domain_message.specs.Entries.{RecordAt, NoRecord};
     ghost use Rattle.domain_message.specs.SectionOrder.{section_after};
     ghost use Rattle.domain_message.specs.declared.section.Section.{Section};
 
@@ -200,10 +204,16 @@ impl<'a> RecordSection<'a> {
     /// Skips the records that are left, and returns the next section, `None` after the last one. The error says why one
     /// of them is missing.
     pub fn next_section(self) -> Result<Option<RecordSection<'a>>, ParseError>
-        ensures none { IfOk result (λ read. IsNone read ↔ (section_after (records_section self.entry) ≡ None)) }
-        ensures ok { IfOk result (λ read. IfSome read (λ it. (s : Section) × (section_after (records_section self.entry) ≡ Some s)
-            × BeginsAfter RecordAt (records_message self.entry) (records_offset self.entry) (records_left self.entry) s it)) }
-        ensures err { IfErr result (λ e. Misses RecordAt NoRecord (records_message self.entry) (records_offset self.entry) (records_left self.entry) e) }
+        ensures none { IfOk result
+            (λ read. IsNone read ↔ (section_after (records_section self.entry) ≡ None)) }
+        ensures ok { IfOk result
+            (λ read. IfSome read
+            (λ it. (s : Section) × (section_after (records_section self.entry) ≡ Some s)
+            × BeginsAfter RecordAt (records_message self.entry) (records_offset self.entry)
+            (records_left self.entry) s it)) }
+        ensures err { IfErr result
+            (λ e. Misses RecordAt NoRecord (records_message self.entry) (records_offset self.entry)
+            (records_left self.entry) e) }
     {
         let Some(section) = self.section.next_section() else {
             return Ok(None);
@@ -223,7 +233,7 @@ impl<'a> RecordSection<'a> {
 }
 
 impl<'a> Iterator for RecordSection<'a> {
-    ghost use Rattle.domain_message.specs.Sections.{questions_message, questions_offset, questions_left, records_message, records_offset, records_left, records_section, entries_left, GivesQuestion, GivesRecord, counted, Begins, BeginsAfter, Misses};
+    ghost use Rattle.domain_message.specs.Sections.{records_left, entries_left, GivesRecord};
 
     type Item = Result<ParsedRecord<'a>, ParseError>;
 

@@ -68,7 +68,7 @@ pub pushes_question : (c : Bool) (q : QuestionFields) (old : State) (counts : He
     → Appended (AsksIn c q old.octets) old.octets made → PushesQuestion c q old (record old { counts = counts; places = places; octets = made })
 pushes_question c q old counts places made end small_type small_class none counted at ends within added =
     let no_record : record_count old.counts ≡ 0 = omega (arith, none) in
-    let place : length (old.octets ++ added.octets) ≡ end = sym (ends ∙ ap length added.all) in
+    let offset : length (old.octets ++ added.octets) ≡ end = sym (ends ∙ ap length added.all) in
     record {
       in_order = no_record;
       octets = added;
@@ -77,7 +77,7 @@ pushes_question c q old counts places made end small_type small_class none count
       settings = record { header = refl; limit = refl; reserved = refl };
       holds = λ it holds. subst (λ p. Holds c (record old { counts = counts; places = p; octets = made }) (question_added it q)) (sym at)
           (subst (λ o. Holds c (record old { counts = counts; places = all_at end; octets = o }) (question_added it q)) (sym added.all)
-          (subst (λ n. Holds c (record old { counts = counts; places = all_at n; octets = old.octets ++ added.octets }) (question_added it q)) place
+          (subst (λ n. Holds c (record old { counts = counts; places = all_at n; octets = old.octets ++ added.octets }) (question_added it q)) offset
           (question_holds c q old counts added.octets it no_record counted (record { small_type = small_type; small_class = small_class; octets = added.allowed }) holds)));
     }
 
@@ -150,7 +150,7 @@ pushes_record section c head May old counts places made end small_type small_cla
     let done = added.allowed in
     let r : PushedRecord = record { head = head; rdata = done.rdata } in
     let no_record : later_count section old.counts ≡ 0 = omega (arith, none) in
-    let place : length (old.octets ++ added.octets) ≡ end = sym (ends ∙ ap length added.all) in
+    let offset : length (old.octets ++ added.octets) ≡ end = sym (ends ∙ ap length added.all) in
     let may : RecordMay c r old.octets added.octets = record {
       small_type = small_type;
       small_class = small_class;
@@ -165,6 +165,6 @@ pushes_record section c head May old counts places made end small_type small_cla
       settings = record { header = refl; limit = refl; reserved = refl };
       holds = λ it holds. subst (λ p. Holds c (record old { counts = counts; places = p; octets = made }) (record_added section it r)) (sym at)
           (subst (λ o. Holds c (record old { counts = counts; places = places_after section end old.places; octets = o }) (record_added section it r)) (sym added.all)
-          (subst (λ n. Holds c (record old { counts = counts; places = places_after section n old.places; octets = old.octets ++ added.octets }) (record_added section it r)) place
+          (subst (λ n. Holds c (record old { counts = counts; places = places_after section n old.places; octets = old.octets ++ added.octets }) (record_added section it r)) offset
           (record_holds section c r old counts added.octets it no_record counted may holds)));
     }

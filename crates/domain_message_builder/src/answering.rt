@@ -1,7 +1,6 @@
 //! Messages that answer others.
-ghost use Rattle.std.specs.Prelude.{◌≡◌, ◌↔◌, IsTrue, IfErr, OnOk, OnErr, slice_index};
+ghost use Rattle.std.specs.Prelude.{◌≡◌, IfErr, OnOk, OnErr};
 ghost use Rattle.domain_header.specs.Headers.{header_id, header_high, header_low};
-ghost use Rattle.domain_header.specs.Numbers.{number16};
 ghost use Rattle.domain_header.specs.Values.{rcode_number};
 ghost use Rattle.domain_message.specs.Messages.{message_octets};
 ghost use Rattle.domain_message_builder.specs.Answers.{IsAnswerHeader, StartsAnswer, StartsError, NotStarted};
@@ -17,7 +16,8 @@ use octseq::Octets;
 /// The header of an answer: the identifier, the opcode and the bits RD and CD of the query, QR, the response code, and
 /// no other bit (RFC 1035, 4.1.1; RFC 4035, 3.2.2).
 fn answer_header(query: Header, rcode: Rcode) -> Header
-    ensures { IsAnswerHeader (header_id query) (header_high query) (header_low query) (rcode_number rcode) result }
+    ensures { IsAnswerHeader (header_id query) (header_high query) (header_low query)
+        (rcode_number rcode) result }
 {
     let mut header = Header::new();
     header.set_id(query.id());

@@ -23,8 +23,9 @@ pub(crate) fn append_question<'a, N: AbsoluteLabels<'a>, Target: Composer>(
         (Target.octets target.old) (Target.octets target.new)) }
     ensures within { OnOk result (length (Target.octets target.new) ≤ most) }
     ensures unchanged { OnErr result (Target.octets target.new ≡ Target.octets target.old) }
-    ensures why { IfErr result (λ e. QuestionNotAppended Target.compresses
-        (asked N.labels question.now) (Target.octets target.old) (Target.capacity target.old) most e) }
+    ensures why { IfErr result
+        (λ e. QuestionNotAppended Target.compresses (asked N.labels question.now)
+        (Target.octets target.old) (Target.capacity target.old) most e) }
     ensures capacity { Target.capacity target.old ≤ Target.capacity target.new }
 {
     let before = target.as_slice().len();

@@ -49,7 +49,8 @@ impl<Target: Composer + Drop> MessageBuilder<Target> {
 
     /// Begins a message of at most 65,535 octets, as `with_limit` does.
     pub fn from_target(target: Target) -> Result<Self, StartError<Target::AppendError>>
-        ensures ok { IfOk result (λ it. IsBegun Target.compresses 65535 (state_of Target.octets it)) }
+        ensures ok { IfOk result
+            (λ it. IsBegun Target.compresses 65535 (state_of Target.octets it)) }
         ensures why { IfErr result (λ e.
             NotBegun (Target.octets target) (Target.capacity target) 65535 e) }
         ensures capacity { IfOk result (λ it.
@@ -63,7 +64,8 @@ impl<Target: Composer + Drop> MessageBuilder<Target> {
     /// `NotEmpty` exactly if the target isn't empty, else `ShortLimit` exactly if the limit is below the twelve octets of
     /// the header, and else `Append` only if the target has no room for these.
     pub fn with_limit(target: Target, limit: u16) -> Result<Self, StartError<Target::AppendError>>
-        ensures ok { IfOk result (λ it. IsBegun Target.compresses limit (state_of Target.octets it)) }
+        ensures ok { IfOk result
+            (λ it. IsBegun Target.compresses limit (state_of Target.octets it)) }
         ensures why { IfErr result (λ e.
             NotBegun (Target.octets target) (Target.capacity target) limit e) }
         ensures capacity { IfOk result (λ it.
@@ -178,7 +180,8 @@ impl<Target: Composer> MessageBuilder<Target> {
         ensures why { IfErr result (λ e. QuestionRefused Target.compresses
             (asked N.labels question.now) (state_of Target.octets self.old)
             (Target.capacity (target_of self.old)) e) }
-        ensures capacity { Target.capacity (target_of self.old) ≤ Target.capacity (target_of self.new) }
+        ensures capacity { Target.capacity (target_of self.old)
+            ≤ Target.capacity (target_of self.new) }
     {
         let counts = self.counts;
         if has_records(counts) {
@@ -221,7 +224,8 @@ impl<Target: Composer> MessageBuilder<Target> {
             (headed N.labels D.type_number resource.now)
             (D.composed (data_of resource.now) Target.compresses)
             (state_of Target.octets self.old) (Target.capacity (target_of self.old)) e) }
-        ensures capacity { Target.capacity (target_of self.old) ≤ Target.capacity (target_of self.new) }
+        ensures capacity { Target.capacity (target_of self.old)
+            ≤ Target.capacity (target_of self.new) }
     {
         let kept = self.reserved;
         self.push_keeping(section, resource, kept)
@@ -248,7 +252,8 @@ impl<Target: Composer> MessageBuilder<Target> {
             (D.composed (data_of resource.now) Target.compresses)
             (with_reserved kept (state_of Target.octets self.old))
             (Target.capacity (target_of self.old)) e) }
-        ensures capacity { Target.capacity (target_of self.old) ≤ Target.capacity (target_of self.new) }
+        ensures capacity { Target.capacity (target_of self.old)
+            ≤ Target.capacity (target_of self.new) }
     {
         let counts = self.counts;
         if has_later(section, counts) {
@@ -275,7 +280,8 @@ impl<Target: Composer> MessageBuilder<Target> {
     pub fn rewind(&mut self, section: Section)
         ensures rewinds { Rewinds Target.compresses section
             (state_of Target.octets self.old) (state_of Target.octets self.new) }
-        ensures capacity { Target.capacity (target_of self.new) ≡ Target.capacity (target_of self.old) }
+        ensures capacity { Target.capacity (target_of self.new)
+            ≡ Target.capacity (target_of self.old) }
     {
         let start = self.places.of(section);
         self.counts = without_records(section, self.counts);
@@ -287,7 +293,8 @@ impl<Target: Composer> MessageBuilder<Target> {
     pub fn rewind_all(&mut self)
         ensures rewinds { RewindsAll Target.compresses
             (state_of Target.octets self.old) (state_of Target.octets self.new) }
-        ensures capacity { Target.capacity (target_of self.new) ≡ Target.capacity (target_of self.old) }
+        ensures capacity { Target.capacity (target_of self.new)
+            ≡ Target.capacity (target_of self.old) }
     {
         self.counts = HeaderCounts::new();
         self.places = Places::at(12);

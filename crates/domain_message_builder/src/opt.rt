@@ -1,6 +1,5 @@
 //! OPT records (RFC 6891).
-ghost use Rattle.std.specs.Prelude.{◌≡◌, ◌≤◌, ◌<◌, ◌+◌, ◌↔◌, ◌++◌, [], length, IfOk, IfErr, IsErr, OnOk, OnErr};
-ghost use Rattle.domain_message_builder.specs.Contents.{RecordHead};
+ghost use Rattle.std.specs.Prelude.{◌≡◌, ◌≤◌, ◌<◌, ◌+◌, ◌↔◌, ◌++◌, length, IfOk, IfErr, IsErr, OnOk, OnErr};
 ghost use Rattle.domain_message_builder.specs.Opt.{opt_ttl, option_octets, OptionRefused};
 
 use domain_header::{Class, Ttl};
@@ -116,9 +115,11 @@ fn append_option<Octs: OctetsBuilder>(
     octets: &[u8],
 ) -> Result<(), Octs::AppendError>
     requires { length octets.now ≤ 65535 }
-    ensures ok { OnOk result (Octs.octets options.new ≡ Octs.octets options.old ++ option_octets code octets.now) }
+    ensures ok { OnOk result
+        (Octs.octets options.new ≡ Octs.octets options.old ++ option_octets code octets.now) }
     ensures unchanged { OnErr result (Octs.octets options.new ≡ Octs.octets options.old) }
-    ensures full { OnErr result (Octs.capacity options.old < length (Octs.octets options.old) + 4 + length octets.now) }
+    ensures full { OnErr result
+        (Octs.capacity options.old < length (Octs.octets options.old) + 4 + length octets.now) }
 {
     let start = options.as_slice().len();
     let [a, b] = code.to_be_bytes();

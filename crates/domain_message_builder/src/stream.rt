@@ -15,7 +15,8 @@ fn append_message<Stream: OctetsBuilder>(
     stream: &mut Stream,
 ) -> Result<(), Stream::AppendError>
     requires { length message.now ≤ 65535 }
-    ensures ok { OnOk result (Stream.octets stream.new ≡ Stream.octets stream.old ++ in_stream message.now) }
+    ensures ok { OnOk result
+        (Stream.octets stream.new ≡ Stream.octets stream.old ++ in_stream message.now) }
     ensures unchanged { OnErr result (Stream.octets stream.new ≡ Stream.octets stream.old) }
     ensures full { OnErr result
         (Stream.capacity stream.old < length (Stream.octets stream.old) + 2 + length message.now) }

@@ -41,7 +41,8 @@ impl<Target: Composer> MessageBuilder<Target> {
             (state_of Target.octets self.old) (Target.capacity (target_of self.old)) e) }
         ensures no_room { OnErr result (CannotAddOpt (opt_of opt.now)
             (Target.capacity (target_of self.old)) (state_of Target.octets self.old)) }
-        ensures capacity { Target.capacity (target_of self.old) ≤ Target.capacity (target_of self.new) }
+        ensures capacity { Target.capacity (target_of self.old)
+            ≤ Target.capacity (target_of self.new) }
     {
         let record = opt.record();
         self.push_keeping(Section::Additional, &record, 0)
@@ -52,7 +53,8 @@ impl<Target: Composer> MessageBuilder<Target> {
     pub fn truncate(&mut self)
         ensures truncates { Truncates Target.compresses
             (state_of Target.octets self.old) (state_of Target.octets self.new) }
-        ensures capacity { Target.capacity (target_of self.new) ≡ Target.capacity (target_of self.old) }
+        ensures capacity { Target.capacity (target_of self.new)
+            ≡ Target.capacity (target_of self.old) }
     {
         self.rewind(Section::Answer);
         self.set_header(cut_header(self.header()));

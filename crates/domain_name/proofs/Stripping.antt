@@ -40,7 +40,7 @@ suffix_fits o bs w e =
 pub suffix_begins : (o : List ℕ) (bs : List (List ℕ)) (n : ℕ) → IsWire o → EndsWith (labels_in o) bs → n + length (wire bs) ≡ length o → IsLabelEnd (labels_in o) n
 suffix_begins o bs n w e m =
     let r = parted (labels_in o) e.0 (lowercase_labels bs) e.1 in
-    (r.0, r.1, record { parts = r.2; place = omega (arith, m, octets_size o w, two_sizes (labels_in o) r.0 r.1 r.2, same_size r.1 bs r.3) })
+    (r.0, r.1, record { parts = r.2; offset = omega (arith, m, octets_size o w, two_sizes (labels_in o) r.0 r.1 r.2, same_size r.1 bs r.3) })
 
 pub absolute_suffix_begins : (o : List ℕ) (bs : List (List ℕ)) (n : ℕ) → IsWire o → IsAbsolute bs → EndsWith (labels_in o) bs → n + length (wire bs) ≡ length o → IsLabelStart (labels_in o) n
 absolute_suffix_begins o bs n w a e m =
@@ -48,13 +48,13 @@ absolute_suffix_begins o bs n w a e m =
 
 -- what stands before them is the list without them
 pub stripped : (o : List ℕ) (bs rest after : List (List ℕ)) (n : ℕ) → IsWire o → EndsWith (labels_in o) bs → n + length (wire bs) ≡ length o → labels_in o ≡ rest ++ after → length (wire rest) ≡ n → IsStripped (labels_in o) bs rest
-stripped o bs rest after n w e m parts place =
+stripped o bs rest after n w e m parts offset =
     let r = parted (labels_in o) e.0 (lowercase_labels bs) e.1 in
     let size = two_sizes (labels_in o) r.0 r.1 r.2 in
-    let here : SplitsAt (labels_in o) n r.0 r.1 = record { parts = r.2; place = omega (arith, m, octets_size o w, size, same_size r.1 bs r.3) } in
-    let there : SplitsAt (labels_in o) n rest after = record { parts = parts; place = place } in
+    let here : SplitsAt (labels_in o) n r.0 r.1 = record { parts = r.2; offset = omega (arith, m, octets_size o w, size, same_size r.1 bs r.3) } in
+    let there : SplitsAt (labels_in o) n rest after = record { parts = parts; offset = offset } in
     let z = cut_within (labels_in o) n n r.0 r.1 rest after here there (omega arith) in
-    let none : z.0 ≡ [] = nil_from_wire z.0 (omega (arith, m, place, octets_size o w, size, same_size r.1 bs r.3, two_sizes rest r.0 z.0 z.1)) in
+    let none : z.0 ≡ [] = nil_from_wire z.0 (omega (arith, m, offset, octets_size o w, size, same_size r.1 bs r.3, two_sizes rest r.0 z.0 z.1)) in
     let same : r.1 ≡ after = z.2 ∙ ap (λ x. x ++ after) none in
     record { suffix = after; parts = parts; same = ap lowercase_labels (sym same) ∙ r.3 }
 
@@ -69,7 +69,7 @@ pub suffix_same : (o s : List ℕ) (n : ℕ) → IsWire o → IsWire s → EndsW
 suffix_same o s n w v e m =
     let r = parted (labels_in o) e.0 (lowercase_labels (labels_in s)) e.1 in
     let size : length (wire r.1) ≡ length s = same_size r.1 (labels_in s) r.3 ∙ octets_size s v in
-    let here : SplitsAt (labels_in o) n r.0 r.1 = record { parts = r.2; place = omega (arith, m, octets_size o w, two_sizes (labels_in o) r.0 r.1 r.2, size) } in
+    let here : SplitsAt (labels_in o) n r.0 r.1 = record { parts = r.2; offset = omega (arith, m, octets_size o w, two_sizes (labels_in o) r.0 r.1 r.2, size) } in
     let same = (lowercase_wires r.1 (labels_in s) (labels_after r.0 r.1 (subst AreLabels r.2 w.1)) v.1).1 r.3 in
     ap lowercase (cut_drop o n r.0 r.1 w.0 here) ∙ (same ∙ ap lowercase v.0)
 

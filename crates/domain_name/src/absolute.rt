@@ -243,7 +243,8 @@ impl<Octs: Octets> Name<Octs> {
     ///
     /// ```rust
     /// pub fn first_label<'a>(name: &'a Name<&[u8]>) -> Option<Label<'a>>
-    ///     ensures label { IfSome result (λ label. (rest : List (List ℕ)) × (name_labels name.now ≡ label_octets label ∷ rest)) }
+    ///     ensures label { IfSome result
+    ///         (λ label. (rest : List (List ℕ)) × (name_labels name.now ≡ label_octets label ∷ rest)) }
     ///     ensures some { IsSome result }
     /// {
     ///     name.iter().next()
@@ -300,10 +301,10 @@ impl<Octs: Octets> Name<Octs> {
     }
 
     /// Whether a label, the root label too, begins at this offset of the wire format.
-    pub fn is_label_start(&self, place: usize) -> bool
-        ensures { IsTrue result ↔ IsLabelStart (name_labels self.now) place }
+    pub fn is_label_start(&self, offset: usize) -> bool
+        ensures { IsTrue result ↔ IsLabelStart (name_labels self.now) offset }
     {
-        place < self.len() && is_label_end(self.octets.as_slice(), place)
+        offset < self.len() && is_label_end(self.octets.as_slice(), offset)
     }
 
     /// The labels from one offset of the wire format to another, where `is_label_start` is true at both and they are
@@ -331,7 +332,7 @@ impl<Octs: Octets> Name<Octs> {
     pub fn split(&self, mid: usize) -> (RelativeName<&[u8]>, Name<&[u8]>)
         requires { IsLabelStart (name_labels self.now) mid }
         ensures parts { relative_labels result.0 ++ name_labels result.1 ≡ name_labels self.now }
-        ensures place { length (wire (relative_labels result.0)) ≡ mid }
+        ensures offset { length (wire (relative_labels result.0)) ≡ mid }
     {
         let (before, after) = self.octets.as_slice().split_at(mid);
         (RelativeName::from_wire(before), Name { octets: after })
@@ -398,7 +399,7 @@ impl<Octs: Truncate> Name<Octs> {
         requires { IsLabelStart (name_labels self) len }
         ensures parts { (after : List (List ℕ))
             × (name_labels self ≡ relative_labels result ++ after) }
-        ensures place { length (wire (relative_labels result)) ≡ len }
+        ensures offset { length (wire (relative_labels result)) ≡ len }
     {
         let mut octets = self.into_octets();
         octets.truncate(len);
@@ -417,7 +418,7 @@ impl<Octs: Truncate> Name<Octs> {
         ensures err { IfErr result (λ name. name ≡ self) }
     {
         match suffix_place(self.octets.as_slice(), base) {
-            Some(place) => Ok(self.truncate(place)),
+            Some(offset) => Ok(self.truncate(offset)),
             None => Err(self),
         }
     }

@@ -281,10 +281,10 @@ impl<Octs: Octets> RelativeName<Octs> {
     }
 
     /// Whether a label begins at this offset of the wire format, or the name ends there.
-    pub fn is_label_start(&self, place: usize) -> bool
-        ensures { IsTrue result ↔ IsLabelEnd (relative_labels self.now) place }
+    pub fn is_label_start(&self, offset: usize) -> bool
+        ensures { IsTrue result ↔ IsLabelEnd (relative_labels self.now) offset }
     {
-        is_label_end(self.octets.as_slice(), place)
+        is_label_end(self.octets.as_slice(), offset)
     }
 
     /// The labels from one offset of the wire format to another, where `is_label_start` is true at both and they are
@@ -317,7 +317,7 @@ impl<Octs: Octets> RelativeName<Octs> {
         requires { IsLabelEnd (relative_labels self.now) mid }
         ensures parts { relative_labels result.0 ++ relative_labels result.1
             ≡ relative_labels self.now }
-        ensures place { length (wire (relative_labels result.0)) ≡ mid }
+        ensures offset { length (wire (relative_labels result.0)) ≡ mid }
     {
         let (before, after) = self.octets.as_slice().split_at(mid);
         (
@@ -358,7 +358,7 @@ impl<Octs: Truncate> RelativeName<Octs> {
         requires { IsLabelEnd (relative_labels self.old) len }
         ensures parts { (after : List (List ℕ))
             × (relative_labels self.old ≡ relative_labels self.new ++ after) }
-        ensures place { length (wire (relative_labels self.new)) ≡ len }
+        ensures offset { length (wire (relative_labels self.new)) ≡ len }
     {
         self.octets.truncate(len);
     }
@@ -375,10 +375,10 @@ impl<Octs: Truncate> RelativeName<Octs> {
             (IsStripped (relative_labels self.old) (N.labels base.now) (relative_labels self.new)) }
         ensures unchanged { OnErr result (self.new ≡ self.old) }
     {
-        let Some(place) = suffix_place(self.octets.as_slice(), base) else {
+        let Some(offset) = suffix_place(self.octets.as_slice(), base) else {
             return Err(StripSuffixError);
         };
-        self.truncate(place);
+        self.truncate(offset);
         Ok(())
     }
 }

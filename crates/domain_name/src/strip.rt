@@ -30,19 +30,19 @@ fn place_of(octets: &[u8], suffix: &[u8]) -> Option<usize>
     requires whole { IsWire octets.now }
     requires part { IsWire suffix.now }
     ensures exact { IsSome result ↔ EndsWith (labels_in octets.now) (labels_in suffix.now) }
-    ensures place { IfSome result (λ place. place + length suffix.now ≡ length octets.now) }
+    ensures offset { IfSome result (λ offset. offset + length suffix.now ≡ length octets.now) }
 {
     if octets.len() < suffix.len() {
         return None;
     }
-    let place = octets.len() - suffix.len();
-    if !same_octets(&octets[place..], suffix) {
+    let offset = octets.len() - suffix.len();
+    if !same_octets(&octets[offset..], suffix) {
         return None;
     }
-    if !is_label_end(octets, place) {
+    if !is_label_end(octets, offset) {
         return None;
     }
-    Some(place)
+    Some(offset)
 }
 
 /// The offset in a wire format where its last labels begin, which are those of `base` ignoring ASCII case. `None`
@@ -50,8 +50,8 @@ fn place_of(octets: &[u8], suffix: &[u8]) -> Option<usize>
 pub(crate) fn suffix_place<'a, N: ToLabelIter<'a>>(octets: &[u8], base: &'a N) -> Option<usize>
     requires { IsWire octets.now }
     ensures exact { IsSome result ↔ EndsWith (labels_in octets.now) (N.labels base.now) }
-    ensures place { IfSome result
-        (λ place. place + length (wire (N.labels base.now)) ≡ length octets.now) }
+    ensures offset { IfSome result
+        (λ offset. offset + length (wire (N.labels base.now)) ≡ length octets.now) }
 {
     if let Some(suffix) = base.as_flat_slice() {
         return place_of(octets, suffix);

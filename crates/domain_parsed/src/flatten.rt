@@ -20,7 +20,8 @@ where
 {
     ghost same = { λ name made. name_labels made ≡ parsed_labels name };
 
-    ghost may_refuse = { λ name. MayExceedCapacity Target.Builder.ROOM (length (wire (parsed_labels name))) };
+    ghost may_refuse = { λ name.
+        MayExceedCapacity Target.Builder.ROOM (length (wire (parsed_labels name))) };
 
     fn try_flatten_into(self, alloc: Global) -> Result<Name<Target>, ShortBuf> {
         self.to_name(alloc)

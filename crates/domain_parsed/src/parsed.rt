@@ -111,8 +111,10 @@ impl<'a> ParsedName<&'a [u8]> {
     ///
     /// ```rust
     /// pub fn question<'a>(parser: &mut Parser<'a>) -> Result<(ParsedName<&'a [u8]>, u16, u16), ParseError>
-    ///     ensures name { IfOk result (λ read. Names 255 (message parser.old) (position parser.old) (parsed_labels read.0)) }
-    ///     ensures after { IfOk result (λ read. (e : ℕ) × EncodingEnds (message parser.old) (position parser.old) e
+    ///     ensures name { IfOk result
+    ///         (λ read. Names 255 (message parser.old) (position parser.old) (parsed_labels read.0)) }
+    ///     ensures after { IfOk result
+    ///         (λ read. (e : ℕ) × EncodingEnds (message parser.old) (position parser.old) e
     ///         × (read.1 ≡ from_be_bytes w16 (slice_range (message parser.old) e (e + 2)))
     ///         × (read.2 ≡ from_be_bytes w16 (slice_range (message parser.old) (e + 2) (e + 4)))
     ///         × MovesTo parser.old parser.new (e + 4)) }
@@ -258,9 +260,13 @@ impl<'a> ParsedName<&'a [u8]> {
     ///
     /// ```rust
     /// pub fn skip_question(parser: &mut Parser<'_>) -> Result<(), ParseError>
-    ///     ensures ok { OnOk result ((e : ℕ) × Skips (message parser.old) (position parser.old) e × (position parser.new ≡ e + 4)) }
-    ///     ensures err { OnErr result (((why : NameFault) × SkipFault (message parser.old) (position parser.old) why)
-    ///         ⊎ ((e : ℕ) × Skips (message parser.old) (position parser.old) e × (length (message parser.old) < e + 4))) }
+    ///     ensures ok { OnOk result
+    ///         ((e : ℕ) × Skips (message parser.old) (position parser.old) e
+    ///         × (position parser.new ≡ e + 4)) }
+    ///     ensures err { OnErr result
+    ///         (((why : NameFault) × SkipFault (message parser.old) (position parser.old) why)
+    ///         ⊎ ((e : ℕ) × Skips (message parser.old) (position parser.old) e
+    ///         × (length (message parser.old) < e + 4))) }
     /// {
     ///     ParsedName::skip(parser)?;
     ///     parser.advance(4)?;

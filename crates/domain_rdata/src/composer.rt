@@ -36,11 +36,15 @@ pub trait Composer: OctetsBuilder + OctetsMut {
     /// remembered, are then as before.
     fn append_flat_name(&mut self, name: &[u8]) -> Result<(), Self::AppendError>
         requires { IsAbsoluteWire name.now }
-        ensures ok { OnOk result (Appended (may_append self.old (labels_in name.now)) (Self.octets self.old) (Self.octets self.new)) }
+        ensures ok { OnOk result
+            (Appended (may_append self.old (labels_in name.now)) (Self.octets self.old)
+            (Self.octets self.new)) }
         ensures appends { OnOk result (appends self.old (labels_in name.now) self.new) }
         ensures unchanged { OnErr result (Self.octets self.new ≡ Self.octets self.old) }
         ensures memory_unchanged { OnErr result (memory self.new ≡ memory self.old) }
-        ensures full { OnErr result (Exceeds (may_append self.old (labels_in name.now)) (Self.octets self.old) (Self.capacity self.old)) }
+        ensures full { OnErr result
+            (Exceeds (may_append self.old (labels_in name.now)) (Self.octets self.old)
+            (Self.capacity self.old)) }
         ensures capacity { Self.capacity self.old ≤ Self.capacity self.new };
 
     /// Whether names may be written shorter than their wire format.
@@ -55,11 +59,15 @@ pub trait Composer: OctetsBuilder + OctetsMut {
         &mut self,
         name: &'a N,
     ) -> Result<(), Self::AppendError>
-        ensures ok { OnOk result (Appended (may_append self.old (N.labels name.now)) (Self.octets self.old) (Self.octets self.new)) }
+        ensures ok { OnOk result
+            (Appended (may_append self.old (N.labels name.now)) (Self.octets self.old)
+            (Self.octets self.new)) }
         ensures appends { OnOk result (appends self.old (N.labels name.now) self.new) }
         ensures unchanged { OnErr result (Self.octets self.new ≡ Self.octets self.old) }
         ensures memory_unchanged { OnErr result (memory self.new ≡ memory self.old) }
-        ensures full { OnErr result (Exceeds (may_append self.old (N.labels name.now)) (Self.octets self.old) (Self.capacity self.old)) }
+        ensures full { OnErr result
+            (Exceeds (may_append self.old (N.labels name.now)) (Self.octets self.old)
+            (Self.capacity self.old)) }
         ensures capacity { Self.capacity self.old ≤ Self.capacity self.new }
     {
         if let Some(octets) = name.as_flat_slice() {
@@ -71,13 +79,16 @@ pub trait Composer: OctetsBuilder + OctetsMut {
     }
 
     /// Where a name was appended, octets that may be appended for it stand after those before.
-    ghost appended: { (c d : Self) (ls : List (List ℕ)) → appends c ls d → Appended (may_append c ls) (Self.octets c) (Self.octets d) };
+    ghost appended: { (c d : Self) (ls : List (List ℕ)) → appends c ls d →
+        Appended (may_append c ls) (Self.octets c) (Self.octets d) };
 
     /// What may be appended is read as an equal name.
-    ghost reads_back: { (c : Self) (ls : List (List ℕ)) (s : List ℕ) → IsAbsoluteName ls → may_append c ls s → ReadsBack (Self.octets c) ls s };
+    ghost reads_back: { (c : Self) (ls : List (List ℕ)) (s : List ℕ) → IsAbsoluteName ls →
+        may_append c ls s → ReadsBack (Self.octets c) ls s };
 
     /// Without compression it is the wire format.
-    ghost flat: { (c : Self) (ls : List (List ℕ)) (s : List ℕ) → compresses ≡ false → may_append c ls s → s ≡ wire ls };
+    ghost flat: { (c : Self) (ls : List (List ℕ)) (s : List ℕ) → compresses ≡ false →
+        may_append c ls s → s ≡ wire ls };
 }
 
 impl Composer for Vec<u8> {

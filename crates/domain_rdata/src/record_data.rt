@@ -105,7 +105,8 @@ pub trait ComposeRecordData: RecordData {
     /// becomes where a name was appended as the target may write it ([`Composer::appends`]).
     ///
     /// So a name that may be compressed is left to the target.
-    ghost written: { Self → (T : Type 0) → (T → List ℕ) → (T → List (List ℕ) → T → Type 0) → T → T → Type 0 };
+    ghost written: { Self → (T : Type 0) → (T → List ℕ) → (T → List (List ℕ) → T → Type 0) → T → T →
+        Type 0 };
 
     /// The octets with no name compressed: all that a target takes that doesn't write names shorter.
     ghost uncompressed: { Self → List ℕ };
@@ -123,8 +124,13 @@ pub trait ComposeRecordData: RecordData {
     /// writes names shorter, if `compress`; else to one that doesn't, and those of the canonical form.
     fn rdlen(&self, compress: bool) -> Option<u16>
         ensures known { IsNone result ↔ (knows_len self.now compress ≡ false) }
-        ensures composed { IfSome result (λ n. (t s : List ℕ) → composed self.now compress t s → length s ≡ n) }
-        ensures canonical { compress ≡ false → IfSome result (λ n. IfSome (canonical_form (Self.type_number self.now) (uncompressed self.now) (lowercase self.now)) (λ octets. length octets ≡ n)) };
+        ensures composed { IfSome result
+            (λ n. (t s : List ℕ) → composed self.now compress t s → length s ≡ n) }
+        ensures canonical { compress ≡ false →
+            IfSome result
+            (λ n. IfSome
+            (canonical_form (Self.type_number self.now) (uncompressed self.now)
+            (lowercase self.now)) (λ octets. length octets ≡ n)) };
 
     /// Appends the data, or nothing.
     ///
@@ -134,10 +140,15 @@ pub trait ComposeRecordData: RecordData {
         &self,
         target: &mut Target,
     ) -> Result<(), Target::AppendError>
-        ensures ok { OnOk result (Appended (composed self.now Target.compresses (Target.octets target.old)) (Target.octets target.old) (Target.octets target.new)) }
-        ensures names { OnOk result (written self.now Target Target.octets Target.appends target.old target.new) }
+        ensures ok { OnOk result
+            (Appended (composed self.now Target.compresses (Target.octets target.old))
+            (Target.octets target.old) (Target.octets target.new)) }
+        ensures names { OnOk result
+            (written self.now Target Target.octets Target.appends target.old target.new) }
         ensures unchanged { OnErr result (Target.octets target.new ≡ Target.octets target.old) }
-        ensures full { OnErr result (Exceeds (composed self.now Target.compresses (Target.octets target.old)) (Target.octets target.old) (Target.capacity target.old)) }
+        ensures full { OnErr result
+            (Exceeds (composed self.now Target.compresses (Target.octets target.old))
+            (Target.octets target.old) (Target.capacity target.old)) }
         ensures capacity { Target.capacity target.old ≤ Target.capacity target.new };
 
     /// Appends the canonical form of the data, or nothing (RFC 4034, 6.2): no name is compressed, and names are in lowercase
@@ -149,9 +160,15 @@ pub trait ComposeRecordData: RecordData {
         &self,
         target: &mut Target,
     ) -> Result<(), CanonicalError<Target::AppendError>>
-        ensures ok { OnOk result (WithForm (canonical_form (Self.type_number self.now) (uncompressed self.now) (lowercase self.now)) (Target.octets target.old) (Target.octets target.new)) }
+        ensures ok { OnOk result
+            (WithForm
+            (canonical_form (Self.type_number self.now) (uncompressed self.now)
+            (lowercase self.now)) (Target.octets target.old) (Target.octets target.new)) }
         ensures unchanged { OnErr result (Target.octets target.new ≡ Target.octets target.old) }
-        ensures why { IfErr result (λ e. FormRefused (canonical_form (Self.type_number self.now) (uncompressed self.now) (lowercase self.now)) (Target.octets target.old) (Target.capacity target.old) e) }
+        ensures why { IfErr result
+            (λ e. FormRefused
+            (canonical_form (Self.type_number self.now) (uncompressed self.now)
+            (lowercase self.now)) (Target.octets target.old) (Target.capacity target.old) e) }
         ensures capacity { Target.capacity target.old ≤ Target.capacity target.new };
 
     /// Appends the length of the data in two octets, and the data, or nothing.
@@ -162,9 +179,13 @@ pub trait ComposeRecordData: RecordData {
         &self,
         target: &mut Target,
     ) -> Result<(), ComposeRdataError<Target::AppendError>>
-        ensures ok { OnOk result (LengthAndData (composed self.now Target.compresses) (Target.octets target.old) (Target.octets target.new)) }
+        ensures ok { OnOk result
+            (LengthAndData (composed self.now Target.compresses) (Target.octets target.old)
+            (Target.octets target.new)) }
         ensures unchanged { OnErr result (Target.octets target.new ≡ Target.octets target.old) }
-        ensures why { IfErr result (λ e. ComposeRefused (composed self.now Target.compresses) (Target.octets target.old) (Target.capacity target.old) e) }
+        ensures why { IfErr result
+            (λ e. ComposeRefused (composed self.now Target.compresses) (Target.octets target.old)
+            (Target.capacity target.old) e) }
         ensures capacity { Target.capacity target.old ≤ Target.capacity target.new }
     {
         let Some(len) = self.rdlen(target.can_compress()) else {
@@ -185,9 +206,15 @@ pub trait ComposeRecordData: RecordData {
         &self,
         target: &mut Target,
     ) -> Result<(), CanonicalError<Target::AppendError>>
-        ensures ok { OnOk result (WithLengthAndForm (canonical_form (Self.type_number self.now) (uncompressed self.now) (lowercase self.now)) (Target.octets target.old) (Target.octets target.new)) }
+        ensures ok { OnOk result
+            (WithLengthAndForm
+            (canonical_form (Self.type_number self.now) (uncompressed self.now)
+            (lowercase self.now)) (Target.octets target.old) (Target.octets target.new)) }
         ensures unchanged { OnErr result (Target.octets target.new ≡ Target.octets target.old) }
-        ensures why { IfErr result (λ e. CanonicalRefused (canonical_form (Self.type_number self.now) (uncompressed self.now) (lowercase self.now)) (Target.octets target.old) (Target.capacity target.old) e) }
+        ensures why { IfErr result
+            (λ e. CanonicalRefused
+            (canonical_form (Self.type_number self.now) (uncompressed self.now)
+            (lowercase self.now)) (Target.octets target.old) (Target.capacity target.old) e) }
         ensures capacity { Target.capacity target.old ≤ Target.capacity target.new }
     {
         let start = target.as_slice().len();
@@ -219,7 +246,8 @@ pub trait ComposeRecordData: RecordData {
     }
 
     /// Octets with no name compressed may be appended wherever,
-    ghost plain: { (it : Self) (compresses : Bool) (t : List ℕ) → composed it compresses t (uncompressed it) };
+    ghost plain: { (it : Self) (compresses : Bool) (t : List ℕ) →
+        composed it compresses t (uncompressed it) };
 
     /// and a target that doesn't write names shorter takes nothing else.
     ghost flat: { (it : Self) (t s : List ℕ) → composed it false t s → s ≡ uncompressed it };
@@ -231,9 +259,13 @@ fn compose_after<Data: ComposeRecordData, Target: Composer>(
     target: &mut Target,
     len: u16,
 ) -> Result<usize, Target::AppendError>
-    ensures ok { IfOk result (λ n. DataAfterLength (Data.composed rdata.now Target.compresses) (Target.octets target.old) len n (Target.octets target.new)) }
+    ensures ok { IfOk result
+        (λ n. DataAfterLength (Data.composed rdata.now Target.compresses) (Target.octets target.old)
+        len n (Target.octets target.new)) }
     ensures unchanged { OnErr result (Target.octets target.new ≡ Target.octets target.old) }
-    ensures full { OnErr result (ExceedsWithLength (Data.composed rdata.now Target.compresses) (Target.octets target.old) (Target.capacity target.old)) }
+    ensures full { OnErr result
+        (ExceedsWithLength (Data.composed rdata.now Target.compresses) (Target.octets target.old)
+        (Target.capacity target.old)) }
     ensures capacity { Target.capacity target.old ≤ Target.capacity target.new }
 {
     let start = target.as_slice().len();
@@ -256,9 +288,13 @@ fn compose_measured<Data: ComposeRecordData, Target: Composer>(
     rdata: &Data,
     target: &mut Target,
 ) -> Result<(), ComposeRdataError<Target::AppendError>>
-    ensures ok { OnOk result (LengthAndData (Data.composed rdata.now Target.compresses) (Target.octets target.old) (Target.octets target.new)) }
+    ensures ok { OnOk result
+        (LengthAndData (Data.composed rdata.now Target.compresses) (Target.octets target.old)
+        (Target.octets target.new)) }
     ensures unchanged { OnErr result (Target.octets target.new ≡ Target.octets target.old) }
-    ensures why { IfErr result (λ e. ComposeRefused (Data.composed rdata.now Target.compresses) (Target.octets target.old) (Target.capacity target.old) e) }
+    ensures why { IfErr result
+        (λ e. ComposeRefused (Data.composed rdata.now Target.compresses) (Target.octets target.old)
+        (Target.capacity target.old) e) }
     ensures capacity { Target.capacity target.old ≤ Target.capacity target.new }
 {
     let start = target.as_slice().len();
@@ -293,9 +329,13 @@ fn compose_flat<Data: ComposeRecordData, Target: Composer>(
     rdata: &Data,
     target: &mut Target,
 ) -> Result<(), ComposeRdataError<Target::AppendError>>
-    ensures ok { OnOk result (LengthAndData (Data.composed rdata.now Target.compresses) (Target.octets target.old) (Target.octets target.new)) }
+    ensures ok { OnOk result
+        (LengthAndData (Data.composed rdata.now Target.compresses) (Target.octets target.old)
+        (Target.octets target.new)) }
     ensures unchanged { OnErr result (Target.octets target.new ≡ Target.octets target.old) }
-    ensures why { IfErr result (λ e. ComposeRefused (Data.composed rdata.now Target.compresses) (Target.octets target.old) (Target.capacity target.old) e) }
+    ensures why { IfErr result
+        (λ e. ComposeRefused (Data.composed rdata.now Target.compresses) (Target.octets target.old)
+        (Target.capacity target.old) e) }
     ensures capacity { Target.capacity target.old ≤ Target.capacity target.new }
 {
     let mut octets = ArrayVec::<u8, MOST_OCTETS>::new();
@@ -380,12 +420,18 @@ pub trait ParseRecordData<'a>: RecordData + Sized {
     /// `None` exactly where records of this type have other data, so an error comes of a type that has such data alone.
     /// `None` and a refusal leave the parser where it stood.
     fn parse_rdata(rtype: Rtype, parser: &mut Parser<'a>) -> Result<Option<Self>, ParseError>
-        ensures ok { IfOk result (λ read. IfSome read (λ it. encodes (rtype_number rtype) (message parser.old) (position parser.old) (model it) (position parser.new))) }
-        ensures of_type { IfOk result (λ read. IfSome read (λ it. Self.type_number it ≡ rtype_number rtype)) }
-        ensures none { IfOk result (λ read. IsNone read ↔ (reads_type (rtype_number rtype) ≡ false)) }
+        ensures ok { IfOk result
+            (λ read. IfSome read
+            (λ it. encodes (rtype_number rtype) (message parser.old) (position parser.old)
+            (model it) (position parser.new))) }
+        ensures of_type { IfOk result
+            (λ read. IfSome read (λ it. Self.type_number it ≡ rtype_number rtype)) }
+        ensures none { IfOk result
+            (λ read. IsNone read ↔ (reads_type (rtype_number rtype) ≡ false)) }
         ensures passed { IfOk result (λ read. IsNone read → parser.new ≡ parser.old) }
         ensures moves { OnOk result (MovesTo parser.old parser.new (position parser.new)) }
-        ensures err { IfErr result (λ e. fails_with (rtype_number rtype) (message parser.old) (position parser.old) e) }
+        ensures err { IfErr result
+            (λ e. fails_with (rtype_number rtype) (message parser.old) (position parser.old) e) }
         ensures err_type { OnErr result (reads_type (rtype_number rtype) ≡ true) }
         ensures unchanged { OnErr result (parser.new ≡ parser.old) };
 
@@ -413,10 +459,13 @@ pub trait ParseAnyRecordData<'a>: RecordData + Sized {
     ///
     /// A refusal leaves the parser where it stood.
     fn parse_any_rdata(rtype: Rtype, parser: &mut Parser<'a>) -> Result<Self, ParseError>
-        ensures ok { IfOk result (λ it. encodes (rtype_number rtype) (message parser.old) (position parser.old) (model it) (position parser.new)) }
+        ensures ok { IfOk result
+            (λ it. encodes (rtype_number rtype) (message parser.old) (position parser.old)
+            (model it) (position parser.new)) }
         ensures of_type { IfOk result (λ it. Self.type_number it ≡ rtype_number rtype) }
         ensures moves { OnOk result (MovesTo parser.old parser.new (position parser.new)) }
-        ensures err { IfErr result (λ e. fails_with (rtype_number rtype) (message parser.old) (position parser.old) e) }
+        ensures err { IfErr result
+            (λ e. fails_with (rtype_number rtype) (message parser.old) (position parser.old) e) }
         ensures unchanged { OnErr result (parser.new ≡ parser.old) };
 
     /// At each offset there is one value or one error, and never both.

@@ -122,7 +122,8 @@ impl<Src: Octets, Octs: SameOctets<Src>> OctetsFrom<UnknownRecordData<Src>>
 
     type Error = Octs::Error;
 
-    ghost same = { λ source made. (data_octets made ≡ data_octets source) × (data_type made ≡ data_type source) };
+    ghost same = { λ source made.
+        (data_octets made ≡ data_octets source) × (data_type made ≡ data_type source) };
 
     ghost may_refuse = { λ source. Octs.may_refuse (data_holder source) };
 
@@ -305,7 +306,8 @@ impl<Octs: Octets> PartialOrd for UnknownRecordData<Octs> {
 
     ghost partial_cmp = { as_partial_cmp (on data_octets (slice_cmp nat_cmp)) };
 
-    ghost laws = { partial_order_from_own_ties (Prim.search (comparing, rules)) (Prim.search (comparing, rules)) };
+    ghost laws = { partial_order_from_own_ties (Prim.search (comparing, rules))
+        (Prim.search (comparing, rules)) };
 
     fn partial_cmp(&self, other: &UnknownRecordData<Octs>) -> Option<Ordering> {
         Some(self.cmp(other))

@@ -77,7 +77,9 @@ impl Serial {
     ///
     /// `ShortInput` where fewer than four octets are left. The parser is unchanged then.
     pub fn parse(parser: &mut Parser<'_>) -> Result<Serial, ParseError>
-        ensures ok { IfOk result (λ serial. FixedAt 4 (from_be_bytes w32) (message parser.old) (position parser.old) serial.0 (position parser.new)) }
+        ensures ok { IfOk result
+            (λ serial. FixedAt 4 (from_be_bytes w32) (message parser.old) (position parser.old)
+            serial.0 (position parser.new)) }
         ensures moves { OnOk result (MovesTo parser.old parser.new (position parser.new)) }
         ensures err { IfErr result (λ e. ShortAt 4 (message parser.old) (position parser.old) e) }
         ensures unchanged { OnErr result (parser.new ≡ parser.old) }
@@ -92,9 +94,11 @@ impl Serial {
         &self,
         target: &mut Target,
     ) -> Result<(), Target::AppendError>
-        ensures ok { OnOk result (Target.octets target.new ≡ Target.octets target.old ++ to_be_bytes w32 self.now.0) }
+        ensures ok { OnOk result
+            (Target.octets target.new ≡ Target.octets target.old ++ to_be_bytes w32 self.now.0) }
         ensures unchanged { OnErr result (Target.octets target.new ≡ Target.octets target.old) }
-        ensures full { OnErr result (Target.capacity target.old < length (Target.octets target.old) + 4) }
+        ensures full { OnErr result
+            (Target.capacity target.old < length (Target.octets target.old) + 4) }
         ensures capacity { Target.capacity target.old ≤ Target.capacity target.new }
         ensures within { IfSome Target.limit (λ n. length (Target.octets target.new) ≤ n) }
     {
@@ -120,7 +124,8 @@ impl From<Serial> for u32 {
 
 /// The whole seconds since 1970, a fraction cut toward 1970, modulo 2^32 (RFC 4034, 3.1.5).
 impl From<Timestamp> for Serial {
-    ghost from_gives = { λ instant serial. pos serial.0 ≡ int_rem_euclid (int_div instant.nanosecond (pos 1000000000)) (pos 4294967296) };
+    ghost from_gives = { λ instant serial. pos serial.0
+        ≡ int_rem_euclid (int_div instant.nanosecond (pos 1000000000)) (pos 4294967296) };
 
     fn from(instant: Timestamp) -> Serial {
         Serial(instant.as_second().rem_euclid(4_294_967_296) as u32)
@@ -131,7 +136,8 @@ impl From<Timestamp> for Serial {
 impl FromStr for Serial {
     type Err = ParseIntError;
 
-    ghost from_str_gives = { λ text read. ParsesUnsigned 32 10 text (result_map_both (λ serial. serial.0) (λ e. e) read) × ExplainsUnsignedError 10 text read };
+    ghost from_str_gives = { λ text read. ParsesUnsigned 32 10 text
+        (result_map_both (λ serial. serial.0) (λ e. e) read) × ExplainsUnsignedError 10 text read };
 
     fn from_str(text: &str) -> Result<Serial, ParseIntError> {
         Ok(Serial(u32::from_str(text)?))

@@ -66,15 +66,15 @@ fn appended(rt: &impl Abort, target: &mut Target, octets: &[u8]) -> bool {
 }
 
 /// The name is read at the offset, without case. The offset after it is answered.
-fn read_back(rt: &impl Abort, message: &[u8], place: usize, octets: &[u8]) -> usize {
+fn read_back(rt: &impl Abort, message: &[u8], offset: usize, octets: &[u8]) -> usize {
     let mut parser = Parser::from_ref(message);
-    assert!(rt; parser.seek(place).is_ok());
+    assert!(rt; parser.seek(offset).is_ok());
     match ParsedName::parse(&mut parser) {
         Ok(name) => assert!(rt;
             name.name_eq(&absolute(rt, octets)),
-            "another name at {place}"
+            "another name at {offset}"
         ),
-        Err(_) => panic!(rt; "no name at {place}"),
+        Err(_) => panic!(rt; "no name at {offset}"),
     }
     parser.pos()
 }
@@ -85,14 +85,14 @@ fn refused_of_many(rt: &impl Abort, target: &mut Target) -> usize {
     let mut refusals = 0usize;
     for seed in 0..100u32 {
         let name = drawn_name(rt, seed);
-        let place = target.as_slice().len();
+        let offset = target.as_slice().len();
         if !appended(rt, target, name.as_slice()) {
             refusals = refusals.saturating_add(1);
-            assert_eq!(rt; target.as_slice().len(), place);
+            assert_eq!(rt; target.as_slice().len(), offset);
             assert!(rt; appended(rt, target, name.as_slice()));
         }
         assert_eq!(rt;
-            read_back(rt, target.as_slice(), place, name.as_slice()),
+            read_back(rt, target.as_slice(), offset, name.as_slice()),
             target.as_slice().len()
         );
     }

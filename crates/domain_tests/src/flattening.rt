@@ -12,7 +12,8 @@ use std::test::Fail;
 
 /// What has a name in it: the name is made flat, and the number stays.
 impl<N: FlattenInto<Target>, Target> FlattenInto<Numbered<Target>> for Numbered<N> {
-    ghost same = { λ numbered made. (made.number ≡ numbered.number) × N.same numbered.name made.name };
+    ghost same = { λ numbered made.
+        (made.number ≡ numbered.number) × N.same numbered.name made.name };
 
     ghost may_refuse = { λ numbered. N.may_refuse numbered.name };
 

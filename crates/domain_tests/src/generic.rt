@@ -30,12 +30,12 @@ fn append_under_limit<B: OctetsBuilder>(
 }
 
 /// Writes one octet in place.
-fn write_octet<T: OctetsMut>(octets: &mut T, place: usize, octet: u8)
-    requires { place < length (T.octets octets.old) }
-    ensures octets { T.octets octets.new ≡ slice_set (T.octets octets.old) place octet }
+fn write_octet<T: OctetsMut>(octets: &mut T, offset: usize, octet: u8)
+    requires { offset < length (T.octets octets.old) }
+    ensures octets { T.octets octets.new ≡ slice_set (T.octets octets.old) offset octet }
     ensures capacity { T.capacity octets.new ≡ T.capacity octets.old }
 {
-    octets.as_slice_mut()[place] = octet;
+    octets.as_slice_mut()[offset] = octet;
 }
 
 /// The room that a new builder has.
@@ -68,7 +68,9 @@ impl<Src: Octets, Octs: SameOctets<Src>> OctetsFrom<Short<Src>> for Short<Octs> 
 
 /// A builder with a fixed limit takes a label that fits.
 fn compose_under_limit<B: OctetsBuilder>(label: Label, target: &mut B) -> Result<(), B::AppendError>
-    ensures fits { IfSome B.limit (λ n. length (B.octets target.old) + (1 + length (label_octets label.entry)) ≤ n → IsOk result) }
+    ensures fits { IfSome B.limit
+        (λ n.
+        length (B.octets target.old) + (1 + length (label_octets label.entry)) ≤ n → IsOk result) }
 {
     label.compose(target)
 }
@@ -79,14 +81,17 @@ fn all_same<'a, A: AbsoluteLabels<'a>, B: AbsoluteLabels<'a>, C: AbsoluteLabels<
     b: &'a B,
     c: &'a C,
 ) -> bool
-    ensures { IsTrue result ↔ ((lowercase_labels (A.labels a.now) ≡ lowercase_labels (B.labels b.now)) × (lowercase_labels (B.labels b.now) ≡ lowercase_labels (C.labels c.now))) }
+    ensures { IsTrue result
+        ↔ ((lowercase_labels (A.labels a.now) ≡ lowercase_labels (B.labels b.now))
+        × (lowercase_labels (B.labels b.now) ≡ lowercase_labels (C.labels c.now))) }
 {
     a.name_eq(b) && b.name_eq(c)
 }
 
 /// What a name of any kind has for a signature: its canonical octets and its number of labels.
 fn signed<'a, N: AbsoluteLabels<'a>>(name: &'a N, alloc: Global) -> Result<(Vec<u8>, u8), ShortBuf>
-    ensures octets { IfOk result (λ both. both.0.items ≡ wire (lowercase_labels (N.labels name.now))) }
+    ensures octets { IfOk result
+        (λ both. both.0.items ≡ wire (lowercase_labels (N.labels name.now))) }
     ensures count { IfOk result (λ both. both.1 ≡ rrsig_labels (N.labels name.now)) }
 {
     let mut octets = Vec::new(alloc);
@@ -96,7 +101,9 @@ fn signed<'a, N: AbsoluteLabels<'a>>(name: &'a N, alloc: Global) -> Result<(Vec<
 
 /// Leaves out the first label, as `parent` does.
 fn drop_first(name: &mut ParsedName<&[u8]>) -> bool
-    ensures { MatchBool result ((l : List ℕ) × (parsed_labels name.old ≡ l ∷ parsed_labels name.new)) (name.new ≡ name.old) }
+    ensures { MatchBool result
+        ((l : List ℕ) × (parsed_labels name.old ≡ l ∷ parsed_labels name.new))
+        (name.new ≡ name.old) }
 {
     name.split_first().is_some()
 }

@@ -27,12 +27,12 @@ pub fn relative<'a>(rt: &impl Abort, octets: &'a [u8]) -> RelativeName<&'a [u8]>
 }
 
 /// The name at an offset of a message.
-pub fn parsed<'a>(rt: &impl Abort, octets: &'a [u8], place: usize) -> ParsedName<&'a [u8]> {
+pub fn parsed<'a>(rt: &impl Abort, octets: &'a [u8], offset: usize) -> ParsedName<&'a [u8]> {
     let mut parser = Parser::from_ref(octets);
-    assert!(rt; parser.advance(place).is_ok());
+    assert!(rt; parser.advance(offset).is_ok());
     match ParsedName::parse(&mut parser) {
         Ok(name) => name,
-        Err(_) => panic!(rt; "no name at {place}"),
+        Err(_) => panic!(rt; "no name at {offset}"),
     }
 }
 

@@ -10,7 +10,7 @@ use std::sync::ledger::{Blank, Ledger};
 /// The lengths of the first and the last label of the name at an offset, of at most so many pointers.
 fn ends_counted<L: Ledger>(
     octets: &[u8],
-    place: usize,
+    offset: usize,
     limit: u8,
     blank: Blank,
 ) -> Option<(usize, usize)>
@@ -20,7 +20,7 @@ fn ends_counted<L: Ledger>(
 {
     let mut heads = Heads::<L>::new(blank);
     let mut parser = Parser::from_ref(octets);
-    parser.seek(place).ok()?;
+    parser.seek(offset).ok()?;
     let name = ParsedName::parse_counted(&mut parser, limit, &mut heads).ok()?;
     let mut labels = name.iter();
     let first = labels.next_counted(&mut heads)?;
@@ -28,8 +28,8 @@ fn ends_counted<L: Ledger>(
     Some((first.len(), last.len()))
 }
 
-fn ends(octets: &[u8], place: usize, limit: u8) -> Option<(usize, usize)> {
-    ends_counted::<Brand>(octets, place, limit, Blank::new(1))
+fn ends(octets: &[u8], offset: usize, limit: u8) -> Option<(usize, usize)> {
+    ends_counted::<Brand>(octets, offset, limit, Blank::new(1))
 }
 
 #[test]

@@ -61,9 +61,9 @@ open_pushed s head n c i = length-append (take n (drop (head + 1) s)) (c ∷ [])
 -- the open label ended
 front_ended : (s : List ℕ) (head n : ℕ) → head < length s → take (head + 1 + n) (set s head n) ≡ take head s ++ n ∷ take n (drop (head + 1) s)
 front_ended s head n within =
-    let place : head + 1 + n ≡ head + suc n = omega (arith, add-one n) in
+    let offset : head + 1 + n ≡ head + suc n = omega (arith, add-one n) in
     let after : drop head (set s head n) ≡ n ∷ drop (head + 1) s = drop-set s head n within in
-    ap (λ (k : ℕ). take k (set s head n)) place
+    ap (λ (k : ℕ). take k (set s head n)) offset
     ∙ take-add head (suc n) (set s head n)
     ∙ ap (λ (x : List ℕ). x ++ take (suc n) (drop head (set s head n))) (take-set-le head s head n (omega arith))
     ∙ ap (λ (x : List ℕ). take head s ++ take (suc n) x) after

@@ -25,7 +25,7 @@ same_message old new n moved = ap (λ o. take new.end o.now) moved.octets ∙ ap
 pub name_to : (old new : Parser) (ls : List (List ℕ)) → Names 255 (message old) (position old) ls → MovesPastName old new → NameTo (message old) (position old) ls (position new)
 name_to old new ls named moves = record {
   named = named;
-  front = subst (λ e. EncodingEnds (message old) (position old) e) (sym moves.2.place) moves.1;
+  front = subst (λ e. EncodingEnds (message old) (position old) e) (sym moves.2.offset) moves.1;
 }
 
 pub cut_question : (old after : Parser) (ls : List (List ℕ)) (why : ParseError) → Names 255 (message old) (position old) ls → MovesPastName old after → length (message after) < position after + 4 → why ≡ ShortInput → NoQuestionLine (message old) (position old) why
@@ -65,5 +65,5 @@ pub moves_on : (old mid new : Parser) (n k : ℕ) → MovesTo old mid n → Move
 moves_on old mid new n k one two = record {
   octets = two.octets ∙ one.octets;
   end = two.end ∙ one.end;
-  place = two.place;
+  offset = two.offset;
 }

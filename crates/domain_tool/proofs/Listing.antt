@@ -64,7 +64,7 @@ replicate_cut (suc b) (suc n) s few =
 pub stops : (m : List ℕ) (done after : List EntryKind) (s : EntryKind) (n p : ℕ) (old mid new : Option (List ℕ)) (why : ParseError) → counted_entries m ≡ done ++ (replicate n s ++ after)
     → WritesEntries m done 12 p old mid → WritesUpTo m s n p mid new why → 12 ≤ length m → (text : List ℕ) × StopsListing m text why × Appends old new text
 stops m done after s n p old mid new why all before up header =
-    let part : WritesEntries m (done ++ replicate up.before s) 12 up.place old new = writes_join m done (replicate up.before s) 12 p up.place old mid new before up.written in (
+    let part : WritesEntries m (done ++ replicate up.before s) 12 up.offset old new = writes_join m done (replicate up.before s) 12 p up.offset old mid new before up.written in (
       part.0,
       no_entry (record {
         header = header;
@@ -72,7 +72,7 @@ stops m done after s n p old mid new why all before up header =
         kind = s;
         after = replicate (n - up.before - 1) s ++ after;
         all = all ∙ (ap (λ ss. done ++ (ss ++ after)) (replicate_cut up.before n s up.few) ∙ (ap (λ ss. done ++ ss) (append_assoc (replicate up.before s) (s ∷ replicate (n - up.before - 1) s) after) ∙ sym (append_assoc done (replicate up.before s) (s ∷ replicate (n - up.before - 1) s ++ after))));
-        place = up.place;
+        offset = up.offset;
         listed = part.1;
         missing = up.missing;
       }),
@@ -92,7 +92,7 @@ pub writes_up_to : (m seen : List ℕ) (s : EntryKind) (b n p q : ℕ) (old mid 
 writes_up_to m seen s b n p q old mid new (Parse why) written few same missing kept = record {
   before = b;
   few = few;
-  place = q;
+  offset = q;
   written = writes_kept m (replicate b s) p q old mid new written kept;
   missing = subst (λ o. NoEntry o s q why) same missing;
 }

@@ -108,9 +108,9 @@ pub record StopsAtEntry (m : List ℕ) (text : List ℕ) (why : ParseError) : Ty
   pub kind : EntryKind
   pub after : List EntryKind
   pub all : counted_entries m ≡ before ++ kind ∷ after
-  pub place : ℕ
-  pub listed : Lists m before 12 text place
-  pub missing : NoEntry m kind place why
+  pub offset : ℕ
+  pub listed : Lists m before 12 text offset
+  pub missing : NoEntry m kind offset why
 
 -- The header or an entry isn't there.
 pub data StopsListing (m : List ℕ) (text : List ℕ) (why : ParseError) : Type 0 where

@@ -11,7 +11,7 @@ pub record IsNumberWord (digits bits : ℕ) (word : List ℕ) (n : ℕ) : Type 0
 
 -- An offset: at most ten digits, and at most 4,294,967,295.
 abbrev pub IsOffsetWord : List ℕ → ℕ → Type 0
-IsOffsetWord word place = IsNumberWord 10 32 word place
+IsOffsetWord word offset = IsNumberWord 10 32 word offset
 
 -- A number of pointers: at most three digits, and at most 255.
 abbrev pub IsLimitWord : List ℕ → ℕ → Type 0

@@ -15,13 +15,13 @@ use Rattle.domain_tool.specs.declared.tool.ToolError.TheVariants.{Parse, Text, R
 
 -- The words are `at` and an offset, `text` and any word, or `list`.
 abbrev pub AsksPlainly : List (List ℕ) → Asked → Type 0
-AsksPlainly words (At place pointers) = AsksAt words place pointers
+AsksPlainly words (At offset pointers) = AsksAt words offset pointers
 AsksPlainly words (TextOf text) = words ≡ codes "text" ∷ text.now ∷ []
 AsksPlainly words Lines = words ≡ codes "list" ∷ []
 
 -- They are one of these, or limit the pointers of the name at an offset.
 abbrev pub Asks : List (List ℕ) → Asked → Type 0
-Asks words (At place pointers) = AsksAt words place pointers ⊎ AsksWithin words place pointers
+Asks words (At offset pointers) = AsksAt words offset pointers ⊎ AsksWithin words offset pointers
 Asks words (TextOf text) = words ≡ codes "text" ∷ text.now ∷ []
 Asks words Lines = words ≡ codes "list" ∷ []
 
@@ -31,14 +31,14 @@ AsksSomething words = (asked : Asked) × Asks words asked
 
 -- What is asked for was written, and nothing else.
 abbrev pub Writes : Asked → Option (List ℕ) → Option (List ℕ) → Option (List ℕ) → Type 0
-Writes (At place pointers) input old new = IfSome input (λ m. WritesNameWithin pointers m place old new)
+Writes (At offset pointers) input old new = IfSome input (λ m. WritesNameWithin pointers m offset old new)
 Writes (TextOf text) input old new = WritesWireOf (chars text.now) old new
 Writes Lines input old new = IfSome input (λ m. (text : List ℕ) × IsListing m text × Appends old new text)
 
 -- What is asked for isn't there. Nothing was written, but of a message the lines before the entry that is
 -- missing.
 abbrev pub Refuses : Asked → Option (List ℕ) → Option (List ℕ) → Option (List ℕ) → Type 0
-Refuses (At place pointers) input old new = IfSome input (λ m. (e : ParseError) × NoNameWithin pointers m place e) × Keeps old new
+Refuses (At offset pointers) input old new = IfSome input (λ m. (e : ParseError) × NoNameWithin pointers m offset e) × Keeps old new
 Refuses (TextOf text) input old new = ((e : FromStrError) × HasTextFault (chars text.now) e) × Keeps old new
 Refuses Lines input old new = IfSome input (λ m. (text : List ℕ) × (e : ParseError) × StopsListing m text e × Appends old new text)
 
@@ -48,10 +48,10 @@ abbrev pub Fails : Asked → ToolError → Option (List ℕ) → Option (List �
 Fails asked (Parse e) old new = ⊥
 Fails asked (Text e) old new = ⊥
 Fails asked Write old new = ⊤
-Fails (At place pointers) Read old new = Keeps old new
+Fails (At offset pointers) Read old new = Keeps old new
 Fails Lines Read old new = Keeps old new
 Fails (TextOf text) Read old new = ⊥
-Fails (At place pointers) Memory old new = ⊤
+Fails (At offset pointers) Memory old new = ⊤
 Fails Lines Memory old new = ⊤
 Fails (TextOf text) Memory old new = ⊥
 

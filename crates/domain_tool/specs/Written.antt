@@ -17,6 +17,6 @@ WritesEntries m ss p e old new = (text : List ℕ) × Lists m ss p text e × App
 pub record WritesUpTo (m : List ℕ) (s : EntryKind) (n p : ℕ) (old new : Option (List ℕ)) (why : ParseError) : Type 0 where
   pub before : ℕ
   pub few : before < n
-  pub place : ℕ
-  pub written : WritesEntries m (replicate before s) p place old new
-  pub missing : NoEntry m s place why
+  pub offset : ℕ
+  pub written : WritesEntries m (replicate before s) p offset old new
+  pub missing : NoEntry m s offset why

@@ -24,19 +24,21 @@ impl<'a> Asked<'a> {
         ensures none { IsNone result → AsksSomething (map (λ word. word.now) words.now) → ⊥ }
     {
         match limited(words) {
-            Some((place, pointers)) => Some(Asked::At(place, pointers)),
+            Some((offset, pointers)) => Some(Asked::At(offset, pointers)),
             None => Asked::plainly(words),
         }
     }
 
     /// The same of words that limit no pointers.
     fn plainly(words: &[&'a str]) -> Option<Asked<'a>>
-        ensures some { IfSome result (λ asked. AsksPlainly (map (λ word. word.now) words.now) asked) }
-        ensures none { IsNone result → (asked : Asked) → AsksPlainly (map (λ word. word.now) words.now) asked → ⊥ }
+        ensures some { IfSome result
+            (λ asked. AsksPlainly (map (λ word. word.now) words.now) asked) }
+        ensures none { IsNone result → (asked : Asked) →
+            AsksPlainly (map (λ word. word.now) words.now) asked → ⊥ }
     {
         match words {
             ["at", word] => match offset_of_word(word) {
-                Some(place) => Some(Asked::At(place, u8::MAX)),
+                Some(offset) => Some(Asked::At(offset, u8::MAX)),
                 None => None,
             },
             ["text", text] => Some(Asked::Text(text)),
@@ -49,13 +51,15 @@ impl<'a> Asked<'a> {
 /// The offset of the name that words ask for, and how many pointers it may have at most, where they say
 /// both.
 fn limited(words: &[&str]) -> Option<(u32, u8)>
-    ensures some { IfSome result (λ asked. AsksWithin (map (λ word. word.now) words.now) asked.0 asked.1) }
-    ensures none { IsNone result → (place : ℕ) → (pointers : ℕ) → AsksWithin (map (λ word. word.now) words.now) place pointers → ⊥ }
+    ensures some { IfSome result
+        (λ asked. AsksWithin (map (λ word. word.now) words.now) asked.0 asked.1) }
+    ensures none { IsNone result → (offset : ℕ) → (pointers : ℕ) →
+        AsksWithin (map (λ word. word.now) words.now) offset pointers → ⊥ }
 {
     match words {
         ["at", word, "--pointers", limit] => match offset_of_word(word) {
-            Some(place) => match pointers_of(limit) {
-                Some(pointers) => Some((place, pointers)),
+            Some(offset) => match pointers_of(limit) {
+                Some(pointers) => Some((offset, pointers)),
                 None => None,
             },
             None => None,
@@ -66,8 +70,8 @@ fn limited(words: &[&str]) -> Option<(u32, u8)>
 
 /// The offset that a word is: one to ten decimal digits, at most 4,294,967,295.
 pub fn offset_of_word(word: &str) -> Option<u32>
-    ensures some { IfSome result (λ place. IsOffsetWord word.now place) }
-    ensures none { IsNone result → (place : ℕ) → IsOffsetWord word.now place → ⊥ }
+    ensures some { IfSome result (λ offset. IsOffsetWord word.now offset) }
+    ensures none { IsNone result → (offset : ℕ) → IsOffsetWord word.now offset → ⊥ }
 {
     let word_octets = word.as_bytes();
     if word_octets.len() > 10 || begins_with_plus(word_octets) {

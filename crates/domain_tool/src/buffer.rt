@@ -15,7 +15,10 @@ pub(crate) fn put_line<D: Display + Drop, W: Write>(
     output: &mut W,
     text: D,
 ) -> Result<(), WriteFault>
-    ensures { OnOk result (IfSome (D.output text) (λ shown. Appends (append_known (W.contents output.old) lines.old.items) (append_known (W.contents output.new) lines.new.items) (shown ++ 10 ∷ []))) }
+    ensures { OnOk result
+        (IfSome (D.output text)
+        (λ shown. Appends (append_known (W.contents output.old) lines.old.items)
+        (append_known (W.contents output.new) lines.new.items) (shown ++ 10 ∷ []))) }
 {
     if writeln!(lines, "{text}").is_err() {
         return Err(WriteFault::Memory);
@@ -29,7 +32,8 @@ pub(crate) fn put_line<D: Display + Drop, W: Write>(
 /// Writes the lines that aren't written yet, and leaves none of them.
 pub(crate) fn write_lines<W: Write>(lines: &mut Vec<u8>, output: &mut W) -> Result<(), WriteFault>
     ensures none_left { OnOk result (lines.new.items ≡ []) }
-    ensures written { OnOk result (Appends (W.contents output.old) (W.contents output.new) lines.old.items) }
+    ensures written { OnOk result
+        (Appends (W.contents output.old) (W.contents output.new) lines.old.items) }
 {
     output.write_all(lines.as_slice())?;
     lines.clear();

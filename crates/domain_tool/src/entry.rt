@@ -1,6 +1,5 @@
 //! Entries of a message (RFC 1035, 4.1).
-ghost use Rattle.std.specs.Prelude.{◌≡◌, ◌++◌, ◌∷◌, Some, IfOk, IfErr, OnOk};
-ghost use Rattle.std.specs.Fmt.{decimal};
+ghost use Rattle.std.specs.Prelude.{Some, IfOk, IfErr, OnOk};
 ghost use Rattle.octseq.specs.Parsing.{message, position, MovesTo};
 
 use crate::entry_kind::EntryKind;
@@ -25,9 +24,12 @@ impl<'a> Question<'a> {
 
     /// Reads a question, and moves the parser past it.
     pub(crate) fn parse(parser: &mut Parser<'a>) -> Result<Question<'a>, ParseError>
-        ensures ok { IfOk result (λ it. IsQuestion (message parser.old) (position parser.old) (question_line it) (position parser.new)) }
+        ensures ok { IfOk result
+            (λ it. IsQuestion (message parser.old) (position parser.old) (question_line it)
+            (position parser.new)) }
         ensures moves { OnOk result (MovesTo parser.old parser.new (position parser.new)) }
-        ensures err { IfErr result (λ e. NoQuestionLine (message parser.old) (position parser.old) e) }
+        ensures err { IfErr result
+            (λ e. NoQuestionLine (message parser.old) (position parser.old) e) }
     {
         let name = match ParsedName::parse(parser) {
             Ok(name) => name,
@@ -79,9 +81,12 @@ impl<'a> RecordHeader<'a> {
 
     /// Reads what comes before the data, and moves the parser to the data.
     fn parse(parser: &mut Parser<'a>) -> Result<RecordHeader<'a>, ParseError>
-        ensures ok { IfOk result (λ it. IsRecordHeader (message parser.old) (position parser.old) it (position parser.new)) }
+        ensures ok { IfOk result
+            (λ it.
+            IsRecordHeader (message parser.old) (position parser.old) it (position parser.new)) }
         ensures moves { OnOk result (MovesTo parser.old parser.new (position parser.new)) }
-        ensures err { IfErr result (λ e. NoRecordLine (message parser.old) (position parser.old) e) }
+        ensures err { IfErr result
+            (λ e. NoRecordLine (message parser.old) (position parser.old) e) }
     {
         let name = match ParsedName::parse(parser) {
             Ok(name) => name,
@@ -126,9 +131,12 @@ impl<'a> Record<'a> {
 
     /// Reads a record, and moves the parser past it.
     pub(crate) fn parse(parser: &mut Parser<'a>) -> Result<Record<'a>, ParseError>
-        ensures ok { IfOk result (λ it. IsRecord (message parser.old) (position parser.old) (record_line it) (position parser.new)) }
+        ensures ok { IfOk result
+            (λ it. IsRecord (message parser.old) (position parser.old) (record_line it)
+            (position parser.new)) }
         ensures moves { OnOk result (MovesTo parser.old parser.new (position parser.new)) }
-        ensures err { IfErr result (λ e. NoRecordLine (message parser.old) (position parser.old) e) }
+        ensures err { IfErr result
+            (λ e. NoRecordLine (message parser.old) (position parser.old) e) }
     {
         let head = match RecordHeader::parse(parser) {
             Ok(head) => head,
@@ -173,9 +181,12 @@ impl<'a> Entry<'a> {
 
     /// Reads an entry of this kind, and moves the parser past it.
     pub(crate) fn parse(kind: EntryKind, parser: &mut Parser<'a>) -> Result<Entry<'a>, ParseError>
-        ensures ok { IfOk result (λ it. IsLineOf (message parser.old) kind (position parser.old) (entry_line it) (position parser.new)) }
+        ensures ok { IfOk result
+            (λ it. IsLineOf (message parser.old) kind (position parser.old) (entry_line it)
+            (position parser.new)) }
         ensures moves { OnOk result (MovesTo parser.old parser.new (position parser.new)) }
-        ensures err { IfErr result (λ e. NoEntry (message parser.old) kind (position parser.old) e) }
+        ensures err { IfErr result
+            (λ e. NoEntry (message parser.old) kind (position parser.old) e) }
     {
         match kind {
             EntryKind::Question => match Question::parse(parser) {

@@ -11,7 +11,8 @@ const LINE_LEN: usize = 1024;
 
 /// A text and a newline, where they fit into a line.
 pub(crate) fn line_of<D: Display>(text: &D) -> Option<ArrayVec<u8, LINE_LEN>>
-    ensures { IfSome result (λ line. IfSome (D.output text.now) (λ shown. line.items ≡ shown ++ 10 ∷ [])) }
+    ensures { IfSome result
+        (λ line. IfSome (D.output text.now) (λ shown. line.items ≡ shown ++ 10 ∷ [])) }
 {
     let mut line = ArrayVec::new();
     match writeln!(line, "{text}") {

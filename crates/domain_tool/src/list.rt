@@ -1,9 +1,9 @@
 //! The engine that lists what a message holds.
-ghost use Rattle.std.specs.Prelude.{◌≡◌, ◌<◌, ◌≤◌, ℕ, List, length, replicate, OnOk, OnErr, IfOk, IfErr, IfSome};
+ghost use Rattle.std.specs.Prelude.{◌≡◌, ◌<◌, ℕ, List, length, replicate, OnOk, OnErr, IfOk, IfErr, IfSome};
 ghost use Rattle.std.specs.Io.KnownBytes.{Appends, Keeps, IsAtEnd, append_known};
 ghost use Rattle.octseq.specs.Parsing.{message, position, MovesTo};
 ghost use Rattle.domain_tool.specs.Counted.{IsCounted};
-ghost use Rattle.domain_tool.specs.Engines.{IfRefused, OnAnswer, OnNoWork};
+ghost use Rattle.domain_tool.specs.Engines.{IfRefused, OnAnswer};
 ghost use Rattle.domain_tool.specs.Lines.{IsListing, NoEntry, StopsListing};
 ghost use Rattle.domain_tool.specs.Written.{WritesEntry, WritesEntries, WritesUpTo};
 
@@ -25,10 +25,16 @@ fn write_entry<W: Write>(
     lines: &mut Vec<u8>,
     output: &mut W,
 ) -> Result<(), ToolError>
-    ensures written { OnOk result (WritesEntry (message parser.old) kind (position parser.old) (position parser.new) (append_known (W.contents output.old) lines.old.items) (append_known (W.contents output.new) lines.new.items)) }
+    ensures written { OnOk result
+        (WritesEntry (message parser.old) kind (position parser.old) (position parser.new)
+        (append_known (W.contents output.old) lines.old.items)
+        (append_known (W.contents output.new) lines.new.items)) }
     ensures moves { OnOk result (MovesTo parser.old parser.new (position parser.new)) }
-    ensures refused { IfRefused result (λ e. NoEntry (message parser.old) kind (position parser.old) e) }
-    ensures nothing_written { IfRefused result (λ _. Keeps (append_known (W.contents output.old) lines.old.items) (append_known (W.contents output.new) lines.new.items)) }
+    ensures refused { IfRefused result
+        (λ e. NoEntry (message parser.old) kind (position parser.old) e) }
+    ensures nothing_written { IfRefused result
+        (λ _. Keeps (append_known (W.contents output.old) lines.old.items)
+        (append_known (W.contents output.new) lines.new.items)) }
     ensures err { IfErr result (λ e. (e ≡ ToolError.Read) → ⊥) }
 {
     let entry = match Entry::parse(kind, parser) {
@@ -47,9 +53,15 @@ fn write_entries<W: Write>(
     lines: &mut Vec<u8>,
     output: &mut W,
 ) -> Result<(), ToolError>
-    ensures written { OnOk result (WritesEntries (message parser.old) (replicate count kind) (position parser.old) (position parser.new) (append_known (W.contents output.old) lines.old.items) (append_known (W.contents output.new) lines.new.items)) }
+    ensures written { OnOk result
+        (WritesEntries (message parser.old) (replicate count kind) (position parser.old)
+        (position parser.new) (append_known (W.contents output.old) lines.old.items)
+        (append_known (W.contents output.new) lines.new.items)) }
     ensures moves { OnOk result (MovesTo parser.old parser.new (position parser.new)) }
-    ensures refused { IfRefused result (λ e. WritesUpTo (message parser.old) kind count (position parser.old) (append_known (W.contents output.old) lines.old.items) (append_known (W.contents output.new) lines.new.items) e) }
+    ensures refused { IfRefused result
+        (λ e. WritesUpTo (message parser.old) kind count (position parser.old)
+        (append_known (W.contents output.old) lines.old.items)
+        (append_known (W.contents output.new) lines.new.items) e) }
     ensures err { IfErr result (λ e. (e ≡ ToolError.Read) → ⊥) }
 {
     for _entry in 0..count {
@@ -78,8 +90,14 @@ fn list_message<W: Write>(
     lines: &mut Vec<u8>,
     output: &mut W,
 ) -> Result<(), ToolError>
-    ensures written { OnOk result ((text : List ℕ) × IsListing message.now text × Appends (append_known (W.contents output.old) lines.old.items) (append_known (W.contents output.new) lines.new.items) text) }
-    ensures refused { IfRefused result (λ e. (text : List ℕ) × StopsListing message.now text e × Appends (append_known (W.contents output.old) lines.old.items) (append_known (W.contents output.new) lines.new.items) text) }
+    ensures written { OnOk result
+        ((text : List ℕ) × IsListing message.now text
+        × Appends (append_known (W.contents output.old) lines.old.items)
+        (append_known (W.contents output.new) lines.new.items) text) }
+    ensures refused { IfRefused result
+        (λ e. (text : List ℕ) × StopsListing message.now text e
+        × Appends (append_known (W.contents output.old) lines.old.items)
+        (append_known (W.contents output.new) lines.new.items) text) }
     ensures err { IfErr result (λ e. (e ≡ ToolError.Read) → ⊥) }
 {
     let mut parser = Parser::from_ref(message);
@@ -123,9 +141,16 @@ pub fn list<R: Read, W: Write>(
     output: &mut W,
 ) -> Result<(), ToolError>
     ensures whole { OnAnswer result (IsAtEnd (R.remaining input.new)) }
-    ensures written { OnOk result (IfSome (R.remaining input.old) (λ m. (text : List ℕ) × IsListing m text × Appends (W.contents output.old) (W.contents output.new) text)) }
-    ensures refused { IfRefused result (λ e. IfSome (R.remaining input.old) (λ m. (text : List ℕ) × StopsListing m text e × Appends (W.contents output.old) (W.contents output.new) text)) }
-    ensures nothing_written { IfErr result (λ e. (e ≡ ToolError.Read) → Keeps (W.contents output.old) (W.contents output.new)) }
+    ensures written { OnOk result
+        (IfSome (R.remaining input.old)
+        (λ m. (text : List ℕ) × IsListing m text
+        × Appends (W.contents output.old) (W.contents output.new) text)) }
+    ensures refused { IfRefused result
+        (λ e. IfSome (R.remaining input.old)
+        (λ m. (text : List ℕ) × StopsListing m text e
+        × Appends (W.contents output.old) (W.contents output.new) text)) }
+    ensures nothing_written { IfErr result
+        (λ e. (e ≡ ToolError.Read) → Keeps (W.contents output.old) (W.contents output.new)) }
 {
     let octets = read_all(alloc, input)?;
     let mut lines = Vec::new(alloc);

@@ -21,7 +21,8 @@ use std::io::Write;
 fn name_from_text(alloc: Global, text: &str) -> Result<Name<ArrayVec<u8, 255>>, FromStrError>
     ensures ok { IfOk result (λ name. IsTextOfName (chars text.now) (name_labels name)) }
     ensures err { IfErr result (HasTextFault (chars text.now)) }
-    ensures exact { (f : TextFault) → IsTextOfNoName (chars text.now) f → MatchResult result (λ _. ⊥) (IsErrorOfText f) }
+    ensures exact { (f : TextFault) → IsTextOfNoName (chars text.now) f →
+        MatchResult result (λ _. ⊥) (IsErrorOfText f) }
 {
     Name::from_chars(alloc, text.chars())
 }
@@ -33,10 +34,13 @@ fn name_from_text(alloc: Global, text: &str) -> Result<Name<ArrayVec<u8, 255>>, 
 /// first error; nothing is written then. Else the only error is `Write`, where the output couldn't be
 /// written: no memory is needed.
 pub fn name_text<W: Write>(alloc: Global, text: &str, output: &mut W) -> Result<(), ToolError>
-    ensures written { OnOk result (WritesWireOf (chars text.now) (W.contents output.old) (W.contents output.new)) }
+    ensures written { OnOk result
+        (WritesWireOf (chars text.now) (W.contents output.old) (W.contents output.new)) }
     ensures err { IfTextRefused result (HasTextFault (chars text.now)) }
-    ensures exact { (f : TextFault) → IsTextOfNoName (chars text.now) f → RefusesText result (IsErrorOfText f) }
-    ensures nothing_written { IfTextRefused result (λ _. Keeps (W.contents output.old) (W.contents output.new)) }
+    ensures exact { (f : TextFault) → IsTextOfNoName (chars text.now) f →
+        RefusesText result (IsErrorOfText f) }
+    ensures nothing_written { IfTextRefused result
+        (λ _. Keeps (W.contents output.old) (W.contents output.new)) }
 {
     let name = match name_from_text(alloc, text) {
         Ok(name) => name,

@@ -58,7 +58,8 @@ impl Error for ToolError {}
 
 /// Reads the input to its end.
 pub fn read_all<R: Read>(alloc: Global, input: &mut R) -> Result<Vec<u8>, ToolError>
-    ensures octets { IfOk result (λ octets. IfSome (R.remaining input.old) (λ m. octets.items ≡ m)) }
+    ensures octets { IfOk result
+        (λ octets. IfSome (R.remaining input.old) (λ m. octets.items ≡ m)) }
     ensures whole { OnOk result (IsAtEnd (R.remaining input.new)) }
     ensures err { IfErr result (λ e. (e ≡ ToolError.Read) ⊎ (e ≡ ToolError.Memory)) }
 {
@@ -72,12 +73,12 @@ pub fn read_all<R: Read>(alloc: Global, input: &mut R) -> Result<Vec<u8>, ToolEr
 
 /// The name at an offset of a message, of at most this many pointers. An offset past the end is
 /// `ShortInput`.
-pub fn parse_at(message: &[u8], place: u32, limit: u8) -> Result<ParsedName<&[u8]>, ParseError>
-    ensures ok { IfOk result (λ name. Names limit message.now place (parsed_labels name)) }
-    ensures err { IfErr result (λ e. NoNameWithin limit message.now place e) }
+pub fn parse_at(message: &[u8], offset: u32, limit: u8) -> Result<ParsedName<&[u8]>, ParseError>
+    ensures ok { IfOk result (λ name. Names limit message.now offset (parsed_labels name)) }
+    ensures err { IfErr result (λ e. NoNameWithin limit message.now offset e) }
 {
     let mut parser = Parser::from_ref(message);
-    if parser.seek(place as usize).is_err() {
+    if parser.seek(offset as usize).is_err() {
         return Err(ParseError::ShortInput);
     }
     ParsedName::parse_with_limit(&mut parser, limit)
@@ -118,7 +119,9 @@ pub fn write_line<D: fmt::Display + Drop, W: Write>(
     output: &mut W,
     text: D,
 ) -> Result<(), WriteFault>
-    ensures { OnOk result (IfSome (D.output text) (λ shown. Appends (W.contents output.old) (W.contents output.new) (shown ++ 10 ∷ []))) }
+    ensures { OnOk result
+        (IfSome (D.output text)
+        (λ shown. Appends (W.contents output.old) (W.contents output.new) (shown ++ 10 ∷ []))) }
 {
     match line_of(&text) {
         Some(line) => output.write_all(line.as_slice())?,
@@ -136,14 +139,18 @@ pub fn name_at<R: Read, W: Write>(
     alloc: Global,
     input: &mut R,
     output: &mut W,
-    place: u32,
+    offset: u32,
 ) -> Result<(), ToolError>
     ensures whole { OnAnswer result (IsAtEnd (R.remaining input.new)) }
-    ensures written { OnOk result (IfSome (R.remaining input.old) (λ m. WritesNameAt m place (W.contents output.old) (W.contents output.new))) }
-    ensures err { IfRefused result (λ e. IfSome (R.remaining input.old) (λ m. NoNameAt m place e)) }
-    ensures nothing_written { OnNoWork result (Keeps (W.contents output.old) (W.contents output.new)) }
+    ensures written { OnOk result
+        (IfSome (R.remaining input.old)
+        (λ m. WritesNameAt m offset (W.contents output.old) (W.contents output.new))) }
+    ensures err { IfRefused result
+        (λ e. IfSome (R.remaining input.old) (λ m. NoNameAt m offset e)) }
+    ensures nothing_written { OnNoWork result
+        (Keeps (W.contents output.old) (W.contents output.new)) }
 {
-    name_at_with_limit(alloc, input, output, place, u8::MAX)
+    name_at_with_limit(alloc, input, output, offset, u8::MAX)
 }
 
 /// The same as `name_at`, with at most `limit` pointers followed: one more is "too many compression
@@ -152,16 +159,20 @@ pub fn name_at_with_limit<R: Read, W: Write>(
     alloc: Global,
     input: &mut R,
     output: &mut W,
-    place: u32,
+    offset: u32,
     limit: u8,
 ) -> Result<(), ToolError>
     ensures whole { OnAnswer result (IsAtEnd (R.remaining input.new)) }
-    ensures written { OnOk result (IfSome (R.remaining input.old) (λ m. WritesNameWithin limit m place (W.contents output.old) (W.contents output.new))) }
-    ensures err { IfRefused result (λ e. IfSome (R.remaining input.old) (λ m. NoNameWithin limit m place e)) }
-    ensures nothing_written { OnNoWork result (Keeps (W.contents output.old) (W.contents output.new)) }
+    ensures written { OnOk result
+        (IfSome (R.remaining input.old)
+        (λ m. WritesNameWithin limit m offset (W.contents output.old) (W.contents output.new))) }
+    ensures err { IfRefused result
+        (λ e. IfSome (R.remaining input.old) (λ m. NoNameWithin limit m offset e)) }
+    ensures nothing_written { OnNoWork result
+        (Keeps (W.contents output.old) (W.contents output.new)) }
 {
     let octets = read_all(alloc, input)?;
-    let name = match parse_at(octets.as_slice(), place, limit) {
+    let name = match parse_at(octets.as_slice(), offset, limit) {
         Ok(name) => name,
         Err(e) => return Err(ToolError::Parse(e)),
     };
@@ -178,12 +189,18 @@ fn carry_out<R: Read, W: Write>(
     input: &mut R,
     output: &mut W,
 ) -> Result<(), ToolError>
-    ensures done { OnOk result (Writes asked.entry (R.remaining input.old) (W.contents output.old) (W.contents output.new)) }
-    ensures err { IfErr result (λ e. OnRefusal e (Refuses asked.entry (R.remaining input.old) (W.contents output.old) (W.contents output.new))) }
-    ensures failed { IfErr result (λ e. OnFailure e (Fails asked.entry e (W.contents output.old) (W.contents output.new))) }
+    ensures done { OnOk result
+        (Writes asked.entry (R.remaining input.old) (W.contents output.old)
+        (W.contents output.new)) }
+    ensures err { IfErr result
+        (λ e. OnRefusal e
+        (Refuses asked.entry (R.remaining input.old) (W.contents output.old)
+        (W.contents output.new))) }
+    ensures failed { IfErr result
+        (λ e. OnFailure e (Fails asked.entry e (W.contents output.old) (W.contents output.new))) }
 {
     let answer = match asked {
-        Asked::At(place, limit) => name_at_with_limit(alloc, input, output, place, limit),
+        Asked::At(offset, limit) => name_at_with_limit(alloc, input, output, offset, limit),
         Asked::Text(text) => name_text(alloc, text, output),
         Asked::List => list(alloc, input, output),
     };
@@ -208,9 +225,15 @@ pub fn run<R: Read, W: Write, E: Write>(
     errors: &mut E,
 ) -> u8
     ensures status { result ≤ 3 }
-    ensures done { result ≡ 0 → (asked : Asked) × Asks (map (λ word. word.now) words.now) asked × Writes asked (R.remaining input.old) (W.contents output.old) (W.contents output.new) }
-    ensures err { result ≡ 1 → (asked : Asked) × Asks (map (λ word. word.now) words.now) asked × Refuses asked (R.remaining input.old) (W.contents output.old) (W.contents output.new) }
-    ensures failed { result ≡ 3 → (asked : Asked) × Asks (map (λ word. word.now) words.now) asked × (e : ToolError) × Fails asked e (W.contents output.old) (W.contents output.new) }
+    ensures done { result ≡ 0 →
+        (asked : Asked) × Asks (map (λ word. word.now) words.now) asked
+        × Writes asked (R.remaining input.old) (W.contents output.old) (W.contents output.new) }
+    ensures err { result ≡ 1 →
+        (asked : Asked) × Asks (map (λ word. word.now) words.now) asked
+        × Refuses asked (R.remaining input.old) (W.contents output.old) (W.contents output.new) }
+    ensures failed { result ≡ 3 →
+        (asked : Asked) × Asks (map (λ word. word.now) words.now) asked × (e : ToolError)
+        × Fails asked e (W.contents output.old) (W.contents output.new) }
     ensures usage { result ≡ 2 ↔ (AsksSomething (map (λ word. word.now) words.now) → ⊥) }
     ensures untouched { result ≡ 2 → (input.new ≡ input.old) × (output.new ≡ output.old) }
     ensures quiet { result ≡ 0 → errors.new ≡ errors.old }

@@ -39,7 +39,8 @@ pub(crate) fn lend_or_build<'a, N: ToLabelIter<'a>>(
 #[inline(always)]
 pub(crate) fn name_of<Octs: Octets + Drop>(octets: Octs) -> Name<Octs>
     requires { (ls : List (List ℕ)) × IsAbsoluteName ls × (Octs.octets octets ≡ wire ls) }
-    ensures list { (ls : List (List ℕ)) → IsAbsoluteName ls → Octs.octets octets ≡ wire ls → name_labels result ≡ ls }
+    ensures list { (ls : List (List ℕ)) → IsAbsoluteName ls → Octs.octets octets ≡ wire ls →
+        name_labels result ≡ ls }
     ensures holder { name_holder result ≡ octets }
 {
     Name::from_wire(octets)
@@ -49,7 +50,8 @@ pub(crate) fn name_of<Octs: Octets + Drop>(octets: Octs) -> Name<Octs>
 #[inline(always)]
 pub(crate) fn relative_name_of<Octs: Octets + Drop>(octets: Octs) -> RelativeName<Octs>
     requires { (ls : List (List ℕ)) × IsRelativeName ls × (Octs.octets octets ≡ wire ls) }
-    ensures list { (ls : List (List ℕ)) → IsRelativeName ls → Octs.octets octets ≡ wire ls → relative_labels result ≡ ls }
+    ensures list { (ls : List (List ℕ)) → IsRelativeName ls → Octs.octets octets ≡ wire ls →
+        relative_labels result ≡ ls }
     ensures holder { relative_holder result ≡ octets }
 {
     RelativeName::from_wire(octets)

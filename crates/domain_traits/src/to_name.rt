@@ -38,7 +38,8 @@ pub trait ToName<'a>: AbsoluteLabels<'a> {
     where
         Octs::Builder: EmptyBuilder + Drop,
         ensures ok { IfOk result (λ name. name_labels name ≡ Self.labels self.now) }
-        ensures err { OnErr result (MayExceedCapacity Octs.Builder.ROOM (length (wire (Self.labels self.now)))) }
+        ensures err { OnErr result
+            (MayExceedCapacity Octs.Builder.ROOM (length (wire (Self.labels self.now)))) }
     {
         self.to_name(alloc)
     }
@@ -64,7 +65,8 @@ pub trait ToName<'a>: AbsoluteLabels<'a> {
     where
         Octs::Builder: EmptyBuilder + Drop,
         ensures ok { IfOk result (λ name. name_labels name ≡ Self.labels self.now) }
-        ensures err { OnErr result (MayExceedCapacity Octs.Builder.ROOM (length (wire (Self.labels self.now)))) }
+        ensures err { OnErr result
+            (MayExceedCapacity Octs.Builder.ROOM (length (wire (Self.labels self.now)))) }
     {
         // The body is here and not in the call above: a result that is passed on is copied once more.
         let mut target = Octs::Builder::with_capacity(alloc, self.compose_len() as usize)?;
@@ -84,8 +86,10 @@ pub trait ToName<'a>: AbsoluteLabels<'a> {
     ) -> Result<Name<Octs>, ShortBuf>
     where
         Octs::Builder: EmptyBuilder + Drop,
-        ensures ok { IfOk result (λ name. name_labels name ≡ lowercase_labels (Self.labels self.now)) }
-        ensures err { OnErr result (MayExceedCapacity Octs.Builder.ROOM (length (wire (Self.labels self.now)))) }
+        ensures ok { IfOk result
+            (λ name. name_labels name ≡ lowercase_labels (Self.labels self.now)) }
+        ensures err { OnErr result
+            (MayExceedCapacity Octs.Builder.ROOM (length (wire (Self.labels self.now)))) }
     {
         self.to_canonical_name(alloc)
     }
@@ -97,8 +101,10 @@ pub trait ToName<'a>: AbsoluteLabels<'a> {
     ) -> Result<Name<Octs>, ShortBuf>
     where
         Octs::Builder: EmptyBuilder + Drop,
-        ensures ok { IfOk result (λ name. name_labels name ≡ lowercase_labels (Self.labels self.now)) }
-        ensures err { OnErr result (MayExceedCapacity Octs.Builder.ROOM (length (wire (Self.labels self.now)))) }
+        ensures ok { IfOk result
+            (λ name. name_labels name ≡ lowercase_labels (Self.labels self.now)) }
+        ensures err { OnErr result
+            (MayExceedCapacity Octs.Builder.ROOM (length (wire (Self.labels self.now)))) }
     {
         // The body is here and not in the call above: a result that is passed on is copied once more.
         let mut target = Octs::Builder::with_capacity(alloc, self.compose_len() as usize)?;
@@ -121,7 +127,8 @@ pub trait ToName<'a>: AbsoluteLabels<'a> {
     /// `ShortBuf` only where octets are new and an allocation failed.
     final fn to_cow(&'a self, alloc: Global) -> Result<Name<CowSlice<'a, u8>>, ShortBuf>
         ensures ok { IfOk result (λ name. name_labels name ≡ Self.labels self.now) }
-        ensures flat { Self.lies_flat self.now → IsOkAnd result (λ name. IsBorrowedSlice (name_holder name)) }
+        ensures flat { Self.lies_flat self.now →
+            IsOkAnd result (λ name. IsBorrowedSlice (name_holder name)) }
     {
         Ok(name_of(lend_or_build(self, alloc)?))
     }
@@ -138,7 +145,8 @@ pub trait ToName<'a>: AbsoluteLabels<'a> {
     ///     name: &'a N,
     ///     alloc: Global,
     /// ) -> Result<Vec<u8>, ShortBuf>
-    ///     ensures { IfOk result (λ octets. octets.items ≡ wire (N.labels name.now) ++ 0 ∷ 1 ∷ 0 ∷ 1 ∷ []) }
+    ///     ensures { IfOk result
+    ///         (λ octets. octets.items ≡ wire (N.labels name.now) ++ 0 ∷ 1 ∷ 0 ∷ 1 ∷ []) }
     /// {
     ///     let mut octets = Vec::new(alloc);
     ///     name.compose(&mut octets)?;
@@ -150,9 +158,12 @@ pub trait ToName<'a>: AbsoluteLabels<'a> {
         &'a self,
         target: &mut Target,
     ) -> Result<(), Target::AppendError>
-        ensures ok { OnOk result (Target.octets target.new ≡ Target.octets target.old ++ wire (Self.labels self.now)) }
+        ensures ok { OnOk result
+            (Target.octets target.new ≡ Target.octets target.old ++ wire (Self.labels self.now)) }
         ensures unchanged { OnErr result (Target.octets target.new ≡ Target.octets target.old) }
-        ensures full { OnErr result (Target.capacity target.old < length (Target.octets target.old) + length (wire (Self.labels self.now))) }
+        ensures full { OnErr result
+            (Target.capacity target.old
+            < length (Target.octets target.old) + length (wire (Self.labels self.now))) }
         ensures capacity { Target.capacity target.old ≤ Target.capacity target.new }
         ensures within { IfSome Target.limit (λ n. length (Target.octets target.new) ≤ n) }
         ensures fixed { IfSome Target.limit (λ n. Target.capacity target.old ≡ n) }
@@ -167,9 +178,14 @@ pub trait ToName<'a>: AbsoluteLabels<'a> {
         &'a self,
         target: &mut Target,
     ) -> Result<(), Target::AppendError>
-        ensures ok { OnOk result (Target.octets target.new ≡ Target.octets target.old ++ wire (lowercase_labels (Self.labels self.now))) }
+        ensures ok { OnOk result
+            (Target.octets target.new
+            ≡ Target.octets target.old ++ wire (lowercase_labels (Self.labels self.now))) }
         ensures unchanged { OnErr result (Target.octets target.new ≡ Target.octets target.old) }
-        ensures full { OnErr result (Target.capacity target.old < length (Target.octets target.old) + length (wire (lowercase_labels (Self.labels self.now)))) }
+        ensures full { OnErr result
+            (Target.capacity target.old
+            < length (Target.octets target.old)
+            + length (wire (lowercase_labels (Self.labels self.now)))) }
         ensures capacity { Target.capacity target.old ≤ Target.capacity target.new }
         ensures within { IfSome Target.limit (λ n. length (Target.octets target.new) ≤ n) }
         ensures fixed { IfSome Target.limit (λ n. Target.capacity target.old ≡ n) }
@@ -183,13 +199,15 @@ pub trait ToName<'a>: AbsoluteLabels<'a> {
     ///
     /// ```rust
     /// pub fn is_owner(name: &ParsedName<&[u8]>, owner: &Name<Vec<u8>>) -> bool
-    ///     ensures { IsTrue result ↔ (lowercase_labels (parsed_labels name.now) ≡ lowercase_labels (name_labels owner.now)) }
+    ///     ensures { IsTrue result
+    ///         ↔ (lowercase_labels (parsed_labels name.now) ≡ lowercase_labels (name_labels owner.now)) }
     /// {
     ///     name.name_eq(owner)
     /// }
     /// ```
     final fn name_eq<N: AbsoluteLabels<'a>>(&'a self, other: &'a N) -> bool
-        ensures { IsTrue result ↔ (lowercase_labels (Self.labels self.now) ≡ lowercase_labels (N.labels other.now)) }
+        ensures { IsTrue result
+            ↔ (lowercase_labels (Self.labels self.now) ≡ lowercase_labels (N.labels other.now)) }
     {
         eq_names(self, other)
     }
@@ -240,7 +258,8 @@ pub trait ToName<'a>: AbsoluteLabels<'a> {
     ///
     /// ```rust
     /// pub fn shown(name: &ParsedName<&[u8]>, alloc: Global) -> Result<String, AllocError>
-    ///     ensures { IfOk result (λ text. string_bytes text ≡ text_with_final_dot (parsed_labels name.now)) }
+    ///     ensures { IfOk result
+    ///         (λ text. string_bytes text ≡ text_with_final_dot (parsed_labels name.now)) }
     /// {
     ///     let dotted = name.fmt_with_dot();
     ///     format!(in alloc; "{dotted}")

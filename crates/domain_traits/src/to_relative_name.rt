@@ -35,7 +35,8 @@ pub trait ToRelativeName<'a>: RelativeLabels<'a> {
     where
         Octs::Builder: EmptyBuilder + Drop,
         ensures ok { IfOk result (λ name. relative_labels name ≡ Self.labels self.now) }
-        ensures err { OnErr result (MayExceedCapacity Octs.Builder.ROOM (length (wire (Self.labels self.now)))) }
+        ensures err { OnErr result
+            (MayExceedCapacity Octs.Builder.ROOM (length (wire (Self.labels self.now)))) }
     {
         self.to_relative_name(alloc)
     }
@@ -48,7 +49,8 @@ pub trait ToRelativeName<'a>: RelativeLabels<'a> {
     where
         Octs::Builder: EmptyBuilder + Drop,
         ensures ok { IfOk result (λ name. relative_labels name ≡ Self.labels self.now) }
-        ensures err { OnErr result (MayExceedCapacity Octs.Builder.ROOM (length (wire (Self.labels self.now)))) }
+        ensures err { OnErr result
+            (MayExceedCapacity Octs.Builder.ROOM (length (wire (Self.labels self.now)))) }
     {
         // The body is here and not in the call above: a result that is passed on is copied once more.
         let mut target = Octs::Builder::with_capacity(alloc, self.compose_len() as usize)?;
@@ -67,8 +69,10 @@ pub trait ToRelativeName<'a>: RelativeLabels<'a> {
     ) -> Result<RelativeName<Octs>, ShortBuf>
     where
         Octs::Builder: EmptyBuilder + Drop,
-        ensures ok { IfOk result (λ name. relative_labels name ≡ lowercase_labels (Self.labels self.now)) }
-        ensures err { OnErr result (MayExceedCapacity Octs.Builder.ROOM (length (wire (Self.labels self.now)))) }
+        ensures ok { IfOk result
+            (λ name. relative_labels name ≡ lowercase_labels (Self.labels self.now)) }
+        ensures err { OnErr result
+            (MayExceedCapacity Octs.Builder.ROOM (length (wire (Self.labels self.now)))) }
     {
         self.to_canonical_relative_name(alloc)
     }
@@ -80,8 +84,10 @@ pub trait ToRelativeName<'a>: RelativeLabels<'a> {
     ) -> Result<RelativeName<Octs>, ShortBuf>
     where
         Octs::Builder: EmptyBuilder + Drop,
-        ensures ok { IfOk result (λ name. relative_labels name ≡ lowercase_labels (Self.labels self.now)) }
-        ensures err { OnErr result (MayExceedCapacity Octs.Builder.ROOM (length (wire (Self.labels self.now)))) }
+        ensures ok { IfOk result
+            (λ name. relative_labels name ≡ lowercase_labels (Self.labels self.now)) }
+        ensures err { OnErr result
+            (MayExceedCapacity Octs.Builder.ROOM (length (wire (Self.labels self.now)))) }
     {
         // The body is here and not in the call above: a result that is passed on is copied once more.
         let mut target = Octs::Builder::with_capacity(alloc, self.compose_len() as usize)?;
@@ -106,7 +112,8 @@ pub trait ToRelativeName<'a>: RelativeLabels<'a> {
     /// `ShortBuf` only where octets are new and an allocation failed; the name without labels has none.
     final fn to_cow(&'a self, alloc: Global) -> Result<RelativeName<CowSlice<'a, u8>>, ShortBuf>
         ensures ok { IfOk result (λ name. relative_labels name ≡ Self.labels self.now) }
-        ensures flat { Self.lies_flat self.now → IsOkAnd result (λ name. IsBorrowedSlice (relative_holder name)) }
+        ensures flat { Self.lies_flat self.now →
+            IsOkAnd result (λ name. IsBorrowedSlice (relative_holder name)) }
         ensures err { OnErr result (0 < length (wire (Self.labels self.now))) }
     {
         Ok(relative_name_of(lend_or_build(self, alloc)?))
@@ -120,9 +127,12 @@ pub trait ToRelativeName<'a>: RelativeLabels<'a> {
         &'a self,
         target: &mut Target,
     ) -> Result<(), Target::AppendError>
-        ensures ok { OnOk result (Target.octets target.new ≡ Target.octets target.old ++ wire (Self.labels self.now)) }
+        ensures ok { OnOk result
+            (Target.octets target.new ≡ Target.octets target.old ++ wire (Self.labels self.now)) }
         ensures unchanged { OnErr result (Target.octets target.new ≡ Target.octets target.old) }
-        ensures full { OnErr result (Target.capacity target.old < length (Target.octets target.old) + length (wire (Self.labels self.now))) }
+        ensures full { OnErr result
+            (Target.capacity target.old
+            < length (Target.octets target.old) + length (wire (Self.labels self.now))) }
         ensures capacity { Target.capacity target.old ≤ Target.capacity target.new }
         ensures within { IfSome Target.limit (λ n. length (Target.octets target.new) ≤ n) }
         ensures fixed { IfSome Target.limit (λ n. Target.capacity target.old ≡ n) }
@@ -137,9 +147,14 @@ pub trait ToRelativeName<'a>: RelativeLabels<'a> {
         &'a self,
         target: &mut Target,
     ) -> Result<(), Target::AppendError>
-        ensures ok { OnOk result (Target.octets target.new ≡ Target.octets target.old ++ wire (lowercase_labels (Self.labels self.now))) }
+        ensures ok { OnOk result
+            (Target.octets target.new
+            ≡ Target.octets target.old ++ wire (lowercase_labels (Self.labels self.now))) }
         ensures unchanged { OnErr result (Target.octets target.new ≡ Target.octets target.old) }
-        ensures full { OnErr result (Target.capacity target.old < length (Target.octets target.old) + length (wire (lowercase_labels (Self.labels self.now)))) }
+        ensures full { OnErr result
+            (Target.capacity target.old
+            < length (Target.octets target.old)
+            + length (wire (lowercase_labels (Self.labels self.now)))) }
         ensures capacity { Target.capacity target.old ≤ Target.capacity target.new }
         ensures within { IfSome Target.limit (λ n. length (Target.octets target.new) ≤ n) }
         ensures fixed { IfSome Target.limit (λ n. Target.capacity target.old ≡ n) }
@@ -161,7 +176,8 @@ pub trait ToRelativeName<'a>: RelativeLabels<'a> {
     final fn chain<N: NameLabels + Drop>(self, other: N) -> Result<Chain<Self, N>, LongChainError>
     where
         Self: Sized + Drop,
-        ensures parts { IfOk result (λ chain. (left_part chain ≡ self) × (right_part chain ≡ other)) }
+        ensures parts { IfOk result
+            (λ chain. (left_part chain ≡ self) × (right_part chain ≡ other)) }
         ensures long { IsErr result ↔ (254 < before_root (Self.labels self ++ N.labels other)) }
     {
         Chain::new(self, other)
@@ -183,7 +199,8 @@ pub trait ToRelativeName<'a>: RelativeLabels<'a> {
 
     /// Whether the labels are the same ignoring ASCII case (RFC 4343).
     final fn name_eq<N: RelativeLabels<'a>>(&'a self, other: &'a N) -> bool
-        ensures { IsTrue result ↔ (lowercase_labels (Self.labels self.now) ≡ lowercase_labels (N.labels other.now)) }
+        ensures { IsTrue result
+            ↔ (lowercase_labels (Self.labels self.now) ≡ lowercase_labels (N.labels other.now)) }
     {
         eq_names(self, other)
     }

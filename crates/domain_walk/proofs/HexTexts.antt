@@ -18,8 +18,8 @@ left_one t i inside = rw add-one (drop-cons t i 0 inside)
 pub left_two : (t : List ℕ) (i : ℕ) → i + 2 ≤ length t → drop i t ≡ slice_index t i ∷ slice_index t (i + 1) ∷ drop (i + 2) t
 left_two t i inside =
     let more : drop (i + 1) t ≡ slice_index t (i + 1) ∷ drop (i + 1 + 1) t = left_one t (i + 1) (omega arith) in
-    let place : i + 1 + 1 ≡ i + 2 = omega arith in
-    left_one t i (omega arith) ∙ ap (λ r. slice_index t i ∷ r) (more ∙ ap (λ k. slice_index t (i + 1) ∷ drop k t) place)
+    let offset : i + 1 + 1 ≡ i + 2 = omega arith in
+    left_one t i (omega arith) ∙ ap (λ r. slice_index t i ∷ r) (more ∙ ap (λ k. slice_index t (i + 1) ∷ drop k t) offset)
 
 -- the last octet
 pub left_last : (t : List ℕ) (i : ℕ) → i < length t → length t ≤ i + 1 → drop i t ≡ slice_index t i ∷ []
@@ -55,9 +55,9 @@ left_behind t s i n x behind same = drop-set-lt (i + 2) t n x (omega arith) ∙ 
 pub fault_after_white : (p q first : Place) (all t s : List ℕ) (i : ℕ) → i < length t → drop i t ≡ drop i s → IsWhite (slice_index t i) → q ≡ place_after (slice_index t i) p
     → ((f : HexFault) (line column : ℕ) → IsHexFault p (drop i s) f line column → IsHexFault first all f line column)
     → (f : HexFault) (line column : ℕ) → IsHexFault q (drop (i + 1) s) f line column → IsHexFault first all f line column
-fault_after_white p q first all t s i inside same found place before f line column more =
+fault_after_white p q first all t s i inside same found offset before f line column more =
     let begins : drop i s ≡ slice_index t i ∷ drop (i + 1) s = sym same ∙ (left_one t i inside ∙ ap (λ r. slice_index t i ∷ r) (still_left 1 i t s same)) in
-    before f line column (subst (λ r. IsHexFault p r f line column) (sym begins) (after_white found (subst (λ q. IsHexFault q (drop (i + 1) s) f line column) place more)))
+    before f line column (subst (λ r. IsHexFault p r f line column) (sym begins) (after_white found (subst (λ q. IsHexFault q (drop (i + 1) s) f line column) offset more)))
 
 -- A fault after an octet.
 pub fault_after_octet : (p first : Place) (all t s : List ℕ) (i x : ℕ) → i + 2 ≤ length t → drop i t ≡ drop i s → BeginsWithOctet (drop i t) x

@@ -44,14 +44,14 @@ pub record Written {V : Type 0} (At : List ℕ → ℕ → V → ℕ → Type 0)
   pub appends : Appends old now text
 
 pub written_none : {V : Type 0} (At : List ℕ → ℕ → V → ℕ → Type 0) (IsText : List V → V → List ℕ → Type 0) (p : Parser) (old : Option (List ℕ)) → Written At IsText p 0 p old old
-written_none At IsText p old = record { entries = []; many = refl; run = refl; moves = record { octets = refl; end = refl; place = refl }; text = []; lines = refl; appends = Appends-nil old }
+written_none At IsText p old = record { entries = []; many = refl; run = refl; moves = record { octets = refl; end = refl; offset = refl }; text = []; lines = refl; appends = Appends-nil old }
 
 pub written_more : {V : Type 0} (At : List ℕ → ℕ → V → ℕ → Type 0) (IsText : List V → V → List ℕ → Type 0) (first p q : Parser) (n : ℕ) (old now new : Option (List ℕ)) (x : V) (last : List ℕ) → (before : Written At IsText first n p old now) → At (message p) (position p) x (position q) → MovesTo p q (position q) → IsText before.entries x last → Appends now new last → Written At IsText first (n + 1) q old new
 written_more At IsText first p q n old now new x last before at moves is more = record {
   entries = before.entries ++ x ∷ [];
   many = length-append before.entries (x ∷ []) ∙ ap (λ k. k + 1) before.many;
   run = run_and At (message first) (position first) (position p) (position q) before.entries x before.run (subst (λ m. At m (position p) x (position q)) (same_message first p (position p) before.moves) at);
-  moves = record { octets = moves.octets ∙ before.moves.octets; end = moves.end ∙ before.moves.end; place = refl };
+  moves = record { octets = moves.octets ∙ before.moves.octets; end = moves.end ∙ before.moves.end; offset = refl };
   text = before.text ++ last;
   lines = lines_and IsText [] before.entries x before.text last before.lines is;
   appends = Appends-trans old now new before.text last before.appends more;

@@ -77,7 +77,8 @@ pub(crate) struct EdnsLine {
 }
 
 impl fmt::Display for EdnsLine {
-    ghost output = { λ it. Some (edns_line (ttl_seconds it.ttl) (class_number it.class) (rcode_number it.rcode)) };
+    ghost output = { λ it.
+        Some (edns_line (ttl_seconds it.ttl) (class_number it.class) (rcode_number it.rcode)) };
 
     fn fmt<W: fmt::Write>(&self, f: &mut fmt::Formatter<W>) -> fmt::Result {
         let ttl = self.ttl.as_secs();
@@ -175,7 +176,8 @@ struct FirstOption<'a> {
 
 /// The option that octets begin with. `None` where they end before it does.
 fn first_option(octets: &[u8]) -> Option<FirstOption<'_>>
-    ensures some { IfSome result (λ it. BeginsWithOption octets.now it.code it.data.now it.rest.now) }
+    ensures some { IfSome result
+        (λ it. BeginsWithOption octets.now it.code it.data.now it.rest.now) }
     ensures none { IsNone result → EndsInOption octets.now }
 {
     if octets.len() < 4 {
@@ -194,7 +196,9 @@ fn first_option(octets: &[u8]) -> Option<FirstOption<'_>>
 
 /// Writes a line for each option, and one for octets at the end that are no whole option.
 pub(crate) fn write_options<W: Sink>(octets: &[u8], output: &mut W) -> Result<(), WriteFault>
-    ensures written { OnOk result ((text : List ℕ) × AreOptionLines octets.now text × Appends (W.contents output.old) (W.contents output.new) text) }
+    ensures written { OnOk result
+        ((text : List ℕ) × AreOptionLines octets.now text
+        × Appends (W.contents output.old) (W.contents output.new) text) }
     ensures failed { OnErr result (W.failed output.new) }
 {
     let mut rest = octets;

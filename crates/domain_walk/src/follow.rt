@@ -76,7 +76,9 @@ fn write_steps<W: Sink, L: Ledger>(
     output: &mut W,
     heads: &mut Heads<L>,
 ) -> Result<u16, WriteFault>
-    ensures followed { IfOk result (λ count. (lines : List ℕ) × FollowedThrough message.now offset lines count × Appends (W.contents output.old) (W.contents output.new) lines) }
+    ensures followed { IfOk result
+        (λ count. (lines : List ℕ) × FollowedThrough message.now offset lines count
+        × Appends (W.contents output.old) (W.contents output.new) lines) }
     ensures few { IfOk result (λ count. count ≤ 383) }
     ensures failed { OnErr result (W.failed output.new) }
 {
@@ -124,7 +126,9 @@ fn write_counted<W: Sink, L: Ledger>(
     requires ledger { blank.name ≡ L.name }
     requires parts { blank.parts ≡ L.parts }
     requires some { 0 < blank.parts }
-    ensures followed { IfOk result (λ count. (lines : List ℕ) × FollowedThrough message.now offset lines count × Appends (W.contents output.old) (W.contents output.new) lines) }
+    ensures followed { IfOk result
+        (λ count. (lines : List ℕ) × FollowedThrough message.now offset lines count
+        × Appends (W.contents output.old) (W.contents output.new) lines) }
     ensures few { IfOk result (λ count. count ≤ 383) }
     ensures failed { OnErr result (W.failed output.new) }
 {
@@ -140,7 +144,9 @@ pub fn write_lines<W: Sink>(
     offset: usize,
     output: &mut W,
 ) -> Result<u16, WriteFault>
-    ensures followed { IfOk result (λ count. (lines : List ℕ) × FollowedThrough message.now offset lines count × Appends (W.contents output.old) (W.contents output.new) lines) }
+    ensures followed { IfOk result
+        (λ count. (lines : List ℕ) × FollowedThrough message.now offset lines count
+        × Appends (W.contents output.old) (W.contents output.new) lines) }
     ensures few { IfOk result (λ count. count ≤ 383) }
     ensures failed { OnErr result (W.failed output.new) }
 {

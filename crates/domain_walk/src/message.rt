@@ -56,7 +56,8 @@ struct CodesLine {
 impl fmt::Display for CodesLine {
     ghost use Rattle.domain_header.specs.Headers.{header_id, header_high, header_low};
 
-    ghost output = { λ it. Some (codes_line (header_id it.header) (header_high it.header) (header_low it.header)) };
+    ghost output = { λ it.
+        Some (codes_line (header_id it.header) (header_high it.header) (header_low it.header)) };
 
     fn fmt<W: fmt::Write>(&self, f: &mut fmt::Formatter<W>) -> fmt::Result {
         let opcode = self.header.opcode();
@@ -76,7 +77,9 @@ struct CountsLine {
 impl fmt::Display for CountsLine {
     ghost use Rattle.domain_header.specs.Headers.{header_high, header_low, question_count, answer_count, authority_count, additional_count};
 
-    ghost output = { λ it. Some (counts_line (header_high it.header) (header_low it.header) (question_count it.counts) (answer_count it.counts) (authority_count it.counts) (additional_count it.counts)) };
+    ghost output = { λ it. Some
+        (counts_line (header_high it.header) (header_low it.header) (question_count it.counts)
+        (answer_count it.counts) (authority_count it.counts) (additional_count it.counts)) };
 
     fn fmt<W: fmt::Write>(&self, f: &mut fmt::Formatter<W>) -> fmt::Result {
         let flags = Flags {
@@ -117,7 +120,9 @@ const QUESTIONS: &str = ";; QUESTION SECTION";
 /// Writes the lines of the header, and the line above the questions.
 fn write_header<W: Sink>(message: &[u8], output: &mut W) -> Result<(), ToolError>
     requires { 12 ≤ length message.now }
-    ensures written { OnOk result (Appends (W.contents output.old) (W.contents output.new) (header_lines message.now ++ questions_heading)) }
+    ensures written { OnOk result
+        (Appends (W.contents output.old) (W.contents output.new)
+        (header_lines message.now ++ questions_heading)) }
     ensures refused { IfRefused result (λ _. ⊥) }
     ensures failed { IfWritingFailed result (W.failed output.new) }
 {
@@ -135,9 +140,13 @@ fn write_questions<W: Sink>(
     parser: &mut Parser<'_>,
     output: &mut W,
 ) -> Result<(), ToolError>
-    ensures written { OnOk result (WritesAll QuestionAt IsQuestionText (message parser.old) (position parser.old) count (position parser.new) (W.contents output.old) (W.contents output.new)) }
+    ensures written { OnOk result
+        (WritesAll QuestionAt IsQuestionText (message parser.old) (position parser.old) count
+        (position parser.new) (W.contents output.old) (W.contents output.new)) }
     ensures moves { OnOk result (MovesTo parser.old parser.new (position parser.new)) }
-    ensures refused { IfRefused result (λ e. WritesSome QuestionAt NoQuestion IsQuestionText (message parser.old) (position parser.old) count (W.contents output.old) (W.contents output.new) e) }
+    ensures refused { IfRefused result
+        (λ e. WritesSome QuestionAt NoQuestion IsQuestionText (message parser.old)
+        (position parser.old) count (W.contents output.old) (W.contents output.new) e) }
     ensures failed { IfWritingFailed result (W.failed output.new) }
 {
     for _question in 0..count {
@@ -158,9 +167,15 @@ fn write_records<W: Sink>(
     parser: &mut Parser<'_>,
     output: &mut W,
 ) -> Result<(), ToolError>
-    ensures written { OnOk result (WritesAll RecordAt (IsEntryText (rcode_number rcode) section) (message parser.old) (position parser.old) count (position parser.new) (W.contents output.old) (W.contents output.new)) }
+    ensures written { OnOk result
+        (WritesAll RecordAt (IsEntryText (rcode_number rcode) section) (message parser.old)
+        (position parser.old) count (position parser.new) (W.contents output.old)
+        (W.contents output.new)) }
     ensures moves { OnOk result (MovesTo parser.old parser.new (position parser.new)) }
-    ensures refused { IfRefused result (λ e. WritesSome RecordAt NoRecord (IsEntryText (rcode_number rcode) section) (message parser.old) (position parser.old) count (W.contents output.old) (W.contents output.new) e) }
+    ensures refused { IfRefused result
+        (λ e. WritesSome RecordAt NoRecord (IsEntryText (rcode_number rcode) section)
+        (message parser.old) (position parser.old) count (W.contents output.old)
+        (W.contents output.new) e) }
     ensures failed { IfWritingFailed result (W.failed output.new) }
 {
     let mut opt_seen = false;
@@ -182,9 +197,15 @@ fn write_section<W: Sink>(
     output: &mut W,
 ) -> Result<(), ToolError>
     requires { 12 ≤ length (message parser.old) }
-    ensures written { OnOk result ((text : List ℕ) × ShowsSection (message parser.old) section (position parser.old) (position parser.new) text × Appends (W.contents output.old) (W.contents output.new) text) }
+    ensures written { OnOk result
+        ((text : List ℕ)
+        × ShowsSection (message parser.old) section (position parser.old) (position parser.new) text
+        × Appends (W.contents output.old) (W.contents output.new) text) }
     ensures moves { OnOk result (MovesTo parser.old parser.new (position parser.new)) }
-    ensures refused { IfRefused result (λ e. (text : List ℕ) × StopsInSection (message parser.old) section (position parser.old) text e × Appends (W.contents output.old) (W.contents output.new) text) }
+    ensures refused { IfRefused result
+        (λ e. (text : List ℕ)
+        × StopsInSection (message parser.old) section (position parser.old) text e
+        × Appends (W.contents output.old) (W.contents output.new) text) }
     ensures failed { IfWritingFailed result (W.failed output.new) }
 {
     output.put_line(Heading { section })?;
@@ -218,9 +239,12 @@ fn rcode_of(message: &[u8]) -> Rcode
 fn write_to_questions<W: Sink>(parser: &mut Parser<'_>, output: &mut W) -> Result<(), ToolError>
     requires long { 12 ≤ length (message parser.old) }
     requires start { position parser.old ≡ 12 }
-    ensures written { OnOk result ((text : List ℕ) × ShowsQuestions (message parser.old) (position parser.new) text × Appends (W.contents output.old) (W.contents output.new) text) }
+    ensures written { OnOk result
+        ((text : List ℕ) × ShowsQuestions (message parser.old) (position parser.new) text
+        × Appends (W.contents output.old) (W.contents output.new) text) }
     ensures moves { OnOk result (MovesTo parser.old parser.new (position parser.new)) }
-    ensures refused { IfRefused result (λ e. WritesUntil (message parser.old) e (W.contents output.old) (W.contents output.new)) }
+    ensures refused { IfRefused result
+        (λ e. WritesUntil (message parser.old) e (W.contents output.old) (W.contents output.new)) }
     ensures failed { IfWritingFailed result (W.failed output.new) }
 {
     let message = parser.as_slice();
@@ -235,9 +259,12 @@ fn write_to_questions<W: Sink>(parser: &mut Parser<'_>, output: &mut W) -> Resul
 fn write_to_answers<W: Sink>(parser: &mut Parser<'_>, output: &mut W) -> Result<(), ToolError>
     requires long { 12 ≤ length (message parser.old) }
     requires start { position parser.old ≡ 12 }
-    ensures written { OnOk result ((text : List ℕ) × ShowsAnswers (message parser.old) (position parser.new) text × Appends (W.contents output.old) (W.contents output.new) text) }
+    ensures written { OnOk result
+        ((text : List ℕ) × ShowsAnswers (message parser.old) (position parser.new) text
+        × Appends (W.contents output.old) (W.contents output.new) text) }
     ensures moves { OnOk result (MovesTo parser.old parser.new (position parser.new)) }
-    ensures refused { IfRefused result (λ e. WritesUntil (message parser.old) e (W.contents output.old) (W.contents output.new)) }
+    ensures refused { IfRefused result
+        (λ e. WritesUntil (message parser.old) e (W.contents output.old) (W.contents output.new)) }
     ensures failed { IfWritingFailed result (W.failed output.new) }
 {
     if let Err(e) = write_to_questions(parser, output) {
@@ -250,9 +277,12 @@ fn write_to_answers<W: Sink>(parser: &mut Parser<'_>, output: &mut W) -> Result<
 fn write_to_authority<W: Sink>(parser: &mut Parser<'_>, output: &mut W) -> Result<(), ToolError>
     requires long { 12 ≤ length (message parser.old) }
     requires start { position parser.old ≡ 12 }
-    ensures written { OnOk result ((text : List ℕ) × ShowsAuthority (message parser.old) (position parser.new) text × Appends (W.contents output.old) (W.contents output.new) text) }
+    ensures written { OnOk result
+        ((text : List ℕ) × ShowsAuthority (message parser.old) (position parser.new) text
+        × Appends (W.contents output.old) (W.contents output.new) text) }
     ensures moves { OnOk result (MovesTo parser.old parser.new (position parser.new)) }
-    ensures refused { IfRefused result (λ e. WritesUntil (message parser.old) e (W.contents output.old) (W.contents output.new)) }
+    ensures refused { IfRefused result
+        (λ e. WritesUntil (message parser.old) e (W.contents output.old) (W.contents output.new)) }
     ensures failed { IfWritingFailed result (W.failed output.new) }
 {
     if let Err(e) = write_to_answers(parser, output) {
@@ -266,8 +296,10 @@ fn write_to_authority<W: Sink>(parser: &mut Parser<'_>, output: &mut W) -> Resul
 /// `Parse` says why the message can't be shown to its end: it has fewer than twelve octets, or a question or record that
 /// the header counts is missing. All lines before that are written. The other errors are of writing.
 pub(crate) fn write_message<W: Sink>(message: &[u8], output: &mut W) -> Result<(), ToolError>
-    ensures written { OnOk result (WritesMessage message.now (W.contents output.old) (W.contents output.new)) }
-    ensures refused { IfRefused result (λ e. WritesUntil message.now e (W.contents output.old) (W.contents output.new)) }
+    ensures written { OnOk result
+        (WritesMessage message.now (W.contents output.old) (W.contents output.new)) }
+    ensures refused { IfRefused result
+        (λ e. WritesUntil message.now e (W.contents output.old) (W.contents output.new)) }
     ensures failed { IfWritingFailed result (W.failed output.new) }
 {
     let mut parser = Parser::from_ref(message);
@@ -294,9 +326,14 @@ pub fn show_message<R: Source, W: Sink>(
     output: &mut W,
 ) -> Result<(), ToolError>
     ensures whole { OnAnswer result (IsAtEnd (R.remaining input.new)) }
-    ensures written { OnOk result (IfSome (R.remaining input.old) (λ m. WritesMessage m (W.contents output.old) (W.contents output.new))) }
-    ensures refused { IfRefused result (λ e. IfSome (R.remaining input.old) (λ m. WritesUntil m e (W.contents output.old) (W.contents output.new))) }
-    ensures failed { IfStreamFailed result ((R.failed input.new × (output.new ≡ output.old)) ⊎ W.failed output.new) }
+    ensures written { OnOk result
+        (IfSome (R.remaining input.old)
+        (λ m. WritesMessage m (W.contents output.old) (W.contents output.new))) }
+    ensures refused { IfRefused result
+        (λ e. IfSome (R.remaining input.old)
+        (λ m. WritesUntil m e (W.contents output.old) (W.contents output.new))) }
+    ensures failed { IfStreamFailed result
+        ((R.failed input.new × (output.new ≡ output.old)) ⊎ W.failed output.new) }
 {
     let octets = match input.read_whole(alloc) {
         Ok(octets) => octets,

@@ -63,7 +63,9 @@ fn is_bare(found: &ParsedRecord<'_>) -> bool
 
 /// Writes the line of a record, with its data as its type has it, or as octets with a remark where it can't be read.
 fn write_record<W: Sink>(found: &ParsedRecord<'_>, output: &mut W) -> Result<(), WriteFault>
-    ensures written { OnOk result ((line : List ℕ) × IsRecordLine (record_fields found.now) line × Appends (W.contents output.old) (W.contents output.new) (line ++ 10 ∷ [])) }
+    ensures written { OnOk result
+        ((line : List ℕ) × IsRecordLine (record_fields found.now) line
+        × Appends (W.contents output.old) (W.contents output.new) (line ++ 10 ∷ [])) }
     ensures failed { OnErr result (W.failed output.new) }
 {
     if is_bare(found) {
@@ -110,7 +112,8 @@ const ANOTHER: &str = "; another OPT record: FORMERR, RFC 6891 6.1.1";
 
 /// Writes that an OPT record is another one, if it is.
 fn write_another<W: Sink>(another: bool, output: &mut W) -> Result<(), WriteFault>
-    ensures written { OnOk result (Appends (W.contents output.old) (W.contents output.new) (another_text another)) }
+    ensures written { OnOk result
+        (Appends (W.contents output.old) (W.contents output.new) (another_text another)) }
     ensures failed { OnErr result (W.failed output.new) }
 {
     if !another {
@@ -127,7 +130,9 @@ fn write_opt<W: Sink>(
     found: &ParsedRecord<'_>,
     output: &mut W,
 ) -> Result<(), WriteFault>
-    ensures written { OnOk result ((text : List ℕ) × IsOptText (rcode_number rcode) another (record_fields found.now) text × Appends (W.contents output.old) (W.contents output.new) text) }
+    ensures written { OnOk result
+        ((text : List ℕ) × IsOptText (rcode_number rcode) another (record_fields found.now) text
+        × Appends (W.contents output.old) (W.contents output.new) text) }
     ensures failed { OnErr result (W.failed output.new) }
 {
     write_another(another, output)?;
@@ -146,8 +151,14 @@ pub(crate) fn write_entry<W: Sink>(
     found: &ParsedRecord<'_>,
     output: &mut W,
 ) -> Result<bool, WriteFault>
-    ensures written { OnOk result ((before : List RecordFields) → opt_seen ≡ list_any (is_opt section) before → (text : List ℕ) × IsEntryText (rcode_number rcode) section before (record_fields found.now) text × Appends (W.contents output.old) (W.contents output.new) text) }
-    ensures seen { IfOk result (λ seen. (before : List RecordFields) → opt_seen ≡ list_any (is_opt section) before → seen ≡ list_any (is_opt section) (before ++ record_fields found.now ∷ [])) }
+    ensures written { OnOk result
+        ((before : List RecordFields) → opt_seen ≡ list_any (is_opt section) before →
+        (text : List ℕ)
+        × IsEntryText (rcode_number rcode) section before (record_fields found.now) text
+        × Appends (W.contents output.old) (W.contents output.new) text) }
+    ensures seen { IfOk result
+        (λ seen. (before : List RecordFields) → opt_seen ≡ list_any (is_opt section) before →
+        seen ≡ list_any (is_opt section) (before ++ record_fields found.now ∷ [])) }
     ensures failed { OnErr result (W.failed output.new) }
 {
     if opt_is(section, found) {

@@ -21,7 +21,8 @@ pub trait Source {
 
     /// Reads all that is left. `Read` where reading failed, `Memory` where there was no memory for it.
     fn read_whole(&mut self, alloc: Global) -> Result<Vec<u8>, ToolError>
-        ensures octets { IfOk result (λ octets. IfSome (remaining self.old) (λ m. octets.items ≡ m)) }
+        ensures octets { IfOk result
+            (λ octets. IfSome (remaining self.old) (λ m. octets.items ≡ m)) }
         ensures whole { OnOk result (IsAtEnd (remaining self.new)) }
         ensures err { IfErr result (λ e. (e ≡ ToolError.Read) ⊎ (e ≡ ToolError.Memory)) }
         ensures failed { OnErr result (failed self.new) };
@@ -50,7 +51,9 @@ pub trait Sink {
 
     /// Writes a text and a newline.
     fn put_line<D: Display + Drop>(&mut self, text: D) -> Result<(), WriteFault>
-        ensures written { OnOk result (IfSome (D.output text) (λ shown. Appends (contents self.old) (contents self.new) (shown ++ 10 ∷ []))) }
+        ensures written { OnOk result
+            (IfSome (D.output text)
+            (λ shown. Appends (contents self.old) (contents self.new) (shown ++ 10 ∷ []))) }
         ensures failed { OnErr result (failed self.new) };
 
     /// Sends on what was written.

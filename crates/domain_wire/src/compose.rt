@@ -24,9 +24,12 @@ pub trait Compose {
     /// It fails only where the octets exceed the spare capacity of the target, so never where they fit. On an error
     /// the octets of the target are as before.
     fn compose<Target: OctetsBuilder>(&self, target: &mut Target) -> Result<(), Target::AppendError>
-        ensures ok { OnOk result (Target.octets target.new ≡ Target.octets target.old ++ composed_octets self.now) }
+        ensures ok { OnOk result
+            (Target.octets target.new ≡ Target.octets target.old ++ composed_octets self.now) }
         ensures unchanged { OnErr result (Target.octets target.new ≡ Target.octets target.old) }
-        ensures full { OnErr result (Target.capacity target.old < length (Target.octets target.old) + length (composed_octets self.now)) }
+        ensures full { OnErr result
+            (Target.capacity target.old
+            < length (Target.octets target.old) + length (composed_octets self.now)) }
         ensures capacity { Target.capacity target.old ≤ Target.capacity target.new }
         ensures within { IfSome Target.limit (λ n. length (Target.octets target.new) ≤ n) };
 }

@@ -1,5 +1,5 @@
 //! Why a message can't be read.
-ghost use Rattle.std.specs.Prelude.{◌≡◌, codes};
+ghost use Rattle.std.specs.Prelude.{◌≡◌};
 
 use octseq::ShortInput;
 use std::error::Error;

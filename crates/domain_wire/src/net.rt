@@ -46,7 +46,8 @@ pub struct Ipv6Addr {
 impl Ipv6Addr {
     /// The address that is written `a:b:c:d:e:f:g:h`: eight segments of 16 bits.
     pub fn new(a: u16, b: u16, c: u16, d: u16, e: u16, f: u16, g: u16, h: u16) -> Ipv6Addr
-        ensures { result ≡ ipv6_of (flat_map (to_be_bytes w16) (a ∷ b ∷ c ∷ d ∷ e ∷ f ∷ g ∷ h ∷ [])) }
+        ensures { result
+            ≡ ipv6_of (flat_map (to_be_bytes w16) (a ∷ b ∷ c ∷ d ∷ e ∷ f ∷ g ∷ h ∷ [])) }
     {
         let [a_high, a_low] = a.to_be_bytes();
         let [b_high, b_low] = b.to_be_bytes();
@@ -117,7 +118,8 @@ impl From<[u8; 16]> for IpAddr {
 
 /// The IPv6 address of these eight segments of 16 bits.
 impl From<[u16; 8]> for IpAddr {
-    ghost from_gives = { λ segments addr. addr ≡ V6 (ipv6_of (flat_map (to_be_bytes w16) segments)) };
+    ghost from_gives = { λ segments addr.
+        addr ≡ V6 (ipv6_of (flat_map (to_be_bytes w16) segments)) };
 
     fn from(segments: [u16; 8]) -> IpAddr {
         IpAddr::V6(Ipv6Addr::from(segments))

@@ -42,7 +42,9 @@ pub trait Parse<'a>: Sized {
     ///
     /// An error leaves the parser as it was.
     fn parse(parser: &mut Parser<'a>) -> Result<Self, ParseError>
-        ensures ok { IfOk result (λ value. encodes (message parser.old) (position parser.old) (model value) (position parser.new)) }
+        ensures ok { IfOk result
+            (λ value. encodes (message parser.old) (position parser.old) (model value)
+            (position parser.new)) }
         ensures moves { OnOk result (MovesTo parser.old parser.new (position parser.new)) }
         ensures err { IfErr result (λ e. fails_with (message parser.old) (position parser.old) e) }
         ensures unchanged { OnErr result (parser.new ≡ parser.old) };

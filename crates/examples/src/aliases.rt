@@ -9,7 +9,8 @@ use domain::base::name::*;
 
 /// The end of the chain of CNAME records from the question's name, if the message has a question. `None` for a ring.
 pub fn end_of_aliases<'a>(message: &'a Message<&'a [u8]>) -> Option<ParsedName<&'a [u8]>>
-    ensures { IfSome result (λ name. IsCanonical (message_octets message.now) (Some (parsed_labels name))) }
+    ensures { IfSome result
+        (λ name. IsCanonical (message_octets message.now) (Some (parsed_labels name))) }
 {
     message.canonical_name()
 }

@@ -1,5 +1,5 @@
 //! Octets of the caller's choice: what they are made of, and how many fit.
-ghost use Rattle.std.specs.Prelude.{◌≡◌, ◌+◌, ◌<◌, ◌≤◌, ℕ, length, IfOk, IsOk, IsErr, OnErr, IfSome};
+ghost use Rattle.std.specs.Prelude.{◌≡◌, ◌+◌, ◌<◌, ◌≤◌, length, IfOk, IsOk, IsErr, OnErr, IfSome};
 ghost use Rattle.domain_label.specs.Wire.{wire};
 
 use domain::base::name::*;
@@ -26,8 +26,10 @@ pub fn append_name<'a, N: AbsoluteLabels<'a>, B: OctetsBuilder>(
     name: &'a N,
     target: &mut B,
 ) -> Result<(), B::AppendError>
-    ensures fits { IfSome B.limit (λ n. length (B.octets target.old) + length (wire (N.labels name.now)) ≤ n → IsOk result) }
-    ensures passes { IfSome B.limit (λ n. n < length (B.octets target.old) + length (wire (N.labels name.now)) → IsErr result) }
+    ensures fits { IfSome B.limit
+        (λ n. length (B.octets target.old) + length (wire (N.labels name.now)) ≤ n → IsOk result) }
+    ensures passes { IfSome B.limit
+        (λ n. n < length (B.octets target.old) + length (wire (N.labels name.now)) → IsErr result) }
 {
     name.compose(target)
 }

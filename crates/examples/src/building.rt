@@ -1,5 +1,5 @@
 //! Messages that are built.
-ghost use Rattle.std.specs.Prelude.{◌≤◌, length, IfSome};
+ghost use Rattle.std.specs.Prelude.{IfSome};
 ghost use Rattle.domain_message.specs.RecordParts.{data_of};
 ghost use Rattle.domain_message_builder.specs.Pushes.{asked, headed};
 ghost use Rattle.examples.specs.Built.{IsQuery, IsAnswer};

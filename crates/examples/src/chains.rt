@@ -13,7 +13,8 @@ pub fn put_before<L: NameLabels + Drop, R: NameLabels + Drop>(
     right: R,
 ) -> Option<Chain<L, R>>
     ensures parts { IfSome result (λ chain. (left_part chain ≡ left) × (right_part chain ≡ right)) }
-    ensures none { IsNone result ↔ (IsAbsolute (L.labels left) ⊎ (254 < before_root (L.labels left ++ R.labels right))) }
+    ensures none { IsNone result
+        ↔ (IsAbsolute (L.labels left) ⊎ (254 < before_root (L.labels left ++ R.labels right))) }
 {
     if left.is_absolute() {
         return None;

@@ -40,7 +40,8 @@ pub fn put_and_read(alloc: Global, name: &Name<ArrayVec<u8, 255>>) -> Name<Array
 /// gives that name back.
 pub fn through_a_message(alloc: Global, text: &str) -> Result<Name<ArrayVec<u8, 255>>, FromStrError>
     ensures spelled { IfOk result (λ name. IsTextOfName (chars text.now) (name_labels name)) }
-    ensures shown { (ls : List (List ℕ)) → IsAbsoluteName ls → AreBytes ls → chars text.now ≡ text_with_final_dot ls → IsOkAnd result (λ name. name_labels name ≡ ls) }
+    ensures shown { (ls : List (List ℕ)) → IsAbsoluteName ls → AreBytes ls →
+        chars text.now ≡ text_with_final_dot ls → IsOkAnd result (λ name. name_labels name ≡ ls) }
 {
     text_laws();
     match text.parse() {

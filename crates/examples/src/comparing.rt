@@ -13,7 +13,8 @@ use std::hash::{Hash, Hasher};
 
 /// Whether a name in a message is this owner's.
 pub fn is_owner(name: &ParsedName<&[u8]>, owner: &Name<Vec<u8>>) -> bool
-    ensures { IsTrue result ↔ (lowercase_labels (parsed_labels name.now) ≡ lowercase_labels (name_labels owner.now)) }
+    ensures { IsTrue result
+        ↔ (lowercase_labels (parsed_labels name.now) ≡ lowercase_labels (name_labels owner.now)) }
 {
     name.name_eq(owner)
 }

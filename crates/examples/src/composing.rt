@@ -35,8 +35,10 @@ pub fn mail_response(
     host: Name<&[u8]>,
     addr: Ipv4Addr,
 ) -> Option<ArrayVec<u8, 512>>
-    ensures ok { IfSome result (λ m. IsMailResponse id (name_labels name.entry) (name_labels host.entry) addr m.items) }
-    ensures full { IsNone result → ExceedsMessage id (name_labels name.entry) (name_labels host.entry) addr }
+    ensures ok { IfSome result
+        (λ m. IsMailResponse id (name_labels name.entry) (name_labels host.entry) addr m.items) }
+    ensures full { IsNone result →
+        ExceedsMessage id (name_labels name.entry) (name_labels host.entry) addr }
 {
     let (class, ttl) = (Class::from_int(1), Ttl::from_secs(3600));
     let mut header = [0; 12];

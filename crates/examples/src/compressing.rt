@@ -14,12 +14,13 @@ pub fn append_at<'a, Target: Composer, N: AbsoluteLabels<'a>>(
     target: &mut Target,
     name: &'a N,
 ) -> Result<usize, Target::AppendError>
-    ensures stands { IfOk result (λ place. StandsAt (Target.octets target.new) place (N.labels name.now)) }
+    ensures stands { IfOk result
+        (λ offset. StandsAt (Target.octets target.new) offset (N.labels name.now)) }
     ensures unchanged { OnErr result (Target.octets target.new ≡ Target.octets target.old) }
 {
-    let place = target.as_slice().len();
+    let offset = target.as_slice().len();
     target.append_compressed_name(name)?;
-    Ok(place)
+    Ok(offset)
 }
 
 /// Appends the data of a record with its length in front, and then a name, and tells where that is read. Where
@@ -29,11 +30,12 @@ pub fn append_data_and_name<'a, Target: Composer, Data: ComposeRecordData, N: Ab
     data: &Data,
     name: &'a N,
 ) -> Result<usize, ComposeRdataError<Target::AppendError>>
-    ensures stands { IfOk result (λ place. StandsAt (Target.octets target.new) place (N.labels name.now)) }
+    ensures stands { IfOk result
+        (λ offset. StandsAt (Target.octets target.new) offset (N.labels name.now)) }
 {
     data.compose_len_rdata(target)?;
     match append_at(target, name) {
-        Ok(place) => Ok(place),
+        Ok(offset) => Ok(offset),
         Err(e) => Err(ComposeRdataError::Append(e)),
     }
 }

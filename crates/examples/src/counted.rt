@@ -1,7 +1,5 @@
 //! A composer of one's own: one that counts the names that are appended, and appends them to another.
-ghost use Rattle.std.specs.Prelude.{◌≡◌, ◌++◌, ◌+◌, ◌<◌, ◌≤◌, ℕ, List, length, take, OnOk, OnErr, IfSome};
-ghost use Rattle.domain_label.specs.Wire.{labels_in, IsAbsoluteWire};
-ghost use Rattle.domain_rdata.specs.ReadBack.{Appended, Exceeds};
+ghost use Rattle.std.specs.Prelude.{◌<◌, ℕ};
 
 use domain::base::wire::Composer;
 use octseq::{Octets, OctetsBuilder, OctetsMut, Truncate};

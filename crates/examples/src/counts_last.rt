@@ -19,7 +19,9 @@ const HEADER_LEN: usize = 12;
 fn write_count<Octs: OctetsMut>(message: &mut Octs, count: u16)
     requires { 12 ≤ length (Octs.octets message.old) }
     ensures rest { drop 12 (Octs.octets message.new) ≡ drop 12 (Octs.octets message.old) }
-    ensures octets { Octs.octets message.new ≡ take 6 (Octs.octets message.old) ++ (to_be_bytes w16 count ++ drop 8 (Octs.octets message.old)) }
+    ensures octets { Octs.octets message.new
+        ≡ take 6 (Octs.octets message.old)
+        ++ (to_be_bytes w16 count ++ drop 8 (Octs.octets message.old)) }
 {
     message.as_slice_mut()[6..8].copy_from_slice(&count.to_be_bytes());
 }
@@ -38,10 +40,10 @@ pub fn two_records<'a, N: AbsoluteLabels<'a>, M: AbsoluteLabels<'a>>(
     message.append_slice(&[0; HEADER_LEN])?;
     message.append_compressed_name(first)?;
     message.append_slice(&ADDRESS)?;
-    let place = message.as_slice().len();
+    let offset = message.as_slice().len();
     message.append_compressed_name(second)?;
     message.append_slice(&ADDRESS)?;
     write_count(&mut message, 2);
     compress_laws();
-    Ok((message.into_target(), place))
+    Ok((message.into_target(), offset))
 }

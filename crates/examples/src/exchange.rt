@@ -16,7 +16,8 @@ pub struct Exchange<N> {
 
 /// The number stays, and the name is flattened.
 impl<N: FlattenInto<Target>, Target> FlattenInto<Exchange<Target>> for Exchange<N> {
-    ghost same = { λ mail made. (made.preference ≡ mail.preference) × N.same mail.exchange made.exchange };
+    ghost same = { λ mail made.
+        (made.preference ≡ mail.preference) × N.same mail.exchange made.exchange };
 
     ghost may_refuse = { λ mail. N.may_refuse mail.exchange };
 
@@ -43,7 +44,8 @@ pub fn own_exchange(
     alloc: Global,
 ) -> Result<Exchange<Name<Vec<u8>>>, ShortBuf>
     ensures number { IfOk result (λ made. made.preference ≡ mail.entry.preference) }
-    ensures name { IfOk result (λ made. name_labels made.exchange ≡ parsed_labels mail.entry.exchange) }
+    ensures name { IfOk result
+        (λ made. name_labels made.exchange ≡ parsed_labels mail.entry.exchange) }
 {
     mail.flatten_into(alloc)
 }

@@ -18,7 +18,8 @@ pub fn known_name(octets: &[u8]) -> Option<Name<&[u8]>>
 
 /// The first label of a name, as `www` of `www.example.com`.
 pub fn first_label<'a>(name: &'a Name<&[u8]>) -> Option<Label<'a>>
-    ensures label { IfSome result (λ label. (rest : List (List ℕ)) × (name_labels name.now ≡ label_octets label ∷ rest)) }
+    ensures label { IfSome result
+        (λ label. (rest : List (List ℕ)) × (name_labels name.now ≡ label_octets label ∷ rest)) }
     ensures some { IsSome result }
 {
     name.iter().next()
@@ -26,9 +27,13 @@ pub fn first_label<'a>(name: &'a Name<&[u8]>) -> Option<Label<'a>>
 
 /// The first label of a name, as a name. `None` where no label begins after it, as for the root.
 pub fn host<'a>(name: &'a Name<&'a [u8]>) -> Option<RelativeName<&'a [u8]>>
-    ensures front { IfSome result (λ host. (zone : List (List ℕ)) × (name_labels name.now ≡ relative_labels host ++ zone)) }
-    ensures first { IfSome result (λ host. (label : List ℕ) × (rest : List (List ℕ)) × (name_labels name.now ≡ label ∷ rest) × (length (wire (relative_labels host)) ≡ length label + 1)) }
-    ensures some { (label : List ℕ) → (rest : List (List ℕ)) → name_labels name.now ≡ label ∷ rest → (IsSome result ↔ IsLabelStart (name_labels name.now) (length label + 1)) }
+    ensures front { IfSome result
+        (λ host. (zone : List (List ℕ)) × (name_labels name.now ≡ relative_labels host ++ zone)) }
+    ensures first { IfSome result
+        (λ host. (label : List ℕ) × (rest : List (List ℕ)) × (name_labels name.now ≡ label ∷ rest)
+        × (length (wire (relative_labels host)) ≡ length label + 1)) }
+    ensures some { (label : List ℕ) → (rest : List (List ℕ)) → name_labels name.now ≡ label ∷ rest →
+        (IsSome result ↔ IsLabelStart (name_labels name.now) (length label + 1)) }
 {
     let first = name.first().len() + 1;
     if name.is_label_start(first) {

@@ -50,7 +50,8 @@ pub fn address_question<'a, N: AbsoluteLabels<'a>>(
     name: &'a N,
     alloc: Global,
 ) -> Result<Vec<u8>, ShortBuf>
-    ensures { IfOk result (λ octets. octets.items ≡ wire (N.labels name.now) ++ 0 ∷ 1 ∷ 0 ∷ 1 ∷ []) }
+    ensures { IfOk result
+        (λ octets. octets.items ≡ wire (N.labels name.now) ++ 0 ∷ 1 ∷ 0 ∷ 1 ∷ []) }
 {
     let mut octets = Vec::new(alloc);
     name.compose(&mut octets)?;

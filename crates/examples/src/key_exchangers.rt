@@ -22,7 +22,11 @@ pub fn read_exchanger<'a>(
     rtype: Rtype,
     parser: &mut Parser<'a>,
 ) -> Result<Option<Kx<ParsedName<&'a [u8]>>>, ParseError>
-    ensures ok { IfOk result (λ read. IfSome read (λ kx. AllAt (BothAt (FixedAt 2 (from_be_bytes w16)) NameFieldAt) (message parser.old) (position parser.old) (kx.fields.first, parsed_labels kx.fields.rest.name) (position parser.new))) }
+    ensures ok { IfOk result
+        (λ read. IfSome read
+        (λ kx. AllAt (BothAt (FixedAt 2 (from_be_bytes w16)) NameFieldAt) (message parser.old)
+        (position parser.old) (kx.fields.first, parsed_labels kx.fields.rest.name)
+        (position parser.new))) }
     ensures unchanged { OnErr result (parser.new ≡ parser.old) }
 {
     Kx::parse_rdata(rtype, parser)

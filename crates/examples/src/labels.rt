@@ -9,7 +9,9 @@ use octseq::OctetsBuilder;
 
 /// Appends a label as DNSSEC signs it. A refused call leaves the octets.
 pub fn append_signed<B: OctetsBuilder>(label: Label, target: &mut B) -> Result<(), B::AppendError>
-    ensures ok { OnOk result (B.octets target.new ≡ B.octets target.old ++ wire_label (lowercase (label_octets label.entry))) }
+    ensures ok { OnOk result
+        (B.octets target.new
+        ≡ B.octets target.old ++ wire_label (lowercase (label_octets label.entry))) }
     ensures unchanged { OnErr result (B.octets target.new ≡ B.octets target.old) }
 {
     label.compose_canonical(target)

@@ -14,8 +14,11 @@ pub fn host_name<'a, N: AbsoluteLabels<'a>>(
     label: &[u8],
     zone: &'a N,
 ) -> Result<Name<ArrayVec<u8, 255>>, FromStrError>
-    ensures ok { IfOk result (λ name. name_labels name ≡ closed (labelled empty_state label.now) ++ N.labels zone.now) }
-    ensures made { length label.now ≤ 63 → size (labelled empty_state label.now) + length (wire (N.labels zone.now)) ≤ 255 → IsOk result }
+    ensures ok { IfOk result
+        (λ name. name_labels name ≡ closed (labelled empty_state label.now) ++ N.labels zone.now) }
+    ensures made { length label.now ≤ 63 →
+        size (labelled empty_state label.now) + length (wire (N.labels zone.now)) ≤ 255 →
+        IsOk result }
 {
     let mut builder = NameBuilder::<ArrayVec<u8, 255>>::default();
     builder.append_label(label)?;

@@ -14,7 +14,9 @@ use domain::rdata::{A, Mx};
 pub fn preferred_host<'a>(
     message: &'a Message<&'a [u8]>,
 ) -> Result<Option<ParsedName<&'a [u8]>>, ParseError>
-    ensures ok { IfOk result (λ host. PrefersHost (message_octets message.now) (option_map (λ name. parsed_labels name) host)) }
+    ensures ok { IfOk result
+        (λ host.
+        PrefersHost (message_octets message.now) (option_map (λ name. parsed_labels name) host)) }
     ensures err { IfErr result (λ e. MailRefused (message_octets message.now) e) }
 {
     let mut preferred: Option<Mx<ParsedName<&'a [u8]>>> = None;
@@ -41,8 +43,10 @@ pub fn address_of<'a>(
     message: &'a Message<&'a [u8]>,
     host: &ParsedName<&'a [u8]>,
 ) -> Result<Option<Ipv4Addr>, ParseError>
-    ensures ok { IfOk result (λ addr. FindsAddress (message_octets message.now) (parsed_labels host.now) addr) }
-    ensures err { IfErr result (λ e. AddressRefused (message_octets message.now) (parsed_labels host.now) e) }
+    ensures ok { IfOk result
+        (λ addr. FindsAddress (message_octets message.now) (parsed_labels host.now) addr) }
+    ensures err { IfErr result
+        (λ e. AddressRefused (message_octets message.now) (parsed_labels host.now) e) }
 {
     for item in message.additional()?.limit_to::<A>() {
         let record = item?;

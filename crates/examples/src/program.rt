@@ -8,7 +8,9 @@ use std::alloc::Global;
 
 /// Prints the name at the start of a message that lies in memory.
 pub fn show_first(alloc: Global, message: &[u8], shown: &mut Vec<u8>) -> bool
-    ensures { IsTrue result → (ls : List (List ℕ)) × Names 255 message.now 0 ls × (shown.new.items ≡ shown.old.items ++ text_with_final_dot ls ++ 10 ∷ []) }
+    ensures { IsTrue result →
+        (ls : List (List ℕ)) × Names 255 message.now 0 ls
+        × (shown.new.items ≡ shown.old.items ++ text_with_final_dot ls ++ 10 ∷ []) }
 {
     let mut input = message;
     tool::name_at(alloc, &mut input, shown, 0).is_ok()

@@ -18,8 +18,10 @@ use std::sync::ledger::Ledger;
 
 /// The name at the parser's position, and the type and the class after it. An error leaves the parser as it was.
 pub fn question<'a>(parser: &mut Parser<'a>) -> Result<(ParsedName<&'a [u8]>, u16, u16), ParseError>
-    ensures name { IfOk result (λ read. Names 255 (message parser.old) (position parser.old) (parsed_labels read.0)) }
-    ensures after { IfOk result (λ read. (e : ℕ) × EncodingEnds (message parser.old) (position parser.old) e
+    ensures name { IfOk result
+        (λ read. Names 255 (message parser.old) (position parser.old) (parsed_labels read.0)) }
+    ensures after { IfOk result
+        (λ read. (e : ℕ) × EncodingEnds (message parser.old) (position parser.old) e
         × (read.1 ≡ from_be_bytes w16 (slice_range (message parser.old) e (e + 2)))
         × (read.2 ≡ from_be_bytes w16 (slice_range (message parser.old) (e + 2) (e + 4)))
         × MovesTo parser.old parser.new (e + 4)) }
@@ -42,9 +44,13 @@ pub fn whole_name(octets: &[u8]) -> Result<ParsedName<&[u8]>, ParseError>
 
 /// Passes over a question: the name, and the four octets of its type and class.
 pub fn skip_question(parser: &mut Parser<'_>) -> Result<(), ParseError>
-    ensures ok { OnOk result ((e : ℕ) × Skips (message parser.old) (position parser.old) e × (position parser.new ≡ e + 4)) }
-    ensures err { OnErr result (((why : NameFault) × SkipFault (message parser.old) (position parser.old) why)
-        ⊎ ((e : ℕ) × Skips (message parser.old) (position parser.old) e × (length (message parser.old) < e + 4))) }
+    ensures ok { OnOk result
+        ((e : ℕ) × Skips (message parser.old) (position parser.old) e
+        × (position parser.new ≡ e + 4)) }
+    ensures err { OnErr result
+        (((why : NameFault) × SkipFault (message parser.old) (position parser.old) why)
+        ⊎ ((e : ℕ) × Skips (message parser.old) (position parser.old) e
+        × (length (message parser.old) < e + 4))) }
 {
     ParsedName::skip(parser)?;
     parser.advance(4)?;
@@ -64,7 +70,8 @@ pub fn top_label<'a>(name: &'a ParsedName<&[u8]>) -> Option<Label<'a>>
 
 /// A name for people to read: each label with a dot after it, and the root as a dot.
 pub fn shown(name: &ParsedName<&[u8]>, alloc: Global) -> Result<String, AllocError>
-    ensures { IfOk result (λ text. string_bytes text ≡ text_with_final_dot (parsed_labels name.now)) }
+    ensures { IfOk result
+        (λ text. string_bytes text ≡ text_with_final_dot (parsed_labels name.now)) }
 {
     let dotted = name.fmt_with_dot();
     format!(in alloc; "{dotted}")
@@ -76,7 +83,8 @@ pub fn plain_name<'a, L: Ledger>(
     parser: &mut Parser<'a>,
     heads: &mut Heads<L>,
 ) -> Result<ParsedName<&'a [u8]>, ParseError>
-    ensures name { IfOk result (λ name. Names 16 (message parser.old) (position parser.old) (parsed_labels name)) }
+    ensures name { IfOk result
+        (λ name. Names 16 (message parser.old) (position parser.old) (parsed_labels name)) }
     ensures few { heads.new ≤ heads.old + 144 }
 {
     ParsedName::parse_counted(parser, 16, heads)

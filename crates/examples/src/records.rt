@@ -13,7 +13,9 @@ pub fn append_data(
     octets: &[u8],
     message: &mut Vec<u8>,
 ) -> Result<(), ComposeRdataError<ShortBuf>>
-    ensures ok { OnOk result (message.new.items ≡ message.old.items ++ to_be_bytes w16 (length octets.now) ++ octets.now) }
+    ensures ok { OnOk result
+        (message.new.items
+        ≡ message.old.items ++ to_be_bytes w16 (length octets.now) ++ octets.now) }
     ensures unchanged { OnErr result (message.new.items ≡ message.old.items) }
 {
     match UnknownRecordData::from_octets(rtype, octets) {

@@ -20,7 +20,8 @@ pub fn typed_name(text: &str) -> Result<Name<ArrayVec<u8, 255>>, FromStrError>
 
 /// Whether a text is no name since a label, or the whole, is too long.
 pub fn is_too_long(error: FromStrError) -> bool
-    ensures { IsTrue result ↔ MatchFromStr error (λ fault. (fault ≡ LongLabel) ⊎ (fault ≡ LongName)) ⊥ }
+    ensures { IsTrue result
+        ↔ MatchFromStr error (λ fault. (fault ≡ LongLabel) ⊎ (fault ≡ LongName)) ⊥ }
 {
     let FromStrError::Presentation(error) = error else {
         return false;

@@ -38,9 +38,11 @@ pub fn parse_two<'a, A: Parse<'a> + Drop, B: Parse<'a> + Drop, E: From<ParseErro
         × A.encodes (message parser.old) (position parser.old) (A.model read.0) between
         × B.encodes (message parser.old) between (B.model read.1) (position parser.new)) }
     ensures moves { OnOk result (MovesTo parser.old parser.new (position parser.new)) }
-    ensures err { IfErr result (λ e. (told : ParseError) × E.from_gives told e
+    ensures err { IfErr result
+        (λ e. (told : ParseError) × E.from_gives told e
         × (A.fails_with (message parser.old) (position parser.old) told
-        ⊎ ((seen : A.View) × (between : ℕ) × A.encodes (message parser.old) (position parser.old) seen between
+        ⊎ ((seen : A.View) × (between : ℕ)
+        × A.encodes (message parser.old) (position parser.old) seen between
         × B.fails_with (message parser.old) between told))) }
     ensures unchanged { OnErr result (parser.new ≡ parser.old) }
 {
@@ -54,7 +56,10 @@ pub fn parse_two<'a, A: Parse<'a> + Drop, B: Parse<'a> + Drop, E: From<ParseErro
 /// The type and the class of a question, which stand after its name.
 pub fn type_and_class(parser: &mut Parser<'_>) -> Result<(u16, u16), ParseError>
     ensures rtype { IfOk result (λ read. read.0 ≡ from_be_bytes w16 (next parser.old 2)) }
-    ensures class { IfOk result (λ read. read.1 ≡ from_be_bytes w16 (slice_range (message parser.old) (position parser.old + 2) (position parser.old + 4))) }
+    ensures class { IfOk result
+        (λ read. read.1
+        ≡ from_be_bytes w16
+        (slice_range (message parser.old) (position parser.old + 2) (position parser.old + 4))) }
     ensures moves { OnOk result (MovesOver parser.old parser.new 4) }
     ensures unchanged { OnErr result (parser.new ≡ parser.old) }
 {

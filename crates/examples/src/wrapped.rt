@@ -57,7 +57,8 @@ pub fn is_same<'a, N: AbsoluteLabels<'a>, M: AbsoluteLabels<'a>>(
     one: &'a Dated<N>,
     other: &'a Dated<M>,
 ) -> bool
-    ensures { IsTrue result ↔ (lowercase_labels (N.labels one.now.name) ≡ lowercase_labels (M.labels other.now.name)) }
+    ensures { IsTrue result
+        ↔ (lowercase_labels (N.labels one.now.name) ≡ lowercase_labels (M.labels other.now.name)) }
 {
     one.name_eq(other)
 }

@@ -30,7 +30,7 @@ LacksOctets p n = length (message p) < p.pos + n
 pub record MovesTo (old new : Parser) (n : ℕ) : Type 0 where
   pub octets : new.octets ≡ old.octets
   pub end : new.end ≡ old.end
-  pub place : new.pos ≡ n
+  pub offset : new.pos ≡ n
 
 -- new is old, moved over n octets
 abbrev pub MovesOver : Parser → Parser → ℕ → Type 0

@@ -1,5 +1,5 @@
 //! Octets made of other octets.
-ghost use Rattle.std.specs.Prelude.{◌≡◌, ◌<◌, ◌↔◌, ℕ, List, length, IfOk, IsErr, OnErr, refl};
+ghost use Rattle.std.specs.Prelude.{◌≡◌, ◌<◌, ◌↔◌, length, IfOk, IsErr, OnErr};
 ghost use Rattle.std.specs.Cow.{cow_slice_items};
 
 use crate::builder::ShortBuf;

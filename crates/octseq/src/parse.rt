@@ -44,7 +44,7 @@ impl<'a> Parser<'a> {
     pub fn from_ref(octets: &'a [u8]) -> Parser<'a>
         ensures whole { slice_of result ≡ octets.now }
         ensures message { message result ≡ octets.now }
-        ensures place { position result ≡ 0 }
+        ensures offset { position result ≡ 0 }
     {
         let end = octets.len();
         Parser {
@@ -62,7 +62,7 @@ impl<'a> Parser<'a> {
         requires inside { range.end ≤ length octets.now }
         ensures whole { slice_of result ≡ octets.now }
         ensures message { message result ≡ take range.end octets.now }
-        ensures place { position result ≡ range.start }
+        ensures offset { position result ≡ range.start }
     {
         Parser {
             octets,
@@ -87,7 +87,7 @@ impl<'a> Parser<'a> {
 
     /// The position of the next octet.
     pub fn pos(&self) -> usize
-        ensures place { result ≡ position self.now }
+        ensures offset { result ≡ position self.now }
         ensures inside { result ≤ length (message self.now) }
     {
         self.pos
@@ -169,8 +169,9 @@ impl<'a> Parser<'a> {
     /// Its positions count from the start of the same slice. `ShortInput` where fewer octets are left.
     pub fn parse_parser(&mut self, n: usize) -> Result<Parser<'a>, ShortInput>
         ensures whole { IfOk result (λ part. slice_of part ≡ slice_of self.old) }
-        ensures message { IfOk result (λ part. message part ≡ take (position self.old + n) (message self.old)) }
-        ensures place { IfOk result (λ part. position part ≡ position self.old) }
+        ensures message { IfOk result
+            (λ part. message part ≡ take (position self.old + n) (message self.old)) }
+        ensures offset { IfOk result (λ part. position part ≡ position self.old) }
         ensures moves { OnOk result (MovesOver self.old self.new n) }
         ensures short { IsErr result ↔ LacksOctets self.old n }
         ensures unchanged { OnErr result (self.new ≡ self.old) }

@@ -7,8 +7,8 @@ use Rattle.domain_builder.proofs.reverse.nibble_labels.Goals as goal
 pub loop-left-preserved : goal.loop-left-preserved
 loop-left-preserved c =
     let fits = nibbles_fit c.loop-left.labels.built c.append_hex_digit_label.new.self.built c.loop-left.left (digit_glyph true (slice_index_or c.args.octets.now (c.loop-left.left - 1) 0 % 16)) (digit_glyph true (slice_index_or c.args.octets.now (c.loop-left.left - 1) 0 / 16 % 16)) c.loop-left-test.true c.loop-left.invariant.few c.in-Ok.ensures.made in
-    let step = nibble_step c.loop-left.labels.built c.append_hex_digit_label.new.self.built c.append_hex_digit_label-in-loop-left.new.self.built c.args.octets.now c.loop-left.left c.loop-left-test.true c.loop-left.invariant.place c.loop-left.invariant.built c.in-Ok.ensures.made c.in-Ok-append_hex_digit_label.ensures.made in
-    record { built = step; few = rw c.in-Ok-append_hex_digit_label.ensures.made fits; place = omega (arith, c.loop-left.invariant.place) }
+    let step = nibble_step c.loop-left.labels.built c.append_hex_digit_label.new.self.built c.append_hex_digit_label-in-loop-left.new.self.built c.args.octets.now c.loop-left.left c.loop-left-test.true c.loop-left.invariant.offset c.loop-left.invariant.built c.in-Ok.ensures.made c.in-Ok-append_hex_digit_label.ensures.made in
+    record { built = step; few = rw c.in-Ok-append_hex_digit_label.ensures.made fits; offset = omega (arith, c.loop-left.invariant.offset) }
 
 pub unreachable-requires : goal.unreachable-requires
 unreachable-requires c =

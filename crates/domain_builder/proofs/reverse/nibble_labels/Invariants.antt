@@ -8,7 +8,7 @@ abbrev pub invariant-loop-left : goal.invariant-loop-left
 invariant-loop-left l = record {
   built : l.labels.built ≡ finished (flat_map nibbles (reverse (drop l.left l.octets)));
   few : size l.labels.built + 4 * l.left ≤ 64;
-  place : l.left ≤ length l.octets;
+  offset : l.left ≤ length l.octets;
 }
 
 abbrev pub decreases-loop-left : goal.decreases-loop-left

@@ -10,12 +10,12 @@ loop-start-preserved c =
     record {
       within = next.0;
       seam = next.1;
-      before = λ t. step_stays c.args.octets.now c.loop-start.start c.args.place c.loop-start.invariant.seam t c.loop-start-test.true;
+      before = λ t. step_stays c.args.octets.now c.loop-start.start c.args.offset c.loop-start.invariant.seam t c.loop-start-test.true;
     }
 
 pub returns : goal.returns
 returns c =
-    walk_tells c.args.octets.now c.loop-start.start c.args.place c.requires c.loop-start.invariant.seam c.loop-start.invariant.within c.loop-start.invariant.before
+    walk_tells c.args.octets.now c.loop-start.start c.args.offset c.requires c.loop-start.invariant.seam c.loop-start.invariant.within c.loop-start.invariant.before
     (elim c.loop-start-test.branch [
       | then-loop-start-test+else-start-octets w ↦ inr w.if-start-octets.false
       | else-loop-start-test w ↦ inl w.loop-start-test.false

@@ -8,7 +8,7 @@ abbrev pub invariant-loop-start : goal.invariant-loop-start
 invariant-loop-start l = record {
   within : l.start ≤ length l.octets;
   seam : IsSeam l.octets l.start;
-  before : IsLabelEnd (labels_in l.octets) l.place → l.start ≤ l.place;
+  before : IsLabelEnd (labels_in l.octets) l.offset → l.start ≤ l.offset;
 }
 
 abbrev pub decreases-loop-start : goal.decreases-loop-start

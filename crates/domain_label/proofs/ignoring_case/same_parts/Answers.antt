@@ -11,18 +11,18 @@ returns-then-not-same_each c = (
 pub returns-then-not-same_each-2 : goal.returns-then-not-same_each-2
 returns-then-not-same_each-2 c = (
   λ t. absurd (true≢false (sym t)),
-  λ e. c.if-not-same_each-2.ensures.1 (low_part c.args.a.now c.args.b.now c.parts.place _ e),
+  λ e. c.if-not-same_each-2.ensures.1 (low_part c.args.a.now c.args.b.now c.parts.offset _ e),
 )
 
 pub parts-preserved : goal.parts-preserved
 parts-preserved c = record {
   inside = omega arith;
-  front = low_further c.args.a.now c.args.b.now c.parts.place 16 _ (omega arith) c.parts.invariant.front (c.if-not-same_each-2.ensures.0 refl);
+  front = low_further c.args.a.now c.args.b.now c.parts.offset 16 _ (omega arith) c.parts.invariant.front (c.if-not-same_each-2.ensures.0 refl);
 }
 
 pub returns : goal.returns
 returns c =
     let back = (sliced_low c.args.a.now c.args.b.now (length c.args.a.now - 16) (omega arith) (omega (arith, c.requires.sized))).1 (c.if-not-same_each.ensures.0 refl) in (
-      λ t. low_covered c.args.a.now c.args.b.now _ c.parts.place c.parts-test.false c.parts.invariant.front back,
+      λ t. low_covered c.args.a.now c.args.b.now _ c.parts.offset c.parts-test.false c.parts.invariant.front back,
       λ e. refl,
     )

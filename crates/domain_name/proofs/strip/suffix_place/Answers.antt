@@ -18,9 +18,9 @@ returns-in-Some-clause-exact g c =
     let e : labels_in c.in-Some.suffix.now ≡ bs = ap labels_in c.in-Some.ensures.wire ∙ labels_in_wire bs in
     subst (λ ls. IsSome c.place_of.result ↔ EndsWith (labels_in c.args.octets.now) ls) e c.place_of.ensures.exact
 
-pub returns-in-Some-clause-place : goal.returns-in-Some-clause-place
-returns-in-Some-clause-place g c =
-    subst (λ s. IfSome c.place_of.result (λ place. place + length s ≡ length c.args.octets.now)) c.in-Some.ensures.wire c.place_of.ensures.place
+pub returns-in-Some-clause-offset : goal.returns-in-Some-clause-offset
+returns-in-Some-clause-offset g c =
+    subst (λ s. IfSome c.place_of.result (λ offset. offset + length s ≡ length c.args.octets.now)) c.in-Some.ensures.wire c.place_of.ensures.offset
 
 pub place_of-requires-2 : goal.place_of-requires-2
 place_of-requires-2 g c =
@@ -34,6 +34,6 @@ returns-clause-exact g c =
     let e : labels_in (take c.put_name-len.result c.put_name-len.new.octets) ≡ bs = ap labels_in c.put_name-len.ensures.wire ∙ labels_in_wire bs in
     subst (λ ls. IsSome c.place_of-2.result ↔ EndsWith (labels_in c.args.octets.now) ls) e c.place_of-2.ensures.exact
 
-pub returns-clause-place : goal.returns-clause-place
-returns-clause-place g c =
-    subst (λ s. IfSome c.place_of-2.result (λ place. place + length s ≡ length c.args.octets.now)) c.put_name-len.ensures.wire c.place_of-2.ensures.place
+pub returns-clause-offset : goal.returns-clause-offset
+returns-clause-offset g c =
+    subst (λ s. IfSome c.place_of-2.result (λ offset. offset + length s ≡ length c.args.octets.now)) c.put_name-len.ensures.wire c.place_of-2.ensures.offset

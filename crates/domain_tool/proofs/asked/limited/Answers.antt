@@ -11,5 +11,5 @@ fourth (w ∷ x ∷ y ∷ []) d a b c e h = cc
 fourth (w ∷ x ∷ y ∷ z ∷ ws) d a b c e h = cc
 
 pub returns-in-None-pointers_of-clause-none : goal.returns-in-None-pointers_of-clause-none
-returns-in-None-pointers_of-clause-none c = λ none place pointers asks.
+returns-in-None-pointers_of-clause-none c = λ none offset pointers asks.
     c.in-None-pointers_of.ensures.none refl pointers (subst (λ (w : List ℕ). IsLimitWord w pointers) (sym (fourth c.args.words.now _ _ _ _ _ asks.four)) asks.limits)

@@ -25,7 +25,7 @@ returns-in-Err-write_entries-clause-refused g c =
     let answers = replicate c.ancount-answers.result Answer in
     let authority = replicate c.nscount-authority.result Authority in
     let additional = replicate c.arcount-additional.result Additional in
-    let start : WritesEntries m [] 12 (position c.parse_counts.new.parser) old old = subst (λ p. WritesEntries m [] 12 p old old) (sym moved.place) (writes_none m 12 old) in
+    let start : WritesEntries m [] 12 (position c.parse_counts.new.parser) old old = subst (λ p. WritesEntries m [] 12 p old old) (sym moved.offset) (writes_none m 12 old) in
     section_stopped m (message c.parse_counts.new.parser) [] (answers ++ (authority ++ additional)) Question c.qdcount-questions.result (position c.parse_counts.new.parser) old old _ (Err c.in-Err-write_entries.e) same all counted.header start c.in-Err-write_entries.ensures.refused
 
 pub returns-in-Err-write_entries-2-clause-refused :
@@ -42,7 +42,7 @@ returns-in-Err-write_entries-2-clause-refused g c =
     let answers = replicate c.ancount-answers.result Answer in
     let authority = replicate c.nscount-authority.result Authority in
     let additional = replicate c.arcount-additional.result Additional in
-    let start : WritesEntries m [] 12 (position c.parse_counts.new.parser) old old = subst (λ p. WritesEntries m [] 12 p old old) (sym moved.place) (writes_none m 12 old) in
+    let start : WritesEntries m [] 12 (position c.parse_counts.new.parser) old old = subst (λ p. WritesEntries m [] 12 p old old) (sym moved.offset) (writes_none m 12 old) in
     let first = section_done m (message c.parse_counts.new.parser) [] Question c.qdcount-questions.result (position c.parse_counts.new.parser) (position c.write_entries.new.parser) old old (append_known (g.W.Write.contents c.write_entries.new.output) c.write_entries.new.lines.items) same start c.in_default.ensures.written in
     let same_one : message c.write_entries.new.parser ≡ m = same_message _ _ _ c.in_default.ensures.moves ∙ same in
     section_stopped m (message c.write_entries.new.parser) questions (authority ++ additional) Answer c.ancount-answers.result (position c.write_entries.new.parser) old (append_known (g.W.Write.contents c.write_entries.new.output) c.write_entries.new.lines.items) _ (Err c.in-Err-write_entries-2.e) same_one all counted.header first c.in-Err-write_entries-2.ensures.refused
@@ -61,7 +61,7 @@ returns-in-Err-write_entries-3-clause-refused g c =
     let answers = replicate c.ancount-answers.result Answer in
     let authority = replicate c.nscount-authority.result Authority in
     let additional = replicate c.arcount-additional.result Additional in
-    let start : WritesEntries m [] 12 (position c.parse_counts.new.parser) old old = subst (λ p. WritesEntries m [] 12 p old old) (sym moved.place) (writes_none m 12 old) in
+    let start : WritesEntries m [] 12 (position c.parse_counts.new.parser) old old = subst (λ p. WritesEntries m [] 12 p old old) (sym moved.offset) (writes_none m 12 old) in
     let first = section_done m (message c.parse_counts.new.parser) [] Question c.qdcount-questions.result (position c.parse_counts.new.parser) (position c.write_entries.new.parser) old old (append_known (g.W.Write.contents c.write_entries.new.output) c.write_entries.new.lines.items) same start c.in_default.ensures.written in
     let same_one : message c.write_entries.new.parser ≡ m = same_message _ _ _ c.in_default.ensures.moves ∙ same in
     let second = section_done m (message c.write_entries.new.parser) questions Answer c.ancount-answers.result (position c.write_entries.new.parser) (position c.write_entries-2.new.parser) old (append_known (g.W.Write.contents c.write_entries.new.output) c.write_entries.new.lines.items) (append_known (g.W.Write.contents c.write_entries-2.new.output) c.write_entries-2.new.lines.items) same_one first c.in_default-write_entries.ensures.written in
@@ -81,7 +81,7 @@ returns-clause-written g c =
     let answers = replicate c.ancount-answers.result Answer in
     let authority = replicate c.nscount-authority.result Authority in
     let additional = replicate c.arcount-additional.result Additional in
-    let start : WritesEntries m [] 12 (position c.parse_counts.new.parser) old old = subst (λ p. WritesEntries m [] 12 p old old) (sym moved.place) (writes_none m 12 old) in
+    let start : WritesEntries m [] 12 (position c.parse_counts.new.parser) old old = subst (λ p. WritesEntries m [] 12 p old old) (sym moved.offset) (writes_none m 12 old) in
     let first = section_done m (message c.parse_counts.new.parser) [] Question c.qdcount-questions.result (position c.parse_counts.new.parser) (position c.write_entries.new.parser) old old (append_known (g.W.Write.contents c.write_entries.new.output) c.write_entries.new.lines.items) same start c.in_default.ensures.written in
     let same_one : message c.write_entries.new.parser ≡ m = same_message _ _ _ c.in_default.ensures.moves ∙ same in
     let second = section_done m (message c.write_entries.new.parser) questions Answer c.ancount-answers.result (position c.write_entries.new.parser) (position c.write_entries-2.new.parser) old (append_known (g.W.Write.contents c.write_entries.new.output) c.write_entries.new.lines.items) (append_known (g.W.Write.contents c.write_entries-2.new.output) c.write_entries-2.new.lines.items) same_one first c.in_default-write_entries.ensures.written in
@@ -104,7 +104,7 @@ returns-clause-refused g c =
     let answers = replicate c.ancount-answers.result Answer in
     let authority = replicate c.nscount-authority.result Authority in
     let additional = replicate c.arcount-additional.result Additional in
-    let start : WritesEntries m [] 12 (position c.parse_counts.new.parser) old old = subst (λ p. WritesEntries m [] 12 p old old) (sym moved.place) (writes_none m 12 old) in
+    let start : WritesEntries m [] 12 (position c.parse_counts.new.parser) old old = subst (λ p. WritesEntries m [] 12 p old old) (sym moved.offset) (writes_none m 12 old) in
     let first = section_done m (message c.parse_counts.new.parser) [] Question c.qdcount-questions.result (position c.parse_counts.new.parser) (position c.write_entries.new.parser) old old (append_known (g.W.Write.contents c.write_entries.new.output) c.write_entries.new.lines.items) same start c.in_default.ensures.written in
     let same_one : message c.write_entries.new.parser ≡ m = same_message _ _ _ c.in_default.ensures.moves ∙ same in
     let second = section_done m (message c.write_entries.new.parser) questions Answer c.ancount-answers.result (position c.write_entries.new.parser) (position c.write_entries-2.new.parser) old (append_known (g.W.Write.contents c.write_entries.new.output) c.write_entries.new.lines.items) (append_known (g.W.Write.contents c.write_entries-2.new.output) c.write_entries-2.new.lines.items) same_one first c.in_default-write_entries.ensures.written in

@@ -8,11 +8,11 @@ returns-clause-ok c =
     let moved = c.in_ok-advance.ensures.ok in
     let read = c.as_slice.ensures ∙ same_message _ _ _ moved in
     let start = c.requires in
-    let place = moved.place in
+    let offset = moved.offset in
     let all = ap length (same_message _ _ _ moved) in
     let inside = place_inside c.advance.new.self in
     record {
-      header = omega (arith, start, place, all, inside);
+      header = omega (arith, start, offset, all, inside);
       questions = c.for_message_slice.ensures.qdcount ∙ ap (λ m. number_in_16_bits m 4) read;
       answers = c.for_message_slice.ensures.ancount ∙ ap (λ m. number_in_16_bits m 6) read;
       authority = c.for_message_slice.ensures.nscount ∙ ap (λ m. number_in_16_bits m 8) read;

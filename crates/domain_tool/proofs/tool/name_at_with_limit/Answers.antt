@@ -21,11 +21,11 @@ written_of_input (Some m) old new read seen n p ls all same name written = (ls, 
 
 pub returns-in-Err-clause-err : goal.returns-in-Err-clause-err
 returns-in-Err-clause-err g c =
-    of_input (g.R.Read.remaining c.args.input.now) _ c.as_slice.result.now c.args.limit c.args.place c.in-Err.e c.in_ok-octets.ensures.octets c.as_slice.ensures.value c.in-Err.ensures.err
+    of_input (g.R.Read.remaining c.args.input.now) _ c.as_slice.result.now c.args.limit c.args.offset c.in-Err.e c.in_ok-octets.ensures.octets c.as_slice.ensures.value c.in-Err.ensures.err
 
 pub returns-in-Err-clause-nothing_written : goal.returns-in-Err-clause-nothing_written
 returns-in-Err-clause-nothing_written g c = keeps_itself _
 
 pub returns-clause-written : goal.returns-clause-written
 returns-clause-written g c =
-    written_of_input (g.R.Read.remaining c.args.input.now) _ _ _ c.as_slice.result.now c.args.limit c.args.place _ c.in_ok-octets.ensures.octets c.as_slice.ensures.value c.in-Ok.ensures.ok (search rules)
+    written_of_input (g.R.Read.remaining c.args.input.now) _ _ _ c.as_slice.result.now c.args.limit c.args.offset _ c.in_ok-octets.ensures.octets c.as_slice.ensures.value c.in-Ok.ensures.ok (search rules)

@@ -14,7 +14,7 @@ plainly old new header octets name ls absolute moved all parts form twelve = rec
   before = header;
   after = [];
   octets = ap (λ o. take new.end o.now) moved.octets ∙ (ap (λ e. take e old.octets.now) moved.end ∙ (all ∙ (parts ∙ (ap (λ w. header ++ w) form ∙ sym (append-nil (header ++ wire ls))))));
-  here = moved.place ∙ sym twelve;
+  here = moved.offset ∙ sym twelve;
 }
 
 pub unreachable-requires-in_default-parse : goal.unreachable-requires-in_default-parse

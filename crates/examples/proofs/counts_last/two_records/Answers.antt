@@ -50,4 +50,4 @@ returns-clause-second g c =
     let enough : 12 ≤ length v = omega (arith, size, longer, longest, length-append t adds.octets) in
     let same = ap (λ m. drop 12 m.items) c.into_target.ensures ∙ c.write_count.ensures.rest ∙ ap (drop 12) c.in_ok-append_slice-3.ensures.ok in
     let P : List ℕ → Type 0 = λ m. StandsAt c.into_target.result.items (length m) (g.M.NameLabels.labels c.args.second.now) in
-    subst P (sym c.as_slice-place.ensures.octets) (laws.stays 12 v _ _ _ _ _ _ (g.met.M.Absolute.absolute c.args.second.now) enough kept c.in_ok-append_compressed_name-2.ensures.appends same)
+    subst P (sym c.as_slice-offset.ensures.octets) (laws.stays 12 v _ _ _ _ _ _ (g.met.M.Absolute.absolute c.args.second.now) enough kept c.in_ok-append_compressed_name-2.ensures.appends same)

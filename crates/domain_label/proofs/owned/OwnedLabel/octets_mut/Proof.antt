@@ -54,8 +54,8 @@ module _ {M : Type 1} {𝓤 : Ura M} (𝓛 : Logic 𝓤) where
     p = start o
 
     -- where the octets after the length octet begin
-    abbrev place : ℕ
-    place = 1 + p
+    abbrev offset : ℕ
+    offset = 1 + p
 
     abbrev head : List ℕ
     head = take 1 d.wire
@@ -70,12 +70,12 @@ module _ {M : Type 1} {𝓤 : Ura M} (𝓛 : Logic 𝓤) where
     octets ws = cells (mem u8) ws b
 
     abbrev past : ℕ
-    past = at place (mem u8).size (length front)
+    past = at offset (mem u8).size (length front)
 
     abbrev Rest : SProp 𝓤
     Rest = sep 𝓤 (sem 𝓛 (octets head p)) (sep 𝓤 (sem 𝓛 (octets back past)) (Left 𝓛 b o))
 
-    after_head : length d.wire ≡ 64 → at p (mem u8).size (length head) ≡ place
+    after_head : length d.wire ≡ 64 → at p (mem u8).size (length head) ≡ offset
     after_head long =
         at_mul p (mem u8).size (length head) ∙ ap (λ (k : ℕ). k * (mem u8).size + p) (length-take-le 1 d.wire (omega (arith, long)))
 
@@ -84,7 +84,7 @@ module _ {M : Type 1} {𝓤 : Ura M} (𝓛 : Logic 𝓤) where
         let tail = length-drop 1 d.wire in length-take-le m (drop_list 1 d.wire) (omega (arith, long))
 
     put : m ≤ 63 → length d.wire ≡ 64 → (ws : List ℕ) → length ws ≡ length front
-        → ent 𝓤 (sep 𝓤 (sem 𝓛 (octets ws place)) Rest) (sem 𝓛 ((mem the_row).own_at (with_octets d ws) b o))
+        → ent 𝓤 (sep 𝓤 (sem 𝓛 (octets ws offset)) Rest) (sem 𝓛 ((mem the_row).own_at (with_octets d ws) b o))
     put within long ws e =
         let counted = count within long in
         let one : length head ≡ 1 = length-take-le 1 d.wire (omega (arith, long)) in
@@ -93,20 +93,20 @@ module _ {M : Type 1} {𝓤 : Ura M} (𝓛 : Logic 𝓤) where
         let inner = length-append ws back in
         let whole = length-append head (ws ++ back) in
         let same : head ++ (ws ++ back) ≡ (with_octets d ws).wire = ap (λ k. head ++ (ws ++ drop_list k (drop_list 1 d.wire))) (sym (e ∙ counted)) in
-        qed 𝓛 (‵ (octets ws place) ∷ ‵ (octets head p) ∷ ‵ (octets back past) ∷ raw (Left 𝓛 b o) ∷ []) ∵
+        qed 𝓛 (‵ (octets ws offset) ∷ ‵ (octets head p) ∷ ‵ (octets back past) ∷ raw (Left 𝓛 b o) ∷ []) ∵
         move ! (0 ∷ 2 ∷ []) $
-        rewrite ! 1 (λ (k : ℕ). ‵ (octets back (at place (mem u8).size k))) (sym e) refl $
-        use2 𝓛 (‵ (octets (ws ++ back) place)) (join_app 𝓛 (mem u8) ws back b place) $
+        rewrite ! 1 (λ (k : ℕ). ‵ (octets back (at offset (mem u8).size k))) (sym e) refl $
+        use2 𝓛 (‵ (octets (ws ++ back) offset)) (join_app 𝓛 (mem u8) ws back b offset) $
         rewrite ! 0 (λ (k : ℕ). ‵ (octets (ws ++ back) k)) (sym (after_head long)) refl $ move ! (1 ∷ 0 ∷ []) $
         use2 𝓛 (‵ (octets (head ++ (ws ++ back)) p)) (join_app 𝓛 (mem u8) head (ws ++ back) b p) $
         rewrite ! 0 (λ (l : List ℕ). ‵ (octets l p)) same refl $
         by ! (octets_in 𝓛 b o (with_octets d ws) (sym (ap length same) ∙ omega (arith, long)))
 
     abbrev Lent : ℕ → GName → SProp 𝓤
-    Lent k δ = sep 𝓤 (sem 𝓛 ((MutSlice (named 0) κ u8).own_val (record { ref_ptr = (b, place); ghost_name = δ; now = front }) (slice_val (b, place) k ∷ []))) (sep 𝓤 (A.lft κ q) (sem 𝓛 (follows the_row (Array u8 0) γ δ (with_octets d))))
+    Lent k δ = sep 𝓤 (sem 𝓛 ((MutSlice (named 0) κ u8).own_val (record { ref_ptr = (b, offset); ghost_name = δ; now = front }) (slice_val (b, offset) k ∷ []))) (sep 𝓤 (A.lft κ q) (sem 𝓛 (follows the_row (Array u8 0) γ δ (with_octets d))))
 
     abbrev lent : ℕ → GName → Item 𝓤
-    lent k δ = ‵ ((MutSlice (named 0) κ u8).own_val (record { ref_ptr = (b, place); ghost_name = δ; now = front }) (slice_val (b, place) k ∷ [])) ⊛ ‵ (flft κ q) ⊛ ‵ (follows the_row (Array u8 0) γ δ (with_octets d))
+    lent k δ = ‵ ((MutSlice (named 0) κ u8).own_val (record { ref_ptr = (b, offset); ghost_name = δ; now = front }) (slice_val (b, offset) k ∷ [])) ⊛ ‵ (flft κ q) ⊛ ‵ (follows the_row (Array u8 0) γ δ (with_octets d))
 
     lends : m ≤ 63 → (vs : List Val)
         → ent 𝓤 (sep 𝓤 (sem 𝓛 ((MutRef (named 0) κ the_row).own_val (record { ref_ptr = (b, o); ghost_name = γ; now = d }) vs)) (A.lft κ q)) (H.⇛ (ex 𝓤 (Lent m)))
@@ -121,12 +121,12 @@ module _ {M : Type 1} {𝓤 : Ura M} (𝓛 : Logic 𝓤) where
         use1 𝓛 (‵ (octets head p) ⊛ ‵ (octets (drop_list 1 d.wire) (at p (mem u8).size (length head)))) (cut_app 𝓛 (mem u8) head (drop_list 1 d.wire) b p) $
         split ! $ move ! (1 ∷ []) $
         rewrite ! 0 (λ (k : ℕ). ‵ (octets (drop_list 1 d.wire) k)) (after_head long) refl $
-        rewrite ! 0 (λ (l : List ℕ). ‵ (octets l place)) (sym (take-append-drop m (drop_list 1 d.wire))) refl $
-        use1 𝓛 (‵ (octets front place) ⊛ ‵ (octets back past)) (cut_app 𝓛 (mem u8) front back b place) $
+        rewrite ! 0 (λ (l : List ℕ). ‵ (octets l offset)) (sym (take-append-drop m (drop_list 1 d.wire))) refl $
+        use1 𝓛 (‵ (octets front offset) ⊛ ‵ (octets back past)) (cut_app 𝓛 (mem u8) front back b offset) $
         -- [the octets lent; those after them; the length octet; what is left of the label; the borrow]
         split ! $ move ! (1 ∷ 3 ∷ []) $ join ! $ move ! (2 ∷ 0 ∷ []) $ join ! $ move ! (2 ∷ 3 ∷ 4 ∷ 1 ∷ 0 ∷ []) $ group ! 5 $
         use1 𝓛 (later (some (lent (length front))))
-        (lends_Elements 𝓛 the_row u8 (with_octets d) (named 0) κ q b o b place γ front room Rest (put within long) (the_row.coded.code d) (the_row.coded.code d)) $
+        (lends_Elements 𝓛 the_row u8 (with_octets d) (named 0) κ q b o b offset γ front room Rest (put within long) (the_row.coded.code d) (the_row.coded.code d)) $
         await ! tt $ pick ! (λ δ. rewrite ! 0 (λ (k : ℕ). lent k δ) counted refl $ now ! $ show ! (Lent m) δ $ done !))
 
 pub octets_mut_spec : {M : Type 1} → statement M

@@ -11,4 +11,4 @@ truncate-requires g c =
 pub returns : goal.returns
 returns g c =
     let a = c.args.self.absolute.1.0 in
-    lacks_root _ _ c.truncate.ensures.parts.0 a c.truncate.ensures.parts.1 (omega (arith, c.len-len.ensures, c.truncate.ensures.place, root_long (name_labels c.args.self) a))
+    lacks_root _ _ c.truncate.ensures.parts.0 a c.truncate.ensures.parts.1 (omega (arith, c.len-len.ensures, c.truncate.ensures.offset, root_long (name_labels c.args.self) a))

@@ -11,13 +11,13 @@ truncate-requires g c =
     let bs = g.N.NameLabels.labels c.args.base.now in
     let a = g.met.N.Absolute.absolute c.args.base.now in
     let ends = rw c.as_slice.ensures.octets at c.in-Some.ensures.exact.0 refl in
-    let place = rw c.as_slice.ensures.octets at c.in-Some.ensures.place in
-    absolute_suffix_begins _ bs c.in-Some.place (absolute_wire c.args.self.absolute) a.0 ends place
+    let offset = rw c.as_slice.ensures.octets at c.in-Some.ensures.offset in
+    absolute_suffix_begins _ bs c.in-Some.offset (absolute_wire c.args.self.absolute) a.0 ends offset
 
 pub returns-in-Some-clause-ok : goal.returns-in-Some-clause-ok
 returns-in-Some-clause-ok g c =
     let bs = g.N.NameLabels.labels c.args.base.now in
     let ends = rw c.as_slice.ensures.octets at c.in-Some.ensures.exact.0 refl in
-    let place = rw c.as_slice.ensures.octets at c.in-Some.ensures.place in
+    let offset = rw c.as_slice.ensures.octets at c.in-Some.ensures.offset in
     let parts = c.truncate.ensures.parts in
-    stripped _ bs _ parts.0 c.in-Some.place (absolute_wire c.args.self.absolute) ends place parts.1 c.truncate.ensures.place
+    stripped _ bs _ parts.0 c.in-Some.offset (absolute_wire c.args.self.absolute) ends offset parts.1 c.truncate.ensures.offset

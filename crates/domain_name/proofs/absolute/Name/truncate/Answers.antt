@@ -16,9 +16,9 @@ returns-clause-parts g c =
     let P : List ℕ → Type 0 = λ o. (x : List (List ℕ)) × (name_labels c.args.self ≡ labels_in o ++ x) in
     subst P (sym e) (_, sym p.parts)
 
-pub returns-clause-place : goal.returns-clause-place
-returns-clause-place g c =
+pub returns-clause-offset : goal.returns-clause-offset
+returns-clause-offset g c =
     let p = absolute_parts _ c.args.len c.args.self.absolute c.requires in
     let e = ap g.Octs.Octets.octets c.from_wire.ensures ∙ (c.truncate.ensures.octets ∙ ap (λ x. take c.args.len (g.Octs.Octets.octets x)) c.into_octets-octets.ensures) in
     let P : List ℕ → Type 0 = λ o. length (wire (labels_in o)) ≡ c.args.len in
-    subst P (sym e) p.place
+    subst P (sym e) p.offset

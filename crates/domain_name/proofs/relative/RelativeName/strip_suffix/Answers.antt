@@ -10,13 +10,13 @@ pub truncate-requires : goal.truncate-requires
 truncate-requires g c =
     let bs = g.N.NameLabels.labels c.args.base.now in
     let ends = rw c.as_slice.ensures.octets at c.in-Some.ensures.exact.0 refl in
-    let place = rw c.as_slice.ensures.octets at c.in-Some.ensures.place in
-    suffix_begins _ bs c.in-Some.place (relative_wire c.args.self.now.relative) ends place
+    let offset = rw c.as_slice.ensures.octets at c.in-Some.ensures.offset in
+    suffix_begins _ bs c.in-Some.offset (relative_wire c.args.self.now.relative) ends offset
 
 pub returns-clause-ok : goal.returns-clause-ok
 returns-clause-ok g c =
     let bs = g.N.NameLabels.labels c.args.base.now in
     let ends = rw c.as_slice.ensures.octets at c.in-Some.ensures.exact.0 refl in
-    let place = rw c.as_slice.ensures.octets at c.in-Some.ensures.place in
+    let offset = rw c.as_slice.ensures.octets at c.in-Some.ensures.offset in
     let parts = c.truncate.ensures.parts in
-    stripped _ bs _ parts.0 c.in-Some.place (relative_wire c.args.self.now.relative) ends place parts.1 c.truncate.ensures.place
+    stripped _ bs _ parts.0 c.in-Some.offset (relative_wire c.args.self.now.relative) ends offset parts.1 c.truncate.ensures.offset

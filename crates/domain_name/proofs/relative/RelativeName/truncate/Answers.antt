@@ -15,7 +15,7 @@ returns-clause-parts g c =
     let P : List ℕ → Type 0 = λ o. (x : List (List ℕ)) × (relative_labels c.args.self.now ≡ labels_in o ++ x) in
     subst P (sym c.truncate.ensures.octets) (_, sym p.parts)
 
-pub returns-clause-place : goal.returns-clause-place
-returns-clause-place g c =
+pub returns-clause-offset : goal.returns-clause-offset
+returns-clause-offset g c =
     let p = relative_parts _ c.args.len c.args.self.now.relative c.requires in
-    rw c.truncate.ensures.octets p.place
+    rw c.truncate.ensures.octets p.offset

@@ -4,9 +4,9 @@ use Rattle.domain_tool.specs.declared.asked.Asked.{Asked}
 use Rattle.domain_tool.specs.declared.asked.Asked.TheVariants.{At, Text, List as Lines}
 use Rattle.domain_tool.proofs.asked.Asked.by.Goals as goal
 
-nothing : (words : List (List ℕ)) → ((place : ℕ) → (pointers : ℕ) → AsksWithin words place pointers → ⊥) → ((asked : Asked) → AsksPlainly words asked → ⊥) → AsksSomething words → ⊥
-nothing words limited plain (At place pointers, inl asks) = plain (At place pointers) asks
-nothing words limited plain (At place pointers, inr asks) = limited place pointers asks
+nothing : (words : List (List ℕ)) → ((offset : ℕ) → (pointers : ℕ) → AsksWithin words offset pointers → ⊥) → ((asked : Asked) → AsksPlainly words asked → ⊥) → AsksSomething words → ⊥
+nothing words limited plain (At offset pointers, inl asks) = plain (At offset pointers) asks
+nothing words limited plain (At offset pointers, inr asks) = limited offset pointers asks
 nothing words limited plain (Text text, asks) = plain (Text text) asks
 nothing words limited plain (Lines, asks) = plain Lines asks
 

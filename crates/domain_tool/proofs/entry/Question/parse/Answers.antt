@@ -13,5 +13,5 @@ returns-in-Err-parse_u16_be-2-clause-err c =
     let moved = c.in-Ok-parse_u16_be.ensures.moves in
     let short = c.in-Err-parse_u16_be-2.ensures.short.0 refl in
     let same = ap length (same_message _ _ _ moved) in
-    let there = moved.place in
+    let there = moved.offset in
     cut_question _ _ _ _ c.in-Ok.ensures.labels c.in-Ok.ensures.moves (omega (arith, short, same, there)) c.from-in-Err-parse_u16_be-2.ensures

@@ -14,7 +14,7 @@ returns-in-Err-parse_u16_be-2-clause-err c =
     let one = c.in-Ok-parse_u16_be.ensures.moves in
     let short = c.in-Err-parse_u16_be-2.ensures.short.0 refl in
     let same = ap length (same_message _ _ _ one) in
-    let there = one.place in
+    let there = one.offset in
     cut_record_head _ _ _ _ c.in-Ok.ensures.labels c.in-Ok.ensures.moves (omega (arith, short, same, there)) c.from-in-Err-parse_u16_be-2.ensures
 
 pub returns-in-Err-parse_u32_be-clause-err : goal.returns-in-Err-parse_u32_be-clause-err
@@ -23,8 +23,8 @@ returns-in-Err-parse_u32_be-clause-err c =
     let two = c.in-Ok-parse_u16_be-2.ensures.moves in
     let short = c.in-Err-parse_u32_be.ensures.short.0 refl in
     let same = ap length (same_message _ _ _ two ∙ same_message _ _ _ one) in
-    let first = one.place in
-    let second = two.place in
+    let first = one.offset in
+    let second = two.offset in
     cut_record_head _ _ _ _ c.in-Ok.ensures.labels c.in-Ok.ensures.moves (omega (arith, short, same, first, second)) c.from-in-Err-parse_u32_be.ensures
 
 pub returns-in-Err-parse_u16_be-3-clause-err :
@@ -35,9 +35,9 @@ returns-in-Err-parse_u16_be-3-clause-err c =
     let three = c.in-Ok-parse_u32_be.ensures.moves in
     let short = c.in-Err-parse_u16_be-3.ensures.short.0 refl in
     let same = ap length (same_message _ _ _ three ∙ (same_message _ _ _ two ∙ same_message _ _ _ one)) in
-    let first = one.place in
-    let second = two.place in
-    let third = three.place in
+    let first = one.offset in
+    let second = two.offset in
+    let third = three.offset in
     cut_record_head _ _ _ _ c.in-Ok.ensures.labels c.in-Ok.ensures.moves (omega (arith, short, same, first, second, third)) c.from-in-Err-parse_u16_be-3.ensures
 
 pub returns-clause-ok : goal.returns-clause-ok
@@ -51,10 +51,10 @@ returns-clause-ok c =
     let after_one = same_message _ _ _ one ∙ zero in
     let after_two = same_message _ _ _ two ∙ after_one in
     let after_three = same_message _ _ _ three ∙ after_two in
-    let first = one.place in
-    let second = two.place in
-    let third = three.place in
-    let fourth = four.place in
+    let first = one.offset in
+    let second = two.offset in
+    let third = three.offset in
+    let fourth = four.offset in
     let all = ap length (same_message _ _ _ four ∙ after_three) in
     let inside = place_inside c.parse_u16_be-3.new.self in
     record {

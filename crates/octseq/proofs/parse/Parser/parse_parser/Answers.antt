@@ -6,4 +6,4 @@ pub returns-clause-message : goal.returns-clause-message
 returns-clause-message c =
     let s = c.args.self.now in
     let moved = c.in_ok-advance.ensures.ok in
-    ap (λ k. take k s.octets.now) moved.place ∙ sym (take-take (s.pos + c.args.n) s.end s.octets.now (omega (arith, moved.place, moved.end, c.advance.new.self.ordered)))
+    ap (λ k. take k s.octets.now) moved.offset ∙ sym (take-take (s.pos + c.args.n) s.end s.octets.now (omega (arith, moved.offset, moved.end, c.advance.new.self.ordered)))
