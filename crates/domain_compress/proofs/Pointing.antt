@@ -4,7 +4,7 @@ use Rattle.std.proofs.lemmas.List.{map-append}
 use Rattle.domain_label.specs.Wire.{wire, IsRelative, IsAbsoluteName}
 use Rattle.domain_label.specs.Lowercase.{lowercase, lowercase_labels}
 use Rattle.domain_label.proofs.CanonicalForm.{lowercase_size}
-use Rattle.domain_reading.specs.Grammar.{Flat, Reads}
+use Rattle.domain_reading.specs.Grammar.{LabelRun, Reads}
 use Rattle.domain_reading.specs.Grammar.Reads.{root, label, pointer}
 use Rattle.domain_reading.proofs.Reading.{reads_once, reads_more}
 use Rattle.domain_compress.specs.Compressing.{pointer_to, IsRead}
@@ -17,7 +17,7 @@ reads_inside (label x r) = omega (arith, x.inside)
 reads_inside (pointer x lt r) = omega (arith, x.inside)
 
 -- Labels and what is read after them.
-flat_reads : {m : List ℕ} {r k : ℕ} {ls : List (List ℕ)} (a : List (List ℕ)) (p : ℕ) → Flat m p a r → Reads m r k ls → Reads m p k (a ++ ls)
+flat_reads : {m : List ℕ} {r k : ℕ} {ls : List (List ℕ)} (a : List (List ℕ)) (p : ℕ) → LabelRun m p a r → Reads m r k ls → Reads m p k (a ++ ls)
 flat_reads {m} {k = k} {ls} [] p f r = subst (λ q. Reads m q k ls) (sym f) r
 flat_reads (l ∷ a) p f r = label f.0 (flat_reads a (p + 1 + length l) f.1 r)
 

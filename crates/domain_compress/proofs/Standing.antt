@@ -7,7 +7,7 @@ use Rattle.std.proofs.lemmas.List.{take-append-le, take-append-drop, drop-take, 
 use Rattle.std.proofs.lemmas.List.Elements.{All-nil, All-cons, All-head, All-tail, All-append, All-take}
 use Rattle.std.specs.List.{All}
 use Rattle.domain_label.specs.Wire.{wire, IsAbsolute, IsRelative, IsAbsoluteName}
-use Rattle.domain_reading.specs.Grammar.{Flat, Reads, Names}
+use Rattle.domain_reading.specs.Grammar.{LabelRun, Reads, Names}
 use Rattle.domain_reading.specs.Grammar.Reads.{root, label, pointer}
 use Rattle.domain_reading.specs.Touched.{ReadsFrom}
 use Rattle.domain_reading.proofs.UncompressedIsRead.{plain_names}
@@ -108,7 +108,7 @@ one_more n m p l ls c x rest =
       | false ↦ All-nil P
     ]
 
-labels_stand : (n : ℕ) (m : List ℕ) (a : List (List ℕ)) (p r : ℕ) (c : List (List ℕ)) → n ≤ p → Flat m p a r → ReadsFrom n m r c → AllRememberedStand n m (remembered_from p (length m) a)
+labels_stand : (n : ℕ) (m : List ℕ) (a : List (List ℕ)) (p r : ℕ) (c : List (List ℕ)) → n ≤ p → LabelRun m p a r → ReadsFrom n m r c → AllRememberedStand n m (remembered_from p (length m) a)
 labels_stand n m [] p r c le f x = All-nil (RememberedStands n m)
 labels_stand n m (l ∷ a) p r c le f x =
     one_more n m p l a ((l ∷ a) ++ c) (labels_after (l ∷ a) p le f x) (labels_stand n m a (p + 1 + length l) r c (omega (arith, le)) f.1 x)

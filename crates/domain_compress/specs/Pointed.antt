@@ -3,7 +3,7 @@ use Rattle.std.proofs.Common.{◌≡◌, ℕ, ◌+◌, ◌-◌, ◌/◌, ◌%◌
 use Rattle.std.proofs.lemmas.Grind.{common_steps}
 use Rattle.std.proofs.Math.Seq.{take-append_seam, drop-append-add}
 use Rattle.domain_label.specs.Wire.{wire, IsAbsolute, IsRelative, IsAbsoluteName}
-use Rattle.domain_reading.specs.Grammar.{LabelAt, PointerAt, Flat, Encoding}
+use Rattle.domain_reading.specs.Grammar.{LabelAt, PointerAt, LabelRun, Encoding}
 use Rattle.domain_reading.specs.Grammar.Stop.{pointer as stop_pointer}
 use Rattle.domain_label.proofs.WireLaws.{length-wire_append}
 use Rattle.domain_rdata.specs.ReadBack.{ReadsBack}
@@ -26,18 +26,18 @@ label_plain t l u some few = record {
   octets = label_slice t l u (length l);
 }
 
-flat_after : (t l u : List ℕ) (a : List (List ℕ)) → 0 < length l → length l ≤ 63 → Flat ((t ++ length l ∷ l) ++ (wire a ++ u)) (length (t ++ length l ∷ l)) a (length (t ++ length l ∷ l) + length (wire a)) → Flat (t ++ (wire (l ∷ a) ++ u)) (length t) (l ∷ a) (length t + length (wire (l ∷ a)))
+flat_after : (t l u : List ℕ) (a : List (List ℕ)) → 0 < length l → length l ≤ 63 → LabelRun ((t ++ length l ∷ l) ++ (wire a ++ u)) (length (t ++ length l ∷ l)) a (length (t ++ length l ∷ l) + length (wire a)) → LabelRun (t ++ (wire (l ∷ a) ++ u)) (length t) (l ∷ a) (length t + length (wire (l ∷ a)))
 flat_after t l u a some few tail =
     let whole : (t ++ length l ∷ l) ++ (wire a ++ u) ≡ t ++ (length l ∷ ((l ++ wire a) ++ u)) = append_assoc t (length l ∷ l) (wire a ++ u) ∙ ap (λ xs. t ++ (length l ∷ xs)) (sym (append_assoc l (wire a) u)) in
     let offset : length (t ++ length l ∷ l) ≡ length t + 1 + length l = omega (arith, length-append t (length l ∷ l)) in
     let end : length t + 1 + length l + length (wire a) ≡ length t + length (wire (l ∷ a)) = omega (arith, length-append l (wire a)) in
     let m = t ++ (length l ∷ ((l ++ wire a) ++ u)) in
-    let moved = subst (λ p. Flat m p a (p + length (wire a))) offset (subst (λ m. Flat m (length (t ++ length l ∷ l)) a (length (t ++ length l ∷ l) + length (wire a))) whole tail) in
+    let moved = subst (λ p. LabelRun m p a (p + length (wire a))) offset (subst (λ m. LabelRun m (length (t ++ length l ∷ l)) a (length (t ++ length l ∷ l) + length (wire a))) whole tail) in
     let here = subst (λ xs. LabelAt (t ++ (length l ∷ xs)) (length t) l) (sym (append_assoc l (wire a) u)) (label_plain t l (wire a ++ u) some few) in
-    (here, subst (λ r. Flat m (length t + 1 + length l) a r) end moved)
+    (here, subst (λ r. LabelRun m (length t + 1 + length l) a r) end moved)
 
 -- Labels stand where their wire format does.
-pub flat_plain : (a : List (List ℕ)) (t u : List ℕ) → IsRelative a → Flat (t ++ (wire a ++ u)) (length t) a (length t + length (wire a))
+pub flat_plain : (a : List (List ℕ)) (t u : List ℕ) → IsRelative a → LabelRun (t ++ (wire a ++ u)) (length t) a (length t + length (wire a))
 flat_plain [] t u r = omega arith
 flat_plain ([] ∷ a) t u r = absurd r
 flat_plain ((c ∷ l) ∷ a) t u r = flat_after t (c ∷ l) u a (omega arith) r.0 (flat_plain a (t ++ length (c ∷ l) ∷ c ∷ l) u r.1)
@@ -83,7 +83,7 @@ pointed t ws ls a b p name found read =
     let rel : IsRelative a = begins_relative a b (subst IsAbsolute found.parts name.0) some in
     let s = wire a ++ pointer_to p in
     let after = pointer_after t a p in
-    let front : Encoding (t ++ s) (length t) a (stop_pointer p) (length t + length s) = record { stop = length t + length (wire a); flat = flat_plain a t (pointer_to p) rel; ends = (after, omega (arith, length-append (wire a) (pointer_to p))) } in
+    let front : Encoding (t ++ s) (length t) a (stop_pointer p) (length t + length s) = record { stop = length t + length (wire a); run = flat_plain a t (pointer_to p) rel; ends = (after, omega (arith, length-append (wire a) (pointer_to p))) } in
     record {
       short = omega (arith, length-append (wire a) (pointer_to p), ap (λ xs. length (wire xs)) found.parts, length-wire_append a b, end_size b found.more);
       stands = read;

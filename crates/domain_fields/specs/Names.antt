@@ -1,5 +1,5 @@
 -- A name in record data, and its end (RFC 1035, 3.3).
-use Rattle.std.specs.Prelude.{◌≡◌, ℕ, ◌+◌, ◌≤◌, List, [], ◌∷◌, length}
+use Rattle.std.specs.Prelude.{◌≡◌, ℕ, ◌+◌, ◌≤◌, List, length}
 use Rattle.std.proofs.Common.{arith, ap, sym, ◌∙◌}
 use Rattle.domain_wire.specs.declared.error.ParseError.{ParseError}
 use Rattle.domain_wire.specs.Refusals.{refusal}
@@ -7,9 +7,9 @@ use Rattle.domain_wire.specs.Values.{IsReading}
 use Rattle.domain_reading.proofs.Reading.{reads_once}
 use Rattle.domain_reading.proofs.NameOrFault.{names_or_fault, one_fault}
 use Rattle.domain_reading.proofs.OneEncoding.{front_once}
+use Rattle.domain_reading.proofs.Encodings.{front_inside, stop_whole}
 use Rattle.domain_reading.specs.Faults.{error_of}
-use Rattle.domain_reading.specs.Grammar.{Names, EncodingEnds, Flat, Encoding, Stop, StopAt}
-use Rattle.domain_reading.specs.Grammar.Stop.{root, pointer}
+use Rattle.domain_reading.specs.Grammar.{Names, EncodingEnds}
 use Rattle.domain_reading.specs.ParseResult.{HasNoName}
 
 -- The name at offset p is ls, and e is the end of its encoding (RFC 1035, 4.1.4).
@@ -24,27 +24,9 @@ NoNameField m p why = HasNoName 255 m p (refusal why)
 name_once : {m : List ℕ} {p : ℕ} {xs ys : List (List ℕ)} {e f : ℕ} → NameFieldAt m p xs e → NameFieldAt m p ys f → (xs ≡ ys) × (e ≡ f)
 name_once a b = ((reads_once a.named.reads b.named.reads).1, (front_once a.front.2 b.front.2).2)
 
-flat_inside : (m : List ℕ) (p r : ℕ) (fs : List (List ℕ)) → Flat m p fs r → p ≤ r
-flat_inside m p r [] flat = omega (arith, flat)
-flat_inside m p r (l ∷ fs) flat = let rest = flat_inside m (p + 1 + length l) r fs flat.1 in omega arith
-
-stop_after : (m : List ℕ) (r e : ℕ) (c : Stop) → StopAt m r c e → r ≤ e
-stop_after m r e root at = omega (arith, at.1)
-stop_after m r e (pointer q) at = omega (arith, at.1)
-
-front_inside : {m : List ℕ} {p e : ℕ} {fs : List (List ℕ)} {c : Stop} → Encoding m p fs c e → p ≤ e
-front_inside {m} {p} {e} {fs} {c} front =
-    let flat = flat_inside m p front.stop fs front.flat in
-    let ends = stop_after m front.stop e c front.ends in
-    omega arith
-
 -- a name begins before its end, and ends inside of the message
 name_inside : (m : List ℕ) (p : ℕ) (ls : List (List ℕ)) (e : ℕ) → NameFieldAt m p ls e → p ≤ e
 name_inside m p ls e a = front_inside a.front.2
-
-stop_whole : (m : List ℕ) (r e : ℕ) (c : Stop) → StopAt m r c e → e ≤ length m
-stop_whole m r e root at = let inside = at.0.inside in let end = at.1 in omega arith
-stop_whole m r e (pointer q) at = let inside = at.0.inside in let end = at.1 in omega arith
 
 name_whole : {m : List ℕ} {p e : ℕ} {ls : List (List ℕ)} → NameFieldAt m p ls e → e ≤ length m
 name_whole {m} {e = e} at = stop_whole m at.front.2.stop e at.front.1 at.front.2.ends

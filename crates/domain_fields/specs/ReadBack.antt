@@ -1,12 +1,11 @@
 -- What was composed is read back.
-use Rattle.std.specs.Prelude.{◌≡◌, ℕ, ◌+◌, ◌-◌, ◌^◌, ◌<◌, ◌≤◌, Bool, List, [], ◌∷◌, ◌++◌, length, take, drop, slice_range, refl}
+use Rattle.std.specs.Prelude.{◌≡◌, ℕ, ◌+◌, ◌-◌, ◌^◌, ◌≤◌, Bool, List, [], ◌++◌, length, take, drop, slice_range, refl}
 use Rattle.std.proofs.Common.{arith, ap, sym, subst, ◌∙◌, append_assoc, append-nil, length-append}
 use Rattle.std.proofs.Math.Seq.{take-append_seam, drop-append_seam}
 use Rattle.domain_label.specs.Lowercase.{lowercase_labels}
 use Rattle.domain_label.specs.Wire.{wire, IsAbsoluteName}
-use Rattle.domain_reading.proofs.Reading.{octet_more, label_more, pointer_more, names_more}
-use Rattle.domain_reading.specs.Grammar.{Flat, EncodingEnds, Stop, StopAt}
-use Rattle.domain_reading.specs.Grammar.Stop.{root, pointer}
+use Rattle.domain_reading.proofs.Encodings.{ends_more}
+use Rattle.domain_reading.proofs.Reading.{names_more}
 use Rattle.domain_rdata.specs.AnyData.{IsAllThatIsLeft}
 use Rattle.domain_rdata.specs.FlatNames.{wire_reads_back}
 use Rattle.domain_rdata.specs.RecordData.{NameOctets}
@@ -22,17 +21,6 @@ IsReadBack {Seen} May At Alike = (compresses : Bool) (t s u : List ℕ) → May 
 -- The same where it is all that is left.
 abbrev pub IsReadBackWhole : {Seen : Type 0} → (Bool → List ℕ → List ℕ → Type 0) → (List ℕ → ℕ → Seen → ℕ → Type 0) → (Seen → Type 0) → Type 0
 IsReadBackWhole {Seen} May At Alike = (compresses : Bool) (t s : List ℕ) → May compresses t s → (it : Seen) × At (t ++ s) (length t) it (length t + length s) × Alike it
-
-flat_more : (fs : List (List ℕ)) (m : List ℕ) (p r : ℕ) (u : List ℕ) → Flat m p fs r → Flat (m ++ u) p fs r
-flat_more [] m p r u same = same
-flat_more (l ∷ fs) m p r u (at, rest) = (label_more u at, flat_more fs m (p + 1 + length l) r u rest)
-
-stop_more : (c : Stop) (m : List ℕ) (r e : ℕ) (u : List ℕ) → StopAt m r c e → StopAt (m ++ u) r c e
-stop_more root m r e u (at, end) = (octet_more u at, end)
-stop_more (pointer q) m r e u (at, end) = (pointer_more u at, end)
-
-ends_more : (m : List ℕ) (p e : ℕ) (u : List ℕ) → EncodingEnds m p e → EncodingEnds (m ++ u) p e
-ends_more m p e u (fs, c, front) = (fs, c, record { stop = front.stop; flat = flat_more fs m p front.stop u front.flat; ends = stop_more c m front.stop e u front.ends })
 
 -- a name, compressed or not: an equal one, ignoring ASCII case
 pub name_read_back : (ls : List (List ℕ)) → IsReadBack (NameOctets ls) NameFieldAt (λ it. lowercase_labels it ≡ lowercase_labels ls)

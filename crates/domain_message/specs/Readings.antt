@@ -1,5 +1,5 @@
 -- At each offset is one question or one error, and one record or one error, never both.
-use Rattle.std.specs.Prelude.{◌≡◌, ℕ, ◌+◌, ◌<◌, ◌≤◌, ◌⊎◌, List, [], ◌∷◌, length, take}
+use Rattle.std.specs.Prelude.{◌≡◌, ℕ, ◌+◌, ◌<◌, ◌≤◌, ◌⊎◌, List, length, take}
 use Rattle.std.proofs.Common.{arith, ap, sym, refl, inl, inr, ◌∙◌}
 use Rattle.domain_wire.specs.declared.error.ParseError.{ParseError}
 use Rattle.domain_wire.specs.Refusals.{refusal}
@@ -7,9 +7,8 @@ use Rattle.domain_wire.specs.Values.{IsReading}
 use Rattle.domain_reading.proofs.Reading.{reads_once}
 use Rattle.std.proofs.lemmas.Bool.{cases_lt}
 use Rattle.domain_reading.proofs.NameOrFault.{names_or_fault, one_fault, name_or_fault, NameOrFault}
+use Rattle.domain_reading.proofs.Encodings.{front_inside}
 use Rattle.domain_reading.proofs.OneEncoding.{front_once, names_skips}
-use Rattle.domain_reading.specs.Grammar.{Flat, Encoding, Stop, StopAt}
-use Rattle.domain_reading.specs.Grammar.Stop.{root, pointer}
 use Rattle.domain_reading.specs.Faults.{error_of}
 use Rattle.domain_message.specs.Entries.{WholeNameAt, NoNameBefore, QuestionFields, QuestionAt, NoQuestion, HeaderFields, RecordHeaderAt, NoRecordHeader, RecordFields, RecordAt, NoRecord}
 use Rattle.domain_message.specs.Entries.NoRecord.{no_header, no_data}
@@ -31,20 +30,6 @@ no_name_once n m p why other (too_short xs r b short u) (no_name (d, t, f)) = ab
 no_name_once n m p why other (too_short xs r a short t) (too_short ys s b also u) = ap refusal (t ∙ sym u)
 
 -- a name begins before its end
-flat_inside : (m : List ℕ) (p r : ℕ) (fs : List (List ℕ)) → Flat m p fs r → p ≤ r
-flat_inside m p r [] flat = omega (arith, flat)
-flat_inside m p r (l ∷ fs) flat = let rest = flat_inside m (p + 1 + length l) r fs flat.1 in omega arith
-
-stop_after : (m : List ℕ) (r e : ℕ) (c : Stop) → StopAt m r c e → r ≤ e
-stop_after m r e root at = omega (arith, at.1)
-stop_after m r e (pointer q) at = omega (arith, at.1)
-
-front_inside : {m : List ℕ} {p e : ℕ} {fs : List (List ℕ)} {c : Stop} → Encoding m p fs c e → p ≤ e
-front_inside {m} {p} {e} {fs} {c} front =
-    let flat = flat_inside m p front.stop fs front.flat in
-    let ends = stop_after m front.stop e c front.ends in
-    omega arith
-
 pub name_inside : (m : List ℕ) (p : ℕ) (ls : List (List ℕ)) (q : ℕ) → WholeNameAt m p ls q → p ≤ q
 name_inside m p ls q a = front_inside a.encoding.2
 

@@ -1,29 +1,16 @@
 -- What is composed for a question or a record is read back (RFC 1035, 4.1.2 and 4.1.3), whatever follows it.
-use Rattle.std.specs.Prelude.{◌≡◌, ℕ, ◌+◌, ◌-◌, ◌^◌, ◌<◌, ◌≤◌, Bool, List, [], ◌∷◌, ◌++◌, length, take, drop, slice_range}
+use Rattle.std.specs.Prelude.{◌≡◌, ℕ, ◌+◌, ◌-◌, ◌^◌, ◌<◌, ◌≤◌, Bool, List, ◌++◌, length, take, drop, slice_range}
 use Rattle.std.specs.Int.{w16, w32, from_be_bytes, to_be_bytes}
 use Rattle.std.proofs.Common.{arith, ap, sym, subst, refl, ◌∙◌, append_assoc, length-append}
 use Rattle.std.proofs.Math.Seq.{take-append_seam, drop-append_seam}
 use Rattle.std.proofs.lemmas.Nat.{from_be_bytes-to_be_bytes_2, from_be_bytes-to_be_bytes_4}
 use Rattle.domain_label.specs.Lowercase.{lowercase_labels}
 use Rattle.domain_rdata.specs.RecordData.{NameOctets}
-use Rattle.domain_reading.specs.Grammar.{Flat, EncodingEnds, Stop, StopAt}
-use Rattle.domain_reading.specs.Grammar.Stop.{root, pointer}
-use Rattle.domain_reading.proofs.Reading.{octet_more, label_more, pointer_more, names_more}
+use Rattle.domain_reading.proofs.Encodings.{ends_more}
+use Rattle.domain_reading.proofs.Reading.{names_more}
 use Rattle.domain_header.specs.Numbers.{number16, number32}
 use Rattle.domain_message.specs.Composing.{type_and_class, QuestionOctets, RecordOctets}
 use Rattle.domain_message.specs.Entries.{WholeNameAt, QuestionFields, QuestionAt, RecordHeaderAt, RecordAt}
-
-flat_more : (fs : List (List ℕ)) (m : List ℕ) (p r : ℕ) (u : List ℕ) → Flat m p fs r → Flat (m ++ u) p fs r
-flat_more [] m p r u same = same
-flat_more (l ∷ fs) m p r u (at, rest) = (label_more u at, flat_more fs m (p + 1 + length l) r u rest)
-
-stop_more : (c : Stop) (m : List ℕ) (r e : ℕ) (u : List ℕ) → StopAt m r c e → StopAt (m ++ u) r c e
-stop_more root m r e u (at, end) = (octet_more u at, end)
-stop_more (pointer q) m r e u (at, end) = (pointer_more u at, end)
-
--- an encoding stays where more follows
-pub ends_more : (m : List ℕ) (p e : ℕ) (u : List ℕ) → EncodingEnds m p e → EncodingEnds (m ++ u) p e
-ends_more m p e u (fs, c, front) = (fs, c, record { stop = front.stop; flat = flat_more fs m p front.stop u front.flat; ends = stop_more c m front.stop e u front.ends })
 
 -- A name that was composed is read back as an equal name, ignoring ASCII case.
 pub name_reads_back : (ls : List (List ℕ)) (b : Bool) (t s u : List ℕ) → NameOctets ls b t s → (c : List (List ℕ)) × WholeNameAt (t ++ s ++ u) (length t) c (length t + length s) × (lowercase_labels c ≡ lowercase_labels ls)

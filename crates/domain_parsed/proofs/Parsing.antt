@@ -5,7 +5,7 @@ use Rattle.std.proofs.lemmas.List.{take-append-drop}
 use Rattle.domain_label.specs.Wire.{wire}
 use Rattle.octseq.specs.declared.parse.Parser.{Parser}
 use Rattle.octseq.specs.Parsing.{message, position}
-use Rattle.domain_reading.specs.Grammar.{OctetAt, PointerAt, Names, Flat, Encoding, FirstLabelAt, IsContiguous}
+use Rattle.domain_reading.specs.Grammar.{OctetAt, PointerAt, Names, LabelRun, Encoding, FirstLabelAt, IsContiguous}
 use Rattle.domain_reading.specs.Grammar.Stop.{root as stop_root, pointer as stop_pointer}
 use Rattle.domain_reading.specs.Grammar.FirstLabelAt.{here}
 use Rattle.domain_wire.specs.Refusals.{refusal}
@@ -82,13 +82,13 @@ piece_tells {w = w} r = (
 
 -- ---- a name that lies plainly
 
-no_pointer_from : {m : List ℕ} {r : ℕ} (fs : List (List ℕ)) (p : ℕ) → Flat m p fs r → OctetAt m r 0 → (q : ℕ) → PointerAt m p q → p ≤ q
+no_pointer_from : {m : List ℕ} {r : ℕ} (fs : List (List ℕ)) (p : ℕ) → LabelRun m p fs r → OctetAt m r 0 → (q : ℕ) → PointerAt m p q → p ≤ q
 no_pointer_from {m} [] p a x q y = let z = subst (λ p. OctetAt m p 0) (sym a) x in absurd (omega (arith, z.octet, y.head))
 no_pointer_from (l ∷ fs) p a x q y = absurd (omega (arith, a.0.head, a.0.short, y.head))
 
 -- where a front ends in the root there is no pointer
 pub front_base : {m : List ℕ} {p e : ℕ} {fs : List (List ℕ)} → Encoding m p fs stop_root e → FirstLabelAt m p p
-front_base {p = p} {fs = fs} x = here (no_pointer_from fs p x.flat x.ends.0)
+front_base {p = p} {fs = fs} x = here (no_pointer_from fs p x.run x.ends.0)
 
 pub plainly_named : {parser : Parser} {ls : List (List ℕ)} (n : ℕ) → StandsUncompressed parser ls → Names n (message parser) (position parser) ls
 plainly_named {parser} {ls} n x =

@@ -18,7 +18,7 @@ pub struct ParsedNameIter<'a> {
     base: usize,
     entries: &'a [u16],
     of: PhantomData<Label<'a>>,
-    ghost stand: { AreLabelOffsets octets.now base entries.now },
+    ghost labels_stand: { AreLabelOffsets octets.now base entries.now },
 }
 
 impl<'a> ParsedNameIter<'a> {

@@ -60,17 +60,17 @@ pub struct ParsedName<Octs: Octets> {
     compressed: bool,
     // There is a label, and at most 128 are there; at the offset of each entry is a whole label, and these are an
     // absolute name.
-    ghost some: { dropped < count },
-    ghost few: { count ≤ max_labels },
-    ghost stand: { TableHasLabels (Octs.octets octets) base entries dropped count },
+    ghost has_label: { dropped < count },
+    ghost few_labels: { count ≤ max_labels },
+    ghost labels_stand: { TableHasLabels (Octs.octets octets) base entries dropped count },
     ghost absolute: { IsAbsoluteName
         (table_labels (Octs.octets octets) base entries dropped count) } by { IsAbsoluteName_prop
             (table_labels (Octs.octets octets) base entries dropped count) },
     // `name_len` is its size, and it had at most 255 octets; with the flag false it is contiguous.
-    ghost sized: { name_len
+    ghost is_sized: { name_len
         ≡ length (wire (table_labels (Octs.octets octets) base entries dropped count)) },
     ghost short: { dropped_len + name_len ≤ max_name },
-    ghost flat: { compressed ≡ false
+    ghost contiguous: { compressed ≡ false
         → AreContiguous (Octs.octets octets) (base + dropped_len) name_len
         (table_labels (Octs.octets octets) base entries dropped count) },
 }

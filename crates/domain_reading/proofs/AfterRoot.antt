@@ -3,7 +3,7 @@ use Rattle.std.proofs.Common.{◌≡◌, ◌∙◌, ℕ, ◌+◌, ◌≤◌, inl
 use Rattle.std.proofs.lemmas.Grind.{common_steps}
 use Rattle.std.proofs.lemmas.Bool.{cases_lt}
 use Rattle.domain_label.specs.Wire.{wire, Root}
-use Rattle.domain_reading.specs.Grammar.{OctetAt, PointerAt, Reads, Flat, Encoding, EncodingEnds}
+use Rattle.domain_reading.specs.Grammar.{OctetAt, PointerAt, Reads, LabelRun, Encoding, EncodingEnds}
 use Rattle.domain_reading.specs.Grammar.Reads.{root}
 use Rattle.domain_reading.specs.Grammar.FirstLabelAt.{here}
 use Rattle.domain_reading.specs.Grammar.Stop.{root as stop_root, pointer as stop_pointer}
@@ -26,8 +26,8 @@ last_base {m = m} {w = w} g x q y = elim (cases_lt 0 w.len) [
   | inr none ↦ absurd (no_pointer x (subst (λ b. PointerAt m b q) (g.near (omega arith)) y))
 ]
 
-end_from : {m : List ℕ} {r : ℕ} (p : ℕ) (fs : List (List ℕ)) (end : Option ℕ) → MatchOption end (Flat m p fs r) (λ e. (gs : List (List ℕ)) × (q : ℕ) × Encoding m p gs (stop_pointer q) e) → OctetAt m r 0 → EncodingEnds m p (unwrap_or end (r + 1))
-end_from {r = r} p fs None a x = (fs, stop_root, record { stop = r; flat = a; ends = (x, refl) })
+end_from : {m : List ℕ} {r : ℕ} (p : ℕ) (fs : List (List ℕ)) (end : Option ℕ) → MatchOption end (LabelRun m p fs r) (λ e. (gs : List (List ℕ)) × (q : ℕ) × Encoding m p gs (stop_pointer q) e) → OctetAt m r 0 → EncodingEnds m p (unwrap_or end (r + 1))
+end_from {r = r} p fs None a x = (fs, stop_root, record { stop = r; run = a; ends = (x, refl) })
 end_from p fs (Some e) a x = (a.0, stop_pointer a.1, a.2)
 
 pub name_read : {n : ℕ} {m : List ℕ} {p : ℕ} {w : Progress} {es : List ℕ} (before heads now : ℕ) → Goes n m p w es before heads → OctetAt m w.at 0 → now ≡ heads + 1 → NameRead n m p (noted w) (table_noted w es) before now
@@ -50,7 +50,7 @@ name_read {n} {m} {p} {w} {es} before heads now g x count =
       some = omega arith;
       few = omega (arith, going.noted.count, going.few_labels, going.short);
       sized = sym len;
-      contiguous = λ h. (fs, w.at + 1, record { stop = w.at; flat = going.flat h; ends = (x, refl) });
+      contiguous = λ h. (fs, w.at + 1, record { stop = w.at; run = going.flat h; ends = (x, refl) });
       is_compressed = going.is_compressed;
       inside = λ h. omega (arith, (flat_wire fs w.base (going.flat h) x).1, going.len, x.inside);
       octets = λ h.

@@ -5,7 +5,7 @@ use Rattle.std.proofs.lemmas.List.Folds.{drop_split}
 use Rattle.std.proofs.Math.Seq.{take-append-add, drop-cons}
 use Rattle.std.proofs.lemmas.Bool.Decides.{nat_tests}
 use Rattle.domain_label.specs.Wire.{wire, Root}
-use Rattle.domain_reading.specs.Grammar.{OctetAt, LabelAt, PointerAt, Reads, root, label, pointer, Names, Flat}
+use Rattle.domain_reading.specs.Grammar.{OctetAt, LabelAt, PointerAt, Reads, root, label, pointer, Names, LabelRun}
 use Rattle.domain_reading.specs.Labels.{read_from, labels_at}
 
 read_root : (n : ℕ) {m : List ℕ} {p : ℕ} → OctetAt m p 0 → read_from (suc n) m p ≡ Root
@@ -57,7 +57,7 @@ slice_one m p inside =
     ap (λ n. take n (drop p m)) k ∙ ap (λ xs. take 1 xs) (drop-cons m p 0 inside)
 
 -- labels with no pointer between them are the octets of the message
-pub flat_wire : {m : List ℕ} {r : ℕ} (fs : List (List ℕ)) (p : ℕ) → Flat m p fs r → OctetAt m r 0 → (slice_range m p (r + 1) ≡ wire (fs ++ Root)) × (r ≡ p + length (wire fs))
+pub flat_wire : {m : List ℕ} {r : ℕ} (fs : List (List ℕ)) (p : ℕ) → LabelRun m p fs r → OctetAt m r 0 → (slice_range m p (r + 1) ≡ wire (fs ++ Root)) × (r ≡ p + length (wire fs))
 flat_wire {m} {r} [] p e x = (rw e (slice_one m r x.inside ∙ ap (λ o. o ∷ []) x.octet), omega (arith, e))
 flat_wire {m} {r} (f ∷ fs) p a x =
     let tail = flat_wire fs (p + 1 + length f) a.1 x in

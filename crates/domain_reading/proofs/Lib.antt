@@ -8,3 +8,4 @@ pub mod WhileReading
 pub mod AfterRoot
 pub mod Skipping
 pub mod UncompressedIsRead
+pub mod Encodings

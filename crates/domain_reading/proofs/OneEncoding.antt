@@ -1,7 +1,7 @@
 -- The front of a name, its base, and passing over it: each is one.
 use Rattle.std.proofs.Common.{◌≡◌, ℕ, ◌+◌, ◌≤◌, inl, inr, List, [], ◌∷◌, ◌++◌, length, refl, sym, ap, subst, arith, ◌∙◌, append_assoc, length-append}
 use Rattle.domain_label.specs.Wire.{wire}
-use Rattle.domain_reading.specs.Grammar.{LabelAt, Reads, Names, Flat, Stop, StopAt, Encoding, FirstLabelAt, IsContiguous}
+use Rattle.domain_reading.specs.Grammar.{LabelAt, Reads, Names, LabelRun, Stop, StopAt, Encoding, FirstLabelAt, IsContiguous}
 use Rattle.domain_reading.specs.Grammar.Reads.{root as reads_root, label as reads_label, pointer as reads_pointer}
 use Rattle.domain_reading.specs.Grammar.Stop.{root as stop_root, pointer as stop_pointer}
 use Rattle.domain_reading.specs.Grammar.FirstLabelAt.{here, past}
@@ -23,7 +23,7 @@ stop_once m r stop_root (stop_pointer q) e f a b = absurd (omega (arith, a.0.oct
 stop_once m r (stop_pointer q) stop_root e f a b = absurd (omega (arith, b.0.octet, a.0.head))
 stop_once m r (stop_pointer q) (stop_pointer s) e f a b = (ap (λ q. stop_pointer q) (pointer_once a.0 b.0), a.1 ∙ sym b.1)
 
-front_from : (m : List ℕ) (r s e f : ℕ) (c d : Stop) (fs gs : List (List ℕ)) (p : ℕ) → Flat m p fs r → StopAt m r c e → Flat m p gs s → StopAt m s d f → (fs ≡ gs) × (c ≡ d) × (e ≡ f)
+front_from : (m : List ℕ) (r s e f : ℕ) (c d : Stop) (fs gs : List (List ℕ)) (p : ℕ) → LabelRun m p fs r → StopAt m r c e → LabelRun m p gs s → StopAt m s d f → (fs ≡ gs) × (c ≡ d) × (e ≡ f)
 front_from m r s e f c d [] [] p a x b y =
     let same = stop_once m p c d e f (subst (λ q. StopAt m q c e) (sym a) x) (subst (λ q. StopAt m q d f) (sym b) y) in
     (refl, same.0, same.1)
@@ -31,11 +31,11 @@ front_from m r s e f c d [] (g ∷ gs) p a x b y = absurd (stop_not_label e c x 
 front_from m r s e f c d (g ∷ fs) [] p a x b y = absurd (stop_not_label f d y (subst (λ q. LabelAt m q g) b a.0))
 front_from m r s e f c d (g ∷ fs) (h ∷ gs) p a x b y =
     let same = label_once a.0 b.0 in
-    let rest = front_from m r s e f c d fs gs (p + 1 + length h) (subst (λ l. Flat m (p + 1 + length l) fs r) same a.1) x b.1 y in
+    let rest = front_from m r s e f c d fs gs (p + 1 + length h) (subst (λ l. LabelRun m (p + 1 + length l) fs r) same a.1) x b.1 y in
     (cc (same, rest.0), rest.1, rest.2)
 
 pub front_once : {m : List ℕ} {p e f : ℕ} {fs gs : List (List ℕ)} {c d : Stop} → Encoding m p fs c e → Encoding m p gs d f → (fs ≡ gs) × (c ≡ d) × (e ≡ f)
-front_once {m} {p} {e} {f} {fs} {gs} {c} {d} a b = front_from m _ _ e f c d fs gs p a.flat a.ends b.flat b.ends
+front_once {m} {p} {e} {f} {fs} {gs} {c} {d} a b = front_from m _ _ e f c d fs gs p a.run a.ends b.run b.ends
 
 -- ---- the base is one
 
@@ -63,17 +63,17 @@ pub record NameFront (m : List ℕ) (p : ℕ) (ls : List (List ℕ)) : Type 0 wh
   pub short : length (wire labels) + stop_len stop ≤ length (wire ls)
 
 pub front_of : {m : List ℕ} {p k : ℕ} {ls : List (List ℕ)} → Reads m p k ls → NameFront m p ls
-front_of {p = p} (reads_root x) = record { labels = []; stop = stop_root; end = p + 1; front = record { stop = p; flat = refl; ends = (x, refl) }; short = omega arith }
+front_of {p = p} (reads_root x) = record { labels = []; stop = stop_root; end = p + 1; front = record { stop = p; run = refl; ends = (x, refl) }; short = omega arith }
 front_of (reads_label {l = l} {rest = rest} x r) =
     let f = front_of r in
     record {
       labels = l ∷ f.labels;
       stop = f.stop;
       end = f.end;
-      front = record { stop = f.front.stop; flat = (x, f.front.flat); ends = f.front.ends };
+      front = record { stop = f.front.stop; run = (x, f.front.run); ends = f.front.ends };
       short = omega (arith, f.short, length-append l (wire rest), length-append l (wire f.labels));
     }
-front_of {p = p} (reads_pointer {q = q} x lt r) = record { labels = []; stop = stop_pointer q; end = p + 2; front = record { stop = p; flat = refl; ends = (x, refl) }; short = omega arith }
+front_of {p = p} (reads_pointer {q = q} x lt r) = record { labels = []; stop = stop_pointer q; end = p + 2; front = record { stop = p; run = refl; ends = (x, refl) }; short = omega arith }
 
 pub names_skips : {n : ℕ} {m : List ℕ} {p : ℕ} {ls : List (List ℕ)} → Names n m p ls → (e : ℕ) × Skips m p e
 names_skips x =
@@ -98,7 +98,7 @@ fault_not_label gs TooManyPointers x short f = f
 fault_not_label gs LongName x short f = elim f [ inl a ↦ omega (arith, a.0.octet, x.head, x.nonempty) | inr b ↦ omega (arith, b.2, ap (λ l. length l) (label_once b.1 x)) ]
 
 -- `done` are the labels that were passed on the way to p
-skips_from_not : (m : List ℕ) (r s e : ℕ) (done fs gs : List (List ℕ)) (c : Stop) (fault : NameFault) (p : ℕ) → Flat m p fs r → StopAt m r c e → length (wire (done ++ fs)) + stop_len c ≤ 255 → Flat m p gs s → SkipFaultAt m (done ++ gs) s fault → ⊥
+skips_from_not : (m : List ℕ) (r s e : ℕ) (done fs gs : List (List ℕ)) (c : Stop) (fault : NameFault) (p : ℕ) → LabelRun m p fs r → StopAt m r c e → length (wire (done ++ fs)) + stop_len c ≤ 255 → LabelRun m p gs s → SkipFaultAt m (done ++ gs) s fault → ⊥
 skips_from_not m r s e done [] [] c fault p a x short b f =
     fault_not_stop m p e (done ++ []) c fault (subst (λ q. StopAt m q c e) (sym a) x) short (subst (λ q. SkipFaultAt m (done ++ []) q fault) (sym b) f)
 skips_from_not m r s e done [] (g ∷ gs) c fault p a x short b f = stop_not_label e c x (subst (λ q. LabelAt m q g) a b.0)
@@ -106,12 +106,12 @@ skips_from_not m r s e done (l ∷ fs) [] c fault p a x short b f =
     fault_not_label (done ++ []) fault a.0 (omega (arith, short, length-wire_append done (l ∷ fs), length-wire_append done [], length-append l (wire fs))) (subst (λ q. SkipFaultAt m (done ++ []) q fault) (sym b) f)
 skips_from_not m r s e done (l ∷ fs) (g ∷ gs) c fault p a x short b f =
     let same = label_once a.0 b.0 in
-    let flat = subst (λ l. Flat m (p + 1 + length l) fs r) same a.1 in
+    let flat = subst (λ l. LabelRun m (p + 1 + length l) fs r) same a.1 in
     let len : length (wire ((done ++ g ∷ []) ++ fs)) ≡ length (wire (done ++ l ∷ fs)) = ap (λ xs. length (wire xs)) (append_assoc done (g ∷ []) fs ∙ ap (λ l. done ++ l ∷ fs) (sym same)) in
     skips_from_not m r s e (done ++ g ∷ []) fs gs c fault (p + 1 + length g) flat x (omega (arith, len, short)) b.1 (subst (λ xs. SkipFaultAt m xs s fault) (sym (append_assoc done (g ∷ []) gs)) f)
 
 pub skips_not_both : {m : List ℕ} {p e : ℕ} {fault : NameFault} → Skips m p e → SkipFault m p fault → ⊥
-skips_not_both {p = p} {e} {fault} s f = skips_from_not _ _ _ e [] s.passed f.passed s.stop fault p s.front.flat s.front.ends s.short f.flat f.at
+skips_not_both {p = p} {e} {fault} s f = skips_from_not _ _ _ e [] s.passed f.passed s.stop fault p s.front.run s.front.ends s.short f.run f.at
 
 skip_fault_once : (m : List ℕ) (r : ℕ) (fs : List (List ℕ)) (d e : NameFault) → SkipFaultAt m fs r d → SkipFaultAt m fs r e → d ≡ e
 skip_fault_once m r fs ShortInput ShortInput f g = refl
@@ -126,7 +126,7 @@ skip_fault_once m r fs LongName LongName f g = refl
 skip_fault_once m r fs TooManyPointers e f g = absurd f
 skip_fault_once m r fs d TooManyPointers f g = absurd g
 
-skip_faults_from : (m : List ℕ) (r s : ℕ) (done fs gs : List (List ℕ)) (d e : NameFault) (p : ℕ) → Flat m p fs r → SkipFaultAt m (done ++ fs) r d → length (wire (done ++ fs)) ≤ 255 → Flat m p gs s → SkipFaultAt m (done ++ gs) s e → length (wire (done ++ gs)) ≤ 255 → d ≡ e
+skip_faults_from : (m : List ℕ) (r s : ℕ) (done fs gs : List (List ℕ)) (d e : NameFault) (p : ℕ) → LabelRun m p fs r → SkipFaultAt m (done ++ fs) r d → length (wire (done ++ fs)) ≤ 255 → LabelRun m p gs s → SkipFaultAt m (done ++ gs) s e → length (wire (done ++ gs)) ≤ 255 → d ≡ e
 skip_faults_from m r s done [] [] d e p a f some b g more =
     skip_fault_once m p (done ++ []) d e (subst (λ q. SkipFaultAt m (done ++ []) q d) (sym a) f) (subst (λ q. SkipFaultAt m (done ++ []) q e) (sym b) g)
 skip_faults_from m r s done [] (l ∷ gs) d e p a f some b g more =
@@ -135,10 +135,10 @@ skip_faults_from m r s done (l ∷ fs) [] d e p a f some b g more =
     absurd (fault_not_label (done ++ []) e a.0 (omega (arith, some, length-wire_append done (l ∷ fs), length-wire_append done [], length-append l (wire fs))) (subst (λ q. SkipFaultAt m (done ++ []) q e) (sym b) g))
 skip_faults_from m r s done (l ∷ fs) (h ∷ gs) d e p a f some b g more =
     let same = label_once a.0 b.0 in
-    let flat = subst (λ l. Flat m (p + 1 + length l) fs r) same a.1 in
+    let flat = subst (λ l. LabelRun m (p + 1 + length l) fs r) same a.1 in
     let left : done ++ l ∷ fs ≡ (done ++ h ∷ []) ++ fs = ap (λ l. done ++ l ∷ fs) same ∙ sym (append_assoc done (h ∷ []) fs) in
     let right : done ++ h ∷ gs ≡ (done ++ h ∷ []) ++ gs = sym (append_assoc done (h ∷ []) gs) in
     skip_faults_from m r s (done ++ h ∷ []) fs gs d e (p + 1 + length h) flat (subst (λ xs. SkipFaultAt m xs r d) left f) (subst (λ xs. length (wire xs) ≤ 255) left some) b.1 (subst (λ xs. SkipFaultAt m xs s e) right g) (subst (λ xs. length (wire xs) ≤ 255) right more)
 
 pub one_skip_fault : {m : List ℕ} {p : ℕ} {d e : NameFault} → SkipFault m p d → SkipFault m p e → d ≡ e
-one_skip_fault {p = p} {d} {e} f g = skip_faults_from _ _ _ [] f.passed g.passed d e p f.flat f.at f.short g.flat g.at g.short
+one_skip_fault {p = p} {d} {e} f g = skip_faults_from _ _ _ [] f.passed g.passed d e p f.run f.at f.short g.run g.at g.short

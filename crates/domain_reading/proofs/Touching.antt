@@ -2,7 +2,7 @@
 use Rattle.std.proofs.Common.{◌≡◌, ℕ, ◌+◌, ◌-◌, ◌≤◌, ◌<◌, inl, inr, List, [], ◌∷◌, ◌++◌, suc, length, drop, slice_index, slice_range, refl, sym, ap, subst, arith, ◌∙◌, length-append, length-drop}
 use Rattle.std.proofs.lemmas.Grind.{common_steps}
 use Rattle.std.proofs.lemmas.List.{ext_get_or}
-use Rattle.domain_reading.specs.Grammar.{LabelAt, PointerAt, Reads, root, label, pointer, Names, Flat}
+use Rattle.domain_reading.specs.Grammar.{LabelAt, PointerAt, Reads, root, label, pointer, Names, LabelRun}
 use Rattle.domain_reading.specs.Touched.{Touches, IsKept, ReadsFrom}
 use Rattle.domain_reading.proofs.Reading.{reads_once}
 
@@ -127,7 +127,7 @@ label_after le x rest = record {
   after = λ i h. elim h [ inl here ↦ omega (arith, le, here.0) | inr there ↦ rest.after i there ];
 }
 
-pub labels_after : {n : ℕ} {m : List ℕ} {r : ℕ} {ls : List (List ℕ)} (a : List (List ℕ)) (p : ℕ) → n ≤ p → Flat m p a r → ReadsFrom n m r ls → ReadsFrom n m p (a ++ ls)
+pub labels_after : {n : ℕ} {m : List ℕ} {r : ℕ} {ls : List (List ℕ)} (a : List (List ℕ)) (p : ℕ) → n ≤ p → LabelRun m p a r → ReadsFrom n m r ls → ReadsFrom n m p (a ++ ls)
 labels_after {n} {m} {r} {ls} [] p le f x = subst (λ q. ReadsFrom n m q ls) (sym f) x
 labels_after (l ∷ a) p le f x = label_after le f.0 (labels_after a (p + 1 + length l) (omega (arith, le)) f.1 x)
 

@@ -3,7 +3,7 @@ use Rattle.std.proofs.Common.{◌≡◌, ℕ, ◌+◌, ◌-◌, ◌≤◌, ◌<�
 use Rattle.std.proofs.lemmas.Grind.{common_steps}
 use Rattle.std.proofs.Math.Seq.{take-append_seam, drop-append-add}
 use Rattle.domain_label.specs.Wire.{wire, IsAbsolute, IsAbsoluteName}
-use Rattle.domain_reading.specs.Grammar.{OctetAt, LabelAt, Reads, Names, Flat, Encoding}
+use Rattle.domain_reading.specs.Grammar.{OctetAt, LabelAt, Reads, Names, LabelRun, Encoding}
 use Rattle.domain_reading.specs.Grammar.Reads.{root, label}
 use Rattle.domain_reading.specs.Grammar.Stop.{root as stop_root}
 
@@ -26,7 +26,7 @@ label_plain t l u some few = record {
 pub record UncompressedAt (m : List ℕ) (p : ℕ) (ls : List (List ℕ)) : Type 0 where
   pub labels : List (List ℕ)
   pub stop : ℕ
-  pub flat : Flat m p labels stop
+  pub flat : LabelRun m p labels stop
   pub root_there : OctetAt m stop 0
   pub reads : Reads m p 0 ls
   pub end : stop + 1 ≡ p + length (wire ls)
@@ -65,4 +65,4 @@ plain_names t u ls a = record { pointers = 0; reads = (uncompressed_at t u ls a.
 pub plain_front : (t u : List ℕ) (ls : List (List ℕ)) → IsAbsoluteName ls → (fs : List (List ℕ)) × Encoding (t ++ wire ls ++ u) (length t) fs stop_root (length t + length (wire ls))
 plain_front t u ls a =
     let s = uncompressed_at t u ls a.0 in
-    (s.labels, record { stop = s.stop; flat = s.flat; ends = (s.root_there, sym s.end) })
+    (s.labels, record { stop = s.stop; run = s.flat; ends = (s.root_there, sym s.end) })

@@ -3,7 +3,7 @@ use Rattle.std.proofs.Common.{◌≡◌, ℕ, ◌+◌, ◌*◌, ◌^◌, ◌≤�
 use Rattle.std.proofs.lemmas.Bool.{cases_lt, false≢true, true≢false}
 use Rattle.std.proofs.lemmas.Bool.Decides.{eqb_tells}
 use Rattle.domain_label.specs.Wire.{wire}
-use Rattle.domain_reading.specs.Grammar.{LabelAt, PointerAt, Flat, Encoding, FirstLabelAt}
+use Rattle.domain_reading.specs.Grammar.{LabelAt, PointerAt, LabelRun, Encoding, FirstLabelAt}
 use Rattle.domain_reading.specs.Grammar.FirstLabelAt.{past as base_past}
 use Rattle.domain_reading.specs.Faults.{Followed, start, past_label, past_pointer, NameFaultAt, StepFaultAt}
 use Rattle.domain_reading.specs.Heads.{BrokenAt}
@@ -35,14 +35,14 @@ pub record Going (n : ℕ) (m : List ℕ) (p : ℕ) (w : Progress) (table : List
   pub near : w.len ≡ 0 → w.base ≡ w.at
   pub plain : w.len ≡ 0 → w.compressed ≡ false
   pub last : 0 < w.len → (q : ℕ) → PointerAt m w.base q → w.base ≤ q
-  pub front : MatchOption w.end (Flat m p fs w.at) (λ e. (gs : List (List ℕ)) × (q : ℕ) × Encoding m p gs (pointer q) e)
-  pub flat : w.compressed ≡ false → Flat m w.base fs w.at
+  pub front : MatchOption w.end (LabelRun m p fs w.at) (λ e. (gs : List (List ℕ)) × (q : ℕ) × Encoding m p gs (pointer q) e)
+  pub flat : w.compressed ≡ false → LabelRun m w.base fs w.at
   pub noted : Noted m w.base table w.count fs
   pub near_at : w.compressed ≡ false → w.at ≡ w.base + w.len
   pub far_at : w.compressed ≡ true → w.at ≤ 16383 + w.len
   pub is_compressed : w.compressed ≡ true → (gs : List (List ℕ)) × (q : ℕ) × (e : ℕ) × Encoding m w.base gs (pointer q) e
 
-pub flat_label : {m : List ℕ} {r : ℕ} {l : List ℕ} (fs : List (List ℕ)) (p : ℕ) → Flat m p fs r → LabelAt m r l → Flat m p (fs ++ l ∷ []) (r + 1 + length l)
+pub flat_label : {m : List ℕ} {r : ℕ} {l : List ℕ} (fs : List (List ℕ)) (p : ℕ) → LabelRun m p fs r → LabelAt m r l → LabelRun m p (fs ++ l ∷ []) (r + 1 + length l)
 flat_label {m} {r} {l} [] p e x = (subst (λ a. LabelAt m a l) (sym e) x, ap (λ a. a + 1 + length l) e)
 flat_label (f ∷ fs) p a x = (a.0, flat_label fs (p + 1 + length f) a.1 x)
 
@@ -53,14 +53,14 @@ match_none C (Some e) f c = c
 not_both : {m : List ℕ} {p q : ℕ} {l : List ℕ} → LabelAt m p l → PointerAt m p q → ⊥
 not_both x y = omega arith
 
-front_pointer : {m : List ℕ} {r q : ℕ} (p : ℕ) (fs : List (List ℕ)) (end : Option ℕ) → MatchOption end (Flat m p fs r) (λ e. (gs : List (List ℕ)) × (q : ℕ) × Encoding m p gs (pointer q) e) → PointerAt m r q
+front_pointer : {m : List ℕ} {r q : ℕ} (p : ℕ) (fs : List (List ℕ)) (end : Option ℕ) → MatchOption end (LabelRun m p fs r) (λ e. (gs : List (List ℕ)) × (q : ℕ) × Encoding m p gs (pointer q) e) → PointerAt m r q
     → (gs : List (List ℕ)) × (q : ℕ) × Encoding m p gs (pointer q) (unwrap_or end (r + 2))
-front_pointer {r = r} {q} p fs None a x = (fs, q, record { stop = r; flat = a; ends = (x, refl) })
+front_pointer {r = r} {q} p fs None a x = (fs, q, record { stop = r; run = a; ends = (x, refl) })
 front_pointer p fs (Some e) a x = a
 
-scattered_now : {m : List ℕ} {r q : ℕ} (b : ℕ) (fs : List (List ℕ)) (compressed : Bool) → (compressed ≡ false → Flat m b fs r) → (compressed ≡ true → (gs : List (List ℕ)) × (q : ℕ) × (e : ℕ) × Encoding m b gs (pointer q) e) → PointerAt m r q
+scattered_now : {m : List ℕ} {r q : ℕ} (b : ℕ) (fs : List (List ℕ)) (compressed : Bool) → (compressed ≡ false → LabelRun m b fs r) → (compressed ≡ true → (gs : List (List ℕ)) × (q : ℕ) × (e : ℕ) × Encoding m b gs (pointer q) e) → PointerAt m r q
     → (gs : List (List ℕ)) × (q : ℕ) × (e : ℕ) × Encoding m b gs (pointer q) e
-scattered_now {r = r} {q} b fs false flat scattered x = (fs, q, r + 2, record { stop = r; flat = flat refl; ends = (x, refl) })
+scattered_now {r = r} {q} b fs false flat scattered x = (fs, q, r + 2, record { stop = r; run = flat refl; ends = (x, refl) })
 scattered_now b fs true flat scattered x = scattered refl
 
 pub going_start : (n : ℕ) (m : List ℕ) (p : ℕ) (es : List ℕ) → length es ≡ 128 → Going n m p (beginning p) es []
@@ -119,7 +119,7 @@ going_first {m = m} {p} {w} {es} {fs} {q} g x back few none =
       plain = g.plain;
       last = λ h. absurd (omega arith);
       front = front_pointer p fs w.end g.front x;
-      flat = λ _. subst (λ xs. Flat m q xs q) (sym e) refl;
+      flat = λ _. subst (λ xs. LabelRun m q xs q) (sym e) refl;
       noted = let z : w.count ≡ 0 = g.noted.count ∙ ap (λ xs. length xs) e in rw (z, e) (no_label m q es g.noted.room);
       near_at = λ _. omega (arith, none);
       far_at = λ h. absurd (false≢true (sym (g.plain none) ∙ h));

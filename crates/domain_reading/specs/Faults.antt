@@ -3,7 +3,7 @@ use Rattle.std.specs.Prelude.{◌≡◌, ℕ, suc, ◌+◌, ◌≤◌, ◌<◌, 
 use Rattle.domain_wire.specs.Refusals.{Refusal, short_input, form}
 use Rattle.domain_label.specs.Wire.{wire}
 use Rattle.domain_reading.specs.Limits.{max_name, max_before_root}
-use Rattle.domain_reading.specs.Grammar.{OctetAt, LabelAt, PointerAt, Flat, Encoding, Stop, root, pointer}
+use Rattle.domain_reading.specs.Grammar.{OctetAt, LabelAt, PointerAt, LabelRun, Encoding, Stop, root, pointer}
 use Rattle.domain_reading.specs.declared.fault.NameFault.{NameFault}
 use Rattle.domain_reading.specs.declared.fault.NameFault.TheVariants.{ShortInput, BadLabelType, TooManyPointers, LongName}
 
@@ -78,6 +78,6 @@ SkipFaultAt m fs r LongName = (OctetAt m r 0 × (max_name ≤ length (wire fs)))
 pub record SkipFault (m : List ℕ) (p : ℕ) (fault : NameFault) : Type 0 where
   pub passed : List (List ℕ)
   pub stopped : ℕ
-  pub flat : Flat m p passed stopped
+  pub run : LabelRun m p passed stopped
   pub short : length (wire passed) ≤ max_name
   pub at : SkipFaultAt m passed stopped fault

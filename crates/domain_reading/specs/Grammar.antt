@@ -40,9 +40,9 @@ abbrev pub HasName : ℕ → List ℕ → ℕ → Type 0
 HasName n m p = (ls : List (List ℕ)) × Names n m p ls
 
 -- The labels fs are at the octets from p to r, one after the other, with no pointer between them.
-abbrev pub Flat : List ℕ → ℕ → List (List ℕ) → ℕ → Type 0
-Flat m p [] r = p ≡ r
-Flat m p (l ∷ fs) r = LabelAt m p l × Flat m (p + 1 + length l) fs r
+abbrev pub LabelRun : List ℕ → ℕ → List (List ℕ) → ℕ → Type 0
+LabelRun m p [] r = p ≡ r
+LabelRun m p (l ∷ fs) r = LabelAt m p l × LabelRun m (p + 1 + length l) fs r
 
 -- What ends the encoding of a name.
 pub data Stop : Type 0 where
@@ -57,7 +57,7 @@ StopAt m r (pointer q) e = PointerAt m r q × (e ≡ r + 2)
 -- The encoding of the name at p: the labels fs, then the first root or pointer c, and e is the offset after it.
 pub record Encoding (m : List ℕ) (p : ℕ) (fs : List (List ℕ)) (c : Stop) (e : ℕ) : Type 0 where
   pub stop : ℕ
-  pub flat : Flat m p fs stop
+  pub run : LabelRun m p fs stop
   pub ends : StopAt m stop c e
 
 -- The encoding of the name at p ends before e.

@@ -2,7 +2,7 @@
 ghost use Rattle.std.specs.Prelude.{◌≡◌, ℕ, ◌+◌, ◌<◌, ◌≤◌, ◌⊎◌, List, ◌++◌, length, drop};
 ghost use Rattle.domain_label.specs.Wire.{wire, IsAbsoluteName};
 ghost use Rattle.domain_reading.specs.Limits.{max_pointers};
-ghost use Rattle.domain_reading.specs.Grammar.{PointerAt, Reads, Names, HasName, Flat, Encoding, EncodingEnds, Stop, root, FirstLabelAt};
+ghost use Rattle.domain_reading.specs.Grammar.{PointerAt, Reads, Names, HasName, LabelRun, Encoding, EncodingEnds, Stop, root, FirstLabelAt};
 ghost use Rattle.domain_reading.specs.Faults.{NameFaultAt, HasFault, AreSameFault, Skips, HasSkip, SkipFault};
 ghost use Rattle.domain_reading.specs.Labels.{labels_at};
 ghost use Rattle.domain_reading.specs.Touched.{Touches, IsKept, ReadsFrom};
@@ -69,7 +69,7 @@ pub fn overwriting_laws()
         → ReadsFrom n m p xs → drop n w ≡ drop n m → Names k m p ls → Names k w p ls }
     ensures flat { (m : List ℕ) (p : ℕ) (ls : List (List ℕ)) → Names 0 m p ls → ReadsFrom p m p ls }
     ensures labels { (n : ℕ) (m : List ℕ) (p r : ℕ) (fs ls : List (List ℕ)) → n ≤ p
-        → Flat m p fs r → ReadsFrom n m r ls → ReadsFrom n m p (fs ++ ls) }
+        → LabelRun m p fs r → ReadsFrom n m r ls → ReadsFrom n m p (fs ++ ls) }
     ensures pointer { (n : ℕ) (m : List ℕ) (p q : ℕ) (ls : List (List ℕ)) → n ≤ p
         → PointerAt m p q → q < p → ReadsFrom n m q ls → ReadsFrom n m p ls }
 {}

@@ -11,18 +11,18 @@ returns-in_err-last-clause-last g c =
 pub entry_offset-offset-requires : goal.entry_offset-offset-requires
 entry_offset-offset-requires g c =
     let s = c.args.self.now in
-    let t = taken_back s.octets.now s.base _ _ _ c.in_ok-last.ensures.cases.0 s.stand in
+    let t = taken_back s.octets.now s.base _ _ _ c.in_ok-last.ensures.cases.0 s.labels_stand in
     omega (arith, t.here)
 
 pub invariant_of-self : goal.invariant_of-self
 invariant_of-self g c =
     let s = c.args.self.now in
-    record { stand = (taken_back s.octets.now s.base _ _ _ c.in_ok-last.ensures.cases.0 s.stand).stand }
+    record { labels_stand = (taken_back s.octets.now s.base _ _ _ c.in_ok-last.ensures.cases.0 s.labels_stand).stand }
 
 pub read_label-label-requires : goal.read_label-label-requires
 read_label-label-requires g c =
     let s = c.args.self.now in
-    rw c.entry_offset-offset.ensures (taken_back s.octets.now s.base _ _ _ c.in_ok-last.ensures.cases.0 s.stand).here
+    rw c.entry_offset-offset.ensures (taken_back s.octets.now s.base _ _ _ c.in_ok-last.ensures.cases.0 s.labels_stand).here
 
 pub returns-clause-last : goal.returns-clause-last
 returns-clause-last g c =

@@ -14,18 +14,18 @@ returns-in_err-first-clause-counted g c = rw c.from_residual.ensures refl
 pub entry_offset-offset-requires : goal.entry_offset-offset-requires
 entry_offset-offset-requires g c =
     let s = c.args.self.now in
-    let t = taken s.octets.now s.base _ _ _ c.in_ok-first.ensures.cases.0 s.stand in
+    let t = taken s.octets.now s.base _ _ _ c.in_ok-first.ensures.cases.0 s.labels_stand in
     omega (arith, t.here)
 
 pub invariant_of-self : goal.invariant_of-self
 invariant_of-self g c =
     let s = c.args.self.now in
-    record { stand = (taken s.octets.now s.base _ _ _ c.in_ok-first.ensures.cases.0 s.stand).stand }
+    record { labels_stand = (taken s.octets.now s.base _ _ _ c.in_ok-first.ensures.cases.0 s.labels_stand).stand }
 
 pub read_label-label-requires : goal.read_label-label-requires
 read_label-label-requires g c =
     let s = c.args.self.now in
-    rw c.entry_offset-offset.ensures (taken s.octets.now s.base _ _ _ c.in_ok-first.ensures.cases.0 s.stand).here
+    rw c.entry_offset-offset.ensures (taken s.octets.now s.base _ _ _ c.in_ok-first.ensures.cases.0 s.labels_stand).here
 
 pub returns-clause-first : goal.returns-clause-first
 returns-clause-first g c =
