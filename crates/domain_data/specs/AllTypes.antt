@@ -3,6 +3,7 @@ use Rattle.std.specs.Prelude.{ℕ}
 use Rattle.octseq.specs.declared.octets.Octets.{Ghosts}
 use Rattle.domain_parsed.specs.declared.parsed.ParsedName.{ParsedName}
 use Rattle.domain_parsed.specs.ParsedNames.{parsed_labels}
+use Rattle.domain_data.specs.HostFields.{soa_mname, soa_rname, soa_serial, soa_refresh, soa_retry, soa_expire, soa_minimum, srv_priority, srv_weight, srv_port, srv_target}
 use Rattle.domain_data.specs.Views.{fields_of}
 use Rattle.domain_rdata.specs.Unknown.{data_octets, data_type}
 use Rattle.domain_data.specs.Txts.{txt_strings}
@@ -45,8 +46,8 @@ all_fields (Cname it) = name (parsed_labels (fields_of it).name)
 all_fields (Ptr it) = name (parsed_labels (fields_of it).name)
 all_fields (Dname it) = name (parsed_labels (fields_of it).name)
 all_fields (Mx it) = number_name ((fields_of it).first, parsed_labels (fields_of it).rest.name)
-all_fields (Soa it) = names_numbers (parsed_labels (fields_of it).first.name, (parsed_labels (fields_of it).rest.first.name, ((fields_of it).rest.rest.first, ((fields_of it).rest.rest.rest.first, ((fields_of it).rest.rest.rest.rest.first, ((fields_of it).rest.rest.rest.rest.rest.first, (fields_of it).rest.rest.rest.rest.rest.rest))))))
-all_fields (Srv it) = numbers_name ((fields_of it).first, ((fields_of it).rest.first, ((fields_of it).rest.rest.first, parsed_labels (fields_of it).rest.rest.rest.name)))
+all_fields (Soa it) = names_numbers (parsed_labels (soa_mname it), (parsed_labels (soa_rname it), (soa_serial it, (soa_refresh it, (soa_retry it, (soa_expire it, soa_minimum it))))))
+all_fields (Srv it) = numbers_name (srv_priority it, (srv_weight it, (srv_port it, parsed_labels (srv_target it))))
 all_fields (Mb it) = name (parsed_labels (fields_of it).name)
 all_fields (Md it) = name (parsed_labels (fields_of it).name)
 all_fields (Mf it) = name (parsed_labels (fields_of it).name)

@@ -16,3 +16,4 @@ pub mod TxtViews
 pub mod AllData
 pub mod AllTypes
 pub mod Flat
+pub mod HostFields

@@ -143,14 +143,15 @@ impl<N> Mx<N> {
 }
 
 impl<N> Srv<N> {
-    ghost use Rattle.domain_data.specs.Views.{fields_of, type_of};
+    ghost use Rattle.domain_data.specs.Views.{type_of};
+    ghost use Rattle.domain_data.specs.HostFields.{srv_priority, srv_weight, srv_port, srv_target};
 
     /// Data of these.
     pub fn new(priority: u16, weight: u16, port: u16, target: N) -> Srv<N>
-        ensures priority { (fields_of result).first ≡ priority }
-        ensures weight { (fields_of result).rest.first ≡ weight }
-        ensures port { (fields_of result).rest.rest.first ≡ port }
-        ensures target { (fields_of result).rest.rest.rest.name ≡ target }
+        ensures priority { srv_priority result ≡ priority }
+        ensures weight { srv_weight result ≡ weight }
+        ensures port { srv_port result ≡ port }
+        ensures target { srv_target result ≡ target }
         ensures of_type { type_of result ≡ 33 }
     {
         FieldsData {
@@ -169,35 +170,37 @@ impl<N> Srv<N> {
 
     /// How soon the host is asked: the lower the number, the sooner.
     pub fn priority(&self) -> u16
-        ensures { result ≡ (fields_of self.now).first }
+        ensures { result ≡ srv_priority self.now }
     {
         self.fields.first
     }
 
     /// How often the host is asked, of those with the same priority: the higher the number, the more.
     pub fn weight(&self) -> u16
-        ensures { result ≡ (fields_of self.now).rest.first }
+        ensures { result ≡ srv_weight self.now }
     {
         self.fields.rest.first
     }
 
     /// The port of the service.
     pub fn port(&self) -> u16
-        ensures { result ≡ (fields_of self.now).rest.rest.first }
+        ensures { result ≡ srv_port self.now }
     {
         self.fields.rest.rest.first
     }
 
     /// The name of the host.
     pub fn target(&self) -> &N
-        ensures { result.now ≡ (fields_of self.now).rest.rest.rest.name }
+        ensures { result.now ≡ srv_target self.now }
     {
         &self.fields.rest.rest.rest.name
     }
 }
 
 impl<N> Soa<N> {
-    ghost use Rattle.domain_data.specs.Views.{fields_of, type_of};
+    ghost use Rattle.domain_data.specs.Views.{type_of};
+    ghost use Rattle.domain_data.specs.HostFields.{soa_mname, soa_rname, soa_serial, soa_refresh};
+    ghost use Rattle.domain_data.specs.HostFields.{soa_retry, soa_expire, soa_minimum};
     ghost use Rattle.domain_header.specs.Values.{ttl_seconds};
 
     /// Data of these. On the wire the serial and the times are numbers of 32 bits, as they are here.
@@ -210,13 +213,13 @@ impl<N> Soa<N> {
         expire: Ttl,
         minimum: Ttl,
     ) -> Soa<N>
-        ensures mname { (fields_of result).first.name ≡ mname }
-        ensures rname { (fields_of result).rest.first.name ≡ rname }
-        ensures serial { (fields_of result).rest.rest.first ≡ serial.0 }
-        ensures refresh { (fields_of result).rest.rest.rest.first ≡ ttl_seconds refresh }
-        ensures retry { (fields_of result).rest.rest.rest.rest.first ≡ ttl_seconds retry }
-        ensures expire { (fields_of result).rest.rest.rest.rest.rest.first ≡ ttl_seconds expire }
-        ensures minimum { (fields_of result).rest.rest.rest.rest.rest.rest ≡ ttl_seconds minimum }
+        ensures mname { soa_mname result ≡ mname }
+        ensures rname { soa_rname result ≡ rname }
+        ensures serial { soa_serial result ≡ serial.0 }
+        ensures refresh { soa_refresh result ≡ ttl_seconds refresh }
+        ensures retry { soa_retry result ≡ ttl_seconds retry }
+        ensures expire { soa_expire result ≡ ttl_seconds expire }
+        ensures minimum { soa_minimum result ≡ ttl_seconds minimum }
         ensures of_type { type_of result ≡ 6 }
     {
         let numbers = Sequence {
@@ -245,49 +248,49 @@ impl<N> Soa<N> {
 
     /// The name of the server that the zone comes from.
     pub fn mname(&self) -> &N
-        ensures { result.now ≡ (fields_of self.now).first.name }
+        ensures { result.now ≡ soa_mname self.now }
     {
         &self.fields.first.name
     }
 
     /// The mailbox of who is responsible, as a name.
     pub fn rname(&self) -> &N
-        ensures { result.now ≡ (fields_of self.now).rest.first.name }
+        ensures { result.now ≡ soa_rname self.now }
     {
         &self.fields.rest.first.name
     }
 
     /// The version of the zone, by the order of RFC 1982: `Serial::partial_cmp` tells which of two is later.
     pub fn serial(&self) -> Serial
-        ensures { result.0 ≡ (fields_of self.now).rest.rest.first }
+        ensures { result.0 ≡ soa_serial self.now }
     {
         Serial(self.fields.rest.rest.first)
     }
 
     /// After how long another server looks for a new version.
     pub fn refresh(&self) -> Ttl
-        ensures { ttl_seconds result ≡ (fields_of self.now).rest.rest.rest.first }
+        ensures { ttl_seconds result ≡ soa_refresh self.now }
     {
         Ttl::from_secs(self.fields.rest.rest.rest.first)
     }
 
     /// After how long it tries again where that failed.
     pub fn retry(&self) -> Ttl
-        ensures { ttl_seconds result ≡ (fields_of self.now).rest.rest.rest.rest.first }
+        ensures { ttl_seconds result ≡ soa_retry self.now }
     {
         Ttl::from_secs(self.fields.rest.rest.rest.rest.first)
     }
 
     /// After how long without an answer it no longer answers for the zone.
     pub fn expire(&self) -> Ttl
-        ensures { ttl_seconds result ≡ (fields_of self.now).rest.rest.rest.rest.rest.first }
+        ensures { ttl_seconds result ≡ soa_expire self.now }
     {
         Ttl::from_secs(self.fields.rest.rest.rest.rest.rest.first)
     }
 
     /// For how long an answer that there is no such name or data may be kept (RFC 2308, 4).
     pub fn minimum(&self) -> Ttl
-        ensures { ttl_seconds result ≡ (fields_of self.now).rest.rest.rest.rest.rest.rest }
+        ensures { ttl_seconds result ≡ soa_minimum self.now }
     {
         Ttl::from_secs(self.fields.rest.rest.rest.rest.rest.rest)
     }
