@@ -40,6 +40,7 @@ pub use Rattle.domain_parsed.specs.ParsedNames as ParsedViews
 pub use Rattle.domain_rdata.specs.Canonical
 pub use Rattle.domain_rdata.specs.RecordData
 pub use Rattle.domain_rdata.specs.ReadBack
+pub use Rattle.domain_rdata.specs.LeavingNames
 pub use Rattle.domain_rdata.specs.AnyData
 pub use Rattle.domain_rdata.specs.Rtypes
 pub use Rattle.domain_rdata.specs.Unknown
@@ -57,11 +58,13 @@ pub use Rattle.domain_message.specs.Runs
 pub use Rattle.domain_message.specs.Aliases
 pub use Rattle.domain_message.specs.Answering
 pub use Rattle.domain_message.specs.Kept
+pub use Rattle.domain_message.specs.LeftToTarget
 pub use Rattle.domain_fields.specs.Data as FieldData
 pub use Rattle.domain_fields.specs.Names as FieldNames
 pub use Rattle.domain_fields.specs.Sequences
 pub use Rattle.domain_data.specs.Shapes
 pub use Rattle.domain_data.specs.Views as DataViews
+pub use Rattle.domain_data.specs.HostFields
 pub use Rattle.domain_data.specs.Strings
 pub use Rattle.domain_data.specs.Txts
 pub use Rattle.domain_data.specs.AllData

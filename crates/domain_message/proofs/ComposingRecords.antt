@@ -6,6 +6,8 @@ use Rattle.domain_rdata.specs.ReadBack.{Appended, Exceeds}
 use Rattle.domain_rdata.specs.RecordData.{NameOctets, LengthAndData, ExceedsWithLength, IsTooLong, ComposeRefused}
 use Rattle.domain_rdata.specs.declared.record_data.ComposeRdataError.{ComposeRdataError}
 use Rattle.domain_rdata.specs.declared.record_data.ComposeRdataError.TheVariants.{Append, Long}
+use Rattle.domain_rdata.specs.LeavingNames.{LeavesNames}
+use Rattle.domain_message.specs.LeftToTarget.{NameThenData}
 use Rattle.domain_message.specs.Composing.{BeginsWithName, type_and_class, QuestionOctets, before_length, RecordOctets, RecordExceeds, RecordRefused}
 use Rattle.domain_message.specs.Composing.RecordExceeds.{no_numbers, no_data}
 
@@ -82,3 +84,9 @@ name_appended name b t new May names done = record { octets = done.octets; allow
 
 pub names_exceed : (name : List (List ℕ)) (b : Bool) (t : List ℕ) (May : List ℕ → Type 0) (capacity : ℕ) → ((s : List ℕ) → May s → NameOctets name b t s) → Exceeds May t capacity → Exceeds (NameOctets name b t) t capacity
 names_exceed name b t May capacity names refused = record { octets = refused.octets; allowed = names refused.octets refused.allowed; full = refused.full }
+
+-- a target's own call appended the owner's name, and the numbers and the data came after it
+pub name_then_data : {T : Type 0} (octets : T → List ℕ) (appends written : T → T → Type 0) (old named numbered new : T) (numbers : List ℕ) (r rtype class ttl : ℕ) → appends old named → octets numbered ≡ octets named ++ numbers → numbers ≡ before_length r class ttl → r ≡ rtype → LeavesNames octets written (octets numbered) new → NameThenData octets appends written (before_length rtype class ttl) old new
+name_then_data octets appends written old named numbered new numbers r rtype class ttl name is same typed rest =
+    let whole : octets numbered ≡ octets named ++ before_length rtype class ttl = is ∙ ap (λ x. octets named ++ x) (same ∙ ap (λ k. before_length k class ttl) typed) in
+    record { named = named; name = name; rest = subst (λ t. LeavesNames octets written t new) whole rest }

@@ -22,3 +22,4 @@ pub mod Sole
 pub mod Texts
 pub mod TextViews
 pub mod Views
+pub mod LeftToTarget

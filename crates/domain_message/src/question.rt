@@ -8,6 +8,7 @@ ghost use Rattle.domain_message.specs.MayCompose.{after_qname, MayComposeQuestio
 ghost use Rattle.domain_message.specs.Entries.{QuestionFields, QuestionAt, NoQuestion};
 ghost use Rattle.domain_message.specs.Readings.{question_reading};
 ghost use Rattle.domain_message.specs.Texts.{question_text};
+ghost use Rattle.domain_message.specs.LeftToTarget.{WritesQuestion};
 
 use crate::rtype_text::RtypeText;
 use domain_header::Class;
@@ -15,10 +16,11 @@ use domain_header::numbers::number_of_16_bits;
 use domain_list::AbsoluteLabels;
 use domain_parsed::ParsedName;
 use domain_rdata::{Composer, Rtype};
-use domain_traits::ToName;
+use domain_traits::{FlattenInto, ToName};
 use domain_wire::ParseError;
 use domain_wire::parse::Parse;
-use octseq::{Octets, OctetsBuilder, Parser, Truncate};
+use octseq::{Octets, OctetsBuilder, Parser, ShortBuf, Truncate};
+use std::alloc::Global;
 use std::fmt;
 
 /// A question: a name, a type and a class (RFC 1035, 4.1.2).
@@ -142,6 +144,8 @@ impl<'a, N: AbsoluteLabels<'a>> Question<N> {
             (Appended
             (BeginsWithName (Target.may_append target.old (N.labels (question_name self.now)))
             (after_qname self.now)) (Target.octets target.old) (Target.octets target.new)) }
+        ensures written { OnOk result
+            (WritesQuestion N.labels Target.octets Target.appends self.now target.old target.new) }
         ensures unchanged { OnErr result (Target.octets target.new ≡ Target.octets target.old) }
         ensures full { OnErr result
             (Exceeds
@@ -159,5 +163,29 @@ impl<'a, N: AbsoluteLabels<'a>> Question<N> {
             return Err(e);
         }
         Ok(())
+    }
+}
+
+/// The name is converted; type and class stay.
+impl<N: FlattenInto<Made>, Made> FlattenInto<Question<Made>> for Question<N> {
+    ghost use Rattle.domain_message.specs.Views.{question_name, question_type, question_class};
+
+    ghost same = { λ it made. N.same (question_name it) (question_name made)
+        × (question_type made ≡ question_type it) × (question_class made ≡ question_class it) };
+
+    ghost may_refuse = { λ it. N.may_refuse (question_name it) };
+
+    fn try_flatten_into(self, alloc: Global) -> Result<Question<Made>, ShortBuf> {
+        let Question {
+            qname,
+            qtype,
+            qclass,
+        } = self;
+        let qname = qname.try_flatten_into(alloc)?;
+        Ok(Question::new(qname, qtype, qclass))
+    }
+
+    fn flatten_into(self, alloc: Global) -> Result<Question<Made>, ShortBuf> {
+        self.try_flatten_into(alloc)
     }
 }

@@ -1,5 +1,5 @@
 //! Records of a name, a class, a TTL and data.
-ghost use Rattle.std.specs.Prelude.{◌≡◌, ◌≤◌, ◌==◌, ◌++◌, Some, OnOk, OnErr, IfErr};
+ghost use Rattle.std.specs.Prelude.{◌≡◌, ◌≤◌, ◌==◌, ◌++◌, ◌⊎◌, Some, OnOk, OnErr, IfErr, true};
 ghost use Rattle.std.specs.Cmp.{partial_equiv_from_equiv, nat_eq_equiv, nat_cmp_total, on_per, and_per, on_equiv, and_equiv, on_total, then_total};
 ghost use Rattle.std.specs.Ordering.{on, eq_of_both, then_cmp, nat_cmp};
 ghost use Rattle.std.specs.Fmt.{◌++?◌};
@@ -11,15 +11,17 @@ ghost use Rattle.domain_header.specs.Values.{class_number, ttl_seconds};
 ghost use Rattle.domain_message.specs.Composing.{BeginsWithName, before_length};
 ghost use Rattle.domain_message.specs.MayCompose.{after_owner, MayComposeRecord, MayRefuseRecord};
 ghost use Rattle.domain_message.specs.Texts.{text_before_data};
+ghost use Rattle.domain_message.specs.LeftToTarget.{WritesRecord};
 
 use crate::rtype_text::RtypeText;
 use domain_header::{Class, Ttl};
 use domain_list::AbsoluteLabels;
 use domain_parsed::ParsedName;
 use domain_rdata::{ComposeRdataError, ComposeRecordData, Composer, RecordData, Rtype};
-use domain_traits::ToName;
+use domain_traits::{FlattenInto, ToName};
 use domain_wire::CanonicalOrd;
-use octseq::{Octets, OctetsBuilder, Truncate};
+use octseq::{Octets, OctetsBuilder, ShortBuf, Truncate};
+use std::alloc::Global;
 use std::cmp::Ordering;
 use std::fmt;
 
@@ -191,6 +193,9 @@ impl<'a, N: AbsoluteLabels<'a>, D: ComposeRecordData> Record<N, D> {
             (BeginsWithName (Target.may_append target.old (N.labels (owner_of self.now)))
             (after_owner D.type_number self.now)) (Target.octets target.old)
             (Target.octets target.new)) }
+        ensures written { Target.compresses ≡ true →
+            OnOk result (WritesRecord N.labels D.type_number Target.octets Target.appends
+            (λ d. D.written d Target Target.octets Target.appends) self.now target.old target.new) }
         ensures unchanged { OnErr result (Target.octets target.new ≡ Target.octets target.old) }
         ensures why { IfErr result
             (λ e. MayRefuseRecord N.labels D.type_number D.composed self.now Target.compresses
@@ -211,5 +216,34 @@ impl<'a, N: AbsoluteLabels<'a>, D: ComposeRecordData> Record<N, D> {
             return Err(e);
         }
         Ok(())
+    }
+}
+
+/// The owner's name is converted, and then the data; class and TTL stay.
+impl<N: FlattenInto<Owner>, D: FlattenInto<Data> + Drop, Owner: Drop, Data> FlattenInto<
+    Record<Owner, Data>,
+> for Record<N, D> {
+    ghost use Rattle.domain_message.specs.RecordParts.{owner_of, class_of, ttl_of, data_of};
+
+    ghost same = { λ it made. N.same (owner_of it) (owner_of made)
+        × D.same (data_of it) (data_of made)
+        × (class_of made ≡ class_of it) × (ttl_of made ≡ ttl_of it) };
+
+    ghost may_refuse = { λ it. N.may_refuse (owner_of it) ⊎ D.may_refuse (data_of it) };
+
+    fn try_flatten_into(self, alloc: Global) -> Result<Record<Owner, Data>, ShortBuf> {
+        let Record {
+            owner,
+            class,
+            ttl,
+            rdata,
+        } = self;
+        let owner = owner.try_flatten_into(alloc)?;
+        let rdata = rdata.try_flatten_into(alloc)?;
+        Ok(Record::new(owner, class, ttl, rdata))
+    }
+
+    fn flatten_into(self, alloc: Global) -> Result<Record<Owner, Data>, ShortBuf> {
+        self.try_flatten_into(alloc)
     }
 }

@@ -1,7 +1,8 @@
 //! Appending entries up to a limit.
-ghost use Rattle.std.specs.Prelude.{◌≡◌, ◌≤◌, length, OnOk, OnErr, IfErr};
+ghost use Rattle.std.specs.Prelude.{◌≡◌, ◌≤◌, length, OnOk, OnErr, IfErr, true};
 ghost use Rattle.domain_rdata.specs.ReadBack.{Appended};
 ghost use Rattle.domain_message.specs.RecordParts.{data_of};
+ghost use Rattle.domain_message.specs.LeftToTarget.{WritesQuestion, WritesRecord};
 ghost use Rattle.domain_message_builder.specs.Contents.{AsksIn, RecordsIn};
 ghost use Rattle.domain_message_builder.specs.Pushes.{asked, headed};
 ghost use Rattle.domain_message_builder.specs.Refusals.{QuestionNotAppended, RecordNotAppended};
@@ -21,6 +22,8 @@ pub(crate) fn append_question<'a, N: AbsoluteLabels<'a>, Target: Composer>(
     ensures ok { OnOk result (Appended
         (AsksIn Target.compresses (asked N.labels question.now) (Target.octets target.old))
         (Target.octets target.old) (Target.octets target.new)) }
+    ensures written { OnOk result
+        (WritesQuestion N.labels Target.octets Target.appends question.now target.old target.new) }
     ensures within { OnOk result (length (Target.octets target.new) ≤ most) }
     ensures unchanged { OnErr result (Target.octets target.new ≡ Target.octets target.old) }
     ensures why { IfErr result
@@ -49,6 +52,9 @@ pub(crate) fn append_record<'a, N: AbsoluteLabels<'a>, D: ComposeRecordData, Tar
         (RecordsIn Target.compresses (headed N.labels D.type_number resource.now)
         (D.composed (data_of resource.now) Target.compresses) (Target.octets target.old))
         (Target.octets target.old) (Target.octets target.new)) }
+    ensures written { Target.compresses ≡ true →
+        OnOk result (WritesRecord N.labels D.type_number Target.octets Target.appends
+        (λ d. D.written d Target Target.octets Target.appends) resource.now target.old target.new) }
     ensures within { OnOk result (length (Target.octets target.new) ≤ most) }
     ensures unchanged { OnErr result (Target.octets target.new ≡ Target.octets target.old) }
     ensures why { IfErr result (λ e. RecordNotAppended Target.compresses

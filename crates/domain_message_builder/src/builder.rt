@@ -3,6 +3,7 @@ ghost use Rattle.std.specs.Prelude.{◌≡◌, ◌≤◌, ◌<◌, ◌+◌, ◌�
 ghost use Rattle.std.proofs.Props.{props};
 ghost use Rattle.domain_header.specs.Headers.{header_octets, counts_octets};
 ghost use Rattle.domain_message.specs.RecordParts.{data_of};
+ghost use Rattle.domain_message.specs.LeftToTarget.{WritesQuestion, WritesRecord};
 ghost use Rattle.domain_message_builder.specs.Contents.{blank_header, Content, Holds};
 ghost use Rattle.domain_message_builder.specs.Errors.{is_early};
 ghost use Rattle.domain_message_builder.specs.Places.{IsInOrder};
@@ -174,6 +175,9 @@ impl<Target: Composer> MessageBuilder<Target> {
     ) -> Result<(), PushError<Target::AppendError>>
         ensures ok { OnOk result (PushesQuestion Target.compresses (asked N.labels question.now)
             (state_of Target.octets self.old) (state_of Target.octets self.new)) }
+        ensures written { OnOk result
+            (WritesQuestion N.labels Target.octets Target.appends question.now
+            (target_of self.old) (target_of self.new)) }
         ensures unchanged { OnErr result
             (state_of Target.octets self.new ≡ state_of Target.octets self.old) }
         ensures early { IfErr result (λ e. is_early e ≡ true → self.new ≡ self.old) }
@@ -217,6 +221,10 @@ impl<Target: Composer> MessageBuilder<Target> {
             (headed N.labels D.type_number resource.now)
             (D.composed (data_of resource.now) Target.compresses)
             (state_of Target.octets self.old) (state_of Target.octets self.new)) }
+        ensures written { Target.compresses ≡ true →
+            OnOk result (WritesRecord N.labels D.type_number Target.octets Target.appends
+            (λ d. D.written d Target Target.octets Target.appends) resource.now
+            (target_of self.old) (target_of self.new)) }
         ensures unchanged { OnErr result
             (state_of Target.octets self.new ≡ state_of Target.octets self.old) }
         ensures early { IfErr result (λ e. is_early e ≡ true → self.new ≡ self.old) }
@@ -244,6 +252,10 @@ impl<Target: Composer> MessageBuilder<Target> {
             (D.composed (data_of resource.now) Target.compresses)
             (with_reserved kept (state_of Target.octets self.old))
             (state_of Target.octets self.new)) }
+        ensures written { Target.compresses ≡ true →
+            OnOk result (WritesRecord N.labels D.type_number Target.octets Target.appends
+            (λ d. D.written d Target Target.octets Target.appends) resource.now
+            (target_of self.old) (target_of self.new)) }
         ensures unchanged { OnErr result
             (state_of Target.octets self.new ≡ state_of Target.octets self.old) }
         ensures early { IfErr result (λ e. is_early e ≡ true → self.new ≡ self.old) }

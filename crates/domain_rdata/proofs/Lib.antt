@@ -1,3 +1,4 @@
 pub mod CanonicalForms
 pub mod WireForms
 pub mod Lengths
+pub mod Leaving

@@ -6,3 +6,4 @@ pub mod RecordData
 pub mod Rtypes
 pub mod Unknown
 pub mod UnknownReading
+pub mod LeavingNames

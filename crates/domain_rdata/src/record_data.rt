@@ -8,6 +8,7 @@ ghost use Rattle.domain_rdata.specs.ReadBack.{Appended, Exceeds};
 ghost use Rattle.domain_rdata.specs.RecordData.{DataAfterLength, LengthAndData, ExceedsWithLength, ComposeRefused};
 ghost use Rattle.domain_rdata.specs.Canonical.{canonical_form, WithForm, WithLengthAndForm, FormRefused, CanonicalRefused};
 ghost use Rattle.domain_rdata.specs.Rtypes.{rtype_number};
+ghost use Rattle.domain_rdata.specs.LeavingNames.{WrittenBehind, LeavesNames};
 
 use crate::composer::Composer;
 use crate::long::LongRecordData;
@@ -174,7 +175,8 @@ pub trait ComposeRecordData: RecordData {
     /// Appends the length of the data in two octets, and the data, or nothing.
     ///
     /// `Long` only where data that may be appended has more than 65,535 octets, `Append` only where it
-    /// exceeds, with its length, the spare capacity. The target's octets are then as before.
+    /// exceeds, with its length, the spare capacity. The target's octets are then as before. A target that writes names
+    /// shorter is left to do so, but where no length is right: there no name is written shorter.
     final fn compose_len_rdata<Target: Composer>(
         &self,
         target: &mut Target,
@@ -182,6 +184,10 @@ pub trait ComposeRecordData: RecordData {
         ensures ok { OnOk result
             (LengthAndData (composed self.now Target.compresses) (Target.octets target.old)
             (Target.octets target.new)) }
+        ensures names { Target.compresses ≡ true →
+            OnOk result (LeavesNames Target.octets
+            (written self.now Target Target.octets Target.appends) (Target.octets target.old)
+            target.new) }
         ensures unchanged { OnErr result (Target.octets target.new ≡ Target.octets target.old) }
         ensures why { IfErr result
             (λ e. ComposeRefused (composed self.now Target.compresses) (Target.octets target.old)
@@ -191,10 +197,10 @@ pub trait ComposeRecordData: RecordData {
         let Some(len) = self.rdlen(target.can_compress()) else {
             return compose_measured(self, target);
         };
-        match compose_after(self, target, len) {
-            Ok(_len) => Ok(()),
-            Err(e) => Err(ComposeRdataError::Append(e)),
+        if let Err(e) = compose_after(self, target, len) {
+            return Err(ComposeRdataError::Append(e));
         }
+        Ok(())
     }
 
     /// Appends the length of the canonical form in two octets, and the canonical form, or nothing.
@@ -262,6 +268,10 @@ fn compose_after<Data: ComposeRecordData, Target: Composer>(
     ensures ok { IfOk result
         (λ n. DataAfterLength (Data.composed rdata.now Target.compresses) (Target.octets target.old)
         len n (Target.octets target.new)) }
+    ensures names { IfOk result
+        (λ n. WrittenBehind Target.octets
+        (Data.written rdata.now Target Target.octets Target.appends) (Target.octets target.old)
+        len n target.new) }
     ensures unchanged { OnErr result (Target.octets target.new ≡ Target.octets target.old) }
     ensures full { OnErr result
         (ExceedsWithLength (Data.composed rdata.now Target.compresses) (Target.octets target.old)
@@ -291,6 +301,10 @@ fn compose_measured<Data: ComposeRecordData, Target: Composer>(
     ensures ok { OnOk result
         (LengthAndData (Data.composed rdata.now Target.compresses) (Target.octets target.old)
         (Target.octets target.new)) }
+    ensures names { Target.compresses ≡ true →
+        OnOk result (LeavesNames Target.octets
+        (Data.written rdata.now Target Target.octets Target.appends) (Target.octets target.old)
+        target.new) }
     ensures unchanged { OnErr result (Target.octets target.new ≡ Target.octets target.old) }
     ensures why { IfErr result
         (λ e. ComposeRefused (Data.composed rdata.now Target.compresses) (Target.octets target.old)

@@ -1,6 +1,6 @@
 use Rattle.std.proofs.Common.{length, ap, arith}
 use Rattle.domain_message.specs.RecordParts.{owner_of}
-use Rattle.domain_message.proofs.ComposingRecords.{name_appended, numbers_after, numbers_exceed, data_refused, begins_with_owner, record_appended}
+use Rattle.domain_message.proofs.ComposingRecords.{name_appended, numbers_after, numbers_exceed, data_refused, begins_with_owner, record_appended, name_then_data}
 use Rattle.domain_message.proofs.resource_record.Record.compose.Goals as goal
 
 pub returns-in-Err-append_slice-clause-why : goal.returns-in-Err-append_slice-clause-why
@@ -27,3 +27,7 @@ returns-clause-ok g c =
 pub returns-clause-name : goal.returns-clause-name
 returns-clause-name g c =
     begins_with_owner _ _ _ _ _ _ _ _ _ _ _ c.in_default.ensures.ok c.in_default-append_slice.ensures.ok c.octets_before_length-numbers.ensures c.rtype.ensures c.in_default-compose_len_rdata.ensures.ok
+
+pub returns-clause-written : goal.returns-clause-written
+returns-clause-written g c compressing =
+    name_then_data _ _ _ _ _ _ _ _ _ _ _ _ c.in_default.ensures.appends c.in_default-append_slice.ensures.ok c.octets_before_length-numbers.ensures c.rtype.ensures (c.in_default-compose_len_rdata.ensures.names compressing)
