@@ -59,6 +59,9 @@ pub use Rattle.domain_message.specs.Aliases
 pub use Rattle.domain_message.specs.Answering
 pub use Rattle.domain_message.specs.Kept
 pub use Rattle.domain_message.specs.LeftToTarget
+pub use Rattle.domain_edns.specs.Options
+pub use Rattle.domain_edns.specs.OptRecords
+pub use Rattle.domain_edns.specs.Views as OptDataViews
 pub use Rattle.domain_fields.specs.Data as FieldData
 pub use Rattle.domain_fields.specs.Names as FieldNames
 pub use Rattle.domain_fields.specs.Sequences

@@ -110,6 +110,11 @@ pub mod message_builder {
     };
 }
 
+/// OPT records that are read (RFC 6891).
+pub mod opt {
+    pub use domain_edns::{EdnsOption, OptData, OptError, OptIter, OptRecord, opt_of};
+}
+
 /// Questions (RFC 1035, 4.1.2).
 pub mod question {
     pub use domain_message::Question;

@@ -10,24 +10,31 @@ use Rattle.domain_data.specs.Views.{fields_of}
 abbrev pub SoaData : ℕ → Type 0 → Type 0
 SoaData t N = FieldsData t (Sequence (NameField N) (Sequence (NameField N) (Sequence ℕ (Sequence ℕ (Sequence ℕ (Sequence ℕ ℕ))))))
 
+-- the name of the server that the zone comes from
 abbrev pub soa_mname : {t : ℕ} {N : Type 0} → SoaData t N → N
 soa_mname it = (fields_of it).first.name
 
+-- the mailbox of who is responsible
 abbrev pub soa_rname : {t : ℕ} {N : Type 0} → SoaData t N → N
 soa_rname it = (fields_of it).rest.first.name
 
+-- the version of the zone
 abbrev pub soa_serial : {t : ℕ} {N : Type 0} → SoaData t N → ℕ
 soa_serial it = (fields_of it).rest.rest.first
 
+-- after how long another server looks for a new version
 abbrev pub soa_refresh : {t : ℕ} {N : Type 0} → SoaData t N → ℕ
 soa_refresh it = (fields_of it).rest.rest.rest.first
 
+-- after how long it tries again
 abbrev pub soa_retry : {t : ℕ} {N : Type 0} → SoaData t N → ℕ
 soa_retry it = (fields_of it).rest.rest.rest.rest.first
 
+-- after how long it no longer answers
 abbrev pub soa_expire : {t : ℕ} {N : Type 0} → SoaData t N → ℕ
 soa_expire it = (fields_of it).rest.rest.rest.rest.rest.first
 
+-- for how long a negative answer may be kept (RFC 2308, 4)
 abbrev pub soa_minimum : {t : ℕ} {N : Type 0} → SoaData t N → ℕ
 soa_minimum it = (fields_of it).rest.rest.rest.rest.rest.rest
 
@@ -35,14 +42,18 @@ soa_minimum it = (fields_of it).rest.rest.rest.rest.rest.rest
 abbrev pub SrvData : ℕ → Type 0 → Type 0
 SrvData t N = FieldsData t (Sequence ℕ (Sequence ℕ (Sequence ℕ (UncompressedNameField N))))
 
+-- the priority
 abbrev pub srv_priority : {t : ℕ} {N : Type 0} → SrvData t N → ℕ
 srv_priority it = (fields_of it).first
 
+-- the weight among those of the same priority
 abbrev pub srv_weight : {t : ℕ} {N : Type 0} → SrvData t N → ℕ
 srv_weight it = (fields_of it).rest.first
 
+-- the port
 abbrev pub srv_port : {t : ℕ} {N : Type 0} → SrvData t N → ℕ
 srv_port it = (fields_of it).rest.rest.first
 
+-- the name of the host
 abbrev pub srv_target : {t : ℕ} {N : Type 0} → SrvData t N → N
 srv_target it = (fields_of it).rest.rest.rest.name

@@ -9,7 +9,8 @@ use Rattle.std.proofs.lemmas.List.{append-nil}
 use Rattle.std.proofs.lemmas.List.Folds.{list_any-append}
 use Rattle.domain_label.specs.Wire.{Root}
 use Rattle.domain_message.specs.Entries.{RecordFields}
-use Rattle.domain_walk.specs.Edns.{edns_line, another_text, option_line, cut_option_line, BeginsWithOption, EndsInOption, AreOptionLines}
+use Rattle.domain_edns.specs.Options.{BeginsWithOption, EndsInOption}
+use Rattle.domain_walk.specs.Edns.{edns_line, another_text, option_line, cut_option_line, AreOptionLines}
 use Rattle.domain_walk.specs.Edns.AreOptionLines.{no_more, option, cut}
 use Rattle.domain_walk.specs.Records.{is_root, data_of, IsOptText}
 

@@ -1,13 +1,13 @@
 -- OPT records, as `dig` shows them (RFC 6891, 6.1).
-use Rattle.std.specs.Prelude.{◌≡◌, ◌⊎◌, ℕ, ◌+◌, ◌*◌, ◌/◌, ◌%◌, ◌<◌, ◌≤◌, cond, nat_eq, Bool, List, [], ◌∷◌, ◌++◌, length, drop, slice_range, codes}
+use Rattle.std.specs.Prelude.{◌≡◌, ℕ, ◌+◌, ◌*◌, ◌/◌, ◌%◌, ◌<◌, cond, nat_eq, Bool, List, [], ◌∷◌, ◌++◌, length, codes}
 use Rattle.std.specs.Fmt.{decimal}
 use Rattle.std.specs.List.{flat_map}
 use Rattle.domain_label.specs.Hex.{hex_digit}
 use Rattle.domain_wire.specs.Refusals.{refusal, refusal_text}
 use Rattle.domain_wire.specs.declared.error.ParseError.{ParseError}
 use Rattle.domain_wire.specs.declared.error.ParseError.TheVariants.{ShortInput}
-use Rattle.domain_header.specs.Bits.{bit, bits}
-use Rattle.domain_header.specs.Numbers.{number16}
+use Rattle.domain_edns.specs.Options.{BeginsWithOption, EndsInOption}
+use Rattle.domain_edns.specs.OptRecords.{upper_code, edns_version, dnssec_ok_bit}
 use Rattle.domain_rdata.specs.AnyData.{spaced_octet, unknown_text}
 use Rattle.domain_walk.specs.Flags.{flag_text}
 
@@ -15,17 +15,7 @@ use Rattle.domain_walk.specs.Flags.{flag_text}
 abbrev pub remark : ParseError → List ℕ
 remark why = codes " ; " ++ refusal_text (refusal why)
 
--- The parts of the TTL of an OPT record (6.1.3): eight bits of the response code above the header's four, the version, the
--- bit DO, and fifteen bits that must be zero.
-abbrev pub upper_code : ℕ → ℕ
-upper_code ttl = ttl / 16777216
-
-abbrev pub edns_version : ℕ → ℕ
-edns_version ttl = ttl / 65536 % 256
-
-abbrev pub dnssec_ok_bit : ℕ → ℕ
-dnssec_ok_bit ttl = bit 32768 ttl
-
+-- the fifteen bits of the TTL of an OPT record that must be zero (6.1.4)
 abbrev pub bits_of_zero : ℕ → ℕ
 bits_of_zero ttl = ttl % 32768
 
@@ -57,17 +47,6 @@ another_line = codes "; another OPT record: FORMERR, RFC 6891 6.1.1"
 -- the same with its newline, where there is another
 abbrev pub another_text : Bool → List ℕ
 another_text another = cond another (another_line ++ 10 ∷ []) []
-
--- The octets begin with an option: its code and its length in 16 bits each, and that many octets of data (6.1.2).
-pub record BeginsWithOption (octets : List ℕ) (code : ℕ) (data_octets rest : List ℕ) : Type 0 where
-  pub whole : 4 + number16 octets 2 ≤ length octets
-  pub code_is : code ≡ number16 octets 0
-  pub data_is : data_octets ≡ slice_range octets 4 (4 + number16 octets 2)
-  pub rest_is : rest ≡ drop (4 + number16 octets 2) octets
-
--- They end before their first option does.
-abbrev pub EndsInOption : List ℕ → Type 0
-EndsInOption octets = (length octets < 4) ⊎ (length octets < 4 + number16 octets 2)
 
 -- the line of an option: its code, and each octet of its data
 abbrev pub option_line : ℕ → List ℕ → List ℕ

@@ -1,14 +1,15 @@
 //! OPT records (RFC 6891, 6.1), as `dig` shows them.
-ghost use Rattle.std.specs.Prelude.{◌≡◌, ◌↔◌, ◌+◌, ◌<◌, ℕ, List, Some, IsTrue, IsNone, IfSome, OnOk, OnErr};
+ghost use Rattle.std.specs.Prelude.{◌≡◌, ◌↔◌, ℕ, List, Some, IsTrue, OnOk, OnErr};
 ghost use Rattle.std.specs.List.{flat_map};
 ghost use Rattle.std.specs.Io.KnownBytes.{Appends};
 ghost use Rattle.domain_header.specs.Values.{class_number, ttl_seconds, rcode_number};
 ghost use Rattle.domain_rdata.specs.AnyData.{spaced_octet};
-ghost use Rattle.domain_walk.specs.Edns.{dnssec_ok_bit, zero_text, status_text, edns_line, option_line, cut_option_line, BeginsWithOption, EndsInOption, AreOptionLines};
+ghost use Rattle.domain_edns.specs.OptRecords.{dnssec_ok_bit};
+ghost use Rattle.domain_walk.specs.Edns.{zero_text, status_text, edns_line, option_line, cut_option_line, AreOptionLines};
 
 use crate::flags::word_if;
 use crate::streams::Sink;
-use domain_header::numbers::number_of_16_bits;
+use domain_edns::EdnsOption;
 use domain_header::{Class, Rcode, Ttl};
 use domain_label::hex::hex_character;
 use domain_tool::tool::WriteFault;
@@ -133,17 +134,18 @@ impl fmt::Display for Spaced {
 /// The line of an option.
 #[derive(Clone, Copy)]
 struct OptionLine<'a> {
-    code: u16,
-    data: &'a [u8],
+    option: EdnsOption<'a>,
 }
 
 impl<'a> fmt::Display for OptionLine<'a> {
-    ghost output = { λ it. Some (option_line it.code it.data.now) };
+    ghost output = { λ it. Some (option_line it.option.code it.option.«data».now) };
 
     fn fmt<W: fmt::Write>(&self, f: &mut fmt::Formatter<W>) -> fmt::Result {
-        let code = self.code;
-        let data = SpacedOctets { octets: self.data };
-        write!(f, "; OPT={code}:{data}")
+        let code = self.option.code;
+        let octets = SpacedOctets {
+            octets: self.option.data,
+        };
+        write!(f, "; OPT={code}:{octets}")
     }
 }
 
@@ -166,34 +168,6 @@ impl<'a> fmt::Display for CutOption<'a> {
     }
 }
 
-/// An option: its code, its data, and the octets after it.
-#[derive(Clone, Copy)]
-struct FirstOption<'a> {
-    code: u16,
-    data: &'a [u8],
-    rest: &'a [u8],
-}
-
-/// The option that octets begin with. `None` where they end before it does.
-fn first_option(octets: &[u8]) -> Option<FirstOption<'_>>
-    ensures some { IfSome result
-        (λ it. BeginsWithOption octets.now it.code it.data.now it.rest.now) }
-    ensures none { IsNone result → EndsInOption octets.now }
-{
-    if octets.len() < 4 {
-        return None;
-    }
-    let len = usize::from(number_of_16_bits(octets, 2));
-    if octets.len() - 4 < len {
-        return None;
-    }
-    Some(FirstOption {
-        code: number_of_16_bits(octets, 0),
-        data: &octets[4..4 + len],
-        rest: &octets[4 + len..],
-    })
-}
-
 /// Writes a line for each option, and one for octets at the end that are no whole option.
 pub(crate) fn write_options<W: Sink>(octets: &[u8], output: &mut W) -> Result<(), WriteFault>
     ensures written { OnOk result
@@ -203,15 +177,12 @@ pub(crate) fn write_options<W: Sink>(octets: &[u8], output: &mut W) -> Result<()
 {
     let mut rest = octets;
     while !rest.is_empty() {
-        let Some(option) = first_option(rest) else {
+        let Some((option, after)) = EdnsOption::split_from(rest) else {
             output.put_line(CutOption { octets: rest })?;
             return Ok(());
         };
-        output.put_line(OptionLine {
-            code: option.code,
-            data: option.data,
-        })?;
-        rest = option.rest;
+        output.put_line(OptionLine { option })?;
+        rest = after;
     }
     Ok(())
 }

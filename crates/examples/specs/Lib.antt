@@ -1,4 +1,5 @@
 pub mod CharacterStrings
+pub mod EdnsSizes
 pub mod Hosts
 pub mod Built
 pub mod MessageHosts

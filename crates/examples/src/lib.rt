@@ -15,6 +15,7 @@ pub mod composing;
 pub mod compressing;
 pub mod counted;
 pub mod counts_last;
+pub mod edns;
 pub mod exchange;
 pub mod flat_names;
 pub mod flattening;

@@ -9,7 +9,7 @@ returns-in_default-clause-written g c =
 pub loop-rest-preserved : goal.loop-rest-preserved
 loop-rest-preserved g c =
     let option = c.in-Some.option in
-    listed_more c.args.octets.now c.loop-rest.rest.now option.rest.now option.data.now option.code (g.W.Sink.contents c.args.output.now) (g.W.Sink.contents c.loop-rest.output) (g.W.Sink.contents c.put_line-in-loop-rest.new.self) c.loop-rest.invariant c.in-Some.ensures.some c.in_ok-put_line-2.ensures.written
+    listed_more c.args.octets.now c.loop-rest.rest.now c.in-Some.after.now option.«data».now option.code (g.W.Sink.contents c.args.output.now) (g.W.Sink.contents c.loop-rest.output) (g.W.Sink.contents c.put_line-in-loop-rest.new.self) c.loop-rest.invariant c.in-Some.ensures.some c.in_ok-put_line-2.ensures.written
 
 pub returns-clause-written : goal.returns-clause-written
 returns-clause-written g c =

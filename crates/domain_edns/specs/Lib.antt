@@ -1,0 +1,4 @@
+pub mod Options
+pub mod Readings
+pub mod Views
+pub mod OptRecords

@@ -1,0 +1,71 @@
+-- The OPT record of a message (RFC 6891, 6.1).
+use Rattle.std.specs.Prelude.{◌≡◌, ◌⊎◌, ℕ, ◌/◌, ◌%◌, Bool, nat_eq, codes, List, Option, Some, None}
+use Rattle.domain_wire.specs.Refusals.{refusal, refusal_text}
+use Rattle.domain_wire.specs.declared.error.ParseError.{ParseError}
+use Rattle.domain_header.specs.Bits.{bit}
+use Rattle.domain_header.specs.Numbers.{number16}
+use Rattle.domain_message.specs.Entries.{RecordFields}
+use Rattle.domain_message.specs.Kept.{FirstKept, NoneKept, MissesKept}
+use Rattle.domain_message.specs.Sections.{AuthorityTo, NoAuthority}
+use Rattle.domain_edns.specs.Options.{AreAllThatIsLeft}
+use Rattle.domain_edns.specs.Views.{opt_octets}
+use Rattle.domain_edns.specs.declared.data.OptData.{OptData}
+use Rattle.domain_edns.specs.declared.record.OptError.{OptError}
+use Rattle.domain_edns.specs.declared.record.OptError.TheVariants.{Parse, Another}
+use Rattle.domain_edns.specs.declared.record.OptRecord.{OptRecord}
+
+-- the number of the class, which is the size that the sender takes (6.1.2)
+abbrev pub opt_class : OptRecord → ℕ
+opt_class it = it.class
+
+-- the TTL (6.1.3)
+abbrev pub opt_ttl : OptRecord → ℕ
+opt_ttl it = it.ttl
+
+-- the data
+abbrev pub opt_data : OptRecord → OptData
+opt_data it = it.«data»
+
+-- the eight bits of the response code above the header's four, in the TTL (6.1.3)
+abbrev pub upper_code : ℕ → ℕ
+upper_code ttl = ttl / 16777216
+
+-- the version, in the TTL
+abbrev pub edns_version : ℕ → ℕ
+edns_version ttl = ttl / 65536 % 256
+
+-- the bit DO, in the TTL
+abbrev pub dnssec_ok_bit : ℕ → ℕ
+dnssec_ok_bit ttl = bit 32768 ttl
+
+-- whether a record is an OPT record
+abbrev pub is_opt : RecordFields → Bool
+is_opt it = nat_eq it.header.rtype 41
+
+-- This is what the record says.
+pub record SaysOpt (it : RecordFields) (opt : OptRecord) : Type 0 where
+  pub class : opt_class opt ≡ it.header.class
+  pub ttl : opt_ttl opt ≡ it.header.ttl
+  pub options : (e : ℕ) × AreAllThatIsLeft it.octets it.start (opt_octets (opt_data opt)) e
+
+-- The first OPT record of the additional section is `it`, which ends before q, and k records are left after it.
+abbrev pub FirstOpt : List ℕ → RecordFields → ℕ → ℕ → Type 0
+FirstOpt m it q k = (e : ℕ) × AuthorityTo m e × FirstKept is_opt m e (number16 m 10) it q k
+
+-- All records of the additional section are there, and one is an OPT record, which says this; or none is.
+abbrev pub IsTheOpt : List ℕ → Option OptRecord → Type 0
+IsTheOpt m None = (e : ℕ) × AuthorityTo m e × NoneKept is_opt m e (number16 m 10)
+IsTheOpt m (Some opt) = (it : RecordFields) × (q : ℕ) × (k : ℕ) × FirstOpt m it q k × NoneKept is_opt m q k × SaysOpt it opt
+
+-- An entry is missing: before the additional section, or of this one before an OPT record, or between that and a second.
+-- Or a second OPT record is there.
+abbrev pub HasOptFault : List ℕ → OptError → Type 0
+HasOptFault m (Parse why) = NoAuthority m why
+    ⊎ ((e : ℕ) × AuthorityTo m e × MissesKept is_opt m e (number16 m 10) why)
+    ⊎ ((it : RecordFields) × (q : ℕ) × (k : ℕ) × FirstOpt m it q k × MissesKept is_opt m q k why)
+HasOptFault m Another = (it other : RecordFields) × (q k p n : ℕ) × FirstOpt m it q k × FirstKept is_opt m q k other p n
+
+-- the text of the error
+abbrev pub opt_error_text : OptError → List ℕ
+opt_error_text (Parse why) = refusal_text (refusal why)
+opt_error_text Another = codes "more than one OPT record"

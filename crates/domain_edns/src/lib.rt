@@ -1,0 +1,10 @@
+//! OPT records that are read: what a sender tells of itself by EDNS (RFC 6891).
+#![tactic(auto)]
+
+pub mod data;
+pub mod options;
+pub mod record;
+
+pub use data::OptData;
+pub use options::{EdnsOption, OptIter};
+pub use record::{OptError, OptRecord, opt_of};
