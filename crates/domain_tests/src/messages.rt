@@ -155,6 +155,18 @@ fn octets_that_are_set_aside_stay_so(rt: HostRuntime) {
     reads(&rt, message.finish().as_slice(), [1, 0, 0, 1]);
 }
 
+/// After a record that a full target refuses, a shorter one is pushed.
+#[test]
+fn full_targets_change_nothing(rt: HostRuntime) {
+    let mut message = begun(&rt, ArrayVec::<u8, 30>::new(), 65535);
+    assert!(rt; message.push_question(&question()).is_ok());
+    let pushed = message.push(Section::Answer, &address());
+    assert!(rt; matches!(pushed, Err(PushError::Append(_))));
+    assert!(rt; message.len() == HEADER + QUESTION);
+    assert!(rt; message.push_opt(&opt(&rt)).is_ok());
+    reads(&rt, message.finish().as_slice(), [1, 0, 0, 1]);
+}
+
 /// No message has room for as many entries as a count tells: the limit is exceeded before.
 #[test]
 fn the_limit_comes_before_the_count(rt: HostRuntime) {
