@@ -56,7 +56,8 @@ impl<Target: Composer + Drop> MessageBuilder<Target> {
             NotBegun (Target.octets target) (Target.capacity target) 65535 e) }
         ensures capacity { IfOk result (λ it.
             Target.capacity target ≤ Target.capacity (target_of it)) }
-        ensures not_empty { 0 < length (Target.octets target) → result ≡ Err NotEmpty }
+        ensures not_empty { 0 < length (Target.octets target) → IsErr result }
+        ensures first { 0 < length (Target.octets target) → result ≡ Err NotEmpty }
     {
         MessageBuilder::with_limit(target, 65535)
     }
@@ -72,8 +73,10 @@ impl<Target: Composer + Drop> MessageBuilder<Target> {
             NotBegun (Target.octets target) (Target.capacity target) limit e) }
         ensures capacity { IfOk result (λ it.
             Target.capacity target ≤ Target.capacity (target_of it)) }
-        ensures not_empty { 0 < length (Target.octets target) → result ≡ Err NotEmpty }
-        ensures short { length (Target.octets target) ≡ 0 → limit < 12 → result ≡ Err ShortLimit }
+        ensures short { limit < 12 → IsErr result }
+        ensures not_empty { 0 < length (Target.octets target) → IsErr result }
+        ensures first { 0 < length (Target.octets target) → result ≡ Err NotEmpty }
+        ensures second { length (Target.octets target) ≡ 0 → limit < 12 → result ≡ Err ShortLimit }
     {
         if target.as_slice().len() > 0 {
             return Err(StartError::NotEmpty);
