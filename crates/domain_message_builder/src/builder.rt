@@ -47,6 +47,7 @@ pub struct MessageBuilder<Target: Composer> {
 impl<Target: Composer + Drop> MessageBuilder<Target> {
     ghost use Rattle.domain_message_builder.specs.Views.{state_of, target_of};
     ghost use Rattle.domain_message_builder.specs.Pushes.{IsBegun};
+    ghost use Rattle.domain_message_builder.specs.declared.error.StartError.TheVariants.{NotEmpty, ShortLimit};
 
     /// Begins a message of at most 65,535 octets, as `with_limit` does.
     pub fn from_target(target: Target) -> Result<Self, StartError<Target::AppendError>>
@@ -56,6 +57,8 @@ impl<Target: Composer + Drop> MessageBuilder<Target> {
             NotBegun (Target.octets target) (Target.capacity target) 65535 e) }
         ensures capacity { IfOk result (λ it.
             Target.capacity target ≤ Target.capacity (target_of it)) }
+        ensures not_empty { 0 < length (Target.octets target) → IsErr result }
+        ensures first { 0 < length (Target.octets target) → result ≡ Err NotEmpty }
     {
         MessageBuilder::with_limit(target, 65535)
     }
@@ -73,6 +76,8 @@ impl<Target: Composer + Drop> MessageBuilder<Target> {
             Target.capacity target ≤ Target.capacity (target_of it)) }
         ensures short { limit < 12 → IsErr result }
         ensures not_empty { 0 < length (Target.octets target) → IsErr result }
+        ensures first { 0 < length (Target.octets target) → result ≡ Err NotEmpty }
+        ensures second { length (Target.octets target) ≡ 0 → limit < 12 → result ≡ Err ShortLimit }
     {
         if target.as_slice().len() > 0 {
             return Err(StartError::NotEmpty);
@@ -98,7 +103,9 @@ impl<Target: Composer + Drop> MessageBuilder<Target> {
 impl<Target: Composer> MessageBuilder<Target> {
     ghost use Rattle.domain_message_builder.specs.Views.{target_of, state_of};
     ghost use Rattle.domain_message_builder.specs.Pushes.{with_header, with_reserved};
-    ghost use Rattle.domain_message_builder.specs.declared.error.PushError.TheVariants.{Limit};
+    ghost use Rattle.domain_message_builder.specs.declared.error.PushError.TheVariants.{Count, Limit, Order};
+    ghost use Rattle.domain_header.specs.Headers.{question_count};
+    ghost use Rattle.domain_message_builder.specs.Pushes.{record_count, section_count, later_count};
 
     /// The identifier and the flags.
     pub fn header(&self) -> Header
@@ -181,6 +188,11 @@ impl<Target: Composer> MessageBuilder<Target> {
         ensures unchanged { OnErr result
             (state_of Target.octets self.new ≡ state_of Target.octets self.old) }
         ensures early { IfErr result (λ e. is_early e ≡ true → self.new ≡ self.old) }
+        ensures order { 0 < record_count (state_of Target.octets self.old).counts
+            → result ≡ Err Order }
+        ensures count { record_count (state_of Target.octets self.old).counts ≡ 0
+            → question_count (state_of Target.octets self.old).counts ≡ 65535
+            → result ≡ Err Count }
         ensures why { IfErr result (λ e. QuestionRefused Target.compresses
             (asked N.labels question.now) (state_of Target.octets self.old)
             (Target.capacity (target_of self.old)) e) }
@@ -228,6 +240,11 @@ impl<Target: Composer> MessageBuilder<Target> {
         ensures unchanged { OnErr result
             (state_of Target.octets self.new ≡ state_of Target.octets self.old) }
         ensures early { IfErr result (λ e. is_early e ≡ true → self.new ≡ self.old) }
+        ensures order { 0 < later_count section (state_of Target.octets self.old).counts
+            → result ≡ Err Order }
+        ensures count { later_count section (state_of Target.octets self.old).counts ≡ 0
+            → section_count section (state_of Target.octets self.old).counts ≡ 65535
+            → result ≡ Err Count }
         ensures why { IfErr result (λ e. RecordRefused Target.compresses section
             (headed N.labels D.type_number resource.now)
             (D.composed (data_of resource.now) Target.compresses)
@@ -259,6 +276,11 @@ impl<Target: Composer> MessageBuilder<Target> {
         ensures unchanged { OnErr result
             (state_of Target.octets self.new ≡ state_of Target.octets self.old) }
         ensures early { IfErr result (λ e. is_early e ≡ true → self.new ≡ self.old) }
+        ensures order { 0 < later_count section (state_of Target.octets self.old).counts
+            → result ≡ Err Order }
+        ensures count { later_count section (state_of Target.octets self.old).counts ≡ 0
+            → section_count section (state_of Target.octets self.old).counts ≡ 65535
+            → result ≡ Err Count }
         ensures why { IfErr result (λ e. RecordRefused Target.compresses section
             (headed N.labels D.type_number resource.now)
             (D.composed (data_of resource.now) Target.compresses)

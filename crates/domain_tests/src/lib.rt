@@ -10,6 +10,8 @@ mod calls;
 #[cfg(test)]
 mod compressing;
 #[cfg(test)]
+mod cut_messages;
+#[cfg(test)]
 mod engines;
 #[cfg(test)]
 mod flattening;
@@ -25,6 +27,8 @@ mod lines;
 mod lists;
 #[cfg(test)]
 mod memory;
+#[cfg(test)]
+mod messages;
 #[cfg(test)]
 mod names;
 #[cfg(test)]

@@ -14,8 +14,14 @@ const PRIVATE: u16 = 65280;
 
 /// Record data that doesn't know its length before it is composed.
 #[derive(Clone, Copy)]
-struct Unmeasured<'a> {
+pub struct Unmeasured<'a> {
     octets: &'a [u8],
+}
+
+impl<'a> Unmeasured<'a> {
+    pub fn new(octets: &'a [u8]) -> Unmeasured<'a> {
+        Unmeasured { octets }
+    }
 }
 
 impl<'a> RecordData for Unmeasured<'a> {

@@ -1,4 +1,5 @@
 pub mod Built
+pub mod Replies
 pub mod Passing
 pub mod Finding
 pub mod Responding

@@ -4,3 +4,4 @@ pub mod Hosts
 pub mod Built
 pub mod MessageHosts
 pub mod Responses
+pub mod Served
