@@ -99,6 +99,17 @@ impl Answer {
         }
     }
 
+    /// Calls that must agree with others, and whether each does. Their names have a semicolon between.
+    ///
+    /// A literal is dear to check, and a call on the answer as well: so calls that are made together are told together.
+    pub fn agree_all(&mut self, calls: &[u8], holds: &[bool]) {
+        let mut names = calls.split(|octet| *octet == b';');
+        for holds in holds {
+            let call = names.next().unwrap_or(b"");
+            self.agree(*holds, call);
+        }
+    }
+
     /// Two slices that must be the same.
     pub fn same(&mut self, a: &[u8], b: &[u8], call: &[u8]) {
         self.agree(a == b, call);
@@ -110,11 +121,38 @@ impl Answer {
         self.agree(octets.capacity() <= octets.len().max(8), call);
     }
 
-    /// Appends octets as they are.
-    pub fn put(&mut self, octets: &[u8]) {
-        if self.octets.extend_from_slice(octets).is_err() {
+    /// Two values that must be shown alike.
+    pub fn shown_alike<A: Display + Drop, B: Display + Drop>(&mut self, a: A, b: B, call: &[u8]) {
+        let one = format!(in self.alloc; "{a}");
+        let other = format!(in self.alloc; "{b}");
+        match (one, other) {
+            (Ok(one), Ok(other)) => self.same(one.as_bytes(), other.as_bytes(), call),
+            _ => self.fail(Fail::Memory),
+        }
+    }
+
+    /// Notes that memory was refused where a call was.
+    pub fn took(&mut self, is_taken: bool) {
+        if !is_taken {
             self.fail(Fail::Memory);
         }
+    }
+
+    /// Octets in a `Vec` of their own. If memory is refused, that is noted, and there are none.
+    pub fn copy_of(&mut self, octets: &[u8]) -> Vec<u8> {
+        match Vec::from_slice(self.alloc, octets) {
+            Ok(copy) => copy,
+            Err(_) => {
+                self.fail(Fail::Memory);
+                Vec::new(self.alloc)
+            }
+        }
+    }
+
+    /// Appends octets as they are.
+    pub fn put(&mut self, octets: &[u8]) {
+        let is_taken = self.octets.extend_from_slice(octets).is_ok();
+        self.took(is_taken);
     }
 
     /// Appends octets in hexadecimal digits, none as a minus sign.

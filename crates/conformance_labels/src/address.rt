@@ -20,9 +20,14 @@ fn put_ipv4(out: &mut Answer, octets: [u8; 4]) {
     let address = Ipv4Addr::new(a, b, c, d);
     out.put(b"v4 ");
     put_composed(out, &address, 4);
-    out.agree(address.octets() == octets, b"octets");
-    out.agree(Ipv4Addr::from(octets) == address, b"from");
-    out.agree(IpAddr::from(octets) == IpAddr::V4(address), b"from");
+    out.agree_all(
+        b"octets;from;from",
+        &[
+            address.octets() == octets,
+            Ipv4Addr::from(octets) == address,
+            IpAddr::from(octets) == IpAddr::V4(address),
+        ],
+    );
 }
 
 fn segment(high: u8, low: u8) -> u16 {
@@ -43,14 +48,24 @@ fn put_ipv6(out: &mut Answer, octets: [u8; 16]) {
     ];
     out.put(b"v6 ");
     put_segments(out, segments);
-    out.agree(Ipv6Addr::from(octets) == Ipv6Addr::from(segments), b"from");
-    out.agree(IpAddr::from(octets) == IpAddr::from(segments), b"from");
+    out.agree_all(
+        b"from;from",
+        &[
+            Ipv6Addr::from(octets) == Ipv6Addr::from(segments),
+            IpAddr::from(octets) == IpAddr::from(segments),
+        ],
+    );
 }
 
 fn put_segments(out: &mut Answer, segments: [u16; 8]) {
     let [a, b, c, d, e, f, g, h] = segments;
     let address = Ipv6Addr::new(a, b, c, d, e, f, g, h);
     put_composed(out, &address, 16);
-    out.agree(Ipv6Addr::from(segments) == address, b"from");
-    out.agree(IpAddr::from(segments) == IpAddr::V6(address), b"from");
+    out.agree_all(
+        b"from;from",
+        &[
+            Ipv6Addr::from(segments) == address,
+            IpAddr::from(segments) == IpAddr::V6(address),
+        ],
+    );
 }

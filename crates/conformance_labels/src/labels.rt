@@ -1,7 +1,7 @@
 //! Labels: split from octets, compared, composed, and lowered in place.
 
 use arrayvec::ArrayVec;
-use conformance_answer::{Answer, Fail};
+use conformance_answer::Answer;
 use domain_label::{Label, OwnedLabel};
 use octseq::OctetsBuilder;
 use std::hash::{DefaultHasher, Hash, Hasher};
@@ -40,19 +40,19 @@ fn put_two_labels(out: &mut Answer, a: Label<'_>, b: Label<'_>) {
 fn is_composed_where_it_fits(out: &mut Answer, label: Label<'_>) {
     let len = usize::from(label.compose_len());
     let mut fits = room_for(out, len);
-    out.agree(label.compose(&mut fits).is_ok(), b"compose of what fits");
     let mut full = room_for(out, len);
-    out.agree(full.append_slice(b"\xee").is_ok(), b"append_slice");
+    let is_full = full.append_slice(b"\xee").is_ok();
     let held = full.len();
-    out.agree(
-        label.compose(&mut full).is_err(),
-        b"compose of what exceeds the room",
+    out.agree_all(
+        b"compose of what fits;append_slice;compose of what exceeds the room;compose of what exceeds the room;compose of what exceeds the room",
+        &[
+            label.compose(&mut fits).is_ok(),
+            is_full,
+            label.compose(&mut full).is_err(),
+            label.compose_canonical(&mut full).is_err(),
+            full.len() == held,
+        ],
     );
-    out.agree(
-        label.compose_canonical(&mut full).is_err(),
-        b"compose of what exceeds the room",
-    );
-    out.agree(full.len() == held, b"compose of what exceeds the room");
 }
 
 /// An array of 64 octets that has room for so many more.
@@ -66,9 +66,8 @@ fn room_for(out: &mut Answer, len: usize) -> ArrayVec<u8, 64> {
 
 fn put_composed(out: &mut Answer, label: Label<'_>) {
     let mut wire: Vec<u8> = Vec::new(out.alloc());
-    if label.compose(&mut wire).is_err() {
-        out.fail(Fail::Memory);
-    }
+    let is_taken = label.compose(&mut wire).is_ok();
+    out.took(is_taken);
     out.put_hex(wire.as_slice());
     let owned = OwnedLabel::from_label(label);
     out.same(owned.as_wire_slice(), wire.as_slice(), b"as_wire_slice");
@@ -76,9 +75,8 @@ fn put_composed(out: &mut Answer, label: Label<'_>) {
 
 fn put_lowered(out: &mut Answer, label: Label<'_>) {
     let mut lowered: Vec<u8> = Vec::new(out.alloc());
-    if label.compose_canonical(&mut lowered).is_err() {
-        out.fail(Fail::Memory);
-    }
+    let is_taken = label.compose_canonical(&mut lowered).is_ok();
+    out.took(is_taken);
     out.put_hex(lowered.as_slice());
     let canonical = label.to_canonical();
     out.same(
@@ -115,33 +113,38 @@ fn owned_hash_of(label: OwnedLabel) -> u64 {
 fn is_compared_as_owned(out: &mut Answer, a: Label<'_>, b: Label<'_>) {
     let left = OwnedLabel::from(a);
     let right = OwnedLabel::from(b);
-    out.agree((left == right) == (a == b), b"== of owned labels");
-    out.agree(left.cmp(&right) == a.cmp(&b), b"cmp of owned labels");
-    out.agree(a.partial_cmp(&b) == Some(a.cmp(&b)), b"partial_cmp");
-    out.agree(a != b || hash_of(a) == hash_of(b), b"hash");
-    out.agree(owned_hash_of(left) == hash_of(a), b"hash of owned labels");
+    let hash = hash_of(a);
+    out.agree_all(
+        b"== of owned labels;cmp of owned labels;partial_cmp;hash;hash of owned labels",
+        &[
+            (left == right) == (a == b),
+            left.cmp(&right) == a.cmp(&b),
+            a.partial_cmp(&b) == Some(a.cmp(&b)),
+            a != b || hash == hash_of(b),
+            owned_hash_of(left) == hash,
+        ],
+    );
 }
 
 /// The octets of a label come from its iterators.
 fn gives_octets(out: &mut Answer, label: Label<'_>) {
     let octets = label.as_slice();
-    out.agree(label.len() == octets.len(), b"len");
-    out.agree(label.is_empty() == octets.is_empty(), b"is_empty");
-    out.agree(label.iter().eq(octets.iter().copied()), b"iter");
-    out.agree(label.into_iter().eq(octets.iter().copied()), b"into_iter");
+    out.agree_all(
+        b"len;is_empty;iter;into_iter",
+        &[
+            label.len() == octets.len(),
+            label.is_empty() == octets.is_empty(),
+            label.iter().eq(octets.iter().copied()),
+            label.into_iter().eq(octets.iter().copied()),
+        ],
+    );
 }
 
 /// An owned label lends the label that it was made from, and is shown as that.
 fn is_owned(out: &mut Answer, label: Label<'_>) {
     let owned = OwnedLabel::from_label(label);
     out.same(owned.as_label().as_slice(), label.as_slice(), b"as_label");
-    match (
-        format!(in out.alloc(); "{owned}"),
-        format!(in out.alloc(); "{label}"),
-    ) {
-        (Ok(one), Ok(other)) => out.same(one.as_bytes(), other.as_bytes(), b"text of owned labels"),
-        _ => out.fail(Fail::Memory),
-    }
+    out.shown_alike(owned, label, b"text of owned labels");
 }
 
 /// `slice MSG START`

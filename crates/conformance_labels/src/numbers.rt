@@ -106,31 +106,35 @@ pub fn put_whole(out: &mut Answer, octets: &[u8]) {
 /// What a value is composed to, in a room of 16 octets that it fits, and in one that lacks an octet.
 pub fn put_composed<T: FixedLen>(out: &mut Answer, value: &T, len: usize) {
     let mut octets: Vec<u8> = Vec::new(out.alloc());
-    if value.compose(&mut octets).is_err() {
-        out.fail(Fail::Memory);
-    }
+    let is_taken = value.compose(&mut octets).is_ok();
+    out.took(is_taken);
     out.put_hex(octets.as_slice());
-    out.agree(octets.len() == len, b"compose");
-    out.agree(usize::from(T::COMPOSE_LEN) == len, b"COMPOSE_LEN");
-    out.agree(<&T>::COMPOSE_LEN == T::COMPOSE_LEN, b"COMPOSE_LEN");
-    out.agree(usize::from(T::LEN) == len, b"LEN");
+    out.agree_all(
+        b"compose;COMPOSE_LEN;COMPOSE_LEN;LEN",
+        &[
+            octets.len() == len,
+            usize::from(T::COMPOSE_LEN) == len,
+            <&T>::COMPOSE_LEN == T::COMPOSE_LEN,
+            usize::from(T::LEN) == len,
+        ],
+    );
     is_refused_by_a_full_room(out, value, len);
 }
 
 fn is_refused_by_a_full_room<T: Compose>(out: &mut Answer, value: &T, len: usize) {
     let mut fits = room_for(out, len);
-    out.agree(
-        (&value).compose(&mut &mut fits).is_ok(),
-        b"compose of what fits",
-    );
     let mut full = room_for(out, len);
-    out.agree(full.append_slice(b"\xee").is_ok(), b"append_slice");
+    let is_full = full.append_slice(b"\xee").is_ok();
     let held = full.len();
-    out.agree(
-        value.compose(&mut full).is_err(),
-        b"compose of what exceeds the room",
+    out.agree_all(
+        b"compose of what fits;append_slice;compose of what exceeds the room;compose of what exceeds the room",
+        &[
+            (&value).compose(&mut &mut fits).is_ok(),
+            is_full,
+            value.compose(&mut full).is_err(),
+            full.len() == held,
+        ],
     );
-    out.agree(full.len() == held, b"compose of what exceeds the room");
 }
 
 /// An array of 16 octets that has room for so many more.

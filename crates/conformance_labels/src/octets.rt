@@ -24,14 +24,10 @@ pub fn put_truncate(out: &mut Answer, octets: &[u8], len: usize) {
     out.put_hex(left);
     is_shortened(out, octets, len, left);
     is_shortened(out, CowSlice::Borrowed(octets), len, left);
-    match Vec::from_slice(out.alloc(), octets) {
-        Ok(copy) => is_shortened(out, copy, len, left),
-        Err(_) => out.fail(Fail::Memory),
-    }
-    match Vec::from_slice(out.alloc(), octets) {
-        Ok(copy) => is_shortened(out, CowSlice::Owned(copy), len, left),
-        Err(_) => out.fail(Fail::Memory),
-    }
+    let copy = out.copy_of(octets);
+    is_shortened(out, copy, len, left);
+    let copy = out.copy_of(octets);
+    is_shortened(out, CowSlice::Owned(copy), len, left);
     match ArrayVec::<u8, 255>::try_from(octets) {
         Ok(copy) => is_shortened(out, copy, len, left),
         Err(_) => out.fail(Fail::Bad),
@@ -53,10 +49,8 @@ pub fn put_write(out: &mut Answer, octets: &[u8], offset: usize, written: &[u8])
     let [octet] = written else {
         return out.fail(Fail::Bad);
     };
-    match Vec::from_slice(out.alloc(), octets) {
-        Ok(copy) => put_written(out, copy, offset, *octet),
-        Err(_) => out.fail(Fail::Memory),
-    }
+    let copy = out.copy_of(octets);
+    put_written(out, copy, offset, *octet);
     out.put(b" ");
     match ArrayVec::<u8, 255>::try_from(octets) {
         Ok(mut copy) => put_written(out, &mut copy, offset, *octet),
@@ -94,21 +88,30 @@ pub fn put_append(out: &mut Answer, first: &[u8], second: &[u8]) {
 
 /// A new builder has its room, and what was appended goes over.
 fn is_frozen(out: &mut Answer, octets: &[u8]) {
-    out.agree(<ArrayVec<u8, 8> as EmptyBuilder>::ROOM == Some(8), b"ROOM");
-    out.agree(<Vec<u8> as EmptyBuilder>::ROOM.is_none(), b"ROOM");
     let room: Result<ArrayVec<u8, 8>, ShortBuf> = EmptyBuilder::with_capacity(
         out.alloc(),
         octets.len(),
     );
-    out.agree(room.is_ok(), b"with_capacity");
+    out.agree_all(
+        b"ROOM;ROOM;with_capacity",
+        &[
+            <ArrayVec<u8, 8> as EmptyBuilder>::ROOM == Some(8),
+            <Vec<u8> as EmptyBuilder>::ROOM.is_none(),
+            room.is_ok(),
+        ],
+    );
     let made: Result<Vec<u8>, ShortBuf> = EmptyBuilder::with_capacity(out.alloc(), octets.len());
-    let Ok(mut builder) = made else {
-        return out.fail(Fail::Memory);
-    };
-    out.agree(builder.capacity() >= octets.len(), b"with_capacity");
-    if OctetsBuilder::append_slice(&mut builder, octets).is_err() {
-        out.fail(Fail::Memory);
+    match made {
+        Ok(builder) => is_filled(out, builder, octets),
+        Err(_) => out.fail(Fail::Memory),
     }
+}
+
+fn is_filled(out: &mut Answer, builder: Vec<u8>, octets: &[u8]) {
+    let mut builder = builder;
+    out.agree(builder.capacity() >= octets.len(), b"with_capacity");
+    let is_taken = OctetsBuilder::append_slice(&mut builder, octets).is_ok();
+    out.took(is_taken);
     let frozen = FreezeBuilder::freeze(builder);
     out.same(frozen.as_slice(), octets, b"freeze");
     let again = <Vec<u8> as FromBuilder>::from_builder(frozen);

@@ -6,11 +6,16 @@ use std::cmp::Ordering;
 
 /// The canonical order of two values is this one, by each call that tells it.
 pub fn is_in_canonical_order<T: CanonicalOrd>(out: &mut Answer, a: &T, b: &T, order: Ordering) {
-    out.agree(a.canonical_cmp(b) == order, b"canonical_cmp");
-    out.agree(a.canonical_lt(b) == order.is_lt(), b"canonical_lt");
-    out.agree(a.canonical_le(b) == order.is_le(), b"canonical_le");
-    out.agree(a.canonical_gt(b) == order.is_gt(), b"canonical_gt");
-    out.agree(a.canonical_ge(b) == order.is_ge(), b"canonical_ge");
+    out.agree_all(
+        b"canonical_cmp;canonical_lt;canonical_le;canonical_gt;canonical_ge",
+        &[
+            a.canonical_cmp(b) == order,
+            a.canonical_lt(b) == order.is_lt(),
+            a.canonical_le(b) == order.is_le(),
+            a.canonical_gt(b) == order.is_gt(),
+            a.canonical_ge(b) == order.is_ge(),
+        ],
+    );
 }
 
 /// Puts the canonical order of two values, and that they have the reverse order with sides swapped.

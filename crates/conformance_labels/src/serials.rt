@@ -30,39 +30,39 @@ pub fn put_serial(out: &mut Answer, a: &[u8], b: &[u8]) {
     out.agree((a == b) == order.is_eq(), b"==");
     is_in_canonical_order(out, &a, &b, order);
     is_written(out, a);
-    is_shown(out, a);
+    out.shown_alike(a, a.into_int(), b"text");
 }
 
 /// A serial's octets are those of its number.
 fn is_written(out: &mut Answer, serial: Serial) {
     let number = serial.into_int();
     let octets = number.to_be_bytes();
-    out.agree(Serial::from_be_bytes(octets) == serial, b"from_be_bytes");
-    out.agree(Serial::from(number) == serial, b"from");
-    out.agree(u32::from(serial) == number, b"into");
-    let mut made: Vec<u8> = Vec::new(out.alloc());
-    if serial.compose(&mut made).is_err() {
-        out.fail(Fail::Memory);
-    }
-    out.same(made.as_slice(), &octets, b"compose");
-    out.agree(
-        made.len() == usize::from(Serial::COMPOSE_LEN),
-        b"COMPOSE_LEN",
+    out.agree_all(
+        b"from_be_bytes;from;into",
+        &[
+            Serial::from_be_bytes(octets) == serial,
+            Serial::from(number) == serial,
+            u32::from(serial) == number,
+        ],
     );
-    let mut parser = Parser::from_ref(made.as_slice());
-    out.agree(Serial::parse(&mut parser) == Ok(serial), b"parse");
-    out.agree(Serial::parse(&mut parser).is_err(), b"parse");
+    let mut made: Vec<u8> = Vec::new(out.alloc());
+    let is_taken = serial.compose(&mut made).is_ok();
+    out.took(is_taken);
+    out.same(made.as_slice(), &octets, b"compose");
+    is_read_back(out, serial, made.as_slice());
 }
 
-fn is_shown(out: &mut Answer, serial: Serial) {
-    let number = serial.into_int();
-    match (
-        format!(in out.alloc(); "{serial}"),
-        format!(in out.alloc(); "{number}"),
-    ) {
-        (Ok(one), Ok(other)) => out.same(one.as_bytes(), other.as_bytes(), b"text"),
-        _ => out.fail(Fail::Memory),
-    }
+/// The octets are as many as are told, and are read as the serial number, once.
+fn is_read_back(out: &mut Answer, serial: Serial, octets: &[u8]) {
+    let mut parser = Parser::from_ref(octets);
+    out.agree_all(
+        b"COMPOSE_LEN;parse;parse",
+        &[
+            octets.len() == usize::from(Serial::COMPOSE_LEN),
+            Serial::parse(&mut parser) == Ok(serial),
+            Serial::parse(&mut parser).is_err(),
+        ],
+    );
 }
 
 /// `add SERIAL NUMBER`: `bad` where the number is more than may be added.

@@ -1,7 +1,7 @@
 //! Labels split from octets, and written in place.
 
 use crate::errors::put_label_type_alone;
-use conformance_answer::{Answer, Fail};
+use conformance_answer::Answer;
 use domain_label::{Label, LabelMut, SplitLabelError};
 
 /// `splitlabel OCTETS`
@@ -37,10 +37,7 @@ fn put_split_error(out: &mut Answer, error: SplitLabelError) {
 
 /// `splitmut OCTETS`
 pub fn put_splitmut(out: &mut Answer, octets: &[u8]) {
-    let mut copy = Vec::new(out.alloc());
-    if copy.extend_from_slice(octets).is_err() {
-        return out.fail(Fail::Memory);
-    }
+    let mut copy = out.copy_of(octets);
     match LabelMut::split_from_mut(copy.as_mut_slice()) {
         Ok((mut label, rest)) => {
             label.make_canonical();
@@ -57,10 +54,7 @@ pub fn put_splitmut(out: &mut Answer, octets: &[u8]) {
 
 /// `labelmut OCTETS`
 pub fn put_labelmut(out: &mut Answer, octets: &[u8]) {
-    let mut copy = Vec::new(out.alloc());
-    if copy.extend_from_slice(octets).is_err() {
-        return out.fail(Fail::Memory);
-    }
+    let mut copy = out.copy_of(octets);
     match LabelMut::from_slice_mut(copy.as_mut_slice()) {
         Ok(mut label) => {
             label.make_canonical();
@@ -75,10 +69,7 @@ pub fn put_labelmut(out: &mut Answer, octets: &[u8]) {
 
 /// `labelfill OCTETS`: each octet of the label is written over with a star.
 pub fn put_labelfill(out: &mut Answer, octets: &[u8]) {
-    let mut copy = Vec::new(out.alloc());
-    if copy.extend_from_slice(octets).is_err() {
-        return out.fail(Fail::Memory);
-    }
+    let mut copy = out.copy_of(octets);
     match LabelMut::split_from_mut(copy.as_mut_slice()) {
         Ok((label, _rest)) => {
             for octet in label.as_slice_mut() {
@@ -93,10 +84,7 @@ pub fn put_labelfill(out: &mut Answer, octets: &[u8]) {
 
 /// `restfill OCTETS`: each octet after the label is written over with a star.
 pub fn put_restfill(out: &mut Answer, octets: &[u8]) {
-    let mut copy = Vec::new(out.alloc());
-    if copy.extend_from_slice(octets).is_err() {
-        return out.fail(Fail::Memory);
-    }
+    let mut copy = out.copy_of(octets);
     match LabelMut::split_from_mut(copy.as_mut_slice()) {
         Ok((_label, rest)) => {
             for octet in rest {
