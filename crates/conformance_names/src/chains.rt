@@ -6,6 +6,7 @@
 use crate::compare::{put_both_related, put_both_relative_related, put_ends_of, put_related};
 use crate::flat::put_stripped;
 use crate::made::{put_forms, put_relative_forms};
+use crate::octets::{absolute_of, relative_of};
 use crate::orders::{put_orders, put_turned, wire_of};
 use conformance_answer::{Answer, Fail};
 use domain_list::{AbsoluteLabels, Chain, LongChainError, NameLabels, RelativeLabels, ToLabelIter};
@@ -121,9 +122,7 @@ fn put_refusal(out: &mut Answer, error: LongChainError) {
 
 /// `chain L R`
 pub fn put_chain(out: &mut Answer, left: &[u8], right: &[u8]) {
-    let Ok(left) = RelativeName::from_slice(left) else {
-        return out.fail(Fail::Bad);
-    };
+    let left = relative_of(out, left);
     match Name::from_slice(right) {
         Ok(right) => put_absolute_chain(out, left, right),
         Err(_) => match RelativeName::from_slice(right) {
@@ -137,10 +136,15 @@ fn put_absolute_chain(out: &mut Answer, left: RelativeName<&[u8]>, right: Name<&
     match left.chain(right) {
         Ok(chain) => {
             put_asked(out, chain, AbsoluteCall::Labels);
-            out.agree(chain.is_absolute(), b"is_absolute");
             let (one, other) = chain.unwrap();
-            out.same(one.as_slice(), left.as_slice(), b"unwrap");
-            out.same(other.as_slice(), right.as_slice(), b"unwrap");
+            out.agree_all(
+                b"is_absolute;unwrap;unwrap",
+                &[
+                    chain.is_absolute(),
+                    one.as_slice() == left.as_slice(),
+                    other.as_slice() == right.as_slice(),
+                ],
+            );
         }
         Err(error) => put_refusal(out, error),
     }
@@ -150,10 +154,15 @@ fn put_relative_chain(out: &mut Answer, left: RelativeName<&[u8]>, right: Relati
     match left.chain(right) {
         Ok(chain) => {
             put_relative(out, chain, RelativeCall::Labels);
-            out.agree(!chain.is_absolute(), b"is_absolute");
             let (one, other) = chain.unwrap();
-            out.same(one.as_slice(), left.as_slice(), b"unwrap");
-            out.same(other.as_slice(), right.as_slice(), b"unwrap");
+            out.agree_all(
+                b"is_absolute;unwrap;unwrap",
+                &[
+                    !chain.is_absolute(),
+                    one.as_slice() == left.as_slice(),
+                    other.as_slice() == right.as_slice(),
+                ],
+            );
         }
         Err(error) => put_refusal(out, error),
     }
@@ -161,9 +170,7 @@ fn put_relative_chain(out: &mut Answer, left: RelativeName<&[u8]>, right: Relati
 
 /// `chainforms L R`
 pub fn put_chainforms(out: &mut Answer, left: &[u8], right: &[u8]) {
-    let Ok(left) = RelativeName::from_slice(left) else {
-        return out.fail(Fail::Bad);
-    };
+    let left = relative_of(out, left);
     match Name::from_slice(right) {
         Ok(right) => match left.chain(right) {
             Ok(chain) => put_asked(out, chain, AbsoluteCall::Forms),
@@ -193,10 +200,8 @@ pub fn put_chainwalk(out: &mut Answer, left: &[u8], right: &[u8]) {
 
 /// `rooted NAME`: the name with the root after it, and its text.
 pub fn put_rooted(out: &mut Answer, octets: &[u8]) {
-    match RelativeName::from_slice(octets) {
-        Ok(name) => put_asked(out, name.chain_root(), AbsoluteCall::Dotted),
-        Err(_) => out.fail(Fail::Bad),
-    }
+    let name = relative_of(out, octets);
+    put_asked(out, name.chain_root(), AbsoluteCall::Dotted);
 }
 
 /// `chaincmp L R NAME`
@@ -204,10 +209,8 @@ pub fn put_chaincmp(out: &mut Answer, left: &[u8], right: &[u8], octets: &[u8]) 
     let Some(chain) = absolute_chain(left, right) else {
         return out.fail(Fail::Bad);
     };
-    match Name::from_slice(octets) {
-        Ok(name) => put_asked(out, chain, AbsoluteCall::Beside(&name)),
-        Err(_) => out.fail(Fail::Bad),
-    }
+    let name = absolute_of(out, octets);
+    put_asked(out, chain, AbsoluteCall::Beside(&name));
 }
 
 /// `chainrel L R RELATIVE`
@@ -215,10 +218,8 @@ pub fn put_chainrel(out: &mut Answer, left: &[u8], right: &[u8], octets: &[u8]) 
     let Some(chain) = relative_chain(left, right) else {
         return out.fail(Fail::Bad);
     };
-    match RelativeName::from_slice(octets) {
-        Ok(name) => put_relative(out, chain, RelativeCall::Beside(name)),
-        Err(_) => out.fail(Fail::Bad),
-    }
+    let name = relative_of(out, octets);
+    put_relative(out, chain, RelativeCall::Beside(name));
 }
 
 /// `chainends L R NAME`
@@ -226,10 +227,8 @@ pub fn put_chainends(out: &mut Answer, left: &[u8], right: &[u8], octets: &[u8])
     let Some(chain) = relative_chain(left, right) else {
         return out.fail(Fail::Bad);
     };
-    match Name::from_slice(octets) {
-        Ok(name) => put_relative(out, chain, RelativeCall::Ends(name)),
-        Err(_) => out.fail(Fail::Bad),
-    }
+    let name = absolute_of(out, octets);
+    put_relative(out, chain, RelativeCall::Ends(name));
 }
 
 /// `chainstrip L R NAME`: the name without the chain at its end.
@@ -237,8 +236,6 @@ pub fn put_chainstrip(out: &mut Answer, left: &[u8], right: &[u8], octets: &[u8]
     let Some(chain) = absolute_chain(left, right) else {
         return out.fail(Fail::Bad);
     };
-    match Name::from_slice(octets) {
-        Ok(name) => put_asked(out, chain, AbsoluteCall::Strip(name)),
-        Err(_) => out.fail(Fail::Bad),
-    }
+    let name = absolute_of(out, octets);
+    put_asked(out, chain, AbsoluteCall::Strip(name));
 }

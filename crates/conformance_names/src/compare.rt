@@ -1,6 +1,7 @@
 //! Names compared, with names of their kind and of others.
 
-use conformance_answer::{Answer, Fail};
+use crate::octets::{absolute_of, relative_of};
+use conformance_answer::Answer;
 use domain_list::{AbsoluteLabels, RelativeLabels};
 use domain_name::{Name, RelativeName};
 use domain_traits::{ToName, ToRelativeName};
@@ -27,25 +28,28 @@ fn put_fed_octets<N: Hash>(out: &mut Answer, name: &N, octets: &[u8]) {
 /// A name feeds a hasher its lowered wire format.
 fn put_fed<'a, N: AbsoluteLabels<'a> + Hash>(out: &mut Answer, name: &'a N) {
     let mut octets = Vec::new(out.alloc());
-    if name.compose_canonical(&mut octets).is_err() {
-        out.fail(Fail::Memory);
-    }
+    let is_taken = name.compose_canonical(&mut octets).is_ok();
+    out.took(is_taken);
     put_fed_octets(out, name, octets.as_slice());
 }
 
 fn put_relative_fed<'a, N: RelativeLabels<'a> + Hash>(out: &mut Answer, name: &'a N) {
     let mut octets = Vec::new(out.alloc());
-    if name.compose_canonical(&mut octets).is_err() {
-        out.fail(Fail::Memory);
-    }
+    let is_taken = name.compose_canonical(&mut octets).is_ok();
+    out.took(is_taken);
     put_fed_octets(out, name, octets.as_slice());
 }
 
 /// The operators and calls of one kind of names tell this.
 fn is_ordered<N: Ord>(out: &mut Answer, a: &N, b: &N, same: bool, order: Ordering) {
-    out.agree((a == b) == same, b"==");
-    out.agree(a.cmp(b) == order, b"cmp");
-    out.agree(a.partial_cmp(b) == Some(order), b"partial_cmp");
+    out.agree_all(
+        b"==;cmp;partial_cmp",
+        &[
+            (a == b) == same,
+            a.cmp(b) == order,
+            a.partial_cmp(b) == Some(order),
+        ],
+    );
 }
 
 pub fn put_related<'a, A: AbsoluteLabels<'a>, B: AbsoluteLabels<'a>>(
@@ -81,12 +85,8 @@ pub fn put_twins<'a, N: AbsoluteLabels<'a> + Ord + Hash>(out: &mut Answer, a: &'
 
 /// `cmp A B`
 pub fn put_cmp(out: &mut Answer, a: &[u8], b: &[u8]) {
-    let Ok(a) = Name::from_slice(a) else {
-        return out.fail(Fail::Bad);
-    };
-    let Ok(b) = Name::from_slice(b) else {
-        return out.fail(Fail::Bad);
-    };
+    let a = absolute_of(out, a);
+    let b = absolute_of(out, b);
     put_twins(out, &a, &b);
 }
 
@@ -105,12 +105,8 @@ fn put_relative_twins<'a, N: RelativeLabels<'a> + Ord + Hash>(
 
 /// `relcmp A B`
 pub fn put_relcmp(out: &mut Answer, a: &[u8], b: &[u8]) {
-    let Ok(a) = RelativeName::from_slice(a) else {
-        return out.fail(Fail::Bad);
-    };
-    let Ok(b) = RelativeName::from_slice(b) else {
-        return out.fail(Fail::Bad);
-    };
+    let a = relative_of(out, a);
+    let b = relative_of(out, b);
     put_relative_twins(out, &a, &b);
 }
 
@@ -128,12 +124,8 @@ pub fn put_ends_of<'a, A: AbsoluteLabels<'a>, R: RelativeLabels<'a>>(
 
 /// `ends ABSOLUTE RELATIVE`
 pub fn put_ends(out: &mut Answer, absolute: &[u8], relative: &[u8]) {
-    let Ok(a) = Name::from_slice(absolute) else {
-        return out.fail(Fail::Bad);
-    };
-    let Ok(r) = RelativeName::from_slice(relative) else {
-        return out.fail(Fail::Bad);
-    };
+    let a = absolute_of(out, absolute);
+    let r = relative_of(out, relative);
     put_ends_of(out, &a, &r);
 }
 

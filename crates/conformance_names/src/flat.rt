@@ -1,5 +1,6 @@
 //! Absolute names in one piece.
 
+use crate::octets::absolute_of;
 use crate::orders::{put_orders, wire_of};
 use conformance_answer::{Answer, Fail};
 use conformance_labels::{put_name_error, put_parse_error};
@@ -24,9 +25,7 @@ pub fn put_name(out: &mut Answer, octets: &[u8]) {
 
 /// `show NAME`
 pub fn put_show(out: &mut Answer, octets: &[u8]) {
-    let Ok(name) = Name::from_slice(octets) else {
-        return out.fail(Fail::Bad);
-    };
+    let name = absolute_of(out, octets);
     put_texts(out, name);
     out.put_text_after(b" rrsig=", name.rrsig_label_count());
     out.put_number_after(b" labels=", name.label_count());
@@ -35,9 +34,14 @@ pub fn put_show(out: &mut Answer, octets: &[u8]) {
     out.put_hex_after(b" first=", name.first().as_slice());
     out.put(b" suffixes=");
     put_suffixes(out, name);
-    out.agree(name.last().is_root(), b"last");
-    out.agree(name.compose_len() as usize == name.len(), b"compose_len");
-    out.agree(name.is_root() == (name.len() == 1), b"is_root");
+    out.agree_all(
+        b"last;compose_len;is_root",
+        &[
+            name.last().is_root(),
+            name.compose_len() as usize == name.len(),
+            name.is_root() == (name.len() == 1),
+        ],
+    );
 }
 
 fn put_texts(out: &mut Answer, name: Name<&[u8]>) {
@@ -68,9 +72,7 @@ fn put_suffixes(out: &mut Answer, name: Name<&[u8]>) {
 
 /// `flatwalk NAME`
 pub fn put_flatwalk(out: &mut Answer, octets: &[u8]) {
-    let Ok(name) = Name::from_slice(octets) else {
-        return out.fail(Fail::Bad);
-    };
+    let name = absolute_of(out, octets);
     put_orders(out, name.iter());
     out.put(b" ");
     let mut is_first = true;
@@ -102,25 +104,26 @@ fn put_rest(out: &mut Answer, name: Name<&[u8]>, is_first: &mut bool) {
 
 /// `split NAME PLACE`
 pub fn put_split(out: &mut Answer, octets: &[u8], mid: usize) {
-    let Ok(name) = Name::from_slice(octets) else {
-        return out.fail(Fail::Bad);
-    };
+    let name = absolute_of(out, octets);
     if !name.is_label_start(mid) {
         return out.put(b"no");
     }
     let (left, right) = name.split(mid);
     out.put_hex_after(b"yes ", left.as_slice());
     out.put_hex_after(b" ", right.as_slice());
-    out.agree(name.slice_from(mid) == right, b"slice_from");
-    out.agree(name.range_from(mid) == right, b"range_from");
-    out.agree(name.truncate(mid) == left, b"truncate");
+    out.agree_all(
+        b"slice_from;range_from;truncate",
+        &[
+            name.slice_from(mid) == right,
+            name.range_from(mid) == right,
+            name.truncate(mid) == left,
+        ],
+    );
 }
 
 /// `part NAME BEGIN END`
 pub fn put_part(out: &mut Answer, octets: &[u8], begin: usize, end: usize) {
-    let Ok(name) = Name::from_slice(octets) else {
-        return out.fail(Fail::Bad);
-    };
+    let name = absolute_of(out, octets);
     if begin <= end && name.is_label_start(begin) && name.is_label_start(end) {
         let part = name.slice(begin..end);
         out.put_hex_after(b"yes ", part.as_slice());
@@ -132,12 +135,8 @@ pub fn put_part(out: &mut Answer, octets: &[u8], begin: usize, end: usize) {
 
 /// `strip NAME BASE`
 pub fn put_strip(out: &mut Answer, octets: &[u8], base: &[u8]) {
-    let Ok(name) = Name::from_slice(octets) else {
-        return out.fail(Fail::Bad);
-    };
-    let Ok(base) = Name::from_slice(base) else {
-        return out.fail(Fail::Bad);
-    };
+    let name = absolute_of(out, octets);
+    let base = absolute_of(out, base);
     put_stripped(out, name.strip_suffix(&base));
 }
 

@@ -9,23 +9,35 @@ use std::borrow::CowSlice;
 
 /// `keep NAME`: the name over a `Vec`, and then without its root label.
 pub fn put_keep(out: &mut Answer, octets: &[u8]) {
-    let Ok(owned) = Vec::from_slice(out.alloc(), octets) else {
-        return out.fail(Fail::Memory);
-    };
-    let Ok(name) = Name::from_octets(owned) else {
-        return out.fail(Fail::Bad);
-    };
-    let Ok(copy) = name.clone(out.alloc()) else {
-        return out.fail(Fail::Memory);
-    };
-    out.put_hex(copy.as_slice());
-    out.same(name.for_ref().as_slice(), octets, b"for_ref");
-    out.same(name.for_slice().as_slice(), octets, b"for_slice");
-    out.same(name.as_octets().as_slice(), octets, b"as_octets");
-    out.same(copy.into_octets().as_slice(), octets, b"into_octets");
-    out.put_hex_after(b" ", name.into_relative().as_slice());
+    let owned = out.copy_of(octets);
+    match Name::from_octets(owned) {
+        Ok(name) => put_kept(out, name, octets),
+        Err(_) => out.fail(Fail::Bad),
+    }
     is_kept_in_an_array(out, octets);
     is_made_of_slice(out, octets);
+}
+
+fn put_kept(out: &mut Answer, name: Name<Vec<u8>>, octets: &[u8]) {
+    match name.clone(out.alloc()) {
+        Ok(copy) => put_copied(out, copy.into_octets(), octets),
+        Err(_) => out.fail(Fail::Memory),
+    }
+    out.agree_all(
+        b"for_ref;for_slice;as_octets",
+        &[
+            name.for_ref().as_slice() == octets,
+            name.for_slice().as_slice() == octets,
+            name.as_octets().as_slice() == octets,
+        ],
+    );
+    out.put_hex_after(b" ", name.into_relative().as_slice());
+}
+
+/// The octets of a copy are those of the name.
+fn put_copied(out: &mut Answer, copy: Vec<u8>, octets: &[u8]) {
+    out.put_hex(copy.as_slice());
+    out.same(copy.as_slice(), octets, b"into_octets");
 }
 
 fn is_kept_in_an_array(out: &mut Answer, octets: &[u8]) {
@@ -66,21 +78,27 @@ fn name_over_vec(out: &Answer, name: Name<&[u8]>) -> Result<Name<Vec<u8>>, Short
 
 /// `relkeep NAME`: the name over a `Vec`.
 pub fn put_relkeep(out: &mut Answer, octets: &[u8]) {
-    let Ok(owned) = Vec::from_slice(out.alloc(), octets) else {
-        return out.fail(Fail::Memory);
-    };
-    let Ok(name) = RelativeName::from_octets(owned) else {
-        return out.fail(Fail::Bad);
-    };
-    let Ok(copy) = name.clone(out.alloc()) else {
-        return out.fail(Fail::Memory);
-    };
-    out.put_hex(copy.as_slice());
-    out.same(name.for_ref().as_slice(), octets, b"for_ref");
-    out.same(name.for_slice().as_slice(), octets, b"for_slice");
-    out.same(name.as_octets().as_slice(), octets, b"as_octets");
-    out.same(copy.into_octets().as_slice(), octets, b"into_octets");
+    let owned = out.copy_of(octets);
+    match RelativeName::from_octets(owned) {
+        Ok(name) => put_relative_kept(out, name, octets),
+        Err(_) => out.fail(Fail::Bad),
+    }
     is_relative_in_an_array(out, octets);
+}
+
+fn put_relative_kept(out: &mut Answer, name: RelativeName<Vec<u8>>, octets: &[u8]) {
+    match name.clone(out.alloc()) {
+        Ok(copy) => put_copied(out, copy.into_octets(), octets),
+        Err(_) => out.fail(Fail::Memory),
+    }
+    out.agree_all(
+        b"for_ref;for_slice;as_octets",
+        &[
+            name.for_ref().as_slice() == octets,
+            name.for_slice().as_slice() == octets,
+            name.as_octets().as_slice() == octets,
+        ],
+    );
 }
 
 fn is_relative_in_an_array(out: &mut Answer, octets: &[u8]) {
@@ -100,10 +118,15 @@ fn is_relative_in_an_array(out: &mut Answer, octets: &[u8]) {
 pub fn put_root(out: &mut Answer) {
     let root = Name::root_ref();
     out.put_hex(root.as_slice());
-    out.agree(Name::root_slice() == root, b"root_slice");
-    out.agree(Label::root().as_slice().is_empty(), b"root of labels");
-    out.agree(Label::MAX_LEN == 63, b"MAX_LEN");
-    out.agree(Name::<&'static [u8]>::MAX_LEN == 255, b"MAX_LEN");
+    out.agree_all(
+        b"root_slice;root of labels;MAX_LEN;MAX_LEN",
+        &[
+            Name::root_slice() == root,
+            Label::root().as_slice().is_empty(),
+            Label::MAX_LEN == 63,
+            Name::<&'static [u8]>::MAX_LEN == 255,
+        ],
+    );
     match Name::root_vec(out.alloc()) {
         Ok(made) => out.same(made.as_slice(), root.as_slice(), b"root_vec"),
         Err(_) => out.fail(Fail::Memory),

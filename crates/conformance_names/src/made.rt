@@ -3,6 +3,7 @@
 //! A function that is generic over names is dear to check. So each kind of names has one here, which hands what was
 //! made to functions that aren't.
 
+use crate::octets::{absolute_of, relative_of};
 use arrayvec::ArrayVec;
 use conformance_answer::{Answer, Fail};
 use domain_list::{AbsoluteLabels, RelativeLabels};
@@ -30,9 +31,7 @@ fn put_composed(out: &mut Answer, refused: bool, octets: &[u8]) {
 
 /// Puts octets that were composed into an empty `Vec`.
 fn put_all_composed(out: &mut Answer, word: &[u8], taken: bool, octets: &Vec<u8>) {
-    if !taken {
-        out.fail(Fail::Memory);
-    }
+    out.took(taken);
     out.put_hex_after(word, octets.as_slice());
     out.asked_once(octets, b"memory of compose");
 }
@@ -127,18 +126,14 @@ pub fn put_appended<'a, N: AbsoluteLabels<'a>>(out: &mut Answer, name: &'a N, ro
 
 /// `forms NAME`
 pub fn put_flat_forms(out: &mut Answer, octets: &[u8]) {
-    match Name::from_slice(octets) {
-        Ok(name) => put_forms(out, &name),
-        Err(_) => out.fail(Fail::Bad),
-    }
+    let name = absolute_of(out, octets);
+    put_forms(out, &name);
 }
 
 /// `lentforms NAME`: those of a reference to the name.
 pub fn put_lent_forms(out: &mut Answer, octets: &[u8]) {
-    match Name::from_slice(octets) {
-        Ok(name) => put_forms(out, &&name),
-        Err(_) => out.fail(Fail::Bad),
-    }
+    let name = absolute_of(out, octets);
+    put_forms(out, &&name);
 }
 
 /// A relative name that was made over a `Vec` is this one.
@@ -159,9 +154,7 @@ fn is_relative_made(
 
 /// A builder that took the labels of the name has them.
 fn is_appended(out: &mut Answer, taken: bool, builder: NameBuilder<Vec<u8>>, wanted: &[u8]) {
-    if !taken {
-        out.fail(Fail::Memory);
-    }
+    out.took(taken);
     let made = builder.finish();
     out.same(made.as_slice(), wanted, b"append_name");
     out.asked_once(made.as_octets(), b"memory of append_name");
@@ -249,8 +242,6 @@ pub fn put_relative_appended<'a, N: RelativeLabels<'a>>(
 
 /// `relforms NAME`
 pub fn put_relative_flat_forms(out: &mut Answer, octets: &[u8]) {
-    match RelativeName::from_slice(octets) {
-        Ok(name) => put_relative_forms(out, &name),
-        Err(_) => out.fail(Fail::Bad),
-    }
+    let name = relative_of(out, octets);
+    put_relative_forms(out, &name);
 }

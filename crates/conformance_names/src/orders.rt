@@ -69,9 +69,8 @@ pub fn wire_of<'a, I: LabelIterator<'a>>(out: &mut Answer, labels: I) -> Vec<u8>
         let Some(label) = labels.next() else {
             break;
         };
-        if label.compose(&mut octets).is_err() {
-            out.fail(Fail::Memory);
-        }
+        let is_taken = label.compose(&mut octets).is_ok();
+        out.took(is_taken);
     }
     octets
 }

@@ -1,5 +1,6 @@
 //! Relative names in one piece.
 
+use crate::octets::relative_of;
 use crate::orders::{put_orders, wire_of};
 use conformance_answer::{Answer, Fail};
 use conformance_labels::put_relative_name_error;
@@ -31,9 +32,7 @@ fn put_label_or_none(out: &mut Answer, label: Option<Label<'_>>) {
 
 /// `relshow NAME`
 pub fn put_relshow(out: &mut Answer, octets: &[u8]) {
-    let Ok(name) = RelativeName::from_slice(octets) else {
-        return out.fail(Fail::Bad);
-    };
+    let name = relative_of(out, octets);
     out.put_shown_after(b"text=", &name);
     out.put_number_after(b" ndots=", name.ndots());
     out.put_number_after(b" labels=", name.label_count());
@@ -43,8 +42,13 @@ pub fn put_relshow(out: &mut Answer, octets: &[u8]) {
     put_label_or_none(out, name.first());
     out.put(b" last=");
     put_label_or_none(out, name.last());
-    out.agree(name.compose_len() as usize == name.len(), b"compose_len");
-    out.agree(name.is_empty() == (name.len() == 0), b"is_empty");
+    out.agree_all(
+        b"compose_len;is_empty",
+        &[
+            name.compose_len() as usize == name.len(),
+            name.is_empty() == (name.len() == 0),
+        ],
+    );
 }
 
 fn put_canonical(out: &mut Answer, name: RelativeName<&[u8]>) {
@@ -62,9 +66,7 @@ fn put_canonical(out: &mut Answer, name: RelativeName<&[u8]>) {
 
 /// `relwalk NAME`
 pub fn put_relwalk(out: &mut Answer, octets: &[u8]) {
-    let Ok(name) = RelativeName::from_slice(octets) else {
-        return out.fail(Fail::Bad);
-    };
+    let name = relative_of(out, octets);
     put_orders(out, name.iter());
     out.put(b" ");
     put_first(out, name);
@@ -94,9 +96,7 @@ fn put_first(out: &mut Answer, name: RelativeName<&[u8]>) {
 
 /// `relsplit NAME PLACE`
 pub fn put_relsplit(out: &mut Answer, octets: &[u8], mid: usize) {
-    let Ok(name) = RelativeName::from_slice(octets) else {
-        return out.fail(Fail::Bad);
-    };
+    let name = relative_of(out, octets);
     if !name.is_label_start(mid) {
         return out.put(b"no");
     }
@@ -110,9 +110,7 @@ pub fn put_relsplit(out: &mut Answer, octets: &[u8], mid: usize) {
 
 /// `relpart NAME BEGIN END`
 pub fn put_relpart(out: &mut Answer, octets: &[u8], begin: usize, end: usize) {
-    let Ok(name) = RelativeName::from_slice(octets) else {
-        return out.fail(Fail::Bad);
-    };
+    let name = relative_of(out, octets);
     if begin <= end && name.is_label_start(begin) && name.is_label_start(end) {
         let part = name.slice(begin..end);
         out.put_hex_after(b"yes ", part.as_slice());
@@ -124,12 +122,8 @@ pub fn put_relpart(out: &mut Answer, octets: &[u8], begin: usize, end: usize) {
 
 /// `relstrip NAME BASE`
 pub fn put_relstrip(out: &mut Answer, octets: &[u8], base: &[u8]) {
-    let Ok(mut name) = RelativeName::from_slice(octets) else {
-        return out.fail(Fail::Bad);
-    };
-    let Ok(base) = RelativeName::from_slice(base) else {
-        return out.fail(Fail::Bad);
-    };
+    let mut name = relative_of(out, octets);
+    let base = relative_of(out, base);
     match name.strip_suffix(&base) {
         Ok(()) => {
             out.put_hex_after(b"ok ", name.as_slice());

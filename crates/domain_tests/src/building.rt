@@ -21,7 +21,7 @@ fn refused<E: PartialEq + Drop>(
 ) -> u8 {
     match made {
         Ok(octets) => {
-            assert_eq!(rt; octets.as_slice(), wanted);
+            assert!(rt; octets.as_slice() == wanted);
             0
         }
         Err(error) => {
@@ -102,8 +102,8 @@ fn insist(rt: &impl Abort, builder: &mut NameBuilder<Vec<u8>>, call: BuilderCall
     if builder.apply_all(&[call]) == 1 {
         return 0;
     }
-    assert_eq!(rt; (builder.len(), builder.in_label()), before);
-    assert_eq!(rt; builder.apply_all(&[call]), 1);
+    assert!(rt; (builder.len(), builder.in_label()) == before);
+    assert!(rt; builder.apply_all(&[call]) == 1);
     1
 }
 
@@ -124,13 +124,13 @@ fn builders_go_on_after_a_refused_call(rt: HostRuntime) {
         count = count.saturating_add(insist(&rt, &mut builder, call));
     }
     let wanted = b"\x03www\x07Example\x01c\x03one\x03two\x03192\x01B".as_slice();
-    assert_eq!(rt; builder.as_slice(), wanted);
+    assert!(rt; builder.as_slice() == wanted);
     match builder.clone(rt.alloc()) {
-        Ok(copy) => assert_eq!(rt; copy.finish().as_slice(), wanted),
+        Ok(copy) => assert!(rt; copy.finish().as_slice() == wanted),
         Err(_) => count = count.saturating_add(1),
     }
     match builder.into_name() {
-        Ok(name) => assert_eq!(rt; name.into_relative().as_slice(), wanted),
+        Ok(name) => assert!(rt; name.into_relative().as_slice() == wanted),
         Err(error) => {
             assert!(rt; error == PushError::ShortBuf);
             count = count.saturating_add(1);
@@ -148,7 +148,7 @@ fn in_room_that_was_given_nothing_is_refused(rt: HostRuntime) {
     assert!(rt; builder.append_label(b"www").is_ok());
     assert!(rt; builder.append_chars("Example.com".chars()).is_ok());
     match builder.into_name() {
-        Ok(name) => assert_eq!(rt; name.as_slice(), WWW),
+        Ok(name) => assert!(rt; name.as_slice() == WWW),
         Err(_) => panic!(rt; "no room"),
     }
 }

@@ -88,12 +88,11 @@ fn refused_of_many(rt: &impl Abort, target: &mut Target) -> usize {
         let offset = target.as_slice().len();
         if !appended(rt, target, name.as_slice()) {
             refusals = refusals.saturating_add(1);
-            assert_eq!(rt; target.as_slice().len(), offset);
+            assert!(rt; target.as_slice().len() == offset);
             assert!(rt; appended(rt, target, name.as_slice()));
         }
-        assert_eq!(rt;
-            read_back(rt, target.as_slice(), offset, name.as_slice()),
-            target.as_slice().len()
+        assert!(rt;
+            read_back(rt, target.as_slice(), offset, name.as_slice()) == target.as_slice().len()
         );
     }
     refusals
@@ -113,6 +112,6 @@ fn names_are_written_or_refused(rt: HostRuntime) {
     let mut target = CompressComposer::new(room);
     assert!(rt; refused_of_many(&rt, &mut target) <= usize::from(MOST_REFUSED));
     let mut again = CompressComposer::new(wide_room);
-    assert_eq!(rt; refused_of_many(&rt, &mut again), 0);
-    assert_eq!(rt; target.as_slice(), again.as_slice());
+    assert!(rt; refused_of_many(&rt, &mut again) == 0);
+    assert!(rt; target.as_slice() == again.as_slice());
 }

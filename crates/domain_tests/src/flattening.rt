@@ -56,8 +56,8 @@ fn what_has_a_name_is_flattened(rt: HostRuntime) -> Result<(), Fail> {
         },
         alloc,
     )?;
-    assert_eq!(rt; made.number, 10);
-    assert_eq!(rt; made.name.as_slice(), WWW);
+    assert!(rt; made.number == 10);
+    assert!(rt; made.name.as_slice() == WWW);
     let made = own_numbered(
         Numbered {
             name: parsed(&rt, SCATTERED, 15),
@@ -65,8 +65,8 @@ fn what_has_a_name_is_flattened(rt: HostRuntime) -> Result<(), Fail> {
         },
         alloc,
     )?;
-    assert_eq!(rt; made.number, 20);
-    assert_eq!(rt; made.name.as_slice(), WWW);
+    assert!(rt; made.number == 20);
+    assert!(rt; made.name.as_slice() == WWW);
     Ok(())
 }
 
@@ -80,7 +80,7 @@ fn what_has_a_name_is_refused_where_its_name_is(rt: HostRuntime) -> Result<(), F
     let none: Result<Numbered<Name<ArrayVec<u8, 16>>>, ShortBuf> = numbered.flatten_into(alloc);
     assert!(rt; none.is_err());
     let made: Numbered<Name<ArrayVec<u8, 17>>> = numbered.flatten_into(alloc)?;
-    assert_eq!(rt; made.name.as_slice(), WWW);
+    assert!(rt; made.name.as_slice() == WWW);
     Ok(())
 }
 
@@ -90,6 +90,6 @@ fn names_are_owned(rt: HostRuntime) -> Result<(), Fail> {
     let flat = own(absolute(&rt, WWW), alloc)?;
     let scattered = own(parsed(&rt, SCATTERED, 15), alloc)?;
     assert!(rt; flat == scattered);
-    assert_eq!(rt; scattered.as_slice(), WWW);
+    assert!(rt; scattered.as_slice() == WWW);
     Ok(())
 }

@@ -84,7 +84,7 @@ fn names_in_other_types(rt: HostRuntime) {
         number: 1,
     };
     assert!(rt; gives_labels(rt.alloc(), &absolute, ABSOLUTE));
-    assert_eq!(rt; absolute.number, 1);
+    assert!(rt; absolute.number == 1);
     let relative = Numbered {
         name: relative(&rt, b"\x03www\x07Example"),
         number: 1,
@@ -102,7 +102,7 @@ fn chains_of_other_types(rt: HostRuntime) {
     };
     assert!(rt; gives_labels(rt.alloc(), &chain, ABSOLUTE));
     let (left, right) = chain.unwrap();
-    assert_eq!(rt; (left.compose_len(), right.compose_len()), (12, 5));
+    assert!(rt; (left.compose_len(), right.compose_len()) == (12, 5));
 }
 
 #[test]

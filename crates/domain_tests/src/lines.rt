@@ -60,7 +60,7 @@ fn a_writer_of_lines_that_fails_is_told(rt: HostRuntime) {
             } else {
                 Ok(())
             };
-            assert_eq!(rt; answer, wanted);
+            assert!(rt; answer == wanted);
         }
     }
 }
@@ -76,7 +76,7 @@ fn a_writer_of_a_wire_form_that_fails_is_told(rt: HostRuntime) {
             } else {
                 Ok(())
             };
-            assert_eq!(rt; answer, wanted);
+            assert!(rt; answer == wanted);
         }
     }
 }
@@ -92,8 +92,8 @@ fn many_lines_are_written_at_once(rt: HostRuntime) -> Result<(), AllocError> {
         calls: 0,
         octets: 0,
     };
-    assert_eq!(rt; list(rt.alloc(), &mut input, &mut output), Ok(()));
-    assert_eq!(rt; (output.calls, output.octets), (4, 30_000));
+    assert!(rt; list(rt.alloc(), &mut input, &mut output) == Ok(()));
+    assert!(rt; (output.calls, output.octets) == (4, 30_000));
     Ok(())
 }
 
@@ -114,10 +114,10 @@ fn a_message_is_listed_or_memory_was_refused(rt: HostRuntime) {
     let mut input = ANSWER;
     let mut output = ArrayVec::<u8, 64>::new();
     match list(rt.alloc(), &mut input, &mut output) {
-        Ok(()) => assert_eq!(rt; output.as_slice(), LINES),
+        Ok(()) => assert!(rt; output.as_slice() == LINES),
         Err(e) => {
-            assert_eq!(rt; e, ToolError::Memory);
-            assert_eq!(rt; MOST_REFUSED, 1);
+            assert!(rt; e == ToolError::Memory);
+            assert!(rt; MOST_REFUSED == 1);
         }
     }
 }
@@ -126,9 +126,6 @@ fn a_message_is_listed_or_memory_was_refused(rt: HostRuntime) {
 #[test]
 fn a_wire_form_is_refused_no_memory(rt: HostRuntime) {
     let mut output = ArrayVec::<u8, 64>::new();
-    assert_eq!(rt;
-        name_text(rt.alloc(), "www.example.com", &mut output),
-        Ok(())
-    );
-    assert_eq!(rt; output.as_slice(), WIRE);
+    assert!(rt; name_text(rt.alloc(), "www.example.com", &mut output) == Ok(()));
+    assert!(rt; output.as_slice() == WIRE);
 }

@@ -61,5 +61,5 @@ fn a_chain_is_shown(rt: HostRuntime) {
     };
     let mut shown = String::new(rt.alloc());
     assert!(rt; write!(shown, "{}", DisplayWithDot::new(&chain)).is_ok());
-    assert_eq!(rt; shown.as_str(), "*.");
+    assert!(rt; shown.as_str() == "*.");
 }

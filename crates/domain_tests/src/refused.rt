@@ -32,8 +32,8 @@ fn copy_data(rt: &impl Abort, alloc: Global) -> bool {
     };
     match held.clone(alloc) {
         Ok(copy) => {
-            assert_eq!(rt; copy.data().as_slice(), OCTETS);
-            assert_eq!(rt; copy.rtype().to_int(), PRIVATE);
+            assert!(rt; copy.data().as_slice() == OCTETS);
+            assert!(rt; copy.rtype().to_int() == PRIVATE);
             false
         }
         Err(ShortBuf) => true,
@@ -58,7 +58,7 @@ fn record_data_is_composed_or_refused(rt: HostRuntime) {
         }
         Err(ComposeRdataError::Long(_)) => panic!(rt; "too long"),
     }
-    assert_eq!(rt; target.as_slice(), b"\0\x03\x01\x02\xff".as_slice());
+    assert!(rt; target.as_slice() == b"\0\x03\x01\x02\xff".as_slice());
 }
 
 /// Copies a relative name twice, makes the copy absolute, and tells whether memory was refused.
@@ -73,14 +73,14 @@ fn make_absolute(rt: &impl Abort, alloc: Global) -> bool {
     let Ok(copy) = held.clone(alloc) else {
         return true;
     };
-    assert_eq!(rt; copy.as_slice(), b"\x03www".as_slice());
+    assert!(rt; copy.as_slice() == b"\x03www".as_slice());
     match copy.into_absolute() {
         Ok(name) => {
-            assert_eq!(rt; name.as_slice(), b"\x03www\0".as_slice());
+            assert!(rt; name.as_slice() == b"\x03www\0".as_slice());
             false
         }
         Err(e) => {
-            assert_eq!(rt; e, PushError::ShortBuf);
+            assert!(rt; e == PushError::ShortBuf);
             true
         }
     }
@@ -102,7 +102,7 @@ fn make_absolute_in_room(rt: &impl Abort, alloc: Global) -> bool {
         panic!(rt; "no relative name");
     };
     match name.into_absolute() {
-        Ok(name) => assert_eq!(rt; name.as_slice(), b"\x03www\0".as_slice()),
+        Ok(name) => assert!(rt; name.as_slice() == b"\x03www\0".as_slice()),
         Err(_) => panic!(rt; "no room"),
     }
     false
