@@ -3,6 +3,7 @@
 //! header, and a line for each question and record. With `--hex` behind either the message is in hexadecimal digits.
 #![tactic(auto)]
 
+use domain_make::engine::run as make;
 use domain_tool::words::arguments;
 use domain_walk::engine;
 use std::io::ErrorKind;
@@ -21,6 +22,15 @@ fn main(rt: HostRuntime) -> ExitCode {
         if words.push(argument.as_str()).is_err() {
             return out_of_memory(&rt);
         }
+    }
+    if let Some(&"make") = words.first() {
+        return ExitCode::from(make(
+            alloc,
+            words.as_slice(),
+            &mut rt.stdin(),
+            &mut rt.stdout(),
+            &mut rt.stderr(),
+        ));
     }
     ExitCode::from(engine::run(
         alloc,

@@ -1,0 +1,5 @@
+pub mod Scanning
+pub mod Texts
+pub mod Listing
+pub mod Records
+pub mod Drafting

@@ -1,0 +1,75 @@
+-- Parts that are appended, one after the other.
+use Rattle.std.proofs.Common.{◌≡◌, ℕ, ◌+◌, List, [], ◌∷◌, ◌++◌, length, refl, sym, ap, subst, ◌∙◌, append_assoc, ◌<◌, drop, get_or, add-one, drop-cons}
+use Rattle.std.proofs.lemmas.List.{append-nil}
+use Rattle.domain_make.specs.Data.{AreParts}
+use Rattle.domain_make.specs.Fields.{IsField, AreFields}
+use Rattle.domain_make.specs.Parts.{AreDigitsAt, DigitsTo, IsDigitsWord}
+use Rattle.domain_make.specs.Parts.DigitsTo.{begins, more}
+use Rattle.domain_make.specs.declared.fields.Field.{Field}
+use Rattle.domain_make.specs.declared.words.Word.{Word}
+
+-- The octets in digits before an offset were appended.
+abbrev pub Digited : List ℕ → List ℕ → List ℕ → ℕ → Type 0
+Digited text old new at = (octets : List ℕ) × DigitsTo text octets at × (new ≡ old ++ octets)
+
+pub digits_none : (text old : List ℕ) → Digited text old old 0
+digits_none text old = ([], begins, sym (append-nil old))
+
+pub digits_more : (text old mid new : List ℕ) (at octet : ℕ) → Digited text old mid at → AreDigitsAt text at octet → new ≡ mid ++ octet ∷ [] → Digited text old new (at + 2)
+digits_more text old mid new at octet before here is =
+    (before.0 ++ octet ∷ [], more before.1 here, is ∙ (ap (λ x. x ++ octet ∷ []) before.2 ∙ append_assoc old before.0 (octet ∷ [])))
+
+pub digits_all : (text old new : List ℕ) (at : ℕ) → Digited text old new at → at ≡ length text → (octets : List ℕ) × IsDigitsWord text octets × (new ≡ old ++ octets)
+digits_all text old new at before all = (before.0, subst (λ n. DigitsTo text before.0 n) all before.1, before.2)
+
+-- The parts that words before those left are were appended.
+abbrev pub Parted : (List ℕ → List ℕ → Type 0) → List Word → List Word → List ℕ → List ℕ → Type 0
+Parted IsPart all left old new = (octets : List ℕ) × (new ≡ old ++ octets) × ((rest : List ℕ) → AreParts IsPart left rest → AreParts IsPart all (octets ++ rest))
+
+pub parts_none : (IsPart : List ℕ → List ℕ → Type 0) (all : List Word) (old : List ℕ) → Parted IsPart all all old old
+parts_none IsPart all old = ([], sym (append-nil old), λ rest are. are)
+
+pub parts_more : (IsPart : List ℕ → List ℕ → Type 0) (all : List Word) (w : Word) (left words : List Word) (old mid new : List ℕ) → Parted IsPart all words old mid → words ≡ w ∷ left
+    → ((octets : List ℕ) × IsPart w.octets.now octets × (new ≡ mid ++ octets)) → Parted IsPart all left old new
+parts_more IsPart all w left words old mid new before is here =
+    let add : (rest : List ℕ) → AreParts IsPart left rest → AreParts IsPart all ((before.0 ++ here.0) ++ rest) = λ rest are.
+    subst (λ t. AreParts IsPart all t) (sym (append_assoc before.0 here.0 rest)) (before.2 (here.0 ++ rest) (subst (λ ws. AreParts IsPart ws (here.0 ++ rest)) (sym is) (here.0, rest, here.1, are, refl))) in
+    (before.0 ++ here.0, here.2 ∙ (ap (λ x. x ++ here.0) before.1 ∙ append_assoc old before.0 here.0), add)
+
+pub parts_all : (IsPart : List ℕ → List ℕ → Type 0) (all left : List Word) (old new : List ℕ) → Parted IsPart all left old new → left ≡ [] → (octets : List ℕ) × AreParts IsPart all octets × (new ≡ old ++ octets)
+parts_all IsPart all left old new before none =
+    (before.0, subst (λ t. AreParts IsPart all t) (append-nil before.0) (before.2 [] (subst (λ ws. AreParts IsPart ws []) (sym none) refl)), before.1)
+
+-- The parts before those left, which words before those left are, were appended.
+abbrev pub Fielded : List Field → List Word → List Field → List Word → List ℕ → List ℕ → Type 0
+Fielded all words left_fields left old new = (octets : List ℕ) × (new ≡ old ++ octets) × ((rest : List ℕ) → AreFields left_fields left rest → AreFields all words (octets ++ rest))
+
+pub fields_none : (all : List Field) (words : List Word) (old : List ℕ) → Fielded all words all words old old
+fields_none all words old = ([], sym (append-nil old), λ rest are. are)
+
+pub fields_more : (all : List Field) (words : List Word) (f : Field) (w : Word) (fs fields : List Field) (ws left : List Word) (old mid new : List ℕ) → Fielded all words fields left old mid → fields ≡ f ∷ fs → left ≡ w ∷ ws
+    → ((octets : List ℕ) × IsField f w.octets.now octets × (new ≡ mid ++ octets)) → Fielded all words fs ws old new
+fields_more all words f w fs fields ws left old mid new before same_fields same_words here =
+    let add : (rest : List ℕ) → AreFields fs ws rest → AreFields all words ((before.0 ++ here.0) ++ rest) = λ rest are.
+    subst (λ t. AreFields all words t) (sym (append_assoc before.0 here.0 rest)) (before.2 (here.0 ++ rest)
+    (subst (λ gs. AreFields gs left (here.0 ++ rest)) (sym same_fields) (subst (λ us. AreFields (f ∷ fs) us (here.0 ++ rest)) (sym same_words) (here.0, rest, here.1, are, refl)))) in
+    (before.0 ++ here.0, here.2 ∙ (ap (λ x. x ++ here.0) before.1 ∙ append_assoc old before.0 here.0), add)
+
+pub fields_all : (all : List Field) (words : List Word) (fields : List Field) (left : List Word) (old new : List ℕ) → Fielded all words fields left old new → fields ≡ [] → left ≡ [] → (octets : List ℕ) × AreFields all words octets × (new ≡ old ++ octets)
+fields_all all words fields left old new before no_fields no_words =
+    (before.0, subst (λ t. AreFields all words t) (append-nil before.0) (before.2 [] (subst (λ gs. AreFields gs left []) (sym no_fields) (subst (λ us. AreFields [] us []) (sym no_words) refl))), before.1)
+
+-- The first of what is left, and the rest.
+pub left_item : {X : Type 0} (xs : List X) (i : ℕ) (d : X) → i < length xs → drop i xs ≡ get_or xs i d ∷ drop (i + 1) xs
+left_item xs i d inside = rw add-one (drop-cons xs i d inside)
+
+-- The part that the word at an index is was appended.
+pub parts_step : (IsPart : List ℕ → List ℕ → Type 0) (all : List Word) (i : ℕ) (d : Word) (old mid new : List ℕ) → Parted IsPart all (drop i all) old mid → i < length all
+    → ((octets : List ℕ) × IsPart (get_or all i d).octets.now octets × (new ≡ mid ++ octets)) → Parted IsPart all (drop (i + 1) all) old new
+parts_step IsPart all i d old mid new before inside here = parts_more IsPart all (get_or all i d) (drop (i + 1) all) (drop i all) old mid new before (left_item all i d inside) here
+
+-- The same of a part of a kind.
+pub fields_step : (all : List Field) (words : List Word) (i : ℕ) (e : Field) (d : Word) (old mid new : List ℕ) → Fielded all words (drop i all) (drop i words) old mid → i < length all → i < length words
+    → ((octets : List ℕ) × IsField (get_or all i e) (get_or words i d).octets.now octets × (new ≡ mid ++ octets)) → Fielded all words (drop (i + 1) all) (drop (i + 1) words) old new
+fields_step all words i e d old mid new before inside within here =
+    fields_more all words (get_or all i e) (get_or words i d) (drop (i + 1) all) (drop i all) (drop (i + 1) words) (drop i words) old mid new before (left_item all i e inside) (left_item words i d within) here

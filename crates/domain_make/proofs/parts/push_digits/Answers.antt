@@ -1,0 +1,16 @@
+use Rattle.std.proofs.Common.{arith}
+use Rattle.domain_make.proofs.Listing.{digits_none, digits_more, digits_all}
+use Rattle.domain_make.proofs.Scanning.{if_true}
+use Rattle.domain_make.proofs.parts.push_digits.Goals as goal
+
+pub loop-at-init : goal.loop-at-init
+loop-at-init c = record { to = digits_none _ _; inside = omega arith }
+
+pub loop-at-preserved : goal.loop-at-preserved
+loop-at-preserved c = record {
+  to = digits_more _ _ _ _ _ _ c.loop-at.invariant.to c.in-Some.ensures.octet (if_true _ _ _ _ c.if-is_err.ensures.negation c.push.ensures.items);
+  inside = c.in-Some.ensures.within;
+}
+
+pub returns : goal.returns
+returns c = digits_all _ _ _ _ c.loop-at.invariant.to (omega arith)

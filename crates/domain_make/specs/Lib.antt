@@ -1,0 +1,9 @@
+pub mod Words
+pub mod Parts
+pub mod Strings
+pub mod Fields
+pub mod Data
+pub mod Entries
+pub mod Remarks
+pub mod Drafts
+pub mod Made

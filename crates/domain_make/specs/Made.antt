@@ -1,0 +1,39 @@
+-- The message that the lines of a text say, and what is written of it.
+use Rattle.std.specs.Prelude.{◌≡◌, ℕ, Bool, true, false, cond, List, [], ◌∷◌, ◌++◌, Option, codes, ⊤}
+use Rattle.std.specs.Io.KnownBytes.{Appends}
+use Rattle.domain_message_builder.specs.Reading.{IsMessageOf}
+use Rattle.domain_tool.specs.WireText.{hexadecimal}
+use Rattle.domain_make.specs.Drafts.{Draft, TextSays, StopsAt}
+use Rattle.domain_make.specs.declared.error.LineError.{LineError}
+use Rattle.domain_make.specs.declared.error.MakeError.{MakeError}
+use Rattle.domain_make.specs.declared.error.MakeError.TheVariants.{Line, Read, Write, Memory}
+
+-- The octets are a message of the header and the entries that the lines of the text say, in their order.
+pub record IsMade (text m : List ℕ) : Type 0 where
+  pub said : Draft
+  pub says : TextSays text said
+  pub message : IsMessageOf said.header said.content m
+
+-- a message as it is, or in hexadecimal digits and with a newline
+abbrev pub written_form : Bool → List ℕ → List ℕ
+written_form hex m = cond hex (hexadecimal m ++ 10 ∷ []) m
+
+-- The message that the lines of the text say was written, and nothing else.
+abbrev pub WritesMade : List ℕ → Bool → Option (List ℕ) → Option (List ℕ) → Type 0
+WritesMade text hex old new = (m : List ℕ) × IsMade text m × Appends old new (written_form hex m)
+
+-- The words are `make`, and `--hex` behind it where the message is to be in hexadecimal digits.
+abbrev pub AsksToMake : List (List ℕ) → Bool → Type 0
+AsksToMake words false = words ≡ codes "make" ∷ []
+AsksToMake words true = words ≡ codes "make" ∷ codes "--hex" ∷ []
+
+-- The error is of a line, and this holds of it.
+abbrev pub IfLine : MakeError → (LineError → Type 0) → Type 0
+IfLine (Line e) P = P e
+IfLine Read P = ⊤
+IfLine Write P = ⊤
+IfLine Memory P = ⊤
+
+-- The line that an error names, from 1 on, is there, and all lines before it say something.
+abbrev pub IsLineError : List ℕ → LineError → Type 0
+IsLineError text e = StopsAt text e.line

@@ -1,0 +1,101 @@
+-- Lines that begin with a semicolon, as `dig` and `dnswalk message` write them: of a header, headings, comments.
+use Rattle.std.specs.Prelude.{◌≡◌, ◌⊎◌, ℕ, ◌-◌, ◌<◌, ◌≤◌, Bool, cond, List, [], ◌∷◌, ◌++◌, length, take, slice_index, codes}
+use Rattle.domain_header.specs.Bits.{bit_of}
+use Rattle.domain_header.specs.Headers.{header_id, header_high, header_low, SetsHigh, SetsLow}
+use Rattle.domain_header.specs.Tables.{opcode_text, rcode_text}
+use Rattle.domain_header.specs.declared.flags.Header.{Header}
+use Rattle.domain_message.specs.declared.section.Section.TheVariants.{Answer, Authority, Additional}
+use Rattle.domain_make.specs.Parts.{IsNumber16}
+use Rattle.domain_make.specs.Words.{IsBlank}
+use Rattle.domain_make.specs.declared.remark.Flags.{Flags}
+use Rattle.domain_make.specs.declared.remark.Place.{Place}
+use Rattle.domain_make.specs.declared.remark.Place.TheVariants.{Start, Codes, Told, Questions, Records}
+
+-- The text is the line without the white space at its end.
+pub record IsTrimmed (line text : List ℕ) : Type 0 where
+  pub end : ℕ
+  pub text_is : text ≡ take end line
+  pub within : end ≤ length line
+  pub blank : (k : ℕ) → end ≤ k → k < length line → IsBlank (slice_index line k)
+  pub last : 0 < end → IsBlank (slice_index line (end - 1)) → ⊥
+
+-- The first line of a header, and what it has after its beginning.
+abbrev pub IsCodesLine : List ℕ → List ℕ → Type 0
+IsCodesLine text rest = (text ≡ codes ";; opcode: " ++ rest) ⊎ (text ≡ codes ";; ->>HEADER<<- opcode: " ++ rest)
+
+-- The text is a kind of query, a response code and an identifier: `QUERY, status: NOERROR, id: 1`.
+pub record AreCodes (text : List ℕ) (opcode rcode id : ℕ) : Type 0 where
+  pub digits : List ℕ
+  pub text_is : text ≡ opcode_text opcode ++ (codes ", status: " ++ (rcode_text rcode ++ (codes ", id: " ++ digits)))
+  pub small_opcode : opcode < 16
+  pub small_rcode : rcode < 16
+  pub id_is : IsNumber16 digits id
+
+-- Identifier, kind of query and response code were set, and nothing else.
+pub record SetsCodes (opcode rcode id : ℕ) (old new : Header) : Type 0 where
+  pub first : Header
+  pub second : Header
+  pub id_set : header_id first ≡ id
+  pub high : header_high first ≡ header_high old
+  pub low : header_low first ≡ header_low old
+  pub opcode_set : SetsHigh 8 16 opcode first second
+  pub rcode_set : SetsLow 1 16 rcode second new
+
+-- the flags that are set, a space before each, and that the bit Z is, which must be zero
+abbrev pub flags_words : Flags → List ℕ
+flags_words f = cond f.qr (codes " qr") [] ++ (cond f.aa (codes " aa") [] ++ (cond f.tc (codes " tc") [] ++ (cond f.rd (codes " rd") [] ++ (cond f.ra (codes " ra") []
+    ++ (cond f.ad (codes " ad") [] ++ (cond f.cd (codes " cd") [] ++ cond f.z (codes "; MBZ: 0x4") []))))))
+
+-- The text begins with flags and a semicolon: ` qr rd; QUESTION: 1`. What follows isn't looked at.
+abbrev pub BeginsWithFlags : List ℕ → Flags → Type 0
+BeginsWithFlags text f = (rest : List ℕ) × (text ≡ flags_words f ++ (codes "; " ++ rest))
+
+-- The flags were set or cleared, one after the other, and nothing else.
+pub record SetsFlags (f : Flags) (old new : Header) : Type 0 where
+  pub headers : Header × Header × Header × Header × Header × Header × Header
+  pub qr : SetsHigh 128 2 (bit_of f.qr) old headers.0
+  pub aa : SetsHigh 4 2 (bit_of f.aa) headers.0 headers.1
+  pub tc : SetsHigh 2 2 (bit_of f.tc) headers.1 headers.2
+  pub rd : SetsHigh 1 2 (bit_of f.rd) headers.2 headers.3
+  pub ra : SetsLow 128 2 (bit_of f.ra) headers.3 headers.4
+  pub ad : SetsLow 32 2 (bit_of f.ad) headers.4 headers.5
+  pub cd : SetsLow 16 2 (bit_of f.cd) headers.5 headers.6
+  pub z : SetsLow 64 2 (bit_of f.z) headers.6 new
+
+-- The line is this, with a colon at its end or without.
+abbrev pub IsWithColon : List ℕ → List ℕ → Type 0
+IsWithColon heading text = (text ≡ heading) ⊎ (text ≡ heading ++ codes ":")
+
+-- The line is the heading of what follows it.
+pub data IsHeading (text : List ℕ) : (place : Place) → Type 0 where
+  questions : IsWithColon (codes ";; QUESTION SECTION") text → IsHeading text Questions
+  answers : IsWithColon (codes ";; ANSWER SECTION") text → IsHeading text (Records Answer)
+  authority : IsWithColon (codes ";; AUTHORITY SECTION") text → IsHeading text (Records Authority)
+  additional : IsWithColon (codes ";; ADDITIONAL SECTION") text → IsHeading text (Records Additional)
+
+-- The line begins as the second one of a header, and has this after it.
+abbrev pub IsFlagsLine : List ℕ → List ℕ → Type 0
+IsFlagsLine text rest = text ≡ codes ";; flags:" ++ rest
+
+-- The line ends as no heading does.
+abbrev pub IsNoSection : List ℕ → Type 0
+IsNoSection text = (front : List ℕ) → IsWithColon (front ++ codes " SECTION") text → ⊥
+
+-- The line begins as none of an OPT record does.
+abbrev pub IsNoOpt : List ℕ → Type 0
+IsNoOpt text = (rest : List ℕ) → (text ≡ codes "; EDNS:" ++ rest) ⊎ (text ≡ codes "; OPT=" ++ rest) → ⊥
+
+-- The line is another one: a comment. It is none of a header, no heading, and none of an OPT record.
+pub record IsComment (text : List ℕ) : Type 0 where
+  pub no_codes : (rest : List ℕ) → IsCodesLine text rest → ⊥
+  pub no_flags : (rest : List ℕ) → IsFlagsLine text rest → ⊥
+  pub no_heading : (place : Place) → IsHeading text place → ⊥
+  pub no_section : IsNoSection text
+  pub no_opt : IsNoOpt text
+
+-- After a place and a header, the line leads to the next place and the new header.
+pub data Remarks (text : List ℕ) (place : Place) (old : Header) : (next : Place) (new : Header) → Type 0 where
+  codes_told : {new : Header} (rest : List ℕ) (opcode rcode id : ℕ) → place ≡ Start → IsCodesLine text rest → AreCodes rest opcode rcode id → SetsCodes opcode rcode id old new → Remarks text place old Codes new
+  flags_told : {new : Header} (rest : List ℕ) (f : Flags) → (place ≡ Start) ⊎ (place ≡ Codes) → IsFlagsLine text rest → BeginsWithFlags rest f → SetsFlags f old new → Remarks text place old Told new
+  heading : {next : Place} → IsHeading text next → Remarks text place old next old
+  comment : IsComment text → Remarks text place old place old

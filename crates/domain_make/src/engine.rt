@@ -1,0 +1,189 @@
+//! The engine of `dnswalk make`, over any reader and writer.
+ghost use Rattle.std.specs.Prelude.{◌≡◌, ◌≤◌, ◌↔◌, Bool, map, Some, IfOk, IfErr, IfSome, IsNone, OnOk};
+ghost use Rattle.std.specs.Io.KnownBytes.{Appends, IsAtEnd};
+ghost use Rattle.domain_tool.specs.WireText.{octet_digits, hexadecimal};
+ghost use Rattle.domain_make.specs.Made.{IsMade, written_form, WritesMade, AsksToMake, IfLine, IsLineError};
+
+use crate::error::MakeError;
+use crate::line::take_lines;
+use domain_compress::CompressComposer;
+use domain_label::hex::hex_character;
+use domain_message_builder::MessageBuilder;
+use domain_rdata::Composer;
+use domain_tool::tool::{ToolError, WriteFault, read_all, write_line};
+use std::alloc::Global;
+use std::fmt;
+use std::io::{Read, Write};
+
+/// Appends to an empty target the message that the lines of a text say.
+///
+/// `Line` has the first line that says nothing of a message, and why. `Memory` where there was no memory, or the target
+/// isn't empty.
+pub fn make_message<Target: Composer + Drop>(
+    alloc: Global,
+    text: &[u8],
+    target: Target,
+) -> Result<Target, MakeError>
+    ensures message { IfOk result (λ made. IsMade text.now (Target.octets made)) }
+    ensures refused { IfErr result (λ e. IfLine e (IsLineError text.now)) }
+{
+    let mut message = match MessageBuilder::from_target(target) {
+        Ok(message) => message,
+        Err(_) => return Err(MakeError::Memory),
+    };
+    match take_lines(alloc, text, &mut message) {
+        Ok(()) => Ok(message.finish()),
+        Err(e) => Err(e),
+    }
+}
+
+/// The message that the lines of a text say, with names of questions and owners of records written shorter.
+fn shorter_message(alloc: Global, text: &[u8]) -> Result<Vec<u8>, MakeError>
+    ensures message { IfOk result (λ made. IsMade text.now made.items) }
+    ensures refused { IfErr result (λ e. IfLine e (IsLineError text.now)) }
+{
+    let composer = CompressComposer::new(Vec::new(alloc));
+    match make_message(alloc, text, composer) {
+        Ok(message) => Ok(message.into_target()),
+        Err(e) => Err(e),
+    }
+}
+
+/// Each octet in two lower case digits.
+#[derive(Clone, Copy)]
+struct Hexadecimal<'a> {
+    octets: &'a [u8],
+}
+
+impl<'a> fmt::Display for Hexadecimal<'a> {
+    ghost output = { λ it. Some (hexadecimal it.octets.now) };
+
+    fn fmt<W: fmt::Write>(&self, f: &mut fmt::Formatter<W>) -> fmt::Result {
+        for octet in self.octets {
+            write!(f, "{}", Digits(*octet))?;
+        }
+        Ok(())
+    }
+}
+
+/// An octet in two digits, the high one first.
+#[derive(Clone, Copy)]
+struct Digits(u8);
+
+impl fmt::Display for Digits {
+    ghost output = { λ it. Some (octet_digits it.0) };
+
+    fn fmt<W: fmt::Write>(&self, f: &mut fmt::Formatter<W>) -> fmt::Result {
+        let high = hex_character(self.0 / 16);
+        let low = hex_character(self.0 % 16);
+        write!(f, "{high}{low}")
+    }
+}
+
+/// Writes octets as they are, or in hexadecimal digits and with a newline.
+fn write_octets<W: Write>(octets: &[u8], hex: bool, output: &mut W) -> Result<(), WriteFault>
+    ensures { OnOk result
+        (Appends (W.contents output.old) (W.contents output.new) (written_form hex octets.now)) }
+{
+    if hex {
+        return write_line(output, Hexadecimal { octets });
+    }
+    output.write_all(octets)?;
+    Ok(())
+}
+
+/// Writes octets as `write_octets` does, and flushes the output.
+fn send_octets<W: Write>(octets: &[u8], hex: bool, output: &mut W) -> Result<(), WriteFault>
+    ensures { OnOk result
+        (Appends (W.contents output.old) (W.contents output.new) (written_form hex octets.now)) }
+{
+    write_octets(octets, hex, output)?;
+    match output.flush() {
+        Ok(()) => Ok(()),
+        Err(_) => Err(WriteFault::Refused),
+    }
+}
+
+/// Reads the input to its end, writes the message that its lines say, as it is or in hexadecimal digits and with a
+/// newline, and flushes the output.
+///
+/// `Line` has the first line that says nothing of a message, and why; nothing is written then. `Read`, `Write` or
+/// `Memory` where one of these failed.
+pub fn make<R: Read, W: Write>(
+    alloc: Global,
+    input: &mut R,
+    output: &mut W,
+    hex: bool,
+) -> Result<(), MakeError>
+    ensures whole { OnOk result (IsAtEnd (R.remaining input.new)) }
+    ensures written { OnOk result (IfSome (R.remaining input.old)
+        (λ text. WritesMade text hex (W.contents output.old) (W.contents output.new))) }
+    ensures refused { IfErr result (λ e. IfLine e (λ told. IfSome (R.remaining input.old)
+        (λ text. IsLineError text told))) }
+    ensures nothing_written { IfErr result (λ e. IfLine e (λ _. output.new ≡ output.old)) }
+{
+    let text = match read_all(alloc, input) {
+        Ok(text) => text,
+        Err(ToolError::Memory) => return Err(MakeError::Memory),
+        Err(_) => return Err(MakeError::Read),
+    };
+    let message = match shorter_message(alloc, text.as_slice()) {
+        Ok(message) => message,
+        Err(e) => return Err(e),
+    };
+    match send_octets(message.as_slice(), hex, output) {
+        Ok(()) => Ok(()),
+        Err(_) => Err(MakeError::Write),
+    }
+}
+
+const USAGE: &str = "usage: dnswalk make [--hex]";
+
+/// Whether the words ask for a message, and whether in hexadecimal digits.
+fn asked(words: &[&str]) -> Option<bool>
+    ensures some { IfSome result
+        (λ hex. AsksToMake (map (λ word. word.now) words.now) hex) }
+    ensures none { IsNone result → (hex : Bool) →
+        AsksToMake (map (λ word. word.now) words.now) hex → ⊥ }
+{
+    match words {
+        ["make"] => Some(false),
+        ["make", "--hex"] => Some(true),
+        _ => None,
+    }
+}
+
+/// Carries out the words that follow the program's name, where the first of them is `make`. The answer is the status to
+/// end with: 0 where the message was written, 1 where a line says nothing of a message, 2 for other words than `make`,
+/// and `--hex` or not; 3 where reading, writing or memory failed. The reasons are on `errors`.
+pub fn run<R: Read, W: Write, E: Write>(
+    alloc: Global,
+    words: &[&str],
+    input: &mut R,
+    output: &mut W,
+    errors: &mut E,
+) -> u8
+    ensures status { result ≤ 3 }
+    ensures done { result ≡ 0 →
+        (hex : Bool) × AsksToMake (map (λ word. word.now) words.now) hex
+        × IfSome (R.remaining input.old)
+        (λ text. WritesMade text hex (W.contents output.old) (W.contents output.new)) }
+    ensures refused { result ≡ 1 → output.new ≡ output.old }
+    ensures usage { result ≡ 2 ↔
+        ((hex : Bool) → AsksToMake (map (λ word. word.now) words.now) hex → ⊥) }
+    ensures untouched { result ≡ 2 → (input.new ≡ input.old) × (output.new ≡ output.old) }
+    ensures quiet { result ≡ 0 → errors.new ≡ errors.old }
+{
+    let Some(hex) = asked(words) else {
+        let _ = write_line(errors, USAGE);
+        return 2;
+    };
+    let Err(e) = make(alloc, input, output, hex) else {
+        return 0;
+    };
+    let _ = write_line(errors, e);
+    match e {
+        MakeError::Line(_) => 1,
+        MakeError::Read | MakeError::Write | MakeError::Memory => 3,
+    }
+}

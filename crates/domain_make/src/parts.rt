@@ -1,0 +1,184 @@
+//! Numbers, names and addresses that a word is (RFC 1035, 5.1).
+ghost use Rattle.std.specs.Prelude.{◌≡◌, ◌<◌, ◌≤◌, ◌++◌, ◌+◌, ℕ, List, length, IsTrue, IfOk, IfSome, OnOk};
+ghost use Rattle.std.specs.Str.{chars};
+ghost use Rattle.domain_builder.specs.TextGrammar.{IsTextOfName};
+ghost use Rattle.domain_name.specs.Names.{name_labels};
+ghost use Rattle.domain_make.specs.Words.{EndsInDot};
+ghost use Rattle.domain_make.specs.Parts.{IsNameWord, IsNumber16, IsNumber32, IsIpv4Word, IsIpv6Word, IsHexDigit, AreDigitsAt, IsDigitsWord};
+
+use crate::error::{Fault, Stop};
+use crate::words::Word;
+use arrayvec::ArrayVec;
+use domain_builder::FromStrError;
+use domain_name::absolute::Name;
+use domain_tool::offset_of_word;
+use std::alloc::Global;
+use std::net::{Ipv4Addr, Ipv6Addr};
+use std::str::from_utf8;
+
+/// A name of at most 255 octets.
+pub(crate) type OwnName = Name<ArrayVec<u8, 255>>;
+
+/// The text that a word is, or a fault of the word.
+pub(crate) fn text_of<'a>(word: &Word<'a>, fault: Fault) -> Result<&'a str, Stop>
+    ensures { IfOk result (λ text. text.now ≡ word.now.octets.now) }
+{
+    match from_utf8(word.octets) {
+        Ok(text) => Ok(text),
+        Err(_) => Err(Stop::Refused(fault, word.column)),
+    }
+}
+
+/// Whether a text ends in a dot that no backslash stands before.
+fn ends_in_dot(text: &[u8]) -> bool
+    ensures { IsTrue result → EndsInDot text.now }
+{
+    let mut at = 0;
+    let mut dot = false;
+    while at < text.len() {
+        let octet = text[at];
+        if octet == b'\\' {
+            if text.len() - at < 2 {
+                return false;
+            }
+            dot = false;
+            at += 2;
+        } else if octet == b'.' {
+            dot = true;
+            at += 1;
+        } else {
+            dot = false;
+            at += 1;
+        }
+    }
+    dot
+}
+
+/// The name that a text is. Each name fits.
+fn name_from_text(alloc: Global, text: &str) -> Result<OwnName, FromStrError>
+    ensures { IfOk result (λ name. IsTextOfName (chars text.now) (name_labels name)) }
+{
+    Name::from_chars(alloc, text.chars())
+}
+
+/// The absolute name that a word is, with its final dot.
+pub(crate) fn name_of(alloc: Global, word: &Word<'_>) -> Result<OwnName, Stop>
+    ensures { IfOk result (λ name. IsNameWord word.now.octets.now (name_labels name)) }
+{
+    if !ends_in_dot(word.octets) {
+        return Err(Stop::Refused(Fault::NoFinalDot, word.column));
+    }
+    let text = match text_of(word, Fault::Name) {
+        Ok(text) => text,
+        Err(stop) => return Err(stop),
+    };
+    match name_from_text(alloc, text) {
+        Ok(name) => Ok(name),
+        Err(_) => Err(Stop::Refused(Fault::Name, word.column)),
+    }
+}
+
+/// The number of at most 32 bits that a word is in decimal digits.
+pub(crate) fn number32_of(word: &Word<'_>) -> Result<u32, Stop>
+    ensures { IfOk result (λ n. IsNumber32 word.now.octets.now n) }
+{
+    let text = match text_of(word, Fault::Number) {
+        Ok(text) => text,
+        Err(stop) => return Err(stop),
+    };
+    match offset_of_word(text) {
+        Some(number) => Ok(number),
+        None => Err(Stop::Refused(Fault::Number, word.column)),
+    }
+}
+
+/// The number of at most 16 bits that a word is in decimal digits.
+pub(crate) fn number16_of(word: &Word<'_>) -> Result<u16, Stop>
+    ensures { IfOk result (λ n. IsNumber16 word.now.octets.now n) }
+{
+    let number = match number32_of(word) {
+        Ok(number) => number,
+        Err(stop) => return Err(stop),
+    };
+    if number > 65_535 {
+        return Err(Stop::Refused(Fault::Number, word.column));
+    }
+    Ok(number as u16)
+}
+
+/// The IPv4 address that a word is.
+pub(crate) fn ipv4_of(word: &Word<'_>) -> Result<[u8; 4], Stop>
+    ensures { IfOk result (λ octets. IsIpv4Word word.now.octets.now octets) }
+{
+    let text = match text_of(word, Fault::Ipv4) {
+        Ok(text) => text,
+        Err(stop) => return Err(stop),
+    };
+    match text.parse::<Ipv4Addr>() {
+        Ok(address) => Ok(address.octets()),
+        Err(_) => Err(Stop::Refused(Fault::Ipv4, word.column)),
+    }
+}
+
+/// The IPv6 address that a word is.
+pub(crate) fn ipv6_of(word: &Word<'_>) -> Result<[u8; 16], Stop>
+    ensures { IfOk result (λ octets. IsIpv6Word word.now.octets.now octets) }
+{
+    let text = match text_of(word, Fault::Ipv6) {
+        Ok(text) => text,
+        Err(stop) => return Err(stop),
+    };
+    match text.parse::<Ipv6Addr>() {
+        Ok(address) => Ok(address.octets()),
+        Err(_) => Err(Stop::Refused(Fault::Ipv6, word.column)),
+    }
+}
+
+/// The number that a hexadecimal digit stands for.
+fn digit_of(octet: u8) -> Option<u8>
+    ensures { IfSome result (λ x. IsHexDigit octet x) }
+{
+    match octet {
+        b'0'..=b'9' => Some(octet - b'0'),
+        b'a'..=b'f' => Some(octet - b'a' + 10),
+        b'A'..=b'F' => Some(octet - b'A' + 10),
+        _ => None,
+    }
+}
+
+/// The octet whose two digits begin at an offset.
+fn digits_at(text: &[u8], at: usize) -> Option<u8>
+    requires { at < length text.now }
+    ensures octet { IfSome result (λ x. AreDigitsAt text.now at x) }
+    ensures within { IfSome result (λ _. at + 2 ≤ length text.now) }
+{
+    if text.len() - at < 2 {
+        return None;
+    }
+    let Some(high) = digit_of(text[at]) else {
+        return None;
+    };
+    let Some(low) = digit_of(text[at + 1]) else {
+        return None;
+    };
+    Some(high * 16 + low)
+}
+
+/// Appends the octets that a word is in hexadecimal digits, two for each.
+pub(crate) fn push_digits(word: &Word<'_>, data: &mut Vec<u8>) -> Result<(), Stop>
+    ensures { OnOk result ((octets : List ℕ) × IsDigitsWord word.now.octets.now octets
+        × (data.new.items ≡ data.old.items ++ octets)) }
+{
+    let text = word.octets;
+    let mut at = 0;
+    while at < text.len() {
+        let Some(octet) = digits_at(text, at) else {
+            return Err(Stop::Refused(Fault::Digits, word.column));
+        };
+        if data.push(octet).is_err() {
+            return Err(Stop::Memory);
+        }
+        at += 2;
+    }
+    Ok(())
+}

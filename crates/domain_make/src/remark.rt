@@ -1,0 +1,351 @@
+//! Lines that begin with a semicolon: those of a header, headings of sections, and comments.
+ghost use Rattle.std.specs.Prelude.{◌≡◌, ◌⊎◌, ◌++◌, ◌∷◌, [], ◌<◌, ℕ, List, MatchOption, IfOk, IfSome, IsNone, IsTrue, ◌↔◌, codes, cond};
+ghost use Rattle.domain_header.specs.Headers.{SetsHigh, SetsLow};
+ghost use Rattle.domain_header.specs.Tables.{opcode_text, rcode_text};
+ghost use Rattle.domain_header.specs.Values.{opcode_number, rcode_number};
+ghost use Rattle.domain_make.specs.Parts.{IsNumber16};
+ghost use Rattle.domain_make.specs.Remarks.{IsTrimmed, IsCodesLine, AreCodes, SetsCodes, flags_words, BeginsWithFlags, SetsFlags, IsWithColon, IsHeading, IsNoSection, IsNoOpt, Remarks};
+ghost use Rattle.domain_make.specs.declared.remark.Place.{Place};
+
+use crate::error::{Fault, Stop};
+use crate::words::is_blank;
+use domain_header::{Header, Opcode, Rcode};
+use domain_message::Section;
+use domain_tool::offset_of_word;
+use std::alloc::Global;
+use std::str::from_utf8;
+
+/// What a text has after this beginning.
+fn after<'a>(beginning: &[u8], text: &'a [u8]) -> Option<&'a [u8]>
+    ensures { MatchOption result ((rest : List ℕ) → text.now ≡ beginning.now ++ rest → ⊥)
+        (λ rest. text.now ≡ beginning.now ++ rest.now) }
+{
+    text.strip_prefix(beginning)
+}
+
+/// A line without the white space at its end.
+pub(crate) fn trimmed(line: &[u8]) -> &[u8]
+    ensures { IsTrimmed line.now result.now }
+{
+    let mut end = line.len();
+    while end > 0 {
+        if !is_blank(line[end - 1]) {
+            return &line[..end];
+        }
+        end -= 1;
+    }
+    &line[..0]
+}
+
+/// What a text has before and after the first octet like this one.
+fn parted(text: &[u8], octet: u8) -> Option<(&[u8], &[u8])>
+    ensures { IfSome result (λ parts. text.now ≡ parts.0.now ++ (octet ∷ parts.1.now)) }
+{
+    for at in 0..text.len() {
+        if text[at] == octet {
+            return Some((&text[..at], &text[at + 1..]));
+        }
+    }
+    None
+}
+
+/// The kind of query of this text.
+fn opcode_of(alloc: Global, text: &[u8]) -> Result<Opcode, Stop>
+    ensures text { IfOk result (λ code. text.now ≡ opcode_text (opcode_number code)) }
+    ensures small { IfOk result (λ code. opcode_number code < 16) }
+{
+    for number in 0..16_u8 {
+        let opcode = Opcode::masked_from_int(number);
+        let Ok(name) = format!(in alloc; "{opcode}") else {
+            return Err(Stop::Memory);
+        };
+        if name.as_bytes() == text {
+            return Ok(opcode);
+        }
+    }
+    Err(Stop::Refused(Fault::Header, 1))
+}
+
+/// The response code of this text.
+fn rcode_of(alloc: Global, text: &[u8]) -> Result<Rcode, Stop>
+    ensures text { IfOk result (λ code. text.now ≡ rcode_text (rcode_number code)) }
+    ensures small { IfOk result (λ code. rcode_number code < 16) }
+{
+    for number in 0..16_u8 {
+        let rcode = Rcode::masked_from_int(number);
+        let Ok(name) = format!(in alloc; "{rcode}") else {
+            return Err(Stop::Memory);
+        };
+        if name.as_bytes() == text {
+            return Ok(rcode);
+        }
+    }
+    Err(Stop::Refused(Fault::Header, 1))
+}
+
+/// The identifier of this text.
+fn id_of(text: &[u8]) -> Result<u16, Stop>
+    ensures { IfOk result (λ id. IsNumber16 text.now id) }
+{
+    let Ok(text) = from_utf8(text) else {
+        return Err(Stop::Refused(Fault::Header, 1));
+    };
+    match offset_of_word(text) {
+        Some(number) if number <= 65_535 => Ok(number as u16),
+        _ => Err(Stop::Refused(Fault::Header, 1)),
+    }
+}
+
+/// The text after this beginning, of a line of a header.
+fn header_part<'a>(beginning: &[u8], text: &'a [u8]) -> Result<&'a [u8], Stop>
+    ensures { IfOk result (λ rest. text.now ≡ beginning.now ++ rest.now) }
+{
+    match after(beginning, text) {
+        Some(rest) => Ok(rest),
+        None => Err(Stop::Refused(Fault::Header, 1)),
+    }
+}
+
+/// What the first line of a header tells.
+#[derive(Clone, Copy)]
+struct CodesTold {
+    opcode: Opcode,
+    rcode: Rcode,
+    id: u16,
+}
+
+/// The codes and the identifier that a text tells, as `QUERY, status: NOERROR, id: 1`.
+fn codes_of(alloc: Global, text: &[u8]) -> Result<CodesTold, Stop>
+    ensures { IfOk result (λ told. AreCodes text.now
+        (opcode_number told.opcode) (rcode_number told.rcode) told.id) }
+{
+    let Some((opcode, rest)) = parted(text, b',') else {
+        return Err(Stop::Refused(Fault::Header, 1));
+    };
+    let rest = header_part(b" status: ", rest)?;
+    let Some((rcode, rest)) = parted(rest, b',') else {
+        return Err(Stop::Refused(Fault::Header, 1));
+    };
+    let digits = header_part(b" id: ", rest)?;
+    let opcode = opcode_of(alloc, opcode)?;
+    let rcode = rcode_of(alloc, rcode)?;
+    let id = id_of(digits)?;
+    Ok(CodesTold { opcode, rcode, id })
+}
+
+/// The header with these.
+fn with_codes(told: CodesTold, header: Header) -> Header
+    ensures { SetsCodes (opcode_number told.opcode) (rcode_number told.rcode) told.id
+        header result }
+{
+    let mut header = header;
+    header.set_id(told.id);
+    header.set_opcode(told.opcode);
+    header.set_rcode(told.rcode);
+    header
+}
+
+/// Whether a text begins with a word, and what follows it or the text.
+fn flag<'a>(word: &[u8], text: &'a [u8]) -> (bool, &'a [u8])
+    ensures { text.now ≡ cond result.0 word.now [] ++ result.1.now }
+{
+    match after(word, text) {
+        Some(rest) => (true, rest),
+        None => (false, text),
+    }
+}
+
+/// The flags that the second line of a header tells, and the bit Z.
+#[derive(Clone, Copy)]
+pub(crate) struct Flags {
+    qr: bool,
+    aa: bool,
+    tc: bool,
+    rd: bool,
+    ra: bool,
+    ad: bool,
+    cd: bool,
+    z: bool,
+}
+
+/// The flags that a text begins with, as ` qr rd; `, and what follows them.
+fn flags_before(text: &[u8]) -> (Flags, &[u8])
+    ensures { text.now ≡ flags_words result.0 ++ result.1.now }
+{
+    let (qr, rest) = flag(b" qr", text);
+    let (aa, rest) = flag(b" aa", rest);
+    let (tc, rest) = flag(b" tc", rest);
+    let (rd, rest) = flag(b" rd", rest);
+    let (ra, rest) = flag(b" ra", rest);
+    let (ad, rest) = flag(b" ad", rest);
+    let (cd, rest) = flag(b" cd", rest);
+    let (z, rest) = flag(b"; MBZ: 0x4", rest);
+    let flags = Flags {
+        qr,
+        aa,
+        tc,
+        rd,
+        ra,
+        ad,
+        cd,
+        z,
+    };
+    (flags, rest)
+}
+
+/// The flags that a text begins with, and a semicolon after them.
+fn flags_of(text: &[u8]) -> Result<Flags, Stop>
+    ensures { IfOk result (λ flags. BeginsWithFlags text.now flags) }
+{
+    let (flags, rest) = flags_before(text);
+    header_part(b"; ", rest)?;
+    Ok(flags)
+}
+
+/// The header with these.
+fn with_flags(flags: Flags, header: Header) -> Header
+    ensures { SetsFlags flags header result }
+{
+    let mut header = header;
+    header.set_qr(flags.qr);
+    header.set_aa(flags.aa);
+    header.set_tc(flags.tc);
+    header.set_rd(flags.rd);
+    header.set_ra(flags.ra);
+    header.set_ad(flags.ad);
+    header.set_cd(flags.cd);
+    header.set_z(flags.z);
+    header
+}
+
+/// Where in a message lines are.
+#[derive(Clone, Copy, Debug, PartialEq, Eq)]
+pub(crate) enum Place {
+    /// Nothing of it was told.
+    Start,
+    /// The codes and the identifier were told.
+    Codes,
+    /// The flags were told.
+    Told,
+    /// Questions follow.
+    Questions,
+    /// Records of a section follow.
+    Records(Section),
+}
+
+/// Whether what follows a heading is nothing, or a colon.
+fn ends_heading(rest: &[u8]) -> bool
+    ensures { IsTrue result ↔ ((rest.now ≡ []) ⊎ (rest.now ≡ 58 ∷ [])) }
+{
+    match rest {
+        [] => true,
+        [octet] => *octet == b':',
+        _ => false,
+    }
+}
+
+/// Whether a line is a heading, with a colon at its end or without.
+fn is_heading(heading: &[u8], line: &[u8]) -> bool
+    ensures { IsTrue result ↔ IsWithColon heading.now line.now }
+{
+    match after(heading, line) {
+        Some(rest) => ends_heading(rest),
+        None => false,
+    }
+}
+
+/// The place after a heading. `None` where the line is none.
+fn heading(line: &[u8]) -> Option<Place>
+    ensures some { IfSome result (λ place. IsHeading line.now place) }
+    ensures none { IsNone result → (place : Place) → IsHeading line.now place → ⊥ }
+{
+    if is_heading(b";; QUESTION SECTION", line) {
+        return Some(Place::Questions);
+    }
+    if is_heading(b";; ANSWER SECTION", line) {
+        return Some(Place::Records(Section::Answer));
+    }
+    if is_heading(b";; AUTHORITY SECTION", line) {
+        return Some(Place::Records(Section::Authority));
+    }
+    if is_heading(b";; ADDITIONAL SECTION", line) {
+        return Some(Place::Records(Section::Additional));
+    }
+    None
+}
+
+/// A heading of no section of a message, or a line of an OPT record.
+fn refused_remark(line: &[u8]) -> Option<Fault>
+    ensures { IsNone result → IsNoSection line.now × IsNoOpt line.now }
+{
+    if line.ends_with(b" SECTION") || line.ends_with(b" SECTION:") {
+        return Some(Fault::Heading);
+    }
+    if line.starts_with(b"; EDNS:") || line.starts_with(b"; OPT=") {
+        return Some(Fault::Opt);
+    }
+    None
+}
+
+/// Whether the first line of a header may be there.
+fn before_codes(place: Place) -> bool
+    ensures { IsTrue result → place ≡ Place.Start }
+{
+    match place {
+        Place::Start => true,
+        _ => false,
+    }
+}
+
+/// Whether the second line of a header may be there.
+fn before_flags(place: Place) -> bool
+    ensures { IsTrue result → (place ≡ Place.Start) ⊎ (place ≡ Place.Codes) }
+{
+    match place {
+        Place::Start | Place::Codes => true,
+        _ => false,
+    }
+}
+
+/// What a line that begins with a semicolon, and is no question, says: the place after it and the header.
+pub(crate) fn remark(
+    alloc: Global,
+    line: &[u8],
+    place: Place,
+    header: Header,
+) -> Result<(Place, Header), Stop>
+    ensures { IfOk result (λ after. Remarks line.now place header after.0 after.1) }
+{
+    if let Some(text) = codes_text(line) {
+        if !before_codes(place) {
+            return Err(Stop::Refused(Fault::LateHeader, 1));
+        }
+        let told = codes_of(alloc, text)?;
+        return Ok((Place::Codes, with_codes(told, header)));
+    }
+    if let Some(text) = after(b";; flags:", line) {
+        if !before_flags(place) {
+            return Err(Stop::Refused(Fault::LateHeader, 1));
+        }
+        let flags = flags_of(text)?;
+        return Ok((Place::Told, with_flags(flags, header)));
+    }
+    if let Some(next) = heading(line) {
+        return Ok((next, header));
+    }
+    if let Some(fault) = refused_remark(line) {
+        return Err(Stop::Refused(fault, 1));
+    }
+    Ok((place, header))
+}
+
+/// What the first line of a header has after its beginning.
+fn codes_text(line: &[u8]) -> Option<&[u8]>
+    ensures { MatchOption result ((rest : List ℕ) → IsCodesLine line.now rest → ⊥)
+        (λ rest. IsCodesLine line.now rest.now) }
+{
+    match after(b";; opcode: ", line) {
+        Some(text) => Some(text),
+        None => after(b";; ->>HEADER<<- opcode: ", line),
+    }
+}
