@@ -1,3 +1,4 @@
+pub mod Calendar
 pub mod CanonicalForms
 pub mod TxtPassing
 pub mod TxtShowing

@@ -2,12 +2,14 @@ pub use Rattle.domain_fields.specs.Data
 pub use Rattle.domain_fields.specs.Names
 pub use Rattle.domain_fields.specs.Reading
 pub use Rattle.domain_fields.specs.Sequences
+pub use Rattle.domain_strings.specs.Quoted
+pub mod OctetShapes
 pub mod Shapes
 pub mod Views
 pub mod Cutting
+pub mod Times
 pub mod TxtErrors
 pub mod OneProof
-pub mod Quoted
 pub mod TxtReading
 pub mod TxtReadingLaws
 pub mod Strings

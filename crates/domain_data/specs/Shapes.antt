@@ -70,7 +70,7 @@ NoNumberNames = NotBoth Number16At (ShortAt 2) NoNames
 a_name : IsReadingOf refusal NameFieldAt NoNameField
 a_name = any_reading name_reading
 
-number16 : IsReadingOf refusal Number16At (ShortAt 2)
+pub number16 : IsReadingOf refusal Number16At (ShortAt 2)
 number16 = any_reading (fixed_reading 2 (from_be_bytes w16))
 
 number32 : IsReadingOf refusal Number32At (ShortAt 4)
@@ -86,11 +86,11 @@ numbers_name : IsReadingOf refusal NumbersNameAt NoNumbersName
 numbers_name = both_reading refusal Number16At (BothAt Number16At NumberNameAt) (ShortAt 2) (NotBoth Number16At (ShortAt 2) NoNumberName) number16 two_numbers_name
 
 -- a number of 32 bits before numbers
-one_more : {A : Type 0} (R : List ℕ → ℕ → A → ℕ → Type 0) (NR : List ℕ → ℕ → ParseError → Type 0) → IsReadingOf refusal R NR → IsReadingOf refusal (BothAt Number32At R) (NotBoth Number32At (ShortAt 4) NR)
+pub one_more : {A : Type 0} (R : List ℕ → ℕ → A → ℕ → Type 0) (NR : List ℕ → ℕ → ParseError → Type 0) → IsReadingOf refusal R NR → IsReadingOf refusal (BothAt Number32At R) (NotBoth Number32At (ShortAt 4) NR)
 one_more R NR rest = both_reading refusal Number32At R (ShortAt 4) NR number32 rest
 
 -- a name before other fields
-name_before : {A : Type 0} (R : List ℕ → ℕ → A → ℕ → Type 0) (NR : List ℕ → ℕ → ParseError → Type 0) → IsReadingOf refusal R NR → IsReadingOf refusal (BothAt NameFieldAt R) (NotBoth NameFieldAt NoNameField NR)
+pub name_before : {A : Type 0} (R : List ℕ → ℕ → A → ℕ → Type 0) (NR : List ℕ → ℕ → ParseError → Type 0) → IsReadingOf refusal R NR → IsReadingOf refusal (BothAt NameFieldAt R) (NotBoth NameFieldAt NoNameField NR)
 name_before R NR rest = both_reading refusal NameFieldAt R NoNameField NR a_name rest
 
 two_numbers : IsReadingOf refusal (BothAt Number32At Number32At) (NotBoth Number32At (ShortAt 4) (ShortAt 4))
@@ -118,7 +118,7 @@ names_numbers : IsReadingOf refusal NamesNumbersAt NoNamesNumbers
 names_numbers = name_before (BothAt NameFieldAt NumbersAt) (NotBoth NameFieldAt NoNameField NoNumbers) name_numbers
 
 -- fields that have to be all that is left
-all_data : {A : Type 0} (At : List ℕ → ℕ → A → ℕ → Type 0) (No : List ℕ → ℕ → ParseError → Type 0) → IsReadingOf refusal At No → IsReading (AllAt At) (NotAll refusal At No)
+pub all_data : {A : Type 0} (At : List ℕ → ℕ → A → ℕ → Type 0) (No : List ℕ → ℕ → ParseError → Type 0) → IsReadingOf refusal At No → IsReading (AllAt At) (NotAll refusal At No)
 all_data At No law = parse_reading (all_reading refusal At No law)
 
 pub name_data : IsReading (AllAt NameFieldAt) (NotAll refusal NameFieldAt NoNameField)

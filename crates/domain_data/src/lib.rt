@@ -12,11 +12,16 @@ mod display;
 pub mod fields;
 mod flatten;
 pub mod host;
+pub mod host_text;
+pub mod keys;
 pub mod later;
 pub mod mail;
 mod parse;
-mod quoted;
+mod parse_octets;
 mod read_back;
+pub mod rtype_field;
+pub mod signature;
+pub mod time_field;
 pub mod txt;
 pub mod txt_iter;
 
@@ -27,9 +32,18 @@ pub use domain_fields::{
     ReadBackData, ReadBackField, ReadBackLast, ReadField, Sequence, UncompressedNameField, field,
     name_field, order, read, read_all, sequence,
 };
+pub use domain_strings::{
+    Base16Octets, Base64Octets, CharString, InvalidTag, LastOctets, LongCharString, QuotedOctets,
+    Tag,
+};
 pub use fields::FieldsData;
 pub use host::{Cname, Dname, Mx, Ns, Ptr, Soa, Srv};
+pub use host_text::{Hinfo, Naptr};
+pub use keys::{Caa, Dnskey, Ds, Sshfp, Tlsa};
 pub use later::{Afsdb, Kx, Px, Rp, Rt};
 pub use mail::{Mb, Md, Mf, Mg, Minfo, Mr};
+pub use rtype_field::RtypeField;
+pub use signature::Rrsig;
+pub use time_field::TimeField;
 pub use txt::{Txt, TxtError};
 pub use txt_iter::TxtIter;

@@ -15,11 +15,11 @@ ghost use Rattle.domain_data.specs.TxtReadingLaws.{text_reading};
 ghost use Rattle.domain_data.specs.Strings.{HasStrings};
 ghost use Rattle.domain_data.specs.TxtViews.{strings_left};
 
-use crate::quoted::Quoted;
 use crate::txt_iter::{TxtIter, check_strings, first_string};
 use domain_rdata::{
     CanonicalError, ComposeRecordData, Composer, LongRecordData, ParseRecordData, RecordData, Rtype,
 };
+use domain_strings::Quoted;
 use domain_traits::FlattenInto;
 use domain_wire::{CanonicalOrd, ParseError};
 use octseq::{Octets, OctetsFrom, Parser, SameOctets, ShortBuf};
@@ -395,10 +395,10 @@ impl<Octs: Octets> fmt::Display for Txt<Octs> {
         let Some((first, after)) = first_string(self.octets.as_slice()) else {
             unreachable!();
         };
-        write!(f, "{}", Quoted { octets: first })?;
+        write!(f, "{}", Quoted::new(first))?;
         let mut rest = after;
         while let Some((string, after)) = first_string(rest) {
-            write!(f, " {}", Quoted { octets: string })?;
+            write!(f, " {}", Quoted::new(string))?;
             rest = after;
         }
         Ok(())

@@ -1,0 +1,263 @@
+//! Reading record data with strings and other octets, by the fields that it has.
+ghost use Rattle.std.specs.Prelude.{ℕ, List, nat_eq};
+ghost use Rattle.domain_wire.specs.Refusals.{refusal};
+ghost use Rattle.domain_parsed.specs.ParsedNames.{parsed_labels};
+ghost use Rattle.domain_fields.specs.Data.{AllAt, NotAll};
+ghost use Rattle.domain_strings.specs.TagViews.{tag_octets};
+ghost use Rattle.domain_strings.specs.Views.{char_octets, last_octets};
+ghost use Rattle.domain_data.specs.OctetShapes.{StringsAt, NoStrings, strings_data, RuleAt, NoRule, rule_data, FingerprintAt, NoFingerprint, fingerprint_data, KeyAt, NoKey, key_data, AssociationAt, NoAssociation, association_data, PropertyAt, NoProperty, property_data, SignatureAt, NoSignature, signature_data};
+ghost use Rattle.domain_data.specs.Views.{fields_of};
+ghost use Rattle.domain_rdata.specs.Rtypes.{rtype_number};
+
+use crate::fields::FieldsData;
+use crate::rtype_field::RtypeField;
+use crate::time_field::TimeField;
+use domain_fields::{Sequence, UncompressedNameField};
+use domain_parsed::ParsedName;
+use domain_rdata::{ParseRecordData, Rtype};
+use domain_strings::{CharString, LastOctets, Tag};
+use domain_wire::ParseError;
+use octseq::Parser;
+
+/// Two strings: HINFO. Octets left after them are a form error "trailing data".
+impl<'a, const TYPE: u16> ParseRecordData<'a>
+    for FieldsData<TYPE, Sequence<CharString<&'a [u8]>, CharString<&'a [u8]>>> {
+    ghost View = { List ℕ × List ℕ };
+
+    ghost model = { λ it. (char_octets (fields_of it).first, char_octets (fields_of it).rest) };
+
+    ghost reads_type = { λ t. nat_eq t TYPE };
+
+    ghost encodes = { λ _. AllAt StringsAt };
+
+    ghost fails_with = { λ _. NotAll refusal StringsAt NoStrings };
+
+    fn parse_rdata(rtype: Rtype, parser: &mut Parser<'a>) -> Result<Option<Self>, ParseError> {
+        FieldsData::read(rtype, parser)
+    }
+
+    ghost lawful = { λ _. strings_data };
+}
+
+/// Two numbers of 16 bits, three strings, and a name that is never compressed: NAPTR. Octets left after it are a form
+/// error "trailing data".
+impl<'a, const TYPE: u16> ParseRecordData<'a>
+    for FieldsData<
+        TYPE,
+        Sequence<
+            u16,
+            Sequence<
+                u16,
+                Sequence<
+                    CharString<&'a [u8]>,
+                    Sequence<
+                        CharString<&'a [u8]>,
+                        Sequence<CharString<&'a [u8]>, UncompressedNameField<ParsedName<&'a [u8]>>>,
+                    >,
+                >,
+            >,
+        >,
+    > {
+    ghost View = { ℕ × (ℕ × (List ℕ × (List ℕ × (List ℕ × List (List ℕ))))) };
+
+    ghost model = { λ it. (
+      (fields_of it).first,
+      (
+        (fields_of it).rest.first,
+        (
+          char_octets (fields_of it).rest.rest.first,
+          (
+            char_octets (fields_of it).rest.rest.rest.first,
+            (
+              char_octets (fields_of it).rest.rest.rest.rest.first,
+              parsed_labels (fields_of it).rest.rest.rest.rest.rest.name,
+            ),
+          ),
+        ),
+      ),
+    ) };
+
+    ghost reads_type = { λ t. nat_eq t TYPE };
+
+    ghost encodes = { λ _. AllAt RuleAt };
+
+    ghost fails_with = { λ _. NotAll refusal RuleAt NoRule };
+
+    fn parse_rdata(rtype: Rtype, parser: &mut Parser<'a>) -> Result<Option<Self>, ParseError> {
+        FieldsData::read(rtype, parser)
+    }
+
+    ghost lawful = { λ _. rule_data };
+}
+
+/// Two numbers of 8 bits and octets: SSHFP. More than 65,535 octets are a form error "record data too long".
+impl<'a, const TYPE: u16, const TEXT: u8> ParseRecordData<'a>
+    for FieldsData<TYPE, Sequence<u8, Sequence<u8, LastOctets<TEXT, &'a [u8]>>>> {
+    ghost View = { ℕ × (ℕ × List ℕ) };
+
+    ghost model = { λ it. (
+      (fields_of it).first,
+      ((fields_of it).rest.first, last_octets (fields_of it).rest.rest),
+    ) };
+
+    ghost reads_type = { λ t. nat_eq t TYPE };
+
+    ghost encodes = { λ _. AllAt FingerprintAt };
+
+    ghost fails_with = { λ _. NotAll refusal FingerprintAt NoFingerprint };
+
+    fn parse_rdata(rtype: Rtype, parser: &mut Parser<'a>) -> Result<Option<Self>, ParseError> {
+        FieldsData::read(rtype, parser)
+    }
+
+    ghost lawful = { λ _. fingerprint_data };
+}
+
+/// A number of 16 bits, two of 8 bits and octets: DS and DNSKEY. More than 65,535 octets are a form error "record data
+/// too long".
+impl<'a, const TYPE: u16, const TEXT: u8> ParseRecordData<'a>
+    for FieldsData<TYPE, Sequence<u16, Sequence<u8, Sequence<u8, LastOctets<TEXT, &'a [u8]>>>>> {
+    ghost View = { ℕ × (ℕ × (ℕ × List ℕ)) };
+
+    ghost model = { λ it. (
+      (fields_of it).first,
+      (
+        (fields_of it).rest.first,
+        ((fields_of it).rest.rest.first, last_octets (fields_of it).rest.rest.rest),
+      ),
+    ) };
+
+    ghost reads_type = { λ t. nat_eq t TYPE };
+
+    ghost encodes = { λ _. AllAt KeyAt };
+
+    ghost fails_with = { λ _. NotAll refusal KeyAt NoKey };
+
+    fn parse_rdata(rtype: Rtype, parser: &mut Parser<'a>) -> Result<Option<Self>, ParseError> {
+        FieldsData::read(rtype, parser)
+    }
+
+    ghost lawful = { λ _. key_data };
+}
+
+/// Three numbers of 8 bits and octets: TLSA. More than 65,535 octets are a form error "record data too long".
+impl<'a, const TYPE: u16, const TEXT: u8> ParseRecordData<'a>
+    for FieldsData<TYPE, Sequence<u8, Sequence<u8, Sequence<u8, LastOctets<TEXT, &'a [u8]>>>>> {
+    ghost View = { ℕ × (ℕ × (ℕ × List ℕ)) };
+
+    ghost model = { λ it. (
+      (fields_of it).first,
+      (
+        (fields_of it).rest.first,
+        ((fields_of it).rest.rest.first, last_octets (fields_of it).rest.rest.rest),
+      ),
+    ) };
+
+    ghost reads_type = { λ t. nat_eq t TYPE };
+
+    ghost encodes = { λ _. AllAt AssociationAt };
+
+    ghost fails_with = { λ _. NotAll refusal AssociationAt NoAssociation };
+
+    fn parse_rdata(rtype: Rtype, parser: &mut Parser<'a>) -> Result<Option<Self>, ParseError> {
+        FieldsData::read(rtype, parser)
+    }
+
+    ghost lawful = { λ _. association_data };
+}
+
+/// A number of 8 bits, a tag and octets: CAA. A form error "invalid tag" where the tag has other octets than letters and
+/// digits, and "record data too long" of more than 65,535 octets after it.
+impl<'a, const TYPE: u16, const TEXT: u8> ParseRecordData<'a>
+    for FieldsData<TYPE, Sequence<u8, Sequence<Tag<&'a [u8]>, LastOctets<TEXT, &'a [u8]>>>> {
+    ghost View = { ℕ × (List ℕ × List ℕ) };
+
+    ghost model = { λ it. (
+      (fields_of it).first,
+      (tag_octets (fields_of it).rest.first, last_octets (fields_of it).rest.rest),
+    ) };
+
+    ghost reads_type = { λ t. nat_eq t TYPE };
+
+    ghost encodes = { λ _. AllAt PropertyAt };
+
+    ghost fails_with = { λ _. NotAll refusal PropertyAt NoProperty };
+
+    fn parse_rdata(rtype: Rtype, parser: &mut Parser<'a>) -> Result<Option<Self>, ParseError> {
+        FieldsData::read(rtype, parser)
+    }
+
+    ghost lawful = { λ _. property_data };
+}
+
+/// A type, two numbers of 8 bits, one of 32 bits, two times, one of 16 bits, a name that is never compressed, and octets: RRSIG.
+/// More than 65,535 octets after the name are a form error "record data too long".
+impl<'a, const TYPE: u16, const TEXT: u8> ParseRecordData<'a>
+    for FieldsData<
+        TYPE,
+        Sequence<
+            RtypeField,
+            Sequence<
+                u8,
+                Sequence<
+                    u8,
+                    Sequence<
+                        u32,
+                        Sequence<
+                            TimeField,
+                            Sequence<
+                                TimeField,
+                                Sequence<
+                                    u16,
+                                    Sequence<
+                                        UncompressedNameField<ParsedName<&'a [u8]>>,
+                                        LastOctets<TEXT, &'a [u8]>,
+                                    >,
+                                >,
+                            >,
+                        >,
+                    >,
+                >,
+            >,
+        >,
+    > {
+    ghost View = { ℕ × (ℕ × (ℕ × (ℕ × (ℕ × (ℕ × (ℕ × (List (List ℕ) × List ℕ))))))) };
+
+    ghost model = { λ it. (
+      rtype_number (fields_of it).first.rtype,
+      (
+        (fields_of it).rest.first,
+        (
+          (fields_of it).rest.rest.first,
+          (
+            (fields_of it).rest.rest.rest.first,
+            (
+              (fields_of it).rest.rest.rest.rest.first.seconds,
+              (
+                (fields_of it).rest.rest.rest.rest.rest.first.seconds,
+                (
+                  (fields_of it).rest.rest.rest.rest.rest.rest.first,
+                  (
+                    parsed_labels (fields_of it).rest.rest.rest.rest.rest.rest.rest.first.name,
+                    last_octets (fields_of it).rest.rest.rest.rest.rest.rest.rest.rest,
+                  ),
+                ),
+              ),
+            ),
+          ),
+        ),
+      ),
+    ) };
+
+    ghost reads_type = { λ t. nat_eq t TYPE };
+
+    ghost encodes = { λ _. AllAt SignatureAt };
+
+    ghost fails_with = { λ _. NotAll refusal SignatureAt NoSignature };
+
+    fn parse_rdata(rtype: Rtype, parser: &mut Parser<'a>) -> Result<Option<Self>, ParseError> {
+        FieldsData::read(rtype, parser)
+    }
+
+    ghost lawful = { λ _. signature_data };
+}

@@ -1,0 +1,2 @@
+pub mod Base64Walk
+pub mod StringOrder
