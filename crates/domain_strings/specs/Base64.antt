@@ -1,5 +1,5 @@
 -- Octets in base64 (RFC 4648, 4).
-use Rattle.std.specs.Prelude.{ℕ, ◌+◌, ◌-◌, ◌*◌, ◌/◌, ◌%◌, List, [], ◌∷◌, ◌++◌, cond, nat_lt, nat_eq, length}
+use Rattle.std.specs.Prelude.{ℕ, ◌+◌, ◌-◌, ◌*◌, ◌/◌, ◌%◌, List, [], ◌∷◌, cond, nat_lt, nat_eq}
 
 -- the character for 6 bits: A to Z, a to z, 0 to 9, plus and slash
 abbrev pub base64_character : ℕ → ℕ

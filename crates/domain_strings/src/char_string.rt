@@ -1,5 +1,5 @@
 //! Character strings (RFC 1035, 3.3).
-ghost use Rattle.std.specs.Prelude.{◌≡◌, ◌==◌, ◌+◌, ◌<◌, ◌≤◌, ◌↔◌, ◌++◌, ◌∷◌, [], ℕ, List, length, codes, IfOk, IsErr, OnOk, Some, refl};
+ghost use Rattle.std.specs.Prelude.{◌≡◌, ◌==◌, ◌+◌, ◌<◌, ◌≤◌, ◌↔◌, ◌++◌, ◌∷◌, [], ℕ, List, length, codes, IfOk, IsErr, Some, refl};
 ghost use Rattle.std.proofs.Common.{rules};
 ghost use Rattle.std.specs.Cmp.Lexicographic.{pointwise};
 ghost use Rattle.std.specs.Cmp.Rules.{comparing};
@@ -17,7 +17,7 @@ use domain_fields::{
 };
 use domain_rdata::Composer;
 use domain_wire::ParseError;
-use octseq::{Octets, OctetsBuilder, OctetsMut, Parser, SameOctets, ShortBuf, Truncate};
+use octseq::{Octets, Parser, SameOctets, ShortBuf};
 use std::alloc::{AllocError, Global};
 use std::cmp::Ordering;
 use std::error::Error;

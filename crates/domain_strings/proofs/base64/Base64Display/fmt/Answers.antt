@@ -1,4 +1,4 @@
-use Rattle.std.proofs.Common.{refl, arith}
+use Rattle.std.proofs.Common.{refl}
 use Rattle.domain_strings.proofs.Base64Walk.{walked_three, walked_last, one_left, two_left}
 use Rattle.domain_strings.proofs.base64.Base64Display.fmt.Goals as goal
 
