@@ -33,9 +33,8 @@ fn arguments_of(out: &mut Answer, line: &[u8]) -> Vec<Vec<u8>> {
         let (_word, digits) = split_once(field, b':');
         match octets_of(digits.unwrap_or(b"-"), out.alloc()) {
             Ok(octets) => {
-                if arguments.push(octets).is_err() {
-                    out.fail(Fail::Memory);
-                }
+                let is_taken = arguments.push(octets).is_ok();
+                out.took(is_taken);
             }
             Err(fail) => out.fail(fail),
         }
@@ -136,10 +135,8 @@ fn add_call<'a>(
     last: &mut Last<'a>,
 ) {
     if let Some(call) = call_of(word, octets) {
-        if calls.push(call).is_err() {
-            out.fail(Fail::Memory);
-        }
-        return;
+        let is_taken = calls.push(call).is_ok();
+        return out.took(is_taken);
     }
     match last_of(word, octets) {
         Some(end) => *last = end,
@@ -348,9 +345,14 @@ fn put_done<E: Kind + Copy>(out: &mut Answer, done: Result<(), E>) -> bool {
 
 fn is_measured<B: OctetsBuilder + OctetsMut>(out: &mut Answer, builder: &NameBuilder<B>) {
     let octets = builder.as_slice();
-    out.agree(builder.len() == octets.len(), b"len");
-    out.agree(builder.is_empty() == octets.is_empty(), b"is_empty");
-    out.same(Octets::as_slice(builder), octets, b"as_slice");
+    out.agree_all(
+        b"len;is_empty;as_slice",
+        &[
+            builder.len() == octets.len(),
+            builder.is_empty() == octets.is_empty(),
+            Octets::as_slice(builder) == octets,
+        ],
+    );
 }
 
 /// All calls at once do the same.
@@ -364,9 +366,14 @@ fn is_applied_alike<B: EmptyBuilder + OctetsMut + Drop>(
         return;
     };
     let applied = twin.apply_all(plan.calls);
-    out.agree(applied == accepted, b"apply_all");
-    out.same(twin.as_slice(), builder.as_slice(), b"apply_all");
-    out.agree(twin.in_label() == builder.in_label(), b"apply_all");
+    out.agree_all(
+        b"apply_all;apply_all;apply_all",
+        &[
+            applied == accepted,
+            twin.as_slice() == builder.as_slice(),
+            twin.in_label() == builder.in_label(),
+        ],
+    );
 }
 
 /// Puts the name that was made, or why there is none.
@@ -427,11 +434,17 @@ fn goes_on_as_its_copy(
     let Ok(mut copy) = builder.clone(out.alloc()) else {
         return out.fail(Fail::Memory);
     };
-    out.same(copy.as_slice(), builder.as_slice(), b"clone");
+    let is_copy = copy.as_slice() == builder.as_slice();
     let accepted = copy.apply_all(&[call]);
-    out.agree(builder.apply_all(&[call]) == accepted, b"clone");
-    out.same(copy.as_slice(), builder.as_slice(), b"clone");
-    out.agree(copy.in_label() == builder.in_label(), b"clone");
+    out.agree_all(
+        b"clone;clone;clone;clone",
+        &[
+            is_copy,
+            builder.apply_all(&[call]) == accepted,
+            copy.as_slice() == builder.as_slice(),
+            copy.in_label() == builder.in_label(),
+        ],
+    );
 }
 
 /// A builder over an array of 255 octets that took all calls, and a copy of it.
@@ -442,8 +455,13 @@ fn is_copied_in_an_array(out: &mut Answer, plan: Plan<'_>) {
     let _accepted = builder.apply_all(plan.calls);
     match builder.clone(out.alloc()) {
         Ok(copy) => {
-            out.same(copy.as_slice(), builder.as_slice(), b"clone");
-            out.agree(copy.in_label() == builder.in_label(), b"clone");
+            out.agree_all(
+                b"clone;clone",
+                &[
+                    copy.as_slice() == builder.as_slice(),
+                    copy.in_label() == builder.in_label(),
+                ],
+            );
         }
         Err(_) => out.wrong(b"clone"),
     }
@@ -455,33 +473,52 @@ fn takes_symbols_alike(
     text: &str,
     symbols: &[Symbol],
 ) {
-    let Ok(mut one) = builder.clone(out.alloc()) else {
-        return out.fail(Fail::Memory);
-    };
+    match builder.clone(out.alloc()) {
+        Ok(copy) => takes_symbols_as(out, copy, builder, text, symbols),
+        Err(_) => out.fail(Fail::Memory),
+    }
+}
+
+/// The symbols are appended to one copy of the builder, and the text's characters to another.
+fn takes_symbols_as(
+    out: &mut Answer,
+    copy: NameBuilder<Vec<u8>>,
+    builder: &NameBuilder<Vec<u8>>,
+    text: &str,
+    symbols: &[Symbol],
+) {
+    let mut one = copy;
     let Ok(mut other) = builder.clone(out.alloc()) else {
         return out.fail(Fail::Memory);
     };
     let by_symbols = one.append_symbols(symbols.iter().copied());
     let by_chars = other.append_chars(text.chars());
-    out.agree(by_symbols == by_chars, b"append_symbols");
-    out.same(one.as_slice(), other.as_slice(), b"append_symbols");
-    out.agree(one.in_label() == other.in_label(), b"append_symbols");
+    out.agree_all(
+        b"append_symbols;append_symbols;append_symbols",
+        &[
+            by_symbols == by_chars,
+            one.as_slice() == other.as_slice(),
+            one.in_label() == other.in_label(),
+        ],
+    );
 }
 
 /// `absolute NAME`: the root after a relative name, over a `Vec` and over an array of 17 octets.
 pub fn put_absolute(out: &mut Answer, octets: &[u8]) {
-    let Ok(owned) = Vec::from_slice(out.alloc(), octets) else {
-        return out.fail(Fail::Memory);
-    };
-    let Ok(name) = RelativeName::from_octets(owned) else {
-        return out.fail(Fail::Bad);
-    };
+    let owned = out.copy_of(octets);
+    match RelativeName::from_octets(owned) {
+        Ok(name) => put_made_absolute(out, name),
+        Err(_) => out.fail(Fail::Bad),
+    }
+    out.put(b" ");
+    put_absolute_in_an_array(out, octets);
+}
+
+fn put_made_absolute(out: &mut Answer, name: RelativeName<Vec<u8>>) {
     match name.into_absolute() {
         Ok(made) => out.put_hex(made.as_slice()),
         Err(_) => out.fail(Fail::Memory),
     }
-    out.put(b" ");
-    put_absolute_in_an_array(out, octets);
 }
 
 fn put_absolute_in_an_array(out: &mut Answer, octets: &[u8]) {
@@ -492,8 +529,10 @@ fn put_absolute_in_an_array(out: &mut Answer, octets: &[u8]) {
         return out.fail(Fail::Bad);
     };
     let builder = name.into_builder();
-    out.same(builder.as_slice(), octets, b"into_builder");
-    out.agree(!builder.in_label(), b"into_builder");
+    out.agree_all(
+        b"into_builder;into_builder",
+        &[builder.as_slice() == octets, !builder.in_label()],
+    );
     match builder.finish().into_absolute() {
         Ok(made) => out.put_hex(made.as_slice()),
         Err(error) => error.put(out),

@@ -53,8 +53,14 @@ fn put_builder<B: OctetsBuilder + OctetsMut + Drop>(
 ) {
     match made {
         Ok(mut builder) => {
-            out.agree(builder.is_empty() && !builder.in_label(), b"with_capacity");
-            out.agree(builder.push(b'a').is_ok(), b"push");
+            out.agree_all(
+                b"with_capacity;with_capacity;push",
+                &[
+                    builder.is_empty(),
+                    !builder.in_label(),
+                    builder.push(b'a').is_ok(),
+                ],
+            );
             out.same(Octets::as_slice(&builder), b"\0a", b"push");
             out.put(b" ok");
         }

@@ -41,10 +41,12 @@ fn put_push_errors(out: &mut Answer) {
         put_error(out, error);
         put_error(out, FromStrError::from(error));
     }
-    out.agree(PushError::from(ShortBuf) == PushError::ShortBuf, b"from");
-    out.agree(
-        PushNameError::from(ShortBuf) == PushNameError::ShortBuf,
-        b"from",
+    out.agree_all(
+        b"from;from",
+        &[
+            PushError::from(ShortBuf) == PushError::ShortBuf,
+            PushNameError::from(ShortBuf) == PushNameError::ShortBuf,
+        ],
     );
 }
 

@@ -27,6 +27,17 @@ fn relative_read<Octs: Octets>(
     }
 }
 
+/// The text that octets are in UTF-8. If they are none, that is noted, and there is no text.
+fn text_of<'a>(out: &mut Answer, octets: &'a [u8]) -> &'a str {
+    match str::from_utf8(octets) {
+        Ok(text) => text,
+        Err(_) => {
+            out.fail(Fail::Bad);
+            ""
+        }
+    }
+}
+
 fn put_read(out: &mut Answer, read: Read<'_>) {
     match read {
         Ok(octets) => out.put_hex_after(b"ok ", octets),
@@ -39,9 +50,7 @@ fn put_read(out: &mut Answer, read: Read<'_>) {
 
 /// `text TEXT`
 pub fn put_text(out: &mut Answer, octets: &[u8]) {
-    let Ok(text) = str::from_utf8(octets) else {
-        return out.fail(Fail::Bad);
-    };
+    let text = text_of(out, octets);
     let read: Result<Name<Vec<u8>>, FromStrError> = Name::from_chars(out.alloc(), text.chars());
     put_read(out, absolute_read(&read));
     is_asked_once(out, &read, b"memory of from_chars");
@@ -82,9 +91,8 @@ pub fn symbols_of(out: &mut Answer, text: &str) -> Option<Vec<Symbol>> {
     for item in Symbols::new(text.chars()) {
         match item {
             Ok(symbol) => {
-                if symbols.push(symbol).is_err() {
-                    out.fail(Fail::Memory);
-                }
+                let is_taken = symbols.push(symbol).is_ok();
+                out.took(is_taken);
             }
             Err(_) => return None,
         }
@@ -94,9 +102,7 @@ pub fn symbols_of(out: &mut Answer, text: &str) -> Option<Vec<Symbol>> {
 
 /// `reltext TEXT`
 pub fn put_reltext(out: &mut Answer, octets: &[u8]) {
-    let Ok(text) = str::from_utf8(octets) else {
-        return out.fail(Fail::Bad);
-    };
+    let text = text_of(out, octets);
     let read: Result<RelativeName<Vec<u8>>, RelativeFromStrError> = RelativeName::from_chars(
         out.alloc(),
         text.chars(),
@@ -118,9 +124,7 @@ fn is_relative_read_alike(out: &mut Answer, text: &str, wanted: Read<'_>) {
 
 /// `labeltext TEXT`
 pub fn put_labeltext(out: &mut Answer, octets: &[u8]) {
-    let Ok(text) = str::from_utf8(octets) else {
-        return out.fail(Fail::Bad);
-    };
+    let text = text_of(out, octets);
     let twin: Result<OwnedLabel, LabelFromStrError> = text.parse();
     match OwnedLabel::from_chars(text.chars()) {
         Ok(label) => {
@@ -192,9 +196,7 @@ where
 
 /// `textroom TEXT OCTETS`
 pub fn put_textroom(out: &mut Answer, octets: &[u8], room: usize) {
-    let Ok(text) = str::from_utf8(octets) else {
-        return out.fail(Fail::Bad);
-    };
+    let text = text_of(out, octets);
     match room {
         0 => put_in_room::<ArrayVec<u8, 0>>(out, text, text.parse()),
         2 => put_in_room::<ArrayVec<u8, 2>>(out, text, text.parse()),
@@ -222,9 +224,7 @@ where
 
 /// `reltextroom TEXT OCTETS`
 pub fn put_reltextroom(out: &mut Answer, octets: &[u8], room: usize) {
-    let Ok(text) = str::from_utf8(octets) else {
-        return out.fail(Fail::Bad);
-    };
+    let text = text_of(out, octets);
     match room {
         0 => put_relative_in_room::<ArrayVec<u8, 0>>(out, text, text.parse()),
         2 => put_relative_in_room::<ArrayVec<u8, 2>>(out, text, text.parse()),
