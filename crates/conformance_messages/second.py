@@ -1,5 +1,5 @@
 #!/usr/bin/env python3
-"""Answers the lines `answers`, `limit` and `any` of the conformance table of messages, written from the standards.
+"""Answers the lines `answers`, `limit`, `any` and `typed` of the conformance table of messages, written from the standards.
 
     second.py < LINES
 
@@ -9,11 +9,16 @@ type beside it, RFC 4034, 6.2, with RFC 6840, 5.1, for the canonical form, RFC 3
 for types that aren't known. The texts of errors, and which of several comes first, are those of the Rust crate. Another
 line is answered by nothing.
 """
+import base64
+import datetime
 import ipaddress
+import string
 import sys
 
 CLASSES = {1: "IN", 3: "CH", 4: "HS", 254: "NONE", 255: "ANY"}
 SHORT = "unexpected end of input"
+EPOCH = datetime.datetime(1970, 1, 1)
+TAG_CHARACTERS = string.ascii_letters + string.digits
 
 
 class Refused(Exception):
@@ -142,6 +147,20 @@ SHAPES = {
 LOWERCASE = {2, 3, 4, 5, 6, 7, 8, 9, 12, 14, 15, 17, 18, 21, 24, 26, 30, 33, 35, 36, 38, 39, 46}
 
 
+# The data of the types that `typed` asks. Beside the letters above: s a character string, t a tag, T a type, D a time, x, b and q
+# all that is left, in hexadecimal digits, in base64, between quotes.
+TYPED = {
+    13: "ss",  # RFC 1035
+    35: "22sssw",  # RFC 3403
+    43: "211x", 46: "T114DD2wb", 48: "211b",  # RFC 4034
+    44: "11x",  # RFC 4255
+    52: "111x",  # RFC 6698
+    257: "1tq",  # RFC 8659
+}
+# The mnemonics that rows have (RFC 1035, 3.2.2, and the RFC of each type)
+MNEMONICS = {1: "A", 2: "NS", 6: "SOA", 15: "MX", 16: "TXT", 28: "AAAA", 43: "DS", 47: "NSEC", 48: "DNSKEY", 257: "CAA"}
+
+
 def name_octets(labels):
     return b"".join(bytes([len(label)]) + label for label in labels) + b"\0"
 
@@ -154,16 +173,31 @@ def field(data, kind, lowercase):
     start = data.place
     if kind in "aA":
         text = of_a(data) if kind == "a" else of_aaaa(data)
+    elif kind in "st":
+        octets = data.take(data.number(1))
+        if kind == "t" and not (octets and all(chr(it) in TAG_CHARACTERS for it in octets)):
+            raise Refused("invalid tag")
+        text = octets.decode() if kind == "t" else '"' + spelled(octets, b'"\\') + '"'
+    elif kind == "T":
+        number = data.number(2)
+        text = MNEMONICS.get(number, f"TYPE{number}")
+    elif kind == "D":
+        text = f"{EPOCH + datetime.timedelta(seconds=data.number(4)):%Y%m%d%H%M%S}"
+    elif kind in "xbq":
+        left = data.take(data.end - data.place)
+        if len(left) > 65535:
+            raise Refused("record data too long")
+        text = {"x": left.hex(), "b": base64.b64encode(left).decode(), "q": '"' + spelled(left, b'"\\') + '"'}[kind]
     else:
         text = str(data.number(int(kind)))
     octets = data.octets[start:data.place]
     return octets, octets, text
 
 
-def of_any(rtype, data):
+def of_any(rtype, data, shapes=SHAPES):
     """Data of any type: its octets, the canonical form or None, the length where it is known, and its text."""
-    if rtype in SHAPES:
-        shape = SHAPES[rtype]
+    if rtype in shapes:
+        shape = shapes[rtype]
         composed, canonical, texts = zip(*(field(data, kind, rtype in LOWERCASE) for kind in shape))
         if data.place < data.end:
             raise Refused("trailing data")
@@ -178,8 +212,8 @@ def of_any(rtype, data):
     return whole, None if rtype in LOWERCASE else whole, str(len(whole)), text
 
 
-def any_answer(fields):
-    """The answer to a line `any`."""
+def any_answer(fields, shapes=SHAPES):
+    """The answer to a line `any` or `typed`: the latter reads nothing of a type that isn't among these."""
     try:
         rtype, begin, size = (int(fields[place]) for place in (0, 2, 3))
         octets = octets_of(fields[1])
@@ -188,7 +222,9 @@ def any_answer(fields):
     if rtype > 65535 or begin + size > len(octets):
         return "bad"
     try:
-        composed, canonical, length, text = of_any(rtype, Reader(octets, begin, begin + size))
+        if shapes is TYPED and rtype not in TYPED:
+            return "none"
+        composed, canonical, length, text = of_any(rtype, Reader(octets, begin, begin + size), shapes)
     except Refused as why:
         return f"err {why}"
     shown = [it.hex() or "-" for it in (composed, canonical or b"")]
@@ -245,8 +281,8 @@ def kept(message, word, only_in):
 def answer(line):
     """The answer to a line."""
     word, *fields = line.split(" ")
-    if word == "any" and len(fields) == 4:
-        return any_answer(fields)
+    if word in ("any", "typed") and len(fields) == 4:
+        return any_answer(fields, TYPED if word == "typed" else SHAPES)
     if len(fields) != 2 or word not in ("answers", "limit"):
         return "bad"
     try:

@@ -4,8 +4,8 @@
     table.py ANSWERER [WORD ..]
     table.py --random COUNT SEED
 
-ANSWERER is a command that answers the lines of README.md beside this file; those of `answers`, `limit` and `any` are answered
-by second.py. No answer comes from the program itself. Parts of answers that stand here beside their line must be in what is
+ANSWERER is a command that answers the lines of README.md beside this file; those of `answers`, `limit`, `any` and `typed`
+are answered by second.py. No answer comes from the program itself. Parts of answers that stand here beside their line must be in what is
 answered.
 
 With --random it prints lines of so many random and mutated messages, always the same for a SEED.
@@ -476,6 +476,73 @@ def any_rows():
         row(line, told="bad")
 
 
+# Data of each type that `typed` asks: octets, and the text that its RFC has for them or that is in its form.
+TYPED = (
+    (13, b"\7VAX-780\4UNIX", '"VAX-780" "UNIX"'), (13, b"\0\3\"\\\xff", '"" "\\"\\\\\\255"'),  # RFC 1035, 3.3.2
+    (35, u16(100) + u16(50) + b"\1s\7http+I2\0" + name("_http._tcp.Foo.com."), '100 50 "s" "http+I2" "" _http._tcp.Foo.com.'),
+    (35, u16(100) + u16(10) + b"\0\0\x16!^urn:cid:.+@([^\\.]+).\0", '100 10 "" "" "!^urn:cid:.+@([^\\\\.]+)." .'),
+    (43, u16(60485) + b"\5\1" + bytes.fromhex("2BB183AF5F22588179A53B0A98631FAD1A292118"),  # RFC 4034, 5.4
+     "60485 5 1 2bb183af5f22588179a53b0a98631fad1a292118"),
+    (44, b"\2\1" + bytes.fromhex("123456789abcdef67890123456789abcdef67890"),  # RFC 4255, 3.2
+     "2 1 123456789abcdef67890123456789abcdef67890"),
+    (46, u16(1) + b"\5\3" + u32(86400) + u32(1048354263) + u32(1045762263) + u16(2642) + name("Example.com.") + b"\x2b\xb1\xff\0",
+     "A 5 3 86400 20030322173103 20030220173103 2642 Example.com. K7H/AA=="),
+    (46, u16(65280) + b"\0\0" + u32(0) * 3 + u16(0) + b"\0", "TYPE65280 0 0 0 19700101000000 19700101000000 0 . "),
+    (48, u16(256) + b"\3\5" + b"\1\3\xd2\x2a", "256 3 5 AQPSKg=="), (48, u16(257) + b"\3\x0d" + b"abcde", "257 3 13 YWJjZGU="),
+    (48, u16(0) + b"\3\0", "0 3 0 "), (48, u16(256) + b"\3\x0f" + b"abcdef", "256 3 15 YWJjZGVm"),
+    (52, b"\0\0\1" + bytes.fromhex("d2abde240d7cd3ee6b4b28c54df034b9"), "0 0 1 d2abde240d7cd3ee6b4b28c54df034b9"),  # RFC 6698, 2.3
+    (257, b"\0\5issueca1.example.net", '0 issue "ca1.example.net"'), (257, b"\x80\3TbsUnknown", '128 Tbs "Unknown"'),  # RFC 8659, 4
+    (257, b"\0\x09issuewild;", '0 issuewild ";"'), (257, b"\0\1a", '0 a ""'), (257, b"\0\1a" + b"\"" * 300, '0 a "\\"\\"'),
+)
+
+
+def typed_rows():
+    topic("data with strings, keys, digests and signatures: cut and too long, and as other types")
+    for rtype, octets, text in TYPED:
+        row("typed", rtype, octets, 0, len(octets), told=" " + text)
+        for size in range(min(len(octets), 60)):
+            row("typed", rtype, octets, 0, size)
+        row("typed", rtype, octets + b"\1", 0, len(octets) + 1)
+        row("typed", rtype, b"\xff" + octets + b"\xff", 1, len(octets), told="ok " + octets.hex() + " ")
+        for other in (*second.TYPED, 1, 16, 47, 59, 65280):
+            row("typed", other, octets, 0, len(octets))
+    for tag in (b"", b"-", b"issue ", b"is-sue", b"is\xffsue", b"/", b":", b"@", b"[", b"`", b"{", b"09azAZ"):
+        row("typed", 257, b"\0" + bytes([len(tag)]) + tag + b"v", 0, 3 + len(tag), told="ok " if tag == b"09azAZ" else "err invalid tag")
+    topic("data with strings, keys, digests and signatures: times")
+    days = (58, 59, 60, 364, 365, 789, 790, 11016, 11017, 20789, 47540, 47541, 47542, 49709, 49710)
+    for seconds in (*(day * 86400 + time for day in days for time in (0, 3599, 86399 if day < 49710 else 23295)), 2**31, 2**32 - 1):
+        octets = u16(1) + b"\5\3" + u32(0) + u32(seconds) + u32(2**32 - 1 - seconds) + u16(0) + b"\0"
+        row("typed", 46, octets, 0, len(octets))
+    topic("data with strings, keys, digests and signatures: names with pointers, in capitals")
+    before = header() + name("WWW.Example.com.")
+    at = len(before)
+    for rtype, start, end in ((35, u16(1) + u16(2) + b"\1u\0\0", b""), (46, u16(6) + b"\5\3" + u32(1) * 3 + u16(7), b"sig")):
+        for last in (pointer(12), pointer(16), b"\1A" + pointer(12), pointer(at), b"\xc0", b"\x41a", b"\0", name("Z.")):
+            row("typed", rtype, before + start + last + end, at, len(start + last + end))
+    topic("data with strings, keys, digests and signatures: drawn at random, and as long as it may be")
+    rng = random.Random(3)
+    sizes = {"1": 1, "2": 2, "4": 4, "T": 2}
+    for _row in range(600):
+        rtype = rng.choice(tuple(second.TYPED))
+        octets = header() + name("Ns1.Example.org.")
+        at = len(octets)
+        for kind in second.TYPED[rtype].replace("D", "4"):
+            if kind == "w":
+                octets += random_name(rng, [12, 16], len(octets))
+            elif kind in "st":
+                size = rng.choice((0, 1, 2, 5, 20, 255))
+                octets += bytes([size]) + bytes(rng.randrange(256) if rng.random() < 0.1 else rng.randrange(97, 123) for _octet in range(size))
+            else:
+                octets += bytes(rng.randrange(256) for _octet in range(sizes.get(kind) or rng.choice((0, 1, 2, 3, 20, 32, 64))))
+        if rng.random() < 0.3:
+            octets = octets[:at] + mutated(rng, octets[at:])
+        row("typed", rtype, octets, at, len(octets) - at)
+    for rtype, before in ((43, "01010102"), (44, "0101"), (48, "01010308"), (52, "010101"), (257, "000161")):
+        row("typed", rtype, f"{before}+zeros:65536", 0, len(before) // 2 + 65536, told="err record data too long")
+    for line in ("typed 13 00 0", "typed 65536 00 0 1", "typed 13 00 0 2", "typed x 00 0 1"):
+        row(line, told="bad")
+
+
 def random_name(rng, places, at):
     """Labels of a few words, in any case, and then the root or a pointer to a name, sometimes to anywhere."""
     octets = b""
@@ -569,7 +636,7 @@ def random_lines(count, seed):
 
 def answers_to(lines, answerer):
     """The answer to each line, by second.py or by the command."""
-    ours = [line.split(" ")[0] in ("answers", "limit", "any") for line in lines]
+    ours = [line.split(" ")[0] in ("answers", "limit", "any", "typed") for line in lines]
     text = "".join(line + "\n" for line, is_ours in zip(lines, ours) if not is_ours)
     ran = subprocess.run(answerer, input=text.encode(), stdout=subprocess.PIPE, check=True)
     others = ran.stdout.decode().splitlines()
@@ -586,7 +653,8 @@ def main():
     answerer = sys.argv[1:]
     if not answerer:
         sys.exit(__doc__)
-    for make in (header_rows, section_rows, long_rows, data_rows, chain_rows, answers_rows, limit_rows, any_rows):
+    for make in (header_rows, section_rows, long_rows, data_rows, chain_rows, answers_rows, limit_rows, any_rows,
+                 typed_rows):
         make()
     topic("random and mutated messages")
     for line in random_lines(400, 1):

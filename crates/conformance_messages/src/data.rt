@@ -1,5 +1,6 @@
 //! Record data by its type.
 
+use crate::typed::put_typed;
 use conformance_answer::{Answer, Fail, Fields, is};
 use domain_data::{A, Aaaa, AllRecordData, Cname, Dname, Mx, Ns, Ptr, Soa, Srv};
 use domain_parsed::ParsedName;
@@ -17,7 +18,8 @@ pub fn put_name(out: &mut Answer, word: &[u8], name: &Read<'_>) {
     out.put_text_after(word, name.fmt_with_dot());
 }
 
-/// `data TYPE OCTETS OFFSET LENGTH`: asks each type of data. `any` with the same words reads data of any type.
+/// `data TYPE OCTETS OFFSET LENGTH`: asks each type of data. `typed` with the same words asks the types with strings,
+/// keys and the like, and `any` reads data of any type.
 pub fn put_data(out: &mut Answer, fields: Fields<'_>) {
     let rtype = fields.number(1, out);
     let octets = fields.octets(2, out);
@@ -30,6 +32,9 @@ pub fn put_data(out: &mut Answer, fields: Fields<'_>) {
     let parser = Parser::with_range(octets.as_slice(), offset..end);
     if is(fields.at(0), b"any") {
         return put_any(out, rtype, parser);
+    }
+    if is(fields.at(0), b"typed") {
+        return put_typed(out, rtype, parser);
     }
     put_a(out, rtype, parser);
     put_aaaa(out, rtype, parser);
@@ -63,7 +68,7 @@ fn put_any(out: &mut Answer, rtype: Rtype, parser: Parser<'_>) {
 }
 
 /// Reads data as of one type, and composes it. `None` if it isn't of that type, or an error was written.
-fn read<'a, D: ParseRecordData<'a> + ComposeRecordData + Drop>(
+pub fn read<'a, D: ParseRecordData<'a> + ComposeRecordData + Drop>(
     out: &mut Answer,
     rtype: Rtype,
     parser: Parser<'a>,

@@ -9,6 +9,7 @@ mod data;
 mod header;
 mod message;
 mod select;
+mod typed;
 
 use crate::compose::put_composed;
 use crate::data::put_data;
@@ -24,7 +25,7 @@ use std::process::ExitCode;
 fn respond(line: &[u8], out: &mut Answer) {
     let fields = Fields::new(line);
     let word = fields.at(0);
-    if is(word, b"data") || is(word, b"any") {
+    if is(word, b"data") || is(word, b"any") || is(word, b"typed") {
         fields.expect(5, out);
         put_data(out, fields);
     } else if is(word, b"write") {
