@@ -198,7 +198,10 @@ fn long_data_changes_nothing(rt: HostRuntime) {
     let pushed = message.push(Section::Answer, &record);
     assert!(rt; matches!(pushed, Err(PushError::Long(_))));
     assert!(rt; message.len() == HEADER + ADDRESS);
-    let data = Unmeasured::new(&octets[..65535]);
+    let Some((most, _)) = octets.as_slice().split_at_checked(65535) else {
+        panic!(rt; "no octets");
+    };
+    let data = Unmeasured::new(most);
     let record = Record::new(Name::root_ref(), class, ttl, data);
     let pushed = message.push(Section::Answer, &record);
     assert!(rt; matches!(pushed, Err(PushError::Limit)));
@@ -238,12 +241,12 @@ fn fill<Target: Composer + Drop>(rt: &impl Abort, message: MessageBuilder<Target
     reads(rt, message.finish().as_slice(), counts);
 }
 
-/// The same into a target that has room for `N` octets.
-fn fill_array<const N: usize>(rt: &impl Abort) {
-    match MessageBuilder::from_target(ArrayVec::<u8, N>::new()) {
-        Ok(message) => fill(rt, message, N),
+/// The same into a target that has room for so many octets.
+fn fill_target<Target: Composer + Drop>(rt: &impl Abort, target: Target, room: usize) {
+    match MessageBuilder::from_target(target) {
+        Ok(message) => fill(rt, message, room),
         Err(e) => {
-            assert!(rt; N < HEADER);
+            assert!(rt; room < HEADER);
             assert!(rt; matches!(e, StartError::Append(_)));
         }
     }
@@ -264,48 +267,48 @@ fn each_limit_refuses_what_exceeds_it(rt: HostRuntime) {
 
 #[test]
 fn each_room_refuses_what_exceeds_it(rt: HostRuntime) {
-    fill_array::<0>(&rt);
-    fill_array::<1>(&rt);
-    fill_array::<2>(&rt);
-    fill_array::<3>(&rt);
-    fill_array::<4>(&rt);
-    fill_array::<5>(&rt);
-    fill_array::<6>(&rt);
-    fill_array::<7>(&rt);
-    fill_array::<8>(&rt);
-    fill_array::<9>(&rt);
-    fill_array::<10>(&rt);
-    fill_array::<11>(&rt);
-    fill_array::<12>(&rt);
-    fill_array::<13>(&rt);
-    fill_array::<14>(&rt);
-    fill_array::<15>(&rt);
-    fill_array::<16>(&rt);
-    fill_array::<17>(&rt);
-    fill_array::<18>(&rt);
-    fill_array::<19>(&rt);
-    fill_array::<20>(&rt);
-    fill_array::<21>(&rt);
-    fill_array::<22>(&rt);
-    fill_array::<23>(&rt);
-    fill_array::<24>(&rt);
-    fill_array::<25>(&rt);
-    fill_array::<26>(&rt);
-    fill_array::<27>(&rt);
-    fill_array::<28>(&rt);
-    fill_array::<29>(&rt);
-    fill_array::<30>(&rt);
-    fill_array::<31>(&rt);
-    fill_array::<32>(&rt);
-    fill_array::<33>(&rt);
-    fill_array::<34>(&rt);
-    fill_array::<35>(&rt);
-    fill_array::<36>(&rt);
-    fill_array::<37>(&rt);
-    fill_array::<38>(&rt);
-    fill_array::<39>(&rt);
-    fill_array::<40>(&rt);
-    fill_array::<41>(&rt);
-    fill_array::<42>(&rt);
-    fill_array::<43>(&rt);
+    fill_target(&rt, ArrayVec::<u8, 0>::new(), 0);
+    fill_target(&rt, ArrayVec::<u8, 1>::new(), 1);
+    fill_target(&rt, ArrayVec::<u8, 2>::new(), 2);
+    fill_target(&rt, ArrayVec::<u8, 3>::new(), 3);
+    fill_target(&rt, ArrayVec::<u8, 4>::new(), 4);
+    fill_target(&rt, ArrayVec::<u8, 5>::new(), 5);
+    fill_target(&rt, ArrayVec::<u8, 6>::new(), 6);
+    fill_target(&rt, ArrayVec::<u8, 7>::new(), 7);
+    fill_target(&rt, ArrayVec::<u8, 8>::new(), 8);
+    fill_target(&rt, ArrayVec::<u8, 9>::new(), 9);
+    fill_target(&rt, ArrayVec::<u8, 10>::new(), 10);
+    fill_target(&rt, ArrayVec::<u8, 11>::new(), 11);
+    fill_target(&rt, ArrayVec::<u8, 12>::new(), 12);
+    fill_target(&rt, ArrayVec::<u8, 13>::new(), 13);
+    fill_target(&rt, ArrayVec::<u8, 14>::new(), 14);
+    fill_target(&rt, ArrayVec::<u8, 15>::new(), 15);
+    fill_target(&rt, ArrayVec::<u8, 16>::new(), 16);
+    fill_target(&rt, ArrayVec::<u8, 17>::new(), 17);
+    fill_target(&rt, ArrayVec::<u8, 18>::new(), 18);
+    fill_target(&rt, ArrayVec::<u8, 19>::new(), 19);
+    fill_target(&rt, ArrayVec::<u8, 20>::new(), 20);
+    fill_target(&rt, ArrayVec::<u8, 21>::new(), 21);
+    fill_target(&rt, ArrayVec::<u8, 22>::new(), 22);
+    fill_target(&rt, ArrayVec::<u8, 23>::new(), 23);
+    fill_target(&rt, ArrayVec::<u8, 24>::new(), 24);
+    fill_target(&rt, ArrayVec::<u8, 25>::new(), 25);
+    fill_target(&rt, ArrayVec::<u8, 26>::new(), 26);
+    fill_target(&rt, ArrayVec::<u8, 27>::new(), 27);
+    fill_target(&rt, ArrayVec::<u8, 28>::new(), 28);
+    fill_target(&rt, ArrayVec::<u8, 29>::new(), 29);
+    fill_target(&rt, ArrayVec::<u8, 30>::new(), 30);
+    fill_target(&rt, ArrayVec::<u8, 31>::new(), 31);
+    fill_target(&rt, ArrayVec::<u8, 32>::new(), 32);
+    fill_target(&rt, ArrayVec::<u8, 33>::new(), 33);
+    fill_target(&rt, ArrayVec::<u8, 34>::new(), 34);
+    fill_target(&rt, ArrayVec::<u8, 35>::new(), 35);
+    fill_target(&rt, ArrayVec::<u8, 36>::new(), 36);
+    fill_target(&rt, ArrayVec::<u8, 37>::new(), 37);
+    fill_target(&rt, ArrayVec::<u8, 38>::new(), 38);
+    fill_target(&rt, ArrayVec::<u8, 39>::new(), 39);
+    fill_target(&rt, ArrayVec::<u8, 40>::new(), 40);
+    fill_target(&rt, ArrayVec::<u8, 41>::new(), 41);
+    fill_target(&rt, ArrayVec::<u8, 42>::new(), 42);
+    fill_target(&rt, ArrayVec::<u8, 43>::new(), 43);
 }
