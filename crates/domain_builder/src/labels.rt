@@ -451,9 +451,10 @@ where
 }
 
 impl LabelsBuilder<Vec<u8>> {
-    /// The same over new octets. `ShortBuf` only where memory was refused.
+    /// The same over new octets. `ShortBuf` only where memory was refused, which a copy of nothing doesn't need.
     pub fn clone(&self, alloc: Global) -> Result<Self, ShortBuf>
-        ensures { IfOk result (λ copy. copy.built ≡ self.now.built) }
+        ensures built { IfOk result (λ copy. copy.built ≡ self.now.built) }
+        ensures err { OnErr result (0 < size self.now.built) }
     {
         let builder = Vec::try_octets_from(alloc, self.builder.as_slice())?;
         Ok(LabelsBuilder {

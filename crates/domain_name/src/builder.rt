@@ -1,5 +1,5 @@
 //! Building names label by label, or symbol by symbol.
-ghost use Rattle.std.specs.Prelude.{◌≡◌, ◌++◌, ◌↔◌, ℕ, List, [], ◌∷◌, ◌≤◌, ◌+◌, nat_lt, length, IsTrue, IsOk, IfOk, IfErr, OnOk, OnErr, IfSome, IsSome, None};
+ghost use Rattle.std.specs.Prelude.{◌≡◌, ◌++◌, ◌↔◌, ℕ, List, [], ◌∷◌, ◌≤◌, ◌<◌, ◌+◌, nat_lt, length, IsTrue, IsOk, IfOk, IfErr, OnOk, OnErr, IfSome, IsSome, None};
 ghost use Rattle.std.specs.Fmt.{decimal};
 ghost use Rattle.domain_label.specs.Wire.{wire, Root, IsRelativeWire, labels_in};
 ghost use Rattle.domain_flat.specs.Faults.{RelativeFault};
@@ -80,9 +80,11 @@ impl NameBuilder<Vec<u8>> {
         NameBuilder::with_capacity(alloc, capacity)
     }
 
-    /// The same builder over new octets, an open label too. `ShortBuf` only where an allocation failed.
+    /// The same builder over new octets, an open label too. `ShortBuf` only where an allocation failed, which a copy of
+    /// an empty builder doesn't make.
     pub fn clone(&self, alloc: Global) -> Result<Self, ShortBuf>
-        ensures { IfOk result (λ copy. built copy ≡ built self.now) }
+        ensures built { IfOk result (λ copy. built copy ≡ built self.now) }
+        ensures err { OnErr result (0 < size (built self.now)) }
     {
         Ok(NameBuilder {
             labels: self.labels.clone(alloc)?,

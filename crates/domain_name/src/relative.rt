@@ -444,7 +444,7 @@ impl<Octs: SameOctets<&'static [u8]>> RelativeName<Octs> {
 }
 
 impl RelativeName<Vec<u8>> {
-    ghost use Rattle.domain_name.specs.Names.{relative_labels};
+    ghost use Rattle.domain_name.specs.Names.{relative_octets, relative_labels};
 
     /// The name without labels, which allocates nothing and never fails.
     pub fn empty_vec(alloc: Global) -> Result<RelativeName<Vec<u8>>, ShortBuf>
@@ -461,9 +461,11 @@ impl RelativeName<Vec<u8>> {
         RelativeName::wildcard(alloc)
     }
 
-    /// The same name over new octets. `ShortBuf` only where an allocation failed.
+    /// The same name over new octets. `ShortBuf` only where an allocation failed, which a copy of the empty name doesn't
+    /// make.
     pub fn clone(&self, alloc: Global) -> Result<RelativeName<Vec<u8>>, ShortBuf>
-        ensures { IfOk result (λ name. relative_labels name ≡ relative_labels self.now) }
+        ensures ok { IfOk result (λ name. relative_labels name ≡ relative_labels self.now) }
+        ensures err { OnErr result (0 < length (relative_octets self.now)) }
     {
         RelativeName::try_octets_from(alloc, self.for_slice())
     }
