@@ -144,9 +144,9 @@ relative_part o p q w s t n =
 pub seam_cut : (o : List ℕ) (i : ℕ) → IsSeam o i → SplitsAt (labels_in o) i (labels_in (take i o)) (labels_in (drop i o))
 seam_cut o i s = record { parts = meets_labels o i _ _ s; offset = s.at }
 
-next_place : (o : List ℕ) (i offset : ℕ) (xs ys zs ys' : List (List ℕ)) → Meets o i xs ys → ys ≡ zs ++ ys' → i + length (wire zs) ≡ offset → i < offset → i + 1 + slice_index_or o i 0 ≤ offset
-next_place o i offset xs ys [] ys' m e n h = absurd (omega (arith, n, h))
-next_place o i offset xs ys (z ∷ zs) ys' m e n h =
+next_offset : (o : List ℕ) (i offset : ℕ) (xs ys zs ys' : List (List ℕ)) → Meets o i xs ys → ys ≡ zs ++ ys' → i + length (wire zs) ≡ offset → i < offset → i + 1 + slice_index_or o i 0 ≤ offset
+next_offset o i offset xs ys [] ys' m e n h = absurd (omega (arith, n, h))
+next_offset o i offset xs ys (z ∷ zs) ys' m e n h =
     let there : Meets o i xs (z ∷ (zs ++ ys')) = subst (λ r. Meets o i xs r) e m in
     omega (arith, read_at o i xs z (zs ++ ys') there, n, length-append z (wire zs))
 
@@ -156,7 +156,7 @@ step_stays o i offset s t h =
     let c = seam_cut o i s in
     let z = cut_within (labels_in o) i offset _ _ t.0 t.1 c t.2 (omega (arith, h)) in
     let len : length (wire t.0) ≡ length (wire (labels_in (take i o))) + length (wire z.0) = ap (λ r. length (wire r)) z.1 ∙ length-wire_append (labels_in (take i o)) z.0 in
-    next_place o i offset _ _ z.0 t.1 s z.2 (omega (arith, len, c.offset, t.2.offset)) h
+    next_offset o i offset _ _ z.0 t.1 s z.2 (omega (arith, len, c.offset, t.2.offset)) h
 
 pub end_inside : (o : List ℕ) (offset : ℕ) → IsWire o → IsLabelEnd (labels_in o) offset → offset ≤ length o
 end_inside o offset w t = omega (arith, cut_len o offset t.0 t.1 w.0 t.2)

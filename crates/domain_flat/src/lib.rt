@@ -5,11 +5,11 @@ pub mod canonical;
 pub mod error;
 pub mod flat;
 pub mod iter;
+pub mod label_ends;
 pub mod laws;
-pub mod places;
 
 pub use canonical::make_lowercase;
 pub use error::{NameError, NameErrorKind, RelativeNameError, RelativeNameErrorKind};
 pub use flat::{MAX_NAME_LEN, check_absolute, check_relative, name_len};
 pub use iter::NameIter;
-pub use places::is_label_end;
+pub use label_ends::is_label_end;

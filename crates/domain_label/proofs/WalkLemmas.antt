@@ -126,82 +126,82 @@ remembered_past p at_root from = p ∷ []
 remembered_past p (at_pointer offset) from = p ∷ from offset
 remembered_past p at_end from = []
 
-abbrev places : List ℕ → ℕ → ℕ → List ℕ
-places s p zero = []
-places s p (suc n) = remembered_past p (step_at s p) (λ q. places s q n)
+abbrev offsets_passed : List ℕ → ℕ → ℕ → List ℕ
+offsets_passed s p zero = []
+offsets_passed s p (suc n) = remembered_past p (step_at s p) (λ q. offsets_passed s q n)
 
 -- a walk that ends reads no more heads than these, however many it may
 more-past : (s : List ℕ) (p n k : ℕ) (t : Step)
-    → ((q : ℕ) → WalkEnds s q n → length (places s q n) ≤ k → slice_walk s q k ≡ slice_walk s q n)
-    → WherePast t (λ q. WalkEnds s q n) → length (remembered_past p t (λ q. places s q n)) ≤ suc k
+    → ((q : ℕ) → WalkEnds s q n → length (offsets_passed s q n) ≤ k → slice_walk s q k ≡ slice_walk s q n)
+    → WherePast t (λ q. WalkEnds s q n) → length (remembered_past p t (λ q. offsets_passed s q n)) ≤ suc k
     → labels_past t (λ q. slice_walk s q k) ≡ labels_past t (λ q. slice_walk s q n)
 more-past s p n k (past_label l next) more w h = ap (λ ls. l ∷ ls) (more next w (omega (arith, h)))
 more-past s p n k at_root more w h = refl
 more-past s p n k (at_pointer offset) more w h = more offset w (omega (arith, h))
 more-past s p n k at_end more w h = refl
 
-none-past : (s : List ℕ) (p n : ℕ) (t : Step) → length (remembered_past p t (λ q. places s q n)) ≤ 0 → [] ≡ labels_past t (λ q. slice_walk s q n)
+none-past : (s : List ℕ) (p n : ℕ) (t : Step) → length (remembered_past p t (λ q. offsets_passed s q n)) ≤ 0 → [] ≡ labels_past t (λ q. slice_walk s q n)
 none-past s p n (past_label l next) h = absurd (omega (arith, h))
 none-past s p n at_root h = absurd (omega (arith, h))
 none-past s p n (at_pointer offset) h = absurd (omega (arith, h))
 none-past s p n at_end h = refl
 
-walk-more : (s : List ℕ) (n k p : ℕ) → WalkEnds s p n → length (places s p n) ≤ k → slice_walk s p k ≡ slice_walk s p n
+walk-more : (s : List ℕ) (n k p : ℕ) → WalkEnds s p n → length (offsets_passed s p n) ≤ k → slice_walk s p k ≡ slice_walk s p n
 walk-more s zero k p w h = absurd w
 walk-more s (suc n) zero p w h = none-past s p n (step_at s p) h
 walk-more s (suc n) (suc k) p w h = more-past s p n k (step_at s p) (λ q. walk-more s n k q) w h
 
 -- the heads that it reads are the same, however many it may
 same-past : (s : List ℕ) (p n k : ℕ) (t : Step)
-    → ((q : ℕ) → WalkEnds s q n → WalkEnds s q k → places s q n ≡ places s q k)
+    → ((q : ℕ) → WalkEnds s q n → WalkEnds s q k → offsets_passed s q n ≡ offsets_passed s q k)
     → WherePast t (λ q. WalkEnds s q n) → WherePast t (λ q. WalkEnds s q k)
-    → remembered_past p t (λ q. places s q n) ≡ remembered_past p t (λ q. places s q k)
+    → remembered_past p t (λ q. offsets_passed s q n) ≡ remembered_past p t (λ q. offsets_passed s q k)
 same-past s p n k (past_label l next) same w v = ap (λ ps. p ∷ ps) (same next w v)
 same-past s p n k at_root same w v = refl
 same-past s p n k (at_pointer offset) same w v = ap (λ ps. p ∷ ps) (same offset w v)
 same-past s p n k at_end same w v = refl
 
-same-places : (s : List ℕ) (n k p : ℕ) → WalkEnds s p n → WalkEnds s p k → places s p n ≡ places s p k
-same-places s zero k p w v = absurd w
-same-places s (suc n) zero p w v = absurd v
-same-places s (suc n) (suc k) p w v = same-past s p n k (step_at s p) (λ q. same-places s n k q) w v
+same-offsets_passed : (s : List ℕ) (n k p : ℕ) → WalkEnds s p n → WalkEnds s p k → offsets_passed s p n ≡ offsets_passed s p k
+same-offsets_passed s zero k p w v = absurd w
+same-offsets_passed s (suc n) zero p w v = absurd v
+same-offsets_passed s (suc n) (suc k) p w v = same-past s p n k (step_at s p) (λ q. same-offsets_passed s n k q) w v
 
 -- a walk that reads fewer heads never comes to the offset p
 apart-past : (s : List ℕ) (p q m most : ℕ) (t : Step) → (p == q) ≡ false
-    → ((r : ℕ) → WalkEnds s r m → length (places s r m) < most → AllByRecursion (λ y. (p == y) ≡ false) (places s r m))
-    → WherePast t (λ r. WalkEnds s r m) → length (remembered_past q t (λ r. places s r m)) < most
-    → AllByRecursion (λ y. (p == y) ≡ false) (remembered_past q t (λ r. places s r m))
+    → ((r : ℕ) → WalkEnds s r m → length (offsets_passed s r m) < most → AllByRecursion (λ y. (p == y) ≡ false) (offsets_passed s r m))
+    → WherePast t (λ r. WalkEnds s r m) → length (remembered_past q t (λ r. offsets_passed s r m)) < most
+    → AllByRecursion (λ y. (p == y) ≡ false) (remembered_past q t (λ r. offsets_passed s r m))
 apart-past s p q m most (past_label l next) e apart w h = (e, apart next w (omega (arith, h)))
 apart-past s p q m most at_root e apart w h = (e, tt)
 apart-past s p q m most (at_pointer offset) e apart w h = (e, apart offset w (omega (arith, h)))
 apart-past s p q m most at_end e apart w h = tt
 
-apart-here : (s : List ℕ) (p n q m : ℕ) → WalkEnds s p n → WalkEnds s q m → length (places s q m) < length (places s p n) → (p == q) ≡ false
+apart-here : (s : List ℕ) (p n q m : ℕ) → WalkEnds s p n → WalkEnds s q m → length (offsets_passed s q m) < length (offsets_passed s p n) → (p == q) ≡ false
 apart-here s p n q m v w h =
     elim (eqb_tells p q) [
       | inl same ↦
-          let P : ℕ → Type 0 = λ r. WalkEnds s r n → length (places s q m) < length (places s r n) → (p == q) ≡ false in
-          subst P (sym same.1) (λ v h. absurd (omega (arith, h, ap length (same-places s n m q v w)))) v h
+          let P : ℕ → Type 0 = λ r. WalkEnds s r n → length (offsets_passed s q m) < length (offsets_passed s r n) → (p == q) ≡ false in
+          subst P (sym same.1) (λ v h. absurd (omega (arith, h, ap length (same-offsets_passed s n m q v w)))) v h
       | inr other ↦ other.0
     ]
 
-apart : (s : List ℕ) (p n m q : ℕ) → WalkEnds s p n → WalkEnds s q m → length (places s q m) < length (places s p n) → AllByRecursion (λ y. (p == y) ≡ false) (places s q m)
+apart : (s : List ℕ) (p n m q : ℕ) → WalkEnds s p n → WalkEnds s q m → length (offsets_passed s q m) < length (offsets_passed s p n) → AllByRecursion (λ y. (p == y) ≡ false) (offsets_passed s q m)
 apart s p n zero q v w h = absurd w
 apart s p n (suc m) q v w h =
-    apart-past s p q m (length (places s p n)) (step_at s q) (apart-here s p n q (suc m) v w h) (λ r. apart s p n m r v) w h
+    apart-past s p q m (length (offsets_passed s p n)) (step_at s q) (apart-here s p n q (suc m) v w h) (λ r. apart s p n m r v) w h
 
 -- so no offset is read twice
 distinct-past : (s : List ℕ) (p n : ℕ) (t : Step) → WalkEnds s p (suc n)
-    → length (remembered_past p t (λ q. places s q n)) ≡ length (places s p (suc n))
-    → ((q : ℕ) → WalkEnds s q n → IsDistinct ◌==◌ (places s q n))
-    → WherePast t (λ q. WalkEnds s q n) → IsDistinct ◌==◌ (remembered_past p t (λ q. places s q n))
+    → length (remembered_past p t (λ q. offsets_passed s q n)) ≡ length (offsets_passed s p (suc n))
+    → ((q : ℕ) → WalkEnds s q n → IsDistinct ◌==◌ (offsets_passed s q n))
+    → WherePast t (λ q. WalkEnds s q n) → IsDistinct ◌==◌ (remembered_past p t (λ q. offsets_passed s q n))
 unfolding IsDistinct
 distinct-past s p n (past_label l next) v e distinct w = (apart s p (suc n) n next v w (omega (arith, e)), distinct next w)
 distinct-past s p n at_root v e distinct w = (tt, tt)
 distinct-past s p n (at_pointer offset) v e distinct w = (apart s p (suc n) n offset v w (omega (arith, e)), distinct offset w)
 distinct-past s p n at_end v e distinct w = tt
 
-distinct : (s : List ℕ) (n p : ℕ) → WalkEnds s p n → IsDistinct ◌==◌ (places s p n)
+distinct : (s : List ℕ) (n p : ℕ) → WalkEnds s p n → IsDistinct ◌==◌ (offsets_passed s p n)
 distinct s zero p w = absurd w
 distinct s (suc n) p w = distinct-past s p n (step_at s p) w refl (λ q. distinct s n q) w
 
@@ -219,11 +219,11 @@ below-one s p q rest h below any =
     ]
 
 below-past : (s : List ℕ) (p n q : ℕ) (t : Step) → (t ≢ at_end → p < length s)
-    → ((r : ℕ) → list_any (λ x. q == x) (places s r n) ≡ true → q < length s)
-    → list_any (λ x. q == x) (remembered_past p t (λ r. places s r n)) ≡ true → q < length s
-below-past s p n q (past_label l next) here below any = below-one s p q (places s next n) (here (λ e. cc)) (below next) any
+    → ((r : ℕ) → list_any (λ x. q == x) (offsets_passed s r n) ≡ true → q < length s)
+    → list_any (λ x. q == x) (remembered_past p t (λ r. offsets_passed s r n)) ≡ true → q < length s
+below-past s p n q (past_label l next) here below any = below-one s p q (offsets_passed s next n) (here (λ e. cc)) (below next) any
 below-past s p n q at_root here below any = below-one s p q [] (here (λ e. cc)) (λ none. cc) any
-below-past s p n q (at_pointer offset) here below any = below-one s p q (places s offset n) (here (λ e. cc)) (below offset) any
+below-past s p n q (at_pointer offset) here below any = below-one s p q (offsets_passed s offset n) (here (λ e. cc)) (below offset) any
 below-past s p n q at_end here below any = cc
 
 stands : (s : List ℕ) (p : ℕ) → step_at s p ≢ at_end → p < length s
@@ -233,11 +233,11 @@ stands s p other =
       | inr past ↦ absurd (other (ap (step_of p) (drop-past s p past)))
     ]
 
-below : (s : List ℕ) (n p q : ℕ) → list_any (λ x. q == x) (places s p n) ≡ true → q < length s
+below : (s : List ℕ) (n p q : ℕ) → list_any (λ x. q == x) (offsets_passed s p n) ≡ true → q < length s
 below s zero p q any = cc
 below s (suc n) p q any = below-past s p n q (step_at s p) (stands s p) (λ r. below s n r q) any
 
 -- so a walk that ends is whole after as many heads as the slice has octets
 pub walk-whole : (s : List ℕ) (p n : ℕ) → WalkEnds s p n → slice_walk s p (length s) ≡ slice_walk s p n
 walk-whole s p n w =
-    walk-more s n (length s) p w (length-le_from_distinct_below (places s p n) (length s) (distinct s n p w) (λ q. below s n p q))
+    walk-more s n (length s) p w (length-le_from_distinct_below (offsets_passed s p n) (length s) (distinct s n p w) (λ q. below s n p q))

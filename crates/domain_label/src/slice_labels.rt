@@ -50,7 +50,7 @@ impl<'a> Iterator for SliceLabelsIter<'a> {
     fn next(&mut self) -> Option<Label<'a>> {
         while self.heads > 0 {
             self.heads -= 1;
-            match split_at_place(self.slice, self.offset) {
+            match split_at_offset(self.slice, self.offset) {
                 Ok((label, _)) => {
                     if label.is_root() {
                         self.heads = 0;
@@ -77,7 +77,7 @@ impl<'a> Iterator for SliceLabelsIter<'a> {
 }
 
 /// The label at an offset, and the octets after it. `ShortInput` where the offset is at or after the end.
-fn split_at_place(octets: &[u8], offset: usize) -> Result<(Label<'_>, &[u8]), SplitLabelError>
+fn split_at_offset(octets: &[u8], offset: usize) -> Result<(Label<'_>, &[u8]), SplitLabelError>
     ensures ok { IfOk result
         (λ parts. BeginsWithLabel (drop offset octets.now) (label_octets parts.0) parts.1.now) }
     ensures err { IfErr result (λ e. SplitFault (drop offset octets.now) e) }

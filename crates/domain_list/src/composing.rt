@@ -39,7 +39,7 @@ fn put_label(label: Label, octets: &mut [u8; 255], len: usize) -> usize
     end
 }
 
-/// Puts octets after the first `place` octets of a buffer.
+/// Puts octets after the first `offset` octets of a buffer.
 ///
 /// Most labels are short: they are copied without a loop and without a call.
 #[inline(always)]

@@ -176,34 +176,34 @@ seen_few rs from now (r ∷ ks) all q any = look (λ more. seen_few rs from now 
 
 -- The CNAME records that were followed differ.
 record Followed (rs : List RecordFields) (from : List (List ℕ)) (n : ℕ) (now : List (List ℕ)) : Type 0 where
-  pub places : List ℕ
-  pub many : length places ≡ n
-  pub distinct : IsDistinct ◌==◌ places
-  pub seen : AllByRecursion (Seen rs from now) places
+  pub visited : List ℕ
+  pub many : length visited ≡ n
+  pub distinct : IsDistinct ◌==◌ visited
+  pub seen : AllByRecursion (Seen rs from now) visited
 
 none_distinct : IsDistinct {K = ℕ} ◌==◌ []
 unfolding IsDistinct
 none_distinct = tt
 
-follow : (rs : List RecordFields) (from name now : List (List ℕ)) (n : ℕ) → Leads rs from n name → FirstAlias name rs (Some now) → (r : ℕ) → Nth rs r now → (it : Followed rs from n name) → Seen rs from name r ⊎ IsNew r it.places → ChainEnd rs from None ⊎ Followed rs from (n + 1) now
+follow : (rs : List RecordFields) (from name now : List (List ℕ)) (n : ℕ) → Leads rs from n name → FirstAlias name rs (Some now) → (r : ℕ) → Nth rs r now → (it : Followed rs from n name) → Seen rs from name r ⊎ IsNew r it.visited → ChainEnd rs from None ⊎ Followed rs from (n + 1) now
 follow rs from name now n before first r nth it (inl seen) =
     let same = nth_once rs r r seen.target now refl seen.nth nth in
     inl (goes_round (goes before first) (subst (λ t. Leads rs t (seen.k + 1) now) same (goes seen.on first)) (omega arith))
 follow rs from name now n before first r nth it (inr new) =
     inr (record {
-      places = r ∷ it.places;
+      visited = r ∷ it.visited;
       many = omega (arith, it.many);
-      distinct = IsDistinct-cons ◌==◌ r it.places new it.distinct;
-      seen = (record { target = now; nth = nth; n = n + 1; to = goes before first; k = 0; on = stays }, seen_more rs from name now it.places first it.seen);
+      distinct = IsDistinct-cons ◌==◌ r it.visited new it.distinct;
+      seen = (record { target = now; nth = nth; n = n + 1; to = goes before first; k = 0; on = stays }, seen_more rs from name now it.visited first it.seen);
     })
 
 round_or_followed : (rs : List RecordFields) (from : List (List ℕ)) (n : ℕ) (now : List (List ℕ)) → Leads rs from n now → ChainEnd rs from None ⊎ Followed rs from n now
-round_or_followed rs from n now stays = inr (record { places = []; many = refl; distinct = none_distinct; seen = tt })
+round_or_followed rs from n now stays = inr (record { visited = []; many = refl; distinct = none_distinct; seen = tt })
 round_or_followed rs from n now (goes {n = k} {name = name} before first) = on (round_or_followed rs from k name before)
   where
     on : ChainEnd rs from None ⊎ Followed rs from k name → ChainEnd rs from None ⊎ Followed rs from (k + 1) now
     on (inl round) = inl round
-    on (inr it) = let nth = first_nth name rs (Some now) now refl first in follow rs from name now k before first nth.0 nth.1 it (seen_or_new rs from name it.places nth.0 it.seen)
+    on (inr it) = let nth = first_nth name rs (Some now) now refl first in follow rs from name now k before first nth.0 nth.1 it (seen_or_new rs from name it.visited nth.0 it.seen)
 
 -- A chain of more records than there are CNAME records goes round.
 pub many_go_round : (rs : List RecordFields) (from : List (List ℕ)) (n : ℕ) (now : List (List ℕ)) → cname_count rs < n → Leads rs from n now → ChainEnd rs from None
@@ -211,7 +211,7 @@ many_go_round rs from n now many leads = look (round_or_followed rs from n now l
   where
     look : ChainEnd rs from None ⊎ Followed rs from n now → ChainEnd rs from None
     look (inl round) = round
-    look (inr it) = let few = length-le_from_distinct_below it.places (cname_count rs) it.distinct (seen_few rs from now it.places it.seen) in absurd (omega (arith, few, it.many, many))
+    look (inr it) = let few = length-le_from_distinct_below it.visited (cname_count rs) it.distinct (seen_few rs from now it.visited it.seen) in absurd (omega (arith, few, it.many, many))
 
 -- With a limit of as many records as there are CNAME records, or more, a chain comes to what it comes to without one.
 pub within_enough : (rs : List RecordFields) (limit : ℕ) (from : List (List ℕ)) (end : Option (List (List ℕ))) → cname_count rs ≤ limit → ChainEndWithin limit rs from end → ChainEnd rs from end

@@ -11,7 +11,7 @@ use Rattle.domain_message_builder.specs.Cuts.NotEnded.{no_room}
 use Rattle.domain_message_builder.specs.Ends.{MarksCut, KeepsOpt, KeepsOpts, LosesOpts}
 use Rattle.domain_message_builder.specs.Ends.KeepsOpt.{beside, instead}
 use Rattle.domain_message_builder.specs.Opt.{Opt, opt_head}
-use Rattle.domain_message_builder.specs.Places.{place_of}
+use Rattle.domain_message_builder.specs.SectionStarts.{start_of}
 use Rattle.domain_message_builder.specs.Pushes.{record_added, emptied}
 use Rattle.domain_message_builder.specs.Reading.{IsMessageOf}
 use Rattle.domain_message_builder.specs.State.{State}
@@ -58,4 +58,4 @@ ended c cut (Some o) capacity room old marked kept m marks same kept_so made =
 pub not_ended : {A E : Type 0} (pushed : Result A (PushError E)) (cut : Bool) (opt : Option Opt) (capacity room : ℕ) (old marked : State) (e : PushError E) → MarksCut cut old marked → room ≡ capacity → LosesOpts opt room marked e → NotEnded pushed opt capacity old e
 not_ended pushed cut None capacity room old marked e marks same loses = absurd loses
 not_ended pushed cut (Some o) capacity room old marked e marks same loses =
-    no_room o refl loses.for_room (subst (λ s. HasNoRoomFor o (place_of Answer s.places) capacity s.limit) marks.others (subst (λ n. HasNoRoomFor o (place_of Answer marked.places) n marked.limit) same loses.no_room))
+    no_room o refl loses.for_room (subst (λ s. HasNoRoomFor o (start_of Answer s.starts) capacity s.limit) marks.others (subst (λ n. HasNoRoomFor o (start_of Answer marked.starts) n marked.limit) same loses.no_room))

@@ -7,10 +7,10 @@ use Rattle.domain_message.specs.declared.section.Section.{Section}
 use Rattle.domain_message.specs.declared.section.Section.TheVariants.{Answer, Authority, Additional}
 use Rattle.domain_rdata.specs.ReadBack.{Appended}
 use Rattle.domain_message_builder.specs.Contents.{blank_header, Content, RecordHead, PushedRecord, question_added, AsksIn, RecordsIn, Composed, QuestionMay, RecordMay, Holds}
-use Rattle.domain_message_builder.specs.Places.{all_at, places_after}
+use Rattle.domain_message_builder.specs.SectionStarts.{all_at, starts_after}
 use Rattle.domain_message_builder.specs.Pushes.{record_added, record_count, later_count, CountsQuestion, CountsRecord, PushesQuestion, PushesRecord}
 use Rattle.domain_message_builder.specs.State.{State}
-use Rattle.domain_message_builder.specs.declared.places.Places.{Places}
+use Rattle.domain_message_builder.specs.declared.section_starts.SectionStarts.{SectionStarts}
 use Rattle.domain_message_builder.proofs.Composing.{composed_and}
 
 -- The blank header stays where octets are appended.
@@ -36,7 +36,7 @@ one_more : {V : Type 0} (xs : List V) (x : V) → length (xs ++ x ∷ []) ≡ le
 one_more xs x = length-append xs (x ∷ [])
 
 question_holds : (c : Bool) (q : QuestionFields) (old : State) (counts : HeaderCounts) (s : List ℕ) (it : Content) → record_count old.counts ≡ 0 → CountsQuestion old.counts counts → QuestionMay c q old.octets s → Holds c old it
-    → Holds c (record old { counts = counts; places = all_at (length (old.octets ++ s)); octets = old.octets ++ s }) (question_added it q)
+    → Holds c (record old { counts = counts; starts = all_at (length (old.octets ++ s)); octets = old.octets ++ s }) (question_added it q)
 question_holds c q old counts s it none counted may holds =
     let m = old.octets in
     let no_answers : length it.answers ≡ 0 = omega (arith, none, holds.answer_count, holds.authority_count, holds.additional_count) in
@@ -64,9 +64,9 @@ question_holds c q old counts s it none counted may holds =
     }
 
 -- A question was pushed.
-pub pushes_question : (c : Bool) (q : QuestionFields) (old : State) (counts : HeaderCounts) (places : Places) (made : List ℕ) (end : ℕ) → q.rtype < 2 ^ 16 → q.class < 2 ^ 16 → (0 < record_count old.counts → ⊥) → CountsQuestion old.counts counts → places ≡ all_at end → end ≡ length made → length made + old.reserved ≤ old.limit
-    → Appended (AsksIn c q old.octets) old.octets made → PushesQuestion c q old (record old { counts = counts; places = places; octets = made })
-pushes_question c q old counts places made end small_type small_class none counted at ends within added =
+pub pushes_question : (c : Bool) (q : QuestionFields) (old : State) (counts : HeaderCounts) (starts : SectionStarts) (made : List ℕ) (end : ℕ) → q.rtype < 2 ^ 16 → q.class < 2 ^ 16 → (0 < record_count old.counts → ⊥) → CountsQuestion old.counts counts → starts ≡ all_at end → end ≡ length made → length made + old.reserved ≤ old.limit
+    → Appended (AsksIn c q old.octets) old.octets made → PushesQuestion c q old (record old { counts = counts; starts = starts; octets = made })
+pushes_question c q old counts starts made end small_type small_class none counted at ends within added =
     let no_record : record_count old.counts ≡ 0 = omega (arith, none) in
     let offset : length (old.octets ++ added.octets) ≡ end = sym (ends ∙ ap length added.all) in
     record {
@@ -75,14 +75,14 @@ pushes_question c q old counts places made end small_type small_class none count
       counts = counted;
       within = within;
       settings = record { header = refl; limit = refl; reserved = refl };
-      holds = λ it holds. subst (λ p. Holds c (record old { counts = counts; places = p; octets = made }) (question_added it q)) (sym at)
-          (subst (λ o. Holds c (record old { counts = counts; places = all_at end; octets = o }) (question_added it q)) (sym added.all)
-          (subst (λ n. Holds c (record old { counts = counts; places = all_at n; octets = old.octets ++ added.octets }) (question_added it q)) offset
+      holds = λ it holds. subst (λ p. Holds c (record old { counts = counts; starts = p; octets = made }) (question_added it q)) (sym at)
+          (subst (λ o. Holds c (record old { counts = counts; starts = all_at end; octets = o }) (question_added it q)) (sym added.all)
+          (subst (λ n. Holds c (record old { counts = counts; starts = all_at n; octets = old.octets ++ added.octets }) (question_added it q)) offset
           (question_holds c q old counts added.octets it no_record counted (record { small_type = small_type; small_class = small_class; octets = added.allowed }) holds)));
     }
 
 record_holds : (section : Section) (c : Bool) (r : PushedRecord) (old : State) (counts : HeaderCounts) (s : List ℕ) (it : Content) → later_count section old.counts ≡ 0 → CountsRecord section old.counts counts → RecordMay c r old.octets s → Holds c old it
-    → Holds c (record old { counts = counts; places = places_after section (length (old.octets ++ s)) old.places; octets = old.octets ++ s }) (record_added section it r)
+    → Holds c (record old { counts = counts; starts = starts_after section (length (old.octets ++ s)) old.starts; octets = old.octets ++ s }) (record_added section it r)
 record_holds Answer c r old counts s it none counted may holds =
     let m = old.octets in
     let no_authority : length it.authority ≡ 0 = omega (arith, none, holds.authority_count, holds.additional_count) in
@@ -144,9 +144,9 @@ record_holds Additional c r old counts s it none counted may holds = record {
 }
 
 -- A record was pushed.
-pub pushes_record : (section : Section) (c : Bool) (head : RecordHead) (May : List ℕ → List ℕ → Type 0) (old : State) (counts : HeaderCounts) (places : Places) (made : List ℕ) (end : ℕ) → head.rtype < 2 ^ 16 → head.class < 2 ^ 16 → head.ttl < 2 ^ 32 → (0 < later_count section old.counts → ⊥) → CountsRecord section old.counts counts → places ≡ places_after section end old.places → end ≡ length made → length made + old.reserved ≤ old.limit
-    → Appended (RecordsIn c head May old.octets) old.octets made → PushesRecord c section head May old (record old { counts = counts; places = places; octets = made })
-pushes_record section c head May old counts places made end small_type small_class small_ttl none counted at ends within added =
+pub pushes_record : (section : Section) (c : Bool) (head : RecordHead) (May : List ℕ → List ℕ → Type 0) (old : State) (counts : HeaderCounts) (starts : SectionStarts) (made : List ℕ) (end : ℕ) → head.rtype < 2 ^ 16 → head.class < 2 ^ 16 → head.ttl < 2 ^ 32 → (0 < later_count section old.counts → ⊥) → CountsRecord section old.counts counts → starts ≡ starts_after section end old.starts → end ≡ length made → length made + old.reserved ≤ old.limit
+    → Appended (RecordsIn c head May old.octets) old.octets made → PushesRecord c section head May old (record old { counts = counts; starts = starts; octets = made })
+pushes_record section c head May old counts starts made end small_type small_class small_ttl none counted at ends within added =
     let done = added.allowed in
     let r : PushedRecord = record { head = head; rdata = done.rdata } in
     let no_record : later_count section old.counts ≡ 0 = omega (arith, none) in
@@ -163,8 +163,8 @@ pushes_record section c head May old counts places made end small_type small_cla
       counts = counted;
       within = within;
       settings = record { header = refl; limit = refl; reserved = refl };
-      holds = λ it holds. subst (λ p. Holds c (record old { counts = counts; places = p; octets = made }) (record_added section it r)) (sym at)
-          (subst (λ o. Holds c (record old { counts = counts; places = places_after section end old.places; octets = o }) (record_added section it r)) (sym added.all)
-          (subst (λ n. Holds c (record old { counts = counts; places = places_after section n old.places; octets = old.octets ++ added.octets }) (record_added section it r)) offset
+      holds = λ it holds. subst (λ p. Holds c (record old { counts = counts; starts = p; octets = made }) (record_added section it r)) (sym at)
+          (subst (λ o. Holds c (record old { counts = counts; starts = starts_after section end old.starts; octets = o }) (record_added section it r)) (sym added.all)
+          (subst (λ n. Holds c (record old { counts = counts; starts = starts_after section n old.starts; octets = old.octets ++ added.octets }) (record_added section it r)) offset
           (record_holds section c r old counts added.octets it no_record counted may holds)));
     }

@@ -6,12 +6,12 @@ use Rattle.domain_header.specs.declared.counts.HeaderCounts.{HeaderCounts}
 use Rattle.domain_message.specs.declared.section.Section.{Section}
 use Rattle.domain_message.specs.declared.section.Section.TheVariants.{Answer, Authority, Additional}
 use Rattle.domain_message_builder.specs.Contents.{blank_header, Content, RecordMay, Holds}
-use Rattle.domain_message_builder.specs.Places.{IsInOrder, place_of, places_after}
+use Rattle.domain_message_builder.specs.SectionStarts.{IsInOrder, start_of, starts_after}
 use Rattle.domain_message_builder.specs.Pushes.{emptied, CountsNone, Rewinds}
 use Rattle.domain_message_builder.specs.State.{State}
-use Rattle.domain_message_builder.specs.declared.places.Places.{Places}
+use Rattle.domain_message_builder.specs.declared.section_starts.SectionStarts.{SectionStarts}
 use Rattle.domain_message_builder.proofs.Composing.{composed_after}
-use Rattle.domain_message_builder.proofs.Ordering.{place_inside, ordered_before}
+use Rattle.domain_message_builder.proofs.Ordering.{start_inside, ordered_before}
 
 -- The octets before are those that were there.
 cut_at : (m u s : List ℕ) (n : ℕ) → n ≡ length u → m ≡ u ++ s → take n m ≡ u
@@ -34,10 +34,10 @@ after_questions c s it h =
     (this.0 ++ last.0, last.1 ∙ (ap (λ o. o ++ last.0) this.1 ∙ append_assoc h.after_questions this.0 last.0))
 
 emptied_holds : (section : Section) (c : Bool) (old : State) (counts : HeaderCounts) (it : Content) → CountsNone section old.counts counts → Holds c old it
-    → Holds c (record old { counts = counts; places = places_after section (place_of section old.places) old.places; octets = take (place_of section old.places) old.octets }) (emptied section it)
+    → Holds c (record old { counts = counts; starts = starts_after section (start_of section old.starts) old.starts; octets = take (start_of section old.starts) old.octets }) (emptied section it)
 emptied_holds Answer c old counts it counted h =
     let rest = after_questions c old it h in
-    let cut : take old.places.answer old.octets ≡ h.after_questions = cut_at old.octets h.after_questions rest.0 old.places.answer h.answers_begin rest.1 in
+    let cut : take old.starts.answer old.octets ≡ h.after_questions = cut_at old.octets h.after_questions rest.0 old.starts.answer h.answers_begin rest.1 in
     record {
       after_questions = h.after_questions;
       after_answers = h.after_questions;
@@ -56,7 +56,7 @@ emptied_holds Answer c old counts it counted h =
     }
 emptied_holds Authority c old counts it counted h =
     let rest = after_answers c old it h in
-    let cut : take old.places.authority old.octets ≡ h.after_answers = cut_at old.octets h.after_answers rest.0 old.places.authority h.authority_begin rest.1 in
+    let cut : take old.starts.authority old.octets ≡ h.after_answers = cut_at old.octets h.after_answers rest.0 old.starts.authority h.authority_begin rest.1 in
     record {
       after_questions = h.after_questions;
       after_answers = h.after_answers;
@@ -75,7 +75,7 @@ emptied_holds Authority c old counts it counted h =
     }
 emptied_holds Additional c old counts it counted h =
     let rest = after_authority c old it h in
-    let cut : take old.places.additional old.octets ≡ h.after_authority = cut_at old.octets h.after_authority rest.0 old.places.additional h.additional_begin rest.1 in
+    let cut : take old.starts.additional old.octets ≡ h.after_authority = cut_at old.octets h.after_authority rest.0 old.starts.additional h.additional_begin rest.1 in
     record {
       after_questions = h.after_questions;
       after_answers = h.after_answers;
@@ -94,30 +94,30 @@ emptied_holds Additional c old counts it counted h =
     }
 
 -- Records were taken away again.
-pub rewinds : (section : Section) (c : Bool) (old : State) (counts : HeaderCounts) (places : Places) (start : ℕ) (made : List ℕ) → CountsNone section old.counts counts → places ≡ places_after section start old.places → start ≡ place_of section old.places → made ≡ take start old.octets
-    → Rewinds c section old (record old { counts = counts; places = places; octets = made })
-rewinds section c old counts places start made counted at begins cut =
-    let back : made ≡ take (place_of section old.places) old.octets = cut ∙ ap (λ n. take n old.octets) begins in
-    let placed : places ≡ places_after section (place_of section old.places) old.places = at ∙ ap (λ n. places_after section n old.places) begins in
+pub rewinds : (section : Section) (c : Bool) (old : State) (counts : HeaderCounts) (starts : SectionStarts) (start : ℕ) (made : List ℕ) → CountsNone section old.counts counts → starts ≡ starts_after section start old.starts → start ≡ start_of section old.starts → made ≡ take start old.octets
+    → Rewinds c section old (record old { counts = counts; starts = starts; octets = made })
+rewinds section c old counts starts start made counted at begins cut =
+    let back : made ≡ take (start_of section old.starts) old.octets = cut ∙ ap (λ n. take n old.octets) begins in
+    let moved : starts ≡ starts_after section (start_of section old.starts) old.starts = at ∙ ap (λ n. starts_after section n old.starts) begins in
     record {
       octets = back;
       counts = counted;
       settings = record { header = refl; limit = refl; reserved = refl };
-      holds = λ it h. subst (λ p. Holds c (record old { counts = counts; places = p; octets = made }) (emptied section it)) (sym placed)
-          (subst (λ o. Holds c (record old { counts = counts; places = places_after section (place_of section old.places) old.places; octets = o }) (emptied section it)) (sym back) (emptied_holds section c old counts it counted h));
+      holds = λ it h. subst (λ p. Holds c (record old { counts = counts; starts = p; octets = made }) (emptied section it)) (sym moved)
+          (subst (λ o. Holds c (record old { counts = counts; starts = starts_after section (start_of section old.starts) old.starts; octets = o }) (emptied section it)) (sym back) (emptied_holds section c old counts it counted h));
     }
 
 -- What the ghost fields say then.
-pub rewound : (section : Section) (p : Places) (m : List ℕ) (reserved limit : ℕ) (places : Places) (start : ℕ) (made : List ℕ) → take 12 m ≡ blank_header → length m + reserved ≤ limit → IsInOrder p (length m)
-    → places ≡ places_after section start p → start ≡ place_of section p → made ≡ take start m → (take 12 made ≡ blank_header) × (length made + reserved ≤ limit) × IsInOrder places (length made)
-rewound section p m reserved limit places start made begun within ordered at begins cut =
-    let inside = place_inside section p (length m) ordered in
+pub rewound : (section : Section) (p : SectionStarts) (m : List ℕ) (reserved limit : ℕ) (starts : SectionStarts) (start : ℕ) (made : List ℕ) → take 12 m ≡ blank_header → length m + reserved ≤ limit → IsInOrder p (length m)
+    → starts ≡ starts_after section start p → start ≡ start_of section p → made ≡ take start m → (take 12 made ≡ blank_header) × (length made + reserved ≤ limit) × IsInOrder starts (length made)
+rewound section p m reserved limit starts start made begun within ordered at begins cut =
+    let inside = start_inside section p (length m) ordered in
     let low : 12 ≤ start = omega (arith, begins, inside.0) in
     let high : start ≤ length m = omega (arith, begins, inside.1) in
     let size : length made ≡ start = ap length cut ∙ length-take-le start m high in
-    let placed : places ≡ places_after section (place_of section p) p = at ∙ ap (λ n. places_after section n p) begins in
-    let whole : place_of section p ≡ length made = sym begins ∙ sym size in (
+    let moved : starts ≡ starts_after section (start_of section p) p = at ∙ ap (λ n. starts_after section n p) begins in
+    let whole : start_of section p ≡ length made = sym begins ∙ sym size in (
       ap (take 12) cut ∙ (take-take 12 start m low ∙ begun),
       omega (arith, within, size, high),
-      subst (λ x. IsInOrder x (length made)) (sym placed) (subst (λ n. IsInOrder (places_after section (place_of section p) p) n) whole (ordered_before section p (length m) ordered)),
+      subst (λ x. IsInOrder x (length made)) (sym moved) (subst (λ n. IsInOrder (starts_after section (start_of section p) p) n) whole (ordered_before section p (length m) ordered)),
     )

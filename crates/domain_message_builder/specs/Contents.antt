@@ -5,7 +5,7 @@ use Rattle.domain_message.specs.Composing.{QuestionOctets, RecordOctets}
 use Rattle.domain_message.specs.Entries.{QuestionFields}
 use Rattle.domain_header.specs.declared.counts.HeaderCounts.{HeaderCounts}
 use Rattle.domain_message_builder.specs.State.{State}
-use Rattle.domain_message_builder.specs.declared.places.Places.{Places}
+use Rattle.domain_message_builder.specs.declared.section_starts.SectionStarts.{SectionStarts}
 
 -- The octets that stand for the header until it is written. The two high bits of each are 10, which are reserved (RFC
 -- 1035, 4.1.4): neither the root, nor a label, nor a pointer is at any of them, so no name is read through them.
@@ -67,8 +67,8 @@ pub record RecordMay (compresses : Bool) (r : PushedRecord) (t s : List ℕ) : T
   pub octets : RecordsIn compresses r.head (λ before data_octets. data_octets ≡ r.rdata) t s
 
 -- These octets are a blank header and what was composed for this, these counts are the numbers of its entries, and its sections
--- begin at these places.
-pub record HoldsIn (compresses : Bool) (octets : List ℕ) (counts : HeaderCounts) (places : Places) (it : Content) : Type 0 where
+-- begin at these offsets.
+pub record HoldsIn (compresses : Bool) (octets : List ℕ) (counts : HeaderCounts) (starts : SectionStarts) (it : Content) : Type 0 where
   pub after_questions : List ℕ
   pub after_answers : List ℕ
   pub after_authority : List ℕ
@@ -76,9 +76,9 @@ pub record HoldsIn (compresses : Bool) (octets : List ℕ) (counts : HeaderCount
   pub answers : Composed (RecordMay compresses) after_questions it.answers after_answers
   pub authority : Composed (RecordMay compresses) after_answers it.authority after_authority
   pub additional : Composed (RecordMay compresses) after_authority it.additional octets
-  pub answers_begin : places.answer ≡ length after_questions
-  pub authority_begin : places.authority ≡ length after_answers
-  pub additional_begin : places.additional ≡ length after_authority
+  pub answers_begin : starts.answer ≡ length after_questions
+  pub authority_begin : starts.authority ≡ length after_answers
+  pub additional_begin : starts.additional ≡ length after_authority
   pub question_count : question_count counts ≡ length it.questions
   pub answer_count : answer_count counts ≡ length it.answers
   pub authority_count : authority_count counts ≡ length it.authority
@@ -86,4 +86,4 @@ pub record HoldsIn (compresses : Bool) (octets : List ℕ) (counts : HeaderCount
 
 -- The builder holds this, whatever its header and its limit are.
 abbrev pub Holds : Bool → State → Content → Type 0
-Holds compresses s it = HoldsIn compresses s.octets s.counts s.places it
+Holds compresses s it = HoldsIn compresses s.octets s.counts s.starts it

@@ -6,7 +6,7 @@ use Rattle.domain_message.specs.declared.section.Section.TheVariants.{Answer, Ad
 use Rattle.domain_message_builder.specs.Contents.{PushedRecord, Content, Holds}
 use Rattle.domain_message_builder.specs.Errors.{is_for_room}
 use Rattle.domain_message_builder.specs.Opt.{Opt, opt_head}
-use Rattle.domain_message_builder.specs.Places.{place_of}
+use Rattle.domain_message_builder.specs.SectionStarts.{start_of}
 use Rattle.domain_message_builder.specs.Pushes.{with_header, with_reserved, record_added, emptied, PushesRecord, Rewinds}
 use Rattle.domain_message_builder.specs.Reading.{IsMessageOf}
 use Rattle.domain_message_builder.specs.Refusals.{RecordRefused}
@@ -67,4 +67,4 @@ pub data EndsAnswer (compresses : Bool) (cut : Bool) (opt : Option Opt) (capacit
 -- alone.
 pub data NotEnded {A E : Type 0} (pushed : Result A (PushError E)) (opt : Option Opt) (capacity : ℕ) (s : State) (e : PushError E) : Type 0 where
   refused : pushed ≡ Err e → is_for_room e ≡ false → NotEnded pushed opt capacity s e
-  no_room : (o : Opt) → opt ≡ Some o → is_for_room e ≡ true → HasNoRoomFor o (place_of Answer s.places) capacity s.limit → NotEnded pushed opt capacity s e
+  no_room : (o : Opt) → opt ≡ Some o → is_for_room e ≡ true → HasNoRoomFor o (start_of Answer s.starts) capacity s.limit → NotEnded pushed opt capacity s e

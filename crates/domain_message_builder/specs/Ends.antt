@@ -4,7 +4,7 @@ use Rattle.domain_message.specs.declared.section.Section.TheVariants.{Answer}
 use Rattle.domain_message_builder.specs.Cuts.{PushesOpt, Truncates, CannotAddOpt, HasNoRoomFor, EndsHeader}
 use Rattle.domain_message_builder.specs.Errors.{is_for_room}
 use Rattle.domain_message_builder.specs.Opt.{Opt}
-use Rattle.domain_message_builder.specs.Places.{place_of}
+use Rattle.domain_message_builder.specs.SectionStarts.{start_of}
 use Rattle.domain_message_builder.specs.Pushes.{with_header}
 use Rattle.domain_message_builder.specs.State.{State}
 use Rattle.domain_message_builder.specs.declared.error.PushError.{PushError}
@@ -22,7 +22,7 @@ pub data KeepsOpt (compresses : Bool) (o : Opt) (capacity : ℕ) (old new : Stat
 -- It has no room even after the questions alone.
 pub record LosesOpt {E : Type 0} (o : Opt) (capacity : ℕ) (s : State) (e : PushError E) : Type 0 where
   pub for_room : is_for_room e ≡ true
-  pub no_room : HasNoRoomFor o (place_of Answer s.places) capacity s.limit
+  pub no_room : HasNoRoomFor o (start_of Answer s.starts) capacity s.limit
 
 -- The same of an OPT record, if there is one.
 abbrev pub KeepsOpts : Bool → Option Opt → ℕ → State → State → Type 0

@@ -6,10 +6,10 @@ pub mod Errors
 pub mod Laws
 pub mod Opt
 pub mod OptViews
-pub mod Places
 pub mod Pushes
 pub mod Reading
 pub mod Refusals
+pub mod SectionStarts
 pub mod State
 pub mod Streams
 pub mod Views

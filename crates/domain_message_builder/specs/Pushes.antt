@@ -14,7 +14,7 @@ use Rattle.domain_message.specs.declared.section.Section.TheVariants.{Answer, Au
 use Rattle.domain_rdata.specs.ReadBack.{Appended}
 use Rattle.domain_rdata.specs.Rtypes.{rtype_number}
 use Rattle.domain_message_builder.specs.Contents.{RecordHead, PushedRecord, Content, no_content, blank_header, question_added, AsksIn, RecordsIn, Holds}
-use Rattle.domain_message_builder.specs.Places.{place_of}
+use Rattle.domain_message_builder.specs.SectionStarts.{start_of}
 use Rattle.domain_message_builder.specs.State.{State}
 
 -- what a question says whose name has the labels that `labels` tells
@@ -118,7 +118,7 @@ pub record PushesRecord (compresses : Bool) (section : Section) (head : RecordHe
 
 -- The records of this section and those after it were taken away again.
 pub record Rewinds (compresses : Bool) (section : Section) (old new : State) : Type 0 where
-  pub octets : new.octets ≡ take (place_of section old.places) old.octets
+  pub octets : new.octets ≡ take (start_of section old.starts) old.octets
   pub counts : CountsNone section old.counts new.counts
   pub settings : SameSettings old new
   pub holds : (it : Content) → Holds compresses old it → Holds compresses new (emptied section it)

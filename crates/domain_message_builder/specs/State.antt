@@ -2,7 +2,7 @@
 use Rattle.std.specs.Prelude.{ℕ, List}
 use Rattle.domain_header.specs.declared.counts.HeaderCounts.{HeaderCounts}
 use Rattle.domain_header.specs.declared.flags.Header.{Header}
-use Rattle.domain_message_builder.specs.declared.places.Places.{Places}
+use Rattle.domain_message_builder.specs.declared.section_starts.SectionStarts.{SectionStarts}
 
 -- the identifier and the flags, how many octets the message has at most, how many of these are set aside, how many entries
 -- were pushed, where the sections begin, and the octets, the first twelve of which stand for the header
@@ -11,5 +11,5 @@ pub record State : Type 0 where
   pub limit : ℕ
   pub reserved : ℕ
   pub counts : HeaderCounts
-  pub places : Places
+  pub starts : SectionStarts
   pub octets : List ℕ

@@ -14,6 +14,6 @@ state_of octets b = record {
   limit = b.limit;
   reserved = b.reserved;
   counts = b.counts;
-  places = b.places;
+  starts = b.starts;
   octets = octets b.target;
 }

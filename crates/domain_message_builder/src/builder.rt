@@ -6,7 +6,7 @@ ghost use Rattle.domain_message.specs.RecordParts.{data_of};
 ghost use Rattle.domain_message.specs.LeftToTarget.{WritesQuestion, WritesRecord};
 ghost use Rattle.domain_message_builder.specs.Contents.{blank_header, Content, Holds};
 ghost use Rattle.domain_message_builder.specs.Errors.{is_early};
-ghost use Rattle.domain_message_builder.specs.Places.{IsInOrder};
+ghost use Rattle.domain_message_builder.specs.SectionStarts.{IsInOrder};
 ghost use Rattle.domain_message_builder.specs.Pushes.{asked, headed, PushesQuestion, PushesRecord, Rewinds, RewindsAll};
 ghost use Rattle.domain_message_builder.specs.Refusals.{NotBegun, QuestionRefused, RecordRefused};
 ghost use Rattle.domain_message_builder.specs.Reading.{IsMessageOf};
@@ -17,7 +17,7 @@ use crate::counting::{
     with_question, with_record, without_records,
 };
 use crate::error::{PushError, StartError};
-use crate::places::Places;
+use crate::section_starts::SectionStarts;
 use domain_header::{Header, HeaderCounts, HeaderSection};
 use domain_list::AbsoluteLabels;
 use domain_message::{Question, Record, Section};
@@ -36,12 +36,12 @@ pub struct MessageBuilder<Target: Composer> {
     target: Target,
     header: Header,
     counts: HeaderCounts,
-    places: Places,
+    starts: SectionStarts,
     limit: u16,
     reserved: u16,
     ghost begun: { take 12 (Target.octets target) ≡ blank_header } by { Prim.hlevel props },
     ghost within: { length (Target.octets target) + reserved ≤ limit },
-    ghost ordered: { IsInOrder places (length (Target.octets target)) } by { Prim.hlevel props },
+    ghost ordered: { IsInOrder starts (length (Target.octets target)) } by { Prim.hlevel props },
 }
 
 impl<Target: Composer + Drop> MessageBuilder<Target> {
@@ -93,7 +93,7 @@ impl<Target: Composer + Drop> MessageBuilder<Target> {
             target,
             header: Header::new(),
             counts: HeaderCounts::new(),
-            places: Places::at(12),
+            starts: SectionStarts::at(12),
             limit,
             reserved: 0,
         })
@@ -214,7 +214,7 @@ impl<Target: Composer> MessageBuilder<Target> {
             return Err(e);
         }
         self.counts = counted;
-        self.places = Places::at(self.target.as_slice().len());
+        self.starts = SectionStarts::at(self.target.as_slice().len());
         Ok(())
     }
 
@@ -306,7 +306,7 @@ impl<Target: Composer> MessageBuilder<Target> {
         }
         self.counts = recorded;
         self.reserved = kept;
-        self.places = self.places.after(section, self.target.as_slice().len());
+        self.starts = self.starts.after(section, self.target.as_slice().len());
         Ok(())
     }
 
@@ -317,9 +317,9 @@ impl<Target: Composer> MessageBuilder<Target> {
         ensures capacity { Target.capacity (target_of self.new)
             ≡ Target.capacity (target_of self.old) }
     {
-        let start = self.places.of(section);
+        let start = self.starts.of(section);
         self.counts = without_records(section, self.counts);
-        self.places = self.places.after(section, start);
+        self.starts = self.starts.after(section, start);
         self.target.truncate(start);
     }
 
@@ -331,7 +331,7 @@ impl<Target: Composer> MessageBuilder<Target> {
             ≡ Target.capacity (target_of self.old) }
     {
         self.counts = HeaderCounts::new();
-        self.places = Places::at(12);
+        self.starts = SectionStarts::at(12);
         self.target.truncate(12);
     }
 

@@ -8,7 +8,7 @@ mod counting;
 pub mod error;
 pub mod laws;
 pub mod opt;
-pub mod places;
+pub mod section_starts;
 mod stream;
 mod truncating;
 

@@ -13,7 +13,7 @@ ghost use Rattle.domain_flat.specs.FlatLabels.{name_error_kind, flat_labels_left
 ghost use Rattle.domain_list.specs.Ends.{StartsWith, EndsWith};
 
 use crate::relative::RelativeName;
-use crate::strip::suffix_place;
+use crate::strip::suffix_offset;
 use crate::suffixes::SuffixIter;
 use arrayvec::ArrayVec;
 use domain_flat::{
@@ -417,7 +417,7 @@ impl<Octs: Truncate> Name<Octs> {
             (λ rest. IsStripped (name_labels self) (N.labels base.now) (relative_labels rest)) }
         ensures err { IfErr result (λ name. name ≡ self) }
     {
-        match suffix_place(self.octets.as_slice(), base) {
+        match suffix_offset(self.octets.as_slice(), base) {
             Some(offset) => Ok(self.truncate(offset)),
             None => Err(self),
         }

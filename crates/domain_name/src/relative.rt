@@ -12,7 +12,7 @@ ghost use Rattle.domain_list.specs.Chains.{before_root};
 ghost use Rattle.domain_list.specs.Ends.{StartsWith, EndsWith};
 
 use crate::absolute::Name;
-use crate::strip::{StripSuffixError, suffix_place};
+use crate::strip::{StripSuffixError, suffix_offset};
 use arrayvec::ArrayVec;
 use domain_flat::{NameIter, RelativeNameError, check_relative, is_label_end, make_lowercase};
 use domain_label::Label;
@@ -375,7 +375,7 @@ impl<Octs: Truncate> RelativeName<Octs> {
             (IsStripped (relative_labels self.old) (N.labels base.now) (relative_labels self.new)) }
         ensures unchanged { OnErr result (self.new ≡ self.old) }
     {
-        let Some(offset) = suffix_place(self.octets.as_slice(), base) else {
+        let Some(offset) = suffix_offset(self.octets.as_slice(), base) else {
             return Err(StripSuffixError);
         };
         self.truncate(offset);

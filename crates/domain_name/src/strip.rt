@@ -26,7 +26,7 @@ impl Error for StripSuffixError {}
 
 /// The offset in a wire format where its last labels begin, which are those of another one ignoring ASCII case.
 /// `None` where it doesn't end with them.
-fn place_of(octets: &[u8], suffix: &[u8]) -> Option<usize>
+fn offset_of_suffix(octets: &[u8], suffix: &[u8]) -> Option<usize>
     requires whole { IsWire octets.now }
     requires part { IsWire suffix.now }
     ensures exact { IsSome result ↔ EndsWith (labels_in octets.now) (labels_in suffix.now) }
@@ -47,16 +47,16 @@ fn place_of(octets: &[u8], suffix: &[u8]) -> Option<usize>
 
 /// The offset in a wire format where its last labels begin, which are those of `base` ignoring ASCII case. `None`
 /// where the name doesn't end with them.
-pub(crate) fn suffix_place<'a, N: ToLabelIter<'a>>(octets: &[u8], base: &'a N) -> Option<usize>
+pub(crate) fn suffix_offset<'a, N: ToLabelIter<'a>>(octets: &[u8], base: &'a N) -> Option<usize>
     requires { IsWire octets.now }
     ensures exact { IsSome result ↔ EndsWith (labels_in octets.now) (N.labels base.now) }
     ensures offset { IfSome result
         (λ offset. offset + length (wire (N.labels base.now)) ≡ length octets.now) }
 {
     if let Some(suffix) = base.as_flat_slice() {
-        return place_of(octets, suffix);
+        return offset_of_suffix(octets, suffix);
     }
     let mut suffix = [0; 255];
     let len = put_name(base, &mut suffix);
-    place_of(octets, &suffix[..len])
+    offset_of_suffix(octets, &suffix[..len])
 }

@@ -9,7 +9,7 @@ use Rattle.domain_parsed.proofs.Parents.{Rest, rest_of, flat_rest, flat_inside, 
 pub record Dropped (o : List ℕ) (base : ℕ) (entries : List ℕ) (dropped count dropped_len n : ℕ) (compressed : Bool) : Type 0 where
   pub offset : ℕ
   pub label : List ℕ
-  pub is_place : offset ≡ entry_offset base (slice_index entries dropped)
+  pub is_entry : offset ≡ entry_offset base (slice_index entries dropped)
   pub is_label : label ≡ label_at o offset
   pub here : IsLabelOffset o offset
   pub head : slice_index o offset ≡ length label
@@ -35,7 +35,7 @@ drop_first o base entries dropped count dropped_len n compressed some few stand 
     record {
       offset = p;
       label = l;
-      is_place = refl;
+      is_entry = refl;
       is_label = refl;
       here = t.here;
       head = sym (slice_length o p (slice_index o p) t.here.1);

@@ -13,7 +13,7 @@ use Rattle.domain_label.proofs.WireLaws.{length-wire_append}
 use Rattle.domain_reading.proofs.NameOrFault.{walk_reads}
 use Rattle.domain_reading.specs.Progress.{noted, table_noted, entry_of}
 use Rattle.domain_reading.specs.Offsets.{labels_at_entries, AreLabelOffsets}
-use Rattle.domain_reading.proofs.LabelsOfTable.{note, root_place, place_next}
+use Rattle.domain_reading.proofs.LabelsOfTable.{note, root_offset, next_near}
 use Rattle.domain_reading.proofs.WhileReading.{Going, Goes, leads_base}
 use Rattle.domain_reading.proofs.LabelsAt.{flat_wire}
 
@@ -36,8 +36,8 @@ name_read {n} {m} {p} {w} {es} before heads now g x count =
     let going = g.1 in
     let r : Reads m p (w.pointers + 0) (fs ++ Root) = walk_reads going.walk (root x) in
     let len : length (wire (fs ++ Root)) ≡ w.len + 1 = omega (arith, length-wire_append fs Root, going.len) in
-    let offset = root_place m w.at x in
-    let t = note (entry_of w) going.noted (place_next w.base w.at w.len w.compressed going.short going.near_at) offset.0 offset.1 (omega (arith, going.noted.count, going.few_labels, going.short)) in
+    let offset = root_offset m w.at x in
+    let t = note (entry_of w) going.noted (next_near w.base w.at w.len w.compressed going.short going.near_at) offset.0 offset.1 (omega (arith, going.noted.count, going.few_labels, going.short)) in
     let all : take (w.count + 1) (set es w.count (entry_of w)) ≡ slice_range (set es w.count (entry_of w)) 0 (w.count + 1) = grind (arith, common_steps) in
     record {
       labels = fs ++ Root;

@@ -44,8 +44,8 @@ stand_last m base e (x ∷ xs) a =
 
 -- ---- a message with more octets after it
 
-place_more : (m u : List ℕ) (p : ℕ) → IsLabelOffset m p → IsLabelOffset (m ++ u) p × (label_at (m ++ u) p ≡ label_at m p)
-place_more m u p h =
+offset_more : (m u : List ℕ) (p : ℕ) → IsLabelOffset m p → IsLabelOffset (m ++ u) p × (label_at (m ++ u) p ≡ label_at m p)
+offset_more m u p h =
     let head : slice_index (m ++ u) p ≡ slice_index m p = grind (arith, common_steps) in
     rw head ((h.0, omega (arith, h.1, length-append m u)), grind (arith, common_steps))
 
@@ -56,7 +56,7 @@ pub record More (m u : List ℕ) (base : ℕ) (es : List ℕ) : Type 0 where
 pub more_stand : (m u : List ℕ) (base : ℕ) (es : List ℕ) → AreLabelOffsets m base es → More m u base es
 more_stand m u base [] a = record { stand = All-nil _; same = labels_none (m ++ u) base ∙ sym (labels_none m base) }
 more_stand m u base (e ∷ es) a =
-    let first = place_more m u (entry_offset base e) (stand_first m base e es a) in
+    let first = offset_more m u (entry_offset base e) (stand_first m base e es a) in
     let rest = more_stand m u base es (stand_rest m base e es a) in
     record {
       stand = All-cons (λ e. IsLabelOffset (m ++ u) (entry_offset base e)) e es first.0 rest.stand;
@@ -65,19 +65,19 @@ more_stand m u base (e ∷ es) a =
 
 -- ---- what stands at an offset
 
-pub label_place : (m l : List ℕ) (p : ℕ) → LabelAt m p l → IsLabelOffset m p × (label_at m p ≡ l)
-label_place m l p x = rw x.head ((x.short, x.inside), x.octets)
+pub label_offset : (m l : List ℕ) (p : ℕ) → LabelAt m p l → IsLabelOffset m p × (label_at m p ≡ l)
+label_offset m l p x = rw x.head ((x.short, x.inside), x.octets)
 
-pub root_place : (m : List ℕ) (p : ℕ) → OctetAt m p 0 → IsLabelOffset m p × (label_at m p ≡ [])
-root_place m p x = rw x.octet ((omega arith, omega (arith, x.inside)), grind (arith, common_steps))
+pub root_offset : (m : List ℕ) (p : ℕ) → OctetAt m p 0 → IsLabelOffset m p × (label_at m p ≡ [])
+root_offset m p x = rw x.octet ((omega arith, omega (arith, x.inside)), grind (arith, common_steps))
 
 -- ---- one entry more
 
-pub place_next : (base at len : ℕ) (compressed : Bool) → len ≤ 254 → (compressed ≡ false → at ≡ base + len) → entry_offset base (cond compressed (at + 32768) len) ≡ at
-place_next base at len false few near =
+pub next_near : (base at len : ℕ) (compressed : Bool) → len ≤ 254 → (compressed ≡ false → at ≡ base + len) → entry_offset base (cond compressed (at + 32768) len) ≡ at
+next_near base at len false few near =
     let low : nat_lt len 32768 ≡ true = grind (arith, nat_tests) in
     rw low (sym (near refl))
-place_next base at len true few near =
+next_near base at len true few near =
     let high : nat_lt (at + 32768) 32768 ≡ false = grind (arith, nat_tests) in
     rw high (omega arith)
 

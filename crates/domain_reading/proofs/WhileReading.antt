@@ -13,7 +13,7 @@ use Rattle.domain_reading.specs.Grammar.Stop.{pointer}
 use Rattle.domain_reading.specs.Progress.{beginning, entry_of, table_noted, label_passed, pointer_followed}
 use Rattle.domain_reading.specs.declared.progress.Progress.{Progress}
 use Rattle.domain_label.proofs.WireLaws.{length-wire_append, nil_from_wire}
-use Rattle.domain_reading.proofs.LabelsOfTable.{Noted, note, no_label, label_place, place_next}
+use Rattle.domain_reading.proofs.LabelsOfTable.{Noted, note, no_label, label_offset, next_near}
 
 -- pointers alone lead from p to b, each one back
 pub data Leads (m : List ℕ) (p : ℕ) : ℕ → Type 0 where
@@ -98,7 +98,7 @@ going_label {m = m} {p} {w} {es} {fs} {l} g x short = record {
   ];
   front = match_none _ w.end (λ a. flat_label fs p a x) g.front;
   flat = λ h. flat_label fs w.base (g.flat h) x;
-  noted = let p = label_place m l w.at x in note (entry_of w) g.noted (place_next w.base w.at w.len w.compressed g.short g.near_at) p.0 p.1 (omega (arith, g.noted.count, g.few_labels, g.short));
+  noted = let p = label_offset m l w.at x in note (entry_of w) g.noted (next_near w.base w.at w.len w.compressed g.short g.near_at) p.0 p.1 (omega (arith, g.noted.count, g.few_labels, g.short));
   near_at = λ h. omega (arith, g.near_at h);
   far_at = λ h. omega (arith, g.far_at h);
   is_compressed = g.is_compressed;

@@ -10,5 +10,5 @@ returns-clause-message g c it holds =
     let m = g.Target.Octets.octets c.args.self.target in
     let written = written_so c.new-section.result header counts c.write.new.message c.as_slice_mut.result.now m c.in_default.ensures.ok c.new-section.ensures.header c.new-section.ensures.counts c.as_slice_mut.ensures.value in
     let size = written_size header counts m c.write.new.message c.args.self.begun written in
-    let made = finished g.Target.Composer.compresses (record { header = header; limit = c.args.self.limit; reserved = c.args.self.reserved; counts = counts; places = c.args.self.places; octets = m }) it c.write.new.message c.header_fits.ensures c.counts_fit.ensures.questions c.counts_fit.ensures.answers c.counts_fit.ensures.authority c.counts_fit.ensures.additional holds written in
+    let made = finished g.Target.Composer.compresses (record { header = header; limit = c.args.self.limit; reserved = c.args.self.reserved; counts = counts; starts = c.args.self.starts; octets = m }) it c.write.new.message c.header_fits.ensures c.counts_fit.ensures.questions c.counts_fit.ensures.answers c.counts_fit.ensures.authority c.counts_fit.ensures.additional holds written in
     subst (λ o. IsMessageOf header it o) (sym (g.met.Target.OctetsMut.written c.args.self.target c.write.new.message size)) made

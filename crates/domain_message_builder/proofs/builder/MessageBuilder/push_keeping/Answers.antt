@@ -8,7 +8,7 @@ pub invariant_of-self-2 : goal.invariant_of-self-2
 invariant_of-self-2 g c = record {
   begun = begun_after _ _ c.in_default.ensures.ok.octets c.args.self.now.begun c.in_default.ensures.ok.all;
   within = omega (arith, c.in_default.ensures.within, c.args.self.now.within, c.requires);
-  ordered = ordered_pushed c.args.section c.args.self.now.places _ _ _ _ c.after-self.ensures (search rules) (grows _ _ c.in_default.ensures.ok.octets c.in_default.ensures.ok.all) c.args.self.now.ordered;
+  ordered = ordered_pushed c.args.section c.args.self.now.starts _ _ _ _ c.after-self.ensures (search rules) (grows _ _ c.in_default.ensures.ok.octets c.in_default.ensures.ok.all) c.args.self.now.ordered;
 }
 
 pub returns-clause-ok : goal.returns-clause-ok

@@ -3,8 +3,8 @@ use Rattle.domain_label.proofs.WireLaws.{absolute_wire}
 use Rattle.domain_name.proofs.Stripping.{absolute_suffix_begins, stripped}
 use Rattle.domain_name.proofs.absolute.Name.strip_suffix.Goals as goal
 
-pub suffix_place-requires : goal.suffix_place-requires
-suffix_place-requires g c κs = ((refl, tt), rw c.as_slice.ensures.octets (absolute_wire c.args.self.absolute))
+pub suffix_offset-requires : goal.suffix_offset-requires
+suffix_offset-requires g c κs = ((refl, tt), rw c.as_slice.ensures.octets (absolute_wire c.args.self.absolute))
 
 pub truncate-requires : goal.truncate-requires
 truncate-requires g c =

@@ -3,8 +3,8 @@ use Rattle.domain_label.proofs.WireLaws.{relative_wire}
 use Rattle.domain_name.proofs.Stripping.{suffix_begins, stripped}
 use Rattle.domain_name.proofs.relative.RelativeName.strip_suffix.Goals as goal
 
-pub suffix_place-requires : goal.suffix_place-requires
-suffix_place-requires g c κs = ((refl, tt), rw c.as_slice.ensures.octets (relative_wire c.args.self.now.relative))
+pub suffix_offset-requires : goal.suffix_offset-requires
+suffix_offset-requires g c κs = ((refl, tt), rw c.as_slice.ensures.octets (relative_wire c.args.self.now.relative))
 
 pub truncate-requires : goal.truncate-requires
 truncate-requires g c =

@@ -12,14 +12,14 @@ entry_offset-start-requires g c =
     let o = g.Octs.Octets.octets s.octets in
     let d = drop_first o s.base s.entries s.dropped s.count s.dropped_len s.name_len s.compressed s.has_label (omega arith) s.labels_stand s.absolute s.is_sized s.contiguous (not_so c.is_root.ensures c.if-is_root.false) in
     let e = ap (λ xs. length xs) c.as_slice-octets.ensures.octets in
-    rw c.from.ensures (omega (arith, d.here, d.is_place, e))
+    rw c.from.ensures (omega (arith, d.here, d.is_entry, e))
 
 pub label_at_offset-requires : goal.label_at_offset-requires
 label_at_offset-requires g c =
     let s = c.args.self.now in
     let o = g.Octs.Octets.octets s.octets in
     let d = drop_first o s.base s.entries s.dropped s.count s.dropped_len s.name_len s.compressed s.has_label (omega arith) s.labels_stand s.absolute s.is_sized s.contiguous (not_so c.is_root.ensures c.if-is_root.false) in
-    let here : c.entry_offset-start.result ≡ d.offset = c.entry_offset-start.ensures ∙ (ap (λ i. entry_offset s.base (slice_index s.entries i)) c.from.ensures ∙ sym d.is_place) in
+    let here : c.entry_offset-start.result ≡ d.offset = c.entry_offset-start.ensures ∙ (ap (λ i. entry_offset s.base (slice_index s.entries i)) c.from.ensures ∙ sym d.is_entry) in
     rw (c.as_slice-octets.ensures.octets, here) d.here
 
 pub overflow_sub-self : goal.overflow_sub-self
@@ -27,7 +27,7 @@ overflow_sub-self g c =
     let s = c.args.self.now in
     let o = g.Octs.Octets.octets s.octets in
     let d = drop_first o s.base s.entries s.dropped s.count s.dropped_len s.name_len s.compressed s.has_label (omega arith) s.labels_stand s.absolute s.is_sized s.contiguous (not_so c.is_root.ensures c.if-is_root.false) in
-    let here : c.entry_offset-start.result ≡ d.offset = c.entry_offset-start.ensures ∙ (ap (λ i. entry_offset s.base (slice_index s.entries i)) c.from.ensures ∙ sym d.is_place) in
+    let here : c.entry_offset-start.result ≡ d.offset = c.entry_offset-start.ensures ∙ (ap (λ i. entry_offset s.base (slice_index s.entries i)) c.from.ensures ∙ sym d.is_entry) in
     let label : label_octets c.label_at_offset.result ≡ d.label = c.label_at_offset.ensures ∙ (ap (λ m. label_at m c.entry_offset-start.result) c.as_slice-octets.ensures.octets ∙ (ap (λ p. label_at o p) here ∙ sym d.is_label)) in
     omega (arith, c.len.ensures, ap (λ l. length l) label, d.rest.fits)
 
@@ -36,7 +36,7 @@ overflow_add-result g c =
     let s = c.args.self.now in
     let o = g.Octs.Octets.octets s.octets in
     let d = drop_first o s.base s.entries s.dropped s.count s.dropped_len s.name_len s.compressed s.has_label (omega arith) s.labels_stand s.absolute s.is_sized s.contiguous (not_so c.is_root.ensures c.if-is_root.false) in
-    let here : c.entry_offset-start.result ≡ d.offset = c.entry_offset-start.ensures ∙ (ap (λ i. entry_offset s.base (slice_index s.entries i)) c.from.ensures ∙ sym d.is_place) in
+    let here : c.entry_offset-start.result ≡ d.offset = c.entry_offset-start.ensures ∙ (ap (λ i. entry_offset s.base (slice_index s.entries i)) c.from.ensures ∙ sym d.is_entry) in
     let label : label_octets c.label_at_offset.result ≡ d.label = c.label_at_offset.ensures ∙ (ap (λ m. label_at m c.entry_offset-start.result) c.as_slice-octets.ensures.octets ∙ (ap (λ p. label_at o p) here ∙ sym d.is_label)) in
     omega (arith, c.len.ensures, ap (λ l. length l) label, d.here, d.head, here, ap (λ xs. length xs) c.as_slice-octets.ensures.octets, c.from-2.ensures)
 
@@ -66,7 +66,7 @@ invariant_of-self-clause-is_sized g c =
     let s = c.args.self.now in
     let o = g.Octs.Octets.octets s.octets in
     let d = drop_first o s.base s.entries s.dropped s.count s.dropped_len s.name_len s.compressed s.has_label (omega arith) s.labels_stand s.absolute s.is_sized s.contiguous (not_so c.is_root.ensures c.if-is_root.false) in
-    let here : c.entry_offset-start.result ≡ d.offset = c.entry_offset-start.ensures ∙ (ap (λ i. entry_offset s.base (slice_index s.entries i)) c.from.ensures ∙ sym d.is_place) in
+    let here : c.entry_offset-start.result ≡ d.offset = c.entry_offset-start.ensures ∙ (ap (λ i. entry_offset s.base (slice_index s.entries i)) c.from.ensures ∙ sym d.is_entry) in
     let label : label_octets c.label_at_offset.result ≡ d.label = c.label_at_offset.ensures ∙ (ap (λ m. label_at m c.entry_offset-start.result) c.as_slice-octets.ensures.octets ∙ (ap (λ p. label_at o p) here ∙ sym d.is_label)) in
     let len : c.len.result ≡ length d.label = c.len.ensures ∙ ap (λ l. length l) label in
     rw len d.rest.sized
@@ -76,7 +76,7 @@ invariant_of-self-clause-short g c =
     let s = c.args.self.now in
     let o = g.Octs.Octets.octets s.octets in
     let d = drop_first o s.base s.entries s.dropped s.count s.dropped_len s.name_len s.compressed s.has_label (omega arith) s.labels_stand s.absolute s.is_sized s.contiguous (not_so c.is_root.ensures c.if-is_root.false) in
-    let here : c.entry_offset-start.result ≡ d.offset = c.entry_offset-start.ensures ∙ (ap (λ i. entry_offset s.base (slice_index s.entries i)) c.from.ensures ∙ sym d.is_place) in
+    let here : c.entry_offset-start.result ≡ d.offset = c.entry_offset-start.ensures ∙ (ap (λ i. entry_offset s.base (slice_index s.entries i)) c.from.ensures ∙ sym d.is_entry) in
     let label : label_octets c.label_at_offset.result ≡ d.label = c.label_at_offset.ensures ∙ (ap (λ m. label_at m c.entry_offset-start.result) c.as_slice-octets.ensures.octets ∙ (ap (λ p. label_at o p) here ∙ sym d.is_label)) in
     let len : c.len.result ≡ length d.label = c.len.ensures ∙ ap (λ l. length l) label in
     rw len (omega (arith, s.short, d.rest.fits))
@@ -86,7 +86,7 @@ invariant_of-self-clause-contiguous g c =
     let s = c.args.self.now in
     let o = g.Octs.Octets.octets s.octets in
     let d = drop_first o s.base s.entries s.dropped s.count s.dropped_len s.name_len s.compressed s.has_label (omega arith) s.labels_stand s.absolute s.is_sized s.contiguous (not_so c.is_root.ensures c.if-is_root.false) in
-    let here : c.entry_offset-start.result ≡ d.offset = c.entry_offset-start.ensures ∙ (ap (λ i. entry_offset s.base (slice_index s.entries i)) c.from.ensures ∙ sym d.is_place) in
+    let here : c.entry_offset-start.result ≡ d.offset = c.entry_offset-start.ensures ∙ (ap (λ i. entry_offset s.base (slice_index s.entries i)) c.from.ensures ∙ sym d.is_entry) in
     let label : label_octets c.label_at_offset.result ≡ d.label = c.label_at_offset.ensures ∙ (ap (λ m. label_at m c.entry_offset-start.result) c.as_slice-octets.ensures.octets ∙ (ap (λ p. label_at o p) here ∙ sym d.is_label)) in
     let len : c.len.result ≡ length d.label = c.len.ensures ∙ ap (λ l. length l) label in
     rw len d.flat
@@ -96,7 +96,7 @@ returns-clause-some g c =
     let s = c.args.self.now in
     let o = g.Octs.Octets.octets s.octets in
     let d = drop_first o s.base s.entries s.dropped s.count s.dropped_len s.name_len s.compressed s.has_label (omega arith) s.labels_stand s.absolute s.is_sized s.contiguous (not_so c.is_root.ensures c.if-is_root.false) in
-    let here : c.entry_offset-start.result ≡ d.offset = c.entry_offset-start.ensures ∙ (ap (λ i. entry_offset s.base (slice_index s.entries i)) c.from.ensures ∙ sym d.is_place) in
+    let here : c.entry_offset-start.result ≡ d.offset = c.entry_offset-start.ensures ∙ (ap (λ i. entry_offset s.base (slice_index s.entries i)) c.from.ensures ∙ sym d.is_entry) in
     let label : label_octets c.label_at_offset.result ≡ d.label = c.label_at_offset.ensures ∙ (ap (λ m. label_at m c.entry_offset-start.result) c.as_slice-octets.ensures.octets ∙ (ap (λ p. label_at o p) here ∙ sym d.is_label)) in
     let len : c.from-2.result ≡ length d.label + 1 = omega (arith, c.from-2.ensures, c.len.ensures, ap (λ l. length l) label) in
     let t = standing o d.label d.offset c.from-2.result d.here d.head (sym d.is_label) len in

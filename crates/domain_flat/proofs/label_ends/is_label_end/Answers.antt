@@ -1,8 +1,8 @@
 use Rattle.std.proofs.Common.{inl, inr}
 use Rattle.domain_flat.proofs.LabelBounds.{seam_next}
 use Rattle.domain_flat.proofs.Splits.{step_stays, walk_tells}
-use Rattle.domain_flat.proofs.places.is_label_end.Goals.{then-loop-start-test+else-start-octets, else-loop-start-test}
-use Rattle.domain_flat.proofs.places.is_label_end.Goals as goal
+use Rattle.domain_flat.proofs.label_ends.is_label_end.Goals.{then-loop-start-test+else-start-octets, else-loop-start-test}
+use Rattle.domain_flat.proofs.label_ends.is_label_end.Goals as goal
 
 pub loop-start-preserved : goal.loop-start-preserved
 loop-start-preserved c =

@@ -3,7 +3,7 @@ use Rattle.domain_label.specs.Lowercase.{lowercase}
 use Rattle.domain_label.specs.Wire.{labels_in}
 use Rattle.domain_label.proofs.ComparedOctets.{sliced_end}
 use Rattle.domain_name.proofs.Stripping.{octets_size, suffix_fits, suffix_begins, suffix_same, same_suffix}
-use Rattle.domain_name.proofs.strip.place_of.Goals as goal
+use Rattle.domain_name.proofs.strip.offset_of_suffix.Goals as goal
 
 pub returns-then-octets-suffix-clause-exact : goal.returns-then-octets-suffix-clause-exact
 returns-then-octets-suffix-clause-exact c =

@@ -1,23 +1,23 @@
 //! Where the sections of records begin.
 ghost use Rattle.std.specs.Prelude.{◌≡◌};
-ghost use Rattle.domain_message_builder.specs.Places.{all_at, places_after, place_of};
+ghost use Rattle.domain_message_builder.specs.SectionStarts.{all_at, starts_after, start_of};
 
 use domain_message::Section;
 
 /// The offsets at which the sections of records begin.
 #[derive(Clone, Copy, Debug)]
-pub struct Places {
+pub struct SectionStarts {
     answer: usize,
     authority: usize,
     additional: usize,
 }
 
-impl Places {
+impl SectionStarts {
     /// Each section begins here: no record is before.
-    pub(crate) fn at(offset: usize) -> Places
+    pub(crate) fn at(offset: usize) -> SectionStarts
         ensures { result ≡ all_at offset }
     {
-        Places {
+        SectionStarts {
             answer: offset,
             authority: offset,
             additional: offset,
@@ -26,7 +26,7 @@ impl Places {
 
     /// Where a section begins.
     pub(crate) fn of(self, section: Section) -> usize
-        ensures { result ≡ place_of section self }
+        ensures { result ≡ start_of section self }
     {
         match section {
             Section::Answer => self.answer,
@@ -36,16 +36,16 @@ impl Places {
     }
 
     /// Those after a record of this section was pushed, which ends at this offset.
-    pub(crate) fn after(self, section: Section, end: usize) -> Places
-        ensures { result ≡ places_after section end self }
+    pub(crate) fn after(self, section: Section, end: usize) -> SectionStarts
+        ensures { result ≡ starts_after section end self }
     {
         match section {
-            Section::Answer => Places {
+            Section::Answer => SectionStarts {
                 answer: self.answer,
                 authority: end,
                 additional: end,
             },
-            Section::Authority => Places {
+            Section::Authority => SectionStarts {
                 answer: self.answer,
                 authority: self.authority,
                 additional: end,

@@ -2,7 +2,7 @@ use Rattle.std.proofs.Common.{◌≤◌, ◌-◌, length}
 use Rattle.domain_label.specs.Wire.{labels_in}
 use Rattle.domain_flat.specs.Flat.{IsLabelEnd}
 use Rattle.domain_flat.proofs.LabelBounds.{IsSeam}
-use Rattle.domain_flat.proofs.places.is_label_end.Given as goal
+use Rattle.domain_flat.proofs.label_ends.is_label_end.Given as goal
 
 abbrev pub invariant-loop-start : goal.invariant-loop-start
 invariant-loop-start l = record {
