@@ -452,6 +452,7 @@ where
 
 impl LabelsBuilder<Vec<u8>> {
     /// The same over new octets. `ShortBuf` only where memory was refused, which a copy of nothing doesn't need.
+    #[tactic(auto, using(crate::proofs::Building::size_shown))]
     pub fn clone(&self, alloc: Global) -> Result<Self, ShortBuf>
         ensures built { IfOk result (λ copy. copy.built ≡ self.now.built) }
         ensures err { OnErr result (0 < size self.now.built) }

@@ -3,6 +3,7 @@ pub mod Contents
 pub mod Cuts
 pub mod Ends
 pub mod Errors
+pub mod Finished
 pub mod Laws
 pub mod Opt
 pub mod OptViews

@@ -1,11 +1,11 @@
 //! A builder of messages.
 ghost use Rattle.std.specs.Prelude.{◌≡◌, ◌≤◌, ◌<◌, ◌+◌, ◌↔◌, ◌++◌, true, length, take, drop, IfOk, IfErr, IsErr, OnOk, OnErr};
 ghost use Rattle.std.proofs.Props.{props};
-ghost use Rattle.domain_header.specs.Headers.{header_octets, counts_octets};
 ghost use Rattle.domain_message.specs.RecordParts.{data_of};
 ghost use Rattle.domain_message.specs.LeftToTarget.{WritesQuestion, WritesRecord};
 ghost use Rattle.domain_message_builder.specs.Contents.{blank_header, Content, Holds};
 ghost use Rattle.domain_message_builder.specs.Errors.{is_early};
+ghost use Rattle.domain_message_builder.specs.Finished.{finished_octets};
 ghost use Rattle.domain_message_builder.specs.SectionStarts.{IsInOrder};
 ghost use Rattle.domain_message_builder.specs.Pushes.{asked, headed, PushesQuestion, PushesRecord, Rewinds, RewindsAll};
 ghost use Rattle.domain_message_builder.specs.Refusals.{NotBegun, QuestionRefused, RecordRefused};
@@ -339,11 +339,7 @@ impl<Target: Composer> MessageBuilder<Target> {
     pub fn finish(self) -> Target
         ensures message { (it : Content) → Holds Target.compresses (state_of Target.octets self) it
             → IsMessageOf (state_of Target.octets self).header it (Target.octets result) }
-        ensures head { take 12 (Target.octets result)
-            ≡ header_octets (state_of Target.octets self).header
-            ++ counts_octets (state_of Target.octets self).counts }
-        ensures rest { drop 12 (Target.octets result) ≡ drop 12 (Target.octets (target_of self)) }
-        ensures size { length (Target.octets result) ≡ length (Target.octets (target_of self)) }
+        ensures octets { Target.octets result ≡ finished_octets (state_of Target.octets self) }
         ensures within { length (Target.octets result) ≤ (state_of Target.octets self).limit }
     {
         let MessageBuilder {

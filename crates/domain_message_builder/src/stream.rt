@@ -1,6 +1,7 @@
 //! Messages in a stream (RFC 1035, 4.2.2).
 ghost use Rattle.std.specs.Prelude.{◌≡◌, ◌≤◌, ◌<◌, ◌+◌, ◌++◌, length, IfOk, OnOk, OnErr};
 ghost use Rattle.domain_message_builder.specs.Contents.{Content, Holds};
+ghost use Rattle.domain_message_builder.specs.Finished.{finished_octets};
 ghost use Rattle.domain_message_builder.specs.Reading.{IsMessageOf};
 ghost use Rattle.domain_message_builder.specs.Streams.{in_stream};
 ghost use Rattle.domain_message_builder.specs.Views.{state_of, target_of};
@@ -50,6 +51,8 @@ impl<Target: Composer + Drop> MessageBuilder<Target> {
         ensures message { IfOk result (λ made. (it : Content)
             → Holds Target.compresses (state_of Target.octets self) it
             → IsMessageOf (state_of Target.octets self).header it (Target.octets made)) }
+        ensures octets { IfOk result (λ made. Target.octets made
+            ≡ finished_octets (state_of Target.octets self)) }
         ensures within { IfOk result (λ made.
             length (Target.octets made) ≤ (state_of Target.octets self).limit) }
         ensures unchanged { OnErr result (Stream.octets stream.new ≡ Stream.octets stream.old) }

@@ -4,6 +4,7 @@ ghost use Rattle.domain_header.specs.Headers.{SetsHigh};
 ghost use Rattle.domain_message_builder.specs.Cuts.{PushesOpt, OptRefused, CannotAddOpt, Truncates, is_cut, EndsAnswer, NotEnded};
 ghost use Rattle.domain_message_builder.specs.Ends.{MarksCut, KeepsOpt, LosesOpt, KeepsOpts, LosesOpts};
 ghost use Rattle.domain_message_builder.specs.Errors.{is_for_room};
+ghost use Rattle.domain_message_builder.specs.Finished.{EndsIn};
 ghost use Rattle.domain_message_builder.specs.OptViews.{opt_of, opt_given};
 ghost use Rattle.domain_message_builder.specs.Views.{state_of, target_of};
 
@@ -134,6 +135,9 @@ impl<Target: Composer + Drop> MessageBuilder<Target> {
         opt: Option<&OptBuilder<Octs>>,
     ) -> Result<Target, PushError<Target::AppendError>>
         ensures ok { IfOk result (λ made. EndsAnswer Target.compresses (is_cut pushed)
+            (opt_given (option_copied opt.entry)) (Target.capacity (target_of self))
+            (state_of Target.octets self) (Target.octets made)) }
+        ensures octets { IfOk result (λ made. EndsIn Target.compresses (is_cut pushed)
             (opt_given (option_copied opt.entry)) (Target.capacity (target_of self))
             (state_of Target.octets self) (Target.octets made)) }
         ensures within { IfOk result (λ made.
