@@ -42,6 +42,7 @@ impl<B: EmptyBuilder + OctetsMut> LabelsBuilder<B> {
     pub fn new(alloc: Global) -> Self
         ensures built { result.built ≡ empty_state }
         ensures room { IfSome B.ROOM (λ n. result.capacity ≡ n) }
+        ensures none { B.ROOM ≡ None → result.capacity ≡ 0 }
     {
         LabelsBuilder {
             builder: B::empty(alloc),

@@ -2,9 +2,11 @@
 #![tactic(auto)]
 
 pub mod data;
+pub mod known;
 pub mod options;
 pub mod record;
 
 pub use data::OptData;
+pub use known::{ClientSubnet, Cookie, ExtendedError};
 pub use options::{EdnsOption, OptIter};
 pub use record::{OptError, OptRecord, opt_of};

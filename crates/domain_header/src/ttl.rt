@@ -4,9 +4,10 @@ ghost use Rattle.std.specs.Fmt.{decimal};
 
 use std::fmt;
 
-/// How long a record may be cached: seconds, in 32 bits (RFC 1035, 3.2.1).
+/// How long a record may be cached: seconds, in 32 bits without a sign (RFC 8767, 4, which updates RFC 2181, 8).
 ///
-/// It is the number that is in the record. One past 2^31 - 1 counts as zero (RFC 2181, 8): see `for_cache`.
+/// It is the number that is in the record. What a cache makes of one that is long is told by `cap`, and by `for_cache`
+/// as the older standard had it.
 #[derive(Clone, Copy, Debug, PartialEq, Eq, PartialOrd, Ord, Hash)]
 pub struct Ttl(u32);
 
@@ -27,7 +28,9 @@ impl Ttl {
         self.0
     }
 
-    /// The TTL that a cache goes by: zero where it is past 2^31 - 1 seconds, and else as it is (RFC 2181, 8).
+    /// The TTL that a cache goes by as RFC 2181, 8 has it: zero where it is past 2^31 - 1 seconds, and else as it is.
+    ///
+    /// RFC 8767, 4 has replaced this rule: by it such a TTL is as long as it says, and no longer than a `cap`.
     pub fn for_cache(self) -> Ttl
         ensures valid { ttl_seconds self < 2 ^ 31 → ttl_seconds result ≡ ttl_seconds self }
         ensures past { 2 ^ 31 ≤ ttl_seconds self → ttl_seconds result ≡ 0 }
@@ -35,8 +38,8 @@ impl Ttl {
         if self.0 < 0x8000_0000 { self } else { Ttl(0) }
     }
 
-    /// This TTL, or 604,800 seconds, a week, where it is longer: what RFC 8767, 4 recommends at most. Take `for_cache`
-    /// first: a TTL past 2^31 - 1 is a week here, too.
+    /// This TTL, or 604,800 seconds, a week, where it is longer: what RFC 8767, 4 recommends at most, also of one past
+    /// 2^31 - 1.
     pub fn cap(self) -> Ttl
         ensures { ttl_seconds result ≡ min (ttl_seconds self) 604800 }
     {

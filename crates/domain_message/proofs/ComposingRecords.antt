@@ -8,6 +8,8 @@ use Rattle.domain_rdata.specs.declared.record_data.ComposeRdataError.{ComposeRda
 use Rattle.domain_rdata.specs.declared.record_data.ComposeRdataError.TheVariants.{Append, Long}
 use Rattle.domain_rdata.specs.LeavingNames.{LeavesNames}
 use Rattle.domain_message.specs.LeftToTarget.{NameThenData}
+use Rattle.domain_message.specs.MayCompose.{IsNameThen, RefusesRecord}
+use Rattle.domain_message.specs.MayCompose.RefusesRecord.{at_data}
 use Rattle.domain_message.specs.Composing.{BeginsWithName, type_and_class, QuestionOctets, before_length, RecordOctets, RecordExceeds, RecordRefused}
 use Rattle.domain_message.specs.Composing.RecordExceeds.{no_numbers, no_data}
 
@@ -78,6 +80,21 @@ question_exceeds name rtype class b t mid capacity room n done size grown full =
   full = omega (arith, full, grown, size, ap length done.all, length-append t done.octets, length-append done.octets (type_and_class rtype class));
 }
 
+-- what a composer may append for the name, or the numbers after it, exceed the spare capacity
+pub named_exceeds : (May : List ℕ → Type 0) (after t : List ℕ) (capacity : ℕ) → Exceeds May t capacity → Exceeds (IsNameThen May after) t capacity
+named_exceeds May after t capacity refused = record {
+  octets = refused.octets ++ after;
+  allowed = (refused.octets, refused.allowed, refl);
+  full = omega (arith, refused.full, length-append refused.octets after);
+}
+
+pub after_name_exceeds : (May : List ℕ → Type 0) (after t mid : List ℕ) (capacity room n : ℕ) → Appended May t mid → n ≡ length after → capacity ≤ room → room < length mid + n → Exceeds (IsNameThen May after) t capacity
+after_name_exceeds May after t mid capacity room n done size grown full = record {
+  octets = done.octets ++ after;
+  allowed = (done.octets, done.allowed, refl);
+  full = omega (arith, full, grown, size, ap length done.all, length-append t done.octets, length-append done.octets after);
+}
+
 -- what a composer appends for a name
 pub name_appended : (name : List (List ℕ)) (b : Bool) (t new : List ℕ) (May : List ℕ → Type 0) → ((s : List ℕ) → May s → NameOctets name b t s) → Appended May t new → Appended (NameOctets name b t) t new
 name_appended name b t new May names done = record { octets = done.octets; allowed = names done.octets done.allowed; all = done.all }
@@ -90,3 +107,8 @@ pub name_then_data : {T : Type 0} (octets : T → List ℕ) (appends written : T
 name_then_data octets appends written old named numbered new numbers r rtype class ttl name is same typed rest =
     let whole : octets numbered ≡ octets named ++ before_length rtype class ttl = is ∙ ap (λ x. octets named ++ x) (same ∙ ap (λ k. before_length k class ttl) typed) in
     record { named = named; name = name; rest = subst (λ t. LeavesNames octets written t new) whole rest }
+
+-- the data was refused after the owner's name and the numbers
+pub refused_at_data : {T E : Type 0} (octets : T → List ℕ) (May : List ℕ → Type 0) (appends : T → T → Type 0) (Refuses : List ℕ → ℕ → E → Type 0) (old named numbered : T) (numbers : List ℕ) (r rtype class ttl capacity room : ℕ) (e : E) → appends old named → octets numbered ≡ octets named ++ numbers → numbers ≡ before_length r class ttl → r ≡ rtype → capacity ≤ room → Refuses (octets numbered) room e → RefusesRecord octets May appends (before_length rtype class ttl) Refuses old capacity e
+refused_at_data octets May appends Refuses old named numbered numbers r rtype class ttl capacity room e name is same typed grown refused =
+    at_data named room name grown (subst (λ t. Refuses t room e) (is ∙ ap (λ x. octets named ++ x) (same ∙ ap (λ k. before_length k class ttl) typed)) refused)

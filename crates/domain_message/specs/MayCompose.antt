@@ -1,7 +1,8 @@
 -- What may be composed of a question and of a record, from what they hold. `labels` gives those of a name, `number` the
 -- number of the data's type, and `composed` what may be composed for data.
-use Rattle.std.specs.Prelude.{ℕ, Bool, List}
+use Rattle.std.specs.Prelude.{◌≡◌, ℕ, ◌≤◌, Bool, List, ◌++◌}
 use Rattle.domain_rdata.specs.declared.record_data.ComposeRdataError.{ComposeRdataError}
+use Rattle.domain_rdata.specs.ReadBack.{Exceeds}
 use Rattle.domain_rdata.specs.Rtypes.{rtype_number}
 use Rattle.domain_header.specs.Values.{class_number, ttl_seconds}
 use Rattle.domain_message.specs.declared.question.Question.{Question}
@@ -13,6 +14,16 @@ use Rattle.domain_message.specs.Views.{question_name, question_type, question_cl
 -- the four octets after the name of a question
 abbrev pub after_qname : {N : Type 0} → Question N → List ℕ
 after_qname q = type_and_class (rtype_number (question_type q)) (class_number (question_class q))
+
+-- The octets are some that are allowed for a name, and these after it.
+abbrev pub IsNameThen : (List ℕ → Type 0) → List ℕ → List ℕ → Type 0
+IsNameThen May after s = (named : List ℕ) × May named × (s ≡ named ++ after)
+
+-- Nothing of a record was composed: the owner's name, as the target may then write it, and these numbers exceed the spare
+-- capacity; or the data was refused after them, with no less room. `Refuses t room e`: after the octets t it is refused so.
+pub data RefusesRecord {T E : Type 0} (octets : T → List ℕ) (May : List ℕ → Type 0) (appends : T → T → Type 0) (numbers : List ℕ) (Refuses : List ℕ → ℕ → E → Type 0) (old : T) (capacity : ℕ) (e : E) : Type 0 where
+  at_owner : Exceeds (IsNameThen May numbers) (octets old) capacity → RefusesRecord octets May appends numbers Refuses old capacity e
+  at_data : (named : T) (room : ℕ) → appends old named → capacity ≤ room → Refuses (octets named ++ numbers) room e → RefusesRecord octets May appends numbers Refuses old capacity e
 
 -- The question may be composed into these octets after t.
 abbrev pub MayComposeQuestion : {N : Type 0} → (N → List (List ℕ)) → Question N → Bool → List ℕ → List ℕ → Type 0

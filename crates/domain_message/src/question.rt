@@ -4,7 +4,7 @@ ghost use Rattle.domain_header.specs.Values.{class_number};
 ghost use Rattle.domain_rdata.specs.ReadBack.{Appended, Exceeds};
 ghost use Rattle.domain_rdata.specs.Rtypes.{rtype_number};
 ghost use Rattle.domain_message.specs.Composing.{BeginsWithName, type_and_class};
-ghost use Rattle.domain_message.specs.MayCompose.{after_qname, MayComposeQuestion};
+ghost use Rattle.domain_message.specs.MayCompose.{after_qname, IsNameThen, MayComposeQuestion};
 ghost use Rattle.domain_message.specs.Entries.{QuestionFields, QuestionAt, NoQuestion};
 ghost use Rattle.domain_message.specs.Readings.{question_reading};
 ghost use Rattle.domain_message.specs.Texts.{question_text};
@@ -131,7 +131,8 @@ impl<'a, N: AbsoluteLabels<'a>> Question<N> {
     ghost use Rattle.domain_message.specs.Views.{question_name};
 
     /// Appends the question, or nothing: the name, which the target may compress, then the type and the class. Fails
-    /// only if the question exceeds the spare capacity. The target's octets are then unchanged.
+    /// only if the question, with a name as the target may then write it, exceeds the spare capacity. The target's
+    /// octets are then unchanged.
     pub fn compose<Target: Composer>(
         &'a self,
         target: &mut Target,
@@ -151,6 +152,10 @@ impl<'a, N: AbsoluteLabels<'a>> Question<N> {
             (Exceeds
             (MayComposeQuestion N.labels self.now Target.compresses (Target.octets target.old))
             (Target.octets target.old) (Target.capacity target.old)) }
+        ensures tight { OnErr result
+            (Exceeds
+            (IsNameThen (Target.may_append target.old (N.labels (question_name self.now)))
+            (after_qname self.now)) (Target.octets target.old) (Target.capacity target.old)) }
         ensures capacity { Target.capacity target.old ≤ Target.capacity target.new }
     {
         let start = target.as_slice().len();

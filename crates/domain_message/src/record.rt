@@ -1,5 +1,5 @@
 //! Record headers, and records that are read from a message.
-ghost use Rattle.std.specs.Prelude.{◌≡◌, Some};
+ghost use Rattle.std.specs.Prelude.{◌≡◌, Some, length, drop};
 ghost use Rattle.std.specs.Cmp.{partial_equiv_from_equiv, on_per, and_per};
 ghost use Rattle.std.specs.Cmp.Lexicographic.{nat_list_eq_equiv};
 ghost use Rattle.octseq.specs.Parsing.{message, position};
@@ -141,6 +141,7 @@ pub struct ParsedRecord<'a> {
     rdlen: u16,
     data: Parser<'a>,
     ghost named: { (fault : NameFault) → NameFaultAt 255 (message owner) (position owner) fault → ⊥ },
+    ghost sized: { length (drop (position «data») (message «data»)) ≡ rdlen },
 }
 
 impl<'a> ParsedRecord<'a> {
@@ -202,7 +203,8 @@ impl<'a> ParsedRecord<'a> {
 
     /// The octets of the data.
     pub fn data_octets(&self) -> &'a [u8]
-        ensures { result.now ≡ parsed_data self.now }
+        ensures octets { result.now ≡ parsed_data self.now }
+        ensures size { length result.now ≡ (record_fields self.now).header.rdlen }
     {
         &self.data.as_slice()[self.data.pos()..]
     }
@@ -217,7 +219,8 @@ impl<'a> ParsedRecord<'a> {
 }
 
 /// Records of messages are equal if their record headers are, the owner's name without ASCII case, and the octets of their
-/// data. Names in the data may be compressed, so equal data need not have equal octets.
+/// data. Names in the data may be compressed: so equal data need not have equal octets, and of two messages the same
+/// octets need not be the same data. Data that is read is compared by its values.
 impl<'a> PartialEq for ParsedRecord<'a> {
     ghost use Rattle.domain_message.specs.HeaderLaws.{header_is_equivalence};
     ghost use Rattle.domain_message.specs.RecordModel.{parsed_data, parsed_header, same_parsed_record};
@@ -247,8 +250,9 @@ impl<'a> fmt::Display for ParsedRecord<'a> {
         let owner = owner.fmt_with_dot();
         let (ttl, class) = (self.ttl, self.class);
         let rtype = RtypeText::new(self.rtype);
+        prove!(self.rdlen <= u16::MAX);
         let Ok(data) = UnknownRecordData::from_octets(self.rtype, self.data_octets()) else {
-            return Err(fmt::Error);
+            unreachable!();
         };
         write!(f, "{owner} {ttl} {class} {rtype} {data}")
     }

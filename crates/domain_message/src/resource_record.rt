@@ -6,10 +6,11 @@ ghost use Rattle.std.specs.Fmt.{◌++?◌};
 ghost use Rattle.domain_parsed.specs.ParsedNames.{parsed_labels};
 ghost use Rattle.std.specs.Int.{to_be_bytes};
 ghost use Rattle.domain_rdata.specs.ReadBack.{Appended};
+ghost use Rattle.domain_rdata.specs.RecordData.{ComposeRefused};
 ghost use Rattle.domain_rdata.specs.Rtypes.{rtype_number};
 ghost use Rattle.domain_header.specs.Values.{class_number, ttl_seconds};
 ghost use Rattle.domain_message.specs.Composing.{BeginsWithName, before_length};
-ghost use Rattle.domain_message.specs.MayCompose.{after_owner, MayComposeRecord, MayRefuseRecord};
+ghost use Rattle.domain_message.specs.MayCompose.{after_owner, MayComposeRecord, MayRefuseRecord, RefusesRecord};
 ghost use Rattle.domain_message.specs.Texts.{text_before_data};
 ghost use Rattle.domain_message.specs.LeftToTarget.{WritesRecord};
 
@@ -101,29 +102,35 @@ impl<N, D> Record<N, D> {
     }
 }
 
-/// Records are equal if owner, class and data are: names without ASCII case, and data as its type says. The TTL isn't
-/// compared (RFC 2136, 1.1.1).
-impl<N: PartialEq, D: PartialEq> PartialEq for Record<N, D> {
+/// Records are equal if owner, class, type and data are: names without ASCII case, and data as its type says. The TTL
+/// isn't compared (RFC 2136, 1.1.1).
+impl<N: PartialEq, D: RecordData + PartialEq> PartialEq for Record<N, D> {
     ghost use Rattle.domain_message.specs.RecordParts.{owner_of, class_of, data_of};
 
     ghost eq = { eq_of_both (on owner_of N.eq)
-        (eq_of_both (on (λ r. class_number (class_of r)) ◌==◌) (on data_of D.eq)) };
+        (eq_of_both (on (λ r. class_number (class_of r)) ◌==◌)
+        (eq_of_both (on (λ r. D.type_number (data_of r)) ◌==◌) (on data_of D.eq))) };
 
     ghost laws = { and_per (on_per owner_of N.laws)
         (and_per (on_per (λ r. class_number (class_of r)) (partial_equiv_from_equiv nat_eq_equiv))
-        (on_per data_of D.laws)) };
+        (and_per (on_per (λ r. D.type_number (data_of r)) (partial_equiv_from_equiv nat_eq_equiv))
+        (on_per data_of D.PartialEq.laws))) };
 
     fn eq(&self, other: &Record<N, D>) -> bool {
-        self.owner == other.owner && self.class == other.class && self.rdata == other.rdata
+        self.owner == other.owner
+            && self.class == other.class
+            && self.rdata.rtype() == other.rdata.rtype()
+            && self.rdata == other.rdata
     }
 }
 
-impl<N: Eq, D: Eq> Eq for Record<N, D> {
+impl<N: Eq, D: RecordData + Eq> Eq for Record<N, D> {
     ghost use Rattle.domain_message.specs.RecordParts.{owner_of, class_of, data_of};
 
     ghost laws = { and_equiv (on_equiv owner_of N.Eq.laws)
         (and_equiv (on_equiv (λ r. class_number (class_of r)) nat_eq_equiv)
-        (on_equiv data_of D.Eq.laws)) };
+        (and_equiv (on_equiv (λ r. D.type_number (data_of r)) nat_eq_equiv)
+        (on_equiv data_of D.Eq.laws))) };
 }
 
 /// The order of class, owner, type and data: within an RRset that of the data (RFC 4034, 6.3), and the RRsets of a class in
@@ -175,11 +182,11 @@ impl<Octs: Octets, D: RecordData + fmt::Display> fmt::Display for Record<ParsedN
 }
 
 impl<'a, N: AbsoluteLabels<'a>, D: ComposeRecordData> Record<N, D> {
-    ghost use Rattle.domain_message.specs.RecordParts.{owner_of};
+    ghost use Rattle.domain_message.specs.RecordParts.{owner_of, data_of};
 
     /// Appends the record, names as the target composes them: owner, type, class, TTL, the length of the data, the data.
     /// `Long` only if data that may be appended has more than 65,535 octets, `Append` only if the record exceeds the spare
-    /// capacity. The target's octets are then unchanged.
+    /// capacity, its owner's name as the target may then write it. The target's octets are then unchanged.
     pub fn compose<Target: Composer>(
         &'a self,
         target: &mut Target,
@@ -200,6 +207,12 @@ impl<'a, N: AbsoluteLabels<'a>, D: ComposeRecordData> Record<N, D> {
         ensures why { IfErr result
             (λ e. MayRefuseRecord N.labels D.type_number D.composed self.now Target.compresses
             (Target.octets target.old) (Target.capacity target.old) e) }
+        ensures tight { IfErr result
+            (RefusesRecord Target.octets (Target.may_append target.old (N.labels (owner_of self.now)))
+            (λ c d. Target.appends c (N.labels (owner_of self.now)) d)
+            (after_owner D.type_number self.now)
+            (λ t. ComposeRefused (D.composed (data_of self.now) Target.compresses) t) target.old
+            (Target.capacity target.old)) }
         ensures capacity { Target.capacity target.old ≤ Target.capacity target.new }
     {
         let start = target.as_slice().len();

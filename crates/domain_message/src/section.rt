@@ -1,5 +1,5 @@
 //! The sections of a message, and iterating over them.
-ghost use Rattle.std.specs.Prelude.{◌≡◌, ◌≤◌, length, IfOk, IfErr, IfSome, IsNone, ◌↔◌, Ok, Some, None};
+ghost use Rattle.std.specs.Prelude.{◌≡◌, ◌≤◌, length, IfOk, IfErr, IfSome, IsNone, ◌↔◌, Ok, Some, None, IsOk};
 ghost use Rattle.std.specs.Iterator.{at_most};
 ghost use Rattle.octseq.specs.Parsing.{message, position};
 
@@ -201,8 +201,8 @@ impl<'a> RecordSection<'a> {
         self.section
     }
 
-    /// Skips the records that are left, and returns the next section, `None` after the last one. The error says why one
-    /// of them is missing.
+    /// Skips the records that are left, and returns the next section. After the last one it is `None`, and no record is
+    /// looked at. The error says why one of them is missing.
     pub fn next_section(self) -> Result<Option<RecordSection<'a>>, ParseError>
         ensures none { IfOk result
             (λ read. IsNone read ↔ (section_after (records_section self.entry) ≡ None)) }
@@ -214,6 +214,7 @@ impl<'a> RecordSection<'a> {
         ensures err { IfErr result
             (λ e. Misses RecordAt NoRecord (records_message self.entry) (records_offset self.entry)
             (records_left self.entry) e) }
+        ensures last { section_after (records_section self.entry) ≡ None → IsOk result }
     {
         let Some(section) = self.section.next_section() else {
             return Ok(None);

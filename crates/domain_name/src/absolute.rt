@@ -384,11 +384,12 @@ impl<Octs: Octets> Name<Octs> {
 }
 
 impl<Octs: Truncate> Name<Octs> {
-    ghost use Rattle.domain_name.specs.Names.{name_labels, relative_labels, IsStripped};
+    ghost use Rattle.domain_name.specs.Names.{name_labels, name_holder, relative_labels, relative_holder, IsStripped};
 
     /// The name without its root label.
     pub fn into_relative(self) -> RelativeName<Octs>
-        ensures { relative_labels result ++ Root ≡ name_labels self }
+        ensures labels { relative_labels result ++ Root ≡ name_labels self }
+        ensures capacity { Octs.capacity (relative_holder result) ≡ Octs.capacity (name_holder self) }
     {
         let len = self.len() - 1;
         self.truncate(len)
@@ -400,6 +401,7 @@ impl<Octs: Truncate> Name<Octs> {
         ensures parts { (after : List (List ℕ))
             × (name_labels self ≡ relative_labels result ++ after) }
         ensures offset { length (wire (relative_labels result)) ≡ len }
+        ensures capacity { Octs.capacity (relative_holder result) ≡ Octs.capacity (name_holder self) }
     {
         let mut octets = self.into_octets();
         octets.truncate(len);
@@ -416,6 +418,8 @@ impl<Octs: Truncate> Name<Octs> {
         ensures ok { IfOk result
             (λ rest. IsStripped (name_labels self) (N.labels base.now) (relative_labels rest)) }
         ensures err { IfErr result (λ name. name ≡ self) }
+        ensures capacity { IfOk result
+            (λ rest. Octs.capacity (relative_holder rest) ≡ Octs.capacity (name_holder self)) }
     {
         match suffix_offset(self.octets.as_slice(), base) {
             Some(offset) => Ok(self.truncate(offset)),
@@ -425,11 +429,13 @@ impl<Octs: Truncate> Name<Octs> {
 }
 
 impl<Octs: OctetsMut> Name<Octs> {
-    ghost use Rattle.domain_name.specs.Names.{name_labels};
+    ghost use Rattle.domain_name.specs.Names.{name_labels, name_holder};
 
     /// Makes A to Z of each label a to z, its canonical form (RFC 4034, 6.2).
     pub fn make_canonical(&mut self)
-        ensures { name_labels self.new ≡ lowercase_labels (name_labels self.old) }
+        ensures labels { name_labels self.new ≡ lowercase_labels (name_labels self.old) }
+        ensures capacity { Octs.capacity (name_holder self.new)
+            ≡ Octs.capacity (name_holder self.old) }
     {
         make_lowercase(&mut self.octets);
     }

@@ -38,6 +38,7 @@ impl<B: EmptyBuilder + OctetsMut> NameBuilder<B> {
     pub fn new(alloc: Global) -> Self
         ensures built { built result ≡ empty_state }
         ensures room { IfSome B.ROOM (λ n. (held result).capacity ≡ n) }
+        ensures none { B.ROOM ≡ None → (held result).capacity ≡ 0 }
     {
         NameBuilder {
             labels: LabelsBuilder::new(alloc),
@@ -66,7 +67,8 @@ impl NameBuilder<Vec<u8>> {
     /// An empty builder over a `Vec`, which allocates nothing yet.
     #[inline(always)]
     pub fn new_vec(alloc: Global) -> Self
-        ensures { built result ≡ empty_state }
+        ensures built { built result ≡ empty_state }
+        ensures none { (held result).capacity ≡ 0 }
     {
         NameBuilder::new(alloc)
     }

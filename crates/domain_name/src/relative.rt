@@ -351,7 +351,7 @@ impl<Octs: Octets> RelativeName<Octs> {
 }
 
 impl<Octs: Truncate> RelativeName<Octs> {
-    ghost use Rattle.domain_name.specs.Names.{relative_labels, IsStripped};
+    ghost use Rattle.domain_name.specs.Names.{relative_labels, relative_holder, IsStripped};
 
     /// Keeps the labels before an offset of the wire format where `is_label_start` is true.
     pub fn truncate(&mut self, len: usize)
@@ -359,6 +359,8 @@ impl<Octs: Truncate> RelativeName<Octs> {
         ensures parts { (after : List (List ℕ))
             × (relative_labels self.old ≡ relative_labels self.new ++ after) }
         ensures offset { length (wire (relative_labels self.new)) ≡ len }
+        ensures capacity { Octs.capacity (relative_holder self.new)
+            ≡ Octs.capacity (relative_holder self.old) }
     {
         self.octets.truncate(len);
     }
@@ -374,6 +376,8 @@ impl<Octs: Truncate> RelativeName<Octs> {
         ensures ok { OnOk result
             (IsStripped (relative_labels self.old) (N.labels base.now) (relative_labels self.new)) }
         ensures unchanged { OnErr result (self.new ≡ self.old) }
+        ensures capacity { Octs.capacity (relative_holder self.new)
+            ≡ Octs.capacity (relative_holder self.old) }
     {
         let Some(offset) = suffix_offset(self.octets.as_slice(), base) else {
             return Err(StripSuffixError);
@@ -384,11 +388,13 @@ impl<Octs: Truncate> RelativeName<Octs> {
 }
 
 impl<Octs: OctetsMut> RelativeName<Octs> {
-    ghost use Rattle.domain_name.specs.Names.{relative_labels};
+    ghost use Rattle.domain_name.specs.Names.{relative_labels, relative_holder};
 
     /// Makes A to Z of each label a to z, its canonical form (RFC 4034, 6.2).
     pub fn make_canonical(&mut self)
-        ensures { relative_labels self.new ≡ lowercase_labels (relative_labels self.old) }
+        ensures labels { relative_labels self.new ≡ lowercase_labels (relative_labels self.old) }
+        ensures capacity { Octs.capacity (relative_holder self.new)
+            ≡ Octs.capacity (relative_holder self.old) }
     {
         make_lowercase(&mut self.octets);
     }

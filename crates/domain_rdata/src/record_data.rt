@@ -206,8 +206,8 @@ pub trait ComposeRecordData: RecordData {
     /// Appends the length of the canonical form in two octets, and the canonical form, or nothing.
     ///
     /// `Long` only where it has more than 65,535 octets, `Append` only where it exceeds, with its length, the spare
-    /// capacity, and `UnknownNames` as [`compose_canonical_rdata`](ComposeRecordData::compose_canonical_rdata). The
-    /// target's octets are then as before.
+    /// capacity, and `UnknownNames` where [`compose_canonical_rdata`](ComposeRecordData::compose_canonical_rdata) is, but
+    /// where there is no room for the length either: that is `Append`. The target's octets are then as before.
     final fn compose_canonical_len_rdata<Target: Composer>(
         &self,
         target: &mut Target,

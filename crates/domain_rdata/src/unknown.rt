@@ -314,7 +314,8 @@ impl<Octs: Octets> PartialOrd for UnknownRecordData<Octs> {
     }
 }
 
-/// The order of the octets from the left (RFC 4034, 6.3).
+/// The order of the octets from the left: the canonical order of RFC 4034, 6.3, but for types with names that are
+/// compared in lowercase. The canonical form of such data isn't known of octets, which are compared as they stand.
 impl<Octs: Octets> CanonicalOrd for UnknownRecordData<Octs> {
     ghost use Rattle.domain_rdata.specs.Unknown.{data_octets};
 

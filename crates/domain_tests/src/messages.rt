@@ -266,7 +266,7 @@ fn each_limit_refuses_what_exceeds_it(rt: HostRuntime) {
 }
 
 #[test]
-fn each_room_refuses_what_exceeds_it(rt: HostRuntime) {
+fn each_room_of_a_header_and_less_refuses_what_exceeds_it(rt: HostRuntime) {
     fill_target(&rt, ArrayVec::<u8, 0>::new(), 0);
     fill_target(&rt, ArrayVec::<u8, 1>::new(), 1);
     fill_target(&rt, ArrayVec::<u8, 2>::new(), 2);
@@ -280,6 +280,10 @@ fn each_room_refuses_what_exceeds_it(rt: HostRuntime) {
     fill_target(&rt, ArrayVec::<u8, 10>::new(), 10);
     fill_target(&rt, ArrayVec::<u8, 11>::new(), 11);
     fill_target(&rt, ArrayVec::<u8, 12>::new(), 12);
+}
+
+#[test]
+fn each_room_beyond_a_header_refuses_what_exceeds_it(rt: HostRuntime) {
     fill_target(&rt, ArrayVec::<u8, 13>::new(), 13);
     fill_target(&rt, ArrayVec::<u8, 14>::new(), 14);
     fill_target(&rt, ArrayVec::<u8, 15>::new(), 15);

@@ -56,7 +56,7 @@ impl<'a> Parser<'a> {
 
     /// A parser over the octets, at the start of the range and with its end.
     ///
-    /// Places still count from the start of the octets. The range must be in order and lie in them.
+    /// Positions still count from the start of the octets. The range must be in order and lie in them.
     pub fn with_range(octets: &'a [u8], range: Range<usize>) -> Parser<'a>
         requires ordered { range.start ≤ range.end }
         requires inside { range.end ≤ length octets.now }

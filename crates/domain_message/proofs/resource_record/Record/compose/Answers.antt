@@ -1,6 +1,7 @@
 use Rattle.std.proofs.Common.{length, ap, arith}
 use Rattle.domain_message.specs.RecordParts.{owner_of}
-use Rattle.domain_message.proofs.ComposingRecords.{name_appended, numbers_after, numbers_exceed, data_refused, begins_with_owner, record_appended, name_then_data}
+use Rattle.domain_message.proofs.ComposingRecords.{name_appended, numbers_after, numbers_exceed, data_refused, begins_with_owner, record_appended, name_then_data, named_exceeds, after_name_exceeds, refused_at_data}
+use Rattle.domain_message.specs.MayCompose.RefusesRecord.{at_owner}
 use Rattle.domain_message.proofs.resource_record.Record.compose.Goals as goal
 
 pub returns-in-Err-append_slice-clause-why : goal.returns-in-Err-append_slice-clause-why
@@ -31,3 +32,14 @@ returns-clause-name g c =
 pub returns-clause-written : goal.returns-clause-written
 returns-clause-written g c compressing =
     name_then_data _ _ _ _ _ _ _ _ _ _ _ _ c.in_default.ensures.appends c.in_default-append_slice.ensures.ok c.octets_before_length-numbers.ensures c.rtype.ensures (c.in_default-compose_len_rdata.ensures.names compressing)
+
+pub returns-in-Err-clause-tight : goal.returns-in-Err-clause-tight
+returns-in-Err-clause-tight g c = at_owner (named_exceeds _ _ _ _ c.in-Err.ensures.full)
+
+pub returns-in-Err-append_slice-clause-tight : goal.returns-in-Err-append_slice-clause-tight
+returns-in-Err-append_slice-clause-tight g c =
+    at_owner (after_name_exceeds _ _ _ _ _ _ _ c.in_default.ensures.ok (ap length c.octets_before_length-numbers.ensures) (omega (arith, c.in_default.ensures.capacity, c.in-Err-append_slice.ensures.capacity)) c.in-Err-append_slice.ensures.full)
+
+pub returns-in-Err-compose_len_rdata-clause-tight : goal.returns-in-Err-compose_len_rdata-clause-tight
+returns-in-Err-compose_len_rdata-clause-tight g c =
+    refused_at_data _ _ _ _ _ _ _ _ _ _ _ _ _ _ _ c.in_default.ensures.appends c.in_default-append_slice.ensures.ok c.octets_before_length-numbers.ensures c.rtype.ensures (omega (arith, c.in_default.ensures.capacity, c.in_default-append_slice.ensures.capacity)) c.in-Err-compose_len_rdata.ensures.why

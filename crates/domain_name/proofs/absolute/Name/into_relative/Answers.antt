@@ -8,7 +8,7 @@ truncate-requires g c =
     let a = c.args.self.absolute.1.0 in
     root_start _ _ a (omega (arith, c.len-len.ensures, root_long (name_labels c.args.self) a))
 
-pub returns : goal.returns
-returns g c =
+pub returns-clause-labels : goal.returns-clause-labels
+returns-clause-labels g c =
     let a = c.args.self.absolute.1.0 in
     lacks_root _ _ c.truncate.ensures.parts.0 a c.truncate.ensures.parts.1 (omega (arith, c.len-len.ensures, c.truncate.ensures.offset, root_long (name_labels c.args.self) a))

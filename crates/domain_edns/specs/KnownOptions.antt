@@ -1,0 +1,79 @@
+-- What the data of options says whose codes are known.
+use Rattle.std.specs.Prelude.{◌≡◌, ◌≢◌, ◌⊎◌, ℕ, nat_eq, ◌+◌, ◌-◌, ◌/◌, ◌%◌, ◌^◌, ◌<◌, ◌≤◌, List, ◌++◌, length, drop, slice_index, codes, Option, Some, None}
+use Rattle.domain_header.specs.Numbers.{number16}
+use Rattle.domain_wire.specs.Refusals.{Refusal, refusal}
+use Rattle.domain_wire.specs.Refusals.Refusal.{short_input, form}
+use Rattle.domain_wire.specs.declared.error.ParseError.{ParseError}
+
+-- An option of this code says it; or it is of another code, and there is nothing.
+abbrev pub OfCode : {A : Type 0} → ℕ → ℕ → (A → Type 0) → Option A → Type 0
+OfCode wanted code Says None = code ≢ wanted
+OfCode wanted code Says (Some it) = (code ≡ wanted) × Says it
+
+-- The octets are an extended error: its code in 16 bits, and its text (RFC 8914, 2).
+pub record IsExtendedError (octets : List ℕ) (info_code : ℕ) (text : List ℕ) : Type 0 where
+  pub whole : 2 ≤ length octets
+  pub code_is : info_code ≡ number16 octets 0
+  pub text_is : text ≡ drop 2 octets
+
+-- The octets are a client's cookie of 8 octets, and after it nothing or a server's cookie of 8 to 32 octets (RFC 7873, 4).
+abbrev pub IsCookie : {S : Type 0} → (S → List ℕ) → List ℕ → List ℕ → Option S → Type 0
+IsCookie octets_of octets client None = (length client ≡ 8) × (octets ≡ client)
+IsCookie octets_of octets client (Some server) = (length client ≡ 8) × (8 ≤ length (octets_of server)) × (length (octets_of server) ≤ 32) × (octets ≡ client ++ octets_of server)
+
+-- So many octets are no cookies: they end inside of the client's, or the server's would have another number of octets.
+pub data IsCookieFault (n : ℕ) : Refusal → Type 0 where
+  short : n < 8 → IsCookieFault n short_input
+  server : 8 < n → (n < 16) ⊎ (40 < n) → IsCookieFault n (form (codes "server cookie of a wrong length"))
+
+-- how many octets have so many bits of an address
+abbrev pub octets_of_prefix : ℕ → ℕ
+octets_of_prefix bits = (bits + 7) / 8
+
+-- how many bits the addresses of a family have: of IPv4 and of IPv6 (RFC 7871, 6)
+abbrev pub family_bits : ℕ → Option ℕ
+family_bits family = if nat_eq family 1 then Some 32 else (if nat_eq family 2 then Some 128 else None)
+
+-- The bits of an address after its first ones, in the last octet of these, are zero.
+abbrev pub EndsInZeros : List ℕ → ℕ → Type 0
+EndsInZeros address bits = bits % 8 ≢ 0 → slice_index address (bits / 8) % 2 ^ (8 - bits % 8) ≡ 0
+
+-- So many bits of an address of this family can be told.
+abbrev pub IsPrefix : ℕ → ℕ → Type 0
+IsPrefix family source = (most : ℕ) × (family_bits family ≡ Some most) × (source ≤ most)
+
+-- The octets are so many bits of an address: as few as have them, which end in zeros.
+abbrev pub IsAddress : ℕ → List ℕ → Type 0
+IsAddress source address = (length address ≡ octets_of_prefix source) × EndsInZeros address source
+
+-- The octets are a client's subnet: the family of its address, how many bits of it are told, for how many an answer is meant,
+-- and these bits (RFC 7871, 6).
+pub record IsClientSubnet (octets : List ℕ) (family source scope : ℕ) (address : List ℕ) : Type 0 where
+  pub whole : 4 ≤ length octets
+  pub family_is : family ≡ number16 octets 0
+  pub source_is : source ≡ slice_index octets 2
+  pub scope_is : scope ≡ slice_index octets 3
+  pub address_is : address ≡ drop 4 octets
+  pub prefix : IsPrefix family source
+  pub bits : IsAddress source address
+
+-- Why so many bits of an address of this family can't be told: the family is another one, or its addresses have fewer.
+pub data IsPrefixFault (family source : ℕ) : Refusal → Type 0 where
+  unknown : family_bits family ≡ None → IsPrefixFault family source (form (codes "unknown family of addresses"))
+  long : (most : ℕ) → family_bits family ≡ Some most → most < source → IsPrefixFault family source (form (codes "prefix longer than an address"))
+
+-- Why octets aren't so many bits of an address: there are fewer or more than have them, or they don't end in zeros.
+pub data IsAddressFault (source : ℕ) (address : List ℕ) : Refusal → Type 0 where
+  fewer : length address < octets_of_prefix source → IsAddressFault source address short_input
+  more : octets_of_prefix source < length address → IsAddressFault source address (form (codes "address longer than its prefix"))
+  bits : length address ≡ octets_of_prefix source → (EndsInZeros address source → ⊥) → IsAddressFault source address (form (codes "address has bits after its prefix"))
+
+-- Why octets are no client's subnet.
+pub data IsSubnetFault (octets : List ℕ) : Refusal → Type 0 where
+  short : length octets < 4 → IsSubnetFault octets short_input
+  prefix : {why : Refusal} → 4 ≤ length octets → IsPrefixFault (number16 octets 0) (slice_index octets 2) why → IsSubnetFault octets why
+  address : {why : Refusal} → 4 ≤ length octets → IsAddressFault (slice_index octets 2) (drop 4 octets) why → IsSubnetFault octets why
+
+-- An option of this code isn't of its form, for this reason.
+abbrev pub FaultOf : ℕ → ℕ → (Refusal → Type 0) → ParseError → Type 0
+FaultOf wanted code IsFault e = (code ≡ wanted) × IsFault (refusal e)
