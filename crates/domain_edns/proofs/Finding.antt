@@ -4,11 +4,13 @@ use Rattle.std.specs.Prelude.{Bool, false, nat_eq, Option, Some, None, Result, O
 use Rattle.octseq.specs.declared.octets.Octets.{Ghosts}
 use Rattle.octseq.specs.Parsing.{message, position}
 use Rattle.domain_wire.specs.declared.error.ParseError.{ParseError}
+use Rattle.domain_label.specs.Wire.{Root}
+use Rattle.domain_parsed.specs.ParsedNames.{parsed_labels}
 use Rattle.domain_parsed.specs.declared.parsed.ParsedName.{ParsedName}
 use Rattle.domain_header.specs.Numbers.{number16}
 use Rattle.domain_message.specs.Entries.{RecordFields}
 use Rattle.domain_message.specs.Kept.{keeps, FirstKept, MissesKept, TakesKept, IsMadeOf, HasDataError, GivesKept, kept_parser, kept_left, kept_class}
-use Rattle.domain_message.specs.RecordParts.{class_of, ttl_of, data_of}
+use Rattle.domain_message.specs.RecordParts.{owner_of, class_of, ttl_of, data_of}
 use Rattle.domain_header.specs.Values.{class_number, ttl_seconds}
 use Rattle.domain_message.specs.Sections.{Begins, entries_left, records_message, records_offset, records_left}
 use Rattle.domain_message.specs.declared.section.RecordSection.{RecordSection}
@@ -60,9 +62,17 @@ pub opt_missing : {O : Type 0} (g : Ghosts O) (Becomes : ParseError → ParseErr
 opt_missing g Becomes m p n q k why becomes (over, inl (other, misses, is)) = subst (λ w. MissesKept is_opt m p n w) (sym (becomes other why is)) misses
 opt_missing g Becomes m p n q k why becomes (over, inr breaks) = absurd breaks.broken.1
 
+-- the owner that was read is the root, or isn't
+pub owner_is_root : {O : Type 0} {g : Ghosts O} (it : RecordFields) (made : Record (ParsedName O g) OptData) (owner : ParsedName O g) → IsMadeOf {g = g} (λ _. 41) opt_octets (λ _. AreAllThatIsLeft) it made → owner ≡ owner_of made → parsed_labels owner ≡ Root → it.header.owner ≡ Root
+owner_is_root it made owner of is root = sym of.owner ∙ (ap parsed_labels (sym is) ∙ root)
+
+pub owner_is_other : {O : Type 0} {g : Ghosts O} (it : RecordFields) (made : Record (ParsedName O g) OptData) (owner : ParsedName O g) → IsMadeOf {g = g} (λ _. 41) opt_octets (λ _. AreAllThatIsLeft) it made → owner ≡ owner_of made → (parsed_labels owner ≡ Root → ⊥) → it.header.owner ≡ Root → ⊥
+owner_is_other it made owner of is other root = other (ap parsed_labels is ∙ (of.owner ∙ root))
+
 -- what is read of the record is what it says
-pub says_opt : {O : Type 0} {g : Ghosts O} (it : RecordFields) (made : Record (ParsedName O g) OptData) (opt : OptRecord) → IsMadeOf {g = g} (λ _. 41) opt_octets (λ _. AreAllThatIsLeft) it made → opt_class opt ≡ class_number (class_of made) → opt_ttl opt ≡ ttl_seconds (ttl_of made) → opt_data opt ≡ data_of made → SaysOpt it opt
-says_opt it made opt of class ttl same = record {
+pub says_opt : {O : Type 0} {g : Ghosts O} (it : RecordFields) (made : Record (ParsedName O g) OptData) (opt : OptRecord) → it.header.owner ≡ Root → IsMadeOf {g = g} (λ _. 41) opt_octets (λ _. AreAllThatIsLeft) it made → opt_class opt ≡ class_number (class_of made) → opt_ttl opt ≡ ttl_seconds (ttl_of made) → opt_data opt ≡ data_of made → SaysOpt it opt
+says_opt it made opt root of class ttl same = record {
+  root = root;
   class = class ∙ of.class;
   ttl = ttl ∙ of.ttl;
   options = (of.data_is.0, subst (λ d. AreAllThatIsLeft it.octets it.start (opt_octets d) of.data_is.0) (sym same) of.data_is.1);

@@ -1,5 +1,5 @@
 -- What the data of options says whose codes are known.
-use Rattle.std.specs.Prelude.{◌≡◌, ◌≢◌, ◌⊎◌, ℕ, nat_eq, ◌+◌, ◌-◌, ◌/◌, ◌%◌, ◌^◌, ◌<◌, ◌≤◌, List, ◌++◌, length, drop, slice_index, codes, Option, Some, None}
+use Rattle.std.specs.Prelude.{if◌then◌else◌, ◌≡◌, ◌≢◌, ◌⊎◌, ℕ, nat_eq, ◌+◌, ◌-◌, ◌/◌, ◌%◌, ◌^◌, ◌<◌, ◌≤◌, List, ◌++◌, length, drop, slice_index, codes, Option, Some, None}
 use Rattle.domain_header.specs.Numbers.{number16}
 use Rattle.domain_wire.specs.Refusals.{Refusal, refusal}
 use Rattle.domain_wire.specs.Refusals.Refusal.{short_input, form}
@@ -22,17 +22,17 @@ IsCookie octets_of octets client None = (length client ≡ 8) × (octets ≡ cli
 IsCookie octets_of octets client (Some server) = (length client ≡ 8) × (8 ≤ length (octets_of server)) × (length (octets_of server) ≤ 32) × (octets ≡ client ++ octets_of server)
 
 -- So many octets are no cookies: they end inside of the client's, or the server's would have another number of octets.
-pub data IsCookieFault (n : ℕ) : Refusal → Type 0 where
-  short : n < 8 → IsCookieFault n short_input
-  server : 8 < n → (n < 16) ⊎ (40 < n) → IsCookieFault n (form (codes "server cookie of a wrong length"))
+pub data IsCookieFault (n : ℕ) (why : Refusal) : Type 0 where
+  short : n < 8 → why ≡ short_input → IsCookieFault n why
+  server : 8 < n → (n < 16) ⊎ (40 < n) → why ≡ form (codes "server cookie of a wrong length") → IsCookieFault n why
 
 -- how many octets have so many bits of an address
 abbrev pub octets_of_prefix : ℕ → ℕ
 octets_of_prefix bits = (bits + 7) / 8
 
--- how many bits the addresses of a family have: of IPv4 and of IPv6 (RFC 7871, 6)
+-- how many bits the addresses of a family have: none, where no address is told, of IPv4, and of IPv6 (RFC 7871, 6)
 abbrev pub family_bits : ℕ → Option ℕ
-family_bits family = if nat_eq family 1 then Some 32 else (if nat_eq family 2 then Some 128 else None)
+family_bits family = if nat_eq family 0 then Some 0 else (if nat_eq family 1 then Some 32 else (if nat_eq family 2 then Some 128 else None))
 
 -- The bits of an address after its first ones, in the last octet of these, are zero.
 abbrev pub EndsInZeros : List ℕ → ℕ → Type 0
@@ -58,21 +58,21 @@ pub record IsClientSubnet (octets : List ℕ) (family source scope : ℕ) (addre
   pub bits : IsAddress source address
 
 -- Why so many bits of an address of this family can't be told: the family is another one, or its addresses have fewer.
-pub data IsPrefixFault (family source : ℕ) : Refusal → Type 0 where
-  unknown : family_bits family ≡ None → IsPrefixFault family source (form (codes "unknown family of addresses"))
-  long : (most : ℕ) → family_bits family ≡ Some most → most < source → IsPrefixFault family source (form (codes "prefix longer than an address"))
+pub data IsPrefixFault (family source : ℕ) (why : Refusal) : Type 0 where
+  unknown : family_bits family ≡ None → why ≡ form (codes "unknown family of addresses") → IsPrefixFault family source why
+  long : (most : ℕ) → family_bits family ≡ Some most → most < source → why ≡ form (codes "prefix longer than an address") → IsPrefixFault family source why
 
 -- Why octets aren't so many bits of an address: there are fewer or more than have them, or they don't end in zeros.
-pub data IsAddressFault (source : ℕ) (address : List ℕ) : Refusal → Type 0 where
-  fewer : length address < octets_of_prefix source → IsAddressFault source address short_input
-  more : octets_of_prefix source < length address → IsAddressFault source address (form (codes "address longer than its prefix"))
-  bits : length address ≡ octets_of_prefix source → (EndsInZeros address source → ⊥) → IsAddressFault source address (form (codes "address has bits after its prefix"))
+pub data IsAddressFault (source : ℕ) (address : List ℕ) (why : Refusal) : Type 0 where
+  fewer : length address < octets_of_prefix source → why ≡ short_input → IsAddressFault source address why
+  more : octets_of_prefix source < length address → why ≡ form (codes "address longer than its prefix") → IsAddressFault source address why
+  bits : length address ≡ octets_of_prefix source → (EndsInZeros address source → ⊥) → why ≡ form (codes "address has bits after its prefix") → IsAddressFault source address why
 
--- Why octets are no client's subnet.
-pub data IsSubnetFault (octets : List ℕ) : Refusal → Type 0 where
-  short : length octets < 4 → IsSubnetFault octets short_input
-  prefix : {why : Refusal} → 4 ≤ length octets → IsPrefixFault (number16 octets 0) (slice_index octets 2) why → IsSubnetFault octets why
-  address : {why : Refusal} → 4 ≤ length octets → IsAddressFault (slice_index octets 2) (drop 4 octets) why → IsSubnetFault octets why
+-- Why octets are no client's subnet, the first reason in this order.
+pub data IsSubnetFault (octets : List ℕ) (why : Refusal) : Type 0 where
+  short : length octets < 4 → why ≡ short_input → IsSubnetFault octets why
+  prefix : 4 ≤ length octets → IsPrefixFault (number16 octets 0) (slice_index octets 2) why → IsSubnetFault octets why
+  address : 4 ≤ length octets → IsPrefix (number16 octets 0) (slice_index octets 2) → IsAddressFault (slice_index octets 2) (drop 4 octets) why → IsSubnetFault octets why
 
 -- An option of this code isn't of its form, for this reason.
 abbrev pub FaultOf : ℕ → ℕ → (Refusal → Type 0) → ParseError → Type 0

@@ -1,9 +1,10 @@
 -- The OPT record of a message (RFC 6891, 6.1).
-use Rattle.std.specs.Prelude.{◌≡◌, ◌⊎◌, ℕ, ◌/◌, ◌%◌, Bool, nat_eq, codes, List, Option, Some, None}
+use Rattle.std.specs.Prelude.{◌≡◌, ◌⊎◌, ℕ, ◌/◌, ◌%◌, if◌then◌else◌, nat_lt, Bool, nat_eq, codes, List, Option, Some, None}
 use Rattle.domain_wire.specs.Refusals.{refusal, refusal_text}
 use Rattle.domain_wire.specs.declared.error.ParseError.{ParseError}
 use Rattle.domain_header.specs.Bits.{bit}
 use Rattle.domain_header.specs.Numbers.{number16}
+use Rattle.domain_label.specs.Wire.{Root}
 use Rattle.domain_message.specs.Entries.{RecordFields}
 use Rattle.domain_message.specs.Kept.{FirstKept, NoneKept, MissesKept}
 use Rattle.domain_message.specs.Sections.{AuthorityTo, NoAuthority}
@@ -11,12 +12,16 @@ use Rattle.domain_edns.specs.Options.{AreAllThatIsLeft}
 use Rattle.domain_edns.specs.Views.{opt_octets}
 use Rattle.domain_edns.specs.declared.data.OptData.{OptData}
 use Rattle.domain_edns.specs.declared.record.OptError.{OptError}
-use Rattle.domain_edns.specs.declared.record.OptError.TheVariants.{Parse, Another}
+use Rattle.domain_edns.specs.declared.record.OptError.TheVariants.{Parse, Another, Owner}
 use Rattle.domain_edns.specs.declared.record.OptRecord.{OptRecord}
 
--- the number of the class, which is the size that the sender takes (6.1.2)
+-- the number of the class, in whose place the size is that the sender tells (6.1.2)
 abbrev pub opt_class : OptRecord → ℕ
 opt_class it = it.class
+
+-- the size that the sender takes, where it tells this one: at least 512 (6.2.3)
+abbrev pub taken_size : ℕ → ℕ
+taken_size told = if nat_lt told 512 then 512 else told
 
 -- the TTL (6.1.3)
 abbrev pub opt_ttl : OptRecord → ℕ
@@ -44,6 +49,7 @@ is_opt it = nat_eq it.header.rtype 41
 
 -- This is what the record says.
 pub record SaysOpt (it : RecordFields) (opt : OptRecord) : Type 0 where
+  pub root : it.header.owner ≡ Root
   pub class : opt_class opt ≡ it.header.class
   pub ttl : opt_ttl opt ≡ it.header.ttl
   pub options : (e : ℕ) × AreAllThatIsLeft it.octets it.start (opt_octets (opt_data opt)) e
@@ -57,15 +63,21 @@ abbrev pub IsTheOpt : List ℕ → Option OptRecord → Type 0
 IsTheOpt m None = (e : ℕ) × AuthorityTo m e × NoneKept is_opt m e (number16 m 10)
 IsTheOpt m (Some opt) = (it : RecordFields) × (q : ℕ) × (k : ℕ) × FirstOpt m it q k × NoneKept is_opt m q k × SaysOpt it opt
 
+-- The first OPT record is `it`, of the root (6.1.2), which ends before q, and k records are left after it.
+abbrev pub FirstOfRoot : List ℕ → RecordFields → ℕ → ℕ → Type 0
+FirstOfRoot m it q k = FirstOpt m it q k × (it.header.owner ≡ Root)
+
 -- An entry is missing: before the additional section, or of this one before an OPT record, or between that and a second.
--- Or a second OPT record is there.
+-- Or a second OPT record is there, or the first isn't of the root.
 abbrev pub HasOptFault : List ℕ → OptError → Type 0
 HasOptFault m (Parse why) = NoAuthority m why
     ⊎ ((e : ℕ) × AuthorityTo m e × MissesKept is_opt m e (number16 m 10) why)
-    ⊎ ((it : RecordFields) × (q : ℕ) × (k : ℕ) × FirstOpt m it q k × MissesKept is_opt m q k why)
-HasOptFault m Another = (it other : RecordFields) × (q k p n : ℕ) × FirstOpt m it q k × FirstKept is_opt m q k other p n
+    ⊎ ((it : RecordFields) × (q : ℕ) × (k : ℕ) × FirstOfRoot m it q k × MissesKept is_opt m q k why)
+HasOptFault m Another = (it other : RecordFields) × (q k p n : ℕ) × FirstOfRoot m it q k × FirstKept is_opt m q k other p n
+HasOptFault m Owner = (it : RecordFields) × (q : ℕ) × (k : ℕ) × FirstOpt m it q k × (it.header.owner ≡ Root → ⊥)
 
 -- the text of the error
 abbrev pub opt_error_text : OptError → List ℕ
 opt_error_text (Parse why) = refusal_text (refusal why)
 opt_error_text Another = codes "more than one OPT record"
+opt_error_text Owner = codes "OPT record whose owner is not the root"

@@ -10,7 +10,9 @@ use domain_wire::ParseError;
 
 /// The codes of the options (IANA's registry of EDNS option codes).
 const CLIENT_SUBNET: u16 = 8;
+
 const COOKIE: u16 = 10;
+
 const EXTENDED_ERROR: u16 = 15;
 
 /// An extended error: more of why a response has its code (RFC 8914, 2).
@@ -18,7 +20,7 @@ const EXTENDED_ERROR: u16 = 15;
 pub struct ExtendedError<'a> {
     /// The kind of error.
     pub info_code: u16,
-    /// What people may read of it, in UTF-8 by its sender's word alone. It may be empty.
+    /// What people may read of it, in UTF-8 by its sender's word alone. It may be empty, and may end in a zero octet.
     pub text: &'a [u8],
 }
 
@@ -27,10 +29,10 @@ impl<'a> ExtendedError<'a> {
     ///
     /// `ShortInput` exactly where it is, and the option has fewer than two octets.
     pub fn from_option(option: EdnsOption<'a>) -> Result<Option<ExtendedError<'a>>, ParseError>
-        ensures ok { IfOk result (OfCode 15 option.code
-            (λ it. IsExtendedError option.«data».now it.info_code it.text.now)) }
-        ensures err { IfErr result (FaultOf 15 option.code
-            (λ why. (length option.«data».now < 2) × (why ≡ short_input))) }
+        ensures ok { IfOk result (OfCode 15 option.entry.code
+            (λ it. IsExtendedError option.entry.«data».now it.info_code it.text.now)) }
+        ensures err { IfErr result (FaultOf 15 option.entry.code
+            (λ why. (length option.entry.«data».now < 2) × (why ≡ short_input))) }
     {
         let octets = option.data;
         if option.code != EXTENDED_ERROR {
@@ -61,11 +63,11 @@ impl<'a> Cookie<'a> {
     /// Where it is: `ShortInput` exactly where the option has fewer than 8 octets, an error of form exactly where it has
     /// 9 to 15 or more than 40. A server answers either by FORMERR (RFC 7873, 5.2.2).
     pub fn from_option(option: EdnsOption<'a>) -> Result<Option<Cookie<'a>>, ParseError>
-        ensures ok { IfOk result (OfCode 10 option.code
-            (λ it. IsCookie (λ server. server.now) option.«data».now
+        ensures ok { IfOk result (OfCode 10 option.entry.code
+            (λ it. IsCookie (λ server. server.now) option.entry.«data».now
             it.client.now it.server)) }
-        ensures err { IfErr result (FaultOf 10 option.code
-            (IsCookieFault (length option.«data».now))) }
+        ensures err { IfErr result (FaultOf 10 option.entry.code
+            (IsCookieFault (length option.entry.«data».now))) }
     {
         let octets = option.data;
         if option.code != COOKIE {
@@ -77,7 +79,10 @@ impl<'a> Cookie<'a> {
         }
         let (client, server) = (&octets[..8], &octets[8..]);
         if len == 8 {
-            return Ok(Some(Cookie { client, server: None }));
+            return Ok(Some(Cookie {
+                client,
+                server: None,
+            }));
         }
         if len < 16 || len > 40 {
             return Err(ParseError::form_error("server cookie of a wrong length"));
@@ -94,6 +99,7 @@ fn bits_of_family(family: u16) -> Option<u8>
     ensures { result ≡ family_bits family }
 {
     match family {
+        0 => Some(0),
         1 => Some(32),
         2 => Some(128),
         _ => None,
@@ -164,11 +170,11 @@ fn check_address(source: u8, address: &[u8]) -> Result<(), ParseError>
 /// A client's subnet, for which an answer is made (RFC 7871, 6).
 #[derive(Clone, Copy, Debug, PartialEq, Eq)]
 pub struct ClientSubnet<'a> {
-    /// The family of the address: 1 for IPv4, 2 for IPv6.
+    /// The family of the address: 1 for IPv4, 2 for IPv6, 0 where no bit of it is told.
     pub family: u16,
     /// How many bits of the address are told.
     pub source_prefix_len: u8,
-    /// For how many of them an answer is meant; 0 in a query.
+    /// For how many bits an answer is meant, which may be more than are told; 0 in a query. It isn't checked.
     pub scope_prefix_len: u8,
     /// The bits that are told, in as few octets as have them, which end in zeros.
     pub address: &'a [u8],
@@ -177,14 +183,16 @@ pub struct ClientSubnet<'a> {
 impl<'a> ClientSubnet<'a> {
     /// The subnet that an option is. `None` exactly where its code isn't 8.
     ///
-    /// Where it is, `ShortInput` where the option ends early, and an error of form where the family is neither IPv4 nor
-    /// IPv6, where more bits are told than its addresses have, where there are more octets than have these bits, or a
-    /// bit after them isn't zero: the first of these. A server answers by FORMERR (RFC 7871, 6).
+    /// Where it is: `ShortInput` where the option has fewer than four octets; else an error of form where the family is
+    /// another one, or more bits are told than its addresses have; else `ShortInput` where it has fewer octets than these
+    /// bits take, and an error of form where it has more, or a bit after them isn't zero. A server answers what is wrong
+    /// with the octets by FORMERR (RFC 7871, 6).
     pub fn from_option(option: EdnsOption<'a>) -> Result<Option<ClientSubnet<'a>>, ParseError>
-        ensures ok { IfOk result (OfCode 8 option.code
-            (λ it. IsClientSubnet option.«data».now it.family it.source_prefix_len
+        ensures ok { IfOk result (OfCode 8 option.entry.code
+            (λ it. IsClientSubnet option.entry.«data».now it.family it.source_prefix_len
             it.scope_prefix_len it.address.now)) }
-        ensures err { IfErr result (FaultOf 8 option.code (IsSubnetFault option.«data».now)) }
+        ensures err { IfErr result (FaultOf 8 option.entry.code
+            (IsSubnetFault option.entry.«data».now)) }
     {
         let octets = option.data;
         if option.code != CLIENT_SUBNET {
@@ -195,8 +203,12 @@ impl<'a> ClientSubnet<'a> {
         }
         let family = number_of_16_bits(octets, 0);
         let (source, address) = (octets[2], &octets[4..]);
-        check_prefix(family, source)?;
-        check_address(source, address)?;
+        if let Err(e) = check_prefix(family, source) {
+            return Err(e);
+        }
+        if let Err(e) = check_address(source, address) {
+            return Err(e);
+        }
         Ok(Some(ClientSubnet {
             family,
             source_prefix_len: source,

@@ -2,7 +2,7 @@
 ghost use Rattle.std.specs.Prelude.{◌≡◌, ◌↔◌, ◌+◌, ◌*◌, IfOk, IfErr, IsTrue, Some};
 ghost use Rattle.domain_header.specs.Values.{rcode_number};
 ghost use Rattle.domain_message.specs.Messages.{message_octets};
-ghost use Rattle.domain_edns.specs.OptRecords.{IsTheOpt, HasOptFault, opt_error_text, opt_class, opt_ttl, opt_data, edns_version, upper_code, dnssec_ok_bit};
+ghost use Rattle.domain_edns.specs.OptRecords.{IsTheOpt, HasOptFault, opt_error_text, taken_size, opt_class, opt_ttl, opt_data, edns_version, upper_code, dnssec_ok_bit};
 
 use crate::data::OptData;
 use crate::options::OptIter;
@@ -21,6 +21,8 @@ pub enum OptError {
     Parse(ParseError),
     /// There is more than one OPT record: the query is answered by FORMERR (RFC 6891, 6.1.1).
     Another,
+    /// The owner of the first OPT record isn't the root, as it must be (RFC 6891, 6.1.2).
+    Owner,
 }
 
 impl fmt::Display for OptError {
@@ -30,6 +32,7 @@ impl fmt::Display for OptError {
         match self {
             OptError::Parse(e) => write!(f, "{e}"),
             OptError::Another => write!(f, "more than one OPT record"),
+            OptError::Owner => write!(f, "OPT record whose owner is not the root"),
         }
     }
 }
@@ -62,11 +65,12 @@ impl<'a> OptRecord<'a> {
         }
     }
 
-    /// How many octets its sender takes in a message over UDP.
+    /// How many octets its sender takes in a message over UDP: the number that is told, or 512 where that is less (RFC
+    /// 6891, 6.2.3).
     pub fn udp_payload_size(&self) -> u16
-        ensures { result ≡ opt_class self.now }
+        ensures { result ≡ taken_size (opt_class self.now) }
     {
-        self.class
+        if self.class < 512 { 512 } else { self.class }
     }
 
     /// The version of EDNS.
@@ -107,7 +111,8 @@ impl<'a> OptRecord<'a> {
 
 /// The OPT record of a message: the only one of its additional section. `None` exactly where none is there.
 ///
-/// `Parse` with the error of the first entry that is missing, and `Another` where a second OPT record comes before that.
+/// `Parse` with the error of the first entry that is missing; before it `Owner`, where the first OPT record is of another
+/// owner than the root, and then `Another`, where there is a second one.
 pub fn opt_of<Octs: Octets>(message: &Message<Octs>) -> Result<Option<OptRecord<'_>>, OptError>
     ensures ok { IfOk result (λ found. IsTheOpt (message_octets message.now) found) }
     ensures err { IfErr result (λ e. HasOptFault (message_octets message.now) e) }
@@ -121,6 +126,9 @@ pub fn opt_of<Octs: Octets>(message: &Message<Octs>) -> Result<Option<OptRecord<
         Some(Err(e)) => return Err(OptError::Parse(e)),
         None => return Ok(None),
     };
+    if !first.owner().is_root() {
+        return Err(OptError::Owner);
+    }
     let Some(second) = records.next() else {
         return Ok(Some(OptRecord::from_record(&first)));
     };
