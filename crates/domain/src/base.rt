@@ -112,7 +112,9 @@ pub mod message_builder {
 
 /// OPT records that are read (RFC 6891).
 pub mod opt {
-    pub use domain_edns::{EdnsOption, OptData, OptError, OptIter, OptRecord, opt_of};
+    pub use domain_edns::{
+        ClientSubnet, Cookie, EdnsOption, ExtendedError, OptData, OptError, OptIter, OptRecord, opt_of,
+    };
 }
 
 /// Questions (RFC 1035, 4.1.2).
