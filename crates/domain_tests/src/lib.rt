@@ -10,6 +10,8 @@ mod calls;
 #[cfg(test)]
 mod compressing;
 #[cfg(test)]
+mod counted_names;
+#[cfg(test)]
 mod cut_messages;
 #[cfg(test)]
 mod engines;
@@ -33,8 +35,6 @@ mod messages;
 mod names;
 #[cfg(test)]
 mod paths;
-#[cfg(test)]
-mod places;
 #[cfg(test)]
 mod records;
 #[cfg(test)]
