@@ -1,6 +1,6 @@
 //! Names that are put together step by step: labels and the octets of an open one, from octets, symbols, other names
-//! and addresses. A call makes its step or returns its one error and changes nothing; what is built is always in wire
-//! format. It passes on the grammar of texts and their reading, so that what is on top of it needs one line.
+//! and addresses. A call makes its step, or returns the error that is due and changes nothing; what is built is always
+//! in wire format. It passes on the grammar of texts and their reading, so that what is on top of it needs one line.
 #![tactic(auto)]
 
 mod append;

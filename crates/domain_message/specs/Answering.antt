@@ -12,7 +12,7 @@ use Rattle.domain_message.specs.Sections.{Run}
 abbrev pub same_question : QuestionFields → QuestionFields → Bool
 same_question = eq_of_both (on (λ q. q.name) same_name) (eq_of_both (on (λ q. q.rtype) ◌==◌) (on (λ q. q.class) ◌==◌))
 
--- As many questions are at p of m as are at q of o, n of them, and each equals the one in its place.
+-- As many questions are at p of m as are at q of o, n of them, and each equals the one with the same number.
 pub record SameQuestions (m : List ℕ) (p : ℕ) (o : List ℕ) (q n : ℕ) : Type 0 where
   pub ours : List QuestionFields
   pub theirs : List QuestionFields

@@ -31,7 +31,7 @@ fn next_is_same<'a>(ours: &mut Parser<'a>, theirs: &mut Parser<'a>) -> bool
     our == their
 }
 
-/// Whether the questions of two messages are there, this many in each, and each equals the one in its place.
+/// Whether the questions of two messages are there, this many in each, and each equals the one with the same number.
 fn same_questions<'a>(ours: &'a [u8], theirs: &'a [u8], count: u16) -> bool
     requires ours { 12 ≤ length ours.now }
     requires theirs { 12 ≤ length theirs.now }

@@ -11,15 +11,15 @@ use Rattle.domain_reading.specs.ParseResult.{MovesPastName, IsErrorOfName, Stand
 use Rattle.domain_parsed.specs.declared.parsed.ParsedName.{ParsedName}
 use Rattle.domain_parsed.specs.ParsedNames.{parsed_octets, parsed_labels, may_be_compressed}
 
--- By its flag the name is uncompressed exactly where the name at the parser's position is, from its first label on.
+-- The name isn't said to be compressed exactly where the name at the parser's position is contiguous, from its first label on.
 abbrev pub TellsCompression : {O : Type 0} {g : Ghosts O} → Parser → ParsedName O g → Type 0
 TellsCompression parser name = (may_be_compressed name ≡ false) ↔ IsContiguous (message parser) (position parser)
 
--- It is the uncompressed name ls, and the parser was moved past the octets of this.
+-- It is the uncompressed name ls, and the parser was moved past its octets.
 abbrev pub IsUncompressed : {O : Type 0} {g : Ghosts O} → Parser → Parser → List (List ℕ) → ParsedName O g → Type 0
 IsUncompressed old new ls name = (parsed_labels name ≡ ls) × (may_be_compressed name ≡ false) × (position new ≡ position old + length (wire ls))
 
--- A result is that name, and no error.
+-- The result is the uncompressed name ls, and no error.
 abbrev pub GivesUncompressed : {O E : Type 0} {g : Ghosts O} → Parser → Parser → Result (ParsedName O g) E → List (List ℕ) → Type 0
 GivesUncompressed old new result ls = MatchResult result (IsUncompressed old new ls) (λ _. ⊥)
 

@@ -25,7 +25,7 @@ pub record DropsFirst {O : Type 0} {g : Ghosts O} (old : ParsedName O g) (range 
   pub inside : range.end ≤ length (parsed_octets old)
   pub stands : slice_range (parsed_octets old) range.start range.end ≡ wire (label ∷ [])
 
--- The name new is old without its first label, which is the result; the root is unchanged, without a result.
+-- Where there is a result, the name new is old without its first label, which is the result; else new is old.
 abbrev pub SplitsFirst : {O : Type 0} {g : Ghosts O} {P : Type 0} {h : Ghosts P} → ParsedName O g → Option (RelativeName P h) → ParsedName O g → Type 0
 SplitsFirst old None new = new ≡ old
 SplitsFirst old (Some first) new = (label : List ℕ) × (relative_labels first ≡ label ∷ []) × (parsed_labels old ≡ label ∷ parsed_labels new) × (parsed_octets new ≡ parsed_octets old) × (may_be_compressed new ≡ may_be_compressed old)

@@ -66,7 +66,8 @@ pub struct ParsedName<Octs: Octets> {
     ghost absolute: { IsAbsoluteName
         (table_labels (Octs.octets octets) base entries dropped count) } by { IsAbsoluteName_prop
             (table_labels (Octs.octets octets) base entries dropped count) },
-    // `name_len` is its size, and it had at most 255 octets; with the flag false it is contiguous.
+    // `name_len` is its size; with the labels that were dropped it has at most 255 octets; where `compressed` is false
+    // it is contiguous.
     ghost is_sized: { name_len
         ≡ length (wire (table_labels (Octs.octets octets) base entries dropped count)) },
     ghost short: { dropped_len + name_len ≤ max_name },
@@ -180,8 +181,8 @@ impl<'a> ParsedName<&'a [u8]> {
     }
 
     /// The same as `parse_with_limit`, and counts what is read in `heads`, which contracts alone see: one for each
-    /// label, each pointer and the root, and after an error one more for what failed. The count grows by at most `limit`
-    /// and 128.
+    /// label, each pointer and the root, and after an error one more for what failed. The count grows by at most 128
+    /// and `limit` together.
     #[inline(always)]
     pub fn parse_counted<L: Ledger>(
         parser: &mut Parser<'a>,
@@ -207,8 +208,9 @@ impl<'a> ParsedName<&'a [u8]> {
         Ok(ParsedName::finish(parser, &found, entries))
     }
 
-    /// The same as `parse_with_limit`, with the `NameFault` as the error, for callers that treat the four
-    /// differently. At an offset there is a name or a fault, never both (`reads_laws`), so it succeeds where that does.
+    /// The same as `parse_with_limit`, with the `NameFault` as the error, for callers that treat the four faults
+    /// differently. At an offset there is a name or a fault, never both (`reads_laws`): so this succeeds exactly where
+    /// `parse_with_limit` does.
     ///
     /// The parser is unchanged on an error.
     #[inline(always)]
@@ -409,8 +411,8 @@ impl<Octs: Octets> ParsedName<Octs> {
         begins_with_labels(self, other)
     }
 
-    /// Whether the name ends with the labels of `other`, a name of any kind, ignoring ASCII case. It ends with no
-    /// relative name that has labels.
+    /// Whether the name ends with the labels of `other`, a name of any kind, ignoring ASCII case. An absolute name never
+    /// ends with a relative one that has labels.
     pub fn ends_with<'a, N: ToLabelIter<'a>>(&'a self, other: &'a N) -> bool
         ensures { IsTrue result ↔ EndsWith (parsed_labels self.now) (N.labels other.now) }
     {
@@ -517,10 +519,10 @@ impl<Octs: Octets> ParsedName<Octs> {
     }
 
     /// Appends the wire format, without compression (RFC 1035, 3.1), or nothing, as `ToName::compose` does. Labels that
-    /// are contiguous in the message are copied at once, where that one copies those of a compressed name one by one.
+    /// are contiguous in the message are copied at once; `ToName::compose` copies those of a compressed name one by one.
     ///
     /// The target's error where the octets don't fit, or where there was no memory for them; the target is then as
-    /// before. Where they fit its spare capacity, there is none.
+    /// before. Where they fit its spare capacity, there is no error.
     #[inline(always)]
     pub fn compose<Target: OctetsBuilder>(
         &self,
