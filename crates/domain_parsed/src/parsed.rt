@@ -411,8 +411,8 @@ impl<Octs: Octets> ParsedName<Octs> {
         begins_with_labels(self, other)
     }
 
-    /// Whether the name ends with the labels of `other`, a name of any kind, ignoring ASCII case. An absolute name never
-    /// ends with a relative one that has labels.
+    /// Whether the name ends with the labels of `other`, a name of any kind, ignoring ASCII case. An absolute name
+    /// never ends with a relative one that has labels.
     pub fn ends_with<'a, N: ToLabelIter<'a>>(&'a self, other: &'a N) -> bool
         ensures { IsTrue result ↔ EndsWith (parsed_labels self.now) (N.labels other.now) }
     {
@@ -518,8 +518,9 @@ impl<Octs: Octets> ParsedName<Octs> {
         self.name_len
     }
 
-    /// Appends the wire format, without compression (RFC 1035, 3.1), or nothing, as `ToName::compose` does. Labels that
-    /// are contiguous in the message are copied at once; `ToName::compose` copies those of a compressed name one by one.
+    /// Appends the wire format, without compression (RFC 1035, 3.1), or nothing, as `ToName::compose` does. Labels
+    /// that are contiguous in the message are copied at once; `ToName::compose` copies those of a compressed name one
+    /// by one.
     ///
     /// The target's error where the octets don't fit, or where there was no memory for them; the target is then as
     /// before. Where they fit its spare capacity, there is no error.
