@@ -3,11 +3,14 @@ use Rattle.std.proofs.Common.{◌≡◌, ℕ, ◌<◌, inl, inr, Bool, List, sli
 use Rattle.std.specs.Prelude.{true, false, IsTrue, ◌↔◌}
 use Rattle.std.proofs.lemmas.Bool.{false≢true}
 use Rattle.domain_header.specs.Bits.{bit, bits, bit_of, SetsBits}
+use Rattle.domain_message.specs.Composing.{type_and_class}
 use Rattle.domain_message.specs.Entries.{QuestionFields}
+use Rattle.domain_message.specs.LeftToTarget.{NameThen}
 use Rattle.domain_header.specs.Numbers.{number16}
 use Rattle.domain_header.specs.declared.flags.Header.{Header}
-use Rattle.domain_message_builder.specs.Answers.{IsAnswerHeader, AnswersHeaderOf, HasNoQuestion, BeginsWithQuestion, StartsAnswer, NotStarted, CannotAsk, StartsError}
+use Rattle.domain_message_builder.specs.Answers.{IsAnswerHeader, AnswersHeaderOf, HasNoQuestion, BeginsWithQuestion, RepeatsQuestion, StartsAnswer, NotStarted, CannotAsk, StartsError}
 use Rattle.domain_message_builder.specs.Answers.StartsAnswer.{repeats, nothing}
+use Rattle.domain_message_builder.specs.Answers.RepeatsQuestion.{repeats as given, nothing as untouched}
 use Rattle.domain_message_builder.specs.Answers.StartsError.{bare}
 use Rattle.domain_message_builder.specs.Pushes.{with_header, PushesQuestion}
 use Rattle.domain_message_builder.specs.Refusals.{QuestionRefused}
@@ -112,3 +115,7 @@ bare_after c m rcode old mid new h capacity room e is set stays same q begins wh
     let head : new.header ≡ h = ap (λ s. s.header) all in
     let told = subst (λ n. QuestionRefused c q (with_header h old) n e) same (subst (λ s. QuestionRefused c q s room e) set why) in
     bare (subst (AnswersHeaderOf m rcode) (sym head) is) q begins (cannot_ask c q old capacity e told) (all ∙ ap (λ k. with_header k old) (sym head))
+
+-- the target was given the question, whose header was set before
+pub given_after : {T : Type 0} (octets : T → List ℕ) (appends : T → List (List ℕ) → T → Type 0) (m : List ℕ) (old mid new : T) (q : QuestionFields) → BeginsWithQuestion m q → mid ≡ old → NameThen octets (λ c d. appends c q.name d) (type_and_class q.rtype q.class) mid new → RepeatsQuestion octets appends m old new
+given_after octets appends m old mid new q begins same writes = given q begins (subst (λ t. NameThen octets (λ c d. appends c q.name d) (type_and_class q.rtype q.class) t new) same writes)

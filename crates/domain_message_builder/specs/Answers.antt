@@ -4,7 +4,9 @@ use Rattle.domain_header.specs.Bits.{bit, bits}
 use Rattle.domain_header.specs.Headers.{header_id, header_high, header_low, question_count}
 use Rattle.domain_header.specs.Numbers.{number16}
 use Rattle.domain_header.specs.declared.flags.Header.{Header}
+use Rattle.domain_message.specs.Composing.{type_and_class}
 use Rattle.domain_message.specs.Entries.{QuestionFields, QuestionAt, NoQuestion}
+use Rattle.domain_message.specs.LeftToTarget.{NameThen}
 use Rattle.domain_wire.specs.declared.error.ParseError.{ParseError}
 use Rattle.domain_rdata.specs.ReadBack.{Exceeds}
 use Rattle.domain_message_builder.specs.Contents.{AsksIn}
@@ -41,6 +43,12 @@ pub record BeginsWithQuestion (m : List ℕ) (q : QuestionFields) : Type 0 where
   pub counted : 0 < number16 m 4
   pub end : ℕ
   pub at : QuestionAt m 12 q end
+
+-- How a target becomes where an answer to the message was begun: by its own call it appended the name of the first question, as
+-- that stands there, and type and class came after it; or there is none, and the target is as it was.
+pub data RepeatsQuestion {T : Type 0} (octets : T → List ℕ) (appends : T → List (List ℕ) → T → Type 0) (m : List ℕ) (old new : T) : Type 0 where
+  repeats : (q : QuestionFields) → BeginsWithQuestion m q → NameThen octets (λ c d. appends c q.name d) (type_and_class q.rtype q.class) old new → RepeatsQuestion octets appends m old new
+  nothing : HasNoQuestion m → new ≡ old → RepeatsQuestion octets appends m old new
 
 -- An answer to the message was begun: its header was set, and its first question was pushed, if it has one.
 pub data StartsAnswer (compresses : Bool) (m : List ℕ) (rcode : ℕ) (old new : State) : Type 0 where

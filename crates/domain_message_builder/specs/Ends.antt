@@ -14,7 +14,7 @@ pub record MarksCut (cut : Bool) (old new : State) : Type 0 where
   pub header : EndsHeader cut old.header new.header
   pub others : new ≡ with_header new.header old
 
--- The OPT record was pushed, or, where it can't be pushed after the records, in their place, and TC was set.
+-- The OPT record was pushed, or, where it can't be pushed after the records, instead of them, and TC was set.
 pub data KeepsOpt (compresses : Bool) (o : Opt) (capacity : ℕ) (old new : State) : Type 0 where
   beside : PushesOpt compresses o old new → KeepsOpt compresses o capacity old new
   instead : CannotAddOpt o capacity old → (mid : State) → Truncates compresses old mid → PushesOpt compresses o mid new → KeepsOpt compresses o capacity old new

@@ -11,7 +11,7 @@ use Rattle.domain_rdata.specs.RecordData.{NameOctets}
 use Rattle.domain_message_builder.specs.Contents.{blank_header, PushedRecord, Content}
 use Rattle.domain_message_builder.specs.Reading.{IsMessageOf}
 
--- As many of the one as of the other, and each is like the one in its place.
+-- As many of the one as of the other, and each is like the one with the same number.
 abbrev pub Alike : {A B : Type 0} → (A → B → Type 0) → List A → List B → Type 0
 Alike Like [] [] = ⊤
 Alike Like [] (y ∷ ys) = ⊥

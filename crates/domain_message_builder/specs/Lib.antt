@@ -13,4 +13,5 @@ pub mod Refusals
 pub mod SectionStarts
 pub mod State
 pub mod Streams
+pub mod Tight
 pub mod Views

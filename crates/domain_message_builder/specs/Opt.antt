@@ -1,5 +1,5 @@
 -- OPT records (RFC 6891).
-use Rattle.std.specs.Prelude.{ℕ, ◌+◌, ◌*◌, ◌<◌, Bool, false, List, ◌++◌, length}
+use Rattle.std.specs.Prelude.{ℕ, ◌+◌, ◌*◌, ◌<◌, ◌≤◌, Bool, false, List, ◌++◌, length}
 use Rattle.std.specs.Int.{w16, to_be_bytes}
 use Rattle.domain_header.specs.Bits.{bit_of}
 use Rattle.domain_label.specs.Wire.{Root}
@@ -52,7 +52,7 @@ opt_head o = record { owner = Root; rtype = 41; class = o.udp_payload_size; ttl 
 abbrev pub option_octets : ℕ → List ℕ → List ℕ
 option_octets code data_octets = to_be_bytes w16 code ++ (to_be_bytes w16 (length data_octets) ++ data_octets)
 
--- Why an option wasn't pushed.
+-- Why an option wasn't pushed: the options would be too long; or they wouldn't, and have no room.
 abbrev pub OptionRefused : {E : Type 0} → List ℕ → List ℕ → ℕ → ComposeRdataError E → Type 0
-OptionRefused options data_octets capacity (Append e) = capacity < length options + 4 + length data_octets
+OptionRefused options data_octets capacity (Append e) = (length options + 4 + length data_octets ≤ 65535) × (capacity < length options + 4 + length data_octets)
 OptionRefused options data_octets capacity (Long _) = 65535 < length options + 4 + length data_octets

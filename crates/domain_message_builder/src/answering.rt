@@ -1,9 +1,10 @@
 //! Messages that answer others.
-ghost use Rattle.std.specs.Prelude.{◌≡◌, IfErr, OnOk, OnErr};
+ghost use Rattle.std.specs.Prelude.{◌≡◌, ◌≤◌, true, IfErr, OnOk, OnErr};
 ghost use Rattle.domain_header.specs.Headers.{header_id, header_high, header_low};
 ghost use Rattle.domain_header.specs.Values.{rcode_number};
 ghost use Rattle.domain_message.specs.Messages.{message_octets};
-ghost use Rattle.domain_message_builder.specs.Answers.{IsAnswerHeader, StartsAnswer, StartsError, NotStarted};
+ghost use Rattle.domain_message_builder.specs.Answers.{IsAnswerHeader, StartsAnswer, StartsError, NotStarted, RepeatsQuestion};
+ghost use Rattle.domain_message_builder.specs.Errors.{is_early};
 ghost use Rattle.domain_message_builder.specs.Views.{state_of, target_of};
 
 use crate::builder::MessageBuilder;
@@ -34,7 +35,7 @@ impl<Target: Composer> MessageBuilder<Target> {
     ///
     /// The header has the identifier, the opcode and the bits RD and CD of the query, QR, this response code, and no
     /// other bit. Where the query has no question, or it can't be read, none is pushed. The errors are those of
-    /// `push_question`. Nothing is then changed.
+    /// `push_question`. Nothing is then changed. The target is given the name with its case.
     pub fn start_answer<Octs: Octets>(
         &mut self,
         query: &Message<Octs>,
@@ -48,6 +49,12 @@ impl<Target: Composer> MessageBuilder<Target> {
         ensures why { IfErr result (λ e. NotStarted Target.compresses
             (message_octets query.now) (state_of Target.octets self.old)
             (Target.capacity (target_of self.old)) e) }
+        ensures written { OnOk result (RepeatsQuestion Target.octets Target.appends
+            (message_octets query.now) (target_of self.old) (target_of self.new)) }
+        ensures early { IfErr result
+            (λ e. is_early e ≡ true → target_of self.new ≡ target_of self.old) }
+        ensures capacity { Target.capacity (target_of self.old)
+            ≤ Target.capacity (target_of self.new) }
     {
         let before = self.header();
         self.set_header(answer_header(query.header(), rcode));
@@ -64,9 +71,11 @@ impl<Target: Composer> MessageBuilder<Target> {
     /// Begins an answer as `start_answer` does, but for the question where that is refused. It is for errors, which are
     /// told even so.
     pub fn start_error<Octs: Octets>(&mut self, query: &Message<Octs>, rcode: Rcode)
-        ensures { StartsError Target.compresses
+        ensures starts { StartsError Target.compresses
             (message_octets query.now) (rcode_number rcode) (Target.capacity (target_of self.old))
             (state_of Target.octets self.old) (state_of Target.octets self.new) }
+        ensures capacity { Target.capacity (target_of self.old)
+            ≤ Target.capacity (target_of self.new) }
     {
         self.set_header(answer_header(query.header(), rcode));
         let Some(question) = query.first_question() else {

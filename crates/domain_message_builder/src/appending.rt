@@ -1,11 +1,13 @@
 //! Appending entries up to a limit.
 ghost use Rattle.std.specs.Prelude.{◌≡◌, ◌≤◌, length, OnOk, OnErr, IfErr, true};
 ghost use Rattle.domain_rdata.specs.ReadBack.{Appended};
+ghost use Rattle.domain_rdata.specs.RecordData.{ComposeRefused};
 ghost use Rattle.domain_message.specs.RecordParts.{data_of};
 ghost use Rattle.domain_message.specs.LeftToTarget.{WritesQuestion, WritesRecord};
 ghost use Rattle.domain_message_builder.specs.Contents.{AsksIn, RecordsIn};
 ghost use Rattle.domain_message_builder.specs.Pushes.{asked, headed};
 ghost use Rattle.domain_message_builder.specs.Refusals.{QuestionNotAppended, RecordNotAppended};
+ghost use Rattle.domain_message_builder.specs.Tight.{Surpasses, RefusedAsWritten, HasNoRoom, RefusesEntry};
 
 use crate::error::PushError;
 use domain_list::AbsoluteLabels;
@@ -29,6 +31,12 @@ pub(crate) fn append_question<'a, N: AbsoluteLabels<'a>, Target: Composer>(
     ensures why { IfErr result
         (λ e. QuestionNotAppended Target.compresses (asked N.labels question.now)
         (Target.octets target.old) (Target.capacity target.old) most e) }
+    ensures tight { IfErr result
+        (RefusedAsWritten
+        (HasNoRoom N.labels Target.octets Target.capacity Target.may_append question.now target.old)
+        (Surpasses Target.octets
+        (WritesQuestion N.labels Target.octets Target.appends question.now) target.old
+        most)) }
     ensures capacity { Target.capacity target.old ≤ Target.capacity target.new }
 {
     let before = target.as_slice().len();
@@ -61,14 +69,23 @@ pub(crate) fn append_record<'a, N: AbsoluteLabels<'a>, D: ComposeRecordData, Tar
         (headed N.labels D.type_number resource.now)
         (D.composed (data_of resource.now) Target.compresses)
         (Target.octets target.old) (Target.capacity target.old) most e) }
+    ensures tight { Target.compresses ≡ true → IfErr result
+        (RefusedAsWritten
+        (RefusesEntry N.labels D.type_number Target.octets Target.capacity Target.may_append
+        Target.appends
+        (λ t. ComposeRefused (D.composed (data_of resource.now) Target.compresses) t)
+        resource.now target.old)
+        (Surpasses Target.octets
+        (WritesRecord N.labels D.type_number Target.octets Target.appends
+        (λ d. D.written d Target Target.octets Target.appends) resource.now) target.old
+        most)) }
     ensures capacity { Target.capacity target.old ≤ Target.capacity target.new }
 {
     let start = target.as_slice().len();
-    if let Err(e) = resource.compose(target) {
-        return match e {
-            ComposeRdataError::Append(e) => Err(PushError::Append(e)),
-            ComposeRdataError::Long(e) => Err(PushError::Long(e)),
-        };
+    match resource.compose(target) {
+        Ok(()) => {}
+        Err(ComposeRdataError::Append(e)) => return Err(PushError::Append(e)),
+        Err(ComposeRdataError::Long(e)) => return Err(PushError::Long(e)),
     }
     let end = target.as_slice().len();
     if end > usize::from(most) {

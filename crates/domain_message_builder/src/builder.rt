@@ -1,6 +1,7 @@
 //! A builder of messages.
-ghost use Rattle.std.specs.Prelude.{◌≡◌, ◌≤◌, ◌<◌, ◌+◌, ◌↔◌, ◌++◌, true, length, take, drop, IfOk, IfErr, IsErr, OnOk, OnErr};
+ghost use Rattle.std.specs.Prelude.{◌≡◌, ◌≤◌, ◌<◌, ◌+◌, ◌-◌, ◌↔◌, true, length, take, IfOk, IfErr, IsErr, OnOk, OnErr};
 ghost use Rattle.std.proofs.Props.{props};
+ghost use Rattle.domain_rdata.specs.RecordData.{ComposeRefused};
 ghost use Rattle.domain_message.specs.RecordParts.{data_of};
 ghost use Rattle.domain_message.specs.LeftToTarget.{WritesQuestion, WritesRecord};
 ghost use Rattle.domain_message_builder.specs.Contents.{blank_header, Content, Holds};
@@ -8,6 +9,7 @@ ghost use Rattle.domain_message_builder.specs.Errors.{is_early};
 ghost use Rattle.domain_message_builder.specs.Finished.{finished_octets};
 ghost use Rattle.domain_message_builder.specs.SectionStarts.{IsInOrder};
 ghost use Rattle.domain_message_builder.specs.Pushes.{asked, headed, PushesQuestion, PushesRecord, Rewinds, RewindsAll};
+ghost use Rattle.domain_message_builder.specs.Tight.{Surpasses, RefusedAsWritten, HasNoRoom, RefusesEntry};
 ghost use Rattle.domain_message_builder.specs.Refusals.{NotBegun, QuestionRefused, RecordRefused};
 ghost use Rattle.domain_message_builder.specs.Reading.{IsMessageOf};
 
@@ -196,6 +198,12 @@ impl<Target: Composer> MessageBuilder<Target> {
         ensures why { IfErr result (λ e. QuestionRefused Target.compresses
             (asked N.labels question.now) (state_of Target.octets self.old)
             (Target.capacity (target_of self.old)) e) }
+        ensures tight { IfErr result
+            (RefusedAsWritten
+            (HasNoRoom N.labels Target.octets Target.capacity Target.may_append question.now (target_of self.old))
+            (Surpasses Target.octets
+            (WritesQuestion N.labels Target.octets Target.appends question.now) (target_of self.old)
+            ((state_of Target.octets self.old).limit - (state_of Target.octets self.old).reserved))) }
         ensures capacity { Target.capacity (target_of self.old)
             ≤ Target.capacity (target_of self.new) }
     {
@@ -249,6 +257,16 @@ impl<Target: Composer> MessageBuilder<Target> {
             (headed N.labels D.type_number resource.now)
             (D.composed (data_of resource.now) Target.compresses)
             (state_of Target.octets self.old) (Target.capacity (target_of self.old)) e) }
+        ensures tight { Target.compresses ≡ true → IfErr result
+            (RefusedAsWritten
+            (RefusesEntry N.labels D.type_number Target.octets Target.capacity Target.may_append
+            Target.appends
+            (λ t. ComposeRefused (D.composed (data_of resource.now) Target.compresses) t)
+            resource.now (target_of self.old))
+            (Surpasses Target.octets
+            (WritesRecord N.labels D.type_number Target.octets Target.appends
+            (λ d. D.written d Target Target.octets Target.appends) resource.now) (target_of self.old)
+            ((state_of Target.octets self.old).limit - (state_of Target.octets self.old).reserved))) }
         ensures capacity { Target.capacity (target_of self.old)
             ≤ Target.capacity (target_of self.new) }
     {
@@ -286,6 +304,16 @@ impl<Target: Composer> MessageBuilder<Target> {
             (D.composed (data_of resource.now) Target.compresses)
             (with_reserved kept (state_of Target.octets self.old))
             (Target.capacity (target_of self.old)) e) }
+        ensures tight { Target.compresses ≡ true → IfErr result
+            (RefusedAsWritten
+            (RefusesEntry N.labels D.type_number Target.octets Target.capacity Target.may_append
+            Target.appends
+            (λ t. ComposeRefused (D.composed (data_of resource.now) Target.compresses) t)
+            resource.now (target_of self.old))
+            (Surpasses Target.octets
+            (WritesRecord N.labels D.type_number Target.octets Target.appends
+            (λ d. D.written d Target Target.octets Target.appends) resource.now) (target_of self.old)
+            ((state_of Target.octets self.old).limit - kept))) }
         ensures capacity { Target.capacity (target_of self.old)
             ≤ Target.capacity (target_of self.new) }
     {

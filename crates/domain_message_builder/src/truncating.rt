@@ -1,9 +1,9 @@
 //! Messages that are cut, and the OPT record at their end.
-ghost use Rattle.std.specs.Prelude.{◌≡◌, ◌≤◌, false, length, option_copied, IfOk, IfErr, OnOk, OnErr};
-ghost use Rattle.domain_header.specs.Headers.{SetsHigh};
+ghost use Rattle.std.specs.Prelude.{◌≡◌, ◌≤◌, true, false, length, option_copied, IfOk, IfErr, OnOk, OnErr};
+ghost use Rattle.domain_header.specs.Headers.{SetsHigh, additional_count};
 ghost use Rattle.domain_message_builder.specs.Cuts.{PushesOpt, OptRefused, CannotAddOpt, Truncates, is_cut, EndsAnswer, NotEnded};
 ghost use Rattle.domain_message_builder.specs.Ends.{MarksCut, KeepsOpt, LosesOpt, KeepsOpts, LosesOpts};
-ghost use Rattle.domain_message_builder.specs.Errors.{is_for_room};
+ghost use Rattle.domain_message_builder.specs.Errors.{is_for_room, is_early};
 ghost use Rattle.domain_message_builder.specs.Finished.{EndsIn};
 ghost use Rattle.domain_message_builder.specs.OptViews.{opt_of, opt_given};
 ghost use Rattle.domain_message_builder.specs.Views.{state_of, target_of};
@@ -26,10 +26,13 @@ fn cut_header(header: Header) -> Header
 }
 
 impl<Target: Composer> MessageBuilder<Target> {
+    ghost use Rattle.domain_message_builder.specs.declared.error.PushError.TheVariants.{Count};
+
     /// Pushes an OPT record into the additional section, or nothing, into the octets that were set aside too: none are
     /// after it (RFC 6891, 6.1.1).
     ///
     /// The errors are those of `push`, and only where the record has no room or 65,535 are there. Nothing is then changed.
+    /// A message has one OPT record (6.1.1), so it is pushed once: whether one is there isn't looked at.
     pub fn push_opt<Octs: Octets>(
         &mut self,
         opt: &OptBuilder<Octs>,
@@ -42,6 +45,9 @@ impl<Target: Composer> MessageBuilder<Target> {
             (state_of Target.octets self.old) (Target.capacity (target_of self.old)) e) }
         ensures no_room { OnErr result (CannotAddOpt (opt_of opt.now)
             (Target.capacity (target_of self.old)) (state_of Target.octets self.old)) }
+        ensures early { IfErr result (λ e. is_early e ≡ true → self.new ≡ self.old) }
+        ensures count { additional_count (state_of Target.octets self.old).counts ≡ 65535
+            → result ≡ Err Count }
         ensures capacity { Target.capacity (target_of self.old)
             ≤ Target.capacity (target_of self.new) }
     {

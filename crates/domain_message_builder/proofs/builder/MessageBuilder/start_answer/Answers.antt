@@ -1,6 +1,7 @@
 use Rattle.std.proofs.Common.{refl}
 use Rattle.domain_message.specs.Messages.{message_octets}
-use Rattle.domain_message_builder.proofs.Replying.{answers_header, nothing_after, repeats_after}
+use Rattle.domain_message_builder.proofs.Replying.{answers_header, nothing_after, repeats_after, given_after}
+use Rattle.domain_message_builder.specs.Answers.RepeatsQuestion.{nothing}
 use Rattle.domain_message_builder.proofs.builder.MessageBuilder.start_answer.Goals as goal
 
 pub returns-in_default-clause-ok : goal.returns-in_default-clause-ok
@@ -13,3 +14,11 @@ returns-clause-ok g c =
     let m = message_octets c.args.query.now in
     let some = c.in-Some.ensures.some in
     repeats_after _ m _ _ _ _ _ (answers_header m _ _ _ _ _ c.header.ensures.id c.header.ensures.high c.header.ensures.low c.answer_header.ensures) c.set_header.ensures.header _ (record { counted = some.0; end = some.1.0; at = some.1.1 }) c.in_default-push_question.ensures.ok
+
+pub returns-in_default-clause-written : goal.returns-in_default-clause-written
+returns-in_default-clause-written g c = nothing (c.in_default.ensures.none refl) c.set_header.ensures.target
+
+pub returns-clause-written : goal.returns-clause-written
+returns-clause-written g c =
+    let some = c.in-Some.ensures.some in
+    given_after _ _ _ _ _ _ _ (record { counted = some.0; end = some.1.0; at = some.1.1 }) c.set_header.ensures.target c.in_default-push_question.ensures.written
