@@ -1,5 +1,5 @@
 -- The steps by which an answer is finished.
-use Rattle.std.specs.Prelude.{◌≡◌, ℕ, ◌+◌, ◌<◌, Bool, true, List, length, Option, None, Some}
+use Rattle.std.specs.Prelude.{◌≡◌, ℕ, Bool, true, Option, None, Some}
 use Rattle.domain_message.specs.declared.section.Section.TheVariants.{Answer}
 use Rattle.domain_message_builder.specs.Cuts.{PushesOpt, Truncates, CannotAddOpt, HasNoRoomFor, EndsHeader}
 use Rattle.domain_message_builder.specs.Errors.{is_for_room}

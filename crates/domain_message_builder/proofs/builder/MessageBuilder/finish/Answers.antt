@@ -1,4 +1,4 @@
-use Rattle.std.proofs.Common.{ℕ, List, subst, sym, ◌∙◌}
+use Rattle.std.proofs.Common.{subst, sym, ◌∙◌}
 use Rattle.domain_message_builder.proofs.Finishing.{finished, written_size, written_so}
 use Rattle.domain_message_builder.specs.Reading.{IsMessageOf}
 use Rattle.domain_message_builder.proofs.builder.MessageBuilder.finish.Goals as goal
