@@ -2,6 +2,7 @@ pub mod Aliases
 pub mod AliasLaws
 pub mod AliasParts
 pub mod Answering
+pub mod CanonicalRecords
 pub mod Composing
 pub mod MayCompose
 pub mod Entries

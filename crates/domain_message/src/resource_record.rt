@@ -9,6 +9,8 @@ ghost use Rattle.domain_rdata.specs.ReadBack.{Appended};
 ghost use Rattle.domain_rdata.specs.RecordData.{ComposeRefused};
 ghost use Rattle.domain_rdata.specs.Rtypes.{rtype_number};
 ghost use Rattle.domain_header.specs.Values.{class_number, ttl_seconds};
+ghost use Rattle.domain_rdata.specs.Canonical.{canonical_form, WithLengthAndForm};
+ghost use Rattle.domain_message.specs.CanonicalRecords.{canonical_head, CanonicalRecordRefused};
 ghost use Rattle.domain_message.specs.Composing.{BeginsWithName, before_length};
 ghost use Rattle.domain_message.specs.MayCompose.{after_owner, MayComposeRecord, MayRefuseRecord, RefusesRecord};
 ghost use Rattle.domain_message.specs.Texts.{text_before_data};
@@ -17,8 +19,11 @@ ghost use Rattle.domain_message.specs.LeftToTarget.{WritesRecord};
 use crate::rtype_text::RtypeText;
 use domain_header::{Class, Ttl};
 use domain_list::AbsoluteLabels;
+use domain_list::composing::compose_canonical_name;
 use domain_parsed::ParsedName;
-use domain_rdata::{ComposeRdataError, ComposeRecordData, Composer, RecordData, Rtype};
+use domain_rdata::{
+    CanonicalError, ComposeRdataError, ComposeRecordData, Composer, RecordData, Rtype,
+};
 use domain_traits::{FlattenInto, ToName};
 use domain_wire::CanonicalOrd;
 use octseq::{Octets, OctetsBuilder, ShortBuf, Truncate};
@@ -182,7 +187,7 @@ impl<Octs: Octets, D: RecordData + fmt::Display> fmt::Display for Record<ParsedN
 }
 
 impl<'a, N: AbsoluteLabels<'a>, D: ComposeRecordData> Record<N, D> {
-    ghost use Rattle.domain_message.specs.RecordParts.{owner_of, data_of};
+    ghost use Rattle.domain_message.specs.RecordParts.{owner_of, class_of, data_of};
 
     /// Appends the record, names as the target composes them: owner, type, class, TTL, the length of the data, the data.
     /// `Long` only if data that may be appended has more than 65,535 octets, `Append` only if the record exceeds the spare
@@ -225,6 +230,48 @@ impl<'a, N: AbsoluteLabels<'a>, D: ComposeRecordData> Record<N, D> {
             return Err(ComposeRdataError::Append(e));
         }
         if let Err(e) = self.rdata.compose_len_rdata(target) {
+            target.truncate(start);
+            return Err(e);
+        }
+        Ok(())
+    }
+
+    /// Appends the canonical form of the record with this TTL, or nothing (RFC 4034, 6.2): no name is compressed, the
+    /// owner's is in lowercase, and those in the data where the type asks for it. The TTL is the original one, which an
+    /// RRSIG record tells (RFC 4034, 3.1.4), and not what a cache has left of it.
+    ///
+    /// `Append` only where it exceeds the spare capacity, `Long` only where the data has more than 65,535 octets, and
+    /// `UnknownNames` where its names aren't known ([`ComposeRecordData`]). The target's octets are then unchanged.
+    pub fn compose_canonical<Target: Composer>(
+        &'a self,
+        original_ttl: Ttl,
+        target: &mut Target,
+    ) -> Result<(), CanonicalError<Target::AppendError>>
+        ensures ok { OnOk result (WithLengthAndForm
+            (canonical_form (D.type_number (data_of self.now)) (D.uncompressed (data_of self.now))
+            (D.lowercase (data_of self.now)))
+            (Target.octets target.old ++ canonical_head (N.labels (owner_of self.now))
+            (D.type_number (data_of self.now)) (class_number (class_of self.now))
+            (ttl_seconds original_ttl)) (Target.octets target.new)) }
+        ensures unchanged { OnErr result (Target.octets target.new ≡ Target.octets target.old) }
+        ensures why { IfErr result (CanonicalRecordRefused
+            (canonical_form (D.type_number (data_of self.now)) (D.uncompressed (data_of self.now))
+            (D.lowercase (data_of self.now)))
+            (canonical_head (N.labels (owner_of self.now)) (D.type_number (data_of self.now))
+            (class_number (class_of self.now)) (ttl_seconds original_ttl))
+            (Target.octets target.old) (Target.capacity target.old)) }
+        ensures capacity { Target.capacity target.old ≤ Target.capacity target.new }
+    {
+        let start = target.as_slice().len();
+        if let Err(e) = compose_canonical_name(&self.owner, target) {
+            return Err(CanonicalError::Append(e));
+        }
+        let numbers = octets_before_length(self.rdata.rtype(), self.class, original_ttl);
+        if let Err(e) = target.append_slice(&numbers) {
+            target.truncate(start);
+            return Err(CanonicalError::Append(e));
+        }
+        if let Err(e) = self.rdata.compose_canonical_len_rdata(target) {
             target.truncate(start);
             return Err(e);
         }

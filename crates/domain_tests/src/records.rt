@@ -2,9 +2,12 @@
 ghost use Rattle.std.specs.Prelude.{◌≡◌, ◌++◌, Some, false, refl};
 
 use arrayvec::ArrayVec;
+use domain::base::iana::Class;
+use domain::base::name::Name;
 use domain::base::rdata::{
     CanonicalError, ComposeRdataError, ComposeRecordData, RecordData, Rtype, UnknownRecordData,
 };
+use domain::base::record::{Record, Ttl};
 use domain::base::wire::Composer;
 use octseq::OctetsBuilder;
 use std::alloc::Global;
@@ -102,6 +105,24 @@ fn the_longest_data_has_its_length(rt: HostRuntime) {
     assert!(rt; data.compose_len_rdata(&mut target).is_ok());
     assert!(rt; target.len() == 65537);
     assert!(rt; target.as_slice().starts_with(&[255, 255, 0]));
+}
+
+/// The owner's name in lowercase, the type, the class, the TTL that was given, and the data as it stands: its type has
+/// no names (RFC 4034, 6.2).
+#[test]
+fn a_canonical_record_has_the_original_ttl(rt: HostRuntime) {
+    let Ok(owner) = Name::from_slice(b"\x03WWW\x02eX\0") else {
+        panic!(rt; "no name");
+    };
+    let data = Unmeasured {
+        octets: &[0xC0, 0x41],
+    };
+    let found = Record::new(owner, Class::from_int(1), Ttl::from_secs(7), data);
+    let mut target = Vec::new(rt.alloc());
+    let original_ttl = Ttl::from_secs(3600);
+    assert!(rt; found.compose_canonical(original_ttl, &mut target).is_ok());
+    let expected = b"\x03www\x02ex\0\xFF\0\0\x01\0\0\x0E\x10\0\x02\xC0\x41".as_slice();
+    assert!(rt; target.as_slice() == expected);
 }
 
 #[test]
