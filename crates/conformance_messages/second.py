@@ -1,5 +1,6 @@
 #!/usr/bin/env python3
-"""Answers the lines `answers`, `limit`, `any` and `typed` of the conformance table of messages, written from the standards.
+"""Answers the lines `answers`, `limit`, `any` and `typed` of the conformance table of messages, written from the standards;
+and `rebuild` where the message can't be read.
 
     second.py < LINES
 
@@ -278,9 +279,28 @@ def kept(message, word, only_in):
     return text
 
 
+def read_all(message):
+    """Reads each entry of a message, and the data of each record."""
+    reader = message.questions()[1]
+    for _record in range(sum(message.counts[1:])):
+        _owner, rtype, _rclass, _ttl, data = reader.record()
+        of_any(rtype, data, TYPED if rtype == 35 else SHAPES)
+
+
+def unread_answer(octets):
+    """The answer to a line `rebuild` with a message that can't be read."""
+    try:
+        read_all(Message(octets))
+    except Refused as why:
+        return f"err {why}"
+    raise SystemExit(f"rebuild {octets.hex()}: it can be read, and what is written is told by another writer")
+
+
 def answer(line):
     """The answer to a line."""
     word, *fields = line.split(" ")
+    if word == "rebuild":
+        return unread_answer(octets_of(fields[0]))
     if word in ("any", "typed") and len(fields) == 4:
         return any_answer(fields, TYPED if word == "typed" else SHAPES)
     if len(fields) != 2 or word not in ("answers", "limit"):

@@ -5,7 +5,7 @@
     table.py --random COUNT SEED
 
 ANSWERER is a command that answers the lines of README.md beside this file; those of `answers`, `limit`, `any` and `typed`
-are answered by second.py. No answer comes from the program itself. Parts of answers that stand here beside their line must be in what is
+are answered by second.py, those of `rebuild` by rebuild.rows or, where the message can't be read, by second.py. No answer comes from the program itself. Parts of answers that stand here beside their line must be in what is
 answered.
 
 With --random it prints lines of so many random and mutated messages, always the same for a SEED.
@@ -19,7 +19,9 @@ import sys
 
 import second
 
+FOLDER = os.path.dirname(os.path.abspath(__file__))
 rows = []  # (line, what must be in its answer, or None)
+written = {}  # the answers of rebuild.rows
 
 A, NS, CNAME, SOA, PTR, MX, TXT, AAAA, SRV, DNAME, PRIVATE = 1, 2, 5, 6, 12, 15, 16, 28, 33, 39, 65280
 KNOWN = (A, NS, CNAME, SOA, PTR, MX, AAAA, SRV, DNAME)
@@ -543,6 +545,26 @@ def typed_rows():
         row(line, told="bad")
 
 
+def rebuild_rows():
+    topic("messages that dnspython and libknot wrote, built anew")
+    with open(os.path.join(FOLDER, "rebuild.rows"), encoding="ascii") as file:
+        for line in file:
+            octets, answer = line.rstrip("\n").split("\t")
+            row("rebuild", octets)
+            written[rows[-1][0]] = hx(second.octets_of(octets if answer == "=" else answer))
+    topic("messages that can't be read: cut at each octet, with other counts, with data that is none")
+    mail = record(AT, MX, u16(10) + b"\4mail" + END)
+    naptr = record(AT, 35, u16(1) + u16(2) + b"\1u\0\0" + END)
+    whole = message([question(WWW)], [mail, naptr], (), [record(b"\0", 41, b"\0\3\0\0", rclass=1232)])
+    for size in range(len(whole)):
+        row("rebuild", whole[:size], told="err ")
+    for place in (4, 6, 8, 10):
+        row("rebuild", whole[:place] + u16(7) + whole[place + 2:], told="err ")
+    for rtype, data in ((A, b"\1\2\3"), (A, b"\1\2\3\4\5"), (NS, AT + b"\0"), (CNAME, pointer(4000)), (TXT, b""),
+                        (TXT, b"\2a"), (MX, u16(1)), (SOA, AT + AT + bytes(19)), (35, u16(1) + u16(2) + b"\2u")):
+        row("rebuild", message([question(WWW)], [record(AT, rtype, data)]), told="err ")
+
+
 def random_name(rng, places, at):
     """Labels of a few words, in any case, and then the root or a pointer to a name, sometimes to anywhere."""
     octets = b""
@@ -635,14 +657,15 @@ def random_lines(count, seed):
 
 
 def answers_to(lines, answerer):
-    """The answer to each line, by second.py or by the command."""
-    ours = [line.split(" ")[0] in ("answers", "limit", "any", "typed") for line in lines]
+    """The answer to each line, by rebuild.rows, by second.py or by the command."""
+    ours = [line.split(" ")[0] in ("answers", "limit", "any", "typed", "rebuild") for line in lines]
     text = "".join(line + "\n" for line, is_ours in zip(lines, ours) if not is_ours)
     ran = subprocess.run(answerer, input=text.encode(), stdout=subprocess.PIPE, check=True)
     others = ran.stdout.decode().splitlines()
     assert len(others) == ours.count(False), (len(others), ours.count(False))
     others = iter(others)
-    return [second.answer(line) if is_ours else next(others) for line, is_ours in zip(lines, ours)]
+    return [
+        written.get(line) or second.answer(line) if is_ours else next(others) for line, is_ours in zip(lines, ours)]
 
 
 def main():
@@ -659,6 +682,7 @@ def main():
     topic("random and mutated messages")
     for line in random_lines(400, 1):
         row(line)
+    rebuild_rows()
     table = {}
     for line, told in rows:
         if told is not None or line not in table:
@@ -670,10 +694,9 @@ def main():
         if told is not None and told not in answer:
             wrong += 1
             print("different:", line[:300], "\n  wanted:", told[:300], "\n  is:    ", answer[:300], file=sys.stderr)
-    folder = os.path.dirname(os.path.abspath(__file__))
-    with open(os.path.join(folder, "stdin"), "w", encoding="ascii") as file:
+    with open(os.path.join(FOLDER, "stdin"), "w", encoding="ascii") as file:
         file.write(text)
-    with open(os.path.join(folder, "stdout"), "w", encoding="ascii") as file:
+    with open(os.path.join(FOLDER, "stdout"), "w", encoding="ascii") as file:
         file.write("".join(answer + "\n" for answer in answers))
     lines = sum(not line.startswith("#") for line in table)
     by_hand = sum(told is not None for told in table.values())

@@ -189,7 +189,8 @@ class Report:
             f"cases](../evidence/compare/{CASES}): here on "
             f"{datetime.date.today().isoformat()}, {platform.system()} {platform.machine()}. Nothing is said of a "
             "library but what that run saw of the version below. What hostile messages cost in each: "
-            "[COST.md](COST.md)."), "")
+            "[COST.md](COST.md). How 300 messages of dnspython and libknot come out when this project reads and writes "
+            "them: [CONFORMANCE.md](CONFORMANCE.md#messages-of-other-writers)."), "")
 
     def differences(self):
         self.say("## Where this project differs", "")

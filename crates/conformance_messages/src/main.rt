@@ -8,6 +8,7 @@ mod compose;
 mod data;
 mod header;
 mod message;
+mod rebuild;
 mod select;
 mod typed;
 
@@ -15,6 +16,7 @@ use crate::compose::put_composed;
 use crate::data::put_data;
 use crate::header::{put_class, put_header, put_written_header};
 use crate::message::put_message;
+use crate::rebuild::put_rebuilt;
 use crate::select::{put_is_answer, put_limited};
 use conformance_answer::{Answer, Fail, Fields, is};
 use std::alloc::{AllocError, Global};
@@ -53,6 +55,8 @@ fn respond_to_octets(word: &[u8], octets: &[u8], out: &mut Answer) {
         put_composed(out, octets);
     } else if is(word, b"class") {
         put_class(out, octets);
+    } else if is(word, b"rebuild") {
+        put_rebuilt(out, octets);
     } else {
         out.fail(Fail::Bad);
     }

@@ -1,0 +1,140 @@
+//! A message that is read, and built anew.
+
+use crate::data::Read;
+use conformance_answer::Answer;
+use domain_compress::CompressComposer;
+use domain_data::{AllRecordData, Naptr};
+use domain_message::{Message, ParsedRecord, Record, RecordSection, Section};
+use domain_message_builder::MessageBuilder;
+use domain_rdata::{ComposeRecordData, ParseAnyRecordData, ParseRecordData};
+use domain_wire::ParseError;
+use octseq::Octets;
+use std::fmt::Display;
+
+/// What a message is composed into, with names written shorter.
+type Target = CompressComposer<Vec<u8>>;
+
+/// Data of any type, as it is read.
+type AnyData<'a> = AllRecordData<&'a [u8], Read<'a>>;
+
+/// `rebuild OCTETS`: the octets of the message that is built of the entries that are read.
+pub fn put_rebuilt(out: &mut Answer, octets: &[u8]) {
+    if let Some(made) = rebuilt(out, octets) {
+        out.put_hex(Octets::as_slice(&made));
+    }
+}
+
+fn rebuilt(out: &mut Answer, octets: &[u8]) -> Option<Target> {
+    let message = match Message::from_octets(octets) {
+        Ok(message) => message,
+        Err(error) => return nothing(out, error),
+    };
+    let target = CompressComposer::new(Vec::new(out.alloc()));
+    let mut made = match MessageBuilder::from_target(target) {
+        Ok(made) => made,
+        Err(error) => return nothing(out, error),
+    };
+    made.set_header(message.header());
+    if !push_all(out, &message, &mut made) {
+        return None;
+    }
+    out.agree(made.counts() == message.header_counts(), b"counts");
+    let len = made.len();
+    let octets = made.finish();
+    out.agree(Octets::as_slice(&octets).len() == len, b"len");
+    Some(octets)
+}
+
+fn nothing<E: Display + Drop>(out: &mut Answer, error: E) -> Option<Target> {
+    out.put_text_after(b"err ", error);
+    None
+}
+
+/// Whether each entry was read and pushed. If one wasn't, the error is the answer.
+fn push_all(out: &mut Answer, message: &Message<&[u8]>, made: &mut MessageBuilder<Target>) -> bool {
+    push_questions(out, message, made)
+        && push_section(out, Section::Answer, message.answer(), made)
+        && push_section(out, Section::Authority, message.authority(), made)
+        && push_section(out, Section::Additional, message.additional(), made)
+}
+
+fn push_questions(
+    out: &mut Answer,
+    message: &Message<&[u8]>,
+    made: &mut MessageBuilder<Target>,
+) -> bool {
+    for item in message.question() {
+        let question = match item {
+            Ok(question) => question,
+            Err(error) => return is_refused(out, error),
+        };
+        if let Err(error) = made.push_question(&question) {
+            return is_refused(out, error);
+        }
+    }
+    true
+}
+
+fn push_section(
+    out: &mut Answer,
+    section: Section,
+    records: Result<RecordSection<'_>, ParseError>,
+    made: &mut MessageBuilder<Target>,
+) -> bool {
+    let records = match records {
+        Ok(records) => records,
+        Err(error) => return is_refused(out, error),
+    };
+    for item in records {
+        match item {
+            Ok(found) => {
+                if !push_record(out, section, &found, made) {
+                    return false;
+                }
+            }
+            Err(error) => return is_refused(out, error),
+        }
+    }
+    true
+}
+
+fn is_refused<E: Display + Drop>(out: &mut Answer, error: E) -> bool {
+    out.put_text_after(b"err ", error);
+    false
+}
+
+/// Pushes a record, its data by its type. NAPTR is none of the types of `AllRecordData`, but its name is one that a
+/// writer may have written shorter all the same, and is read as a name for that (RFC 3597, 4).
+fn push_record(
+    out: &mut Answer,
+    section: Section,
+    found: &ParsedRecord<'_>,
+    made: &mut MessageBuilder<Target>,
+) -> bool {
+    let mut left = found.data();
+    if found.rtype().to_int() == 35 {
+        return match Naptr::<&[u8], Read<'_>>::parse_rdata(found.rtype(), &mut left) {
+            Ok(Some(data)) => push_data(out, section, found, data, made),
+            Ok(None) => is_refused(out, "NAPTR"),
+            Err(error) => is_refused(out, error),
+        };
+    }
+    match AnyData::parse_any_rdata(found.rtype(), &mut left) {
+        Ok(data) => push_data(out, section, found, data, made),
+        Err(error) => is_refused(out, error),
+    }
+}
+
+fn push_data<D: ComposeRecordData + Drop>(
+    out: &mut Answer,
+    section: Section,
+    found: &ParsedRecord<'_>,
+    data: D,
+    made: &mut MessageBuilder<Target>,
+) -> bool {
+    let record = Record::new(found.owner(), found.class(), found.ttl(), data);
+    match made.push(section, &record) {
+        Ok(()) => true,
+        Err(error) => is_refused(out, error),
+    }
+}
