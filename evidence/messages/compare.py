@@ -3,6 +3,7 @@
 
     compare.py KNOT PROGRAM             prints the page
     compare.py KNOT PROGRAM --write     writes it, last-run.md beside this file, and the rows of the table of messages
+    compare.py KNOT PROGRAM --random COUNT SEED    compares so many other messages, always the same for a SEED
 
 KNOT is the program of knot.c. PROGRAM answers the lines of the table of messages (crates/conformance_messages).
 
@@ -184,18 +185,28 @@ def rows(made):
         yield f"{spelled(it.octets)}\t{'=' if it.whole == it.octets else spelled(it.whole)}\n"
 
 
-def main():
-    knot, program = sys.argv[1:3]
-    made = compared(messages.all_messages(), knot, [program])
-    text, bad = page(made, compared(messages.messages_beside(), knot, [program]), knot)
-    if sys.argv[3:] == ["--write"]:
-        (HERE / "last-run.md").write_text(text, encoding="ascii")
-        ROWS.write_text("".join(rows(made)), encoding="ascii")
-    else:
-        print(text)
+def tell_differences(made):
+    """Prints the messages that aren't written as dnspython does, or that a reader doesn't read as before."""
     for it in made:
         if it.ours != it.whole or any(reading(*pair) != "the same" for pair in it.readings()):
             print("different:", it.message.kind, it.octets.hex(), it.ours_error or it.ours.hex(), file=sys.stderr)
+
+
+def main():
+    knot, program, *options = sys.argv[1:]
+    if options[:1] == ["--random"]:
+        made = compared(messages.random_messages(int(options[1]), int(options[2])), knot, [program])
+        found, bad = figures(made)
+        print("\n".join(found))
+    else:
+        made = compared(messages.all_messages(), knot, [program])
+        text, bad = page(made, compared(messages.messages_beside(), knot, [program]), knot)
+        if options == ["--write"]:
+            (HERE / "last-run.md").write_text(text, encoding="ascii")
+            ROWS.write_text("".join(rows(made)), encoding="ascii")
+        else:
+            print(text)
+    tell_differences(made)
     print(f"{len(made)} messages, {bad} differences")
     sys.exit(bad > 0)
 

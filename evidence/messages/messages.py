@@ -527,6 +527,13 @@ def all_messages():
     return messages
 
 
+def random_messages(count, seed):
+    """So many messages of all kinds, always the same for a seed."""
+    generator = Generator(seed)
+    kinds, weights = zip(*KINDS)
+    return [getattr(generator, kind)() for kind in generator.random.choices(kinds, weights, k=count)]
+
+
 def messages_beside():
     """Messages that one of the writers, or both, can't be compared on as the 300 are."""
     generator = Generator(SEED + 1)

@@ -4,6 +4,7 @@
 #   evidence/messages/run.sh WORK            prints the page
 #   evidence/messages/run.sh WORK --write    writes it, last-run.md beside this script, and the rows of the table of
 #                                            messages (crates/conformance_messages/rebuild.rows)
+#   evidence/messages/run.sh WORK --random COUNT SEED    compares so many other messages, and prints what was found
 #
 # WORK      the folder to build the program with libknot in
 # MESSAGES  the program that answers the table of messages (crates/conformance_messages/out/conformance_messages, which

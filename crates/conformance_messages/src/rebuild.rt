@@ -103,24 +103,38 @@ fn is_refused<E: Display + Drop>(out: &mut Answer, error: E) -> bool {
     false
 }
 
-/// Pushes a record, its data by its type. NAPTR is none of the types of `AllRecordData`, but its name is one that a
-/// writer may have written shorter all the same, and is read as a name for that (RFC 3597, 4).
+/// Pushes a record, its data by its type.
 fn push_record(
     out: &mut Answer,
     section: Section,
     found: &ParsedRecord<'_>,
     made: &mut MessageBuilder<Target>,
 ) -> bool {
-    let mut left = found.data();
     if found.rtype().to_int() == 35 {
-        return match Naptr::<&[u8], Read<'_>>::parse_rdata(found.rtype(), &mut left) {
-            Ok(Some(data)) => push_data(out, section, found, data, made),
-            Ok(None) => is_refused(out, "NAPTR"),
-            Err(error) => is_refused(out, error),
-        };
+        return push_naptr(out, section, found, made);
     }
+    let mut left = found.data();
     match AnyData::parse_any_rdata(found.rtype(), &mut left) {
         Ok(data) => push_data(out, section, found, data, made),
+        Err(error) => is_refused(out, error),
+    }
+}
+
+/// NAPTR is none of the types of `AllRecordData`. But other writers compress its name, and a copy of a pointer would lead
+/// elsewhere in the new message: so it is read as a name (RFC 3597, 4).
+fn push_naptr(
+    out: &mut Answer,
+    section: Section,
+    found: &ParsedRecord<'_>,
+    made: &mut MessageBuilder<Target>,
+) -> bool {
+    let mut left = found.data();
+    match Naptr::<&[u8], Read<'_>>::parse_rdata(found.rtype(), &mut left) {
+        Ok(Some(data)) => push_data(out, section, found, data, made),
+        Ok(None) => {
+            out.agree(false, b"parse_rdata");
+            false
+        }
         Err(error) => is_refused(out, error),
     }
 }
