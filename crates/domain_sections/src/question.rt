@@ -111,8 +111,7 @@ impl<Target: Composer> QuestionBuilder<Target> {
         ensures same { result ≡ question_builder self }
         ensures no_records { record_count (state_of Target.octets result).counts ≡ 0 }
     {
-        let QuestionBuilder { builder, .. } = self;
-        builder
+        self.builder
     }
 
     /// Goes back to a message without entries: the questions are taken away again.
@@ -135,7 +134,6 @@ impl<Target: Composer> QuestionBuilder<Target> {
         ensures within { length (Target.octets result)
             ≤ (question_state Target.octets self).limit }
     {
-        let QuestionBuilder { builder, .. } = self;
-        builder.finish()
+        self.builder.finish()
     }
 }

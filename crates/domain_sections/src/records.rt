@@ -29,7 +29,7 @@ use std::marker::PhantomData;
 #[derive(Drop)]
 pub struct RecordBuilder<Target: Composer, S: RecordSection> {
     pub(crate) builder: MessageBuilder<Target>,
-    pub(crate) section: PhantomData<S>,
+    section: PhantomData<S>,
     ghost none_later: { later_count S.SECTION (state_of Target.octets builder).counts ≡ 0 },
 }
 
@@ -56,7 +56,14 @@ impl<Target: Composer, S: RecordSection> RecordBuilder<Target, S> {
         ensures capacity { Target.capacity (record_target result)
             ≡ Target.capacity (target_of builder) }
     {
-        let builder = without_later(S::SECTION, builder);
+        RecordBuilder::at(without_later(S::SECTION, builder))
+    }
+
+    /// The same where no later section has a record.
+    pub(crate) fn at(builder: MessageBuilder<Target>) -> Self
+        requires { later_count S.SECTION (state_of Target.octets builder).counts ≡ 0 }
+        ensures { record_builder result ≡ builder }
+    {
         RecordBuilder {
             builder,
             section: PhantomData,
@@ -133,8 +140,7 @@ impl<Target: Composer, S: RecordSection> RecordBuilder<Target, S> {
         ensures same { result ≡ record_builder self }
         ensures none_later { later_count S.SECTION (state_of Target.octets result).counts ≡ 0 }
     {
-        let RecordBuilder { builder, .. } = self;
-        builder
+        self.builder
     }
 
     /// Goes back to a message without entries: all are taken away again.
@@ -156,8 +162,7 @@ impl<Target: Composer, S: RecordSection> RecordBuilder<Target, S> {
         ensures octets { Target.octets result ≡ finished_octets (record_state Target.octets self) }
         ensures within { length (Target.octets result) ≤ (record_state Target.octets self).limit }
     {
-        let RecordBuilder { builder, .. } = self;
-        builder.finish()
+        self.builder.finish()
     }
 }
 

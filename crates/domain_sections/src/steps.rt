@@ -11,7 +11,6 @@ use crate::section::{AdditionalSection, AnswerSection, AuthoritySection, RecordS
 use domain_message::Section;
 use domain_message_builder::MessageBuilder;
 use domain_rdata::Composer;
-use std::marker::PhantomData;
 
 impl<Target: Composer> QuestionBuilder<Target> {
     /// The same builder.
@@ -25,11 +24,7 @@ impl<Target: Composer> QuestionBuilder<Target> {
     pub fn answer(self) -> AnswerBuilder<Target>
         ensures { record_builder result ≡ question_builder self }
     {
-        let QuestionBuilder { builder, .. } = self;
-        RecordBuilder {
-            builder,
-            section: PhantomData,
-        }
+        AnswerBuilder::at(self.builder)
     }
 
     /// Goes on to the authority section.
@@ -73,11 +68,7 @@ impl<Target: Composer> RecordBuilder<Target, AnswerSection> {
     pub fn authority(self) -> AuthorityBuilder<Target>
         ensures { record_builder result ≡ record_builder self }
     {
-        let RecordBuilder { builder, .. } = self;
-        RecordBuilder {
-            builder,
-            section: PhantomData,
-        }
+        AuthorityBuilder::at(self.builder)
     }
 
     /// Goes on to the additional section.
@@ -110,11 +101,7 @@ impl<Target: Composer> RecordBuilder<Target, AuthoritySection> {
     pub fn additional(self) -> AdditionalBuilder<Target>
         ensures { record_builder result ≡ record_builder self }
     {
-        let RecordBuilder { builder, .. } = self;
-        RecordBuilder {
-            builder,
-            section: PhantomData,
-        }
+        AdditionalBuilder::at(self.builder)
     }
 }
 
@@ -138,10 +125,7 @@ impl<Target: Composer> RecordBuilder<Target, AdditionalSection> {
     {
         let mut builder = self.into_builder();
         builder.rewind(Section::Additional);
-        RecordBuilder {
-            builder,
-            section: PhantomData,
-        }
+        AuthorityBuilder::at(builder)
     }
 
     /// The same builder.
@@ -161,8 +145,5 @@ fn back_to_answers<Target: Composer>(builder: MessageBuilder<Target>) -> AnswerB
 {
     let mut builder = builder;
     builder.rewind(Section::Authority);
-    RecordBuilder {
-        builder,
-        section: PhantomData,
-    }
+    AnswerBuilder::at(builder)
 }
