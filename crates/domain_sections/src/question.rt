@@ -111,7 +111,8 @@ impl<Target: Composer> QuestionBuilder<Target> {
         ensures same { result ≡ question_builder self }
         ensures no_records { record_count (state_of Target.octets result).counts ≡ 0 }
     {
-        self.builder
+        let QuestionBuilder { builder, .. } = self;
+        builder
     }
 
     /// Goes back to a message without entries: the questions are taken away again.

@@ -140,7 +140,8 @@ impl<Target: Composer, S: RecordSection> RecordBuilder<Target, S> {
         ensures same { result ≡ record_builder self }
         ensures none_later { later_count S.SECTION (state_of Target.octets result).counts ≡ 0 }
     {
-        self.builder
+        let RecordBuilder { builder, .. } = self;
+        builder
     }
 
     /// Goes back to a message without entries: all are taken away again.
