@@ -191,9 +191,9 @@ impl<Target: Composer> RecordBuilder<Target, AdditionalSection> {
         ensures capacity { Target.capacity (record_target self.old)
             ≤ Target.capacity (record_target self.new) }
     {
-        let Err(e) = self.builder.push_opt(opt) else {
+        let Err(refused) = self.builder.push_opt(opt) else {
             return Ok(());
         };
-        Err(without_order(e))
+        Err(without_order(refused))
     }
 }
