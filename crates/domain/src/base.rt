@@ -103,10 +103,15 @@ pub mod message {
     };
 }
 
-/// Messages that are written (RFC 1035, 4.1). crates/domain_message_builder/README.md tells how to write one.
+/// Messages that are written (RFC 1035, 4.1). crates/domain_message_builder/README.md tells how to write one, and
+/// crates/domain_sections/README.md how with a type for each section.
 pub mod message_builder {
     pub use domain_message_builder::{
         MessageBuilder, OptBuilder, PushError, StartError, builder_laws,
+    };
+    pub use domain_sections::{
+        AdditionalBuilder, AdditionalSection, AnswerBuilder, AnswerSection, AuthorityBuilder,
+        AuthoritySection, QuestionBuilder, RecordBuilder, RecordSection, SectionError,
     };
 }
 

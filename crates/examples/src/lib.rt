@@ -30,6 +30,7 @@ pub mod owners;
 pub mod program;
 pub mod reading;
 pub mod records;
+pub mod sections;
 pub mod serving;
 pub mod typed_names;
 pub mod values;

@@ -1,0 +1,149 @@
+//! The steps from one section to another.
+ghost use Rattle.std.specs.Prelude.{◌≡◌};
+ghost use Rattle.domain_message.specs.declared.section.Section.TheVariants.{Answer, Authority, Additional};
+ghost use Rattle.domain_message_builder.specs.Pushes.{Rewinds};
+ghost use Rattle.domain_message_builder.specs.Views.{state_of, target_of};
+ghost use Rattle.domain_sections.specs.Views.{question_builder, question_state, question_target, record_builder, record_state, record_target};
+
+use crate::question::QuestionBuilder;
+use crate::records::{AdditionalBuilder, AnswerBuilder, AuthorityBuilder, RecordBuilder};
+use crate::section::{AdditionalSection, AnswerSection, AuthoritySection, RecordSection};
+use domain_message::Section;
+use domain_message_builder::MessageBuilder;
+use domain_rdata::Composer;
+
+impl<Target: Composer> QuestionBuilder<Target> {
+    /// The same builder.
+    pub fn question(self) -> QuestionBuilder<Target>
+        ensures { result ≡ self }
+    {
+        self
+    }
+
+    /// Goes on to the answers.
+    pub fn answer(self) -> AnswerBuilder<Target>
+        ensures { record_builder result ≡ question_builder self }
+    {
+        AnswerBuilder::at(self.builder)
+    }
+
+    /// Goes on to the authority section.
+    pub fn authority(self) -> AuthorityBuilder<Target>
+        ensures { record_builder result ≡ question_builder self }
+    {
+        self.answer().authority()
+    }
+
+    /// Goes on to the additional section.
+    pub fn additional(self) -> AdditionalBuilder<Target>
+        ensures { record_builder result ≡ question_builder self }
+    {
+        self.answer().additional()
+    }
+}
+
+impl<Target: Composer, S: RecordSection> RecordBuilder<Target, S> {
+    /// Goes back to the questions: all records are taken away again.
+    pub fn question(self) -> QuestionBuilder<Target>
+        ensures rewinds { Rewinds Target.compresses Answer
+            (record_state Target.octets self) (question_state Target.octets result) }
+        ensures capacity { Target.capacity (question_target result)
+            ≡ Target.capacity (record_target self) }
+    {
+        let mut builder = self.into_builder();
+        builder.rewind(Section::Answer);
+        QuestionBuilder { builder }
+    }
+}
+
+impl<Target: Composer> RecordBuilder<Target, AnswerSection> {
+    /// The same builder.
+    pub fn answer(self) -> AnswerBuilder<Target>
+        ensures { result ≡ self }
+    {
+        self
+    }
+
+    /// Goes on to the authority section.
+    pub fn authority(self) -> AuthorityBuilder<Target>
+        ensures { record_builder result ≡ record_builder self }
+    {
+        AuthorityBuilder::at(self.builder)
+    }
+
+    /// Goes on to the additional section.
+    pub fn additional(self) -> AdditionalBuilder<Target>
+        ensures { record_builder result ≡ record_builder self }
+    {
+        self.authority().additional()
+    }
+}
+
+impl<Target: Composer> RecordBuilder<Target, AuthoritySection> {
+    /// Goes back to the answers: the records of the authority section are taken away again.
+    pub fn answer(self) -> AnswerBuilder<Target>
+        ensures rewinds { Rewinds Target.compresses Authority
+            (record_state Target.octets self) (record_state Target.octets result) }
+        ensures capacity { Target.capacity (record_target result)
+            ≡ Target.capacity (record_target self) }
+    {
+        back_to_answers(self.into_builder())
+    }
+
+    /// The same builder.
+    pub fn authority(self) -> AuthorityBuilder<Target>
+        ensures { result ≡ self }
+    {
+        self
+    }
+
+    /// Goes on to the additional section.
+    pub fn additional(self) -> AdditionalBuilder<Target>
+        ensures { record_builder result ≡ record_builder self }
+    {
+        AdditionalBuilder::at(self.builder)
+    }
+}
+
+impl<Target: Composer> RecordBuilder<Target, AdditionalSection> {
+    /// Goes back to the answers: the records of the authority section and the additional ones are taken away again.
+    pub fn answer(self) -> AnswerBuilder<Target>
+        ensures rewinds { Rewinds Target.compresses Authority
+            (record_state Target.octets self) (record_state Target.octets result) }
+        ensures capacity { Target.capacity (record_target result)
+            ≡ Target.capacity (record_target self) }
+    {
+        back_to_answers(self.into_builder())
+    }
+
+    /// Goes back to the authority section: the additional records are taken away again.
+    pub fn authority(self) -> AuthorityBuilder<Target>
+        ensures rewinds { Rewinds Target.compresses Additional
+            (record_state Target.octets self) (record_state Target.octets result) }
+        ensures capacity { Target.capacity (record_target result)
+            ≡ Target.capacity (record_target self) }
+    {
+        let mut builder = self.into_builder();
+        builder.rewind(Section::Additional);
+        AuthorityBuilder::at(builder)
+    }
+
+    /// The same builder.
+    pub fn additional(self) -> AdditionalBuilder<Target>
+        ensures { result ≡ self }
+    {
+        self
+    }
+}
+
+/// The answers, without what comes after them.
+fn back_to_answers<Target: Composer>(builder: MessageBuilder<Target>) -> AnswerBuilder<Target>
+    ensures rewinds { Rewinds Target.compresses Authority
+        (state_of Target.octets builder) (record_state Target.octets result) }
+    ensures capacity { Target.capacity (record_target result)
+        ≡ Target.capacity (target_of builder) }
+{
+    let mut builder = builder;
+    builder.rewind(Section::Authority);
+    AnswerBuilder::at(builder)
+}

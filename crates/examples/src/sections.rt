@@ -1,0 +1,46 @@
+//! Messages that are built section by section.
+ghost use Rattle.std.specs.Prelude.{◌<◌, length, IfSome, IsNone};
+ghost use Rattle.domain_message.specs.RecordParts.{data_of};
+ghost use Rattle.domain_message_builder.specs.Pushes.{asked, headed};
+ghost use Rattle.examples.specs.Built.{IsAnswer, NotAnswered};
+
+use domain::base::header::Header;
+use domain::base::message_builder::{MessageBuilder, QuestionBuilder};
+use domain::base::name::*;
+use domain::base::question::Question;
+use domain::base::rdata::ComposeRecordData;
+use domain::base::record::Record;
+use domain::base::wire::Composer;
+
+/// A message of at most 512 octets with this header, this question and this answer. It has the contract of `answer`,
+/// which tells the section by an argument.
+pub fn answer_by_sections<'a, N: AbsoluteLabels<'a>, D: ComposeRecordData, Target: Composer + Drop>(
+    target: Target,
+    header: Header,
+    question: &'a Question<N>,
+    resource: &'a Record<N, D>,
+) -> Option<Target>
+    ensures ok { IfSome result (λ made. IsAnswer header
+        (asked N.labels question.now) (headed N.labels D.type_number resource.now)
+        (D.composed (data_of resource.now) Target.compresses) (Target.octets made)) }
+    ensures none { IsNone result → NotAnswered Target.compresses (asked N.labels question.now)
+        (headed N.labels D.type_number resource.now)
+        (D.composed (data_of resource.now) Target.compresses)
+        (Target.octets target) (Target.capacity target) 512 }
+    ensures not_empty { 0 < length (Target.octets target) → IsNone result }
+{
+    let mut message = match MessageBuilder::with_limit(target, 512) {
+        Ok(message) => message,
+        Err(_) => return None,
+    };
+    message.set_header(header);
+    let mut questions = QuestionBuilder::from_builder(message);
+    if let Err(_) = questions.push(question) {
+        return None;
+    }
+    let mut answers = questions.answer();
+    if let Err(_refused) = answers.push(resource) {
+        return None;
+    }
+    Some(answers.finish())
+}
