@@ -12,6 +12,8 @@ mod compressing;
 #[cfg(test)]
 mod cut_messages;
 #[cfg(test)]
+mod edns;
+#[cfg(test)]
 mod engines;
 #[cfg(test)]
 mod flattening;
