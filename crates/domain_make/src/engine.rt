@@ -20,8 +20,8 @@ use std::io::{Read, Write};
 
 /// Appends to an empty target the message that the lines of a text say.
 ///
-/// `Line` has the first line that says nothing of a message, and why. `Memory` where there was no memory, or the target
-/// isn't empty.
+/// `Line` has the first line that isn't taken, and why: it says nothing of a message, or an entry that isn't pushed after
+/// those before it. `Memory` where there was no memory, or the target isn't empty.
 pub fn make_message<Target: Composer + Drop>(
     alloc: Global,
     text: &[u8],
@@ -114,8 +114,8 @@ fn send_octets<W: Write>(octets: &[u8], hex: bool, output: &mut W) -> Result<(),
 /// Reads the input to its end, writes the message that its lines say, as it is or in hexadecimal digits and with a
 /// newline, and flushes the output.
 ///
-/// `Line` has the first line that says nothing of a message, and why; nothing is written then. `Read`, `Write` or
-/// `Memory` where one of these failed.
+/// `Line` has the first line that isn't taken, and why, as of `make_message`; nothing is written then. `Read`, `Write`
+/// or `Memory` where one of these failed.
 pub fn make<R: Read, W: Write>(
     alloc: Global,
     input: &mut R,
@@ -163,7 +163,7 @@ fn asked(words: &[&str]) -> Option<bool>
 }
 
 /// Carries out the words that follow the program's name, where the first of them is `make`. The answer is the status to
-/// end with: 0 where the message was written, 1 where a line says nothing of a message, 2 for other words than `make`,
+/// end with: 0 where the message was written, 1 where a line isn't taken, 2 for other words than `make`,
 /// and `--hex` or not; 3 where reading, writing or memory failed. The reasons are on `errors`.
 pub fn run<R: Read, W: Write, E: Write>(
     alloc: Global,
