@@ -1,6 +1,6 @@
 -- What a builder holds after each line.
-use Rattle.std.proofs.Common.{◌≡◌, ℕ, ◌+◌, ◌<◌, ◌≤◌, Bool, List, [], ◌∷◌, length, refl, sym, ap, subst, ◌∙◌, arith}
-use Rattle.std.specs.Prelude.{◌≢◌, slice_index, slice_range, Result, Ok, Err, OnOk}
+use Rattle.std.proofs.Common.{◌≡◌, ℕ, ◌+◌, ◌<◌, ◌≤◌, Bool, true, List, [], ◌∷◌, length, refl, sym, ap, subst, ◌∙◌, arith, add-one}
+use Rattle.std.specs.Prelude.{◌≢◌, slice_index, slice_range, Result, Ok, Err, OnOk, Option, Some, None, IfSome}
 use Rattle.domain_header.specs.declared.flags.Header.{Header}
 use Rattle.domain_message.specs.Entries.{QuestionFields}
 use Rattle.domain_message.specs.declared.section.Section.{Section}
@@ -8,18 +8,24 @@ use Rattle.domain_message_builder.specs.Contents.{Content, RecordHead, no_conten
 use Rattle.domain_message_builder.specs.Pushes.{with_header, record_added, IsBegun, PushesQuestion, PushesRecord}
 use Rattle.domain_message_builder.specs.Reading.{IsMessageOf}
 use Rattle.domain_message_builder.specs.State.{State}
-use Rattle.domain_make.specs.Drafts.{Draft, IsBlankDraft, IsAsked, IsRemark, LineSays, IsLine, LinesSay, TextSays, IsDraft, Takes, TakesAll, StopsFrom}
+use Rattle.domain_make.specs.Drafts.{Draft, IsBlankDraft, IsAsked, IsRemark, LineSays, IsLine, LinesSay, TextSays, IsDraft, Takes, TakesAll}
 use Rattle.domain_make.specs.Drafts.LineSays.{empty, remark, asked, question, entry}
 use Rattle.domain_make.specs.Drafts.LinesSay.{none, line}
 use Rattle.domain_make.specs.Entries.{IsQuestionWords, IsRecordWords}
-use Rattle.domain_make.specs.Made.{IsMade, IfLine, IsLineError}
+use Rattle.domain_make.specs.Faults.{IfRefused}
+use Rattle.domain_make.specs.Made.{IsMade, IfLine}
+use Rattle.domain_make.specs.Refusals.{Refuses, StopsAt, StopsFrom, HasRoom}
 use Rattle.domain_make.specs.Remarks.{IsTrimmed, Remarks}
-use Rattle.domain_make.specs.Words.{AreWords}
+use Rattle.domain_make.specs.Words.{WordAt, words_at, AreWords}
+use Rattle.domain_make.specs.declared.words.Word.{Word}
+use Rattle.domain_make.specs.declared.error.LineError.{LineError}
 use Rattle.domain_make.specs.declared.error.MakeError.{MakeError}
 use Rattle.domain_make.specs.declared.error.MakeError.TheVariants.{Line, Read, Write, Memory}
-use Rattle.domain_make.specs.declared.remark.Place.{Place}
-use Rattle.domain_make.specs.declared.remark.Place.TheVariants.{Start, Questions, Records}
-use Rattle.domain_make.specs.declared.words.Word.{Word}
+use Rattle.domain_make.specs.declared.remark.Stage.{Stage}
+use Rattle.domain_make.specs.declared.remark.Stage.TheVariants.{Start, Questions, Records}
+use Rattle.domain_make.specs.declared.error.Stop.{Stop}
+use Rattle.domain_make.specs.declared.error.Stop.TheVariants.{Refused}
+use Rattle.domain_make.proofs.Refusing.{accepted}
 
 -- What follows where a call succeeds.
 pub on_ok : {E : Type 0} (P Q : Type 0) (r : Result (Unit {0}) E) → (P → Q) → OnOk r P → OnOk r Q
@@ -27,78 +33,131 @@ on_ok P Q (Ok x) follows h = follows h
 on_ok P Q (Err e) follows h = tt
 
 -- A line says nothing.
-pub takes_nothing : (c : Bool) (l : List ℕ) (place : Place) (s : State) (words : List Word) → slice_index l 0 ≢ 59 → length words ≡ 0 → AreWords l 0 words → Takes c l place s place s
-takes_nothing c l place s [] plain no_words are = λ d is. (d, empty plain are refl, is)
-takes_nothing c l place s (w ∷ words) plain no_words are = absurd (omega arith)
+pub takes_nothing : (c : Bool) (l : List ℕ) (stage : Stage) (s : State) (words : List Word) → slice_index l 0 ≢ 59 → length words ≡ 0 → AreWords l 0 (words_at words) → Takes c l stage s stage s
+takes_nothing c l stage s [] plain no_words are = λ d is. (d, empty plain are refl, is)
+takes_nothing c l stage s (w ∷ words) plain no_words are = absurd (omega arith)
 
--- A remark leads to another place or header.
-pub takes_remark : (c : Bool) (l text : List ℕ) (place next : Place) (old new : State) (h : Header) → IsRemark l place → IsTrimmed l text → Remarks text place old.header next h → new ≡ with_header h old → Takes c l place old next new
-takes_remark c l text place next old new h marked trimmed says same = λ d is.
-    let at_place : Remarks text d.place old.header next h = subst (λ p. Remarks text p old.header next h) (sym is.place_is) says in
-    let at_header : Remarks text d.place d.header next h = subst (λ k. Remarks text d.place k next h) (sym is.header_is) at_place in (
-      record { place = next; header = h; content = d.content },
-      remark text (subst (λ p. IsRemark l p) (sym is.place_is) marked) trimmed at_header refl,
-      record { place_is = refl; header_is = sym (ap (λ s. s.header) same); holds = subst (λ s. Holds c s d.content) (sym same) is.holds },
+-- A remark leads to another stage or header.
+pub takes_remark : (c : Bool) (l text : List ℕ) (stage next : Stage) (old new : State) (h : Header) → IsRemark l stage → IsTrimmed l text → Remarks text stage old.header next h → new ≡ with_header h old → Takes c l stage old next new
+takes_remark c l text stage next old new h marked trimmed says same = λ d is.
+    let at_place : Remarks text d.stage old.header next h = subst (λ p. Remarks text p old.header next h) (sym is.stage_is) says in
+    let at_header : Remarks text d.stage d.header next h = subst (λ k. Remarks text d.stage k next h) (sym is.header_is) at_place in (
+      record { stage = next; header = h; content = d.content },
+      remark text (subst (λ p. IsRemark l p) (sym is.stage_is) marked) trimmed at_header refl,
+      record {
+        stage_is = refl;
+        header_is = sym (ap (λ s. s.header) same);
+        limit_is = ap (λ (s : State). s.limit) same ∙ is.limit_is;
+        reserved_is = ap (λ (s : State). s.reserved) same ∙ is.reserved_is;
+        holds = subst (λ s. Holds c s d.content) (sym same) is.holds;
+      },
     )
 
 -- A question was pushed.
 after_question : (c : Bool) (q : QuestionFields) (old new : State) (d : Draft) → PushesQuestion c q old new → IsDraft c Questions old d → IsDraft c Questions new (record d { content = question_added d.content q })
-after_question c q old new d pushed is = record { place_is = is.place_is; header_is = is.header_is ∙ sym pushed.settings.header; holds = pushed.holds d.content is.holds }
+after_question c q old new d pushed is = record {
+  stage_is = is.stage_is;
+  header_is = is.header_is ∙ sym pushed.settings.header;
+  limit_is = pushed.settings.limit ∙ is.limit_is;
+  reserved_is = pushed.settings.reserved ∙ is.reserved_is;
+  holds = pushed.holds d.content is.holds;
+}
 
-pub takes_question : (c : Bool) (l : List ℕ) (old new : State) (words : List Word) (q : QuestionFields) → slice_index l 0 ≢ 59 → AreWords l 0 words → IsQuestionWords words q → PushesQuestion c q old new → Takes c l Questions old Questions new
-takes_question c l old new words q plain are says pushed = λ d is. (record d { content = question_added d.content q }, question words q is.place_is plain are says refl, after_question c q old new d pushed is)
+pub takes_question : (c : Bool) (l : List ℕ) (old new : State) (words : List WordAt) (q : QuestionFields) → slice_index l 0 ≢ 59 → AreWords l 0 words → IsQuestionWords words q → PushesQuestion c q old new → Takes c l Questions old Questions new
+takes_question c l old new words q plain are says pushed = λ d is. (record d { content = question_added d.content q }, question words q is.stage_is plain are says refl, after_question c q old new d pushed is)
 
-pub takes_asked : (c : Bool) (l : List ℕ) (old new : State) (words : List Word) (q : QuestionFields) → IsAsked l → AreWords l 1 words → IsQuestionWords words q → PushesQuestion c q old new → Takes c l Questions old Questions new
-takes_asked c l old new words q begins are says pushed = λ d is. (record d { content = question_added d.content q }, asked words q is.place_is begins are says refl, after_question c q old new d pushed is)
+pub takes_asked : (c : Bool) (l : List ℕ) (old new : State) (words : List WordAt) (q : QuestionFields) → IsAsked l → AreWords l 1 words → IsQuestionWords words q → PushesQuestion c q old new → Takes c l Questions old Questions new
+takes_asked c l old new words q begins are says pushed = λ d is. (record d { content = question_added d.content q }, asked words q is.stage_is begins are says refl, after_question c q old new d pushed is)
 
 -- A record was pushed.
-pub takes_record : (c : Bool) (l : List ℕ) (section : Section) (old new : State) (words : List Word) (head : RecordHead) (octets : List ℕ) → slice_index l 0 ≢ 59 → AreWords l 0 words → IsRecordWords words head octets
+pub takes_record : (c : Bool) (l : List ℕ) (section : Section) (old new : State) (words : List WordAt) (head : RecordHead) (octets : List ℕ) → slice_index l 0 ≢ 59 → AreWords l 0 words → IsRecordWords words head octets
     → PushesRecord c section head (λ _ s. s ≡ octets) old new → Takes c l (Records section) old (Records section) new
 takes_record c l section old new words head octets plain are says pushed = λ d is.
     let it : List ℕ → Content = λ o. record_added section d.content (record { head = head; rdata = o }) in (
       record d { content = it octets },
-      entry section words head octets is.place_is plain are says refl,
-      record { place_is = is.place_is; header_is = is.header_is ∙ sym pushed.settings.header; holds = subst (λ o. Holds c new (it o)) pushed.octets.allowed.data_allowed (pushed.holds d.content is.holds) },
+      entry section words head octets is.stage_is plain are says refl,
+      record {
+        stage_is = is.stage_is;
+        header_is = is.header_is ∙ sym pushed.settings.header;
+        limit_is = pushed.settings.limit ∙ is.limit_is;
+        reserved_is = pushed.settings.reserved ∙ is.reserved_is;
+        holds = subst (λ o. Holds c new (it o)) pushed.octets.allowed.data_allowed (pushed.holds d.content is.holds);
+      },
     )
 
 -- The lines before an offset were taken.
-abbrev pub Taken : Bool → List ℕ → ℕ → ℕ → Place → State → State → Type 0
-Taken c text n at place old now = (d : Draft) → IsBlankDraft d → IsDraft c Start old d → (e : Draft) × LinesSay text n at e × IsDraft c place now e
+abbrev pub Taken : Bool → List ℕ → ℕ → ℕ → Stage → State → State → Type 0
+Taken c text n at stage old now = (d : Draft) → IsBlankDraft d → IsDraft c Start old d → (e : Draft) × LinesSay text n at e × IsDraft c stage now e
 
 pub taken_none : (c : Bool) (text : List ℕ) (s : State) → Taken c text 0 0 Start s s
-taken_none c text s = λ d blank is. (d, none blank, is)
+taken_none c text s = λ d fresh is. (d, none fresh, is)
 
-pub taken_more : (c : Bool) (text : List ℕ) (n at end : ℕ) (place next : Place) (old now new : State) → Taken c text n at place old now → IsLine text at end → Takes c (slice_range text at end) place now next new → Taken c text (n + 1) (end + 1) next old new
-taken_more c text n at end place next old now new before is_line takes = λ d blank is.
-    let said = before d blank is in
+pub taken_more : (c : Bool) (text : List ℕ) (n at end : ℕ) (stage next : Stage) (old now new : State) → Taken c text n at stage old now → IsLine text at end → Takes c (slice_range text at end) stage now next new → Taken c text (n + 1) (end + 1) next old new
+taken_more c text n at end stage next old now new before is_line takes = λ d fresh is.
+    let said = before d fresh is in
     let more = takes said.0 said.2 in
-    (more.0, line more.0 said.1 is_line more.1, more.2)
+    (more.0, subst (λ k. LinesSay text k (end + 1) more.0) (sym (add-one n)) (line more.0 said.1 is_line more.1), more.2)
 
-pub taken_all : (c : Bool) (text : List ℕ) (n at : ℕ) (place : Place) (old now : State) → Taken c text n at place old now → length text ≤ at → TakesAll c text old now
-taken_all c text n at place old now before whole = λ d blank is.
-    let said = before d blank is in
-    (said.0, record { lines = n; at = at; to = said.1; whole = whole }, record { place_is = refl; header_is = said.2.header_is; holds = said.2.holds })
+pub taken_all : (c : Bool) (text : List ℕ) (n at : ℕ) (stage : Stage) (old now : State) → Taken c text n at stage old now → length text ≤ at → TakesAll c text old now
+taken_all c text n at stage old now before whole = λ d fresh is.
+    let said = before d fresh is in
+    (said.0, record { lines = n; at = at; to = said.1; whole = whole }, record { stage_is = refl; header_is = said.2.header_is; limit_is = said.2.limit_is; reserved_is = said.2.reserved_is; holds = said.2.holds })
+
+-- What a builder that was begun holds: nothing.
+abbrev blank : State → Draft
+blank s = record { stage = Start; header = s.header; content = no_content }
+
+blank_is : (c : Bool) (s : State) → IsBegun c 65535 s → IsBlankDraft (blank s)
+blank_is c s is = record { stage = refl; id = is.id; high = is.high; low = is.low; content = refl }
+
+blank_held : (c : Bool) (s : State) → IsBegun c 65535 s → IsDraft c Start s (blank s)
+blank_held c s is = record { stage_is = refl; header_is = refl; limit_is = is.limit_is; reserved_is = is.reserved; holds = is.holds }
 
 -- The message was made.
 pub made : (c : Bool) (text m : List ℕ) (begun s : State) → IsBegun c 65535 begun → TakesAll c text begun s → ((it : Content) → Holds c s it → IsMessageOf s.header it m) → IsMade text m
 made c text m begun s is takes message =
-    let d : Draft = record { place = Start; header = begun.header; content = no_content } in
-    let said = takes d (record { place = refl; id = is.id; high = is.high; low = is.low; content = refl }) (record { place_is = refl; header_is = refl; holds = is.holds }) in
+    let said = takes (blank begun) (blank_is c begun is) (blank_held c begun is) in
     record { said = said.0; says = said.1; message = subst (λ h. IsMessageOf h said.0.content m) (sym said.2.header_is) (message said.0.content said.2.holds) }
 
--- The line after those that were taken was refused.
-pub line_refused : (c : Bool) (text : List ℕ) (n at : ℕ) (place : Place) (old now : State) (e : MakeError) → Taken c text n at place old now → at < length text → IfLine e (λ told. told.line ≡ n + 1) → IfLine e (λ told. StopsFrom c text told.line old)
-line_refused c text n at place old now (Line e) before more is = λ d blank drafted.
-    let said = before d blank drafted in
-    record { lines = n; at = at; said = said.0; before = said.1; more = more; next = is }
-line_refused c text n at place old now Read before more is = tt
-line_refused c text n at place old now Write before more is = tt
-line_refused c text n at place old now Memory before more is = tt
+-- The line after those that were taken wasn't.
+pub line_refused : (c : Bool) (text : List ℕ) (n at end : ℕ) (stage : Stage) (old now : State) (stop : Stop) (e : MakeError) → Taken c text n at stage old now → at < length text → IsLine text at end
+    → IfRefused stop (Refuses c (slice_range text at end) stage now) → IfLine e (λ told. (told.line ≡ n + 1) × (stop ≡ Refused told.fault told.column)) → IfLine e (StopsFrom c text old)
+line_refused c text n at end stage old now stop (Line e) before more is_line lack is = λ d fresh drafted.
+    let said = before d fresh drafted in
+    let why : Refuses c (slice_range text at end) stage now e.fault e.column = subst (λ s. IfRefused s (Refuses c (slice_range text at end) stage now)) is.1 lack in
+    record { lines = n; at = at; end = end; said = said.0; before = said.1; more = more; next = is.0; is_line = is_line; refused = why said.0 said.2 }
+line_refused c text n at end stage old now stop Read before more is_line lack is = tt
+line_refused c text n at end stage old now stop Write before more is_line lack is = tt
+line_refused c text n at end stage old now stop Memory before more is_line lack is = tt
 
 -- The error of a text for a message that was begun.
-pub refused : (c : Bool) (text : List ℕ) (begun : State) (e : MakeError) → IsBegun c 65535 begun → IfLine e (λ told. StopsFrom c text told.line begun) → IfLine e (IsLineError text)
-refused c text begun (Line e) is stops =
-    stops (record { place = Start; header = begun.header; content = no_content }) (record { place = refl; id = is.id; high = is.high; low = is.low; content = refl }) (record { place_is = refl; header_is = refl; holds = is.holds })
+pub refused : (c : Bool) (text : List ℕ) (begun : State) (e : MakeError) → IsBegun c 65535 begun → IfLine e (StopsFrom c text begun) → IfLine e (StopsAt c text)
+refused c text begun (Line e) is stops = stops (blank begun) (blank_is c begun is) (blank_held c begun is)
 refused c text begun Read is stops = tt
 refused c text begun Write is stops = tt
 refused c text begun Memory is stops = tt
+
+-- A text whose entries have room is taken.
+pub taken : (c : Bool) (text : List ℕ) (e : MakeError) → IfLine e (StopsAt c text) → IfLine e (λ _. (said : Draft) → TextSays text said → HasRoom c text → ⊥)
+taken c text (Line e) stops = λ said all fits. accepted c text said e all fits stops
+taken c text Read stops = tt
+taken c text Write stops = tt
+taken c text Memory stops = tt
+
+some_map : {A : Type 0} (P Q : A → Type 0) (o : Option A) → ((x : A) → P x → Q x) → IfSome o P → IfSome o Q
+some_map P Q (Some x) follows h = follows x h
+some_map P Q None follows h = tt
+
+-- What holds of the text that was read holds of the input.
+pub of_input : (P : List ℕ → Type 0) (e : MakeError) (o : Option (List ℕ)) (text items : List ℕ) → text ≡ items → IfSome o (λ m. items ≡ m) → IfLine e (λ _. P text) → IfLine e (λ _. IfSome o P)
+of_input P (Line e) o text items is read h = some_map (λ m. items ≡ m) P o (λ m same. subst P (is ∙ same) h) read
+of_input P Read o text items is read h = tt
+of_input P Write o text items is read h = tt
+of_input P Memory o text items is read h = tt
+
+-- What is told of a line that isn't taken.
+pub line_told : (e : MakeError) (told : LineError) (o : Option (List ℕ)) → e ≡ Line told → IfLine e (λ k. IfSome o (λ text. StopsAt true text k)) → IfSome o (λ text. (k : LineError) × StopsAt true text k)
+line_told e told o is h = some_map (λ text. StopsAt true text told) (λ text. (k : LineError) × StopsAt true text k) o (λ text stops. (told, stops)) (subst (λ x. IfLine x (λ k. IfSome o (λ text. StopsAt true text k))) is h)
+
+pub line_never : (e : MakeError) (told : LineError) (P : Type 0) → e ≡ Line told → IfLine e (λ _. P) → P
+line_never e told P is h = subst (λ x. IfLine x (λ _. P)) is h

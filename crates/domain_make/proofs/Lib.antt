@@ -1,5 +1,13 @@
+pub mod Stepping
+pub mod Telling
 pub mod Scanning
+pub mod Spelling
 pub mod Texts
+pub mod Naming
 pub mod Listing
+pub mod Once
 pub mod Records
+pub mod Entering
+pub mod Marking
+pub mod Refusing
 pub mod Drafting

@@ -1,5 +1,5 @@
 -- What the lines of a text say, one after the other.
-use Rattle.std.specs.Prelude.{◌≡◌, ◌⊎◌, ◌≢◌, ℕ, ◌+◌, ◌<◌, ◌≤◌, Bool, List, [], ◌∷◌, ◌++◌, length, slice_index, slice_range}
+use Rattle.std.specs.Prelude.{◌≡◌, ◌⊎◌, ◌≢◌, ℕ, suc, ◌+◌, ◌<◌, ◌≤◌, Bool, List, [], ◌∷◌, ◌++◌, length, slice_index, slice_range}
 use Rattle.domain_header.specs.Headers.{header_id, header_high, header_low}
 use Rattle.domain_header.specs.declared.flags.Header.{Header}
 use Rattle.domain_message.specs.Entries.{QuestionFields}
@@ -9,20 +9,19 @@ use Rattle.domain_message_builder.specs.State.{State}
 use Rattle.domain_message.specs.declared.section.Section.{Section}
 use Rattle.domain_make.specs.Entries.{IsQuestionWords, IsRecordWords}
 use Rattle.domain_make.specs.Remarks.{IsTrimmed, Remarks}
-use Rattle.domain_make.specs.Words.{AreWords, IsBlank}
-use Rattle.domain_make.specs.declared.remark.Place.{Place}
-use Rattle.domain_make.specs.declared.remark.Place.TheVariants.{Start, Questions, Records}
-use Rattle.domain_make.specs.declared.words.Word.{Word}
+use Rattle.domain_make.specs.Words.{WordAt, AreWords}
+use Rattle.domain_make.specs.declared.remark.Stage.{Stage}
+use Rattle.domain_make.specs.declared.remark.Stage.TheVariants.{Start, Questions, Records}
 
--- what was said of a message: where in it the next line is, the header, and the entries of each section
+-- what was said of a message: how far its lines have come, the header, and the entries of each section
 pub record Draft : Type 0 where
-  pub place : Place
+  pub stage : Stage
   pub header : Header
   pub content : Content
 
 -- Nothing was said: a header of zeros, and no entries.
 pub record IsBlankDraft (d : Draft) : Type 0 where
-  pub place : d.place ≡ Start
+  pub stage : d.stage ≡ Start
   pub id : header_id d.header ≡ 0
   pub high : header_high d.header ≡ 0
   pub low : header_low d.header ≡ 0
@@ -36,19 +35,19 @@ pub record IsAsked (line : List ℕ) : Type 0 where
   pub no_space : slice_index line 1 ≢ 32
 
 -- The line begins with a semicolon and is no such question where questions are.
-pub record IsRemark (line : List ℕ) (place : Place) : Type 0 where
+pub record IsRemark (line : List ℕ) (stage : Stage) : Type 0 where
   pub begins : slice_index line 0 ≡ 59
-  pub other : place ≡ Questions → IsAsked line → ⊥
+  pub other : stage ≡ Questions → IsAsked line → ⊥
 
--- What a line adds to what was said: nothing, by a remark another place or header, a question, or a record of the section.
+-- What a line adds to what was said: nothing, by a remark another stage and header, a question, or a record of the section.
 pub data LineSays (line : List ℕ) (old new : Draft) : Type 0 where
   empty : slice_index line 0 ≢ 59 → AreWords line 0 [] → new ≡ old → LineSays line old new
-  remark : (text : List ℕ) → IsRemark line old.place → IsTrimmed line text → Remarks text old.place old.header new.place new.header → new.content ≡ old.content → LineSays line old new
-  asked : (words : List Word) (q : QuestionFields) → old.place ≡ Questions → IsAsked line → AreWords line 1 words → IsQuestionWords words q
+  remark : (text : List ℕ) → IsRemark line old.stage → IsTrimmed line text → Remarks text old.stage old.header new.stage new.header → new.content ≡ old.content → LineSays line old new
+  asked : (words : List WordAt) (q : QuestionFields) → old.stage ≡ Questions → IsAsked line → AreWords line 1 words → IsQuestionWords words q
       → new ≡ record old { content = question_added old.content q } → LineSays line old new
-  question : (words : List Word) (q : QuestionFields) → old.place ≡ Questions → slice_index line 0 ≢ 59 → AreWords line 0 words → IsQuestionWords words q
+  question : (words : List WordAt) (q : QuestionFields) → old.stage ≡ Questions → slice_index line 0 ≢ 59 → AreWords line 0 words → IsQuestionWords words q
       → new ≡ record old { content = question_added old.content q } → LineSays line old new
-  entry : (section : Section) (words : List Word) (head : RecordHead) (octets : List ℕ) → old.place ≡ Records section → slice_index line 0 ≢ 59 → AreWords line 0 words → IsRecordWords words head octets
+  entry : (section : Section) (words : List WordAt) (head : RecordHead) (octets : List ℕ) → old.stage ≡ Records section → slice_index line 0 ≢ 59 → AreWords line 0 words → IsRecordWords words head octets
       → new ≡ record old { content = record_added section old.content (record { head = head; rdata = octets }) } → LineSays line old new
 
 -- The line that begins at start ends before end: at a line feed, or with the text.
@@ -61,7 +60,7 @@ pub record IsLine (text : List ℕ) (start end : ℕ) : Type 0 where
 -- The first n lines of a text say this, and the next one begins at an offset.
 pub data LinesSay (text : List ℕ) : (n at : ℕ) (said : Draft) → Type 0 where
   none : {said : Draft} → IsBlankDraft said → LinesSay text 0 0 said
-  line : {n at end : ℕ} {old : Draft} (new : Draft) → LinesSay text n at old → IsLine text at end → LineSays (slice_range text at end) old new → LinesSay text (n + 1) (end + 1) new
+  line : {n at end : ℕ} {old : Draft} (new : Draft) → LinesSay text n at old → IsLine text at end → LineSays (slice_range text at end) old new → LinesSay text (suc n) (end + 1) new
 
 -- All lines of a text say this.
 pub record TextSays (text : List ℕ) (said : Draft) : Type 0 where
@@ -70,29 +69,18 @@ pub record TextSays (text : List ℕ) (said : Draft) : Type 0 where
   pub to : LinesSay text lines at said
   pub whole : length text ≤ at
 
--- A text has a line of this number, from 1 on, and the lines before it say something.
-pub record StopsAt (text : List ℕ) (number : ℕ) : Type 0 where
-  pub lines : ℕ
-  pub at : ℕ
-  pub said : Draft
-  pub before : LinesSay text lines at said
-  pub more : at < length text
-  pub next : number ≡ lines + 1
-
--- The builder holds what was said.
-pub record IsDraft (compresses : Bool) (place : Place) (s : State) (d : Draft) : Type 0 where
-  pub place_is : d.place ≡ place
+-- The builder holds what was said, and takes all octets that a message may have.
+pub record IsDraft (compresses : Bool) (stage : Stage) (s : State) (d : Draft) : Type 0 where
+  pub stage_is : d.stage ≡ stage
   pub header_is : d.header ≡ s.header
+  pub limit_is : s.limit ≡ 65535
+  pub reserved_is : s.reserved ≡ 0
   pub holds : Holds compresses s d.content
 
 -- The line says something that this builder holds after what was said before, if that one does.
-abbrev pub Takes : Bool → List ℕ → Place → State → Place → State → Type 0
-Takes compresses text place old next new = (d : Draft) → IsDraft compresses place old d → (e : Draft) × LineSays text d e × IsDraft compresses next new e
+abbrev pub Takes : Bool → List ℕ → Stage → State → Stage → State → Type 0
+Takes compresses text stage old next new = (d : Draft) → IsDraft compresses stage old d → (e : Draft) × LineSays text d e × IsDraft compresses next new e
 
 -- A builder that holds nothing then holds what the lines of a text say.
 abbrev pub TakesAll : Bool → List ℕ → State → State → Type 0
-TakesAll compresses text old new = (d : Draft) → IsBlankDraft d → IsDraft compresses Start old d → (e : Draft) × TextSays text e × IsDraft compresses e.place new e
-
--- From a builder that holds nothing, the lines before this one of a text were taken.
-abbrev pub StopsFrom : Bool → List ℕ → ℕ → State → Type 0
-StopsFrom compresses text number old = (d : Draft) → IsBlankDraft d → IsDraft compresses Start old d → StopsAt text number
+TakesAll compresses text old new = (d : Draft) → IsBlankDraft d → IsDraft compresses Start old d → (e : Draft) × TextSays text e × IsDraft compresses e.stage new e

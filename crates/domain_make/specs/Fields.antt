@@ -1,5 +1,5 @@
 -- What the data of a type is made of.
-use Rattle.std.specs.Prelude.{◌≡◌, ℕ, Bool, true, nat_eq, List, [], ◌∷◌, ◌++◌, length}
+use Rattle.std.specs.Prelude.{◌≡◌, ℕ, Bool, nat_eq, if◌then◌else◌, List, [], ◌∷◌, ◌++◌, length, Option, Some, None}
 use Rattle.std.specs.List.{list_any}
 use Rattle.std.specs.Int.{w16, w32, to_be_bytes}
 use Rattle.domain_label.specs.Wire.{wire}
@@ -7,7 +7,7 @@ use Rattle.domain_make.specs.Parts.{IsNumber16, IsNumber32, IsNameWord, IsIpv4Wo
 use Rattle.domain_make.specs.Strings.{IsStringText}
 use Rattle.domain_make.specs.declared.fields.Field.{Field}
 use Rattle.domain_make.specs.declared.fields.Field.TheVariants.{Number16, Number32, Name, Ipv4, Ipv6, Text}
-use Rattle.domain_make.specs.declared.words.Word.{Word}
+use Rattle.domain_make.specs.Words.{WordAt}
 
 -- Data with one name: NS, MD, MF, CNAME, MB, MG, MR and PTR (RFC 1035, 3.3), and DNAME (RFC 6672, 2.1).
 abbrev pub name_types : List ℕ
@@ -25,16 +25,19 @@ exchange_types = 15 ∷ 18 ∷ 21 ∷ 36 ∷ []
 abbrev pub is_among : List ℕ → ℕ → Bool
 is_among numbers n = list_any (λ m. nat_eq m n) numbers
 
--- The parts of the data of the type with this number.
-pub data HasFields : (rtype : ℕ) (fields : List Field) → Type 0 where
-  address : HasFields 1 (Ipv4 ∷ [])
-  long_address : HasFields 28 (Ipv6 ∷ [])
-  name : {rtype : ℕ} → is_among name_types rtype ≡ true → HasFields rtype (Name ∷ [])
-  two_names : {rtype : ℕ} → is_among two_name_types rtype ≡ true → HasFields rtype (Name ∷ Name ∷ [])
-  exchange : {rtype : ℕ} → is_among exchange_types rtype ≡ true → HasFields rtype (Number16 ∷ Name ∷ [])
-  host : HasFields 13 (Text ∷ Text ∷ [])
-  authority : HasFields 6 (Name ∷ Name ∷ Number32 ∷ Number32 ∷ Number32 ∷ Number32 ∷ Number32 ∷ [])
-  service : HasFields 33 (Number16 ∷ Number16 ∷ Number16 ∷ Name ∷ [])
+-- the parts of the data of the type with this number: of A, AAAA, HINFO, SOA (RFC 1035, 3.3 and 3.4; RFC 3596, 2.2), SRV (RFC
+-- 2782) and those above. None: it is read in no such form
+abbrev pub fields_of_type : ℕ → Option (List Field)
+fields_of_type rtype =
+    if is_among name_types rtype then Some (Name ∷ [])
+    else (if is_among two_name_types rtype then Some (Name ∷ Name ∷ [])
+    else (if is_among exchange_types rtype then Some (Number16 ∷ Name ∷ [])
+    else (if nat_eq rtype 1 then Some (Ipv4 ∷ [])
+    else (if nat_eq rtype 6 then Some (Name ∷ Name ∷ Number32 ∷ Number32 ∷ Number32 ∷ Number32 ∷ Number32 ∷ [])
+    else (if nat_eq rtype 13 then Some (Text ∷ Text ∷ [])
+    else (if nat_eq rtype 28 then Some (Ipv6 ∷ [])
+    else (if nat_eq rtype 33 then Some (Number16 ∷ Number16 ∷ Number16 ∷ Name ∷ [])
+    else None)))))))
 
 -- a character string in a message: its length in one octet, and its octets (RFC 1035, 3.3)
 abbrev pub with_length : List ℕ → List ℕ
@@ -50,8 +53,8 @@ IsField Ipv6 word octets = IsIpv6Word word octets
 IsField Text word octets = (string : List ℕ) × IsStringText word string × (octets ≡ with_length string)
 
 -- The words are these parts, one each, which are these octets.
-abbrev pub AreFields : List Field → List Word → List ℕ → Type 0
+abbrev pub AreFields : List Field → List WordAt → List ℕ → Type 0
 AreFields [] [] octets = octets ≡ []
 AreFields [] (w ∷ ws) octets = ⊥
 AreFields (f ∷ fs) [] octets = ⊥
-AreFields (f ∷ fs) (w ∷ ws) octets = (first : List ℕ) × (rest : List ℕ) × IsField f w.octets.now first × AreFields fs ws rest × (octets ≡ first ++ rest)
+AreFields (f ∷ fs) (w ∷ ws) octets = (first : List ℕ) × (rest : List ℕ) × IsField f w.octets first × AreFields fs ws rest × (octets ≡ first ++ rest)

@@ -3,7 +3,7 @@ use Rattle.std.specs.Prelude.{◌≡◌, ℕ, Bool, true, false, cond, List, [],
 use Rattle.std.specs.Io.KnownBytes.{Appends}
 use Rattle.domain_message_builder.specs.Reading.{IsMessageOf}
 use Rattle.domain_tool.specs.WireText.{hexadecimal}
-use Rattle.domain_make.specs.Drafts.{Draft, TextSays, StopsAt}
+use Rattle.domain_make.specs.Drafts.{Draft, TextSays}
 use Rattle.domain_make.specs.declared.error.LineError.{LineError}
 use Rattle.domain_make.specs.declared.error.MakeError.{MakeError}
 use Rattle.domain_make.specs.declared.error.MakeError.TheVariants.{Line, Read, Write, Memory}
@@ -33,7 +33,3 @@ IfLine (Line e) P = P e
 IfLine Read P = ⊤
 IfLine Write P = ⊤
 IfLine Memory P = ⊤
-
--- The line that an error names, from 1 on, is there, and all lines before it say something.
-abbrev pub IsLineError : List ℕ → LineError → Type 0
-IsLineError text e = StopsAt text e.line

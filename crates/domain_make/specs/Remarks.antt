@@ -1,5 +1,5 @@
 -- Lines that begin with a semicolon, as `dig` and `dnswalk message` write them: of a header, headings, comments.
-use Rattle.std.specs.Prelude.{◌≡◌, ◌⊎◌, ℕ, ◌-◌, ◌<◌, ◌≤◌, Bool, cond, List, [], ◌∷◌, ◌++◌, length, take, slice_index, codes}
+use Rattle.std.specs.Prelude.{◌≡◌, ◌⊎◌, ℕ, ◌-◌, ◌<◌, ◌≤◌, Bool, false, cond, List, [], ◌∷◌, ◌++◌, length, take, slice_index, codes}
 use Rattle.domain_header.specs.Bits.{bit_of}
 use Rattle.domain_header.specs.Headers.{header_id, header_high, header_low, SetsHigh, SetsLow}
 use Rattle.domain_header.specs.Tables.{opcode_text, rcode_text}
@@ -8,8 +8,8 @@ use Rattle.domain_message.specs.declared.section.Section.TheVariants.{Answer, Au
 use Rattle.domain_make.specs.Parts.{IsNumber16}
 use Rattle.domain_make.specs.Words.{IsBlank}
 use Rattle.domain_make.specs.declared.remark.Flags.{Flags}
-use Rattle.domain_make.specs.declared.remark.Place.{Place}
-use Rattle.domain_make.specs.declared.remark.Place.TheVariants.{Start, Codes, Told, Questions, Records}
+use Rattle.domain_make.specs.declared.remark.Stage.{Stage}
+use Rattle.domain_make.specs.declared.remark.Stage.TheVariants.{Start, Codes, Told, Questions, Records}
 
 -- The text is the line without the white space at its end.
 pub record IsTrimmed (line text : List ℕ) : Type 0 where
@@ -41,14 +41,21 @@ pub record SetsCodes (opcode rcode id : ℕ) (old new : Header) : Type 0 where
   pub opcode_set : SetsHigh 8 16 opcode first second
   pub rcode_set : SetsLow 1 16 rcode second new
 
--- the flags that are set, a space before each, and that the bit Z is, which must be zero
-abbrev pub flags_words : Flags → List ℕ
-flags_words f = cond f.qr (codes " qr") [] ++ (cond f.aa (codes " aa") [] ++ (cond f.tc (codes " tc") [] ++ (cond f.rd (codes " rd") [] ++ (cond f.ra (codes " ra") []
-    ++ (cond f.ad (codes " ad") [] ++ (cond f.cd (codes " cd") [] ++ cond f.z (codes "; MBZ: 0x4") []))))))
+-- each flag and its word, in the order in which they are written, and the bit Z, which must be zero
+abbrev pub flag_words : Flags → List (Bool × List ℕ)
+flag_words f = (f.qr, codes " qr") ∷ (f.aa, codes " aa") ∷ (f.tc, codes " tc") ∷ (f.rd, codes " rd") ∷ (f.ra, codes " ra") ∷ (f.ad, codes " ad")
+    ∷ (f.cd, codes " cd") ∷ (f.z, codes "; MBZ: 0x4") ∷ []
 
--- The text begins with flags and a semicolon: ` qr rd; QUESTION: 1`. What follows isn't looked at.
-abbrev pub BeginsWithFlags : List ℕ → Flags → Type 0
-BeginsWithFlags text f = (rest : List ℕ) × (text ≡ flags_words f ++ (codes "; " ++ rest))
+-- the words of those that are set, and then a text
+abbrev pub words_before : List (Bool × List ℕ) → List ℕ → List ℕ
+words_before [] rest = rest
+words_before (flag ∷ flags) rest = cond flag.0 flag.1 [] ++ words_before flags rest
+
+-- The text begins with flags and a semicolon: ` qr rd; QUESTION: 1`. What follows isn't looked at, but that it isn't the bit Z.
+pub record BeginsWithFlags (text : List ℕ) (f : Flags) : Type 0 where
+  pub rest : List ℕ
+  pub text_is : text ≡ words_before (flag_words f) (codes "; " ++ rest)
+  pub no_z : f.z ≡ false → (more : List ℕ) → rest ≡ codes "MBZ: 0x4" ++ more → ⊥
 
 -- The flags were set or cleared, one after the other, and nothing else.
 pub record SetsFlags (f : Flags) (old new : Header) : Type 0 where
@@ -67,7 +74,7 @@ abbrev pub IsWithColon : List ℕ → List ℕ → Type 0
 IsWithColon heading text = (text ≡ heading) ⊎ (text ≡ heading ++ codes ":")
 
 -- The line is the heading of what follows it.
-pub data IsHeading (text : List ℕ) : (place : Place) → Type 0 where
+pub data IsHeading (text : List ℕ) : (stage : Stage) → Type 0 where
   questions : IsWithColon (codes ";; QUESTION SECTION") text → IsHeading text Questions
   answers : IsWithColon (codes ";; ANSWER SECTION") text → IsHeading text (Records Answer)
   authority : IsWithColon (codes ";; AUTHORITY SECTION") text → IsHeading text (Records Authority)
@@ -77,25 +84,25 @@ pub data IsHeading (text : List ℕ) : (place : Place) → Type 0 where
 abbrev pub IsFlagsLine : List ℕ → List ℕ → Type 0
 IsFlagsLine text rest = text ≡ codes ";; flags:" ++ rest
 
--- The line ends as no heading does.
-abbrev pub IsNoSection : List ℕ → Type 0
-IsNoSection text = (front : List ℕ) → IsWithColon (front ++ codes " SECTION") text → ⊥
+-- The line ends as a heading does.
+abbrev pub EndsInSection : List ℕ → Type 0
+EndsInSection text = (front : List ℕ) × IsWithColon (front ++ codes " SECTION") text
 
--- The line begins as none of an OPT record does.
-abbrev pub IsNoOpt : List ℕ → Type 0
-IsNoOpt text = (rest : List ℕ) → (text ≡ codes "; EDNS:" ++ rest) ⊎ (text ≡ codes "; OPT=" ++ rest) → ⊥
+-- The line begins as one of an OPT record.
+abbrev pub BeginsAsOpt : List ℕ → Type 0
+BeginsAsOpt text = (rest : List ℕ) × ((text ≡ codes "; EDNS:" ++ rest) ⊎ (text ≡ codes "; OPT=" ++ rest))
 
 -- The line is another one: a comment. It is none of a header, no heading, and none of an OPT record.
 pub record IsComment (text : List ℕ) : Type 0 where
   pub no_codes : (rest : List ℕ) → IsCodesLine text rest → ⊥
   pub no_flags : (rest : List ℕ) → IsFlagsLine text rest → ⊥
-  pub no_heading : (place : Place) → IsHeading text place → ⊥
-  pub no_section : IsNoSection text
-  pub no_opt : IsNoOpt text
+  pub no_heading : (stage : Stage) → IsHeading text stage → ⊥
+  pub no_section : EndsInSection text → ⊥
+  pub no_opt : BeginsAsOpt text → ⊥
 
--- After a place and a header, the line leads to the next place and the new header.
-pub data Remarks (text : List ℕ) (place : Place) (old : Header) : (next : Place) (new : Header) → Type 0 where
-  codes_told : {new : Header} (rest : List ℕ) (opcode rcode id : ℕ) → place ≡ Start → IsCodesLine text rest → AreCodes rest opcode rcode id → SetsCodes opcode rcode id old new → Remarks text place old Codes new
-  flags_told : {new : Header} (rest : List ℕ) (f : Flags) → (place ≡ Start) ⊎ (place ≡ Codes) → IsFlagsLine text rest → BeginsWithFlags rest f → SetsFlags f old new → Remarks text place old Told new
-  heading : {next : Place} → IsHeading text next → Remarks text place old next old
-  comment : IsComment text → Remarks text place old place old
+-- After a stage and a header, the line leads to the next stage and the new header.
+pub data Remarks (text : List ℕ) (stage : Stage) (old : Header) : (next : Stage) (new : Header) → Type 0 where
+  codes_told : {new : Header} (rest : List ℕ) (opcode rcode id : ℕ) → stage ≡ Start → IsCodesLine text rest → AreCodes rest opcode rcode id → SetsCodes opcode rcode id old new → Remarks text stage old Codes new
+  flags_told : {new : Header} (rest : List ℕ) (f : Flags) → (stage ≡ Start) ⊎ (stage ≡ Codes) → IsFlagsLine text rest → BeginsWithFlags rest f → SetsFlags f old new → Remarks text stage old Told new
+  heading : {next : Stage} → IsHeading text next → Remarks text stage old next old
+  comment : IsComment text → Remarks text stage old stage old

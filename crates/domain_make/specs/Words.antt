@@ -1,6 +1,26 @@
 -- The words of a line (RFC 1035, 5.1).
-use Rattle.std.specs.Prelude.{◌≡◌, ◌≢◌, ◌⊎◌, ℕ, ◌+◌, ◌<◌, ◌≤◌, Bool, true, false, List, [], ◌∷◌, ◌++◌, length, slice_index, slice_range}
+use Rattle.std.specs.Prelude.{◌≡◌, ◌≢◌, ◌⊎◌, ℕ, ◌+◌, ◌<◌, ◌≤◌, Bool, true, false, List, [], ◌∷◌, ◌++◌, length, map, slice_index, slice_range}
+use mathlib.Core.Bool.{not}
+use Rattle.domain_make.specs.Steps.{Reaches}
 use Rattle.domain_make.specs.declared.words.Word.{Word}
+
+-- a word, and in which column of its line it begins, from 1 on
+pub record WordAt : Type 0 where
+  pub octets : List ℕ
+  pub column : ℕ
+
+-- what a word of the program is
+abbrev pub word_at : Word → WordAt
+word_at w = record { octets = w.octets.now; column = w.column }
+
+-- what words of the program are
+abbrev pub words_at : List Word → List WordAt
+words_at words = map word_at words
+
+-- the column of the first word, or 1 where there is none
+abbrev pub first_column : List WordAt → ℕ
+first_column [] = 1
+first_column (w ∷ ws) = w.column
 
 -- a space, a tab or a carriage return
 abbrev pub IsBlank : ℕ → Type 0
@@ -10,38 +30,49 @@ IsBlank c = (c ≡ 32) ⊎ (c ≡ 9) ⊎ (c ≡ 13)
 abbrev pub IsOrdinary : ℕ → Type 0
 IsOrdinary c = (c ≢ 34) × (c ≢ 92)
 
--- The octets from start up to an offset are of one word, and at the offset a quote is open or not. Between quotes white space
--- is of the word, and a backslash takes the special meaning from the octet after it.
-pub data WordTo (line : List ℕ) (start : ℕ) : (quoted : Bool) (at : ℕ) → Type 0 where
-  begins : WordTo line start false start
-  plain : {at : ℕ} → WordTo line start false at → at < length line → IsOrdinary (slice_index line at) → (IsBlank (slice_index line at) → ⊥) → WordTo line start false (at + 1)
-  between : {at : ℕ} → WordTo line start true at → at < length line → IsOrdinary (slice_index line at) → WordTo line start true (at + 1)
-  escaped : {quoted : Bool} {at : ℕ} → WordTo line start quoted at → slice_index line at ≡ 92 → at + 2 ≤ length line → WordTo line start quoted (at + 2)
-  opens : {at : ℕ} → WordTo line start false at → slice_index line at ≡ 34 → WordTo line start true (at + 1)
-  closes : {at : ℕ} → WordTo line start true at → slice_index line at ≡ 34 → WordTo line start false (at + 1)
+-- After an offset, where a quote is open or not, these octets are of the same word. Between quotes white space is of the word,
+-- and a backslash takes the special meaning from the octet after it.
+pub data WordStep (line : List ℕ) (s t : Bool × ℕ) : Type 0 where
+  escaped : slice_index line s.1 ≡ 92 → s.1 + 2 ≤ length line → t ≡ (s.0, s.1 + 2) → WordStep line s t
+  quote : slice_index line s.1 ≡ 34 → t ≡ (not s.0, s.1 + 1) → WordStep line s t
+  ordinary : s.1 < length line → IsOrdinary (slice_index line s.1) → (s.0 ≡ false → IsBlank (slice_index line s.1) → ⊥) → t ≡ (s.0, s.1 + 1) → WordStep line s t
+
+-- The octets from start up to an offset are of one word, and at the offset a quote is open or not.
+abbrev pub WordTo : List ℕ → ℕ → Bool → ℕ → Type 0
+WordTo line start quoted at = Reaches (WordStep line) (false, start) (quoted, at)
 
 -- A word begins at start and ends before end, which is the end of the line or white space.
 pub record IsWordIn (line : List ℕ) (start end : ℕ) : Type 0 where
   pub to : WordTo line start false end
   pub ends : (end ≡ length line) ⊎ IsBlank (slice_index line end)
 
--- The words between start and an offset, and in which column each begins, from 1 on.
-pub data WordsTo (line : List ℕ) (start : ℕ) : (words : List Word) (at : ℕ) → Type 0 where
-  none : WordsTo line start [] start
-  blank : {words : List Word} {at : ℕ} → WordsTo line start words at → IsBlank (slice_index line at) → WordsTo line start words (at + 1)
-  word : {words : List Word} {at end : ℕ} (w : Word) → WordsTo line start words at → (IsBlank (slice_index line at) → ⊥) → slice_index line at ≢ 59
-      → IsWordIn line at end → w.octets.now ≡ slice_range line at end → w.column ≡ at + 1 → WordsTo line start (words ++ w ∷ []) end
+-- the word between two offsets
+abbrev pub word_between : List ℕ → ℕ → ℕ → WordAt
+word_between line start end = record { octets = slice_range line start end; column = start + 1 }
+
+-- After some words and an offset there is white space, or one more word.
+pub data WordsStep (line : List ℕ) (s t : List WordAt × ℕ) : Type 0 where
+  blank : IsBlank (slice_index line s.1) → t ≡ (s.0, s.1 + 1) → WordsStep line s t
+  word : (end : ℕ) → s.1 < length line → (IsBlank (slice_index line s.1) → ⊥) → slice_index line s.1 ≢ 59 → IsWordIn line s.1 end
+      → t ≡ (s.0 ++ word_between line s.1 end ∷ [], end) → WordsStep line s t
+
+-- The words between start and an offset.
+abbrev pub WordsTo : List ℕ → ℕ → List WordAt → ℕ → Type 0
+WordsTo line start words at = Reaches (WordsStep line) ([], start) (words, at)
 
 -- These are the words from start on, up to the end of the line or to a comment, which a semicolon begins.
-abbrev pub AreWords : List ℕ → ℕ → List Word → Type 0
+abbrev pub AreWords : List ℕ → ℕ → List WordAt → Type 0
 AreWords line start words = (at : ℕ) × WordsTo line start words at × ((at ≡ length line) ⊎ (slice_index line at ≡ 59))
 
--- What is before an offset is symbols, and the last of them is a dot without a backslash before it, or not.
-pub data SymbolsTo (text : List ℕ) : (dot : Bool) (at : ℕ) → Type 0 where
-  begins : SymbolsTo text false 0
-  escaped : {dot : Bool} {at : ℕ} → SymbolsTo text dot at → slice_index text at ≡ 92 → at + 2 ≤ length text → SymbolsTo text false (at + 2)
-  dot : {dot : Bool} {at : ℕ} → SymbolsTo text dot at → slice_index text at ≡ 46 → SymbolsTo text true (at + 1)
-  other : {dot : Bool} {at : ℕ} → SymbolsTo text dot at → at < length text → slice_index text at ≢ 92 → slice_index text at ≢ 46 → SymbolsTo text false (at + 1)
+-- After an offset there is one more symbol, which is a dot without a backslash before it, or not.
+pub data SymbolStep (text : List ℕ) (s t : Bool × ℕ) : Type 0 where
+  escaped : slice_index text s.1 ≡ 92 → s.1 + 2 ≤ length text → t ≡ (false, s.1 + 2) → SymbolStep text s t
+  unescaped_dot : slice_index text s.1 ≡ 46 → t ≡ (true, s.1 + 1) → SymbolStep text s t
+  other : s.1 < length text → slice_index text s.1 ≢ 92 → slice_index text s.1 ≢ 46 → t ≡ (false, s.1 + 1) → SymbolStep text s t
+
+-- What is before an offset is symbols, and the last of them is such a dot, or not.
+abbrev pub SymbolsTo : List ℕ → Bool → ℕ → Type 0
+SymbolsTo text dot at = Reaches (SymbolStep text) (false, 0) (dot, at)
 
 -- The text ends in such a dot: it is of an absolute name.
 abbrev pub EndsInDot : List ℕ → Type 0

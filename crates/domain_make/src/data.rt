@@ -1,6 +1,11 @@
 //! The data of a record.
-ghost use Rattle.std.specs.Prelude.{◌≡◌, ◌++◌, ℕ, List, OnOk, IfOk};
-ghost use Rattle.domain_make.specs.Data.{AreStrings, AreDigits, IsGeneric, IsTyped, IsData};
+ghost use Rattle.std.specs.Prelude.{◌≡◌, ◌⊎◌, ◌↔◌, ◌++◌, ℕ, List, IsTrue, OnOk, IfOk, IfErr};
+ghost use Rattle.domain_make.specs.Data.{IsOfStrings, AreStrings, AreDigits, IsGeneric, IsTyped, IsData};
+ghost use Rattle.domain_make.specs.Faults.{IfRefused, FirstNone, NoString, NoDigits, NoGeneric, NoTyped, NoData};
+ghost use Rattle.domain_make.specs.Fields.{IsField};
+ghost use Rattle.domain_make.specs.Parts.{IsDigitsWord};
+ghost use Rattle.domain_make.specs.Words.{words_at};
+ghost use Rattle.domain_make.specs.declared.fields.Field.{Field};
 
 use crate::error::{Fault, Stop};
 use crate::fields::{fields_of, push_fields};
@@ -11,8 +16,10 @@ use std::alloc::Global;
 
 /// Appends the character strings that words are.
 fn push_strings(alloc: Global, words: &[Word<'_>], data: &mut Vec<u8>) -> Result<(), Stop>
-    ensures { OnOk result ((octets : List ℕ) × AreStrings words.now octets
+    ensures ok { OnOk result ((octets : List ℕ) × AreStrings (words_at words.now) octets
         × (data.new.items ≡ data.old.items ++ octets)) }
+    ensures err { IfErr result (λ e. IfRefused e
+        (FirstNone (IsField Field.Text) NoString (words_at words.now))) }
 {
     for word in words {
         push_string(alloc, word, data)?;
@@ -22,8 +29,10 @@ fn push_strings(alloc: Global, words: &[Word<'_>], data: &mut Vec<u8>) -> Result
 
 /// Appends the octets that words are in hexadecimal digits.
 fn push_all_digits(words: &[Word<'_>], data: &mut Vec<u8>) -> Result<(), Stop>
-    ensures { OnOk result ((octets : List ℕ) × AreDigits words.now octets
+    ensures ok { OnOk result ((octets : List ℕ) × AreDigits (words_at words.now) octets
         × (data.new.items ≡ data.old.items ++ octets)) }
+    ensures err { IfErr result (λ e. IfRefused e
+        (FirstNone IsDigitsWord NoDigits (words_at words.now))) }
 {
     for word in words {
         push_digits(word, data)?;
@@ -33,7 +42,8 @@ fn push_all_digits(words: &[Word<'_>], data: &mut Vec<u8>) -> Result<(), Stop>
 
 /// The data of any type in the form of RFC 3597, 5, after its first word: how many octets, and the octets.
 fn generic_data(alloc: Global, column: usize, words: &[Word<'_>]) -> Result<Vec<u8>, Stop>
-    ensures { IfOk result (λ made. IsGeneric words.now made.items) }
+    ensures ok { IfOk result (λ made. IsGeneric (words_at words.now) made.items) }
+    ensures err { IfErr result (λ e. IfRefused e (NoGeneric column (words_at words.now))) }
 {
     let Some((count, digits)) = words.split_first() else {
         return Err(Stop::Refused(Fault::Words, column));
@@ -47,12 +57,21 @@ fn generic_data(alloc: Global, column: usize, words: &[Word<'_>]) -> Result<Vec<
     Ok(data)
 }
 
+/// Whether data of a type is character strings.
+fn is_of_strings(rtype: u16) -> bool
+    ensures { IsTrue result ↔ IsOfStrings rtype }
+{
+    rtype == 16 || rtype == 99
+}
+
 /// The data of a type in the form of this type.
 fn typed_data(alloc: Global, rtype: u16, column: usize, words: &[Word<'_>]) -> Result<Vec<u8>, Stop>
-    ensures { IfOk result (λ made. IsTyped rtype words.now made.items) }
+    ensures ok { IfOk result (λ made. IsTyped rtype (words_at words.now) made.items) }
+    ensures err { IfErr result (λ e. IfRefused e
+        (NoTyped rtype column (words_at words.now))) }
 {
     let mut data = Vec::new(alloc);
-    if rtype == 16 || rtype == 99 {
+    if is_of_strings(rtype) {
         if words.is_empty() {
             return Err(Stop::Refused(Fault::Words, column));
         }
@@ -66,6 +85,13 @@ fn typed_data(alloc: Global, rtype: u16, column: usize, words: &[Word<'_>]) -> R
     Ok(data)
 }
 
+/// Whether records of a class may have no data.
+fn may_lack(class: u16) -> bool
+    ensures { IsTrue result ↔ ((class ≡ 254) ⊎ (class ≡ 255)) }
+{
+    class == 254 || class == 255
+}
+
 /// The data of a record of this type and class, whose word is at this column.
 pub(crate) fn data_of(
     alloc: Global,
@@ -74,10 +100,12 @@ pub(crate) fn data_of(
     column: usize,
     words: &[Word<'_>],
 ) -> Result<Vec<u8>, Stop>
-    ensures { IfOk result (λ made. IsData rtype class words.now made.items) }
+    ensures ok { IfOk result (λ made. IsData rtype class (words_at words.now) made.items) }
+    ensures err { IfErr result (λ e. IfRefused e
+        (NoData rtype class column (words_at words.now))) }
 {
     let Some((first, rest)) = words.split_first() else {
-        if class == 254 || class == 255 {
+        if may_lack(class) {
             return Ok(Vec::new(alloc));
         }
         return typed_data(alloc, rtype, column, words);

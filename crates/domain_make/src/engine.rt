@@ -1,8 +1,11 @@
 //! The engine of `dnswalk make`, over any reader and writer.
-ghost use Rattle.std.specs.Prelude.{◌≡◌, ◌≤◌, ◌↔◌, Bool, map, Some, IfOk, IfErr, IfSome, IsNone, OnOk};
+ghost use Rattle.std.specs.Prelude.{◌≡◌, ◌≤◌, ◌↔◌, Bool, true, map, Some, IfOk, IfErr, IfSome, IsNone, OnOk};
 ghost use Rattle.std.specs.Io.KnownBytes.{Appends, IsAtEnd};
 ghost use Rattle.domain_tool.specs.WireText.{octet_digits, hexadecimal};
-ghost use Rattle.domain_make.specs.Made.{IsMade, written_form, WritesMade, AsksToMake, IfLine, IsLineError};
+ghost use Rattle.domain_make.specs.Made.{IsMade, written_form, WritesMade, AsksToMake, IfLine};
+ghost use Rattle.domain_make.specs.Drafts.{Draft, TextSays};
+ghost use Rattle.domain_make.specs.Refusals.{StopsAt, HasRoom};
+ghost use Rattle.domain_make.specs.declared.error.LineError.{LineError};
 
 use crate::error::MakeError;
 use crate::line::take_lines;
@@ -17,15 +20,17 @@ use std::io::{Read, Write};
 
 /// Appends to an empty target the message that the lines of a text say.
 ///
-/// `Line` has the first line that says nothing of a message, and why. `Memory` where there was no memory, or the target
-/// isn't empty.
+/// `Line` has the first line that isn't taken, and why: it says nothing of a message, or an entry that isn't pushed after
+/// those before it. `Memory` where there was no memory, or the target isn't empty.
 pub fn make_message<Target: Composer + Drop>(
     alloc: Global,
     text: &[u8],
     target: Target,
 ) -> Result<Target, MakeError>
     ensures message { IfOk result (λ made. IsMade text.now (Target.octets made)) }
-    ensures refused { IfErr result (λ e. IfLine e (IsLineError text.now)) }
+    ensures refused { IfErr result (λ e. IfLine e (StopsAt Target.compresses text.now)) }
+    ensures accepted { IfErr result (λ e. IfLine e (λ _. (said : Draft) →
+        TextSays text.now said → HasRoom Target.compresses text.now → ⊥)) }
 {
     let mut message = match MessageBuilder::from_target(target) {
         Ok(message) => message,
@@ -40,7 +45,9 @@ pub fn make_message<Target: Composer + Drop>(
 /// The message that the lines of a text say, with names of questions and owners of records written shorter.
 fn shorter_message(alloc: Global, text: &[u8]) -> Result<Vec<u8>, MakeError>
     ensures message { IfOk result (λ made. IsMade text.now made.items) }
-    ensures refused { IfErr result (λ e. IfLine e (IsLineError text.now)) }
+    ensures refused { IfErr result (λ e. IfLine e (StopsAt true text.now)) }
+    ensures accepted { IfErr result (λ e. IfLine e (λ _. (said : Draft) →
+        TextSays text.now said → HasRoom true text.now → ⊥)) }
 {
     let composer = CompressComposer::new(Vec::new(alloc));
     match make_message(alloc, text, composer) {
@@ -107,8 +114,8 @@ fn send_octets<W: Write>(octets: &[u8], hex: bool, output: &mut W) -> Result<(),
 /// Reads the input to its end, writes the message that its lines say, as it is or in hexadecimal digits and with a
 /// newline, and flushes the output.
 ///
-/// `Line` has the first line that says nothing of a message, and why; nothing is written then. `Read`, `Write` or
-/// `Memory` where one of these failed.
+/// `Line` has the first line that isn't taken, and why, as of `make_message`; nothing is written then. `Read`, `Write`
+/// or `Memory` where one of these failed.
 pub fn make<R: Read, W: Write>(
     alloc: Global,
     input: &mut R,
@@ -119,7 +126,9 @@ pub fn make<R: Read, W: Write>(
     ensures written { OnOk result (IfSome (R.remaining input.old)
         (λ text. WritesMade text hex (W.contents output.old) (W.contents output.new))) }
     ensures refused { IfErr result (λ e. IfLine e (λ told. IfSome (R.remaining input.old)
-        (λ text. IsLineError text told))) }
+        (λ text. StopsAt true text told))) }
+    ensures accepted { IfErr result (λ e. IfLine e (λ _. IfSome (R.remaining input.old)
+        (λ text. (said : Draft) → TextSays text said → HasRoom true text → ⊥))) }
     ensures nothing_written { IfErr result (λ e. IfLine e (λ _. output.new ≡ output.old)) }
 {
     let text = match read_all(alloc, input) {
@@ -154,7 +163,7 @@ fn asked(words: &[&str]) -> Option<bool>
 }
 
 /// Carries out the words that follow the program's name, where the first of them is `make`. The answer is the status to
-/// end with: 0 where the message was written, 1 where a line says nothing of a message, 2 for other words than `make`,
+/// end with: 0 where the message was written, 1 where a line isn't taken, 2 for other words than `make`,
 /// and `--hex` or not; 3 where reading, writing or memory failed. The reasons are on `errors`.
 pub fn run<R: Read, W: Write, E: Write>(
     alloc: Global,
@@ -169,6 +178,10 @@ pub fn run<R: Read, W: Write, E: Write>(
         × IfSome (R.remaining input.old)
         (λ text. WritesMade text hex (W.contents output.old) (W.contents output.new)) }
     ensures refused { result ≡ 1 → output.new ≡ output.old }
+    ensures line { result ≡ 1 → IfSome (R.remaining input.old)
+        (λ text. (told : LineError) × StopsAt true text told) }
+    ensures accepted { result ≡ 1 → IfSome (R.remaining input.old)
+        (λ text. (said : Draft) → TextSays text said → HasRoom true text → ⊥) }
     ensures usage { result ≡ 2 ↔
         ((hex : Bool) → AsksToMake (map (λ word. word.now) words.now) hex → ⊥) }
     ensures untouched { result ≡ 2 → (input.new ≡ input.old) × (output.new ≡ output.old) }

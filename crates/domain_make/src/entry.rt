@@ -1,5 +1,5 @@
 //! Questions and records that lines are.
-ghost use Rattle.std.specs.Prelude.{◌≡◌, ℕ, List, OnOk, OnErr, IfOk};
+ghost use Rattle.std.specs.Prelude.{◌≡◌, ◌⊎◌, ℕ, List, OnOk, IfOk, IfErr};
 ghost use Rattle.domain_header.specs.Values.{class_number};
 ghost use Rattle.domain_message.specs.Entries.{QuestionFields};
 ghost use Rattle.domain_message.specs.RecordParts.{data_of as data_in};
@@ -10,7 +10,10 @@ ghost use Rattle.domain_name.specs.Names.{name_labels};
 ghost use Rattle.domain_rdata.specs.Rtypes.{rtype_number};
 ghost use Rattle.domain_rdata.specs.Unknown.{data_octets, data_type};
 ghost use Rattle.domain_make.specs.Entries.{IsQuestionWords, IsRecordWords};
+ghost use Rattle.domain_make.specs.Faults.{IfRefused, NoClass, NoType, NoQuestion, NoRecord, LongRecord};
 ghost use Rattle.domain_make.specs.Parts.{IsClassWord, IsTypeWord};
+ghost use Rattle.domain_make.specs.Refusals.{TellsPush, NoPushedQuestion, NoPushedRecord};
+ghost use Rattle.domain_make.specs.Words.{word_at, words_at, first_column};
 
 use crate::data::data_of;
 use crate::error::{Fault, Stop};
@@ -25,29 +28,33 @@ use std::alloc::Global;
 
 /// The class that a word names.
 fn class_of(word: &Word<'_>) -> Result<Class, Stop>
-    ensures { IfOk result (λ class. IsClassWord word.now.octets.now (class_number class)) }
+    ensures ok { IfOk result (λ class. IsClassWord word.now.octets.now (class_number class)) }
+    ensures err { IfErr result (λ e. IfRefused e (NoClass (word_at word.now))) }
 {
     let text = text_of(word, Fault::Class)?;
-    match Class::from_text(text) {
-        Some(class) => Ok(class),
-        None => Err(Stop::Refused(Fault::Class, word.column)),
-    }
+    let Some(class) = Class::from_text(text) else {
+        return Err(Stop::Refused(Fault::Class, word.column));
+    };
+    Ok(class)
 }
 
 /// The type that a word names.
 fn rtype_of(word: &Word<'_>) -> Result<Rtype, Stop>
-    ensures { IfOk result (λ rtype. IsTypeWord word.now.octets.now (rtype_number rtype)) }
+    ensures ok { IfOk result (λ rtype. IsTypeWord word.now.octets.now (rtype_number rtype)) }
+    ensures err { IfErr result (λ e. IfRefused e (NoType (word_at word.now))) }
 {
     let text = text_of(word, Fault::Rtype)?;
-    match rtype_from_text(text) {
-        Some(rtype) => Ok(rtype),
-        None => Err(Stop::Refused(Fault::Rtype, word.column)),
-    }
+    let Some(rtype) = rtype_from_text(text) else {
+        return Err(Stop::Refused(Fault::Rtype, word.column));
+    };
+    Ok(rtype)
 }
 
 /// The question that words are: a name, a class and a type.
 fn question_of(alloc: Global, words: &[Word<'_>]) -> Result<Question<OwnName>, Stop>
-    ensures { IfOk result (λ question. IsQuestionWords words.now (asked name_labels question)) }
+    ensures ok { IfOk result (λ question.
+        IsQuestionWords (words_at words.now) (asked name_labels question)) }
+    ensures err { IfErr result (λ e. IfRefused e (NoQuestion (words_at words.now))) }
 {
     let [name, class, rtype] = words else {
         return Err(Stop::Refused(Fault::Question, first_column(words)));
@@ -63,8 +70,10 @@ fn record_of(
     alloc: Global,
     words: &[Word<'_>],
 ) -> Result<Record<OwnName, UnknownRecordData<Vec<u8>>>, Stop>
-    ensures { IfOk result (λ it. IsRecordWords words.now
+    ensures ok { IfOk result (λ it. IsRecordWords (words_at words.now)
         (headed name_labels data_type it) (data_octets (data_in it))) }
+    ensures err { IfErr result (λ e. IfRefused e (λ f c. NoRecord (words_at words.now) f c
+        ⊎ LongRecord (words_at words.now) f c)) }
 {
     let [owner, ttl, class, rtype, rest @ ..] = words else {
         return Err(Stop::Refused(Fault::Record, first_column(words)));
@@ -75,14 +84,16 @@ fn record_of(
     let column = rtype.column;
     let rtype = rtype_of(rtype)?;
     let data = data_of(alloc, rtype.to_int(), class.to_int(), column, rest)?;
-    match UnknownRecordData::from_octets(rtype, data) {
-        Ok(rdata) => Ok(Record::new(name, class, Ttl::from_secs(seconds), rdata)),
-        Err(_) => Err(Stop::Refused(Fault::Octets, column)),
-    }
+    let Ok(rdata) = UnknownRecordData::from_octets(rtype, data) else {
+        return Err(Stop::Refused(Fault::Octets, first_column(words)));
+    };
+    Ok(Record::new(name, class, Ttl::from_secs(seconds), rdata))
 }
 
 /// Where the first word begins.
-fn first_column(words: &[Word<'_>]) -> usize {
+fn first_column(words: &[Word<'_>]) -> usize
+    ensures { result ≡ first_column (words_at words.now) }
+{
     match words.first() {
         Some(word) => word.column,
         None => 1,
@@ -90,7 +101,9 @@ fn first_column(words: &[Word<'_>]) -> usize {
 }
 
 /// Why a push was refused, of the entry at this column.
-fn refused<E: Drop>(e: PushError<E>, column: usize) -> Stop {
+fn refused<E: Drop>(e: PushError<E>, column: usize) -> Stop
+    ensures { IfRefused result (λ f c. TellsPush e f × (c ≡ column)) }
+{
     match e {
         PushError::Append(_) => Stop::Memory,
         PushError::Long(_) => Stop::Refused(Fault::Octets, column),
@@ -106,15 +119,18 @@ pub(crate) fn push_question<Target: Composer>(
     words: &[Word<'_>],
     message: &mut MessageBuilder<Target>,
 ) -> Result<(), Stop>
-    ensures { OnOk result ((q : QuestionFields) × IsQuestionWords words.now q
+    ensures ok { OnOk result ((q : QuestionFields) × IsQuestionWords (words_at words.now) q
         × PushesQuestion Target.compresses q
         (state_of Target.octets message.old) (state_of Target.octets message.new)) }
+    ensures err { IfErr result (λ e. IfRefused e
+        (NoPushedQuestion Target.compresses (words_at words.now)
+        (state_of Target.octets message.old))) }
 {
     let question = question_of(alloc, words)?;
-    match message.push_question(&question) {
-        Ok(()) => Ok(()),
-        Err(e) => Err(refused(e, first_column(words))),
-    }
+    let Err(e) = message.push_question(&question) else {
+        return Ok(());
+    };
+    Err(refused(e, first_column(words)))
 }
 
 /// Pushes the record that words are into a section.
@@ -124,14 +140,17 @@ pub(crate) fn push_record<Target: Composer>(
     words: &[Word<'_>],
     message: &mut MessageBuilder<Target>,
 ) -> Result<(), Stop>
-    ensures { OnOk result ((head : RecordHead) × (octets : List ℕ)
-        × IsRecordWords words.now head octets
+    ensures ok { OnOk result ((head : RecordHead) × (octets : List ℕ)
+        × IsRecordWords (words_at words.now) head octets
         × PushesRecord Target.compresses section head (λ _ s. s ≡ octets)
         (state_of Target.octets message.old) (state_of Target.octets message.new)) }
+    ensures err { IfErr result (λ e. IfRefused e
+        (NoPushedRecord Target.compresses section (words_at words.now)
+        (state_of Target.octets message.old))) }
 {
     let resource = record_of(alloc, words)?;
-    match message.push(section, &resource) {
-        Ok(()) => Ok(()),
-        Err(e) => Err(refused(e, first_column(words))),
-    }
+    let Err(e) = message.push(section, &resource) else {
+        return Ok(());
+    };
+    Err(refused(e, first_column(words)))
 }

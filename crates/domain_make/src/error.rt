@@ -47,7 +47,7 @@ pub enum Fault {
     Text,
     /// No octets in hexadecimal digits.
     Digits,
-    /// Another number of octets than is told before them.
+    /// Another number of octets than is told before them, or data of more than 65,535.
     Octets,
     /// An entry of a section after one of a later section.
     Order,
@@ -57,7 +57,8 @@ pub enum Fault {
     Limit,
 }
 
-/// What is wrong with a line, and where: in which line, and at which octet of it, both counted from 1.
+/// What is wrong with a line, and where: in which line, and at which octet of it, both counted from 1. That is where the
+/// word or its part begins that isn't what stands there, or the entry that isn't pushed.
 #[derive(Clone, Copy, Debug, PartialEq, Eq)]
 pub struct LineError {
     pub(crate) fault: Fault,
@@ -68,7 +69,7 @@ pub struct LineError {
 /// Why no message is made.
 #[derive(Clone, Copy, Debug, PartialEq, Eq)]
 pub enum MakeError {
-    /// A line says nothing that a message has.
+    /// A line isn't taken: it says nothing that a message has, or an entry that isn't pushed.
     Line(LineError),
     /// The text couldn't be read.
     Read,

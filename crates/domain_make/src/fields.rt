@@ -1,6 +1,8 @@
 //! What the data of a type is made of.
-ghost use Rattle.std.specs.Prelude.{◌≡◌, ◌++◌, ℕ, List, OnOk, IfSome};
-ghost use Rattle.domain_make.specs.Fields.{name_types, two_name_types, exchange_types, is_among, HasFields, AreFields, IsField};
+ghost use Rattle.std.specs.Prelude.{◌≡◌, ◌++◌, ℕ, List, OnOk, IfErr, option_map};
+ghost use Rattle.domain_make.specs.Faults.{IfRefused, NoField, NoFields};
+ghost use Rattle.domain_make.specs.Fields.{name_types, two_name_types, exchange_types, is_among, fields_of_type, AreFields, IsField};
+ghost use Rattle.domain_make.specs.Words.{word_at, words_at};
 
 use crate::error::{Fault, Stop};
 use crate::parts::{ipv4_of, ipv6_of, name_of, number16_of, number32_of};
@@ -87,7 +89,7 @@ fn is_exchange(rtype: u16) -> bool
 /// What the data of a type is made of: of RFC 1035 A, NS, CNAME, SOA, MB, MG, MR, PTR, HINFO, MINFO and MX, and MD and
 /// MF, of later ones RP, AFSDB, RT, AAAA, SRV, KX and DNAME.
 pub(crate) fn fields_of(rtype: u16) -> Option<&'static [Field]>
-    ensures { IfSome result (λ fields. HasFields rtype fields.now) }
+    ensures { option_map (λ fields. fields.now) result ≡ fields_of_type rtype }
 {
     if is_name(rtype) {
         return Some(&NAME);
@@ -98,19 +100,28 @@ pub(crate) fn fields_of(rtype: u16) -> Option<&'static [Field]>
     if is_exchange(rtype) {
         return Some(&NUMBER_AND_NAME);
     }
-    match rtype {
-        1 => Some(&ADDRESS),
-        6 => Some(&AUTHORITY),
-        13 => Some(&TWO_STRINGS),
-        28 => Some(&ADDRESS6),
-        33 => Some(&SERVICE),
-        _ => None,
+    if rtype == 1 {
+        return Some(&ADDRESS);
     }
+    if rtype == 6 {
+        return Some(&AUTHORITY);
+    }
+    if rtype == 13 {
+        return Some(&TWO_STRINGS);
+    }
+    if rtype == 28 {
+        return Some(&ADDRESS6);
+    }
+    if rtype == 33 {
+        return Some(&SERVICE);
+    }
+    None
 }
 
 /// Appends octets, or there is no memory for them.
 fn append(octets: &[u8], data: &mut Vec<u8>) -> Result<(), Stop>
-    ensures { OnOk result (data.new.items ≡ data.old.items ++ octets.now) }
+    ensures ok { OnOk result (data.new.items ≡ data.old.items ++ octets.now) }
+    ensures err { IfErr result (λ e. e ≡ Stop.Memory) }
 {
     match data.extend_from_slice(octets) {
         Ok(()) => Ok(()),
@@ -120,8 +131,9 @@ fn append(octets: &[u8], data: &mut Vec<u8>) -> Result<(), Stop>
 
 /// Appends the part of the data that a word is.
 fn push_field(alloc: Global, field: Field, word: &Word<'_>, data: &mut Vec<u8>) -> Result<(), Stop>
-    ensures { OnOk result ((octets : List ℕ) × IsField field word.now.octets.now octets
+    ensures ok { OnOk result ((octets : List ℕ) × IsField field word.now.octets.now octets
         × (data.new.items ≡ data.old.items ++ octets)) }
+    ensures err { IfErr result (λ e. IfRefused e (NoField field (word_at word.now))) }
 {
     match field {
         Field::Number16 => {
@@ -156,8 +168,10 @@ pub(crate) fn push_fields(
     words: &[Word<'_>],
     data: &mut Vec<u8>,
 ) -> Result<(), Stop>
-    ensures { OnOk result ((octets : List ℕ) × AreFields fields.now words.now octets
+    ensures ok { OnOk result ((octets : List ℕ) × AreFields fields.now (words_at words.now) octets
         × (data.new.items ≡ data.old.items ++ octets)) }
+    ensures err { IfErr result (λ e. IfRefused e
+        (NoFields fields.now column (words_at words.now))) }
 {
     if words.len() != fields.len() {
         return Err(Stop::Refused(Fault::Words, column));

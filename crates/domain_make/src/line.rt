@@ -1,14 +1,17 @@
 //! One line after the other.
-ghost use Rattle.std.specs.Prelude.{◌≡◌, ◌≢◌, ◌≤◌, ◌↔◌, length, slice_index, IsTrue, OnOk, IfOk, IfErr};
+ghost use Rattle.std.specs.Prelude.{◌≡◌, ◌≢◌, ◌<◌, ◌≤◌, ◌↔◌, length, slice_index, IsTrue, OnOk, IfOk, IfErr};
 ghost use Rattle.domain_message_builder.specs.Views.{state_of};
-ghost use Rattle.domain_make.specs.Drafts.{IsAsked, IsRemark, IsLine, Takes, TakesAll, StopsFrom};
+ghost use Rattle.domain_make.specs.Drafts.{IsAsked, IsRemark, IsLine, Takes, TakesAll};
+ghost use Rattle.domain_make.specs.Faults.{IfRefused};
 ghost use Rattle.domain_make.specs.Made.{IfLine};
-ghost use Rattle.domain_make.specs.Words.{AreWords};
-ghost use Rattle.domain_make.specs.declared.remark.Place.{Place};
+ghost use Rattle.domain_make.specs.Refusals.{IsOutside, Refuses, StopsFrom};
+ghost use Rattle.domain_make.specs.Words.{AreWords, words_at};
+ghost use Rattle.domain_make.specs.declared.error.Stop.{Stop};
+ghost use Rattle.domain_make.specs.declared.remark.Stage.{Stage};
 
 use crate::entry::{push_question, push_record};
 use crate::error::{Fault, LineError, MakeError, Stop};
-use crate::remark::{Place, remark, trimmed};
+use crate::remark::{Stage, remark, trimmed};
 use crate::words::{Word, words_of};
 use domain_message::Section;
 use domain_message_builder::MessageBuilder;
@@ -27,15 +30,17 @@ fn is_asked(line: &[u8]) -> bool
 fn take_remark<Target: Composer>(
     alloc: Global,
     line: &[u8],
-    place: Place,
+    stage: Stage,
     message: &mut MessageBuilder<Target>,
-) -> Result<Place, Stop>
-    requires { IsRemark line.now place }
-    ensures { IfOk result (λ next. Takes Target.compresses line.now
-        place (state_of Target.octets message.old) next (state_of Target.octets message.new)) }
+) -> Result<Stage, Stop>
+    requires { IsRemark line.now stage }
+    ensures ok { IfOk result (λ next. Takes Target.compresses line.now
+        stage (state_of Target.octets message.old) next (state_of Target.octets message.new)) }
+    ensures err { IfErr result (λ e. IfRefused e (Refuses Target.compresses line.now
+        stage (state_of Target.octets message.old))) }
 {
     let header = message.header();
-    match remark(alloc, trimmed(line), place, header) {
+    match remark(alloc, trimmed(line), stage, header) {
         Ok((next, header)) => {
             message.set_header(header);
             Ok(next)
@@ -51,9 +56,11 @@ fn take_asked<Target: Composer>(
     message: &mut MessageBuilder<Target>,
 ) -> Result<(), Stop>
     requires { IsAsked line.now }
-    ensures { OnOk result (Takes Target.compresses line.now
-        Place.Questions (state_of Target.octets message.old)
-        Place.Questions (state_of Target.octets message.new)) }
+    ensures ok { OnOk result (Takes Target.compresses line.now
+        Stage.Questions (state_of Target.octets message.old)
+        Stage.Questions (state_of Target.octets message.new)) }
+    ensures err { IfErr result (λ e. IfRefused e (Refuses Target.compresses line.now
+        Stage.Questions (state_of Target.octets message.old))) }
 {
     let words = words_of(alloc, line, 1)?;
     push_question(alloc, words.as_slice(), message)
@@ -67,10 +74,13 @@ fn take_question<Target: Composer>(
     message: &mut MessageBuilder<Target>,
 ) -> Result<(), Stop>
     requires begins { slice_index line.now 0 ≢ 59 }
-    requires words { AreWords line.now 0 words.now }
-    ensures { OnOk result (Takes Target.compresses line.now
-        Place.Questions (state_of Target.octets message.old)
-        Place.Questions (state_of Target.octets message.new)) }
+    requires words { AreWords line.now 0 (words_at words.now) }
+    requires some { 0 < length words.now }
+    ensures ok { OnOk result (Takes Target.compresses line.now
+        Stage.Questions (state_of Target.octets message.old)
+        Stage.Questions (state_of Target.octets message.new)) }
+    ensures err { IfErr result (λ e. IfRefused e (Refuses Target.compresses line.now
+        Stage.Questions (state_of Target.octets message.old))) }
 {
     push_question(alloc, words, message)
 }
@@ -84,78 +94,97 @@ fn take_record<Target: Composer>(
     message: &mut MessageBuilder<Target>,
 ) -> Result<(), Stop>
     requires begins { slice_index line.now 0 ≢ 59 }
-    requires words { AreWords line.now 0 words.now }
-    ensures { OnOk result (Takes Target.compresses line.now
-        (Place.Records section) (state_of Target.octets message.old)
-        (Place.Records section) (state_of Target.octets message.new)) }
+    requires words { AreWords line.now 0 (words_at words.now) }
+    requires some { 0 < length words.now }
+    ensures ok { OnOk result (Takes Target.compresses line.now
+        (Stage.Records section) (state_of Target.octets message.old)
+        (Stage.Records section) (state_of Target.octets message.new)) }
+    ensures err { IfErr result (λ e. IfRefused e (Refuses Target.compresses line.now
+        (Stage.Records section) (state_of Target.octets message.old))) }
 {
     push_record(alloc, section, words, message)
+}
+
+/// Whether no heading of a section was told.
+fn is_outside(stage: Stage) -> bool
+    ensures { IsTrue result ↔ IsOutside stage }
+{
+    match stage {
+        Stage::Questions | Stage::Records(_) => false,
+        _ => true,
+    }
 }
 
 /// Takes a line that doesn't begin with a semicolon: a question, a record, or nothing.
 fn take_entry<Target: Composer>(
     alloc: Global,
     line: &[u8],
-    place: Place,
+    stage: Stage,
     message: &mut MessageBuilder<Target>,
 ) -> Result<(), Stop>
     requires { slice_index line.now 0 ≢ 59 }
-    ensures { OnOk result (Takes Target.compresses line.now
-        place (state_of Target.octets message.old)
-        place (state_of Target.octets message.new)) }
+    ensures ok { OnOk result (Takes Target.compresses line.now
+        stage (state_of Target.octets message.old)
+        stage (state_of Target.octets message.new)) }
+    ensures err { IfErr result (λ e. IfRefused e (Refuses Target.compresses line.now
+        stage (state_of Target.octets message.old))) }
 {
     let words = words_of(alloc, line, 0)?;
     let words = words.as_slice();
     if words.len() == 0 {
         return Ok(());
     }
-    match place {
-        Place::Start | Place::Codes | Place::Told => {
-            Err(Stop::Refused(Fault::Outside, words[0].column))
-        }
-        Place::Questions => take_question(alloc, words, line, message),
-        Place::Records(section) => take_record(alloc, section, words, line, message),
+    if is_outside(stage) {
+        return Err(Stop::Refused(Fault::Outside, words[0].column));
     }
+    if let Stage::Records(section) = stage {
+        return take_record(alloc, section, words, line, message);
+    }
+    take_question(alloc, words, line, message)
 }
 
 /// Takes a line that begins with a semicolon, and returns where in a message the next one is.
 fn take_marked<Target: Composer>(
     alloc: Global,
     line: &[u8],
-    place: Place,
+    stage: Stage,
     message: &mut MessageBuilder<Target>,
-) -> Result<Place, Stop>
+) -> Result<Stage, Stop>
     requires { slice_index line.now 0 ≡ 59 }
-    ensures { IfOk result (λ next. Takes Target.compresses line.now
-        place (state_of Target.octets message.old) next (state_of Target.octets message.new)) }
+    ensures ok { IfOk result (λ next. Takes Target.compresses line.now
+        stage (state_of Target.octets message.old) next (state_of Target.octets message.new)) }
+    ensures err { IfErr result (λ e. IfRefused e (Refuses Target.compresses line.now
+        stage (state_of Target.octets message.old))) }
 {
     if is_asked(line) {
-        if let Place::Questions = place {
+        if let Stage::Questions = stage {
             return match take_asked(alloc, line, message) {
-                Ok(()) => Ok(Place::Questions),
+                Ok(()) => Ok(Stage::Questions),
                 Err(stop) => Err(stop),
             };
         }
-        return take_remark(alloc, line, place, message);
+        return take_remark(alloc, line, stage, message);
     }
-    take_remark(alloc, line, place, message)
+    take_remark(alloc, line, stage, message)
 }
 
 /// Takes a line, and returns where in a message the next one is.
 fn take_line<Target: Composer>(
     alloc: Global,
     line: &[u8],
-    place: Place,
+    stage: Stage,
     message: &mut MessageBuilder<Target>,
-) -> Result<Place, Stop>
-    ensures { IfOk result (λ next. Takes Target.compresses line.now
-        place (state_of Target.octets message.old) next (state_of Target.octets message.new)) }
+) -> Result<Stage, Stop>
+    ensures ok { IfOk result (λ next. Takes Target.compresses line.now
+        stage (state_of Target.octets message.old) next (state_of Target.octets message.new)) }
+    ensures err { IfErr result (λ e. IfRefused e (Refuses Target.compresses line.now
+        stage (state_of Target.octets message.old))) }
 {
     if line.len() > 0 && line[0] == b';' {
-        return take_marked(alloc, line, place, message);
+        return take_marked(alloc, line, stage, message);
     }
-    match take_entry(alloc, line, place, message) {
-        Ok(()) => Ok(place),
+    match take_entry(alloc, line, stage, message) {
+        Ok(()) => Ok(stage),
         Err(stop) => Err(stop),
     }
 }
@@ -177,7 +206,7 @@ fn line_end(text: &[u8], start: usize) -> usize
 
 /// Why a line wasn't taken, with its number.
 fn refused_line(stop: Stop, line: usize) -> MakeError
-    ensures { IfLine result (λ e. e.line ≡ line) }
+    ensures { IfLine result (λ e. (e.line ≡ line) × (stop ≡ Stop.Refused e.fault e.column)) }
 {
     match stop {
         Stop::Refused(fault, column) => MakeError::Line(LineError {
@@ -198,17 +227,16 @@ pub(crate) fn take_lines<Target: Composer>(
     ensures all { OnOk result (TakesAll Target.compresses text.now
         (state_of Target.octets message.old) (state_of Target.octets message.new)) }
     ensures refused { IfErr result (λ e. IfLine e
-        (λ told. StopsFrom Target.compresses text.now told.line
-        (state_of Target.octets message.old))) }
+        (StopsFrom Target.compresses text.now (state_of Target.octets message.old))) }
 {
-    let mut place = Place::Start;
+    let mut stage = Stage::Start;
     let mut at = 0;
     let mut count = 0;
     while at < text.len() {
         let end = line_end(text, at);
         count += 1;
-        match take_line(alloc, &text[at..end], place, message) {
-            Ok(next) => place = next,
+        match take_line(alloc, &text[at..end], stage, message) {
+            Ok(next) => stage = next,
             Err(stop) => return Err(refused_line(stop, count)),
         }
         at = end + 1;

@@ -1,11 +1,15 @@
 //! Lines that begin with a semicolon: those of a header, headings of sections, and comments.
-ghost use Rattle.std.specs.Prelude.{◌≡◌, ◌⊎◌, ◌++◌, ◌∷◌, [], ◌<◌, ℕ, List, MatchOption, IfOk, IfSome, IsNone, IsTrue, ◌↔◌, codes, cond};
+ghost use Rattle.std.specs.Prelude.{◌≡◌, ◌≢◌, ◌⊎◌, ◌++◌, ◌∷◌, [], ◌<◌, ℕ, List, MatchOption, IfOk, IfErr, IfSome, IsNone, IsTrue, ◌↔◌, codes, cond, false, length, slice_index};
 ghost use Rattle.domain_header.specs.Headers.{SetsHigh, SetsLow};
 ghost use Rattle.domain_header.specs.Tables.{opcode_text, rcode_text};
 ghost use Rattle.domain_header.specs.Values.{opcode_number, rcode_number};
+ghost use Rattle.domain_make.specs.Faults.{IfRefused, Tells, Lacks};
 ghost use Rattle.domain_make.specs.Parts.{IsNumber16};
-ghost use Rattle.domain_make.specs.Remarks.{IsTrimmed, IsCodesLine, AreCodes, SetsCodes, flags_words, BeginsWithFlags, SetsFlags, IsWithColon, IsHeading, IsNoSection, IsNoOpt, Remarks};
-ghost use Rattle.domain_make.specs.declared.remark.Place.{Place};
+ghost use Rattle.domain_make.specs.Refusals.{NoRemark};
+ghost use Rattle.domain_make.specs.Remarks.{IsTrimmed, IsCodesLine, AreCodes, SetsCodes, flag_words, words_before, BeginsWithFlags, SetsFlags, IsWithColon, IsHeading, EndsInSection, BeginsAsOpt, Remarks};
+ghost use Rattle.domain_make.specs.declared.error.Fault.{Fault};
+ghost use Rattle.domain_make.specs.declared.remark.Flags.{Flags};
+ghost use Rattle.domain_make.specs.declared.remark.Stage.{Stage};
 
 use crate::error::{Fault, Stop};
 use crate::words::is_blank;
@@ -39,7 +43,11 @@ pub(crate) fn trimmed(line: &[u8]) -> &[u8]
 
 /// What a text has before and after the first octet like this one.
 fn parted(text: &[u8], octet: u8) -> Option<(&[u8], &[u8])>
-    ensures { IfSome result (λ parts. text.now ≡ parts.0.now ++ (octet ∷ parts.1.now)) }
+    ensures some { IfSome result (λ parts. text.now ≡ parts.0.now ++ (octet ∷ parts.1.now)) }
+    ensures first { IfSome result (λ parts. (k : ℕ) → k < length parts.0.now →
+        slice_index parts.0.now k ≢ octet) }
+    ensures none { IsNone result → (k : ℕ) → k < length text.now →
+        slice_index text.now k ≢ octet }
 {
     for at in 0..text.len() {
         if text[at] == octet {
@@ -53,6 +61,8 @@ fn parted(text: &[u8], octet: u8) -> Option<(&[u8], &[u8])>
 fn opcode_of(alloc: Global, text: &[u8]) -> Result<Opcode, Stop>
     ensures text { IfOk result (λ code. text.now ≡ opcode_text (opcode_number code)) }
     ensures small { IfOk result (λ code. opcode_number code < 16) }
+    ensures err { IfErr result (λ e. IfRefused e
+        (Lacks (λ n. (n < 16) × (text.now ≡ opcode_text n)) Fault.Header 1)) }
 {
     for number in 0..16_u8 {
         let opcode = Opcode::masked_from_int(number);
@@ -70,6 +80,8 @@ fn opcode_of(alloc: Global, text: &[u8]) -> Result<Opcode, Stop>
 fn rcode_of(alloc: Global, text: &[u8]) -> Result<Rcode, Stop>
     ensures text { IfOk result (λ code. text.now ≡ rcode_text (rcode_number code)) }
     ensures small { IfOk result (λ code. rcode_number code < 16) }
+    ensures err { IfErr result (λ e. IfRefused e
+        (Lacks (λ n. (n < 16) × (text.now ≡ rcode_text n)) Fault.Header 1)) }
 {
     for number in 0..16_u8 {
         let rcode = Rcode::masked_from_int(number);
@@ -85,25 +97,32 @@ fn rcode_of(alloc: Global, text: &[u8]) -> Result<Rcode, Stop>
 
 /// The identifier of this text.
 fn id_of(text: &[u8]) -> Result<u16, Stop>
-    ensures { IfOk result (λ id. IsNumber16 text.now id) }
+    ensures ok { IfOk result (λ id. IsNumber16 text.now id) }
+    ensures err { IfErr result (λ e. IfRefused e
+        (Lacks (IsNumber16 text.now) Fault.Header 1)) }
 {
     let Ok(text) = from_utf8(text) else {
         return Err(Stop::Refused(Fault::Header, 1));
     };
-    match offset_of_word(text) {
-        Some(number) if number <= 65_535 => Ok(number as u16),
-        _ => Err(Stop::Refused(Fault::Header, 1)),
+    let Some(number) = offset_of_word(text) else {
+        return Err(Stop::Refused(Fault::Header, 1));
+    };
+    if number > 65_535 {
+        return Err(Stop::Refused(Fault::Header, 1));
     }
+    Ok(number as u16)
 }
 
 /// The text after this beginning, of a line of a header.
 fn header_part<'a>(beginning: &[u8], text: &'a [u8]) -> Result<&'a [u8], Stop>
-    ensures { IfOk result (λ rest. text.now ≡ beginning.now ++ rest.now) }
+    ensures ok { IfOk result (λ rest. text.now ≡ beginning.now ++ rest.now) }
+    ensures err { IfErr result (λ e. IfRefused e
+        (Lacks (λ rest. text.now ≡ beginning.now ++ rest) Fault.Header 1)) }
 {
-    match after(beginning, text) {
-        Some(rest) => Ok(rest),
-        None => Err(Stop::Refused(Fault::Header, 1)),
-    }
+    let Some(rest) = after(beginning, text) else {
+        return Err(Stop::Refused(Fault::Header, 1));
+    };
+    Ok(rest)
 }
 
 /// What the first line of a header tells.
@@ -116,8 +135,10 @@ struct CodesTold {
 
 /// The codes and the identifier that a text tells, as `QUERY, status: NOERROR, id: 1`.
 fn codes_of(alloc: Global, text: &[u8]) -> Result<CodesTold, Stop>
-    ensures { IfOk result (λ told. AreCodes text.now
+    ensures ok { IfOk result (λ told. AreCodes text.now
         (opcode_number told.opcode) (rcode_number told.rcode) told.id) }
+    ensures err { IfErr result (λ e. IfRefused e (λ f c. Tells Fault.Header 1 f c
+        × ((opcode rcode id : ℕ) → AreCodes text.now opcode rcode id → ⊥))) }
 {
     let Some((opcode, rest)) = parted(text, b',') else {
         return Err(Stop::Refused(Fault::Header, 1));
@@ -147,7 +168,8 @@ fn with_codes(told: CodesTold, header: Header) -> Header
 
 /// Whether a text begins with a word, and what follows it or the text.
 fn flag<'a>(word: &[u8], text: &'a [u8]) -> (bool, &'a [u8])
-    ensures { text.now ≡ cond result.0 word.now [] ++ result.1.now }
+    ensures begins { text.now ≡ cond result.0 word.now [] ++ result.1.now }
+    ensures none { result.0 ≡ false → (rest : List ℕ) → text.now ≡ word.now ++ rest → ⊥ }
 {
     match after(word, text) {
         Some(rest) => (true, rest),
@@ -170,7 +192,11 @@ pub(crate) struct Flags {
 
 /// The flags that a text begins with, as ` qr rd; `, and what follows them.
 fn flags_before(text: &[u8]) -> (Flags, &[u8])
-    ensures { text.now ≡ flags_words result.0 ++ result.1.now }
+    ensures begins { text.now ≡ words_before (flag_words result.0) result.1.now }
+    ensures no_z { result.0.z ≡ false → (rest : List ℕ) →
+        result.1.now ≡ codes "; MBZ: 0x4" ++ rest → ⊥ }
+    ensures only { (flags : Flags) → BeginsWithFlags text.now flags →
+        (rest : List ℕ) × (result.1.now ≡ codes "; " ++ rest) }
 {
     let (qr, rest) = flag(b" qr", text);
     let (aa, rest) = flag(b" aa", rest);
@@ -195,7 +221,9 @@ fn flags_before(text: &[u8]) -> (Flags, &[u8])
 
 /// The flags that a text begins with, and a semicolon after them.
 fn flags_of(text: &[u8]) -> Result<Flags, Stop>
-    ensures { IfOk result (λ flags. BeginsWithFlags text.now flags) }
+    ensures ok { IfOk result (λ flags. BeginsWithFlags text.now flags) }
+    ensures err { IfErr result (λ e. IfRefused e
+        (Lacks (BeginsWithFlags text.now) Fault.Header 1)) }
 {
     let (flags, rest) = flags_before(text);
     header_part(b"; ", rest)?;
@@ -218,9 +246,9 @@ fn with_flags(flags: Flags, header: Header) -> Header
     header
 }
 
-/// Where in a message lines are.
+/// How far the lines of a message have come.
 #[derive(Clone, Copy, Debug, PartialEq, Eq)]
-pub(crate) enum Place {
+pub(crate) enum Stage {
     /// Nothing of it was told.
     Start,
     /// The codes and the identifier were told.
@@ -254,81 +282,115 @@ fn is_heading(heading: &[u8], line: &[u8]) -> bool
     }
 }
 
-/// The place after a heading. `None` where the line is none.
-fn heading(line: &[u8]) -> Option<Place>
-    ensures some { IfSome result (λ place. IsHeading line.now place) }
-    ensures none { IsNone result → (place : Place) → IsHeading line.now place → ⊥ }
+/// The stage that a heading begins. `None` where the line is none.
+fn heading(line: &[u8]) -> Option<Stage>
+    ensures some { IfSome result (λ stage. IsHeading line.now stage) }
+    ensures none { IsNone result → (stage : Stage) → IsHeading line.now stage → ⊥ }
 {
     if is_heading(b";; QUESTION SECTION", line) {
-        return Some(Place::Questions);
+        return Some(Stage::Questions);
     }
     if is_heading(b";; ANSWER SECTION", line) {
-        return Some(Place::Records(Section::Answer));
+        return Some(Stage::Records(Section::Answer));
     }
     if is_heading(b";; AUTHORITY SECTION", line) {
-        return Some(Place::Records(Section::Authority));
+        return Some(Stage::Records(Section::Authority));
     }
     if is_heading(b";; ADDITIONAL SECTION", line) {
-        return Some(Place::Records(Section::Additional));
+        return Some(Stage::Records(Section::Additional));
     }
     None
 }
 
+/// Whether a text ends in another.
+fn ends_in(end: &[u8], text: &[u8]) -> bool
+    ensures { IsTrue result ↔ ((front : List ℕ) × (text.now ≡ front ++ end.now)) }
+{
+    text.ends_with(end)
+}
+
+/// Whether a line ends as a heading does.
+fn is_section(line: &[u8]) -> bool
+    ensures { IsTrue result ↔ EndsInSection line.now }
+{
+    if ends_in(b" SECTION", line) {
+        return true;
+    }
+    ends_in(b" SECTION:", line)
+}
+
+/// Whether a line begins as one of an OPT record.
+fn is_of_opt(line: &[u8]) -> bool
+    ensures { IsTrue result ↔ BeginsAsOpt line.now }
+{
+    if let Some(_rest) = after(b"; EDNS:", line) {
+        return true;
+    }
+    if let Some(_rest) = after(b"; OPT=", line) {
+        return true;
+    }
+    false
+}
+
 /// A heading of no section of a message, or a line of an OPT record.
 fn refused_remark(line: &[u8]) -> Option<Fault>
-    ensures { IsNone result → IsNoSection line.now × IsNoOpt line.now }
+    ensures none { IsNone result →
+        (EndsInSection line.now → ⊥) × (BeginsAsOpt line.now → ⊥) }
+    ensures some { IfSome result (λ f. (EndsInSection line.now × (f ≡ Fault.Heading))
+        ⊎ ((EndsInSection line.now → ⊥) × BeginsAsOpt line.now × (f ≡ Fault.Opt))) }
 {
-    if line.ends_with(b" SECTION") || line.ends_with(b" SECTION:") {
+    if is_section(line) {
         return Some(Fault::Heading);
     }
-    if line.starts_with(b"; EDNS:") || line.starts_with(b"; OPT=") {
+    if is_of_opt(line) {
         return Some(Fault::Opt);
     }
     None
 }
 
 /// Whether the first line of a header may be there.
-fn before_codes(place: Place) -> bool
-    ensures { IsTrue result → place ≡ Place.Start }
+fn before_codes(stage: Stage) -> bool
+    ensures { IsTrue result ↔ (stage ≡ Stage.Start) }
 {
-    match place {
-        Place::Start => true,
+    match stage {
+        Stage::Start => true,
         _ => false,
     }
 }
 
 /// Whether the second line of a header may be there.
-fn before_flags(place: Place) -> bool
-    ensures { IsTrue result → (place ≡ Place.Start) ⊎ (place ≡ Place.Codes) }
+fn before_flags(stage: Stage) -> bool
+    ensures { IsTrue result ↔ ((stage ≡ Stage.Start) ⊎ (stage ≡ Stage.Codes)) }
 {
-    match place {
-        Place::Start | Place::Codes => true,
+    match stage {
+        Stage::Start | Stage::Codes => true,
         _ => false,
     }
 }
 
-/// What a line that begins with a semicolon, and is no question, says: the place after it and the header.
+/// What a line that begins with a semicolon, and is no question, says: the stage after it and the header.
 pub(crate) fn remark(
     alloc: Global,
     line: &[u8],
-    place: Place,
+    stage: Stage,
     header: Header,
-) -> Result<(Place, Header), Stop>
-    ensures { IfOk result (λ after. Remarks line.now place header after.0 after.1) }
+) -> Result<(Stage, Header), Stop>
+    ensures ok { IfOk result (λ after. Remarks line.now stage header after.0 after.1) }
+    ensures err { IfErr result (λ e. IfRefused e (λ f c. NoRemark line.now stage f × (c ≡ 1))) }
 {
     if let Some(text) = codes_text(line) {
-        if !before_codes(place) {
+        if !before_codes(stage) {
             return Err(Stop::Refused(Fault::LateHeader, 1));
         }
         let told = codes_of(alloc, text)?;
-        return Ok((Place::Codes, with_codes(told, header)));
+        return Ok((Stage::Codes, with_codes(told, header)));
     }
     if let Some(text) = after(b";; flags:", line) {
-        if !before_flags(place) {
+        if !before_flags(stage) {
             return Err(Stop::Refused(Fault::LateHeader, 1));
         }
         let flags = flags_of(text)?;
-        return Ok((Place::Told, with_flags(flags, header)));
+        return Ok((Stage::Told, with_flags(flags, header)));
     }
     if let Some(next) = heading(line) {
         return Ok((next, header));
@@ -336,7 +398,7 @@ pub(crate) fn remark(
     if let Some(fault) = refused_remark(line) {
         return Err(Stop::Refused(fault, 1));
     }
-    Ok((place, header))
+    Ok((stage, header))
 }
 
 /// What the first line of a header has after its beginning.

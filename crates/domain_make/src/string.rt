@@ -1,6 +1,9 @@
 //! Character strings (RFC 1035, 3.3 and 5.1).
-ghost use Rattle.std.specs.Prelude.{◌≡◌, ◌⊎◌, ◌<◌, ◌≤◌, ◌++◌, ◌∷◌, ◌↔◌, [], ℕ, List, length, slice_index, false, IsTrue, IfOk, IfSome, OnOk};
+ghost use Rattle.std.specs.Prelude.{◌≡◌, ◌⊎◌, ◌<◌, ◌≤◌, ◌++◌, ◌∷◌, ◌↔◌, [], ℕ, List, length, slice_index, false, IsTrue, IsNone, IfOk, IfErr, IfSome, OnOk};
+ghost use Rattle.domain_make.specs.Faults.{IfRefused, Lacks, NoString};
 ghost use Rattle.domain_make.specs.Fields.{IsField};
+ghost use Rattle.domain_make.specs.Words.{word_at};
+ghost use Rattle.domain_make.specs.declared.error.Fault.{Fault};
 ghost use Rattle.domain_label.specs.Spelling.{IsDigit, IsNoDigit};
 ghost use Rattle.domain_make.specs.Strings.{IsPlain, SpellsAt, IsSpelled};
 ghost use Rattle.domain_make.specs.declared.fields.Field.{Field};
@@ -29,6 +32,7 @@ fn escape_at(text: &[u8], at: usize) -> Option<(u8, usize)>
     requires inside { at < length text.now }
     requires begins { slice_index text.now at ≡ 92 }
     ensures some { IfSome result (λ read. SpellsAt text.now at read.0 read.1) }
+    ensures none { IsNone result → (octet next : ℕ) → SpellsAt text.now at octet next → ⊥ }
     ensures within { IfSome result (λ read. read.1 ≤ length text.now) }
     ensures further { IfSome result (λ read. at < read.1) }
 {
@@ -62,6 +66,7 @@ fn escape_at(text: &[u8], at: usize) -> Option<(u8, usize)>
 fn octet_at(text: &[u8], at: usize) -> Option<(u8, usize)>
     requires { at < length text.now }
     ensures some { IfSome result (λ read. SpellsAt text.now at read.0 read.1) }
+    ensures none { IsNone result → (octet next : ℕ) → SpellsAt text.now at octet next → ⊥ }
     ensures within { IfSome result (λ read. read.1 ≤ length text.now) }
     ensures further { IfSome result (λ read. at < read.1) }
 {
@@ -78,8 +83,12 @@ fn octet_at(text: &[u8], at: usize) -> Option<(u8, usize)>
 /// What a word has between its quotes, or the word if it has none around it. `None` for one that begins with a quote and
 /// doesn't end with another.
 fn without_quotes(text: &[u8]) -> Option<&[u8]>
-    ensures { IfSome result (λ inner. (inner.now ≡ text.now)
+    ensures some { IfSome result (λ inner. (inner.now ≡ text.now)
         ⊎ (text.now ≡ 34 ∷ (inner.now ++ 34 ∷ []))) }
+    ensures quoted { IfSome result (λ inner. slice_index text.now 0 ≡ 34 →
+        text.now ≡ 34 ∷ (inner.now ++ 34 ∷ [])) }
+    ensures quote { IsNone result → slice_index text.now 0 ≡ 34 }
+    ensures none { IsNone result → (inner : List ℕ) → text.now ≡ 34 ∷ (inner ++ 34 ∷ []) → ⊥ }
 {
     if text.len() == 0 || text[0] != b'"' {
         return Some(text);
@@ -92,7 +101,9 @@ fn without_quotes(text: &[u8]) -> Option<&[u8]>
 
 /// The octets that are spelled. The text is in a word at this column.
 fn spelled(alloc: Global, text: &[u8], column: usize) -> Result<Vec<u8>, Stop>
-    ensures { IfOk result (λ octets. IsSpelled text.now octets.items) }
+    ensures ok { IfOk result (λ octets. IsSpelled text.now octets.items) }
+    ensures err { IfErr result (λ e. IfRefused e
+        (Lacks (IsSpelled text.now) Fault.Text column)) }
 {
     let mut octets = Vec::new(alloc);
     let mut at = 0;
@@ -110,8 +121,9 @@ fn spelled(alloc: Global, text: &[u8], column: usize) -> Result<Vec<u8>, Stop>
 
 /// Appends the character string that a word is: one octet that tells its length, and its octets.
 pub(crate) fn push_string(alloc: Global, word: &Word<'_>, data: &mut Vec<u8>) -> Result<(), Stop>
-    ensures { OnOk result ((octets : List ℕ) × IsField Field.Text word.now.octets.now octets
+    ensures ok { OnOk result ((octets : List ℕ) × IsField Field.Text word.now.octets.now octets
         × (data.new.items ≡ data.old.items ++ octets)) }
+    ensures err { IfErr result (λ e. IfRefused e (NoString (word_at word.now))) }
 {
     let column = word.column;
     let Some(text) = without_quotes(word.octets) else {

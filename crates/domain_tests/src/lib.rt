@@ -14,6 +14,8 @@ mod counted_names;
 #[cfg(test)]
 mod cut_messages;
 #[cfg(test)]
+mod edns;
+#[cfg(test)]
 mod engines;
 #[cfg(test)]
 mod flattening;

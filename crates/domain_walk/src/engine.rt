@@ -107,7 +107,8 @@ pub fn follow_name<R: Source, W: Sink>(
     Ok(found)
 }
 
-const USAGE: &str = "usage: dnswalk OFFSET [--hex] | dnswalk message [--hex]";
+const USAGE: &str =
+    "usage: dnswalk OFFSET [--hex] | dnswalk message [--hex] | dnswalk make [--hex]";
 
 /// What the words ask for.
 #[derive(Clone, Copy)]

@@ -1,9 +1,11 @@
 use Rattle.std.proofs.Common.{drop}
-use Rattle.domain_make.specs.Fields.{IsField}
+use Rattle.domain_make.specs.Faults.{NoDigits}
 use Rattle.domain_make.specs.Parts.{IsDigitsWord}
-use Rattle.domain_make.specs.declared.fields.Field.TheVariants.{Text}
-use Rattle.domain_make.proofs.Listing.{Parted}
+use Rattle.domain_make.proofs.Listing.{Parted, Passed}
 use Rattle.domain_make.proofs.data.push_all_digits.Given as goal
 
 abbrev pub invariant-loop-word : goal.invariant-loop-word
-invariant-loop-word l = Parted (IsDigitsWord) l.words (drop l.word-index l.words) l.initial.data.items l.data.items
+invariant-loop-word l = record {
+  parted : Parted IsDigitsWord l.words (drop l.word-index l.words) l.initial.data.items l.data.items;
+  passed : Passed IsDigitsWord NoDigits l.words (drop l.word-index l.words);
+}

@@ -1,13 +1,34 @@
-use Rattle.std.proofs.Common.{sym, subst}
-use Rattle.domain_make.specs.Words.{AreWords}
+use Rattle.std.proofs.Common.{◌≡◌, sym, subst, arith, ◌∙◌}
+use Rattle.std.proofs.lemmas.Bool.{false≢true}
+use Rattle.domain_make.specs.declared.remark.Stage.TheVariants.{Questions}
+use Rattle.domain_make.specs.Words.{AreWords, words_at}
 use Rattle.domain_make.proofs.Drafting.{takes_nothing}
+use Rattle.domain_make.proofs.Refusing.{refuses_words, refuses_outside_first, only_questions}
+use Rattle.domain_make.proofs.Telling.{passed_on, if_refused}
 use Rattle.domain_make.proofs.line.take_entry.Goals as goal
 
-pub returns-then-words-eq0 : goal.returns-then-words-eq0
-returns-then-words-eq0 g c = takes_nothing _ _ _ _ _ c.requires c.if-words-eq0.true (subst (λ ws. AreWords c.args.line.now 0 ws) (sym c.as_slice-words.ensures.value) c.in_ok-words.ensures)
+pub returns-in_err-words-clause-err : goal.returns-in_err-words-clause-err
+returns-in_err-words-clause-err g c = passed_on _ _ _ c.from_residual.ensures.1 (if_refused _ _ _ (λ f k lack. refuses_words _ _ _ _ f k c.requires lack) c.in_err-words.ensures.err)
 
-pub returns-in-Questions : goal.returns-in-Questions
-returns-in-Questions g c = rw c.in-Questions.is c.take_question.ensures
+pub returns-then-words-eq0-clause-ok : goal.returns-then-words-eq0-clause-ok
+returns-then-words-eq0-clause-ok g c = takes_nothing _ _ _ _ _ c.requires c.if-words-eq0.true (subst (λ ws. AreWords c.args.line.now 0 (words_at ws)) (sym c.as_slice-words.ensures.value) c.in_ok-words.ensures.ok)
 
-pub returns : goal.returns
-returns g c = rw c.in-Records.is c.take_record.ensures
+pub returns-then-is_outside-clause-err : goal.returns-then-is_outside-clause-err
+returns-then-is_outside-clause-err g c =
+    refuses_outside_first _ _ _ _ _ _ (c.is_outside.ensures.0 c.if-is_outside.true) c.requires (subst (λ ws. AreWords c.args.line.now 0 (words_at ws)) (sym c.as_slice-words.ensures.value) c.in_ok-words.ensures.ok) (omega arith)
+
+pub returns-in-Records-clause-ok : goal.returns-in-Records-clause-ok
+returns-in-Records-clause-ok g c = rw c.in-Records.is c.take_record.ensures.ok
+
+pub returns-in-Records-clause-err : goal.returns-in-Records-clause-err
+returns-in-Records-clause-err g c = rw c.in-Records.is c.take_record.ensures.err
+
+pub returns-clause-ok : goal.returns-clause-ok
+returns-clause-ok g c =
+    let at : c.args.stage ≡ Questions = only_questions c.args.stage (λ out. false≢true (sym c.if-is_outside.false ∙ c.is_outside.ensures.1 out)) c.in_default.not-Records in
+    rw at c.take_question.ensures.ok
+
+pub returns-clause-err : goal.returns-clause-err
+returns-clause-err g c =
+    let at : c.args.stage ≡ Questions = only_questions c.args.stage (λ out. false≢true (sym c.if-is_outside.false ∙ c.is_outside.ensures.1 out)) c.in_default.not-Records in
+    rw at c.take_question.ensures.err

@@ -5,7 +5,7 @@ use Rattle.domain_make.proofs.line.take_lines.Given as goal
 
 abbrev pub invariant-loop-at : goal.invariant-loop-at
 invariant-loop-at g l = record {
-  taken : Taken g.Target.Composer.compresses l.text l.count l.at l.place (state_of g.Target.Octets.octets l.initial.message) (state_of g.Target.Octets.octets l.message);
+  taken : Taken g.Target.Composer.compresses l.text l.count l.at l.stage (state_of g.Target.Octets.octets l.initial.message) (state_of g.Target.Octets.octets l.message);
   few : l.count ≤ l.at;
 }
 

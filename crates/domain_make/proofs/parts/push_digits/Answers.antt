@@ -1,6 +1,7 @@
-use Rattle.std.proofs.Common.{arith}
+use Rattle.std.proofs.Common.{arith, refl}
 use Rattle.domain_make.proofs.Listing.{digits_none, digits_more, digits_all}
 use Rattle.domain_make.proofs.Scanning.{if_true}
+use Rattle.domain_make.proofs.Spelling.{not_digits}
 use Rattle.domain_make.proofs.parts.push_digits.Goals as goal
 
 pub loop-at-init : goal.loop-at-init
@@ -12,5 +13,8 @@ loop-at-preserved c = record {
   inside = c.in-Some.ensures.within;
 }
 
-pub returns : goal.returns
-returns c = digits_all _ _ _ _ c.loop-at.invariant.to (omega arith)
+pub returns-in_default-clause-err : goal.returns-in_default-clause-err
+returns-in_default-clause-err c = ((refl, refl), not_digits c.args.word.now.octets.now c.loop-at.invariant.to.0 c.loop-at.at c.loop-at.invariant.to.1 c.loop-at-test.true (λ o a. c.in_default.ensures.none refl o a))
+
+pub returns-clause-ok : goal.returns-clause-ok
+returns-clause-ok c = digits_all _ _ _ _ c.loop-at.invariant.to (omega arith)

@@ -1,7 +1,8 @@
-use Rattle.std.proofs.Common.{arith, subst, sym, refl}
+use Rattle.std.proofs.Common.{arith, subst, sym, refl, [], ◌∷◌, ◌++◌}
+use Rattle.domain_make.specs.Steps.Reaches.{begins, further}
 use Rattle.domain_make.specs.Strings.{SpelledTo}
-use Rattle.domain_make.specs.Strings.SpelledTo.{begins, more}
 use Rattle.domain_make.proofs.Scanning.{if_true}
+use Rattle.domain_make.proofs.Spelling.{not_spelled}
 use Rattle.domain_make.proofs.string.spelled.Goals as goal
 
 pub loop-at-init : goal.loop-at-init
@@ -9,5 +10,9 @@ loop-at-init c = record { to = subst (λ os. SpelledTo c.args.text.now os 0) (sy
 
 pub loop-at-preserved : goal.loop-at-preserved
 loop-at-preserved c =
-    let longer = more c.loop-at.invariant.to c.in-Some.ensures.some in
+    let longer : SpelledTo c.args.text.now (c.loop-at.octets.items ++ c.in-Some.octet ∷ []) c.in-Some.next =
+    further c.loop-at.invariant.to (record { octet = c.in-Some.octet; next = c.in-Some.next; spells = c.in-Some.ensures.some; after = refl }) in
     record { to = subst (λ os. SpelledTo c.args.text.now os c.in-Some.next) (sym (if_true _ _ _ _ c.if-is_err.ensures.negation c.push.ensures.items)) longer; inside = c.in-Some.ensures.within }
+
+pub returns-in_default-clause-err : goal.returns-in_default-clause-err
+returns-in_default-clause-err c = ((refl, refl), not_spelled c.args.text.now c.loop-at.octets.items c.loop-at.at c.loop-at.invariant.to c.loop-at-test.true (λ o n. c.in_default.ensures.none refl o n))

@@ -1,10 +1,10 @@
 use Rattle.std.proofs.Common.{length, ◌-◌, ◌≤◌}
-use Rattle.domain_make.specs.Words.{WordsTo}
+use Rattle.domain_make.specs.Words.{WordsTo, words_at}
 use Rattle.domain_make.proofs.words.words_of.Given as goal
 
 abbrev pub invariant-loop-at : goal.invariant-loop-at
 invariant-loop-at l = record {
-  to : WordsTo l.line l.start l.words.items l.at;
+  to : WordsTo l.line l.start (words_at l.words.items) l.at;
   inside : l.at ≤ length l.line;
 }
 

@@ -1,0 +1,28 @@
+use Rattle.std.proofs.Common.{arith, get_or, refl, subst, sym}
+use Rattle.domain_make.specs.Parts.{IsClassWord, IsTypeWord}
+use Rattle.domain_make.proofs.Entering.{no_word, four, record_no_owner, record_no_ttl, record_no_class, record_no_type, record_no_data, begins_record, long_data}
+use Rattle.domain_make.proofs.Telling.{passed_on}
+use Rattle.domain_make.proofs.entry.record_of.Goals as goal
+
+pub returns-in_err-name-clause-err : goal.returns-in_err-name-clause-err
+returns-in_err-name-clause-err c = passed_on _ _ _ c.from_residual.ensures.1 (record_no_owner _ _ _ _ _ _ _ (four c.args.words.now (omega arith)) c.in_err-name.ensures.err)
+
+pub returns-in_err-seconds-clause-err : goal.returns-in_err-seconds-clause-err
+returns-in_err-seconds-clause-err c = passed_on _ _ _ c.from_residual-in_err-seconds.ensures.1 (record_no_ttl _ _ _ _ _ _ _ _ (four c.args.words.now (omega arith)) c.in_ok-name.ensures.ok c.in_err-seconds.ensures.err)
+
+pub returns-in_err-class-clause-err : goal.returns-in_err-class-clause-err
+returns-in_err-class-clause-err c = passed_on _ _ _ c.from_residual-in_err-class.ensures.1 (record_no_class _ _ _ _ _ _ _ _ _ (four c.args.words.now (omega arith)) c.in_ok-name.ensures.ok c.in_ok-seconds.ensures.ok c.in_err-class.ensures.err)
+
+pub returns-in_err-rtype-clause-err : goal.returns-in_err-rtype-clause-err
+returns-in_err-rtype-clause-err c =
+    passed_on _ _ _ c.from_residual-in_err-rtype.ensures.1 (record_no_type _ _ _ _ _ _ _ _ _ _ (four c.args.words.now (omega arith)) c.in_ok-name.ensures.ok c.in_ok-seconds.ensures.ok c.in_ok-class.ensures.ok c.in_err-rtype.ensures.err)
+
+pub returns-in_err-data-clause-err : goal.returns-in_err-data-clause-err
+returns-in_err-data-clause-err c =
+    passed_on _ _ _ c.from_residual-in_err-data.ensures.1
+    (record_no_data _ _ _ _ _ _ (begins_record _ _ _ _ _ _ _ _ _ _ (four c.args.words.now (omega arith)) c.in_ok-name.ensures.ok c.in_ok-seconds.ensures.ok (subst (λ n. IsClassWord (get_or c.args.words.now 2 no_word).octets.now n) (sym c.to_int-2.ensures) c.in_ok-class.ensures.ok) (subst (λ n. IsTypeWord (get_or c.args.words.now 3 no_word).octets.now n) (sym c.to_int.ensures) c.in_ok-rtype.ensures.ok)) c.in_err-data.ensures.err)
+
+pub returns-in_default-from_octets-clause-err : goal.returns-in_default-from_octets-clause-err
+returns-in_default-from_octets-clause-err c =
+    long_data _ _ _ _ _ _ _ _ _ _ _ (begins_record _ _ _ _ _ _ _ _ _ _ (four c.args.words.now (omega arith)) c.in_ok-name.ensures.ok c.in_ok-seconds.ensures.ok c.in_ok-class.ensures.ok c.in_ok-rtype.ensures.ok)
+    refl refl c.to_int.ensures c.to_int-2.ensures c.in_ok-data.ensures.ok (c.in_default-from_octets.ensures.long.0 refl) c.first_column-in_default-from_octets.ensures

@@ -1,0 +1,5 @@
+use Rattle.std.proofs.Common.{arith, refl}
+use Rattle.domain_make.proofs.remark.opcode_of.Goals as goal
+
+pub returns-clause-err : goal.returns-clause-err
+returns-clause-err c = ((refl, refl), λ n is. c.loop-number.invariant n (omega (arith, is.0)) is.1)

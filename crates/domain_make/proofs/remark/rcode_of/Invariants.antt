@@ -1,0 +1,6 @@
+use Rattle.std.proofs.Common.{◌≡◌, ℕ, ◌<◌}
+use Rattle.domain_header.specs.Tables.{rcode_text}
+use Rattle.domain_make.proofs.remark.rcode_of.Given as goal
+
+abbrev pub invariant-loop-number : goal.invariant-loop-number
+invariant-loop-number l = (n : ℕ) → n < l.number → l.text ≡ rcode_text n → ⊥
