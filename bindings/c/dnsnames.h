@@ -1,4 +1,4 @@
-/* Domain names and their wire format (RFC 1035, 3.1, 4.1 and 5.1), read and written by proved functions.
+/* Domain names, and messages with their questions and records (RFC 1035), read and written by proved functions.
  *
  * An uncompressed name is the wire format of an absolute name with no pointer in it: its labels, each behind its
  * length octet, the root label (one zero octet) last; at most DNSNAMES_MAX_LEN octets. `name, len` means one. Sizes,
@@ -38,11 +38,13 @@ extern "C" {
 #define DNSNAMES_MAX_POINTERS 255
 /* The most offsets that a table for compressing has. */
 #define DNSNAMES_MAX_TABLE 128
+/* The most octets of the text of a type, a class or a code, with a zero octet after it. */
+#define DNSNAMES_MAX_MNEMONIC 12
 /* The octets of a key of dnsnames_hash. */
 #define DNSNAMES_KEY_LEN 16
 
 /* The version of this header; dnsnames_version tells that of the library. */
-#define DNSNAMES_VERSION "0.2.0"
+#define DNSNAMES_VERSION "0.3.0"
 
 typedef enum dnsnames_status {
     DNSNAMES_OK = 0,
@@ -87,7 +89,17 @@ typedef enum dnsnames_status {
     /* A length that is passed is larger than the capacity beside it. */
     DNSNAMES_BAD_LENGTH = 20,
     /* Data of records of this type have no such name. */
-    DNSNAMES_NO_FIELD = 21
+    DNSNAMES_NO_FIELD = 21,
+    /* The text names no type, class or code. */
+    DNSNAMES_NO_MNEMONIC = 22,
+    /* Building: the builder is not as its calls leave it, or its message is finished. */
+    DNSNAMES_NO_BUILDER = 23,
+    /* Building: a record was pushed before a question, or one of a later section. */
+    DNSNAMES_WRONG_ORDER = 24,
+    /* Building: the section has 65,535 entries, which is all that its count can tell. */
+    DNSNAMES_TOO_MANY_ENTRIES = 25,
+    /* Building: there is no such section. */
+    DNSNAMES_NO_SECTION = 26
 } dnsnames_status;
 
 /* The version of the library: a text that stays. */
@@ -301,6 +313,175 @@ dnsnames_status dnsnames_record(const uint8_t *message, size_t message_len, size
 dnsnames_status dnsnames_data_name(const uint8_t *message, size_t message_len, size_t data, size_t data_len,
                                    uint16_t type, size_t index, uint8_t *buffer, size_t capacity, size_t *length);
 
+/* ---- Building messages (RFC 1035, 4.1) ---- */
+
+/* The sections of records. */
+enum { DNSNAMES_ANSWER = 1, DNSNAMES_AUTHORITY = 2, DNSNAMES_ADDITIONAL = 3 };
+
+/* What a message that is built has so far: how many octets it has at most, and how many it has; the identifier and the
+ * flags that it gets; how many entries each section has; where the sections of records begin; and the offsets to which
+ * pointers lead, of which the first table_len count.
+ *
+ * `id` and `flags` may be changed at any time, and `limit` to any size from `len` to the capacity and to 65,535: so
+ * octets are set aside, as for an OPT record. All else is the calls'. */
+typedef struct dnsnames_builder_state {
+    size_t limit;
+    size_t len;
+    uint16_t id;
+    uint16_t flags;
+    uint16_t questions;
+    uint16_t answers;
+    uint16_t authority;
+    uint16_t additional;
+    size_t answer_start;
+    size_t authority_start;
+    size_t additional_start;
+    size_t table_len;
+    uint16_t table[DNSNAMES_MAX_TABLE];
+} dnsnames_builder_state;
+
+/* A message that is built in a buffer of the caller's. No call keeps the builder or the buffer: each looks first whether
+ * they are as these calls leave them, and refuses what isn't as NO_BUILDER. The buffer's first twelve octets are 128
+ * each until the message is finished. */
+typedef struct dnsnames_builder {
+    uint8_t *octets;
+    size_t capacity;
+    dnsnames_builder_state state;
+} dnsnames_builder;
+
+/* Begins a message in the buffer, with an identifier and flags (DNSNAMES_FLAG_.., an opcode at bit 11, a response code
+ * at bit 0), and nothing in it. It has at most as many octets as the buffer, and 65,535. NO_ROOM where there are not
+ * even twelve for the header.
+ *
+ * Then questions are pushed, and then records, section by section: each whole, or not at all. After a refusal all is
+ * as it was, and the next push is as good as any. Names of questions and owners of records are written as dnsnames_plan
+ * tells. What a reader of the message finds after dnsnames_builder_finish is what was pushed, in order, and nothing else;
+ * names without ASCII case.
+ *
+ *     uint8_t octets[512];
+ *     dnsnames_builder builder;
+ *     size_t len;
+ *     dnsnames_status status = dnsnames_builder_start(&builder, octets, sizeof octets, id, DNSNAMES_FLAG_RD);
+ *     if (status == DNSNAMES_OK)
+ *         status = dnsnames_builder_question(&builder, name, name_len, DNSNAMES_TYPE_A, DNSNAMES_CLASS_IN);
+ *     if (status == DNSNAMES_OK)
+ *         status = dnsnames_builder_opt(&builder, 1232, 0, 0, 0, NULL, 0);
+ *     if (status == DNSNAMES_OK)
+ *         status = dnsnames_builder_finish(&builder, &len);
+ */
+dnsnames_status dnsnames_builder_start(dnsnames_builder *builder, uint8_t *octets, size_t capacity, uint16_t id,
+                                       uint16_t flags);
+
+/* Pushes a question (4.1.2). NO_BUILDER, NO_NAME; WRONG_ORDER where a record was pushed; TOO_MANY_ENTRIES; NO_ROOM where it
+ * exceeds the limit. */
+dnsnames_status dnsnames_builder_question(dnsnames_builder *builder, const uint8_t *name, size_t len, uint16_t type,
+                                          uint16_t class_);
+
+/* Pushes a record (4.1.3) into a section: DNSNAMES_ANSWER, DNSNAMES_AUTHORITY, DNSNAMES_ADDITIONAL. Its data are
+ * written as they are passed: names in them stay uncompressed, as any reader takes them, and in records of types that
+ * are newer than RFC 1035 they have to be (RFC 3597, 4). NO_BUILDER, NO_SECTION, NO_NAME; WRONG_ORDER where a later
+ * section has a record; TOO_MANY_ENTRIES; NO_ROOM where it exceeds the limit, as data of more than 65,535 octets do. */
+dnsnames_status dnsnames_builder_record(dnsnames_builder *builder, uint32_t section, const uint8_t *owner,
+                                        size_t owner_len, uint16_t type, uint16_t class_, uint32_t ttl,
+                                        const uint8_t *data, size_t data_len);
+
+/* Pushes an OPT record into the additional section (RFC 6891, 6.1): how many octets of a message over UDP its sender
+ * takes, the upper eight bits of a response code of twelve (code >> 4), the version of EDNS, which is 0, the bit DO
+ * where dnssec_ok isn't 0 (RFC 3225, 3), and options in wire format: each a code and a length of 16 bits and its octets.
+ * A message has one at most. NO_BUILDER, TOO_MANY_ENTRIES, NO_ROOM. */
+dnsnames_status dnsnames_builder_opt(dnsnames_builder *builder, uint16_t size, uint8_t rcode_ext, uint8_t version,
+                                     uint32_t dnssec_ok, const uint8_t *options, size_t options_len);
+
+/* Takes all records away again, and sets the flag TC: what is left of an answer that has no room (RFC 2181, 9). An OPT
+ * record may be pushed after it. NO_BUILDER. */
+dnsnames_status dnsnames_builder_truncate(dnsnames_builder *builder);
+
+/* Writes the header: the first *length octets of the buffer are the message. It can be changed no more. NO_BUILDER. */
+dnsnames_status dnsnames_builder_finish(dnsnames_builder *builder, size_t *length);
+
+/* ---- Types, classes and codes ---- */
+
+/* Types by the numbers that IANA registered them under, as far as their records are read or written often. The calls
+ * below know 97 of them, and all numbers. */
+enum {
+    DNSNAMES_TYPE_A = 1,
+    DNSNAMES_TYPE_NS = 2,
+    DNSNAMES_TYPE_CNAME = 5,
+    DNSNAMES_TYPE_SOA = 6,
+    DNSNAMES_TYPE_PTR = 12,
+    DNSNAMES_TYPE_HINFO = 13,
+    DNSNAMES_TYPE_MX = 15,
+    DNSNAMES_TYPE_TXT = 16,
+    DNSNAMES_TYPE_AAAA = 28,
+    DNSNAMES_TYPE_SRV = 33,
+    DNSNAMES_TYPE_NAPTR = 35,
+    DNSNAMES_TYPE_DNAME = 39,
+    DNSNAMES_TYPE_OPT = 41,
+    DNSNAMES_TYPE_DS = 43,
+    DNSNAMES_TYPE_SSHFP = 44,
+    DNSNAMES_TYPE_RRSIG = 46,
+    DNSNAMES_TYPE_NSEC = 47,
+    DNSNAMES_TYPE_DNSKEY = 48,
+    DNSNAMES_TYPE_NSEC3 = 50,
+    DNSNAMES_TYPE_TLSA = 52,
+    DNSNAMES_TYPE_SVCB = 64,
+    DNSNAMES_TYPE_HTTPS = 65,
+    DNSNAMES_TYPE_TSIG = 250,
+    DNSNAMES_TYPE_IXFR = 251,
+    DNSNAMES_TYPE_AXFR = 252,
+    DNSNAMES_TYPE_ANY = 255,
+    DNSNAMES_TYPE_CAA = 257
+};
+
+/* Classes (RFC 1035, 3.2.4; NONE and ANY RFC 2136, 2.4). */
+enum { DNSNAMES_CLASS_IN = 1, DNSNAMES_CLASS_CH = 3, DNSNAMES_CLASS_HS = 4, DNSNAMES_CLASS_NONE = 254,
+       DNSNAMES_CLASS_ANY = 255 };
+
+/* Kinds of query (RFC 1035, 4.1.1; NOTIFY RFC 1996, UPDATE RFC 2136, DSO RFC 8490). */
+enum { DNSNAMES_OPCODE_QUERY = 0, DNSNAMES_OPCODE_IQUERY = 1, DNSNAMES_OPCODE_STATUS = 2, DNSNAMES_OPCODE_NOTIFY = 4,
+       DNSNAMES_OPCODE_UPDATE = 5, DNSNAMES_OPCODE_DSO = 6 };
+
+/* Response codes (RFC 1035, 4.1.1; from 6 on RFC 2136, 2.2; those past 15 have eight bits in an OPT record, RFC 6891,
+ * 6.1.3). */
+enum {
+    DNSNAMES_RCODE_NOERROR = 0,
+    DNSNAMES_RCODE_FORMERR = 1,
+    DNSNAMES_RCODE_SERVFAIL = 2,
+    DNSNAMES_RCODE_NXDOMAIN = 3,
+    DNSNAMES_RCODE_NOTIMP = 4,
+    DNSNAMES_RCODE_REFUSED = 5,
+    DNSNAMES_RCODE_YXDOMAIN = 6,
+    DNSNAMES_RCODE_YXRRSET = 7,
+    DNSNAMES_RCODE_NXRRSET = 8,
+    DNSNAMES_RCODE_NOTAUTH = 9,
+    DNSNAMES_RCODE_NOTZONE = 10,
+    DNSNAMES_RCODE_DSOTYPENI = 11,
+    DNSNAMES_RCODE_BADVERS = 16,
+    DNSNAMES_RCODE_BADCOOKIE = 23
+};
+
+/* The text of a type: its mnemonic, as MX, or TYPE and its number in decimal digits where it has none (RFC 3597, 5).
+ * *length becomes its size; a zero octet follows where the buffer has room for it, and isn't counted. A buffer of
+ * DNSNAMES_MAX_MNEMONIC has room for each. NO_ROOM. */
+dnsnames_status dnsnames_type_text(uint16_t type, uint8_t *buffer, size_t capacity, size_t *length);
+
+/* *type becomes the number of the type that a text names: by its mnemonic, or by TYPE immediately followed by a number
+ * of at most 65,535 in decimal digits, without ASCII case. NO_MNEMONIC where it names none. */
+dnsnames_status dnsnames_type_from_text(const uint8_t *text, size_t text_len, uint16_t *type);
+
+/* The same of classes, and of CLASS and a number (RFC 3597, 5). */
+dnsnames_status dnsnames_class_text(uint16_t class_, uint8_t *buffer, size_t capacity, size_t *length);
+dnsnames_status dnsnames_class_from_text(const uint8_t *text, size_t text_len, uint16_t *class_);
+
+/* The same of kinds of query, and of OPCODE and a number, which has four bits in a text that is read. */
+dnsnames_status dnsnames_opcode_text(uint16_t opcode, uint8_t *buffer, size_t capacity, size_t *length);
+dnsnames_status dnsnames_opcode_from_text(const uint8_t *text, size_t text_len, uint16_t *opcode);
+
+/* The same of response codes, and of RCODE and a number, which has twelve bits in a text that is read: four are in the
+ * header, eight in an OPT record if there is one. */
+dnsnames_status dnsnames_rcode_text(uint16_t rcode, uint8_t *buffer, size_t capacity, size_t *length);
+dnsnames_status dnsnames_rcode_from_text(const uint8_t *text, size_t text_len, uint16_t *rcode);
+
 /* ---- Statuses ---- */
 
 /* What a status means, in English: a text that stays. */
@@ -329,6 +510,11 @@ static inline const char *dnsnames_strerror(uint32_t status)
     case DNSNAMES_ABSOLUTE: return "absolute domain name";
     case DNSNAMES_BAD_LENGTH: return "length larger than its capacity";
     case DNSNAMES_NO_FIELD: return "no such name in data of this type";
+    case DNSNAMES_NO_MNEMONIC: return "no name of a type, a class or a code";
+    case DNSNAMES_NO_BUILDER: return "no builder, or its message is finished";
+    case DNSNAMES_WRONG_ORDER: return "a later section was begun";
+    case DNSNAMES_TOO_MANY_ENTRIES: return "too many entries in a section";
+    case DNSNAMES_NO_SECTION: return "no such section";
     default: return "unknown status";
     }
 }

@@ -43,6 +43,27 @@ uint32_t proved_dnsnames_record(const uint8_t *message, size_t message_len, size
                                 uint16_t *class_, uint32_t *ttl, size_t *data, size_t *data_len, size_t *end);
 uint32_t proved_dnsnames_data_name(const uint8_t *message, size_t message_len, size_t data, size_t data_len,
                                    uint16_t type, size_t index, uint8_t *buffer, size_t capacity, size_t *length);
+uint32_t proved_dnsnames_type_text(uint16_t type, uint8_t *buffer, size_t capacity, size_t *length);
+uint32_t proved_dnsnames_type_from_text(const uint8_t *text, size_t text_len, uint16_t *type);
+uint32_t proved_dnsnames_class_text(uint16_t class_, uint8_t *buffer, size_t capacity, size_t *length);
+uint32_t proved_dnsnames_class_from_text(const uint8_t *text, size_t text_len, uint16_t *class_);
+uint32_t proved_dnsnames_opcode_text(uint16_t opcode, uint8_t *buffer, size_t capacity, size_t *length);
+uint32_t proved_dnsnames_opcode_from_text(const uint8_t *text, size_t text_len, uint16_t *opcode);
+uint32_t proved_dnsnames_rcode_text(uint16_t rcode, uint8_t *buffer, size_t capacity, size_t *length);
+uint32_t proved_dnsnames_rcode_from_text(const uint8_t *text, size_t text_len, uint16_t *rcode);
+uint32_t proved_dnsnames_builder_start(uint8_t *octets, size_t capacity, dnsnames_builder_state *state, uint16_t id,
+                                       uint16_t flags);
+uint32_t proved_dnsnames_builder_question(uint8_t *octets, size_t capacity, dnsnames_builder_state *state,
+                                          const uint8_t *name, size_t len, uint16_t type, uint16_t class_);
+uint32_t proved_dnsnames_builder_record(uint8_t *octets, size_t capacity, dnsnames_builder_state *state,
+                                        uint32_t section, const uint8_t *owner, size_t owner_len, uint16_t type,
+                                        uint16_t class_, uint32_t ttl, const uint8_t *data, size_t data_len);
+uint32_t proved_dnsnames_builder_opt(uint8_t *octets, size_t capacity, dnsnames_builder_state *state, uint16_t size,
+                                     uint8_t rcode_ext, uint8_t version, uint32_t dnssec_ok, const uint8_t *options,
+                                     size_t options_len);
+uint32_t proved_dnsnames_builder_truncate(const uint8_t *octets, size_t capacity, dnsnames_builder_state *state);
+uint32_t proved_dnsnames_builder_finish(uint8_t *octets, size_t capacity, const dnsnames_builder_state *state,
+                                        size_t *length);
 
 /* The status where a null pointer is among what is passed, and that of the call otherwise. */
 #define GUARDED(null, call) ((null) ? DNSNAMES_NULL : (dnsnames_status)(call))
@@ -105,16 +126,20 @@ dnsnames_status dnsnames_from_text(const uint8_t *text, size_t text_len, uint8_t
                    proved_dnsnames_from_text(octets_at(text), text_len, room_at(buffer), capacity, length));
 }
 
-dnsnames_status dnsnames_to_text(const uint8_t *name, size_t len, uint32_t final_dot, uint8_t *buffer,
-                                 size_t capacity, size_t *length)
+/* Puts a zero octet after a text that was given, where there is room for it. */
+static dnsnames_status ended(dnsnames_status status, uint8_t *buffer, size_t capacity, const size_t *length)
 {
-    dnsnames_status status =
-        GUARDED(is_null(name, len) || is_null(buffer, capacity) || length == NULL,
-                proved_dnsnames_to_text(octets_at(name), len, final_dot, room_at(buffer), capacity, length));
-
     if (status == DNSNAMES_OK && *length < capacity)
         buffer[*length] = 0;
     return status;
+}
+
+dnsnames_status dnsnames_to_text(const uint8_t *name, size_t len, uint32_t final_dot, uint8_t *buffer,
+                                 size_t capacity, size_t *length)
+{
+    return ended(GUARDED(is_null(name, len) || is_null(buffer, capacity) || length == NULL,
+                         proved_dnsnames_to_text(octets_at(name), len, final_dot, room_at(buffer), capacity, length)),
+                 buffer, capacity, length);
 }
 
 dnsnames_status dnsnames_lower(const uint8_t *name, size_t len, uint8_t *buffer, size_t capacity, size_t *length)
@@ -220,4 +245,118 @@ dnsnames_status dnsnames_data_name(const uint8_t *message, size_t message_len, s
     return GUARDED(is_null(message, message_len) || is_null(buffer, capacity) || length == NULL,
                    proved_dnsnames_data_name(octets_at(message), message_len, data, data_len, type, index,
                                              room_at(buffer), capacity, length));
+}
+
+dnsnames_status dnsnames_type_text(uint16_t type, uint8_t *buffer, size_t capacity, size_t *length)
+{
+    return ended(GUARDED(is_null(buffer, capacity) || length == NULL,
+                         proved_dnsnames_type_text(type, room_at(buffer), capacity, length)),
+                 buffer, capacity, length);
+}
+
+dnsnames_status dnsnames_type_from_text(const uint8_t *text, size_t text_len, uint16_t *type)
+{
+    return GUARDED(is_null(text, text_len) || type == NULL,
+                   proved_dnsnames_type_from_text(octets_at(text), text_len, type));
+}
+
+dnsnames_status dnsnames_class_text(uint16_t class_, uint8_t *buffer, size_t capacity, size_t *length)
+{
+    return ended(GUARDED(is_null(buffer, capacity) || length == NULL,
+                         proved_dnsnames_class_text(class_, room_at(buffer), capacity, length)),
+                 buffer, capacity, length);
+}
+
+dnsnames_status dnsnames_class_from_text(const uint8_t *text, size_t text_len, uint16_t *class_)
+{
+    return GUARDED(is_null(text, text_len) || class_ == NULL,
+                   proved_dnsnames_class_from_text(octets_at(text), text_len, class_));
+}
+
+dnsnames_status dnsnames_opcode_text(uint16_t opcode, uint8_t *buffer, size_t capacity, size_t *length)
+{
+    return ended(GUARDED(is_null(buffer, capacity) || length == NULL,
+                         proved_dnsnames_opcode_text(opcode, room_at(buffer), capacity, length)),
+                 buffer, capacity, length);
+}
+
+dnsnames_status dnsnames_opcode_from_text(const uint8_t *text, size_t text_len, uint16_t *opcode)
+{
+    return GUARDED(is_null(text, text_len) || opcode == NULL,
+                   proved_dnsnames_opcode_from_text(octets_at(text), text_len, opcode));
+}
+
+dnsnames_status dnsnames_rcode_text(uint16_t rcode, uint8_t *buffer, size_t capacity, size_t *length)
+{
+    return ended(GUARDED(is_null(buffer, capacity) || length == NULL,
+                         proved_dnsnames_rcode_text(rcode, room_at(buffer), capacity, length)),
+                 buffer, capacity, length);
+}
+
+dnsnames_status dnsnames_rcode_from_text(const uint8_t *text, size_t text_len, uint16_t *rcode)
+{
+    return GUARDED(is_null(text, text_len) || rcode == NULL,
+                   proved_dnsnames_rcode_from_text(octets_at(text), text_len, rcode));
+}
+
+/* A builder that leads to nothing. */
+static int leads_nowhere(const dnsnames_builder *builder)
+{
+    return builder == NULL || is_null(builder->octets, builder->capacity);
+}
+
+dnsnames_status dnsnames_builder_start(dnsnames_builder *builder, uint8_t *octets, size_t capacity, uint16_t id,
+                                       uint16_t flags)
+{
+    dnsnames_builder_state state = {0};
+    dnsnames_status status;
+
+    if (builder == NULL || is_null(octets, capacity))
+        return DNSNAMES_NULL;
+    status = (dnsnames_status)proved_dnsnames_builder_start(room_at(octets), capacity, &state, id, flags);
+    if (status == DNSNAMES_OK) {
+        builder->octets = octets;
+        builder->capacity = capacity;
+        builder->state = state;
+    }
+    return status;
+}
+
+dnsnames_status dnsnames_builder_question(dnsnames_builder *builder, const uint8_t *name, size_t len, uint16_t type,
+                                          uint16_t class_)
+{
+    return GUARDED(leads_nowhere(builder) || is_null(name, len),
+                   proved_dnsnames_builder_question(room_at(builder->octets), builder->capacity, &builder->state,
+                                                    octets_at(name), len, type, class_));
+}
+
+dnsnames_status dnsnames_builder_record(dnsnames_builder *builder, uint32_t section, const uint8_t *owner,
+                                        size_t owner_len, uint16_t type, uint16_t class_, uint32_t ttl,
+                                        const uint8_t *data, size_t data_len)
+{
+    return GUARDED(leads_nowhere(builder) || is_null(owner, owner_len) || is_null(data, data_len),
+                   proved_dnsnames_builder_record(room_at(builder->octets), builder->capacity, &builder->state,
+                                                  section, octets_at(owner), owner_len, type, class_, ttl,
+                                                  octets_at(data), data_len));
+}
+
+dnsnames_status dnsnames_builder_opt(dnsnames_builder *builder, uint16_t size, uint8_t rcode_ext, uint8_t version,
+                                     uint32_t dnssec_ok, const uint8_t *options, size_t options_len)
+{
+    return GUARDED(leads_nowhere(builder) || is_null(options, options_len),
+                   proved_dnsnames_builder_opt(room_at(builder->octets), builder->capacity, &builder->state, size,
+                                               rcode_ext, version, dnssec_ok, octets_at(options), options_len));
+}
+
+dnsnames_status dnsnames_builder_truncate(dnsnames_builder *builder)
+{
+    return GUARDED(leads_nowhere(builder),
+                   proved_dnsnames_builder_truncate(octets_at(builder->octets), builder->capacity, &builder->state));
+}
+
+dnsnames_status dnsnames_builder_finish(dnsnames_builder *builder, size_t *length)
+{
+    return GUARDED(leads_nowhere(builder) || length == NULL,
+                   proved_dnsnames_builder_finish(room_at(builder->octets), builder->capacity, &builder->state,
+                                                  length));
 }

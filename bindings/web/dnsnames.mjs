@@ -10,6 +10,11 @@
 const MAX_LEN = 255;
 const MAX_TEXT = 1020;
 const MAX_TABLE = 128;
+const MAX_MNEMONIC = 12;
+
+// What the module keeps of a message that is built: how many octets there are in all, and where its flags and its size are.
+const BUILDER = { size: 320, len: 8, flags: 18 };
+const SECTIONS = ["answers", "authority", "additional"];
 
 // What a status is called, what it means, and where the standard has it.
 const FAULTS = new Map([
@@ -32,6 +37,11 @@ const FAULTS = new Map([
     [19, ["AbsoluteName", "absolute domain name", "RFC 1035, 3.1"]],
     [20, ["BadLength", "length larger than its capacity", ""]],
     [21, ["NoField", "no such name in data of this type", ""]],
+    [22, ["NoMnemonic", "no name of a type, a class or a code", "RFC 3597, 5"]],
+    [23, ["NoBuilder", "no builder, or its message is finished", ""]],
+    [24, ["WrongOrder", "a later section was begun", "RFC 1035, 4.1"]],
+    [25, ["TooManyEntries", "too many entries in a section", "RFC 1035, 4.1.1"]],
+    [26, ["NoSection", "no such section", "RFC 1035, 4.1"]],
 ]);
 
 /** Why something is refused: `fault` is its name, `status` the module's number, `section` the standard's. */
@@ -202,6 +212,67 @@ export class DnsNames {
                 offset = entry.end;
             }
         }
+    }
+
+    /** The text of a number: of a "type", a "class", an "opcode" or an "rcode" its mnemonic, or a word and the number (RFC
+     *  3597, 5). */
+    mnemonic(kind, number) {
+        if (!Number.isInteger(number) || number < 0 || number > 65535) throw new RangeError("a number of 16 bits");
+        const [room] = this.#begin(MAX_MNEMONIC);
+        const [length] = this.#results(1);
+        this.#call(`${kind}_text`, undefined, number, ...room, length);
+        return new TextDecoder().decode(this.#octets(room, length));
+    }
+
+    /** The number that such a text names, without ASCII case. NoMnemonic where it names none. */
+    numberOf(kind, text) {
+        const [slice] = this.#begin(new TextEncoder().encode(text));
+        const [number] = this.#results(1);
+        this.#call(`${kind}_from_text`, undefined, ...slice, number);
+        return this.#number16(number);
+    }
+
+    /** A message that is built (RFC 1035, 4.1), of at most so many octets: questions, and then records, section by
+     *  section. Each is pushed whole, or throws and changes nothing. */
+    builder({ capacity = 65535, id = 0, flags = 0 } = {}) {
+        const octets = new Uint8Array(capacity), state = new Uint8Array(BUILDER.size);
+        const view = new DataView(state.buffer);
+        const push = (call, parts, values) => this.#build(call, octets, state, parts, values);
+        push("start", [], () => [id, flags]);
+        return {
+            /** Pushes a question. WrongOrder where a record was pushed, NoRoom, TooManyEntries, NoBuilder. */
+            question: (name, type, class_ = 1) => push("question", [name], ([slice]) => [...slice, type, class_]),
+            /** Pushes a record into "answers", "authority" or "additional"; its data are written as they are. */
+            record: (section, owner, type, data, { ttl = 0, class: class_ = 1 } = {}) =>
+                push("record", [owner, data], ([slice, rest]) => [
+                    SECTIONS.indexOf(section) + 1, ...slice, type, class_, ttl, ...rest,
+                ]),
+            /** Pushes an OPT record (RFC 6891, 6.1): the size of messages over UDP, the upper eight bits of a response code of
+             *  twelve, the bit DO, options in wire format. */
+            opt: ({ size = 1232, rcode = 0, version = 0, dnssecOk = false, options = new Uint8Array(0) } = {}) =>
+                push("opt", [options], ([slice]) => [size, rcode >> 4, version, dnssecOk ? 1 : 0, ...slice]),
+            /** Takes all records away again, and sets the flag TC (RFC 2181, 9). */
+            truncate: () => push("truncate", [], () => []),
+            /** Sets the header's 16 bits of flags. */
+            setFlags: (bits) => view.setUint16(BUILDER.flags, bits, true),
+            /** How many octets the message has. */
+            length: () => Number(view.getBigUint64(BUILDER.len, true)),
+            /** Writes the header, and gives the message; it can be changed no more. */
+            finish: () => {
+                push("finish", [], (_, result) => [result]);
+                return octets.slice(0, Number(view.getBigUint64(BUILDER.len, true)));
+            },
+        };
+    }
+
+    // A call on a builder: octets and state go into the module's memory, and come back.
+    #build(call, octets, state, parts, values) {
+        const [buffer, kept, ...slices] = this.#begin(octets, state, ...parts);
+        const [result] = this.#results(1);
+        this.#call("builder_" + call, undefined, ...buffer, kept[0], ...values(slices, result));
+        const memory = new Uint8Array(this.#exports.memory.buffer);
+        octets.set(memory.subarray(Number(buffer[0]), Number(buffer[0]) + octets.length));
+        state.set(memory.subarray(Number(kept[0]), Number(kept[0]) + state.length));
     }
 
     /** A writer of names with compression into at most so many octets. */

@@ -43,4 +43,29 @@ const cut = { ...alias, data: alias.data.slice(1) };
 assert.equal(faultOf(() => dns.nameInData(message, cut)), "ShortInput");
 const longer = { ...alias, data: message.slice(alias.dataOffset, alias.dataOffset + 3) };
 assert.equal(faultOf(() => dns.nameInData(message, longer)), "TrailingData");
+// Types and codes.
+assert.deepEqual([dns.mnemonic("type", 15), dns.mnemonic("class", 4660), dns.mnemonic("rcode", 3)], ["MX", "CLASS4660", "NXDOMAIN"]);
+assert.deepEqual([dns.numberOf("type", "aaaa"), dns.numberOf("type", "TYPE65280"), dns.numberOf("opcode", "UPDATE")], [28, 65280, 5]);
+assert.equal(faultOf(() => dns.numberOf("type", "MXX")), "NoMnemonic");
+assert.equal(faultOf(() => dns.numberOf("type", "\u00e4")), "NoMnemonic");
+
+// A message that is built is read as what was pushed; what doesn't fit changes nothing.
+const builder = dns.builder({ capacity: 60, id: 7, flags: 0x0100 });
+const owner = from("www.example.com");
+builder.question(owner, 1);
+builder.record("answers", owner, 1, Uint8Array.of(192, 0, 2, 1), { ttl: 60 });
+const length = builder.length();
+assert.equal(faultOf(() => builder.record("answers", from("a.b"), 16, new Uint8Array(9))), "NoRoom");
+assert.equal(builder.length(), length);
+assert.equal(faultOf(() => builder.question(owner, 1)), "WrongOrder");
+assert.equal(faultOf(() => builder.record("answer", owner, 1, new Uint8Array(0))), "NoSection");
+builder.opt({ size: 1232, rcode: 16, dnssecOk: true });
+builder.setFlags(0x8180);
+const built = builder.finish();
+assert.equal(faultOf(() => builder.truncate()), "NoBuilder");
+assert.deepEqual(dns.header(built), { id: 7, flags: 0x8180, questions: 1, answers: 1, authority: 0, additional: 1 });
+const [asked, address, opt] = [...dns.entries(built)];
+assert.deepEqual([dns.readName(built, asked.offset).text, dns.readName(built, address.offset).text], ["www.example.com.", "www.example.com."]);
+assert.deepEqual([address.ttl, [...address.data], opt.type, opt.class, opt.ttl], [60, [192, 0, 2, 1], 41, 1232, 0x01008000]);
+assert.equal(faultOf(() => dns.builder({ capacity: 11 })), "NoRoom");
 console.log("passed");

@@ -23,7 +23,7 @@ if [ -e /usr/include/libknot/libknot.h ]; then
     knot=(-DWITH_LIBKNOT -lknot)
 fi
 mkdir -p "$work"
-for harness in read skip text order compress; do
+for harness in read skip text order compress build; do
     clang -std=gnu11 -O1 -g -Wall -Wextra -Wpedantic -fsanitize=fuzzer "$@" -I "$header" -o "$work/$harness" \
         "$here/$harness.c" "$library" "${knot[@]}"
 done

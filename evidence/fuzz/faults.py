@@ -8,7 +8,7 @@ from pathlib import Path
 
 HERE = Path(__file__).resolve().parent
 C = HERE.parent.parent / "bindings" / "c"
-HARNESSES = ["read", "skip", "text", "order", "compress"]
+HARNESSES = ["read", "skip", "text", "order", "compress", "build"]
 
 # What stands once in the code, and what is put in its place.
 FAULTS = [

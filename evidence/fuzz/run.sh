@@ -22,7 +22,7 @@ work=$(cd "$work" && pwd)
 tell() { echo "$*" | tee -a "$work/told"; }
 "$here/build.sh" "$work"
 "$here/build.sh" "$work/coverage" -fprofile-instr-generate -fcoverage-mapping
-harnesses=(read skip text order compress)
+harnesses=(read skip text order compress build)
 runs=0 differences=0 begun=$SECONDS
 mkdir -p "${harnesses[@]/#/$work/corpus/}" "${harnesses[@]/#/$here/corpus/}"
 for harness in "${harnesses[@]}"; do

@@ -1,6 +1,7 @@
 /* The worked cases of each call, and every bad input. The answers are those of RFC 1035 and RFC 4034. */
 #include "check.h"
 #include "dnsnames.h"
+#include "same.h"
 #include <string.h>
 
 #define OCTETS(text) ((const uint8_t *)(text))
@@ -652,11 +653,243 @@ static void far_off(void)
     CHECK(memcmp(octets + 16389, "\1x\377\376", 4) == 0);
 }
 
+typedef dnsnames_status text_call(uint16_t, uint8_t *, size_t, size_t *);
+typedef dnsnames_status from_text_call(const uint8_t *, size_t, uint16_t *);
+
+/* A number has this text, with each capacity; and the text, in any case, is that of the number. */
+static void is_mnemonic(text_call *text_of, from_text_call *number_of, uint16_t number, const char *text)
+{
+    size_t len = strlen(text), capacity, i;
+    uint8_t low[32];
+    uint16_t found = 7;
+
+    for (capacity = 0; capacity < len; capacity++) {
+        mark();
+        CHECK(text_of(number, buffer, capacity, &length) == DNSNAMES_NO_ROOM && length == len && holds(OCTETS(""), 0));
+    }
+    mark();
+    CHECK(text_of(number, buffer, len, &length) == DNSNAMES_OK && length == len && holds(OCTETS(text), len));
+    mark();
+    CHECK(text_of(number, buffer, len + 1, &length) == DNSNAMES_OK && holds(OCTETS(text), len + 1));
+    CHECK(number_of(OCTETS(text), len, &found) == DNSNAMES_OK && found == number);
+    for (i = 0; i < len; i++)
+        low[i] = (uint8_t)(text[i] >= 'A' && text[i] <= 'Z' ? text[i] + 32 : text[i]);
+    found = 7;
+    CHECK(number_of(low, len, &found) == DNSNAMES_OK && found == number);
+}
+
+static void names_nothing(from_text_call *number_of, const char *text)
+{
+    uint16_t found = 77;
+
+    CHECK(number_of(OCTETS(text), strlen(text), &found) == DNSNAMES_NO_MNEMONIC && found == 77);
+}
+
+/* Each number below the bound has a text that is the number's, and no number past it is read. */
+static void all_numbers(text_call *text_of, from_text_call *number_of, uint32_t bound)
+{
+    uint32_t number;
+    uint16_t found;
+    int same = 1;
+
+    for (number = 0; number < 65536; number++) {
+        if (text_of((uint16_t)number, buffer, DNSNAMES_MAX_MNEMONIC, &length) != DNSNAMES_OK || buffer[length] != 0) {
+            same = 0;
+            continue;
+        }
+        found = (uint16_t)~number;
+        same &= (number_of(buffer, length, &found) == DNSNAMES_OK) == (number < bound) &&
+                found == (uint16_t)(number < bound ? number : ~number);
+    }
+    CHECK(same);
+}
+
+static void mnemonics(void)
+{
+    uint16_t number = 7;
+
+    is_mnemonic(dnsnames_type_text, dnsnames_type_from_text, DNSNAMES_TYPE_A, "A");
+    is_mnemonic(dnsnames_type_text, dnsnames_type_from_text, DNSNAMES_TYPE_MX, "MX");
+    is_mnemonic(dnsnames_type_text, dnsnames_type_from_text, 51, "NSEC3PARAM");
+    is_mnemonic(dnsnames_type_text, dnsnames_type_from_text, 23, "NSAP-PTR");
+    is_mnemonic(dnsnames_type_text, dnsnames_type_from_text, DNSNAMES_TYPE_ANY, "ANY");
+    is_mnemonic(dnsnames_type_text, dnsnames_type_from_text, 65280, "TYPE65280");
+    is_mnemonic(dnsnames_type_text, dnsnames_type_from_text, 0, "TYPE0");
+    CHECK(dnsnames_type_from_text(SPELLED("TYPE15"), &number) == DNSNAMES_OK && number == 15);
+    CHECK(dnsnames_type_from_text(SPELLED("*"), &number) == DNSNAMES_OK && number == 255);
+    names_nothing(dnsnames_type_from_text, "");
+    names_nothing(dnsnames_type_from_text, "MXX");
+    names_nothing(dnsnames_type_from_text, " MX");
+    names_nothing(dnsnames_type_from_text, "TYPE");
+    names_nothing(dnsnames_type_from_text, "TYPE+1");
+    names_nothing(dnsnames_type_from_text, "TYPE65536");
+    names_nothing(dnsnames_type_from_text, "15");
+    names_nothing(dnsnames_type_from_text, "\303\244");
+    names_nothing(dnsnames_type_from_text, "MX\377");
+    is_mnemonic(dnsnames_class_text, dnsnames_class_from_text, DNSNAMES_CLASS_IN, "IN");
+    is_mnemonic(dnsnames_class_text, dnsnames_class_from_text, DNSNAMES_CLASS_NONE, "NONE");
+    is_mnemonic(dnsnames_class_text, dnsnames_class_from_text, 65535, "CLASS65535");
+    names_nothing(dnsnames_class_from_text, "TYPE1");
+    is_mnemonic(dnsnames_opcode_text, dnsnames_opcode_from_text, DNSNAMES_OPCODE_NOTIFY, "NOTIFY");
+    is_mnemonic(dnsnames_opcode_text, dnsnames_opcode_from_text, 15, "OPCODE15");
+    names_nothing(dnsnames_opcode_from_text, "OPCODE16");
+    is_mnemonic(dnsnames_rcode_text, dnsnames_rcode_from_text, DNSNAMES_RCODE_NXDOMAIN, "NXDOMAIN");
+    is_mnemonic(dnsnames_rcode_text, dnsnames_rcode_from_text, DNSNAMES_RCODE_BADVERS, "BADVERS");
+    is_mnemonic(dnsnames_rcode_text, dnsnames_rcode_from_text, 4095, "RCODE4095");
+    names_nothing(dnsnames_rcode_from_text, "RCODE4096");
+    all_numbers(dnsnames_type_text, dnsnames_type_from_text, 65536);
+    all_numbers(dnsnames_class_text, dnsnames_class_from_text, 65536);
+    all_numbers(dnsnames_opcode_text, dnsnames_opcode_from_text, 16);
+    all_numbers(dnsnames_rcode_text, dnsnames_rcode_from_text, 4096);
+}
+
+/* A message is begun in the first octets of the buffer. */
+static dnsnames_builder begun(size_t capacity)
+{
+    dnsnames_builder builder;
+
+    mark();
+    CHECK(dnsnames_builder_start(&builder, buffer, capacity, 0x1234, DNSNAMES_FLAG_RD) == DNSNAMES_OK);
+    return builder;
+}
+
+/* The response above as it is built: it compresses the name that the CNAME's data have by hand. */
+static dnsnames_status build_response(dnsnames_builder *builder)
+{
+    dnsnames_status status = dnsnames_builder_question(builder, NAME("\3www\7example\3com"), DNSNAMES_TYPE_A,
+                                                       DNSNAMES_CLASS_IN);
+
+    if (status == DNSNAMES_OK)
+        status = dnsnames_builder_record(builder, DNSNAMES_ANSWER, NAME("\3WWW\7example\3com"), DNSNAMES_TYPE_CNAME,
+                                         DNSNAMES_CLASS_IN, 3600, SPELLED("\4host\300\020"));
+    if (status == DNSNAMES_OK)
+        status = dnsnames_builder_record(builder, DNSNAMES_ANSWER, NAME("\4host\7example\3com"), DNSNAMES_TYPE_A,
+                                         DNSNAMES_CLASS_IN, 60, SPELLED("\300\0\2\1"));
+    if (status == DNSNAMES_OK)
+        status = dnsnames_builder_opt(builder, 4096, 0, 0, 0, NULL, 0);
+    return status;
+}
+
+/* As it was before a refused call: the builder, and the octets that it has. */
+#define STAYS(status, builder, call)                             \
+    do {                                                         \
+        dnsnames_builder before;                                 \
+        uint8_t octets[sizeof buffer];                           \
+        before = (builder);                                      \
+        memcpy(octets, buffer, sizeof octets);                   \
+        CHECK((call) == (status));                               \
+        CHECK(same_states(&before.state, &(builder).state));     \
+        CHECK(memcmp(octets, buffer, sizeof octets) == 0);       \
+    } while (0)
+
+static void building(void)
+{
+    dnsnames_builder builder = begun(sizeof buffer);
+    size_t size, capacity;
+    /* The address's owner is written as a label and a pointer: `host` is remembered nowhere else. */
+    static const uint8_t built[] =
+        "\x12\x34\x81\x80\0\1\0\2\0\0\0\1"
+        "\3www\7example\3com\0\0\1\0\1"
+        "\300\014\0\5\0\1\0\0\016\020\0\7\4host\300\020"
+        "\4host\300\020\0\1\0\1\0\0\0\74\0\4\300\0\2\1"
+        "\0\0\51\20\0\0\0\0\0\0";
+
+    CHECK(build_response(&builder) == DNSNAMES_OK);
+    builder.state.flags |= DNSNAMES_FLAG_QR | DNSNAMES_FLAG_RA;
+    CHECK(dnsnames_builder_finish(&builder, &size) == DNSNAMES_OK && size == sizeof built);
+    CHECK(holds(built, size));
+    STAYS(DNSNAMES_NO_BUILDER, builder, dnsnames_builder_finish(&builder, &size));
+    STAYS(DNSNAMES_NO_BUILDER, builder, dnsnames_builder_truncate(&builder));
+    STAYS(DNSNAMES_NO_BUILDER, builder, dnsnames_builder_opt(&builder, 1232, 0, 0, 0, NULL, 0));
+
+    /* One octet too few, at each push. */
+    for (capacity = 12; capacity < size; capacity++) {
+        builder = begun(capacity);
+        CHECK(build_response(&builder) == DNSNAMES_NO_ROOM && builder.state.len <= capacity);
+        CHECK(buffer[capacity] == 0x5a);
+    }
+    for (capacity = 0; capacity < 12; capacity++)
+        REFUSES(DNSNAMES_NO_ROOM, dnsnames_builder_start(&builder, buffer, capacity, 1, 0));
+
+    /* What is cut has its questions and TC, and an OPT record still has room. */
+    builder = begun(56);
+    CHECK(build_response(&builder) == DNSNAMES_NO_ROOM);
+    CHECK(dnsnames_builder_truncate(&builder) == DNSNAMES_OK);
+    CHECK(dnsnames_builder_opt(&builder, 1232, 1, 0, 1, NULL, 0) == DNSNAMES_OK);
+    CHECK(dnsnames_builder_finish(&builder, &size) == DNSNAMES_OK && size == 44);
+    CHECK(memcmp(buffer, "\x12\x34\3\0\0\1\0\0\0\0\0\1\3www\7example\3com\0\0\1\0\1"
+                       "\0\0\51\4\320\1\0\200\0\0\0", 44) == 0);
+}
+
+static void building_refused(void)
+{
+    dnsnames_builder builder = begun(512);
+    size_t size = 77, i;
+
+    CHECK(dnsnames_builder_question(&builder, NAME("\1a"), 1, 1) == DNSNAMES_OK);
+    STAYS(DNSNAMES_NO_NAME, builder, dnsnames_builder_question(&builder, SPELLED("\1a"), 1, 1));
+    CHECK(dnsnames_builder_record(&builder, DNSNAMES_AUTHORITY, NAME("\1a"), 2, 1, 0, NAME("\1b")) == DNSNAMES_OK);
+    STAYS(DNSNAMES_WRONG_ORDER, builder, dnsnames_builder_question(&builder, NAME("\1a"), 1, 1));
+    STAYS(DNSNAMES_WRONG_ORDER, builder, dnsnames_builder_record(&builder, DNSNAMES_ANSWER, NAME("\1a"), 1, 1, 0, NULL, 0));
+    STAYS(DNSNAMES_NO_SECTION, builder, dnsnames_builder_record(&builder, 0, NAME("\1a"), 1, 1, 0, NULL, 0));
+    STAYS(DNSNAMES_NO_SECTION, builder, dnsnames_builder_record(&builder, 4, NAME("\1a"), 1, 1, 0, NULL, 0));
+    STAYS(DNSNAMES_NO_NAME, builder, dnsnames_builder_record(&builder, 2, SPELLED("\1a"), 1, 1, 0, NULL, 0));
+    STAYS(DNSNAMES_NO_ROOM, builder, dnsnames_builder_record(&builder, 2, NAME("\1a"), 1, 1, 0, buffer, 500));
+    builder.state.authority = 65535;
+    STAYS(DNSNAMES_TOO_MANY_ENTRIES, builder, dnsnames_builder_record(&builder, 2, NAME("\1a"), 1, 1, 0, NULL, 0));
+    builder.state.authority = 0;
+    builder.state.questions = 65535;
+    STAYS(DNSNAMES_TOO_MANY_ENTRIES, builder, dnsnames_builder_question(&builder, NAME("\1a"), 1, 1));
+
+    /* What no call leaves so. */
+    for (i = 0; i < 8; i++) {
+        builder = begun(512);
+        CHECK(dnsnames_builder_question(&builder, NAME("\1a"), 1, 1) == DNSNAMES_OK);
+        if (i == 0)
+            builder.state.limit = 513;
+        else if (i == 1)
+            builder.state.limit = builder.state.len - 1;
+        else if (i == 2)
+            builder.state.answer_start = 11;
+        else if (i == 3)
+            builder.state.additional_start = builder.state.len + 1;
+        else if (i == 4)
+            builder.state.table_len = DNSNAMES_MAX_TABLE + 1;
+        else if (i == 5)
+            builder.state.table[0] = 16384;
+        else if (i == 6)
+            buffer[11] = 0;
+        else
+            builder.state.authority_start = 12;
+        STAYS(DNSNAMES_NO_BUILDER, builder, dnsnames_builder_question(&builder, NAME("\1b"), 1, 1));
+        STAYS(DNSNAMES_NO_BUILDER, builder, dnsnames_builder_record(&builder, 1, NAME("\1b"), 1, 1, 0, NULL, 0));
+        STAYS(DNSNAMES_NO_BUILDER, builder, dnsnames_builder_opt(&builder, 512, 0, 0, 0, NULL, 0));
+        STAYS(DNSNAMES_NO_BUILDER, builder, dnsnames_builder_truncate(&builder));
+        STAYS(DNSNAMES_NO_BUILDER, builder, dnsnames_builder_finish(&builder, &size));
+    }
+    CHECK(size == 77);
+}
+
+/* Data that are as large as a message may be, and one octet more; a buffer that is larger than any message. */
+static void building_large(void)
+{
+    static uint8_t octets[70000], data[65536];
+    dnsnames_builder builder;
+    size_t size;
+
+    CHECK(dnsnames_builder_start(&builder, octets, sizeof octets, 0, 0) == DNSNAMES_OK);
+    CHECK(builder.state.limit == 65535);
+    CHECK(dnsnames_builder_record(&builder, 1, NAME(""), 10, 1, 0, data, 65536) == DNSNAMES_NO_ROOM);
+    CHECK(dnsnames_builder_record(&builder, 1, NAME(""), 10, 1, 0, data, 65513) == DNSNAMES_NO_ROOM);
+    CHECK(dnsnames_builder_record(&builder, 1, NAME(""), 10, 1, 0, data, 65512) == DNSNAMES_OK);
+    CHECK(dnsnames_builder_finish(&builder, &size) == DNSNAMES_OK && size == 65535);
+}
+
 static void statuses(void)
 {
     uint32_t i, k;
 
-    for (i = 0; i <= DNSNAMES_NO_FIELD; i++) {
+    for (i = 0; i <= DNSNAMES_NO_SECTION; i++) {
         CHECK(dnsnames_strerror(i) != NULL && dnsnames_strerror(i)[0] != 0);
         for (k = 0; k < i; k++)
             CHECK(strcmp(dnsnames_strerror(i), dnsnames_strerror(k)) != 0);
@@ -679,6 +912,10 @@ int main(void)
     planning();
     appending();
     far_off();
+    mnemonics();
+    building();
+    building_refused();
+    building_large();
     statuses();
     return told("worked cases and refusals");
 }

@@ -67,10 +67,14 @@ a.
 the aliases lead in a ring' out/follow_cname out/counts
 
 # As dnspython writes the query, but for its identifier.
-is ask 0 123401000001000000000000076578616d706c6503636f6d00000f0001 out/ask example.com 15
-is 'ask, of the root' 0 1234010000010000000000000000ff0001 out/ask . 255
+opt=00002904d0000000000000
+is ask 0 123401000001000000000001076578616d706c6503636f6d00000f0001$opt out/ask example.com MX
+is 'ask, by a number' 0 123401000001000000000001076578616d706c6503636f6d00000f0001$opt out/ask example.com type15
+is 'ask, of the root' 0 1234010000010000000000010000ff0001$opt out/ask . ANY
 is 'ask, of no name' 1 '
-empty label' out/ask a..b 1
+empty label' out/ask a..b A
+is 'ask, of no type' 1 '
+no name of a type, a class or a code' out/ask a.b MXX
 
 printf '03777777 00\nc000\n0377\n\n0g\n' > out/lines
 out/tell_hex < out/lines > out/told

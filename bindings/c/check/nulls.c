@@ -16,6 +16,7 @@ static dnsnames_question_fields question;
 static dnsnames_record_fields record;
 static int32_t order;
 static uint64_t hash;
+static dnsnames_builder builder;
 
 /* What a refused call must leave. */
 static void mark(void)
@@ -27,6 +28,7 @@ static void mark(void)
     memset(&header, 0x5a, sizeof header);
     memset(&question, 0x5a, sizeof question);
     memset(&record, 0x5a, sizeof record);
+    memset(&builder.state, 0x5a, sizeof builder.state);
     flag = 77;
     order = 77;
     hash = 77;
@@ -54,7 +56,8 @@ static int is_marked(void)
         if (number[i] != 0x5a5a)
             return 0;
     return length == 77 && end == 77 && table[0] == 0x5a5a && flag == 77 && order == 77 && hash == 77 &&
-           is_5a(&header, sizeof header) && is_5a(&question, sizeof question) && is_5a(&record, sizeof record);
+           is_5a(&header, sizeof header) && is_5a(&question, sizeof question) && is_5a(&record, sizeof record) &&
+           is_5a(&builder.state, sizeof builder.state);
 }
 
 #define REFUSES(status, call)      \
@@ -93,6 +96,10 @@ static void empty(void)
     REFUSES(DNSNAMES_SHORT_INPUT, dnsnames_question(NONE, 0, 0, &question));
     REFUSES(DNSNAMES_SHORT_INPUT, dnsnames_record(NONE, 0, 0, &record));
     REFUSES(DNSNAMES_SHORT_INPUT, dnsnames_data_name(NONE, 0, 0, 0, 5, 0, buffer, sizeof buffer, &length));
+    REFUSES(DNSNAMES_NO_MNEMONIC, dnsnames_type_from_text(NONE, 0, &number[0]));
+    REFUSES(DNSNAMES_NO_MNEMONIC, dnsnames_class_from_text(NONE, 0, &number[0]));
+    REFUSES(DNSNAMES_NO_MNEMONIC, dnsnames_opcode_from_text(NONE, 0, &number[0]));
+    REFUSES(DNSNAMES_NO_MNEMONIC, dnsnames_rcode_from_text(NONE, 0, &number[0]));
 }
 
 /* So is a buffer: the answer tells how many octets it needs. */
@@ -106,6 +113,10 @@ static void no_buffer(void)
     CHECK(dnsnames_to_text(NAME, sizeof NAME, 1, NULL, 0, &length) == DNSNAMES_NO_ROOM && length == 4);
     CHECK(dnsnames_lower(NAME, sizeof NAME, NULL, 0, &length) == DNSNAMES_NO_ROOM && length == 5);
     CHECK(dnsnames_data_name(NAME, sizeof NAME, 0, 5, 5, 0, NULL, 0, &length) == DNSNAMES_NO_ROOM && length == 5);
+    CHECK(dnsnames_type_text(1, NULL, 0, &length) == DNSNAMES_NO_ROOM && length == 1);
+    CHECK(dnsnames_class_text(1, NULL, 0, &length) == DNSNAMES_NO_ROOM && length == 2);
+    CHECK(dnsnames_opcode_text(0, NULL, 0, &length) == DNSNAMES_NO_ROOM && length == 5);
+    CHECK(dnsnames_rcode_text(0, NULL, 0, &length) == DNSNAMES_NO_ROOM && length == 7);
     CHECK(dnsnames_append(NULL, 0, &octets_len, NULL, 0, &table_len, NAME, sizeof NAME) != DNSNAMES_OK);
     CHECK(octets_len == 0 && table_len == 0);
 }
@@ -149,7 +160,48 @@ static void slices(void)
     NULLED(dnsnames_question(NONE, 1, 0, &question));
     NULLED(dnsnames_record(NONE, 1, 0, &record));
     NULLED(dnsnames_data_name(NONE, 1, 0, 0, 5, 0, buffer, sizeof buffer, &length));
+    NULLED(dnsnames_type_text(1, NULL, 1, &length));
+    NULLED(dnsnames_type_from_text(NONE, 1, &number[0]));
+    NULLED(dnsnames_class_text(1, NULL, 1, &length));
+    NULLED(dnsnames_class_from_text(NONE, 1, &number[0]));
+    NULLED(dnsnames_opcode_text(1, NULL, 1, &length));
+    NULLED(dnsnames_opcode_from_text(NONE, 1, &number[0]));
+    NULLED(dnsnames_rcode_text(1, NULL, 1, &length));
+    NULLED(dnsnames_rcode_from_text(NONE, 1, &number[0]));
     NULLED(dnsnames_data_name(NAME, sizeof NAME, 0, 5, 5, 0, NULL, 1, &length));
+}
+
+/* A builder, and the octets that it leads to. */
+static void builders(void)
+{
+    NULLED(dnsnames_builder_start(NULL, buffer, sizeof buffer, 0, 0));
+    NULLED(dnsnames_builder_start(&builder, NULL, 1, 0, 0));
+    REFUSES(DNSNAMES_NO_ROOM, dnsnames_builder_start(&builder, NULL, 0, 0, 0));
+    NULLED(dnsnames_builder_question(NULL, NAME, sizeof NAME, 1, 1));
+    NULLED(dnsnames_builder_record(NULL, 1, NAME, sizeof NAME, 1, 1, 0, NULL, 0));
+    NULLED(dnsnames_builder_opt(NULL, 512, 0, 0, 0, NULL, 0));
+    NULLED(dnsnames_builder_truncate(NULL));
+    NULLED(dnsnames_builder_finish(NULL, &length));
+    builder.octets = NULL;
+    builder.capacity = 0;
+    REFUSES(DNSNAMES_NO_BUILDER, dnsnames_builder_question(&builder, NAME, sizeof NAME, 1, 1));
+    REFUSES(DNSNAMES_NO_BUILDER, dnsnames_builder_record(&builder, 1, NAME, sizeof NAME, 1, 1, 0, NULL, 0));
+    REFUSES(DNSNAMES_NO_BUILDER, dnsnames_builder_opt(&builder, 512, 0, 0, 0, NULL, 0));
+    REFUSES(DNSNAMES_NO_BUILDER, dnsnames_builder_truncate(&builder));
+    REFUSES(DNSNAMES_NO_BUILDER, dnsnames_builder_finish(&builder, &length));
+    builder.capacity = 1;
+    NULLED(dnsnames_builder_question(&builder, NAME, sizeof NAME, 1, 1));
+    NULLED(dnsnames_builder_record(&builder, 1, NAME, sizeof NAME, 1, 1, 0, NULL, 0));
+    NULLED(dnsnames_builder_opt(&builder, 512, 0, 0, 0, NULL, 0));
+    NULLED(dnsnames_builder_truncate(&builder));
+    NULLED(dnsnames_builder_finish(&builder, &length));
+    builder.octets = buffer;
+    builder.capacity = sizeof buffer;
+    NULLED(dnsnames_builder_question(&builder, NONE, 1, 1, 1));
+    NULLED(dnsnames_builder_record(&builder, 1, NONE, 1, 1, 1, 0, NULL, 0));
+    NULLED(dnsnames_builder_record(&builder, 1, NAME, sizeof NAME, 1, 1, 0, NONE, 1));
+    NULLED(dnsnames_builder_opt(&builder, 512, 0, 0, 0, NONE, 1));
+    NULLED(dnsnames_builder_finish(&builder, NULL));
 }
 
 /* So is one where a result is to go. */
@@ -171,6 +223,14 @@ static void results(void)
     NULLED(dnsnames_hash(KEY, NAME, sizeof NAME, NULL));
     NULLED(dnsnames_hash(NULL, NAME, sizeof NAME, &hash));
     NULLED(dnsnames_data_name(NAME, sizeof NAME, 0, 5, 5, 0, buffer, sizeof buffer, NULL));
+    NULLED(dnsnames_type_text(1, buffer, sizeof buffer, NULL));
+    NULLED(dnsnames_type_from_text(NAME + 1, 3, NULL));
+    NULLED(dnsnames_class_text(1, buffer, sizeof buffer, NULL));
+    NULLED(dnsnames_class_from_text(NAME + 1, 3, NULL));
+    NULLED(dnsnames_opcode_text(1, buffer, sizeof buffer, NULL));
+    NULLED(dnsnames_opcode_from_text(NAME + 1, 3, NULL));
+    NULLED(dnsnames_rcode_text(1, buffer, sizeof buffer, NULL));
+    NULLED(dnsnames_rcode_from_text(NAME + 1, 3, NULL));
     NULLED(dnsnames_label_count(NAME, sizeof NAME, NULL));
     NULLED(dnsnames_label(NAME, sizeof NAME, 0, NULL));
     NULLED(dnsnames_label_back(NAME, sizeof NAME, 0, NULL));
@@ -190,6 +250,7 @@ int main(void)
     empty();
     no_buffer();
     slices();
+    builders();
     results();
     return told("calls with null pointers");
 }

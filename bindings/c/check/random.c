@@ -6,6 +6,7 @@
 #define _DEFAULT_SOURCE
 #include "check.h"
 #include "dnsnames.h"
+#include "same.h"
 #include "second.h"
 #include <stdlib.h>
 #include <string.h>
@@ -195,6 +196,55 @@ static void ask_to_append(uint8_t names[][255], const size_t *lens, size_t count
     }
 }
 
+/* Builds a message in turn on both sides, with names that share ends and random data; both keep octets and builder. */
+static void ask_to_build(uint8_t names[][255], const size_t *lens, size_t count)
+{
+    static uint8_t octets[2][700];
+    dnsnames_builder builder[2];
+    size_t capacity = random_below(3) == 0 ? random_below(120) : sizeof octets[0], turns = random_below(14), size[2];
+    uint32_t status[2], side;
+
+    memset(octets, 0x5a, sizeof octets);
+    memset(builder, 0, sizeof builder);
+    status[0] = dnsnames_builder_start(&builder[0], octets[0], capacity, (uint16_t)capacity, 0x0100);
+    status[1] = second_builder_start(&builder[1], octets[1], capacity, (uint16_t)capacity, 0x0100);
+    CHECK(status[0] == status[1]);
+    builder[0].octets = octets[0];
+    builder[1].octets = octets[1];
+    while (turns-- > 0) {
+        uint32_t kind = random_below(12), section = random_below(8) == 0 ? random_below(6) : 1 + random_below(3);
+        size_t k = random_below((uint32_t)count), data_len = random_below(30), len = lens[k] - random_below(30) / 29;
+        uint16_t type = (uint16_t)random_below(300);
+        if (random_below(60) == 0) {
+            size_t at = random_below(12 + (uint32_t)sizeof builder[0].state), bit = 1u << random_below(8);
+            for (side = 0; side < 2; side++) {
+                uint8_t *where = at < 12 ? octets[side] + at : (uint8_t *)&builder[side].state + (at - 12);
+                *where = (uint8_t)(*where ^ bit);
+            }
+        }
+        for (side = 0; side < 2; side++) {
+            dnsnames_builder *b = &builder[side];
+#define TURN(call, ...) (side == 0 ? dnsnames_builder_##call(b, __VA_ARGS__) : second_builder_##call(b, __VA_ARGS__))
+            if (kind < 3)
+                status[side] = TURN(question, names[k], len, type, 1);
+            else if (kind < 10)
+                status[side] = TURN(record, section, names[k], len, type, 1, 0x10203040u + type, names[0], data_len);
+            else if (kind == 10)
+                status[side] = TURN(opt, type, (uint8_t)type, (uint8_t)(type / 2), type % 2, names[0], data_len);
+            else
+                status[side] = side == 0 ? dnsnames_builder_truncate(b) : second_builder_truncate(b);
+        }
+        CHECK(status[0] == status[1]);
+        CHECK(same_states(&builder[0].state, &builder[1].state));
+        CHECK(memcmp(octets[0], octets[1], sizeof octets[0]) == 0);
+    }
+    size[0] = size[1] = 77;
+    status[0] = dnsnames_builder_finish(&builder[0], &size[0]);
+    status[1] = second_builder_finish(&builder[1], &size[1]);
+    CHECK(status[0] == status[1] && size[0] == size[1]);
+    CHECK(memcmp(octets[0], octets[1], sizeof octets[0]) == 0);
+}
+
 /* Names in data that begin at an offset: of any type and size, and as large as the names there are. */
 static void ask_of_data(const uint8_t *message, size_t len, size_t offset)
 {
@@ -240,8 +290,10 @@ static void ask_of_message(const uint8_t *message, size_t len)
     }
     for (k = 0; k + 1 < count; k++)
         ask_of_name(names[k], lens[k], names[k + 1], lens[k + 1]);
-    if (count > 0)
+    if (count > 0) {
         ask_to_append(names, lens, count);
+        ask_to_build(names, lens, count);
+    }
 }
 
 int main(int argc, char **argv)

@@ -709,3 +709,169 @@ uint32_t SECOND(data_name)(const uint8_t *message, size_t message_len, size_t da
     status = walk(message, end, begin, 255, name, &len, &at, &through);
     return status == DNSNAMES_OK ? give(name, len, buffer, capacity, length) : status;
 }
+
+static void put16(uint8_t *octets, uint32_t number)
+{
+    octets[0] = (uint8_t)(number >> 8);
+    octets[1] = (uint8_t)number;
+}
+
+/* Whether the builder is as a call left it. */
+static int is_built(const dnsnames_builder *builder)
+{
+    const dnsnames_builder_state *s = &builder->state;
+    size_t i;
+
+    if (s->limit > builder->capacity || s->limit > 65535 || s->len > s->limit || s->table_len > DNSNAMES_MAX_TABLE)
+        return 0;
+    if (s->answer_start < 12 || s->authority_start < s->answer_start || s->additional_start < s->authority_start ||
+        s->len < s->additional_start)
+        return 0;
+    for (i = 0; i < s->table_len; i++)
+        if (s->table[i] >= 16384)
+            return 0;
+    for (i = 0; i < 12; i++)
+        if (builder->octets[i] != 128)
+            return 0;
+    return 1;
+}
+
+uint32_t SECOND(builder_start)(dnsnames_builder *builder, uint8_t *octets, size_t capacity, uint16_t id,
+                               uint16_t flags)
+{
+    if (capacity < 12)
+        return DNSNAMES_NO_ROOM;
+    memset(octets, 128, 12);
+    builder->octets = octets;
+    builder->capacity = capacity;
+    memset(&builder->state, 0, sizeof builder->state);
+    builder->state.limit = capacity < 65535 ? capacity : 65535;
+    builder->state.len = builder->state.answer_start = builder->state.authority_start =
+        builder->state.additional_start = 12;
+    builder->state.id = id;
+    builder->state.flags = flags;
+    return DNSNAMES_OK;
+}
+
+/* Writes a name and what follows it: a head, and data. */
+static uint32_t build(dnsnames_builder *builder, const uint8_t *name, size_t len, const uint8_t *head,
+                      size_t head_len, const uint8_t *data, size_t data_len)
+{
+    dnsnames_builder_state *s = &builder->state;
+    size_t begin = len, named, at = s->len;
+    uint16_t offset;
+
+    named = SECOND(plan)(builder->octets, at, s->table, s->table_len, name, len, &begin, &offset) == DNSNAMES_OK
+                ? begin + 2 : len;
+    if (named + head_len > s->limit - at || data_len > s->limit - at - named - head_len)
+        return DNSNAMES_NO_ROOM;
+    SECOND(append)(builder->octets, s->limit, &s->len, s->table, DNSNAMES_MAX_TABLE, &s->table_len, name, len);
+    memcpy(builder->octets + s->len, head, head_len);
+    if (data_len > 0)
+        memcpy(builder->octets + s->len + head_len, data, data_len);
+    s->len += head_len + data_len;
+    return DNSNAMES_OK;
+}
+
+uint32_t SECOND(builder_question)(dnsnames_builder *builder, const uint8_t *name, size_t len, uint16_t type,
+                                  uint16_t class_)
+{
+    dnsnames_builder_state *s = &builder->state;
+    uint8_t head[4];
+    uint32_t status;
+
+    if (!is_built(builder))
+        return DNSNAMES_NO_BUILDER;
+    if (SECOND(check)(name, len) != DNSNAMES_OK)
+        return DNSNAMES_NO_NAME;
+    if (s->answers + s->authority + s->additional > 0)
+        return DNSNAMES_WRONG_ORDER;
+    if (s->questions == 65535)
+        return DNSNAMES_TOO_MANY_ENTRIES;
+    put16(head, type);
+    put16(head + 2, class_);
+    status = build(builder, name, len, head, sizeof head, NULL, 0);
+    if (status == DNSNAMES_OK) {
+        s->questions++;
+        s->answer_start = s->authority_start = s->additional_start = s->len;
+    }
+    return status;
+}
+
+static uint32_t build_record(dnsnames_builder *builder, uint32_t section, const uint8_t *owner, size_t owner_len,
+                             uint16_t type, uint16_t class_, uint32_t ttl, const uint8_t *data, size_t data_len)
+{
+    dnsnames_builder_state *s = &builder->state;
+    uint16_t *counts[] = {&s->answers, &s->authority, &s->additional};
+    uint8_t head[10];
+    uint32_t later, status;
+
+    for (later = section; later < 3; later++)
+        if (*counts[later] > 0)
+            return DNSNAMES_WRONG_ORDER;
+    if (*counts[section - 1] == 65535)
+        return DNSNAMES_TOO_MANY_ENTRIES;
+    put16(head, type);
+    put16(head + 2, class_);
+    put16(head + 4, ttl >> 16);
+    put16(head + 6, ttl);
+    put16(head + 8, (uint32_t)data_len);
+    status = build(builder, owner, owner_len, head, sizeof head, data, data_len);
+    if (status == DNSNAMES_OK) {
+        (*counts[section - 1])++;
+        if (section == DNSNAMES_ANSWER)
+            s->authority_start = s->len;
+        if (section != DNSNAMES_ADDITIONAL)
+            s->additional_start = s->len;
+    }
+    return status;
+}
+
+uint32_t SECOND(builder_record)(dnsnames_builder *builder, uint32_t section, const uint8_t *owner, size_t owner_len,
+                                uint16_t type, uint16_t class_, uint32_t ttl, const uint8_t *data, size_t data_len)
+{
+    if (!is_built(builder))
+        return DNSNAMES_NO_BUILDER;
+    if (section < 1 || section > 3)
+        return DNSNAMES_NO_SECTION;
+    if (SECOND(check)(owner, owner_len) != DNSNAMES_OK)
+        return DNSNAMES_NO_NAME;
+    return build_record(builder, section, owner, owner_len, type, class_, ttl, data, data_len);
+}
+
+uint32_t SECOND(builder_opt)(dnsnames_builder *builder, uint16_t size, uint8_t rcode_ext, uint8_t version,
+                             uint32_t dnssec_ok, const uint8_t *options, size_t options_len)
+{
+    static const uint8_t root[1] = {0};
+    uint32_t ttl = (uint32_t)rcode_ext << 24 | (uint32_t)version << 16 | (dnssec_ok ? 0x8000u : 0);
+
+    if (!is_built(builder))
+        return DNSNAMES_NO_BUILDER;
+    return build_record(builder, DNSNAMES_ADDITIONAL, root, 1, 41, size, ttl, options, options_len);
+}
+
+uint32_t SECOND(builder_truncate)(dnsnames_builder *builder)
+{
+    dnsnames_builder_state *s = &builder->state;
+
+    if (!is_built(builder))
+        return DNSNAMES_NO_BUILDER;
+    s->len = s->authority_start = s->additional_start = s->answer_start;
+    s->answers = s->authority = s->additional = 0;
+    s->flags |= DNSNAMES_FLAG_TC;
+    return DNSNAMES_OK;
+}
+
+uint32_t SECOND(builder_finish)(dnsnames_builder *builder, size_t *length)
+{
+    const dnsnames_builder_state *s = &builder->state;
+    const uint16_t numbers[6] = {s->id, s->flags, s->questions, s->answers, s->authority, s->additional};
+    size_t i;
+
+    if (!is_built(builder))
+        return DNSNAMES_NO_BUILDER;
+    for (i = 0; i < 6; i++)
+        put16(builder->octets + 2 * i, numbers[i]);
+    *length = s->len;
+    return DNSNAMES_OK;
+}

@@ -42,5 +42,15 @@ uint32_t SECOND(question)(const uint8_t *message, size_t message_len, size_t off
 uint32_t SECOND(record)(const uint8_t *message, size_t message_len, size_t offset, dnsnames_record_fields *record);
 uint32_t SECOND(data_name)(const uint8_t *message, size_t message_len, size_t data, size_t data_len, uint16_t type,
                            size_t index, uint8_t *buffer, size_t capacity, size_t *length);
+uint32_t SECOND(builder_start)(dnsnames_builder *builder, uint8_t *octets, size_t capacity, uint16_t id,
+                               uint16_t flags);
+uint32_t SECOND(builder_question)(dnsnames_builder *builder, const uint8_t *name, size_t len, uint16_t type,
+                                  uint16_t class_);
+uint32_t SECOND(builder_record)(dnsnames_builder *builder, uint32_t section, const uint8_t *owner, size_t owner_len,
+                                uint16_t type, uint16_t class_, uint32_t ttl, const uint8_t *data, size_t data_len);
+uint32_t SECOND(builder_opt)(dnsnames_builder *builder, uint16_t size, uint8_t rcode_ext, uint8_t version,
+                             uint32_t dnssec_ok, const uint8_t *options, size_t options_len);
+uint32_t SECOND(builder_truncate)(dnsnames_builder *builder);
+uint32_t SECOND(builder_finish)(dnsnames_builder *builder, size_t *length);
 
 #endif

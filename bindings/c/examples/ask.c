@@ -1,44 +1,40 @@
-/* Writes a query (RFC 1035, 4.1) for the records of a type that a name has, as hexadecimal digits.
+/* Writes a query (RFC 1035, 4.1) for the records of a type that a name has, as hexadecimal digits. It takes answers of
+ * 1,232 octets over UDP (RFC 6891, 6.2.3).
  *
  *     ask NAME TYPE
  *
- * TYPE is a number, as 15 for MX. Status 1 where NAME is no name. */
+ * TYPE is a mnemonic, as MX, or TYPE and a number. Status 1 where NAME is no name, or TYPE no type. */
 #include "dnsnames.h"
 #include <stdio.h>
-#include <stdlib.h>
 #include <string.h>
 
-enum { HEADER_LEN = 12 };
+/* An identifier, which a program that sends it draws at random. */
+enum { ID = 0x1234 };
 
-/* An identifier, which a program that sends it draws at random; RD; one question. */
-static const uint8_t header[HEADER_LEN] = {0x12, 0x34, DNSNAMES_FLAG_RD >> 8, 0, 0, 1};
-
-/* Puts a question of class IN after the header. */
-static dnsnames_status write_query(uint8_t *message, size_t capacity, size_t *len, const char *text, unsigned type)
+static dnsnames_status write_query(uint8_t *message, size_t capacity, size_t *len, const char *text, const char *type)
 {
-    const uint8_t rest[4] = {(uint8_t)(type >> 8), (uint8_t)type, 0, 1};
     uint8_t name[DNSNAMES_MAX_LEN];
-    uint16_t table[DNSNAMES_MAX_TABLE];
-    size_t name_len, table_len = 0;
-    dnsnames_status status;
+    size_t name_len;
+    uint16_t number;
+    dnsnames_builder builder;
+    dnsnames_status status = dnsnames_from_text((const uint8_t *)text, strlen(text), name, sizeof name, &name_len);
 
-    status = dnsnames_from_text((const uint8_t *)text, strlen(text), name, sizeof name, &name_len);
-    if (status != DNSNAMES_OK)
-        return status;
-    memcpy(message, header, sizeof header);
-    *len = sizeof header;
-    status = dnsnames_append(message, capacity - sizeof rest, len, table, DNSNAMES_MAX_TABLE, &table_len, name,
-                             name_len);
-    if (status != DNSNAMES_OK)
-        return status;
-    memcpy(message + *len, rest, sizeof rest);
-    *len += sizeof rest;
-    return DNSNAMES_OK;
+    if (status == DNSNAMES_OK)
+        status = dnsnames_type_from_text((const uint8_t *)type, strlen(type), &number);
+    if (status == DNSNAMES_OK)
+        status = dnsnames_builder_start(&builder, message, capacity, ID, DNSNAMES_FLAG_RD);
+    if (status == DNSNAMES_OK)
+        status = dnsnames_builder_question(&builder, name, name_len, number, DNSNAMES_CLASS_IN);
+    if (status == DNSNAMES_OK)
+        status = dnsnames_builder_opt(&builder, 1232, 0, 0, 0, NULL, 0);
+    if (status == DNSNAMES_OK)
+        status = dnsnames_builder_finish(&builder, len);
+    return status;
 }
 
 int main(int argc, char **argv)
 {
-    uint8_t message[HEADER_LEN + DNSNAMES_MAX_LEN + 4];
+    uint8_t message[512];
     size_t len, i;
     dnsnames_status status;
 
@@ -46,7 +42,7 @@ int main(int argc, char **argv)
         fprintf(stderr, "usage: ask NAME TYPE\n");
         return 2;
     }
-    status = write_query(message, sizeof message, &len, argv[1], (unsigned)strtoul(argv[2], NULL, 10));
+    status = write_query(message, sizeof message, &len, argv[1], argv[2]);
     if (status != DNSNAMES_OK) {
         fprintf(stderr, "%s\n", dnsnames_strerror(status));
         return 1;

@@ -15,21 +15,26 @@ the package's wheel carries, else `libdnsnames.so.0` where the system finds it. 
 from ._library import VERSION as __version__
 from ._library import (
     BadEscape, BadLabelType, BadSymbol, BinaryLabel, CompressedName, DnsError, EmptyLabel, LongLabel, LongName,
-    NoField, NoLabel, NoRoom, RelativeName, ShortInput, TooManyPointers, TrailingData,
+    NoBuilder, NoField, NoLabel, NoMnemonic, NoRoom, RelativeName, ShortInput, TooManyEntries, TooManyPointers,
+    TrailingData, WrongOrder,
 )
+from ._builder import Builder
 from ._message import Composer, Header, Message, Question, Record
+from ._mnemonic import Class, Flags, Opcode, Rcode, Type
 from ._name import Name, Reading, read, skip
 
 for _public in (
     BadEscape, BadLabelType, BadSymbol, BinaryLabel, CompressedName, DnsError, EmptyLabel, LongLabel, LongName,
-    NoField, NoLabel, NoRoom, RelativeName, ShortInput, TooManyPointers, TrailingData,
-    Composer, Header, Message, Question, Record, Name, Reading, read, skip,
+    NoBuilder, NoField, NoLabel, NoMnemonic, NoRoom, RelativeName, ShortInput, TooManyEntries, TooManyPointers,
+    TrailingData, WrongOrder,
+    Builder, Class, Flags, Opcode, Rcode, Type, Composer, Header, Message, Question, Record, Name, Reading, read, skip,
 ):
     _public.__module__ = __name__
 del _public
 
 __all__ = [
-    "BadEscape", "BadLabelType", "BadSymbol", "BinaryLabel", "Composer", "CompressedName", "DnsError", "EmptyLabel",
-    "Header", "LongLabel", "LongName", "Message", "Name", "NoField", "NoLabel", "NoRoom", "Question", "Reading",
-    "Record", "RelativeName", "ShortInput", "TooManyPointers", "TrailingData", "read", "skip",
+    "BadEscape", "BadLabelType", "BadSymbol", "BinaryLabel", "Builder", "Class", "Composer", "CompressedName",
+    "DnsError", "EmptyLabel", "Flags", "Header", "LongLabel", "LongName", "Message", "Name", "NoBuilder", "NoField",
+    "NoLabel", "NoMnemonic", "NoRoom", "Opcode", "Question", "Rcode", "Reading", "Record", "RelativeName", "ShortInput",
+    "TooManyEntries", "TooManyPointers", "TrailingData", "Type", "WrongOrder", "read", "skip",
 ]

@@ -10,12 +10,13 @@ from typing import Optional, Union
 
 Octets = Union[bytes, bytearray, memoryview]
 
-VERSION = "0.2.0"
+VERSION = "0.3.0"
 
 MAX_LEN = 255
 MAX_TEXT = 1020
 MAX_POINTERS = 255
 MAX_TABLE = 128
+MAX_MNEMONIC = 12
 _MAX_SIZE = 2 ** (8 * ctypes.sizeof(ctypes.c_size_t)) - 1
 
 
@@ -128,11 +129,37 @@ class NoField(DnsError):
     status, text = 21, "no such name in data of this type"
 
 
+class NoMnemonic(DnsError, KeyError):
+    """The text names no type, no class or no code."""
+
+    status, text = 22, "no name of a type, a class or a code"
+    __str__ = Exception.__str__
+
+
+class NoBuilder(DnsError):
+    """The message that is built is finished."""
+
+    status, text = 23, "no builder, or its message is finished"
+
+
+class WrongOrder(DnsError):
+    """A question was pushed after a record, or a record after one of a later section."""
+
+    status, text = 24, "a later section was begun"
+
+
+class TooManyEntries(DnsError):
+    """The section has 65,535 entries."""
+
+    status, text = 25, "too many entries in a section"
+
+
 FAULTS = {
     fault.status: fault
     for fault in (
         ShortInput, BadLabelType, TooManyPointers, LongName, CompressedName, RelativeName, TrailingData, NoRoom,
-        NoLabel, BadEscape, BadSymbol, BinaryLabel, LongLabel, EmptyLabel, NoField,
+        NoLabel, BadEscape, BadSymbol, BinaryLabel, LongLabel, EmptyLabel, NoField, NoMnemonic, NoBuilder,
+        WrongOrder, TooManyEntries,
     )
 }
 
@@ -157,6 +184,21 @@ class RecordFields(ctypes.Structure):
     ]
 
 
+class BuilderState(ctypes.Structure):
+    _fields_ = [
+        ("limit", ctypes.c_size_t), ("len", ctypes.c_size_t),
+        *((name, ctypes.c_uint16) for name in ("id", "flags", "questions", "answers", "authority", "additional")),
+        ("answer_start", ctypes.c_size_t), ("authority_start", ctypes.c_size_t), ("additional_start", ctypes.c_size_t),
+        ("table_len", ctypes.c_size_t), ("table", ctypes.c_uint16 * MAX_TABLE),
+    ]
+
+
+class BuilderFields(ctypes.Structure):
+    _fields_ = [("octets", ctypes.c_void_p), ("capacity", ctypes.c_size_t), ("state", BuilderState)]
+
+
+_to_builder = ctypes.POINTER(BuilderFields)
+
 # As dnsnames.h declares them.
 _ARGUMENTS = {
     "read": [_octets, _size, _size, ctypes.c_uint8, _buffer, _size, _to_size, _to_size, _to_32],
@@ -171,6 +213,24 @@ _ARGUMENTS = {
     "header": [_octets, _size, ctypes.POINTER(HeaderFields)],
     "question": [_octets, _size, _size, ctypes.POINTER(QuestionFields)],
     "record": [_octets, _size, _size, ctypes.POINTER(RecordFields)],
+    "builder_start": [_to_builder, _buffer, _size, ctypes.c_uint16, ctypes.c_uint16],
+    "builder_question": [_to_builder, _octets, _size, ctypes.c_uint16, ctypes.c_uint16],
+    "builder_record": [
+        _to_builder, ctypes.c_uint32, _octets, _size, ctypes.c_uint16, ctypes.c_uint16, ctypes.c_uint32, _octets, _size,
+    ],
+    "builder_opt": [
+        _to_builder, ctypes.c_uint16, ctypes.c_uint8, ctypes.c_uint8, ctypes.c_uint32, _octets, _size,
+    ],
+    "builder_truncate": [_to_builder],
+    "builder_finish": [_to_builder, _to_size],
+    "type_text": [ctypes.c_uint16, _buffer, _size, _to_size],
+    "type_from_text": [_octets, _size, _to_16],
+    "class_text": [ctypes.c_uint16, _buffer, _size, _to_size],
+    "class_from_text": [_octets, _size, _to_16],
+    "opcode_text": [ctypes.c_uint16, _buffer, _size, _to_size],
+    "opcode_from_text": [_octets, _size, _to_16],
+    "rcode_text": [ctypes.c_uint16, _buffer, _size, _to_size],
+    "rcode_from_text": [_octets, _size, _to_16],
     "data_name": [_octets, _size, _size, _size, ctypes.c_uint16, _size, _buffer, _size, _to_size],
 }
 # The shared object that a wheel carries.
@@ -224,3 +284,4 @@ def as_size(number: int) -> int:
 # What a caller lends to a call.
 Buffer = ctypes.c_char * MAX_LEN
 Text = ctypes.c_char * MAX_TEXT
+Mnemonic = ctypes.c_char * MAX_MNEMONIC

@@ -9,6 +9,7 @@ from ._library import (
     MAX_LEN, MAX_TABLE, Buffer, HeaderFields, NoField, Octets, QuestionFields, RecordFields, as_octets, as_size, library,
     refuse,
 )
+from ._mnemonic import Class, Flags, Opcode, Rcode, Type
 from ._name import Name, read
 
 
@@ -28,8 +29,13 @@ class Header(NamedTuple):
         return self.flags & 0x8000 != 0
 
     @property
-    def opcode(self) -> int:
-        return self.flags >> 11 & 15
+    def flag_names(self) -> Flags:
+        """The flags that are set, without the opcode, the response code and the bit that isn't in use."""
+        return Flags(self.flags & 0x87B0)
+
+    @property
+    def opcode(self) -> Opcode:
+        return Opcode(self.flags >> 11 & 15)
 
     @property
     def is_authoritative(self) -> bool:
@@ -48,9 +54,9 @@ class Header(NamedTuple):
         return self.flags & 0x0080 != 0
 
     @property
-    def rcode(self) -> int:
+    def rcode(self) -> Rcode:
         """The four bits that the header has; with EDNS there are eight more (RFC 6891, 6.1.3)."""
-        return self.flags & 15
+        return Rcode(self.flags & 15)
 
 
 class Question(NamedTuple):
@@ -58,8 +64,8 @@ class Question(NamedTuple):
     name is read when it is asked for, so a bad one stops nothing else."""
 
     message: bytes
-    type: int
-    class_: int
+    type: Type
+    class_: Class
     offset: int
     end: int
 
@@ -78,8 +84,8 @@ class Record(NamedTuple):
 
     message: bytes
     section: str
-    type: int
-    class_: int
+    type: Type
+    class_: Class
     ttl: int
     data: bytes
     offset: int
@@ -127,11 +133,11 @@ class Message:
     >>> message.header
     Header(id=4660, flags=33152, questions=1, answers=1, authority=0, additional=0)
     >>> for question in message.questions():
-    ...     print(question.name, question.type)
-    a. 1
+    ...     print(question.name, question.class_, question.type)
+    a. IN A
     >>> for record in message.answers():
-    ...     print(record.name, record.ttl, *record.names_in_data())
-    a. 60 a.
+    ...     print(record.name, record.ttl, record.type, *record.names_in_data())
+    a. 60 CNAME a.
     """
 
     __slots__ = ("_octets",)
@@ -160,7 +166,7 @@ class Message:
         status = library.dnsnames_question(self._octets, len(self._octets), as_size(offset), byref(found))
         if status:
             refuse(status, offset)
-        return Question(self._octets, found.type, found.class_, offset, found.end)
+        return Question(self._octets, Type(found.type), Class(found.class_), offset, found.end)
 
     def _record(self, section: str, offset: int) -> Record:
         found = RecordFields()
@@ -169,7 +175,9 @@ class Message:
             refuse(status, offset)
         data = found.data
         octets = self._octets[data : data + found.data_len]
-        return Record(self._octets, section, found.type, found.class_, found.ttl, octets, offset, data, found.end)
+        return Record(
+            self._octets, section, Type(found.type), Class(found.class_), found.ttl, octets, offset, data, found.end
+        )
 
     def questions(self) -> Iterator[Question]:
         """The questions that the header counts."""

@@ -12,7 +12,7 @@ import sys
 import unittest
 
 import dnsnames
-from dnsnames import Composer, Message, Name, read, skip
+from dnsnames import Builder, Composer, Message, Name, Type, read, skip
 from dnsnames import _library
 
 HEADER = pathlib.Path(__file__).parents[2] / "c" / "dnsnames.h"
@@ -266,11 +266,79 @@ class Messages(unittest.TestCase):
             Composer(0).append(Name("."))
 
 
+class Mnemonics(unittest.TestCase):
+    def test_numbers_and_texts(self):
+        self.assertEqual((Type["MX"], Type["mx"], Type["TYPE15"], Type.MX, Type["*"]), (15, 15, 15, 15, 255))
+        self.assertEqual((str(Type(65280)), repr(Type(1)), f"{Type(28):>5}|{Type(28):04x}"), ("TYPE65280", "Type['A']", " AAAA|001c"))
+        self.assertEqual(({15: "mx"}[Type.MX], Type.A.name, Type(Type.A) is not None), ("mx", "A", True))
+        self.assertEqual((str(dnsnames.Rcode(4095)), dnsnames.Rcode["BADVERS"], dnsnames.Opcode["opcode15"]), ("RCODE4095", 16, 15))
+        for call in (lambda: Type["MXX"], lambda: Type[""], lambda: Type["\xe4"], lambda: dnsnames.Opcode["OPCODE16"]):
+            with self.assertRaises(dnsnames.NoMnemonic):
+                call()
+        for call in (lambda: Type(65536), lambda: Type(-1), lambda: dnsnames.Rcode(4096), lambda: dnsnames.Opcode(16)):
+            with self.assertRaises(ValueError):
+                call()
+        self.assertFalse(hasattr(Type, "MXX"))
+        self.assertEqual(pickle.loads(pickle.dumps(Type.MX)), Type.MX)
+        self.assertIs(type(pickle.loads(pickle.dumps(Type.MX))), Type)
+        self.assertEqual(copy.copy(Type.MX), 15)
+
+    def test_of_a_message(self):
+        message = Message(RESPONSE)
+        self.assertEqual(message.header.flag_names, dnsnames.Flags.QR | dnsnames.Flags.RD | dnsnames.Flags.RA)
+        self.assertEqual([str(record.type) for record in message.records()], ["CNAME", "A", "OPT"])
+        self.assertEqual((str(message.header.opcode), str(message.header.rcode)), ("QUERY", "NOERROR"))
+
+
+class Builders(unittest.TestCase):
+    def test_a_message(self):
+        builder = Builder(512, id=0x1234, flags=0x8180)
+        www, host = Name("www.example.com"), Name("host.example.com")
+        builder.question(www, Type.A)
+        builder.record("answer", www, Type.CNAME, bytes(host), ttl=3600)
+        builder.record("answer", host, Type.A, b"\xc0\0\2\1", ttl=60)
+        builder.opt(4096, rcode=16, dnssec_ok=True)
+        message = Message(builder.finish())
+        self.assertEqual(message.header, (0x1234, 0x8180, 1, 2, 0, 1))
+        alias, address, opt = message.records()
+        self.assertEqual((alias.name, alias.ttl, alias.names_in_data()), (www, 3600, (host,)))
+        self.assertEqual((address.name, address.data), (host, b"\xc0\0\2\1"))
+        self.assertEqual((opt.name, opt.type, opt.class_, opt.ttl), (Name("."), 41, 4096, 0x01008000))
+        for call in (builder.truncate, builder.finish, builder.opt, lambda: builder.question(www, 1)):
+            with self.assertRaises(dnsnames.NoBuilder):
+                call()
+
+    def test_refusals(self):
+        builder, name = Builder(40), Name("a.example")
+        builder.question(name, Type.NS)
+        size, builder.limit = len(builder), len(builder) + 3
+        with self.assertRaises(dnsnames.NoRoom):
+            builder.record("authority", name, Type.NS, b"")
+        self.assertEqual(len(builder), size)
+        builder.limit = 40
+        builder.record("authority", name, Type.NS, b"")
+        for call in (lambda: builder.question(name, 1), lambda: builder.record("answer", name, 1, b"")):
+            with self.assertRaises(dnsnames.WrongOrder):
+                call()
+        for call in (
+            lambda: builder.record("answers", name, 1, b""), lambda: builder.question(name, 65536),
+            lambda: setattr(builder, "limit", 41), lambda: setattr(builder, "flags", -1),
+        ):
+            with self.assertRaises(ValueError):
+                call()
+        builder.id, builder.flags = 7, dnsnames.Flags.QR
+        builder.truncate()
+        self.assertEqual(Message(builder.finish()).header, (7, 0x8200, 1, 0, 0, 0))
+        with self.assertRaises(dnsnames.NoRoom):
+            Builder(11)
+
+
 @unittest.skipUnless(HEADER.exists(), "the header isn't beside this folder")
 class TheHeader(unittest.TestCase):
     def test_statuses_and_their_texts(self):
         header = HEADER.read_text()
-        numbers = {name: int(number) for name, number in re.findall(r"DNSNAMES_(\w+) = (\d+)", header)}
+        statuses = header.split("typedef enum dnsnames_status {")[1].split("}")[0]
+        numbers = {name: int(number) for name, number in re.findall(r"DNSNAMES_(\w+) = (\d+)", statuses)}
         texts = dict(re.findall(r'case DNSNAMES_(\w+): return "([^"]*)"', header))
         for fault in _library.FAULTS.values():
             name = {number: name for name, number in numbers.items()}[fault.status]
@@ -290,6 +358,22 @@ class TheHeader(unittest.TestCase):
             body = re.search(rf"typedef struct dnsnames_{name}_fields \{{(.*?)\}}", header, re.DOTALL)[1]
             wanted = [(field, kinds[c]) for c, field in re.findall(r"(\w+) (\w+);", body)]
             self.assertEqual([(field, ours.__name__) for field, ours in kind._fields_], wanted)
+
+    def test_the_builder(self):
+        kinds = {"uint16_t": "c_ushort", "size_t": "c_ulong", "uint16_t[DNSNAMES_MAX_TABLE]": "c_ushort_Array_128"}
+        body = re.search(r"typedef struct dnsnames_builder_state \{(.*?)\}", HEADER.read_text(), re.DOTALL)[1]
+        wanted = [(field, kinds[c + size]) for c, field, size in re.findall(r"(\w+) (\w+)(\[\w+\])?;", body)]
+        self.assertEqual([(field, ours.__name__) for field, ours in _library.BuilderState._fields_], wanted)
+
+    def test_members(self):
+        header = HEADER.read_text()
+        for kind in (dnsnames.Type, dnsnames.Class, dnsnames.Opcode, dnsnames.Rcode):
+            members = re.findall(rf"DNSNAMES_{kind.__name__.upper()}_(\w+) = (\d+)", header)
+            self.assertGreater(len(members), 4)
+            for name, number in members:
+                self.assertEqual(kind[name], int(number))
+        flags = re.findall(r"DNSNAMES_FLAG_(\w+) = (0x\w+)", header)
+        self.assertEqual([(flag.name, flag.value) for flag in dnsnames.Flags], [(name, int(bit, 16)) for name, bit in flags])
 
     def test_arguments(self):
         kinds = {

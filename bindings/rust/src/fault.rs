@@ -2,7 +2,7 @@
 
 use core::fmt;
 
-/// Why octets or a text are no name, or a message is none.
+/// Why octets or a text are no name, or a message is none, or an entry can't be pushed.
 #[derive(Clone, Copy, Debug, PartialEq, Eq, Hash)]
 #[non_exhaustive]
 pub enum Fault {
@@ -36,6 +36,12 @@ pub enum Fault {
     AbsoluteName,
     /// Data of records of this type have no such name.
     NoField,
+    /// The text names no type, no class or no code.
+    NoMnemonic,
+    /// A question was pushed after a record, or a record after one of a later section.
+    WrongOrder,
+    /// The section has 65,535 entries.
+    TooManyEntries,
     /// What a newer library answers, by its number.
     Other(u32),
 }
@@ -59,6 +65,9 @@ impl Fault {
             Fault::EmptyLabel => 15,
             Fault::AbsoluteName => 19,
             Fault::NoField => 21,
+            Fault::NoMnemonic => 22,
+            Fault::WrongOrder => 24,
+            Fault::TooManyEntries => 25,
             Fault::Other(status) => status,
         }
     }
@@ -82,6 +91,9 @@ impl Fault {
             15 => Fault::EmptyLabel,
             19 => Fault::AbsoluteName,
             21 => Fault::NoField,
+            22 => Fault::NoMnemonic,
+            24 => Fault::WrongOrder,
+            25 => Fault::TooManyEntries,
             status => Fault::Other(status),
         })
     }
@@ -105,6 +117,9 @@ impl fmt::Display for Fault {
             Fault::EmptyLabel => "empty label",
             Fault::AbsoluteName => "absolute domain name",
             Fault::NoField => "no such name in data of this type",
+            Fault::NoMnemonic => "no name of a type, a class or a code",
+            Fault::WrongOrder => "a later section was begun",
+            Fault::TooManyEntries => "too many entries in a section",
             Fault::Other(_) => "refused by the library",
         })
     }

@@ -17,16 +17,20 @@
 #[cfg(feature = "alloc")]
 extern crate alloc;
 
+mod builder;
 mod fault;
 mod message;
+mod mnemonic;
 mod name;
 #[cfg(feature = "alloc")]
 mod name_buf;
 #[rustfmt::skip]
 mod sys;
 
+pub use builder::Builder;
 pub use fault::Fault;
 pub use message::{Composer, Header, Message, Question, Questions, Record, Records, Section};
+pub use mnemonic::{Class, Opcode, Rcode, Type};
 pub use name::{check_relative, read, skip, Labels, Name, Read};
 #[cfg(feature = "alloc")]
 pub use name_buf::NameBuf;

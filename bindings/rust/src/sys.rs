@@ -3,6 +3,7 @@
 //! Each slice crosses as a pointer and a length. A `&mut` or a `&mut [T]` overlaps
 //! nothing else. That is all that the header asks of a caller.
 
+use crate::builder::BuilderFields;
 use crate::message::{Header, QuestionFields, RecordFields};
 
 extern "C" {
@@ -21,4 +22,18 @@ extern "C" {
     pub fn dnsnames_question(message: *const u8, message_len: usize, offset: usize, question: *mut QuestionFields) -> u32;
     pub fn dnsnames_record(message: *const u8, message_len: usize, offset: usize, record: *mut RecordFields) -> u32;
     pub fn dnsnames_data_name(message: *const u8, message_len: usize, data: usize, data_len: usize, r#type: u16, index: usize, buffer: *mut u8, capacity: usize, length: *mut usize) -> u32;
+    pub fn dnsnames_type_text(r#type: u16, buffer: *mut u8, capacity: usize, length: *mut usize) -> u32;
+    pub fn dnsnames_type_from_text(text: *const u8, text_len: usize, r#type: *mut u16) -> u32;
+    pub fn dnsnames_class_text(class_: u16, buffer: *mut u8, capacity: usize, length: *mut usize) -> u32;
+    pub fn dnsnames_class_from_text(text: *const u8, text_len: usize, class_: *mut u16) -> u32;
+    pub fn dnsnames_opcode_text(opcode: u16, buffer: *mut u8, capacity: usize, length: *mut usize) -> u32;
+    pub fn dnsnames_opcode_from_text(text: *const u8, text_len: usize, opcode: *mut u16) -> u32;
+    pub fn dnsnames_rcode_text(rcode: u16, buffer: *mut u8, capacity: usize, length: *mut usize) -> u32;
+    pub fn dnsnames_rcode_from_text(text: *const u8, text_len: usize, rcode: *mut u16) -> u32;
+    pub fn dnsnames_builder_start(builder: *mut BuilderFields, octets: *mut u8, capacity: usize, id: u16, flags: u16) -> u32;
+    pub fn dnsnames_builder_question(builder: *mut BuilderFields, name: *const u8, len: usize, r#type: u16, class_: u16) -> u32;
+    pub fn dnsnames_builder_record(builder: *mut BuilderFields, section: u32, owner: *const u8, owner_len: usize, r#type: u16, class_: u16, ttl: u32, data: *const u8, data_len: usize) -> u32;
+    pub fn dnsnames_builder_opt(builder: *mut BuilderFields, size: u16, rcode_ext: u8, version: u8, dnssec_ok: u32, options: *const u8, options_len: usize) -> u32;
+    pub fn dnsnames_builder_truncate(builder: *mut BuilderFields) -> u32;
+    pub fn dnsnames_builder_finish(builder: *mut BuilderFields, length: *mut usize) -> u32;
 }

@@ -256,6 +256,40 @@ fn what_a_newer_library_answers() {
     assert_eq!(Fault::Other(77).to_string(), "refused by the library");
 }
 
+#[test]
+fn mnemonics() {
+    for (text, number) in [("MX", 15), ("NSEC3PARAM", 51), ("TYPE65280", 65280)] {
+        assert_eq!((text.parse(), Type(number).to_string().as_str()), (Ok(Type(number)), text));
+    }
+    assert_eq!((Class(255).to_string(), "any".parse::<Class>()), ("ANY".to_string(), Ok(Class(255))));
+    assert_eq!((Opcode(5).to_string(), "OPCODE16".parse::<Opcode>()), ("UPDATE".to_string(), Err(Fault::NoMnemonic)));
+    assert_eq!((Rcode(16).to_string(), "nxdomain".parse::<Rcode>()), ("BADVERS".to_string(), Ok(Rcode(3))));
+    assert_eq!(format!("{:>5}|{:<5}|", Type(1), Class(1)), "    A|IN   |");
+    assert_eq!("\u{e4}".parse::<Type>(), Err(Fault::NoMnemonic));
+}
+
+#[test]
+fn built() {
+    let (mut octets, mut buffer, mut other) = ([0; 56], [0; MAX_LEN], [0; MAX_LEN]);
+    let (owner, host) = (name("www.example.com", &mut buffer), name("host.example.com", &mut other));
+    let mut builder = Builder::new(&mut octets, 7, 0x0100).unwrap();
+    builder.question(owner, 1, 1).unwrap();
+    builder.record(Section::Answer, owner, 5, 1, 60, b"").unwrap();
+    assert_eq!(builder.question(owner, 1, 1), Err(Fault::WrongOrder));
+    let len = builder.len();
+    assert_eq!(builder.record(Section::Answer, host, 1, 1, 60, &[192, 0, 2, 1]), Err(Fault::NoRoom(None)));
+    assert_eq!((builder.len(), builder.set_limit(57)), (len, Err(Fault::NoRoom(None))));
+    builder.truncate().unwrap();
+    builder.opt(1232, 0, 0, true, b"").unwrap();
+    builder.set_id(9);
+    builder.set_flags(builder.flags() | 0x8000);
+    let message = Message::new(builder.finish().unwrap());
+    let header = Header { id: 9, flags: 0x8300, questions: 1, answers: 0, authority: 0, additional: 1 };
+    assert_eq!((message.header(), message.as_slice().len()), (Ok(header), 44));
+    assert_eq!(message.records().unwrap().next().unwrap().unwrap().ttl, 0x8000);
+    assert!(matches!(Builder::new(&mut [0; 11], 0, 0), Err(Fault::NoRoom(Some(12)))));
+}
+
 /// Each call as Rust declares it has the arguments that dnsnames.h declares.
 #[test]
 fn declarations() {
@@ -274,7 +308,7 @@ fn declarations() {
         assert!(header.contains(&declaration), "{declaration}");
         compared += 1;
     }
-    assert_eq!(compared, 15);
+    assert_eq!(compared, 29);
 }
 
 /// The structs have the fields that dnsnames.h gives them, in its order.
@@ -284,16 +318,26 @@ fn structs() {
     let Ok(header) = std::fs::read_to_string(folder.join("../c/dnsnames.h")) else {
         return; // the crate stands alone
     };
-    let source = std::fs::read_to_string(folder.join("src/message.rs")).unwrap();
-    for (name, c_name) in [("Header", "header"), ("QuestionFields", "question"), ("RecordFields", "record")]
-        .map(|(a, b)| (a.to_string(), b))
-    {
+    let source = std::fs::read_to_string(folder.join("src/message.rs")).unwrap()
+        + &std::fs::read_to_string(folder.join("src/builder.rs")).unwrap();
+    for (name, c_name) in [
+        ("Header", "header_fields"),
+        ("QuestionFields", "question_fields"),
+        ("RecordFields", "record_fields"),
+        ("BuilderState", "builder_state"),
+        ("BuilderFields", "builder"),
+    ] {
         let body = |text: &str, begin: &str| text.split(begin).nth(1).unwrap().split('}').next().unwrap().to_string();
         let fields = body(&source, &format!("struct {name} {{"));
         let lines = fields.lines().map(str::trim).filter(|line| !line.starts_with("//"));
         let kinds = lines.filter_map(|line| line.trim_end_matches(',').split_once(": ")).map(|(_, kind)| kind);
-        let ours = kinds.map(|kind| if kind == "usize" { "size_t".into() } else { kind.replace('u', "uint") + "_t" });
-        let theirs = body(&header, &format!("typedef struct dnsnames_{c_name}_fields {{"));
+        let ours = kinds.map(|kind| match kind {
+            "usize" => "size_t".to_string(),
+            "*mut u8" => "uint8_t".to_string(),
+            "BuilderState" => "dnsnames_builder_state".to_string(),
+            kind => kind.trim_matches(&['[', ']'][..]).split(';').next().unwrap().replace('u', "uint") + "_t",
+        });
+        let theirs = body(&header, &format!("typedef struct dnsnames_{c_name} {{"));
         let theirs = theirs.split(';').filter_map(|field| field.split_whitespace().next().map(str::to_string));
         assert_eq!(ours.collect::<Vec<_>>(), theirs.collect::<Vec<_>>());
     }
@@ -309,6 +353,7 @@ fn as_c(argument: &str) -> String {
     let kind = match kind {
         "usize" => "size_t".to_string(),
         "i32" => "int32_t".to_string(),
+        "BuilderFields" => "dnsnames_builder".to_string(),
         "Header" | "QuestionFields" | "RecordFields" => {
             format!("dnsnames_{}_fields", kind.trim_end_matches("Fields").to_lowercase())
         }

@@ -4,3 +4,5 @@ pub mod Labels
 pub mod Plans
 pub mod Messages
 pub mod Data
+pub mod Mnemonics
+pub mod Builders

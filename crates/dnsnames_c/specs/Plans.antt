@@ -19,6 +19,12 @@ Plans t table name status old_begin begin old_offset offset =
     ⊎ ((status ≡ 16) × (IsTable table → ⊥) × (begin ≡ old_begin) × (offset ≡ old_offset))
     ⊎ ((status ≡ 9) × IsTable table × (IsAbsoluteWire name → ⊥) × (begin ≡ old_begin) × (offset ≡ old_offset))
 
+-- After t these octets are to be written for the name: its labels up to begin, and a pointer where begin isn't its end.
+pub record Spells (t table name : List ℕ) (begin : ℕ) (octets : List ℕ) : Type 0 where
+  pub compresses : Compresses t (remembered_in_table table) (labels_in name) (labels_in (take begin name)) octets
+  pub wire_form : IsWire (take begin name)
+  pub inside : begin ≤ length name
+
 -- After the first octets of o, up to start, the name was written: its labels up to begin, and a pointer where begin isn't
 -- its end. What was written ends at end, and the octets after it are unchanged.
 pub record WritesName (o : List ℕ) (start : ℕ) (table name : List ℕ) (begin end : ℕ) (o' : List ℕ) : Type 0 where

@@ -4,11 +4,13 @@
 //! anything: what it gives goes into the caller's buffers. The header `dnsnames.h` names the numbers that calls answer.
 #![tactic(auto)]
 
+mod builder;
 mod check;
 mod compare;
 mod data;
 mod label;
 mod message;
+mod mnemonic;
 mod plan;
 mod put;
 mod read;

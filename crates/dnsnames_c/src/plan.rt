@@ -1,14 +1,15 @@
 //! Writing names with compression (RFC 1035, 4.1.4).
 ghost use Rattle.std.specs.Prelude.{◌≡◌, ◌<◌, ◌≤◌, ◌+◌, length, take, drop, IsTrue, ◌↔◌, IfSome, IsNone};
 ghost use Rattle.domain_label.specs.Wire.{labels_in, IsWire, IsAbsoluteWire};
-ghost use Rattle.dnsnames_c.specs.Plans.{IsTable, Plans, WritesName, HasNoRoom, Appends, more_of_table};
+ghost use Rattle.dnsnames_c.specs.Plans.{IsTable, Plans, Spells, WritesName, HasNoRoom, Appends, more_of_table};
 
 use crate::put::put;
 use domain_compress::plan::{more_offsets, plan, put_pointed};
+use domain_list::composing::put_octets;
 use domain_name::Name;
 
 /// Whether these are at most 128 offsets to which a pointer can lead.
-fn is_table(table: &[u16]) -> bool
+pub(crate) fn is_table(table: &[u16]) -> bool
     ensures { IsTrue result ↔ IsTable table.now }
 {
     if table.len() > 128 {
@@ -52,6 +53,35 @@ pub extern "C" fn dnsnames_plan(
     0
 }
 
+/// What is written for a name: how many octets of it, and how many octets in all.
+#[derive(Clone, Copy)]
+pub(crate) struct Spelled {
+    pub(crate) begin: usize,
+    pub(crate) len: usize,
+}
+
+/// Puts what is to be written for a name after the octets, as `dnsnames_plan` tells, at the beginning of a text.
+pub(crate) fn spell(octets: &[u8], table: &[u16], name: &[u8], text: &mut [u8; 255]) -> Spelled
+    requires table { IsTable table.now }
+    requires wire { IsAbsoluteWire name.now }
+    ensures spells { Spells octets.now table.now name.now result.begin (take result.len text.new) }
+    ensures fits { result.len ≤ 255 }
+{
+    match plan(octets, table, name) {
+        Some(beginning) => Spelled {
+            begin: beginning.begin,
+            len: put_pointed(name, beginning.begin, beginning.offset, text),
+        },
+        None => {
+            put_octets(name, text, 0);
+            Spelled {
+                begin: name.len(),
+                len: name.len(),
+            }
+        }
+    }
+}
+
 /// What was written for a name: how many octets of it, and the offset after all that was written.
 #[derive(Clone, Copy)]
 struct Written {
@@ -69,33 +99,20 @@ fn write_name(octets: &mut [u8], start: usize, table: &[u16], name: &[u8]) -> Op
     ensures none { IsNone result →
         HasNoRoom octets.old start table.now name.now × (octets.new ≡ octets.old) }
 {
-    match plan(&octets[..start], table, name) {
-        Some(beginning) => {
-            let mut text = [0; 255];
-            let len = put_pointed(name, beginning.begin, beginning.offset, &mut text);
-            if !put(&text[..len], octets, start) {
-                return None;
-            }
-            Some(Written {
-                begin: beginning.begin,
-                end: start + len,
-            })
-        }
-        None => {
-            if !put(name, octets, start) {
-                return None;
-            }
-            Some(Written {
-                begin: name.len(),
-                end: start + name.len(),
-            })
-        }
+    let mut text = [0; 255];
+    let spelled = spell(&octets[..start], table, name, &mut text);
+    if !put(&text[..spelled.len], octets, start) {
+        return None;
     }
+    Some(Written {
+        begin: spelled.begin,
+        end: start + spelled.len,
+    })
 }
 
 /// Adds the offsets of labels that were written from `start` on to the first `count` ones of the table, as far as it has
 /// room for them and a pointer can lead there, up to 128 in all. Tells how many there are then.
-fn add_offsets(table: &mut [u16], count: usize, labels: &[u8], start: usize) -> usize
+pub(crate) fn add_offsets(table: &mut [u16], count: usize, labels: &[u8], start: usize) -> usize
     requires count { count ≤ length table.old }
     requires few { IsTable (take count table.old) }
     requires labels { IsWire labels.now }

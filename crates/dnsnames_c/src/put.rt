@@ -2,6 +2,14 @@
 ghost use Rattle.std.specs.Prelude.{◌≡◌, ◌<◌, ◌≤◌, ◌+◌, length, MatchBool};
 ghost use Rattle.dnsnames_c.specs.Answers.{PutsAt, Gives};
 
+/// Puts the octets into the buffer from an offset on.
+pub(crate) fn place(octets: &[u8], buffer: &mut [u8], offset: usize)
+    requires { offset + length octets.now ≤ length buffer.old }
+    ensures { PutsAt offset octets.now buffer.old buffer.new }
+{
+    buffer[offset..offset + octets.len()].copy_from_slice(octets);
+}
+
 /// Puts the octets into the buffer from an offset on, or nothing where they don't fit.
 pub(crate) fn put(octets: &[u8], buffer: &mut [u8], offset: usize) -> bool
     requires { offset ≤ length buffer.old }
@@ -10,11 +18,10 @@ pub(crate) fn put(octets: &[u8], buffer: &mut [u8], offset: usize) -> bool
         × PutsAt offset octets.now buffer.old buffer.new)
         ((length buffer.old < offset + length octets.now) × (buffer.new ≡ buffer.old)) }
 {
-    let len = octets.len();
-    if buffer.len() - offset < len {
+    if buffer.len() - offset < octets.len() {
         return false;
     }
-    buffer[offset..offset + len].copy_from_slice(octets);
+    place(octets, buffer, offset);
     true
 }
 

@@ -1,0 +1,152 @@
+"""Building messages."""
+
+from __future__ import annotations
+
+from ctypes import byref, c_size_t, create_string_buffer
+
+from ._library import BuilderFields, Octets, as_octets, as_size, library, refuse
+from ._mnemonic import Class, Type
+from ._name import Name
+
+_SECTIONS = {"answer": 1, "authority": 2, "additional": 3}
+
+
+def _word(number: int, bits: int) -> int:
+    if not 0 <= number < 1 << bits:
+        raise ValueError(f"this number has {bits} bits")
+    return number
+
+
+class Builder:
+    """A message that is built (RFC 1035, 4.1): questions, and then records, section by section. Each is pushed whole, or
+    not at all: after a refusal all is as it was. Names of questions and owners of records are compressed.
+
+    >>> from dnsnames import Flags, Message, Name, NoRoom, Type
+    >>> query = Builder(id=0x1234, flags=Flags.RD)
+    >>> query.question(Name("example.com"), Type.MX)
+    >>> query.opt(size=1232)
+    >>> Message(query.finish()).header
+    Header(id=4660, flags=256, questions=1, answers=0, authority=0, additional=1)
+    """
+
+    __slots__ = ("_buffer", "_fields")
+
+    def __init__(self, capacity: int = 65535, id: int = 0, flags: int = 0) -> None:
+        """Begins a message of at most so many octets, and 65,535. `flags` are the header's 16 bits, with the opcode at bit
+        11 and the response code at bit 0. Raises NoRoom below the header's twelve octets."""
+        capacity = as_size(capacity)
+        self._buffer = create_string_buffer(max(1, capacity))
+        self._fields = BuilderFields()
+        status = library.dnsnames_builder_start(
+            byref(self._fields), self._buffer, capacity, _word(id, 16), _word(flags, 16)
+        )
+        if status:
+            refuse(status)
+
+    @property
+    def id(self) -> int:
+        """The identifier; it may be set until the message is finished."""
+        return self._fields.state.id
+
+    @id.setter
+    def id(self, number: int) -> None:
+        self._fields.state.id = _word(number, 16)
+
+    @property
+    def flags(self) -> int:
+        """The header's 16 bits of flags; they may be set until the message is finished."""
+        return self._fields.state.flags
+
+    @flags.setter
+    def flags(self, number: int) -> None:
+        self._fields.state.flags = _word(number, 16)
+
+    @property
+    def limit(self) -> int:
+        """How many octets the message has at most. A smaller limit sets octets aside, as for an OPT record: eleven, and
+        those of its options. Set to what it was before, it gives them back."""
+        return self._fields.state.limit
+
+    @limit.setter
+    def limit(self, octets: int) -> None:
+        if not len(self) <= octets <= min(self._fields.capacity, 65535):
+            raise ValueError("the limit is from the message's octets to the capacity and 65,535")
+        self._fields.state.limit = octets
+
+    def __len__(self) -> int:
+        """How many octets the message has, with its header."""
+        return self._fields.state.len
+
+    def question(self, name: Name, type: int, class_: int = Class.IN) -> None:
+        """Pushes a question. Raises WrongOrder where a record was pushed, NoRoom, TooManyEntries, NoBuilder."""
+        octets = bytes(name)
+        status = library.dnsnames_builder_question(
+            byref(self._fields), octets, len(octets), _word(type, 16), _word(class_, 16)
+        )
+        if status:
+            refuse(status)
+
+    def record(
+        self, section: str, name: Name, type: int, data: Octets, ttl: int = 0, class_: int = Class.IN
+    ) -> None:
+        """Pushes a record into a section: "answer", "authority" or "additional". Its data are written as they are; a
+        name in them is `bytes(name)`.
+
+        Raises WrongOrder where a later section has a record, NoRoom, TooManyEntries, NoBuilder; ValueError for another
+        section.
+
+        >>> answer = Builder(512)
+        >>> answer.record("answer", Name("a.example"), Type.MX, b"\\0\\x0a" + bytes(Name("b.example")), ttl=60)
+        >>> answer.record("answer", Name("b.example"), Type.A, bytes([192, 0, 2, 1]), ttl=60)
+        >>> for record in Message(answer.finish()).answers():
+        ...     print(record.name, record.ttl, record.type, *record.names_in_data())
+        a.example. 60 MX b.example.
+        b.example. 60 A
+        """
+        if section not in _SECTIONS:
+            raise ValueError('the sections are "answer", "authority" and "additional"')
+        owner, octets = bytes(name), as_octets(data)
+        status = library.dnsnames_builder_record(
+            byref(self._fields), _SECTIONS[section], owner, len(owner), _word(type, 16), _word(class_, 16),
+            _word(ttl, 32), octets, len(octets),
+        )
+        if status:
+            refuse(status)
+
+    def opt(
+        self, size: int = 1232, rcode: int = 0, version: int = 0, dnssec_ok: bool = False, options: Octets = b""
+    ) -> None:
+        """Pushes an OPT record into the additional section (RFC 6891, 6.1): how many octets of a message over UDP are
+        taken, and options in wire format. Of a response code of twelve bits the upper eight are written here; the lower
+        four are those of `flags`. A message has one at most. Raises NoRoom, TooManyEntries, NoBuilder."""
+        octets = as_octets(options)
+        status = library.dnsnames_builder_opt(
+            byref(self._fields), _word(size, 16), _word(rcode, 12) >> 4, _word(version, 8), bool(dnssec_ok), octets,
+            len(octets),
+        )
+        if status:
+            refuse(status)
+
+    def truncate(self) -> None:
+        """Takes all records away again, and sets the flag TC (RFC 2181, 9). Raises NoBuilder.
+
+        >>> answer = Builder(64)
+        >>> answer.question(Name("a.example"), Type.TXT)
+        >>> try:
+        ...     answer.record("answer", Name("a.example"), Type.TXT, b"\\x32" + b"x" * 50)
+        ... except NoRoom:
+        ...     answer.truncate()
+        >>> Message(answer.finish()).header.is_truncated
+        True
+        """
+        status = library.dnsnames_builder_truncate(byref(self._fields))
+        if status:
+            refuse(status)
+
+    def finish(self) -> bytes:
+        """Writes the header, and returns the message. It can be changed no more: then each call raises NoBuilder."""
+        length = c_size_t()
+        status = library.dnsnames_builder_finish(byref(self._fields), byref(length))
+        if status:
+            refuse(status)
+        return self._buffer[: length.value]

@@ -1,0 +1,128 @@
+"""Types, classes and codes: numbers that have names."""
+
+from __future__ import annotations
+
+from ctypes import byref, c_size_t, c_uint16
+from enum import IntFlag
+from typing import Any
+
+from ._library import Mnemonic, MAX_MNEMONIC, NoMnemonic, library, refuse
+
+
+class _Names(type):
+    """Gives each class of numbers its members by name: `Type["MX"]`, and `Type.MX` where the name is a word."""
+
+    def __getitem__(cls, text: str) -> Any:
+        octets, found = text.encode("utf-8", "surrogatepass"), c_uint16()
+        status = cls._from_text(octets, len(octets), byref(found))
+        if status:
+            refuse(status)
+        return cls(found.value)
+
+    def __getattr__(cls, name: str) -> Any:
+        if name.startswith("_"):
+            raise AttributeError(name)
+        try:
+            return cls[name]
+        except NoMnemonic:
+            raise AttributeError(f"{cls.__name__} has no member {name}") from None
+
+
+class _Number(int, metaclass=_Names):
+    """A number that has a name; it is equal to the number, and hashed as it."""
+
+    __slots__ = ()
+    _text: Any
+    _from_text: Any
+    _bound = 65536
+
+    def __new__(cls, number: int) -> Any:
+        if not 0 <= number < cls._bound:
+            raise ValueError(f"numbers are from 0 to {cls._bound - 1}")
+        return super().__new__(cls, number)
+
+    def __str__(self) -> str:
+        buffer, length = Mnemonic(), c_size_t()
+        type(self)._text(self, buffer, MAX_MNEMONIC, byref(length))
+        return buffer[: length.value].decode("ascii")
+
+    @property
+    def name(self) -> str:
+        """The mnemonic, or a word and the number where there is none."""
+        return str(self)
+
+    def __repr__(self) -> str:
+        return f"{type(self).__name__}[{str(self)!r}]"
+
+    def __format__(self, spec: str) -> str:
+        return format(str(self), spec) if not spec or spec[-1] in "s<>^0123456789" else int.__format__(self, spec)
+
+    def __reduce__(self) -> tuple:
+        return type(self), (int(self),)
+
+
+class Type(_Number):
+    """The type of a record (RFC 1035, 3.2.2): a number of 16 bits. Those without a mnemonic are written as `TYPE` and
+    the number (RFC 3597, 5).
+
+    >>> Type.MX, Type["mx"], Type(65280), int(Type["TYPE15"]), str(Type(28))
+    (Type['MX'], Type['MX'], Type['TYPE65280'], 15, 'AAAA')
+    >>> Type["MXX"]
+    Traceback (most recent call last):
+    dnsnames.NoMnemonic: no name of a type, a class or a code
+    """
+
+    __slots__ = ()
+    _text, _from_text = library.dnsnames_type_text, library.dnsnames_type_from_text
+
+
+class Class(_Number):
+    """The class of a record (RFC 1035, 3.2.4): a number of 16 bits.
+
+    >>> Class.IN, Class(255), Class(4660)
+    (Class['IN'], Class['ANY'], Class['CLASS4660'])
+    """
+
+    __slots__ = ()
+    _text, _from_text = library.dnsnames_class_text, library.dnsnames_class_from_text
+
+
+class Opcode(_Number):
+    """The kind of query (RFC 1035, 4.1.1): a number of four bits.
+
+    >>> Opcode(0), Opcode.UPDATE, Opcode(15)
+    (Opcode['QUERY'], Opcode['UPDATE'], Opcode['OPCODE15'])
+    """
+
+    __slots__ = ()
+    _bound = 16
+    _text, _from_text = library.dnsnames_opcode_text, library.dnsnames_opcode_from_text
+
+
+class Rcode(_Number):
+    """The response code: four bits of the header (RFC 1035, 4.1.1), and eight more where there is an OPT record (RFC
+    6891, 6.1.3).
+
+    >>> Rcode(3), Rcode.BADVERS, f"{Rcode(5)}"
+    (Rcode['NXDOMAIN'], Rcode['BADVERS'], 'REFUSED')
+    """
+
+    __slots__ = ()
+    _bound = 4096
+    _text, _from_text = library.dnsnames_rcode_text, library.dnsnames_rcode_from_text
+
+
+class Flags(IntFlag):
+    """The flags of a header (RFC 1035, 4.1.1; AD and CD RFC 4035, 3.1.6 and 3.2), where they stand in its 16 bits.
+
+    >>> Flags.QR | Flags.AA in Flags(0x8580), int(Flags.RD)
+    (True, 256)
+    """
+
+    QR = 0x8000
+    AA = 0x0400
+    TC = 0x0200
+    RD = 0x0100
+    RA = 0x0080
+    AD = 0x0020
+    CD = 0x0010

@@ -1,0 +1,208 @@
+//! Building messages.
+
+use crate::fault::Fault;
+use crate::message::Section;
+use crate::name::Name;
+use crate::sys::*;
+use crate::MAX_TABLE;
+use core::marker::PhantomData;
+
+/// What the library keeps of a message that is built.
+#[derive(Clone, Copy, Debug)]
+#[repr(C)]
+pub(crate) struct BuilderState {
+    limit: usize,
+    len: usize,
+    id: u16,
+    flags: u16,
+    questions: u16,
+    answers: u16,
+    authority: u16,
+    additional: u16,
+    answer_start: usize,
+    authority_start: usize,
+    additional_start: usize,
+    table_len: usize,
+    table: [u16; MAX_TABLE],
+}
+
+/// That, and the octets that it is built in.
+#[derive(Debug)]
+#[repr(C)]
+pub(crate) struct BuilderFields {
+    octets: *mut u8,
+    capacity: usize,
+    state: BuilderState,
+}
+
+/// A message that is built in octets of the caller's (RFC 1035, 4.1): questions, and then records, section by section.
+///
+/// Each is pushed whole, or not at all: after a fault all is as it was. Names of questions and owners of records are
+/// compressed.
+///
+/// ```
+/// use dnsnames::{Builder, Message, Name, Section};
+///
+/// let mut octets = [0; 512];
+/// let mut builder = Builder::new(&mut octets, 0x1234, 0x8180)?;
+/// let name = Name::from_slice(b"\x01a\x07example\0")?;
+/// builder.question(name, 1, 1)?;
+/// builder.record(Section::Answer, name, 1, 1, 60, &[192, 0, 2, 1])?;
+/// builder.opt(1232, 0, 0, false, &[])?;
+/// let message = Message::new(builder.finish()?);
+/// assert_eq!(message.records()?.map(|record| record.unwrap().rtype).collect::<Vec<_>>(), [1, 41]);
+/// # Ok::<(), dnsnames::Fault>(())
+/// ```
+#[derive(Debug)]
+pub struct Builder<'a> {
+    fields: BuilderFields,
+    octets: PhantomData<&'a mut [u8]>,
+}
+
+// SAFETY: the octets that the pointer leads to are lent to the builder alone, as by a `&mut [u8]`.
+unsafe impl Send for Builder<'_> {}
+// SAFETY: no call reads or writes them through a shared reference.
+unsafe impl Sync for Builder<'_> {}
+
+impl<'a> Builder<'a> {
+    /// Begins a message of at most these octets, and 65,535, with an identifier and the header's sixteen bits of flags.
+    /// `NoRoom` below the header's twelve octets.
+    pub fn new(octets: &'a mut [u8], id: u16, flags: u16) -> Result<Builder<'a>, Fault> {
+        let state = BuilderState {
+            limit: 0,
+            len: 0,
+            id,
+            flags,
+            questions: 0,
+            answers: 0,
+            authority: 0,
+            additional: 0,
+            answer_start: 0,
+            authority_start: 0,
+            additional_start: 0,
+            table_len: 0,
+            table: [0; MAX_TABLE],
+        };
+        let mut fields = BuilderFields { octets: octets.as_mut_ptr(), capacity: octets.len(), state };
+        // SAFETY: as in `read`.
+        let status = unsafe { dnsnames_builder_start(&mut fields, octets.as_mut_ptr(), octets.len(), id, flags) };
+        Fault::check(status, Some(12))?;
+        Ok(Builder { fields, octets: PhantomData })
+    }
+
+    /// Pushes a question. `WrongOrder` where a record was pushed, `NoRoom`, `TooManyEntries`.
+    pub fn question(&mut self, name: Name<'_>, qtype: u16, class: u16) -> Result<(), Fault> {
+        let name = name.as_slice();
+        // SAFETY: as in `read`.
+        let status = unsafe { dnsnames_builder_question(&mut self.fields, name.as_ptr(), name.len(), qtype, class) };
+        Fault::check(status, None)
+    }
+
+    /// Pushes a record into a section; its data are written as they are. `WrongOrder` where a later section has a record,
+    /// `NoRoom`, `TooManyEntries`.
+    pub fn record(
+        &mut self,
+        section: Section,
+        owner: Name<'_>,
+        rtype: u16,
+        class: u16,
+        ttl: u32,
+        data: &[u8],
+    ) -> Result<(), Fault> {
+        let section = match section {
+            Section::Answer => 1,
+            Section::Authority => 2,
+            Section::Additional => 3,
+        };
+        let owner = owner.as_slice();
+        // SAFETY: as in `read`.
+        let status = unsafe {
+            dnsnames_builder_record(
+                &mut self.fields,
+                section,
+                owner.as_ptr(),
+                owner.len(),
+                rtype,
+                class,
+                ttl,
+                data.as_ptr(),
+                data.len(),
+            )
+        };
+        Fault::check(status, None)
+    }
+
+    /// Pushes an OPT record into the additional section (RFC 6891, 6.1): how many octets of a message over UDP are taken,
+    /// the upper eight bits of a response code of twelve, the version, the bit DO, and options in wire format. A message
+    /// has one at most. `NoRoom`, `TooManyEntries`.
+    pub fn opt(
+        &mut self,
+        size: u16,
+        rcode_ext: u8,
+        version: u8,
+        dnssec_ok: bool,
+        options: &[u8],
+    ) -> Result<(), Fault> {
+        // SAFETY: as in `read`.
+        let status = unsafe {
+            dnsnames_builder_opt(
+                &mut self.fields,
+                size,
+                rcode_ext,
+                version,
+                dnssec_ok.into(),
+                options.as_ptr(),
+                options.len(),
+            )
+        };
+        Fault::check(status, None)
+    }
+
+    /// Takes all records away again, and sets the flag TC (RFC 2181, 9).
+    pub fn truncate(&mut self) -> Result<(), Fault> {
+        // SAFETY: as in `read`.
+        Fault::check(unsafe { dnsnames_builder_truncate(&mut self.fields) }, None)
+    }
+
+    /// Sets the identifier.
+    pub fn set_id(&mut self, id: u16) {
+        self.fields.state.id = id;
+    }
+
+    /// Sets the header's sixteen bits of flags.
+    pub fn set_flags(&mut self, flags: u16) {
+        self.fields.state.flags = flags;
+    }
+
+    /// The header's sixteen bits of flags.
+    pub fn flags(&self) -> u16 {
+        self.fields.state.flags
+    }
+
+    /// Sets how many octets the message has at most: a smaller limit sets octets aside, as the eleven of an OPT record, and
+    /// the old one gives them back. `NoRoom` where the message has more, or the limit is past the octets or past 65,535:
+    /// nothing is changed.
+    pub fn set_limit(&mut self, limit: usize) -> Result<(), Fault> {
+        if limit < self.fields.state.len || limit > self.fields.capacity.min(65535) {
+            return Err(Fault::NoRoom(None));
+        }
+        self.fields.state.limit = limit;
+        Ok(())
+    }
+
+    /// How many octets the message has, with its header.
+    #[allow(clippy::len_without_is_empty)]
+    pub fn len(&self) -> usize {
+        self.fields.state.len
+    }
+
+    /// Writes the header, and gives the message.
+    pub fn finish(mut self) -> Result<&'a [u8], Fault> {
+        let mut length = 0;
+        // SAFETY: as in `read`.
+        let status = unsafe { dnsnames_builder_finish(&mut self.fields, &mut length) };
+        Fault::check(status, None)?;
+        // SAFETY: the octets were lent for 'a, and the message has at most as many.
+        Ok(unsafe { core::slice::from_raw_parts(self.fields.octets, length) })
+    }
+}

@@ -1,0 +1,79 @@
+//! Types, classes and codes as text.
+
+use crate::fault::Fault;
+use crate::sys::*;
+use core::fmt;
+use core::str::FromStr;
+
+type TextCall = unsafe extern "C" fn(u16, *mut u8, usize, *mut usize) -> u32;
+type FromTextCall = unsafe extern "C" fn(*const u8, usize, *mut u16) -> u32;
+
+/// Writes the text of a number.
+fn write_text(call: TextCall, number: u16, f: &mut fmt::Formatter<'_>) -> fmt::Result {
+    let (mut buffer, mut length) = ([0; 12], 0);
+    // SAFETY: as in `read`.
+    let status = unsafe { call(number, buffer.as_mut_ptr(), buffer.len(), &mut length) };
+    if status != 0 {
+        return Err(fmt::Error);
+    }
+    let text = core::str::from_utf8(&buffer[..length]).map_err(|_| fmt::Error)?;
+    f.pad(text)
+}
+
+/// The number that a text names.
+fn read_text(call: FromTextCall, text: &str) -> Result<u16, Fault> {
+    let mut number = 0;
+    // SAFETY: as in `read`.
+    let status = unsafe { call(text.as_ptr(), text.len(), &mut number) };
+    Fault::check(status, None)?;
+    Ok(number)
+}
+
+macro_rules! number {
+    ($(#[$note:meta])* $name:ident, $text:ident, $from_text:ident) => {
+        $(#[$note])*
+        #[derive(Clone, Copy, Debug, PartialEq, Eq, PartialOrd, Ord, Hash)]
+        pub struct $name(pub u16);
+
+        impl fmt::Display for $name {
+            fn fmt(&self, f: &mut fmt::Formatter<'_>) -> fmt::Result {
+                write_text($text, self.0, f)
+            }
+        }
+
+        /// `NoMnemonic` where the text names none.
+        impl FromStr for $name {
+            type Err = Fault;
+
+            fn from_str(text: &str) -> Result<$name, Fault> {
+                read_text($from_text, text).map($name)
+            }
+        }
+    };
+}
+
+number!(
+    /// The type of a record (RFC 1035, 3.2.2). Its text is its mnemonic, or `TYPE` and the number (RFC 3597, 5).
+    ///
+    /// ```
+    /// use dnsnames::{Fault, Type};
+    ///
+    /// assert_eq!(("mx".parse(), "TYPE65280".parse()), (Ok(Type(15)), Ok(Type(65280))));
+    /// assert_eq!(Type(28).to_string(), "AAAA");
+    /// assert_eq!("MXX".parse::<Type>(), Err(Fault::NoMnemonic));
+    /// ```
+    Type, dnsnames_type_text, dnsnames_type_from_text
+);
+number!(
+    /// The class of a record (RFC 1035, 3.2.4). Its text is its mnemonic, or `CLASS` and the number (RFC 3597, 5).
+    Class, dnsnames_class_text, dnsnames_class_from_text
+);
+number!(
+    /// The kind of query (RFC 1035, 4.1.1), a number of four bits. Its text is its mnemonic, or `OPCODE` and the number.
+    Opcode, dnsnames_opcode_text, dnsnames_opcode_from_text
+);
+number!(
+    /// The response code: four bits of the header (RFC 1035, 4.1.1), and eight more where there is an OPT record (RFC 6891,
+    /// 6.1.3). Its text is its mnemonic, or `RCODE` and the number.
+    Rcode, dnsnames_rcode_text, dnsnames_rcode_from_text
+);

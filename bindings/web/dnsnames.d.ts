@@ -1,0 +1,104 @@
+// The types of dnsnames.mjs. A module of TypeScript has them where this file lies beside that one.
+
+/** Why something is refused: `fault` is its name, `status` the module's number, `section` the standard's, and `offset` where
+ *  what was asked for begins. */
+export class NameFault extends Error {
+    readonly name: "NameFault";
+    readonly status: number;
+    readonly fault: string;
+    readonly section: string;
+    readonly offset: number | undefined;
+    constructor(status: number, offset?: number);
+}
+
+/** A name that was read: its wire format without compression, its text with a final dot, and its labels, the root's last. */
+export interface NameRead {
+    octets: Uint8Array;
+    text: string;
+    labels: Uint8Array[];
+}
+
+export interface Header {
+    id: number;
+    flags: number;
+    questions: number;
+    answers: number;
+    authority: number;
+    additional: number;
+}
+
+export interface Question {
+    offset: number;
+    type: number;
+    class: number;
+    end: number;
+}
+
+export interface DnsRecord extends Question {
+    ttl: number;
+    dataOffset: number;
+    data: Uint8Array;
+}
+
+export type Section = "answers" | "authority" | "additional";
+export type Entry = (Question & { section: "questions" }) | (DnsRecord & { section: Section });
+export type Kind = "type" | "class" | "opcode" | "rcode";
+
+/** A writer of names with compression. */
+export interface Composer {
+    append(name: Uint8Array): void;
+    octets(): Uint8Array;
+}
+
+/** A message that is built. */
+export interface Builder {
+    question(name: Uint8Array, type: number, class_?: number): void;
+    record(
+        section: Section,
+        owner: Uint8Array,
+        type: number,
+        data: Uint8Array,
+        options?: { ttl?: number; class?: number },
+    ): void;
+    opt(options?: {
+        size?: number;
+        rcode?: number;
+        version?: number;
+        dnssecOk?: boolean;
+        options?: Uint8Array;
+    }): void;
+    truncate(): void;
+    setFlags(bits: number): void;
+    length(): number;
+    finish(): Uint8Array;
+}
+
+/** The module of these octets, made ready. */
+export function load(octets: BufferSource): Promise<DnsNames>;
+
+/** The calls of one module. */
+export class DnsNames {
+    constructor(exports: WebAssembly.Exports);
+    readName(message: Uint8Array, offset?: number, limit?: number): NameRead & { end: number; compressed: boolean };
+    skipName(message: Uint8Array, offset?: number): number;
+    checkName(octets: Uint8Array): void;
+    checkRelativeName(octets: Uint8Array): void;
+    fromText(text: string): Uint8Array;
+    toText(name: Uint8Array, options?: { finalDot?: boolean }): string;
+    lower(name: Uint8Array): Uint8Array;
+    equal(left: Uint8Array, right: Uint8Array): boolean;
+    compare(left: Uint8Array, right: Uint8Array): -1 | 0 | 1;
+    endsWith(name: Uint8Array, suffix: Uint8Array): boolean;
+    key(name: Uint8Array): string;
+    labels(name: Uint8Array): Uint8Array[];
+    parent(name: Uint8Array): Uint8Array;
+    header(message: Uint8Array): Header;
+    question(message: Uint8Array, offset?: number): Question;
+    record(message: Uint8Array, offset: number): DnsRecord;
+    nameInData(message: Uint8Array, record: DnsRecord, index?: number): NameRead;
+    entries(message: Uint8Array): Generator<Entry, void, undefined>;
+    mnemonic(kind: Kind, number: number): string;
+    numberOf(kind: Kind, text: string): number;
+    builder(options?: { capacity?: number; id?: number; flags?: number }): Builder;
+    composer(capacity?: number): Composer;
+}

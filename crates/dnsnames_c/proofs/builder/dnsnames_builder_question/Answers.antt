@@ -1,0 +1,20 @@
+use Rattle.std.proofs.Common.{◌≡◌, ◌∙◌, inl, refl, subst, arith, rules, append-nil}
+use Rattle.domain_label.specs.Wire.{IsAbsoluteWire}
+use Rattle.domain_message_builder.specs.Pushes.{record_count}
+use Rattle.dnsnames_c.specs.Builders.{counts_of, Enters}
+use Rattle.dnsnames_c.proofs.Building.{question_pushed}
+use Rattle.dnsnames_c.proofs.builder.dnsnames_builder_question.Goals as goal
+
+pub returns : goal.returns
+returns c =
+    let o = c.args.octets.now in
+    let b = c.args.builder.now in
+    let o' = c.enter.new.octets in
+    let b' = c.enter.new.builder in
+    let name = c.args.name.now in
+    let wired : IsAbsoluteWire name = search rules in
+    let usable = c.if-not-is_usable.ensures.0 refl in
+    let none : record_count (counts_of b) ≡ 0 = omega (arith, c.if-builder-gt0.false, c.if-builder-gt0-2.false, c.if-builder-gt0-3.false) in
+    let e = subst (λ r. Enters o b name r o' b') (append-nil c.type_and_class_octets-after_name.result ∙ c.type_and_class_octets-after_name.ensures) c.if-not-enter.ensures.0 in
+    let done = question_pushed o b name c.args.rtype c.args.class o' b' c.count_question.new.builder (search rules) (search rules) usable wired none e c.if-not-enter.ensures.1 c.count_question.ensures in
+    inl (refl, usable, wired, done.2, done.0, done.1)
