@@ -137,9 +137,9 @@ count_one() {
     peer=$1
     shift
     [ -x "$1" ] || return 0
-    once=$(instructions_of "$@" 1 "$op")
+    few=$(instructions_of "$@" 1 "$op")
     many=$(instructions_of "$@" 11 "$op")
-    printf '%s\tcount_%s\t%s.writes\t%d\t-\n' "$peer" "$op" "${op#write_}" $(((many - once) / (10 * messages)))
+    printf '%s\tcount_%s\t%s.writes\t%d\t-\n' "$peer" "$op" "${op#write_}" $(((many - few) / (10 * messages)))
 }
 
 instructions_of() {
