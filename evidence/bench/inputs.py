@@ -11,7 +11,9 @@ time.
 `records-N.whole` has messages of a question and N answers; the number is N.
 `grow-L-P.msg` has names of L labels, of an octet each, along which P pointers
 lead; `mixed-N.stream`, `hosts-N.stream` and `middles-N.stream` have one case: N
-names, each behind the one before it, and N as the number.
+names, each behind the one before it, and N as the number. The names of a
+message that is written stand behind one another, and the number is the place
+of an octet of the message.
 """
 
 import pathlib
@@ -193,6 +195,19 @@ def main():
     for records in RECORDS:
         messages = [response(rng, domain(), records) for _ in range(max(2, 64 // records))]
         write(folder, f"records-{records}.whole", [(records, msg) for msg in messages])
+
+    # the names of messages that are written: of a question; and of a zone and its servers
+    questions, referrals = [], []
+    for _ in range(64):
+        zone = domain()
+        names = [wire([rng.choice([b"www", b"mail", b"api"])] + zone), wire(zone)]
+        names += [wire([b"ns%d" % k] + zone) for k in range(1, 5)]
+        place = rng.randint(12, 60)
+        questions.append((place, names[0]))
+        referrals.append((place, b"".join(names)))
+    write(folder, "query.writes", questions)
+    write(folder, "answer.writes", questions)
+    write(folder, "referral.writes", referrals)
 
 
 if __name__ == "__main__":

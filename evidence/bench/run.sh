@@ -1,15 +1,17 @@
 #!/bin/sh
 # Measures the port beside the Rust crate and other libraries, on the same inputs, and prints tables.
 #
-#   evidence/bench/run.sh UPSTREAM WORK [--quick WORD | --once] [--write]
+#   evidence/bench/run.sh UPSTREAM WORK [--quick WORD | --writing | --once] [--write]
 #
 # UPSTREAM  a folder with the Rust crates `domain` 0.12.3 and `octseq` 0.5, each unpacked in a folder of its
 #           name, as `cargo download` or https://crates.io/crates/domain gives them; nothing of them is here
 # WORK      a folder to build in, kept for the next run
 # --quick   one short run of the operations whose name has WORD in it (`parse,skip`: these), without other
 #           libraries
+# --writing the messages that are written alone, with other libraries; and their instructions, where valgrind is
 # --once    nothing is measured: each operation is called once on both sides, and the results are compared
-# --write   writes the tables into rows.md beside this script, and two pictures of them
+# --write   writes the tables into rows.md beside this script, and two pictures of them; with --writing those of
+#           this run alone, and leaves the others as they are
 #
 # It needs `rt`, cargo, python3 and cc. The library is proved first, over what checks of the repository and
 # earlier runs kept; then only what changed is built. Of other libraries those are measured that Debian's
@@ -18,10 +20,11 @@ set -eu
 upstream=$(cd "${1:?the folder of the Rust crates}" && pwd)
 work=${2:?a folder to build in}
 shift 2
-quick='' once='' write=''
+quick='' once='' write='' word=''
 while [ $# -gt 0 ]; do
     case $1 in
     --quick) quick=${2:?a word of operations} && shift ;;
+    --writing) word=write_ ;;
     --once) once=--once ;;
     --write) write=--write ;;
     *) echo "run.sh: $1?" >&2 && exit 2 ;;
@@ -115,6 +118,34 @@ build_peers() {
     fi
 }
 
+# Prints the instructions that each implementation takes for a message, as valgrind counts them. What it takes in one
+# round is left out, so that reading the files isn't in it.
+count_instructions() {
+    command -v valgrind > /dev/null || return 0
+    messages=$((64 * 16))
+    for op in write_query write_answer write_referral; do
+        for peer in domain-scanning domain-tree domain-hashed port; do
+            count_one "$peer" "$bench" "$work/inputs" --rounds "$peer"
+        done
+        count_one libknot "$work/peers/knot" "$work/inputs" --rounds
+        count_one ldns "$work/peers/ldns" "$work/inputs" --rounds
+        count_one trust-dns "$work/peers/trust/target/release/trust" "$work/inputs" --rounds
+    done
+}
+
+count_one() {
+    peer=$1
+    shift
+    [ -x "$1" ] || return 0
+    few=$(instructions_of "$@" 1 "$op")
+    many=$(instructions_of "$@" 11 "$op")
+    printf '%s\tcount_%s\t%s.writes\t%d\t-\n' "$peer" "$op" "${op#write_}" $(((many - few) / (10 * messages)))
+}
+
+instructions_of() {
+    valgrind --tool=callgrind --callgrind-out-file=/dev/null "$@" 2>&1 | sed -n 's/.*Collected : //p'
+}
+
 build_port
 build_rust
 python3 "$here/inputs.py" "$work/inputs"
@@ -128,10 +159,11 @@ if [ -n "$quick" ]; then
 else
     build_peers
     for turn in 1 2 3; do
-        "$bench" "$work/inputs" --turns 200 > "$work/out/$turn.tsv"
+        "$bench" "$work/inputs" --turns 200 $word > "$work/out/$turn.tsv"
         for peer in knot ldns trust/target/release/trust; do
-            [ ! -x "$work/peers/$peer" ] || "$work/peers/$peer" "$work/inputs" >> "$work/out/$turn.tsv"
+            [ ! -x "$work/peers/$peer" ] || "$work/peers/$peer" "$work/inputs" $word >> "$work/out/$turn.tsv"
         done
     done
+    count_instructions > "$work/out/instructions.tsv"
 fi
 python3 "$here/table.py" $write "$work"/out/*.tsv

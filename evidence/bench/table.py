@@ -100,10 +100,24 @@ STREAMS = {
     "hosts": "`host000.example.com` and on",
     "middles": "`h000x.example.com` and on",
 }
+WRITES = {
+    "query": "A query with an OPT record",
+    "answer": "An answer of 10 addresses",
+    "referral": "A referral to 4 servers, with their addresses",
+}
+WRITERS = {
+    "domain-scanning": "domain, offsets in turn",
+    "domain-tree": "domain, a tree",
+    "domain-hashed": "domain, a hash table",
+    PORT: PORT,
+    **{peer: peer for peer in PEERS},
+}
 ROWS_HEAD = """# Measured rows
 
 What `evidence/bench/run.sh --write` wrote of its last run; docs/PERFORMANCE.md says how it was measured and what it
-means. Times are nanoseconds of one call, the part is the port's time as a part of the crate's.
+means. Times are nanoseconds of one call, the part is the port's time as a part of the crate's. Of messages that are
+written they are those of one message, and the part is that of the quickest other; the two tables of these are of their
+own last run, `run.sh --writing --write`, if that was later.
 """
 COLOURS = ["#1b6ca8", "#c0392b", "#27864a", "#8e44ad", "#b9770e", "#444444", "#16a0a0"]
 
@@ -239,6 +253,31 @@ def streams_table(rows):
                 yield f"| {label} | {names:,} | {' | '.join(cells)} |"
 
 
+def writes(rows, prefix):
+    """The rows of the kinds of messages that are written."""
+    keys = {kind: (f"{prefix}write_{kind}", f"{kind}.writes") for kind in WRITES}
+    return {kind: rows[key] for kind, key in keys.items() if PORT in rows.get(key, {})}
+
+
+def writes_table(rows, head, prefix, has_mark):
+    """A row for each kind of message that is written: what each library takes."""
+    found = writes(rows, prefix)
+    if not found:
+        return
+    yield f"| {head} | {' | '.join(WRITERS.values())} | part | |"
+    yield "|---|" + "--:|" * (len(WRITERS) + 1) + "---|"
+    for kind, row in found.items():
+        cells = [time(row[peer][0]) if peer in row else "" for peer in WRITERS]
+        part = row[PORT][0] / min(value for peer, (value, _) in row.items() if peer != PORT)
+        mark = "" if is_written_same(row) or not has_mark else "DIFFERENT"
+        yield f"| {WRITES[kind]} | {' | '.join(cells)} | {part:.2f} | {mark} |"
+
+
+def is_written_same(row):
+    """Whether the port's messages have the octets of those with the crate's names."""
+    return all(row[peer][1] == row[PORT][1] for peer in WRITERS if peer.startswith("domain") and peer in row)
+
+
 # ---- plots
 
 
@@ -370,20 +409,47 @@ def plot_growth(rows):
     return picture(1270, 620, inside)
 
 
+def replaced(old, new):
+    """The blocks of an earlier page, those of the same head as a new one replaced, and then the other new ones."""
+
+    def head(block):
+        return block.split("|")[1] if block.startswith("|") else block
+
+    fresh = {head(block): block for block in new}
+    blocks = [fresh.pop(head(block), block) for block in old]
+    return blocks + list(fresh.values())
+
+
+def write(rows, found, body):
+    """Writes the page and the two pictures, or of written messages alone their tables."""
+    here = pathlib.Path(__file__).resolve().parent
+    page = here / "rows.md"
+    if found:
+        page.write_text(f"{ROWS_HEAD}\n{summary(found)}\n\n{body}")
+        (here / "parts.svg").write_text(plot_parts(found))
+        (here / "growth.svg").write_text(plot_growth(rows))
+    else:
+        # (without the title and the words below it)
+        old = page.read_text().strip().split("\n\n")[2:]
+        page.write_text("\n\n".join([ROWS_HEAD.strip(), *replaced(old, body.strip().split("\n\n"))]) + "\n")
+
+
 def main():
     args = sys.argv[1:]
     is_written = args[:1] == ["--write"]
     rows = read(args[1:] if is_written else args)
     found = parts(rows)
-    tables = [list(table) for table in (parts_table(found), peers_table(rows), growth_table(rows), streams_table(rows))]
+    written = (
+        writes_table(rows, "Writing a message", "", True),
+        writes_table(rows, "The instructions of that", "count_", False),
+    )
+    made = (parts_table(found), peers_table(rows), growth_table(rows), streams_table(rows), *written)
+    tables = [list(table) for table in made]
     body = "\n\n".join("\n".join(table) for table in tables if len(table) > 2) + "\n"
-    print(f"{summary(found)}\n\n{body}")
+    print(f"{summary(found)}\n\n{body}" if found else body)
     if is_written:
-        here = pathlib.Path(__file__).resolve().parent
-        (here / "rows.md").write_text(f"{ROWS_HEAD}\n{summary(found)}\n\n{body}")
-        (here / "parts.svg").write_text(plot_parts(found))
-        (here / "growth.svg").write_text(plot_growth(rows))
-    return 0 if all(row.same for row in found) else 1
+        write(rows, found, body)
+    return 0 if all(row.same for row in found) and all(map(is_written_same, writes(rows, "").values())) else 1
 
 
 if __name__ == "__main__":

@@ -49,14 +49,11 @@ static struct cases read_cases(const char *folder, const char *name)
 	return res;
 }
 
-/* The names of a stream, each a case. */
-static struct cases split_stream(const char *folder, const char *name)
+/* So many names that stand behind one another, each a case. */
+static struct cases split_names(const uint8_t *at, uint32_t count)
 {
-	struct cases stream = read_cases(folder, name);
-	struct cases res = { stream.all[0].place, NULL };
-	res.all = calloc(res.count, sizeof *res.all);
-	const uint8_t *at = stream.all[0].octets;
-	for (uint32_t i = 0; i < res.count; i++) {
+	struct cases res = { count, calloc(count, sizeof(struct one)) };
+	for (uint32_t i = 0; i < count; i++) {
 		res.all[i].octets = at;
 		while (*at != 0)
 			at += 1 + *at;
@@ -64,6 +61,13 @@ static struct cases split_stream(const char *folder, const char *name)
 		res.all[i].len = at - res.all[i].octets;
 	}
 	return res;
+}
+
+/* The names of a stream, each a case. */
+static struct cases split_stream(const char *folder, const char *name)
+{
+	struct cases stream = read_cases(folder, name);
+	return split_names(stream.all[0].octets, stream.all[0].place);
 }
 
 static double now(void)
@@ -75,10 +79,36 @@ static double now(void)
 
 static volatile uint64_t sink;
 
+/* What the operations begin with that are wanted. */
+static const char *wanted = "";
+/* Where another program counts instructions, how often all calls of a file are made, without measuring. */
+static unsigned rounds;
+
+/* The folder of the input files: PROGRAM FOLDER [--rounds N] [WORD]. */
+static const char *folder_of(int argc, char **argv)
+{
+	int at = 2;
+	if (argc > 3 && strcmp(argv[at], "--rounds") == 0) {
+		rounds = atoi(argv[at + 1]);
+		at += 2;
+	}
+	if (argc > at)
+		wanted = argv[at];
+	if (argc < 2)
+		exit(2);
+	return argv[1];
+}
+
 /* `op` makes all calls of a file once, and answers how many were refused. The best turn counts. */
 static void measure(const char *peer, const char *name, const char *file, uint32_t calls,
                     unsigned (*op)(const void *), const void *arg)
 {
+	if (strncmp(name, wanted, strlen(wanted)) != 0)
+		return;
+	for (unsigned i = 0; i < rounds; i++)
+		sink += op(arg);
+	if (rounds > 0)
+		return;
 	double start = now();
 	unsigned refused = op(arg);
 	double once = now() - start;
@@ -105,5 +135,11 @@ static const char *const TEXTS[] = { "typical.texts", "escaped.texts" };
 static const char *const WHOLE[] = { "records-4.whole", "records-100.whole", "records-1000.whole" };
 static const char *const STREAMS[] = { "mixed", "hosts", "middles" };
 static const unsigned COUNTS[] = { 10, 30, 100, 300, 1000, 3000, 10000 };
+
+static const char *const WRITES[] = { "query.writes", "answer.writes", "referral.writes" };
+static const char *const WRITTEN[] = { "write_query", "write_answer", "write_referral" };
+/* How many names a message of each kind has, and how many messages are written of them in one call. */
+static const unsigned NAMES[] = { 1, 1, 6 };
+enum { PER_CALL = 16 };
 
 #define ALL(xs) (sizeof(xs) / sizeof *(xs))

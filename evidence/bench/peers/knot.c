@@ -1,4 +1,4 @@
-/* libknot on the files of inputs.py: knot FOLDER. It refuses some files, which then have no line. */
+/* libknot on the files of inputs.py: knot FOLDER [--rounds N] [WORD]. It refuses some files, which then have no line. */
 
 #include <libknot/libknot.h>
 #include "common.h"
@@ -119,17 +119,126 @@ static unsigned whole(const void *arg)
 	return refused;
 }
 
+/* What a message is written of. */
+struct message {
+	const knot_dname_t *qname;
+	knot_rrset_t sets[5];
+	unsigned counts[3];
+	uint16_t flags;
+};
+
+struct messages {
+	uint32_t count;
+	struct message *all;
+	knot_pkt_t *pkt;
+};
+
+static knot_rrset_t set_of(const uint8_t *owner, uint16_t type)
+{
+	knot_rrset_t set;
+	knot_rrset_init(&set, (knot_dname_t *)owner, type, KNOT_CLASS_IN, 3600);
+	return set;
+}
+
+static void add(knot_rrset_t *set, const uint8_t *data, uint16_t len)
+{
+	if (knot_rrset_add_rdata(set, data, len, NULL) != 0)
+		abort();
+}
+
+static struct message message_of(unsigned kind, const struct cases *names)
+{
+	struct message m = { .qname = names->all[0].octets };
+	uint8_t address[4] = { 192, 0, 2, 53 };
+	switch (kind) {
+	case 0:
+		if (knot_edns_init(&m.sets[0], 1232, 0, 0, NULL) != 0)
+			abort();
+		m.counts[2] = 1;
+		break;
+	case 1:
+		m.sets[0] = set_of(m.qname, KNOT_RRTYPE_A);
+		for (address[3] = 0; address[3] < 10; address[3]++)
+			add(&m.sets[0], address, sizeof address);
+		m.counts[0] = 1;
+		break;
+	default:
+		m.sets[0] = set_of(names->all[1].octets, KNOT_RRTYPE_NS);
+		for (unsigned i = 2; i < names->count; i++) {
+			add(&m.sets[0], names->all[i].octets, names->all[i].len);
+			m.sets[i - 1] = set_of(names->all[i].octets, KNOT_RRTYPE_A);
+			add(&m.sets[i - 1], address, sizeof address);
+		}
+		m.counts[1] = 1;
+		m.counts[2] = names->count - 2;
+	}
+	m.flags = kind == 0 ? 0x0100 : 0x8100;
+	return m;
+}
+
+/* Where libknot's server tells the owner's place: an answer's is the question's name, that of glue a name of data. */
+static uint16_t hint_of(const knot_pkt_t *pkt, unsigned section, unsigned index)
+{
+	if (section == 0)
+		return KNOT_COMPR_HINT_QNAME;
+	if (section == 2 && pkt->sections[KNOT_AUTHORITY].count > 0)
+		return knot_compr_hint(&pkt->rr_info[0], KNOT_COMPR_HINT_RDATA + index);
+	return KNOT_COMPR_HINT_NONE;
+}
+
+static unsigned put(knot_pkt_t *pkt, const struct message *m, uint16_t id)
+{
+	unsigned refused = 0;
+	const knot_rrset_t *set = m->sets;
+	knot_pkt_clear(pkt);
+	knot_wire_set_id(pkt->wire, id);
+	pkt->wire[2] = m->flags >> 8;
+	pkt->wire[3] = m->flags & 255;
+	refused += knot_pkt_put_question(pkt, m->qname, KNOT_CLASS_IN, KNOT_RRTYPE_A) != 0;
+	for (unsigned section = 0; section < 3; section++) {
+		if (m->counts[section] == 0)
+			continue;
+		knot_pkt_begin(pkt, KNOT_ANSWER + section);
+		for (unsigned i = 0; i < m->counts[section]; i++)
+			refused += knot_pkt_put(pkt, hint_of(pkt, section, i), set++, 0) != 0;
+	}
+	return refused;
+}
+
+static unsigned write_all(const void *arg)
+{
+	const struct messages *ms = arg;
+	unsigned refused = 0;
+	for (uint32_t i = 0; i < ms->count; i++)
+		for (uint16_t id = 0; id < PER_CALL; id++) {
+			refused += put(ms->pkt, &ms->all[i], id);
+			sink += ms->pkt->size;
+		}
+	return refused;
+}
+
+static void measure_writing(const char *folder, unsigned kind)
+{
+	struct cases c = read_cases(folder, WRITES[kind]);
+	struct messages ms = { c.count, calloc(c.count, sizeof(struct message)), knot_pkt_new(NULL, 512, NULL) };
+	for (uint32_t i = 0; i < c.count; i++) {
+		struct cases *names = malloc(sizeof *names);
+		*names = split_names(c.all[i].octets, NAMES[kind]);
+		ms.all[i] = message_of(kind, names);
+	}
+	measure("libknot", WRITTEN[kind], WRITES[kind], c.count * PER_CALL, write_all, &ms);
+}
+
 int main(int argc, char **argv)
 {
-	if (argc < 2)
-		return 2;
+	const char *folder = folder_of(argc, argv);
 	for (unsigned i = 0; i < ALL(MESSAGES); i++) {
-		struct cases c = read_cases(argv[1], MESSAGES[i]);
+		struct cases c = read_cases(folder, MESSAGES[i]);
 		measure("libknot", "parse", MESSAGES[i], c.count, check, &c);
 		measure("libknot", "flatten", MESSAGES[i], c.count, unpack, &c);
 	}
 	for (unsigned i = 0; i < ALL(FLAT); i++) {
-		struct cases c = read_cases(argv[1], FLAT[i]);
+		struct cases c = read_cases(folder, FLAT[i]);
 		measure("libknot", "check_eq", FLAT[i], c.count / 2, equal, &c);
 		measure("libknot", "check_canonical", FLAT[i], c.count, lower, &c);
 		measure("libknot", "check_show_fixed", FLAT[i], c.count, show, &c);
@@ -138,22 +247,24 @@ int main(int argc, char **argv)
 		measure("libknot", "check_cmp", FLAT[i], c.count / 2, compare, &c);
 	}
 	for (unsigned i = 0; i < ALL(TEXTS); i++) {
-		struct cases c = read_cases(argv[1], TEXTS[i]);
+		struct cases c = read_cases(folder, TEXTS[i]);
 		texts = calloc(c.count, sizeof *texts);
 		for (uint32_t j = 0; j < c.count; j++)
 			texts[j] = strndup((const char *)c.all[j].octets, c.all[j].len);
 		measure("libknot", "from_str_array", TEXTS[i], c.count, from_text, &c);
 	}
 	for (unsigned i = 0; i < ALL(WHOLE); i++) {
-		struct cases c = read_cases(argv[1], WHOLE[i]);
+		struct cases c = read_cases(folder, WHOLE[i]);
 		measure("libknot", "record_data", WHOLE[i], c.count, whole, &c);
 	}
 	for (unsigned i = 0; i < ALL(STREAMS); i++)
 		for (unsigned j = 0; j < ALL(COUNTS); j++) {
 			char file[64];
 			snprintf(file, sizeof file, "%s-%u.stream", STREAMS[i], COUNTS[j]);
-			struct cases c = split_stream(argv[1], file);
+			struct cases c = split_stream(folder, file);
 			measure("libknot", "compress", file, c.count, compose, &c);
 		}
+	for (unsigned i = 0; i < ALL(WRITES); i++)
+		measure_writing(folder, i);
 	return 0;
 }

@@ -1,4 +1,4 @@
-/* ldns on the files of inputs.py: ldns FOLDER. It refuses some files, which then have no line. */
+/* ldns on the files of inputs.py: ldns FOLDER [--rounds N] [WORD]. It refuses some files, which then have no line. */
 
 #include <ldns/ldns.h>
 #include "common.h"
@@ -108,38 +108,110 @@ static unsigned whole(const void *arg)
 	return refused;
 }
 
+static ldns_rr *record(const struct one *owner, ldns_rr_type type, ldns_rdf *data)
+{
+	ldns_rr *rr = ldns_rr_new();
+	ldns_rr_set_owner(rr, ldns_dname_new_frm_data(owner->len, owner->octets));
+	ldns_rr_set_type(rr, type);
+	ldns_rr_set_class(rr, LDNS_RR_CLASS_IN);
+	ldns_rr_set_ttl(rr, 3600);
+	ldns_rr_push_rdf(rr, data);
+	return rr;
+}
+
+static ldns_rr *address_record(const struct one *owner, uint8_t number)
+{
+	const uint8_t address[4] = { 192, 0, 2, number };
+	return record(owner, LDNS_RR_TYPE_A, ldns_rdf_new_frm_data(LDNS_RDF_TYPE_A, sizeof address, address));
+}
+
+static ldns_pkt *message_of(unsigned kind, const struct cases *names)
+{
+	ldns_pkt *pkt = ldns_pkt_new();
+	ldns_rr *question = ldns_rr_new();
+	ldns_rr_set_owner(question, ldns_dname_new_frm_data(names->all[0].len, names->all[0].octets));
+	ldns_rr_set_type(question, LDNS_RR_TYPE_A);
+	ldns_rr_set_class(question, LDNS_RR_CLASS_IN);
+	ldns_rr_set_question(question, true);
+	ldns_pkt_push_rr(pkt, LDNS_SECTION_QUESTION, question);
+	ldns_pkt_set_rd(pkt, true);
+	ldns_pkt_set_qr(pkt, kind != 0);
+	if (kind == 0)
+		ldns_pkt_set_edns_udp_size(pkt, 1232);
+	for (unsigned i = 0; kind == 1 && i < 10; i++)
+		ldns_pkt_push_rr(pkt, LDNS_SECTION_ANSWER, address_record(&names->all[0], i));
+	for (unsigned i = 2; i < names->count; i++) {
+		ldns_rdf *server = ldns_dname_new_frm_data(names->all[i].len, names->all[i].octets);
+		ldns_pkt_push_rr(pkt, LDNS_SECTION_AUTHORITY, record(&names->all[1], LDNS_RR_TYPE_NS, server));
+		ldns_pkt_push_rr(pkt, LDNS_SECTION_ADDITIONAL, address_record(&names->all[i], 53));
+	}
+	return pkt;
+}
+
+struct messages {
+	uint32_t count;
+	ldns_pkt **all;
+	ldns_buffer *buffer;
+};
+
+static unsigned write_all(const void *arg)
+{
+	const struct messages *ms = arg;
+	unsigned refused = 0;
+	for (uint32_t i = 0; i < ms->count; i++)
+		for (uint16_t id = 0; id < PER_CALL; id++) {
+			ldns_buffer_clear(ms->buffer);
+			ldns_pkt_set_id(ms->all[i], id);
+			refused += ldns_pkt2buffer_wire(ms->buffer, ms->all[i]) != LDNS_STATUS_OK;
+			sink += ldns_buffer_position(ms->buffer);
+		}
+	return refused;
+}
+
+static void measure_writing(const char *folder, unsigned kind)
+{
+	struct cases c = read_cases(folder, WRITES[kind]);
+	struct messages ms = { c.count, calloc(c.count, sizeof(ldns_pkt *)), ldns_buffer_new(512) };
+	for (uint32_t i = 0; i < c.count; i++) {
+		struct cases names = split_names(c.all[i].octets, NAMES[kind]);
+		ms.all[i] = message_of(kind, &names);
+	}
+	measure("ldns", WRITTEN[kind], WRITES[kind], c.count * PER_CALL, write_all, &ms);
+}
+
 int main(int argc, char **argv)
 {
-	if (argc < 2)
-		return 2;
+	const char *folder = folder_of(argc, argv);
 	for (unsigned i = 0; i < ALL(MESSAGES); i++) {
-		struct cases c = read_cases(argv[1], MESSAGES[i]);
+		struct cases c = read_cases(folder, MESSAGES[i]);
 		measure("ldns", "to_name", MESSAGES[i], c.count, parse, &c);
 	}
 	for (unsigned i = 0; i < ALL(FLAT); i++) {
-		struct cases c = read_cases(argv[1], FLAT[i]);
+		struct cases c = read_cases(folder, FLAT[i]);
 		struct pairs p = names(&c);
 		measure("ldns", "check_cmp", FLAT[i], c.count / 2, compare, &p);
 		measure("ldns", "check_show_fixed", FLAT[i], c.count, show, &p);
 	}
 	for (unsigned i = 0; i < ALL(TEXTS); i++) {
-		struct cases c = read_cases(argv[1], TEXTS[i]);
+		struct cases c = read_cases(folder, TEXTS[i]);
 		texts = calloc(c.count, sizeof *texts);
 		for (uint32_t j = 0; j < c.count; j++)
 			texts[j] = strndup((const char *)c.all[j].octets, c.all[j].len);
 		measure("ldns", "vec_from_str", TEXTS[i], c.count, from_text, &c);
 	}
 	for (unsigned i = 0; i < ALL(WHOLE); i++) {
-		struct cases c = read_cases(argv[1], WHOLE[i]);
+		struct cases c = read_cases(folder, WHOLE[i]);
 		measure("ldns", "record_data", WHOLE[i], c.count, whole, &c);
 	}
 	for (unsigned i = 0; i < ALL(STREAMS); i++)
 		for (unsigned j = 0; j < ALL(COUNTS); j++) {
 			char file[64];
 			snprintf(file, sizeof file, "%s-%u.stream", STREAMS[i], COUNTS[j]);
-			struct cases c = split_stream(argv[1], file);
+			struct cases c = split_stream(folder, file);
 			struct pairs p = names(&c);
 			measure("ldns", "compress", file, c.count, compose, &p);
 		}
+	for (unsigned i = 0; i < ALL(WRITES); i++)
+		measure_writing(folder, i);
 	return 0;
 }

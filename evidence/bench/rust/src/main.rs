@@ -1,6 +1,6 @@
 //! Measures `domain` 0.12.3 on the files of inputs.py, and what build.rs links beside it.
 //!
-//!     bench FOLDER [--once] [--turns N] [WORD]
+//!     bench FOLDER [--once] [--turns N] [--rounds PEER N] [WORD]
 //!
 //! prints `PEER TAB operation TAB file TAB nanoseconds TAB checksum` for each
 //! operation (whose name contains WORD; `parse,check`: these operations). The
@@ -8,6 +8,9 @@
 //! file; several implementations take turns. The checksum is over the results of
 //! all cases of the file; another implementation of the same operation gives the
 //! same one.
+//!
+//! With `--rounds PEER N` nothing is measured or printed: one implementation makes
+//! all calls of each file so often, for a program that counts its instructions.
 //!
 //! With `--once` nothing is measured: each operation is called once for each case,
 //! names that were composed with compression are compared octet by octet with
@@ -28,6 +31,8 @@ use std::hash::{Hash, Hasher};
 use std::hint::black_box;
 use std::path::{Path, PathBuf};
 use std::time::{Duration, Instant};
+
+mod writes;
 
 const REFUSED: u64 = u64::MAX;
 
@@ -790,9 +795,18 @@ fn read(path: &Path) -> Vec<Case> {
 /// One implementation of an operation: all cases of a file, once.
 type Round<'a> = Box<dyn FnMut() -> u64 + 'a>;
 
+/// One implementation, and how often it makes all calls of a file.
+#[derive(Clone)]
+struct Rounds {
+    peer: String,
+    count: usize,
+}
+
 /// How an operation is measured.
 #[derive(Clone, Copy)]
-struct Weather {
+struct Weather<'a> {
+    /// Where its instructions are counted by another program.
+    counted: Option<&'a Rounds>,
     /// The most turns of each implementation; none where results alone are compared.
     turns: usize,
     /// No turn begins later than this, but for the first five.
@@ -806,9 +820,17 @@ fn measure(
     op: &str,
     file: &str,
     calls: usize,
-    weather: Weather,
+    weather: Weather<'_>,
     mut peers: Vec<(&str, Round<'_>)>,
 ) -> bool {
+    if let Some(Rounds { peer, count }) = weather.counted {
+        for (_, round) in peers.iter_mut().filter(|(name, _)| name == peer) {
+            for _ in 0..*count {
+                black_box(round());
+            }
+        }
+        return true;
+    }
     let mut all: Vec<(usize, f64, u64)> = peers
         .iter_mut()
         .map(|(_, round)| (1, f64::MAX, round()))
@@ -930,6 +952,34 @@ fn composes(file: &str, stream: &[u8], peer: &Peer) -> bool {
     same
 }
 
+/// Whether a reader finds in the messages of all implementations what was to be written, and whether those of others
+/// are no longer than those with the crate's names.
+fn writes_same(op: &str, file: &str, cases: &[Case], peers: &[&Peer]) -> bool {
+    let mut same = true;
+    for case in cases {
+        let wanted = writes::Content::wanted(op, &split(&case.octets));
+        let mut shortest = usize::MAX;
+        for peer in peers {
+            let Some((_, write)) = peer.written.iter().find(|(other, _)| *other == op) else {
+                continue;
+            };
+            let mut message = vec![0; 512];
+            let len = write(&case.octets, &mut message) as usize;
+            let message = message.get(..len).unwrap_or_default();
+            if writes::Content::read(message).as_ref() != Some(&wanted) {
+                println!("different: {op} of {file} by {} is not read back", peer.name);
+                same = false;
+            }
+            if len > shortest {
+                println!("different: {op} of {file} by {} is longer", peer.name);
+                same = false;
+            }
+            shortest = shortest.min(len);
+        }
+    }
+    same
+}
+
 fn add(sum: u64, result: u64) -> u64 {
     (sum ^ result)
         .wrapping_mul(0x9e37_79b9_7f4a_7c15)
@@ -1028,6 +1078,13 @@ macro_rules! on_message_and_name {
     };
 }
 
+macro_rules! on_written {
+    ($module:ident, $op:ident) => {{
+        use writes::$module::$op;
+        on_message!($op)
+    }};
+}
+
 type OnMessage = fn(&[u8], usize) -> u64;
 type OnName = fn(&[u8]) -> u64;
 type OnPair = fn(&[u8], &[u8]) -> u64;
@@ -1044,6 +1101,8 @@ struct Peer {
     wholes: &'static [(&'static str, OnName)],
     streams: &'static [(&'static str, OnName)],
     composing: &'static [(&'static str, Composing)],
+    writes: &'static [(&'static str, OnMessage)],
+    written: &'static [(&'static str, Composing)],
 }
 
 const DOMAIN: Peer = Peer {
@@ -1108,7 +1167,39 @@ const DOMAIN: Peer = Peer {
     ],
     streams: &[],
     composing: &[],
+    writes: &[],
+    written: &[],
 };
+
+/// The crate's names and data, written by one composer.
+macro_rules! writer {
+    ($constant:ident, $name:literal, $module:ident) => {
+        const $constant: Peer = Peer {
+            name: $name,
+            messages: &[],
+            names: &[],
+            pairs: &[],
+            texts: &[],
+            mixed: &[],
+            wholes: &[],
+            writes: &[
+                on_written!($module, write_query),
+                on_written!($module, write_answer),
+                on_written!($module, write_referral),
+            ],
+            written: &[
+                ("written_query", writes::$module::written_query),
+                ("written_answer", writes::$module::written_answer),
+                ("written_referral", writes::$module::written_referral),
+            ],
+            ..DOMAIN
+        };
+    };
+}
+
+writer!(SCANNING, "domain-scanning", scanning);
+writer!(TREE, "domain-tree", tree);
+writer!(HASHED, "domain-hashed", hashed);
 
 /// What is measured as names get more labels and pointers.
 const GROWING: &[&str] = &["parse", "skip", "flatten", "parse_eq", "parse_cmp"];
@@ -1121,6 +1212,7 @@ struct Wanted {
     folder: PathBuf,
     once: bool,
     turns: usize,
+    counted: Option<Rounds>,
     word: String,
 }
 
@@ -1129,6 +1221,7 @@ fn arguments() -> Wanted {
         folder: PathBuf::new(),
         once: false,
         turns: 300,
+        counted: None,
         word: String::new(),
     };
     let mut args = std::env::args().skip(1);
@@ -1137,6 +1230,11 @@ fn arguments() -> Wanted {
         match arg.as_str() {
             "--once" => wanted.once = true,
             "--turns" => wanted.turns = args.next().unwrap().parse().unwrap(),
+            "--rounds" => {
+                let peer = args.next().unwrap();
+                let count = args.next().unwrap().parse().unwrap();
+                wanted.counted = Some(Rounds { peer, count });
+            }
             word => wanted.word = word.to_string(),
         }
     }
@@ -1158,22 +1256,24 @@ fn files(folder: &Path, begins: &str, ends: &str) -> Vec<String> {
 }
 
 fn main() {
-    let Wanted { folder, once, turns, word } = arguments();
+    let Wanted { folder, once, turns, counted, word } = arguments();
     let wanted = |op: &str| match word.contains(',') {
         true => word.split(',').any(|word| word == op),
         false => op.contains(&word),
     };
     let mut same = true;
     let rows = Weather {
+        counted: counted.as_ref(),
         turns: if once { 0 } else { turns },
         longest: Duration::from_secs(2),
     };
     let lines = Weather {
+        counted: counted.as_ref(),
         turns: rows.turns.min(60),
         longest: Duration::from_millis(400),
     };
 
-    let peers: Vec<&Peer> = [&DOMAIN].into_iter().chain(OTHERS).collect();
+    let peers: Vec<&Peer> = [&DOMAIN, &SCANNING, &TREE, &HASHED].into_iter().chain(OTHERS).collect();
     macro_rules! run {
         ($kind:ident, $from:expr, $file:expr, $calls:expr, $weather:expr, $wanted:expr, |$f:ident| $round:expr) => {
             for (op, _) in $from.$kind.iter().filter(|(op, _)| $wanted(op)) {
@@ -1264,6 +1364,21 @@ fn main() {
             if once {
                 same &= composes(file, &case.octets, other);
             }
+        }
+    }
+    for kind in ["query", "answer", "referral"] {
+        let file = &format!("{kind}.writes");
+        let cases = &read(&folder.join(file));
+        let wanted = |op: &str| wanted(op) && op.ends_with(kind);
+        let calls = cases.len() * usize::from(writes::MESSAGES);
+        run!(writes, SCANNING, file, calls, rows, wanted, |f| cases
+            .iter()
+            .fold(0, |sum, case| add(
+                sum,
+                f(black_box(&case.octets), black_box(case.place))
+            )));
+        if once {
+            same &= writes_same(&format!("written_{kind}"), file, cases, &peers);
         }
     }
     if !same {

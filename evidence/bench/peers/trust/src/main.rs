@@ -1,11 +1,12 @@
-//! trust-dns-proto on the files of inputs.py: trust FOLDER. It refuses some files, which then have no line.
+//! trust-dns-proto on the files of inputs.py: trust FOLDER [--rounds N] [WORD]. It refuses some files, which then have
+//! no line.
 
 use std::hash::{Hash, Hasher};
 use std::hint::black_box;
 use std::path::Path;
 use std::time::{Duration, Instant};
-use trust_dns_proto::op::Message;
-use trust_dns_proto::rr::Name;
+use trust_dns_proto::op::{Edns, Message, MessageType, Query};
+use trust_dns_proto::rr::{Name, RData, Record, RecordType};
 use trust_dns_proto::serialize::binary::{BinDecodable, BinDecoder, BinEncodable, BinEncoder};
 
 struct Case {
@@ -30,7 +31,24 @@ fn read(path: &Path) -> Vec<Case> {
 }
 
 /// `round` makes all calls of a file once, and tells how many were refused. The best turn counts.
+///
+/// Nothing is done for an operation that doesn't begin with WORD. With `--rounds N`, where another program counts
+/// instructions, all calls are made so often, without measuring.
 fn measure(op: &str, file: &str, calls: usize, mut round: impl FnMut() -> usize) {
+    let words: Vec<_> = std::env::args().skip(2).collect();
+    let (rounds, word) = match &words[..] {
+        [flag, rounds, word @ ..] if flag == "--rounds" => (Some(rounds), word.first()),
+        word => (None, word.first()),
+    };
+    if word.is_some_and(|word| !op.starts_with(word.as_str())) {
+        return;
+    }
+    if let Some(rounds) = rounds {
+        for _ in 0..rounds.parse().unwrap() {
+            black_box(round());
+        }
+        return;
+    }
     let start = Instant::now();
     if round() > 0 {
         return;
@@ -70,8 +88,53 @@ fn name(octets: &[u8]) -> Name {
     Name::read(&mut BinDecoder::new(octets)).unwrap()
 }
 
+/// How many messages are written of the names of a case, as the others do in one call.
+const PER_CALL: u16 = 16;
+
+fn address_record(owner: &Name, number: u8) -> Record {
+    Record::from_rdata(owner.clone(), 3600, RData::A([192, 0, 2, number].into()))
+}
+
+/// The message of a kind, of these names.
+fn message(kind: &str, octets: &[u8]) -> Message {
+    let mut decoder = BinDecoder::new(octets);
+    let mut names = Vec::new();
+    while !decoder.is_empty() {
+        names.push(Name::read(&mut decoder).unwrap());
+    }
+    let mut message = Message::new();
+    message.set_recursion_desired(true);
+    message.add_query(Query::query(names[0].clone(), RecordType::A));
+    match kind {
+        "query" => {
+            let mut edns = Edns::new();
+            edns.set_max_payload(1232);
+            message.set_edns(edns);
+        }
+        "answer" => {
+            message.set_message_type(MessageType::Response);
+            message.add_answers((0..10).map(|number| address_record(&names[0], number)));
+        }
+        _ => {
+            message.set_message_type(MessageType::Response);
+            for server in &names[2..] {
+                message.add_name_server(Record::from_rdata(names[1].clone(), 3600, RData::NS(server.clone())));
+                message.add_additional(address_record(server, 53));
+            }
+        }
+    }
+    message
+}
+
+/// The message with this identifier.
+fn written(target: &mut Vec<u8>, message: &mut Message, id: u16) -> bool {
+    target.clear();
+    message.set_id(id);
+    message.emit(&mut BinEncoder::new(target)).is_ok()
+}
+
 fn main() {
-    let folder = std::env::args_os().nth(1).expect("usage: trust FOLDER");
+    let folder = std::env::args_os().nth(1).expect("usage: trust FOLDER [..]");
     let folder = Path::new(&folder);
     for file in ["typical.msg", "pointer.msg", "deep.msg", "worst.msg", "short.msg", "long.msg"] {
         let cases = read(&folder.join(file));
@@ -148,5 +211,21 @@ fn main() {
                     .count()
             });
         }
+    }
+    for kind in ["query", "answer", "referral"] {
+        let file = format!("{kind}.writes");
+        let cases = read(&folder.join(&file));
+        let mut messages: Vec<_> = cases.iter().map(|case| message(kind, &case.octets)).collect();
+        let mut target = Vec::with_capacity(512);
+        measure(&format!("write_{kind}"), &file, cases.len() * usize::from(PER_CALL), || {
+            let mut refused = 0;
+            for message in &mut messages {
+                for id in 0..PER_CALL {
+                    refused += usize::from(!written(&mut target, message, id));
+                    black_box(&target);
+                }
+            }
+            refused
+        });
     }
 }
