@@ -120,7 +120,7 @@ fn push_record(
     }
 }
 
-/// NAPTR is none of the types of `AllRecordData`. But other writers compress its name, and a copy of a pointer would lead
+/// NAPTR is none of the types of `AllRecordData`. But other writers compress its name, and a copy of a pointer may lead
 /// elsewhere in the new message: so it is read as a name (RFC 3597, 4).
 fn push_naptr(
     out: &mut Answer,
