@@ -81,6 +81,10 @@ no_records c s holds =
     let additional : additional_count s.counts ≡ 0 = holds.additional_count in
     omega (arith, answers, authority, additional)
 
+-- also after the header was set
+pub none_set : (c : Bool) (h : Header) (limit : ℕ) (begun set : State) → IsBegun c limit begun → set ≡ with_header h begun → record_count set.counts ≡ 0
+none_set c h limit begun set is same = ap (λ x. record_count x.counts) same ∙ no_records c begun is.holds
+
 pub not_begun : {E : Type 0} (c : Bool) (q : QuestionFields) (octets : List ℕ) (capacity limit : ℕ) (e : StartError E) → 12 ≤ limit → NotBegun octets capacity limit e → NotAsked c q octets capacity limit
 not_begun c q octets capacity limit (NoRoom e) wide why = no_header why
 not_begun c q octets capacity limit ShortLimit wide why = absurd (omega (arith, wide, why))

@@ -35,7 +35,7 @@ pub fn answer_by_sections<'a, N: AbsoluteLabels<'a>, D: ComposeRecordData, Targe
     };
     message.set_header(header);
     let mut questions = QuestionBuilder::from_builder(message);
-    if let Err(_) = questions.push(question) {
+    if let Err(_refused) = questions.push(question) {
         return None;
     }
     let mut answers = questions.answer();
