@@ -157,6 +157,8 @@ TYPED = {
     52: "111x",  # RFC 6698
     257: "1tq",  # RFC 8659
 }
+# The types whose fields `any` knows
+ALL = SHAPES | TYPED
 # The mnemonics that rows have (RFC 1035, 3.2.2, and the RFC of each type)
 MNEMONICS = {1: "A", 2: "NS", 6: "SOA", 15: "MX", 16: "TXT", 28: "AAAA", 43: "DS", 46: "RRSIG", 47: "NSEC", 48: "DNSKEY",
              257: "CAA"}
@@ -216,7 +218,7 @@ def field(data, kind, lowercase):
     return octets, octets, text
 
 
-def of_any(rtype, data, shapes=SHAPES):
+def of_any(rtype, data, shapes):
     """Data of any type: its octets, the canonical form or None, the length where it is known, and its text."""
     if rtype in shapes:
         shape = shapes[rtype]
@@ -234,7 +236,7 @@ def of_any(rtype, data, shapes=SHAPES):
     return whole, None if rtype in LOWERCASE else whole, str(len(whole)), text
 
 
-def any_answer(fields, shapes=SHAPES):
+def any_answer(fields, shapes):
     """The answer to a line `any` or `typed`: the latter reads nothing of a type that isn't among these."""
     try:
         rtype, begin, size = (int(fields[place]) for place in (0, 2, 3))
@@ -304,7 +306,7 @@ def answer(line):
     """The answer to a line."""
     word, *fields = line.split(" ")
     if word in ("any", "typed") and len(fields) == 4:
-        return any_answer(fields, TYPED if word == "typed" else SHAPES)
+        return any_answer(fields, TYPED if word == "typed" else ALL)
     if len(fields) != 2 or word not in ("answers", "limit"):
         return "bad"
     try:

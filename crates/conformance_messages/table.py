@@ -425,8 +425,8 @@ ANY = (
     (18, u16(1) + name("Bigbird.toaster.com."), "1 Bigbird.toaster.com."), (21, u16(10) + name("NET.prime.com."), "10 NET.prime.com."),
     (26, u16(50) + name("ab.net2.it.") + name("O-ab.PRMD-net2.ADMDb.C-it."), "50 ab.net2.it. O-ab.PRMD-net2.ADMDb.C-it."),
     (36, u16(2) + name("rodney-KX.iana.org."), "2 rodney-KX.iana.org."),
-    (13, b"\1a\1b", "\\# 4 01 61 01 62"), (35, u16(1) + u16(2) + b"\0\0\0" + name("A."), "\\# 10 00 01 00 02 00 00 00 01 41 00"),
-    (16, b"\1a\0", '"a" ""'), (1, b"\1\2\3\4", "1.2.3.4"), (46, b"\0\1", "\\# 2 00 01"), (47, name("B.") + b"\0\1\x40", "\\# 6 01 42 00 00 01 40"),
+    (13, b"\1a\1b", '"a" "b"'), (35, u16(1) + u16(2) + b"\0\0\0" + name("A."), '1 2 "" "" "" A.'),
+    (16, b"\1a\0", '"a" ""'), (1, b"\1\2\3\4", "1.2.3.4"), (24, b"\0\1", "\\# 2 00 01"), (47, name("B.") + b"\0\1\x40", "B. A"),
     (65280, b"", "\\# 0"), (99, b"\xff", "\\# 1 ff"),
 )
 
@@ -440,8 +440,11 @@ def any_rows():
         for more in (1, 255):
             row("any", rtype, octets + b"\1" * more, 0, len(octets) + more)
         row("any", rtype, b"\xff" + octets + b"\xff", 1, len(octets), told="ok " + (octets.hex() or "-") + " ")
+    for rtype, octets, text in TYPED:
+        row("any", rtype, octets, 0, len(octets), told=" " + text)
+        row("any", rtype, octets, 0, len(octets) - 1)
     for rtype, octets, _text in ANY + tuple((rtype, octets, "") for rtype, octets in OF_TYPE.items()):
-        for other in (*second.SHAPES, 16, 46, 99):
+        for other in (*second.SHAPES, 16, 24, 46, 99):
             row("any", other, octets, 0, len(octets))
     topic("data of any type: names with pointers, in capitals")
     before = header() + name("WWW.Example.com.")

@@ -1,6 +1,5 @@
 -- Why no bitmaps are in a message.
-use Rattle.std.proofs.Common.{◌≡◌, ℕ, ◌<◌, ◌≤◌, List, length, drop, refl, subst, ap, arith}
-use Rattle.domain_rdata.specs.AnyData.{IsAllThatIsLeft}
+use Rattle.std.proofs.Common.{◌≡◌, ℕ, ◌≤◌, List, length, drop, refl, ap, arith}
 use Rattle.domain_wire.specs.Refusals.{refusal}
 use Rattle.domain_wire.specs.declared.error.ParseError.{ParseError}
 use Rattle.domain_data.specs.BitmapReading.{HasBitmapsFault, NoBitmaps, bitmaps_refusal}

@@ -1,21 +1,20 @@
 -- The year, the month and the day of a date are those of its day number.
-use Rattle.std.proofs.Common.{◌≡◌, ℕ, zero, suc, ◌+◌, ◌-◌, ◌*◌, ◌/◌, ◌%◌, ◌<◌, ◌≤◌, ◌^◌, ◌⊎◌, inl, inr, Bool, true, false, cond, nat_le, List, [], ◌∷◌, ◌++◌, length, replicate, ℤ, pos, negsuc, ◌+ℤ◌, ◌-ℤ◌, ◌*ℤ◌, ◌≤ℤ◌, ◌<ℤ◌, unsigned_abs, int_le, refl, sym, ap, ◌∙◌, arith, append-nil, append_assoc, to_z, of_z, w8, w16}
+use Rattle.std.proofs.Common.{◌≡◌, ℕ, zero, suc, ◌+◌, ◌-◌, ◌*◌, ◌/◌, ◌%◌, ◌<◌, ◌≤◌, ◌^◌, ◌⊎◌, inl, inr, Bool, true, false, cond, List, [], ◌++◌, length, replicate, ℤ, pos, negsuc, ◌-ℤ◌, ◌*ℤ◌, ◌≤ℤ◌, ◌<ℤ◌, unsigned_abs, int_le, refl, sym, ap, ◌∙◌, arith, append-nil, append_assoc, to_z, of_z, w8, w16}
 use Rattle.std.specs.Fmt.{decimal, padded_integral, format_spec, char_count, styled_decimal}
 use Rattle.std.specs.List.{range_with_len, count_by}
 use Rattle.std.proofs.lemmas.List.Sums.{sum_by-cons}
 use Rattle.std.proofs.lemmas.Int.{ints, by_lt_z}
-use Rattle.std.proofs.lemmas.Bool.{cases_lt, cases_order}
+use Rattle.std.proofs.lemmas.Bool.{cases_lt}
 use Rattle.jiff.specs.Types.{Date, DateTime}
 use Rattle.jiff_core.specs.Calendar.{days_from_civil, day_count, days_of_years, days_of_months, IsYear}
 use Rattle.jiff_core.specs.Date.{epoch_day}
 use Rattle.jiff_core.specs.DateTime.{civil_nanos}
-use Rattle.jiff_core.specs.Time.{time_nanos}
 use Rattle.jiff_core.proofs.SignedLemmas.{signed_arith, back_small, one_part}
-use Rattle.jiff_core.proofs.DateLemmas.{IsEarlier, epoch_day-lt, days_from_civil-day}
+use Rattle.jiff_core.proofs.DateLemmas.{epoch_day-lt, days_from_civil-day}
 use Rattle.jiff_core.proofs.CalendarLemmas.{days_in_month_bounds}
 use Rattle.jiff_core.proofs.DateTimeLemmas.{civil_nanos-parts, time_nanos_bound}
 use Rattle.jiff_fmt.specs.Text.{padded}
-use Rattle.domain_data.specs.Times.{has_come, year_of, month_of, day_of, date_text, clock_text, time_text}
+use Rattle.domain_data.specs.Times.{has_come, year_of, month_of, day_of, time_text}
 
 -- a hole `{:04}` writes zeros before the number, and `{:02}`
 pub filled_four : (n : ℕ) → styled_decimal (format_spec 32 0 4 4 (2 ^ 64 - 1)) n ≡ padded n 4

@@ -1,12 +1,11 @@
 -- Octets are those of one list of blocks, or one fault is the first.
-use Rattle.std.specs.Prelude.{◌≡◌, ℕ, ◌+◌, ◌<◌, ◌≤◌, true, false, cond, nat_lt, ◌||◌, List, [], ◌∷◌, ◌++◌, length, drop, take, Option, None, Some, refl}
+use Rattle.std.specs.Prelude.{◌≡◌, ℕ, ◌+◌, ◌<◌, ◌≤◌, List, [], ◌∷◌, ◌++◌, length, drop, take, None, Some, refl}
 use Rattle.std.proofs.Common.{arith, rules, ap, sym, subst, ◌∙◌, append_assoc, append-nil, length-append}
 use Rattle.std.proofs.Math.Seq.{take-append_seam, drop-append_seam}
-use Rattle.std.proofs.lemmas.Bool.{lt-ltb, le-ltb}
+use Rattle.std.proofs.lemmas.Bool.{le-ltb}
 use Rattle.std.specs.Coded.{×_prop, Unit-prop, le_prop, Coded-set, coded_list, coded_ℕ}
 use Rattle.domain_data.specs.TypeBitmaps.{blocks_octets, AreBlocks, HasBlocks, block_fault, next_window, NoBlocks}
 use Rattle.domain_data.specs.declared.type_bitmaps.TypeBitmapsError.{TypeBitmapsError}
-use Rattle.domain_data.specs.declared.type_bitmaps.TypeBitmapsError.TheVariants.{ShortInput, WindowOrder, BitmapLength}
 
 -- nothing is wrong with a block
 pub no_fault : (least window : ℕ) (bitmap rest : List ℕ) → least ≤ window → 1 ≤ length bitmap → length bitmap ≤ 32 → block_fault least (window ∷ length bitmap ∷ (bitmap ++ rest)) ≡ None

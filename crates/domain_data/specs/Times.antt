@@ -1,5 +1,5 @@
 -- Times as text: year, month, day, hour, minute and second (RFC 4034, 3.2).
-use Rattle.std.specs.Prelude.{ℕ, ◌+◌, ◌-◌, ◌*◌, ◌/◌, ◌%◌, Bool, pos, int_le, List, [], ◌∷◌, ◌++◌, unsigned_abs, ◌-ℤ◌}
+use Rattle.std.specs.Prelude.{ℕ, ◌+◌, ◌-◌, ◌/◌, ◌%◌, Bool, pos, int_le, List, ◌++◌, unsigned_abs, ◌-ℤ◌}
 use Rattle.std.specs.List.{range_with_len, count_by}
 use Rattle.jiff_core.specs.Calendar.{days_from_civil}
 use Rattle.jiff_fmt.specs.Text.{padded}

@@ -1,5 +1,5 @@
 -- Bitmaps of types (RFC 4034, 4.1.2).
-use Rattle.std.specs.Prelude.{◌≡◌, ℕ, ◌+◌, ◌*◌, ◌<◌, ◌≤◌, cond, nat_lt, ◌||◌, List, [], ◌∷◌, ◌++◌, map, length, ⊤, Option, None, Some}
+use Rattle.std.specs.Prelude.{◌≡◌, ℕ, ◌+◌, ◌*◌, ◌≤◌, cond, nat_lt, ◌||◌, List, [], ◌∷◌, ◌++◌, map, length, ⊤, Option, None, Some}
 use Rattle.domain_data.specs.Bits.{ones}
 use Rattle.domain_data.specs.declared.type_bitmaps.TypeBitmapsError.{TypeBitmapsError}
 use Rattle.domain_data.specs.declared.type_bitmaps.TypeBitmapsError.TheVariants.{ShortInput, WindowOrder, BitmapLength}

@@ -9,7 +9,7 @@ ghost use Rattle.domain_fields.specs.Parts.{no_name, one_part};
 ghost use Rattle.domain_fields.specs.Reading.{any_reading};
 ghost use Rattle.domain_wire.specs.Refusals.{refusal};
 ghost use Rattle.domain_data.specs.BlockLaws.{HasBlocks_prop};
-ghost use Rattle.domain_data.specs.TypeBitmaps.{HasBlocks, NoBlocks, blocks_types};
+ghost use Rattle.domain_data.specs.TypeBitmaps.{HasBlocks};
 ghost use Rattle.domain_data.specs.BitmapReading.{BitmapsAt, NoBitmaps, bitmaps_reading};
 ghost use Rattle.domain_data.specs.TypesText.{types_text};
 

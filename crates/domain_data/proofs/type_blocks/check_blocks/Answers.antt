@@ -1,7 +1,5 @@
-use Rattle.std.proofs.Common.{rules, arith, subst, sym, ap, ◌+◌}
-use Rattle.std.proofs.lemmas.List.{nil_from_length}
-use Rattle.domain_data.specs.BlockLaws.{one_block_fault, HasBlocks_prop, blocks_or_fault}
-use Rattle.domain_data.proofs.BlockWalk.{Walked, at_start, walked_one, walked_all, walked_fault}
+use Rattle.std.proofs.Common.{rules, subst, sym, ap, ◌+◌}
+use Rattle.domain_data.proofs.BlockWalk.{Walked, at_start, walked_one, walked_all}
 use Rattle.domain_data.proofs.type_blocks.check_blocks.Goals as goal
 
 pub loop-block-init : goal.loop-block-init

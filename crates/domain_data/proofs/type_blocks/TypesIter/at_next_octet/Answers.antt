@@ -1,4 +1,4 @@
-use Rattle.std.proofs.Common.{rules, arith, refl, ap, length, ◌+◌, ◌*◌, ◌<◌}
+use Rattle.std.proofs.Common.{arith, refl, ap, length, ◌+◌, ◌*◌}
 use Rattle.std.proofs.Common.{length-take, length-drop, get_or, take, drop, ◌-◌, ℕ}
 use Rattle.domain_data.proofs.TypesWalk.{next_octet, no_types, no_octets, next_block, blocks_after}
 use Rattle.domain_data.proofs.type_blocks.TypesIter.at_next_octet.Goals as goal

@@ -1,4 +1,4 @@
-use Rattle.std.proofs.Common.{rules, arith, refl, ap, sym, ◌∙◌, length, ◌+◌, ◌∷◌}
+use Rattle.std.proofs.Common.{arith, refl, ap, sym, ◌∙◌, length, ◌+◌, ◌∷◌}
 use Rattle.domain_data.specs.TypeViews.{types_left}
 use Rattle.domain_data.specs.declared.type_blocks.TypesIter.{TypesIter}
 use Rattle.domain_data.proofs.TypesWalk.{one_type}
