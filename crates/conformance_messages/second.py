@@ -149,21 +149,44 @@ LOWERCASE = {2, 3, 4, 5, 6, 7, 8, 9, 12, 14, 15, 17, 18, 21, 24, 26, 30, 33, 35,
 
 
 # The data of the types that `typed` asks. Beside the letters above: s a character string, t a tag, T a type, D a time, x, b and q
-# all that is left, in hexadecimal digits, in base64, between quotes.
+# all that is left, in hexadecimal digits, in base64, between quotes, m bitmaps of types.
 TYPED = {
     13: "ss",  # RFC 1035
     35: "22sssw",  # RFC 3403
-    43: "211x", 46: "T114DD2wb", 48: "211b",  # RFC 4034
+    43: "211x", 46: "T114DD2wb", 47: "wm", 48: "211b",  # RFC 4034
     44: "11x",  # RFC 4255
     52: "111x",  # RFC 6698
     257: "1tq",  # RFC 8659
 }
+# The types whose fields `any` knows
+ALL = SHAPES | TYPED
 # The mnemonics that rows have (RFC 1035, 3.2.2, and the RFC of each type)
-MNEMONICS = {1: "A", 2: "NS", 6: "SOA", 15: "MX", 16: "TXT", 28: "AAAA", 43: "DS", 47: "NSEC", 48: "DNSKEY", 257: "CAA"}
+MNEMONICS = {1: "A", 2: "NS", 6: "SOA", 15: "MX", 16: "TXT", 28: "AAAA", 43: "DS", 46: "RRSIG", 47: "NSEC", 48: "DNSKEY",
+             257: "CAA"}
 
 
 def name_octets(labels):
     return b"".join(bytes([len(label)]) + label for label in labels) + b"\0"
+
+
+def type_text(number):
+    return MNEMONICS.get(number, f"TYPE{number}")
+
+
+def bitmaps(data):
+    """The types of bitmaps (RFC 4034, 4.1.2): blocks, one or more, of a window, a length from 1 to 32 and so many octets."""
+    types, least = [], 0
+    while True:
+        window, size = data.take(2)
+        if window < least:
+            raise Refused("windows of types out of order")
+        if not 1 <= size <= 32:
+            raise Refused("invalid length of a type bitmap")
+        bits = "".join(f"{octet:08b}" for octet in data.take(size))
+        types += [256 * window + place for place, bit in enumerate(bits) if bit == "1"]
+        least = window + 1
+        if data.place == data.end:
+            return types
 
 
 def field(data, kind, lowercase):
@@ -180,14 +203,15 @@ def field(data, kind, lowercase):
             raise Refused("invalid tag")
         text = octets.decode() if kind == "t" else '"' + spelled(octets, b'"\\') + '"'
     elif kind == "T":
-        number = data.number(2)
-        text = MNEMONICS.get(number, f"TYPE{number}")
+        text = type_text(data.number(2))
     elif kind == "D":
         text = f"{EPOCH + datetime.timedelta(seconds=data.number(4)):%Y%m%d%H%M%S}"
+    elif kind in "xbqm" and data.end - data.place > 65535:
+        raise Refused("record data too long")
+    elif kind == "m":
+        text = " ".join(type_text(number) for number in bitmaps(data))
     elif kind in "xbq":
         left = data.take(data.end - data.place)
-        if len(left) > 65535:
-            raise Refused("record data too long")
         text = {"x": left.hex(), "b": base64.b64encode(left).decode(), "q": '"' + spelled(left, b'"\\') + '"'}[kind]
     else:
         text = str(data.number(int(kind)))
@@ -195,7 +219,7 @@ def field(data, kind, lowercase):
     return octets, octets, text
 
 
-def of_any(rtype, data, shapes=SHAPES):
+def of_any(rtype, data, shapes):
     """Data of any type: its octets, the canonical form or None, the length where it is known, and its text."""
     if rtype in shapes:
         shape = shapes[rtype]
@@ -213,7 +237,7 @@ def of_any(rtype, data, shapes=SHAPES):
     return whole, None if rtype in LOWERCASE else whole, str(len(whole)), text
 
 
-def any_answer(fields, shapes=SHAPES):
+def any_answer(fields, shapes):
     """The answer to a line `any` or `typed`: the latter reads nothing of a type that isn't among these."""
     try:
         rtype, begin, size = (int(fields[place]) for place in (0, 2, 3))
@@ -302,7 +326,7 @@ def answer(line):
     if word == "rebuild":
         return unread_answer(octets_of(fields[0]))
     if word in ("any", "typed") and len(fields) == 4:
-        return any_answer(fields, TYPED if word == "typed" else SHAPES)
+        return any_answer(fields, TYPED if word == "typed" else ALL)
     if len(fields) != 2 or word not in ("answers", "limit"):
         return "bad"
     try:

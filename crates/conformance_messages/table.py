@@ -427,8 +427,8 @@ ANY = (
     (18, u16(1) + name("Bigbird.toaster.com."), "1 Bigbird.toaster.com."), (21, u16(10) + name("NET.prime.com."), "10 NET.prime.com."),
     (26, u16(50) + name("ab.net2.it.") + name("O-ab.PRMD-net2.ADMDb.C-it."), "50 ab.net2.it. O-ab.PRMD-net2.ADMDb.C-it."),
     (36, u16(2) + name("rodney-KX.iana.org."), "2 rodney-KX.iana.org."),
-    (13, b"\1a\1b", "\\# 4 01 61 01 62"), (35, u16(1) + u16(2) + b"\0\0\0" + name("A."), "\\# 10 00 01 00 02 00 00 00 01 41 00"),
-    (16, b"\1a\0", '"a" ""'), (1, b"\1\2\3\4", "1.2.3.4"), (46, b"\0\1", "\\# 2 00 01"), (47, name("B.") + b"\0\1\x40", "\\# 6 01 42 00 00 01 40"),
+    (13, b"\1a\1b", '"a" "b"'), (35, u16(1) + u16(2) + b"\0\0\0" + name("A."), '1 2 "" "" "" A.'),
+    (16, b"\1a\0", '"a" ""'), (1, b"\1\2\3\4", "1.2.3.4"), (24, b"\0\1", "\\# 2 00 01"), (47, name("B.") + b"\0\1\x40", "B. A"),
     (65280, b"", "\\# 0"), (99, b"\xff", "\\# 1 ff"),
 )
 
@@ -442,8 +442,11 @@ def any_rows():
         for more in (1, 255):
             row("any", rtype, octets + b"\1" * more, 0, len(octets) + more)
         row("any", rtype, b"\xff" + octets + b"\xff", 1, len(octets), told="ok " + (octets.hex() or "-") + " ")
+    for rtype, octets, text in TYPED:
+        row("any", rtype, octets, 0, len(octets), told=" " + text)
+        row("any", rtype, octets, 0, len(octets) - 1)
     for rtype, octets, _text in ANY + tuple((rtype, octets, "") for rtype, octets in OF_TYPE.items()):
-        for other in (*second.SHAPES, 16, 46, 99):
+        for other in (*second.SHAPES, 16, 24, 46, 99):
             row("any", other, octets, 0, len(octets))
     topic("data of any type: names with pointers, in capitals")
     before = header() + name("WWW.Example.com.")
@@ -490,6 +493,10 @@ TYPED = (
     (46, u16(1) + b"\5\3" + u32(86400) + u32(1048354263) + u32(1045762263) + u16(2642) + name("Example.com.") + b"\x2b\xb1\xff\0",
      "A 5 3 86400 20030322173103 20030220173103 2642 Example.com. K7H/AA=="),
     (46, u16(65280) + b"\0\0" + u32(0) * 3 + u16(0) + b"\0", "TYPE65280 0 0 0 19700101000000 19700101000000 0 . "),
+    (47, name("host.example.com.") + b"\0\6\x40\1\0\0\0\3\4\x1b" + bytes(26) + b"\x20",  # RFC 4034, 4.3
+     "host.example.com. A MX RRSIG NSEC TYPE1234"),
+    (47, name("Z.Example.") + b"\0\1\x40\1\1\x40\xff\x20" + bytes(31) + b"\1", "Z.Example. A CAA TYPE65535"),
+    (47, b"\0\0\1\0", ". "), (47, b"\0\3\2\xff\0", ". " + " ".join(f"TYPE{number}" for number in range(768, 776))),
     (48, u16(256) + b"\3\5" + b"\1\3\xd2\x2a", "256 3 5 AQPSKg=="), (48, u16(257) + b"\3\x0d" + b"abcde", "257 3 13 YWJjZGU="),
     (48, u16(0) + b"\3\0", "0 3 0 "), (48, u16(256) + b"\3\x0f" + b"abcdef", "256 3 15 YWJjZGVm"),
     (52, b"\0\0\1" + bytes.fromhex("d2abde240d7cd3ee6b4b28c54df034b9"), "0 0 1 d2abde240d7cd3ee6b4b28c54df034b9"),  # RFC 6698, 2.3
@@ -510,6 +517,16 @@ def typed_rows():
             row("typed", other, octets, 0, len(octets))
     for tag in (b"", b"-", b"issue ", b"is-sue", b"is\xffsue", b"/", b":", b"@", b"[", b"`", b"{", b"09azAZ"):
         row("typed", 257, b"\0" + bytes([len(tag)]) + tag + b"v", 0, 3 + len(tag), told="ok " if tag == b"09azAZ" else "err invalid tag")
+    bitmaps = (
+        (b"", second.SHORT), (b"\0", second.SHORT), (b"\0\1", second.SHORT), (b"\0\2\x40", second.SHORT), (b"\0\1\x40\1", second.SHORT),
+        (b"\1\1\x40\0\1\x40", "windows of types out of order"), (b"\0\1\x40\0\1\x40", "windows of types out of order"),
+        (b"\0\0", "invalid length of a type bitmap"), (b"\0\1\x40\1\0", "invalid length of a type bitmap"),
+        (b"\0\x21" + bytes(33), "invalid length of a type bitmap"), (b"\0\xff\1", "invalid length of a type bitmap"),
+        (b"\1\1\x40\0\0", "windows of types out of order"), (b"\0\x21", "invalid length of a type bitmap"),
+    )
+    for octets, why in bitmaps:
+        row("typed", 47, b"\1a\0" + octets, 0, 3 + len(octets), told="err " + why)
+    row("typed", 47, b"\1a\0" + b"".join(bytes([window, 32]) + bytes(31) + b"\1" for window in range(256)), 0, 3 + 256 * 34, told="TYPE65535")
     topic("data with strings, keys, digests and signatures: times")
     days = (58, 59, 60, 364, 365, 789, 790, 11016, 11017, 20789, 47540, 47541, 47542, 49709, 49710)
     for seconds in (*(day * 86400 + time for day in days for time in (0, 3599, 86399 if day < 49710 else 23295)), 2**31, 2**32 - 1):
@@ -518,7 +535,7 @@ def typed_rows():
     topic("data with strings, keys, digests and signatures: names with pointers, in capitals")
     before = header() + name("WWW.Example.com.")
     at = len(before)
-    for rtype, start, end in ((35, u16(1) + u16(2) + b"\1u\0\0", b""), (46, u16(6) + b"\5\3" + u32(1) * 3 + u16(7), b"sig")):
+    for rtype, start, end in ((35, u16(1) + u16(2) + b"\1u\0\0", b""), (46, u16(6) + b"\5\3" + u32(1) * 3 + u16(7), b"sig"), (47, b"", b"\0\1\x40")):
         for last in (pointer(12), pointer(16), b"\1A" + pointer(12), pointer(at), b"\xc0", b"\x41a", b"\0", name("Z.")):
             row("typed", rtype, before + start + last + end, at, len(start + last + end))
     topic("data with strings, keys, digests and signatures: drawn at random, and as long as it may be")
@@ -531,15 +548,17 @@ def typed_rows():
         for kind in second.TYPED[rtype].replace("D", "4"):
             if kind == "w":
                 octets += random_name(rng, [12, 16], len(octets))
+            elif kind == "m":
+                octets += random_bitmaps(rng)
             elif kind in "st":
                 size = rng.choice((0, 1, 2, 5, 20, 255))
                 octets += bytes([size]) + bytes(rng.randrange(256) if rng.random() < 0.1 else rng.randrange(97, 123) for _octet in range(size))
             else:
                 octets += bytes(rng.randrange(256) for _octet in range(sizes.get(kind) or rng.choice((0, 1, 2, 3, 20, 32, 64))))
-        if rng.random() < 0.3:
+        if rng.random() < 0.3 and rtype != 47:  # there are types of which second.py has no mnemonic
             octets = octets[:at] + mutated(rng, octets[at:])
         row("typed", rtype, octets, at, len(octets) - at)
-    for rtype, before in ((43, "01010102"), (44, "0101"), (48, "01010308"), (52, "010101"), (257, "000161")):
+    for rtype, before in ((47, "00"), (43, "01010102"), (44, "0101"), (48, "01010308"), (52, "010101"), (257, "000161")):
         row("typed", rtype, f"{before}+zeros:65536", 0, len(before) // 2 + 65536, told="err record data too long")
     for line in ("typed 13 00 0", "typed 65536 00 0 1", "typed 13 00 0 2", "typed x 00 0 1"):
         row(line, told="bad")
@@ -563,6 +582,25 @@ def rebuild_rows():
     for rtype, data in ((A, b"\1\2\3"), (A, b"\1\2\3\4\5"), (NS, AT + b"\0"), (CNAME, pointer(4000)), (TXT, b""),
                         (TXT, b"\2a"), (MX, u16(1)), (SOA, AT + AT + bytes(19)), (35, u16(1) + u16(2) + b"\2u")):
         row("rebuild", message([question(WWW)], [record(AT, rtype, data)]), told="err ")
+
+
+def random_bitmaps(rng):
+    """Blocks of bitmaps, mostly in order and of a length that is allowed; the types that have a mnemonic are of second.py."""
+    windows = sorted(rng.sample((0, 1, 4, 5, 77, 254, 255), rng.choice((1, 1, 2, 3))))
+    if rng.random() < 0.1:
+        rng.shuffle(windows)
+    octets = b""
+    for window in windows:
+        if window < 2:
+            bitmap = bytearray(32)
+            for number in rng.sample(tuple(second.MNEMONICS), 5):
+                if number // 256 == window:
+                    bitmap[number % 256 // 8] |= 128 >> number % 8
+            bitmap = bytes(bitmap[:rng.choice((1, 6, 7, 32))])
+        else:
+            bitmap = bytes(rng.choice((0, 1, 32, 128, 255, rng.randrange(256))) for _octet in range(rng.choice((1, 2, 31, 32))))
+        octets += bytes([window, rng.choice((0, 33, 255)) if rng.random() < 0.03 else len(bitmap)]) + bitmap
+    return octets[:rng.randrange(len(octets))] if rng.random() < 0.1 else octets
 
 
 def random_name(rng, places, at):

@@ -2,7 +2,7 @@
 
 use crate::data::{Read, read};
 use conformance_answer::Answer;
-use domain_data::{Caa, Dnskey, Ds, Hinfo, Naptr, Rrsig, Sshfp, Tlsa};
+use domain_data::{Caa, Dnskey, Ds, Hinfo, Naptr, Nsec, Rrsig, Sshfp, Tlsa};
 use domain_rdata::{ComposeRecordData, ParseRecordData, Rtype};
 use octseq::Parser;
 use std::fmt;
@@ -14,6 +14,7 @@ pub fn put_typed(out: &mut Answer, rtype: Rtype, parser: Parser<'_>) {
     put_shown::<Ds<&[u8]>>(out, rtype, parser);
     put_shown::<Sshfp<&[u8]>>(out, rtype, parser);
     put_shown::<Rrsig<&[u8], Read<'_>>>(out, rtype, parser);
+    put_shown::<Nsec<&[u8], Read<'_>>>(out, rtype, parser);
     put_shown::<Dnskey<&[u8]>>(out, rtype, parser);
     put_shown::<Tlsa<&[u8]>>(out, rtype, parser);
     put_shown::<Caa<&[u8]>>(out, rtype, parser);

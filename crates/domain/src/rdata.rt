@@ -3,8 +3,8 @@
 pub use domain_data::{
     A, Aaaa, Afsdb, AllRecordData, Base16Octets, Base64Octets, Caa, CharString, Cname, Dname,
     Dnskey, Ds, Hinfo, InvalidTag, Kx, LastOctets, LongCharString, Mb, Md, Mf, Mg, Minfo, Mr, Mx,
-    Naptr, Ns, Ptr, Px, QuotedOctets, Rp, Rrsig, Rt, Soa, Srv, Sshfp, Tag, Tlsa, Txt, TxtError,
-    TxtIter,
+    Naptr, Ns, Nsec, Ptr, Px, QuotedOctets, Rp, Rrsig, Rt, Soa, Srv, Sshfp, Tag, Tlsa, Txt,
+    TxtError, TxtIter, TypeBitmaps, TypeBitmapsError, TypesIter,
 };
 pub use domain_rdata::UnknownRecordData;
 

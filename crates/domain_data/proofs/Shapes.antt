@@ -12,8 +12,8 @@ pub no_data_of : (t : ℕ) (s : Shape) (m : List ℕ) (p : ℕ) (e : ParseError)
 no_data_of t s m p e is found = subst (λ s. NoShape s m p e) (sym is) (subst (λ w. NoShape s m p w) (sym found.2) found.1)
 
 -- a type that isn't known
-pub other_type : (r t : ℕ) → r ≡ t → (r ≡ 1 → ⊥) → (r ≡ 2 → ⊥) → (r ≡ 3 → ⊥) → (r ≡ 4 → ⊥) → (r ≡ 5 → ⊥) → (r ≡ 6 → ⊥) → (r ≡ 7 → ⊥) → (r ≡ 8 → ⊥) → (r ≡ 9 → ⊥) → (r ≡ 12 → ⊥) → (r ≡ 14 → ⊥) → (r ≡ 15 → ⊥) → (r ≡ 16 → ⊥) → (r ≡ 17 → ⊥) → (r ≡ 18 → ⊥) → (r ≡ 21 → ⊥) → (r ≡ 26 → ⊥) → (r ≡ 28 → ⊥) → (r ≡ 33 → ⊥) → (r ≡ 36 → ⊥) → (r ≡ 39 → ⊥) → shape_of t ≡ some_octets
-other_type r t same n1 n2 n3 n4 n5 n6 n7 n8 n9 n12 n14 n15 n16 n17 n18 n21 n26 n28 n33 n36 n39 =
+pub other_type : (r t : ℕ) → r ≡ t → (r ≡ 1 → ⊥) → (r ≡ 2 → ⊥) → (r ≡ 3 → ⊥) → (r ≡ 4 → ⊥) → (r ≡ 5 → ⊥) → (r ≡ 6 → ⊥) → (r ≡ 7 → ⊥) → (r ≡ 8 → ⊥) → (r ≡ 9 → ⊥) → (r ≡ 12 → ⊥) → (r ≡ 13 → ⊥) → (r ≡ 14 → ⊥) → (r ≡ 15 → ⊥) → (r ≡ 16 → ⊥) → (r ≡ 17 → ⊥) → (r ≡ 18 → ⊥) → (r ≡ 21 → ⊥) → (r ≡ 26 → ⊥) → (r ≡ 28 → ⊥) → (r ≡ 33 → ⊥) → (r ≡ 35 → ⊥) → (r ≡ 36 → ⊥) → (r ≡ 39 → ⊥) → (r ≡ 43 → ⊥) → (r ≡ 44 → ⊥) → (r ≡ 46 → ⊥) → (r ≡ 47 → ⊥) → (r ≡ 48 → ⊥) → (r ≡ 52 → ⊥) → (r ≡ 257 → ⊥) → shape_of t ≡ some_octets
+other_type r t same n1 n2 n3 n4 n5 n6 n7 n8 n9 n12 n13 n14 n15 n16 n17 n18 n21 n26 n28 n33 n35 n36 n39 n43 n44 n46 n47 n48 n52 n257 =
     let a1 : nat_eq t 1 ≡ false = ne_eqb t 1 (λ e. n1 (same ∙ e)) in
     let a2 : nat_eq t 2 ≡ false = ne_eqb t 2 (λ e. n2 (same ∙ e)) in
     let a3 : nat_eq t 3 ≡ false = ne_eqb t 3 (λ e. n3 (same ∙ e)) in
@@ -24,6 +24,7 @@ other_type r t same n1 n2 n3 n4 n5 n6 n7 n8 n9 n12 n14 n15 n16 n17 n18 n21 n26 n
     let a8 : nat_eq t 8 ≡ false = ne_eqb t 8 (λ e. n8 (same ∙ e)) in
     let a9 : nat_eq t 9 ≡ false = ne_eqb t 9 (λ e. n9 (same ∙ e)) in
     let a12 : nat_eq t 12 ≡ false = ne_eqb t 12 (λ e. n12 (same ∙ e)) in
+    let a13 : nat_eq t 13 ≡ false = ne_eqb t 13 (λ e. n13 (same ∙ e)) in
     let a14 : nat_eq t 14 ≡ false = ne_eqb t 14 (λ e. n14 (same ∙ e)) in
     let a15 : nat_eq t 15 ≡ false = ne_eqb t 15 (λ e. n15 (same ∙ e)) in
     let a16 : nat_eq t 16 ≡ false = ne_eqb t 16 (λ e. n16 (same ∙ e)) in
@@ -33,6 +34,14 @@ other_type r t same n1 n2 n3 n4 n5 n6 n7 n8 n9 n12 n14 n15 n16 n17 n18 n21 n26 n
     let a26 : nat_eq t 26 ≡ false = ne_eqb t 26 (λ e. n26 (same ∙ e)) in
     let a28 : nat_eq t 28 ≡ false = ne_eqb t 28 (λ e. n28 (same ∙ e)) in
     let a33 : nat_eq t 33 ≡ false = ne_eqb t 33 (λ e. n33 (same ∙ e)) in
+    let a35 : nat_eq t 35 ≡ false = ne_eqb t 35 (λ e. n35 (same ∙ e)) in
     let a36 : nat_eq t 36 ≡ false = ne_eqb t 36 (λ e. n36 (same ∙ e)) in
     let a39 : nat_eq t 39 ≡ false = ne_eqb t 39 (λ e. n39 (same ∙ e)) in
-    rw (a1, a2, a3, a4, a5, a6, a7, a8, a9, a12, a14, a15, a16, a17, a18, a21, a26, a28, a33, a36, a39) refl
+    let a43 : nat_eq t 43 ≡ false = ne_eqb t 43 (λ e. n43 (same ∙ e)) in
+    let a44 : nat_eq t 44 ≡ false = ne_eqb t 44 (λ e. n44 (same ∙ e)) in
+    let a46 : nat_eq t 46 ≡ false = ne_eqb t 46 (λ e. n46 (same ∙ e)) in
+    let a47 : nat_eq t 47 ≡ false = ne_eqb t 47 (λ e. n47 (same ∙ e)) in
+    let a48 : nat_eq t 48 ≡ false = ne_eqb t 48 (λ e. n48 (same ∙ e)) in
+    let a52 : nat_eq t 52 ≡ false = ne_eqb t 52 (λ e. n52 (same ∙ e)) in
+    let a257 : nat_eq t 257 ≡ false = ne_eqb t 257 (λ e. n257 (same ∙ e)) in
+    rw (a1, a2, a3, a4, a5, a6, a7, a8, a9, a12, a13, a14, a15, a16, a17, a18, a21, a26, a28, a33, a35, a36, a39, a43, a44, a46, a47, a48, a52, a257) refl

@@ -18,7 +18,15 @@ use Rattle.domain_data.specs.Data.{AllAt, NotAll}
 use Rattle.domain_data.specs.Names.{NameFieldAt, NoNameField}
 use Rattle.domain_data.specs.Sequences.{BothAt, NotBoth}
 use Rattle.domain_data.specs.Shapes.{name_data, names_data, number_name_data, number_names_data, numbers_name_data, names_numbers_data, ipv4_data, ipv6_data}
-use Rattle.domain_data.specs.Quoted.{quoted_strings}
+use Rattle.base64.specs.Engines.{standard}
+use Rattle.base64.specs.GeneralPurpose.{encode_of}
+use Rattle.domain_header.specs.Rtypes.{rtype_text}
+use Rattle.domain_strings.specs.Base16.{base16_text}
+use Rattle.domain_data.specs.OctetShapes.{StringsAt, NoStrings, strings_data, RuleAt, NoRule, rule_data, KeyAt, NoKey, key_data, FingerprintAt, NoFingerprint, fingerprint_data, SignatureAt, NoSignature, signature_data, DenialAt, NoDenial, denial_data, AssociationAt, NoAssociation, association_data, PropertyAt, NoProperty, property_data}
+use Rattle.domain_data.specs.Quoted.{quoted, quoted_strings}
+use Rattle.domain_data.specs.Times.{time_text}
+use Rattle.domain_data.specs.TypeBitmaps.{blocks_types}
+use Rattle.domain_data.specs.TypesText.{types_text}
 use Rattle.domain_data.specs.TxtReading.{TextAt, NoText}
 use Rattle.domain_data.specs.TxtReadingLaws.{text_reading}
 
@@ -33,6 +41,15 @@ pub data AllFields : Type 0 where
   numbers_name : ℕ × (ℕ × (ℕ × (List (List ℕ)))) → AllFields
   names_numbers : (List (List ℕ)) × ((List (List ℕ)) × (ℕ × (ℕ × (ℕ × (ℕ × ℕ))))) → AllFields
   strings : List (List ℕ) → AllFields
+  two_strings : List ℕ × List ℕ → AllFields
+  rule : ℕ × (ℕ × (List ℕ × (List ℕ × (List ℕ × List (List ℕ))))) → AllFields
+  digest : ℕ × (ℕ × (ℕ × List ℕ)) → AllFields
+  fingerprint : ℕ × (ℕ × List ℕ) → AllFields
+  signature : ℕ × (ℕ × (ℕ × (ℕ × (ℕ × (ℕ × (ℕ × (List (List ℕ) × List ℕ))))))) → AllFields
+  denial : List (List ℕ) × List (ℕ × List ℕ) → AllFields
+  key : ℕ × (ℕ × (ℕ × List ℕ)) → AllFields
+  association : ℕ × (ℕ × (ℕ × List ℕ)) → AllFields
+  property : ℕ × (List ℕ × List ℕ) → AllFields
   octets : List ℕ → AllFields
 
 -- which fields the data of a type has
@@ -46,9 +63,18 @@ pub data Shape : Type 0 where
   some_numbers_name : Shape
   some_names_numbers : Shape
   some_strings : Shape
+  a_host : Shape
+  a_rule : Shape
+  a_digest : Shape
+  a_fingerprint : Shape
+  a_signature : Shape
+  a_denial : Shape
+  a_key : Shape
+  an_association : Shape
+  a_property : Shape
   some_octets : Shape
 
--- A; NS, CNAME, PTR, DNAME, MD, MF, MB, MG and MR; SOA; MINFO and RP; MX, AFSDB, RT and KX; PX; TXT; AAAA; SRV; and all other types
+-- the shape of the data of each type that is known, and octets for all others
 abbrev pub shape_of : ℕ → Shape
 shape_of t =
     cond (nat_eq t 1) an_ipv4
@@ -61,6 +87,7 @@ shape_of t =
     (cond (nat_eq t 8) a_name
     (cond (nat_eq t 9) a_name
     (cond (nat_eq t 12) a_name
+    (cond (nat_eq t 13) a_host
     (cond (nat_eq t 14) two_names
     (cond (nat_eq t 15) a_number_name
     (cond (nat_eq t 16) some_strings
@@ -70,8 +97,16 @@ shape_of t =
     (cond (nat_eq t 26) a_number_names
     (cond (nat_eq t 28) an_ipv6
     (cond (nat_eq t 33) some_numbers_name
+    (cond (nat_eq t 35) a_rule
     (cond (nat_eq t 36) a_number_name
-    (cond (nat_eq t 39) a_name some_octets))))))))))))))))))))
+    (cond (nat_eq t 39) a_name
+    (cond (nat_eq t 43) a_digest
+    (cond (nat_eq t 44) a_fingerprint
+    (cond (nat_eq t 46) a_signature
+    (cond (nat_eq t 47) a_denial
+    (cond (nat_eq t 48) a_key
+    (cond (nat_eq t 52) an_association
+    (cond (nat_eq t 257) a_property some_octets)))))))))))))))))))))))))))))
 
 -- Fields are at offset p and end before e, and this is what the data says.
 pub record Says {A : Type 0} (says : A → AllFields) (At : List ℕ → ℕ → A → ℕ → Type 0) (m : List ℕ) (p : ℕ) (it : AllFields) (e : ℕ) : Type 0 where
@@ -90,6 +125,15 @@ ShapeAt a_number_names = Says number_names (AllAt (BothAt (FixedAt 2 (from_be_by
 ShapeAt some_numbers_name = Says numbers_name (AllAt (BothAt (FixedAt 2 (from_be_bytes w16)) (BothAt (FixedAt 2 (from_be_bytes w16)) (BothAt (FixedAt 2 (from_be_bytes w16)) NameFieldAt))))
 ShapeAt some_names_numbers = Says names_numbers (AllAt (BothAt NameFieldAt (BothAt NameFieldAt (BothAt (FixedAt 4 (from_be_bytes w32)) (BothAt (FixedAt 4 (from_be_bytes w32)) (BothAt (FixedAt 4 (from_be_bytes w32)) (BothAt (FixedAt 4 (from_be_bytes w32)) (FixedAt 4 (from_be_bytes w32)))))))))
 ShapeAt some_strings = Says strings TextAt
+ShapeAt a_host = Says two_strings (AllAt StringsAt)
+ShapeAt a_rule = Says rule (AllAt RuleAt)
+ShapeAt a_digest = Says digest (AllAt KeyAt)
+ShapeAt a_fingerprint = Says fingerprint (AllAt FingerprintAt)
+ShapeAt a_signature = Says signature (AllAt SignatureAt)
+ShapeAt a_denial = Says denial (AllAt DenialAt)
+ShapeAt a_key = Says key (AllAt KeyAt)
+ShapeAt an_association = Says association (AllAt AssociationAt)
+ShapeAt a_property = Says property (AllAt PropertyAt)
 ShapeAt some_octets = Says octets IsAllThatIsLeft
 
 -- No data of this shape is at offset p, and why.
@@ -103,6 +147,15 @@ NoShape a_number_names = NotAll refusal (BothAt (FixedAt 2 (from_be_bytes w16)) 
 NoShape some_numbers_name = NotAll refusal (BothAt (FixedAt 2 (from_be_bytes w16)) (BothAt (FixedAt 2 (from_be_bytes w16)) (BothAt (FixedAt 2 (from_be_bytes w16)) NameFieldAt))) (NotBoth (FixedAt 2 (from_be_bytes w16)) (ShortAt 2) (NotBoth (FixedAt 2 (from_be_bytes w16)) (ShortAt 2) (NotBoth (FixedAt 2 (from_be_bytes w16)) (ShortAt 2) NoNameField)))
 NoShape some_names_numbers = NotAll refusal (BothAt NameFieldAt (BothAt NameFieldAt (BothAt (FixedAt 4 (from_be_bytes w32)) (BothAt (FixedAt 4 (from_be_bytes w32)) (BothAt (FixedAt 4 (from_be_bytes w32)) (BothAt (FixedAt 4 (from_be_bytes w32)) (FixedAt 4 (from_be_bytes w32)))))))) (NotBoth NameFieldAt NoNameField (NotBoth NameFieldAt NoNameField (NotBoth (FixedAt 4 (from_be_bytes w32)) (ShortAt 4) (NotBoth (FixedAt 4 (from_be_bytes w32)) (ShortAt 4) (NotBoth (FixedAt 4 (from_be_bytes w32)) (ShortAt 4) (NotBoth (FixedAt 4 (from_be_bytes w32)) (ShortAt 4) (ShortAt 4)))))))
 NoShape some_strings = NoText
+NoShape a_host = NotAll refusal StringsAt NoStrings
+NoShape a_rule = NotAll refusal RuleAt NoRule
+NoShape a_digest = NotAll refusal KeyAt NoKey
+NoShape a_fingerprint = NotAll refusal FingerprintAt NoFingerprint
+NoShape a_signature = NotAll refusal SignatureAt NoSignature
+NoShape a_denial = NotAll refusal DenialAt NoDenial
+NoShape a_key = NotAll refusal KeyAt NoKey
+NoShape an_association = NotAll refusal AssociationAt NoAssociation
+NoShape a_property = NotAll refusal PropertyAt NoProperty
 NoShape some_octets = TooMuchIsLeft
 
 -- Data of a record of the type t is at offset p, all that is left, and ends before e.
@@ -131,6 +184,15 @@ shape_reading a_number_names = said_reading number_names_data
 shape_reading some_numbers_name = said_reading numbers_name_data
 shape_reading some_names_numbers = said_reading names_numbers_data
 shape_reading some_strings = said_reading text_reading
+shape_reading a_host = said_reading strings_data
+shape_reading a_rule = said_reading rule_data
+shape_reading a_digest = said_reading key_data
+shape_reading a_fingerprint = said_reading fingerprint_data
+shape_reading a_signature = said_reading signature_data
+shape_reading a_denial = said_reading denial_data
+shape_reading a_key = said_reading key_data
+shape_reading an_association = said_reading association_data
+shape_reading a_property = said_reading property_data
 shape_reading some_octets = said_reading all_that_is_left
 
 -- At each offset is one value or one error, never both.
@@ -148,4 +210,13 @@ fields_text (number_names it) = decimal it.0 ++ (32 ∷ (text_with_final_dot it.
 fields_text (numbers_name it) = decimal it.0 ++ (32 ∷ (decimal it.1.0 ++ (32 ∷ (decimal it.1.1.0 ++ (32 ∷ text_with_final_dot it.1.1.1)))))
 fields_text (names_numbers it) = text_with_final_dot it.0 ++ (32 ∷ (text_with_final_dot it.1.0 ++ (32 ∷ (decimal it.1.1.0 ++ (32 ∷ (decimal it.1.1.1.0 ++ (32 ∷ (decimal it.1.1.1.1.0 ++ (32 ∷ (decimal it.1.1.1.1.1.0 ++ (32 ∷ decimal it.1.1.1.1.1.1)))))))))))
 fields_text (strings ss) = quoted_strings ss
+fields_text (two_strings it) = quoted it.0 ++ (32 ∷ (quoted it.1))
+fields_text (rule it) = decimal it.0 ++ (32 ∷ (decimal it.1.0 ++ (32 ∷ (quoted it.1.1.0 ++ (32 ∷ (quoted it.1.1.1.0 ++ (32 ∷ (quoted it.1.1.1.1.0 ++ (32 ∷ (text_with_final_dot it.1.1.1.1.1))))))))))
+fields_text (digest it) = decimal it.0 ++ (32 ∷ (decimal it.1.0 ++ (32 ∷ (decimal it.1.1.0 ++ (32 ∷ (base16_text it.1.1.1))))))
+fields_text (fingerprint it) = decimal it.0 ++ (32 ∷ (decimal it.1.0 ++ (32 ∷ (base16_text it.1.1))))
+fields_text (signature it) = rtype_text it.0 ++ (32 ∷ (decimal it.1.0 ++ (32 ∷ (decimal it.1.1.0 ++ (32 ∷ (decimal it.1.1.1.0 ++ (32 ∷ (time_text it.1.1.1.1.0 ++ (32 ∷ (time_text it.1.1.1.1.1.0 ++ (32 ∷ (decimal it.1.1.1.1.1.1.0 ++ (32 ∷ (text_with_final_dot it.1.1.1.1.1.1.1.0 ++ (32 ∷ (encode_of standard it.1.1.1.1.1.1.1.1))))))))))))))))
+fields_text (denial it) = text_with_final_dot it.0 ++ (32 ∷ (types_text (blocks_types it.1)))
+fields_text (key it) = decimal it.0 ++ (32 ∷ (decimal it.1.0 ++ (32 ∷ (decimal it.1.1.0 ++ (32 ∷ (encode_of standard it.1.1.1))))))
+fields_text (association it) = decimal it.0 ++ (32 ∷ (decimal it.1.0 ++ (32 ∷ (decimal it.1.1.0 ++ (32 ∷ (base16_text it.1.1.1))))))
+fields_text (property it) = decimal it.0 ++ (32 ∷ (it.1.0 ++ (32 ∷ (quoted it.1.1))))
 fields_text (octets os) = unknown_text os

@@ -19,3 +19,10 @@ pub mod AllData
 pub mod AllTypes
 pub mod Flat
 pub mod HostFields
+pub mod Bits
+pub mod TypeBitmaps
+pub mod BlockLaws
+pub mod TypeViews
+pub mod BitmapViews
+pub mod TypesText
+pub mod BitmapReading

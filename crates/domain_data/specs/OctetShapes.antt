@@ -15,6 +15,7 @@ use Rattle.domain_strings.specs.CharStrings.{CharStringAt, NoCharString}
 use Rattle.domain_strings.specs.CharStringLaws.{char_string_reading}
 use Rattle.domain_strings.specs.TagLaws.{tag_reading}
 use Rattle.domain_strings.specs.Tags.{TagAt, NoTag}
+use Rattle.domain_data.specs.BitmapReading.{BitmapsAt, NoBitmaps, bitmaps_reading}
 use Rattle.domain_data.specs.Shapes.{Number16At, Number32At, all_data, number16, one_more, name_before}
 
 -- a number of 8 bits
@@ -101,6 +102,14 @@ SignatureAt = BothAt Number16At (BothAt Number8At (BothAt Number8At TimesAt))
 abbrev pub NoSignature : List ℕ → ℕ → ParseError → Type 0
 NoSignature = NotBoth Number16At (ShortAt 2) (NotBoth Number8At (ShortAt 1) (NotBoth Number8At (ShortAt 1) NoTimes))
 
+-- a name and bitmaps of types: NSEC
+abbrev pub DenialAt : List ℕ → ℕ → List (List ℕ) × List (ℕ × List ℕ) → ℕ → Type 0
+DenialAt = BothAt NameFieldAt BitmapsAt
+
+-- the first of these that isn't there
+abbrev pub NoDenial : List ℕ → ℕ → ParseError → Type 0
+NoDenial = NotBoth NameFieldAt NoNameField NoBitmaps
+
 string : IsReadingOf refusal CharStringAt NoCharString
 string = any_reading char_string_reading
 
@@ -159,3 +168,6 @@ signature_data =
     all_data SignatureAt NoSignature
     (number16_before (BothAt Number8At (BothAt Number8At TimesAt)) (NotBoth Number8At (ShortAt 1) (NotBoth Number8At (ShortAt 1) NoTimes))
     (number8_before (BothAt Number8At TimesAt) (NotBoth Number8At (ShortAt 1) NoTimes) (number8_before TimesAt NoTimes times)))
+
+pub denial_data : IsReading (AllAt DenialAt) (NotAll refusal DenialAt NoDenial)
+denial_data = all_data DenialAt NoDenial (name_before BitmapsAt NoBitmaps (any_reading bitmaps_reading))

@@ -1,40 +1,35 @@
 -- Times as text: year, month, day, hour, minute and second (RFC 4034, 3.2).
-use Rattle.std.specs.Prelude.{ℕ, zero, suc, ◌+◌, ◌-◌, ◌/◌, ◌%◌, Bool, not, nat_eq, nat_lt, ◌&&◌, ◌||◌, if◌then◌else◌, List, [], ◌∷◌, ◌++◌}
+use Rattle.std.specs.Prelude.{ℕ, ◌+◌, ◌-◌, ◌/◌, ◌%◌, Bool, pos, int_le, List, ◌++◌, unsigned_abs, ◌-ℤ◌}
+use Rattle.std.specs.List.{range_with_len, count_by}
+use Rattle.jiff_core.specs.Calendar.{days_from_civil}
+use Rattle.jiff_fmt.specs.Text.{padded}
 
--- leap years of the Gregorian calendar
-abbrev pub is_leap : ℕ → Bool
-is_leap y = nat_eq (y % 4) 0 && (not (nat_eq (y % 100) 0) || nat_eq (y % 400) 0)
+-- The day that is n days after 1 January 1970 isn't before the first one of this month.
+abbrev pub has_come : ℕ → ℕ → ℕ → Bool
+has_come n year month = int_le (days_from_civil (pos year) month 1) (pos n)
 
--- how many days a year has, and a month from 1 on
-abbrev pub year_days : ℕ → ℕ
-year_days y = if is_leap y then 366 else 365
+-- the year of that day: the last one from 1970 to 2106 that has come
+abbrev pub year_of : ℕ → ℕ
+year_of n = 1969 + count_by (λ year. has_come n year 1) (range_with_len 1970 137)
 
-abbrev pub month_days : ℕ → ℕ → ℕ
-month_days y m = if nat_eq m 2 then (if is_leap y then 29 else 28) else (if nat_eq m 4 || nat_eq m 6 || nat_eq m 9 || nat_eq m 11 then 30 else 31)
+-- its month: the last one of that year that has come
+abbrev pub month_of : ℕ → ℕ
+month_of n = count_by (has_come n (year_of n)) (range_with_len 1 12)
 
--- The year of the day n days after the first one of y, and how many days of it come before: k years at most are counted
--- off.
-abbrev pub year_from : ℕ → ℕ → ℕ → ℕ × ℕ
-year_from zero y n = (y, n)
-year_from (suc k) y n = if nat_lt n (year_days y) then (y, n) else year_from k (y + 1) (n - year_days y)
+-- its day of the month, from 1
+abbrev pub day_of : ℕ → ℕ
+day_of n = unsigned_abs (pos (n + 1) -ℤ days_from_civil (pos (year_of n)) (month_of n) 1)
 
--- The same of the months of the year y, from m on.
-abbrev pub month_from : ℕ → ℕ → ℕ → ℕ → ℕ × ℕ
-month_from y zero m n = (m, n)
-month_from y (suc k) m n = if nat_lt n (month_days y m) then (m, n) else month_from y k (m + 1) (n - month_days y m)
+-- a date as YYYYMMDD
+abbrev pub date_text : ℕ → ℕ → ℕ → List ℕ
+date_text year month day = padded year 4 ++ (padded month 2 ++ padded day 2)
 
--- the last two decimal digits of a number
-abbrev pub two_digits : ℕ → List ℕ
-two_digits n = (48 + n / 10 % 10) ∷ (48 + n % 10) ∷ []
+-- a time of day as HHmmSS, so many seconds after midnight
+abbrev pub clock_text : ℕ → List ℕ
+clock_text n = padded (n / 3600) 2 ++ (padded (n / 60 % 60) 2 ++ padded (n % 60) 2)
 
--- the day that is n days after the first of January 1970, which is before 2107: four digits of the year, two of the
--- month and of the day
-abbrev pub date_text : ℕ → List ℕ
-date_text n =
-    let year = year_from 137 1970 n in
-    let month = month_from year.0 12 1 year.1 in
-    two_digits (year.0 / 100) ++ (two_digits year.0 ++ (two_digits month.0 ++ two_digits (month.1 + 1)))
-
--- the time that is n seconds after 1970 began
+-- the time that is n seconds after 1970 began, before 2107
 abbrev pub time_text : ℕ → List ℕ
-time_text n = date_text (n / 86400) ++ (two_digits (n / 3600 % 24) ++ (two_digits (n / 60 % 60) ++ two_digits (n % 60)))
+time_text n =
+    let day = n / 86400 in
+    date_text (year_of day) (month_of day) (day_of day) ++ clock_text (n % 86400)

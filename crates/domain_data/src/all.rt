@@ -6,9 +6,13 @@ ghost use Rattle.domain_wire.specs.declared.error.ParseError.{ParseError};
 ghost use Rattle.domain_data.specs.AllData.{AllFields, AllDataAt, NoAllData, all_data_reading, fields_text};
 
 use crate::address::{A, Aaaa};
+use crate::denial::Nsec;
 use crate::host::{Cname, Dname, Mx, Ns, Ptr, Soa, Srv};
+use crate::host_text::{Hinfo, Naptr};
+use crate::keys::{Caa, Dnskey, Ds, Sshfp, Tlsa};
 use crate::later::{Afsdb, Kx, Px, Rp, Rt};
 use crate::mail::{Mb, Md, Mf, Mg, Minfo, Mr};
+use crate::signature::Rrsig;
 use crate::txt::Txt;
 use domain_parsed::ParsedName;
 use domain_rdata::{
@@ -62,6 +66,24 @@ pub enum AllRecordData<Octs: Octets, N> {
     Px(Px<N>),
     /// A host that exchanges keys.
     Kx(Kx<N>),
+    /// The processor and the system of the owner.
+    Hinfo(Hinfo<Octs>),
+    /// A rule that makes a name or a URI.
+    Naptr(Naptr<Octs, N>),
+    /// The digest of a key of the zone that begins at the owner.
+    Ds(Ds<Octs>),
+    /// The fingerprint of a key of an SSH server.
+    Sshfp(Sshfp<Octs>),
+    /// The signature of the records of a type.
+    Rrsig(Rrsig<Octs, N>),
+    /// The next name, and the types of the owner.
+    Nsec(Nsec<Octs, N>),
+    /// A key of the zone.
+    Dnskey(Dnskey<Octs>),
+    /// What the certificate of a TLS server is matched with.
+    Tlsa(Tlsa<Octs>),
+    /// A property of who may issue certificates.
+    Caa(Caa<Octs>),
     /// Text.
     Txt(Txt<Octs>),
     /// Data of another type.
@@ -108,6 +130,15 @@ impl<Octs: Octets, N> RecordData for AllRecordData<Octs, N> {
             AllRecordData::Rt(_) => Rtype::from_int(21),
             AllRecordData::Px(_) => Rtype::from_int(26),
             AllRecordData::Kx(_) => Rtype::from_int(36),
+            AllRecordData::Hinfo(_) => Rtype::from_int(13),
+            AllRecordData::Naptr(_) => Rtype::from_int(35),
+            AllRecordData::Ds(_) => Rtype::from_int(43),
+            AllRecordData::Sshfp(_) => Rtype::from_int(44),
+            AllRecordData::Rrsig(_) => Rtype::from_int(46),
+            AllRecordData::Nsec(_) => Rtype::from_int(47),
+            AllRecordData::Dnskey(_) => Rtype::from_int(48),
+            AllRecordData::Tlsa(_) => Rtype::from_int(52),
+            AllRecordData::Caa(_) => Rtype::from_int(257),
             AllRecordData::Txt(_) => Rtype::from_int(16),
             AllRecordData::Unknown(it) => it.rtype(),
         }
@@ -119,7 +150,7 @@ impl<'a> ComposeRecordData for AllRecordData<&'a [u8], ParsedName<&'a [u8]>> {
     ghost use Rattle.domain_parsed.proofs.ParsedFields.{parsed_absolute};
     ghost use Rattle.domain_data.specs.Views.{fields_of};
     ghost use Rattle.domain_data.specs.Flat.{plain_octets, plain_name, plain_both, flat_octets, flat_name, flat_both};
-    ghost use Rattle.domain_data.specs.declared.all.AllRecordData.TheVariants.{A, Aaaa, Ns, Cname, Ptr, Dname, Mx, Soa, Srv, Mb, Md, Mf, Mg, Mr, Minfo, Rp, Afsdb, Rt, Px, Kx, Txt, Unknown};
+    ghost use Rattle.domain_data.specs.declared.all.AllRecordData.TheVariants.{A, Aaaa, Ns, Cname, Ptr, Dname, Mx, Soa, Srv, Mb, Md, Mf, Mg, Mr, Minfo, Rp, Afsdb, Rt, Px, Kx, Hinfo, Naptr, Ds, Sshfp, Rrsig, Nsec, Dnskey, Tlsa, Caa, Txt, Unknown};
 
     ghost composed = { elim [
       | A it ↦ ⟦<A as ComposeRecordData>⟧.composed it
@@ -142,6 +173,15 @@ impl<'a> ComposeRecordData for AllRecordData<&'a [u8], ParsedName<&'a [u8]>> {
       | Rt it ↦ ⟦<Rt<ParsedName<&'a [u8]>> as ComposeRecordData>⟧.composed it
       | Px it ↦ ⟦<Px<ParsedName<&'a [u8]>> as ComposeRecordData>⟧.composed it
       | Kx it ↦ ⟦<Kx<ParsedName<&'a [u8]>> as ComposeRecordData>⟧.composed it
+      | Hinfo it ↦ ⟦<Hinfo<&'a [u8]> as ComposeRecordData>⟧.composed it
+      | Naptr it ↦ ⟦<Naptr<&'a [u8], ParsedName<&'a [u8]>> as ComposeRecordData>⟧.composed it
+      | Ds it ↦ ⟦<Ds<&'a [u8]> as ComposeRecordData>⟧.composed it
+      | Sshfp it ↦ ⟦<Sshfp<&'a [u8]> as ComposeRecordData>⟧.composed it
+      | Rrsig it ↦ ⟦<Rrsig<&'a [u8], ParsedName<&'a [u8]>> as ComposeRecordData>⟧.composed it
+      | Nsec it ↦ ⟦<Nsec<&'a [u8], ParsedName<&'a [u8]>> as ComposeRecordData>⟧.composed it
+      | Dnskey it ↦ ⟦<Dnskey<&'a [u8]> as ComposeRecordData>⟧.composed it
+      | Tlsa it ↦ ⟦<Tlsa<&'a [u8]> as ComposeRecordData>⟧.composed it
+      | Caa it ↦ ⟦<Caa<&'a [u8]> as ComposeRecordData>⟧.composed it
       | Txt it ↦ ⟦<Txt<&'a [u8]> as ComposeRecordData>⟧.composed it
       | Unknown it ↦ ⟦<UnknownRecordData<&'a [u8]> as ComposeRecordData>⟧.composed it
     ] };
@@ -167,6 +207,15 @@ impl<'a> ComposeRecordData for AllRecordData<&'a [u8], ParsedName<&'a [u8]>> {
       | Rt it ↦ ⟦<Rt<ParsedName<&'a [u8]>> as ComposeRecordData>⟧.written it
       | Px it ↦ ⟦<Px<ParsedName<&'a [u8]>> as ComposeRecordData>⟧.written it
       | Kx it ↦ ⟦<Kx<ParsedName<&'a [u8]>> as ComposeRecordData>⟧.written it
+      | Hinfo it ↦ ⟦<Hinfo<&'a [u8]> as ComposeRecordData>⟧.written it
+      | Naptr it ↦ ⟦<Naptr<&'a [u8], ParsedName<&'a [u8]>> as ComposeRecordData>⟧.written it
+      | Ds it ↦ ⟦<Ds<&'a [u8]> as ComposeRecordData>⟧.written it
+      | Sshfp it ↦ ⟦<Sshfp<&'a [u8]> as ComposeRecordData>⟧.written it
+      | Rrsig it ↦ ⟦<Rrsig<&'a [u8], ParsedName<&'a [u8]>> as ComposeRecordData>⟧.written it
+      | Nsec it ↦ ⟦<Nsec<&'a [u8], ParsedName<&'a [u8]>> as ComposeRecordData>⟧.written it
+      | Dnskey it ↦ ⟦<Dnskey<&'a [u8]> as ComposeRecordData>⟧.written it
+      | Tlsa it ↦ ⟦<Tlsa<&'a [u8]> as ComposeRecordData>⟧.written it
+      | Caa it ↦ ⟦<Caa<&'a [u8]> as ComposeRecordData>⟧.written it
       | Txt it ↦ ⟦<Txt<&'a [u8]> as ComposeRecordData>⟧.written it
       | Unknown it ↦ ⟦<UnknownRecordData<&'a [u8]> as ComposeRecordData>⟧.written it
     ] };
@@ -192,6 +241,15 @@ impl<'a> ComposeRecordData for AllRecordData<&'a [u8], ParsedName<&'a [u8]>> {
       | Rt it ↦ ⟦<Rt<ParsedName<&'a [u8]>> as ComposeRecordData>⟧.uncompressed it
       | Px it ↦ ⟦<Px<ParsedName<&'a [u8]>> as ComposeRecordData>⟧.uncompressed it
       | Kx it ↦ ⟦<Kx<ParsedName<&'a [u8]>> as ComposeRecordData>⟧.uncompressed it
+      | Hinfo it ↦ ⟦<Hinfo<&'a [u8]> as ComposeRecordData>⟧.uncompressed it
+      | Naptr it ↦ ⟦<Naptr<&'a [u8], ParsedName<&'a [u8]>> as ComposeRecordData>⟧.uncompressed it
+      | Ds it ↦ ⟦<Ds<&'a [u8]> as ComposeRecordData>⟧.uncompressed it
+      | Sshfp it ↦ ⟦<Sshfp<&'a [u8]> as ComposeRecordData>⟧.uncompressed it
+      | Rrsig it ↦ ⟦<Rrsig<&'a [u8], ParsedName<&'a [u8]>> as ComposeRecordData>⟧.uncompressed it
+      | Nsec it ↦ ⟦<Nsec<&'a [u8], ParsedName<&'a [u8]>> as ComposeRecordData>⟧.uncompressed it
+      | Dnskey it ↦ ⟦<Dnskey<&'a [u8]> as ComposeRecordData>⟧.uncompressed it
+      | Tlsa it ↦ ⟦<Tlsa<&'a [u8]> as ComposeRecordData>⟧.uncompressed it
+      | Caa it ↦ ⟦<Caa<&'a [u8]> as ComposeRecordData>⟧.uncompressed it
       | Txt it ↦ ⟦<Txt<&'a [u8]> as ComposeRecordData>⟧.uncompressed it
       | Unknown it ↦ ⟦<UnknownRecordData<&'a [u8]> as ComposeRecordData>⟧.uncompressed it
     ] };
@@ -217,6 +275,15 @@ impl<'a> ComposeRecordData for AllRecordData<&'a [u8], ParsedName<&'a [u8]>> {
       | Rt it ↦ ⟦<Rt<ParsedName<&'a [u8]>> as ComposeRecordData>⟧.lowercase it
       | Px it ↦ ⟦<Px<ParsedName<&'a [u8]>> as ComposeRecordData>⟧.lowercase it
       | Kx it ↦ ⟦<Kx<ParsedName<&'a [u8]>> as ComposeRecordData>⟧.lowercase it
+      | Hinfo it ↦ ⟦<Hinfo<&'a [u8]> as ComposeRecordData>⟧.lowercase it
+      | Naptr it ↦ ⟦<Naptr<&'a [u8], ParsedName<&'a [u8]>> as ComposeRecordData>⟧.lowercase it
+      | Ds it ↦ ⟦<Ds<&'a [u8]> as ComposeRecordData>⟧.lowercase it
+      | Sshfp it ↦ ⟦<Sshfp<&'a [u8]> as ComposeRecordData>⟧.lowercase it
+      | Rrsig it ↦ ⟦<Rrsig<&'a [u8], ParsedName<&'a [u8]>> as ComposeRecordData>⟧.lowercase it
+      | Nsec it ↦ ⟦<Nsec<&'a [u8], ParsedName<&'a [u8]>> as ComposeRecordData>⟧.lowercase it
+      | Dnskey it ↦ ⟦<Dnskey<&'a [u8]> as ComposeRecordData>⟧.lowercase it
+      | Tlsa it ↦ ⟦<Tlsa<&'a [u8]> as ComposeRecordData>⟧.lowercase it
+      | Caa it ↦ ⟦<Caa<&'a [u8]> as ComposeRecordData>⟧.lowercase it
       | Txt it ↦ ⟦<Txt<&'a [u8]> as ComposeRecordData>⟧.lowercase it
       | Unknown it ↦ ⟦<UnknownRecordData<&'a [u8]> as ComposeRecordData>⟧.lowercase it
     ] };
@@ -242,6 +309,15 @@ impl<'a> ComposeRecordData for AllRecordData<&'a [u8], ParsedName<&'a [u8]>> {
       | Rt it ↦ ⟦<Rt<ParsedName<&'a [u8]>> as ComposeRecordData>⟧.knows_len it
       | Px it ↦ ⟦<Px<ParsedName<&'a [u8]>> as ComposeRecordData>⟧.knows_len it
       | Kx it ↦ ⟦<Kx<ParsedName<&'a [u8]>> as ComposeRecordData>⟧.knows_len it
+      | Hinfo it ↦ ⟦<Hinfo<&'a [u8]> as ComposeRecordData>⟧.knows_len it
+      | Naptr it ↦ ⟦<Naptr<&'a [u8], ParsedName<&'a [u8]>> as ComposeRecordData>⟧.knows_len it
+      | Ds it ↦ ⟦<Ds<&'a [u8]> as ComposeRecordData>⟧.knows_len it
+      | Sshfp it ↦ ⟦<Sshfp<&'a [u8]> as ComposeRecordData>⟧.knows_len it
+      | Rrsig it ↦ ⟦<Rrsig<&'a [u8], ParsedName<&'a [u8]>> as ComposeRecordData>⟧.knows_len it
+      | Nsec it ↦ ⟦<Nsec<&'a [u8], ParsedName<&'a [u8]>> as ComposeRecordData>⟧.knows_len it
+      | Dnskey it ↦ ⟦<Dnskey<&'a [u8]> as ComposeRecordData>⟧.knows_len it
+      | Tlsa it ↦ ⟦<Tlsa<&'a [u8]> as ComposeRecordData>⟧.knows_len it
+      | Caa it ↦ ⟦<Caa<&'a [u8]> as ComposeRecordData>⟧.knows_len it
       | Txt it ↦ ⟦<Txt<&'a [u8]> as ComposeRecordData>⟧.knows_len it
       | Unknown it ↦ ⟦<UnknownRecordData<&'a [u8]> as ComposeRecordData>⟧.knows_len it
     ] };
@@ -268,6 +344,15 @@ impl<'a> ComposeRecordData for AllRecordData<&'a [u8], ParsedName<&'a [u8]>> {
             AllRecordData::Rt(it) => it.rdlen(compress),
             AllRecordData::Px(it) => it.rdlen(compress),
             AllRecordData::Kx(it) => it.rdlen(compress),
+            AllRecordData::Hinfo(it) => it.rdlen(compress),
+            AllRecordData::Naptr(it) => it.rdlen(compress),
+            AllRecordData::Ds(it) => it.rdlen(compress),
+            AllRecordData::Sshfp(it) => it.rdlen(compress),
+            AllRecordData::Rrsig(it) => it.rdlen(compress),
+            AllRecordData::Nsec(it) => it.rdlen(compress),
+            AllRecordData::Dnskey(it) => it.rdlen(compress),
+            AllRecordData::Tlsa(it) => it.rdlen(compress),
+            AllRecordData::Caa(it) => it.rdlen(compress),
             AllRecordData::Txt(it) => it.rdlen(compress),
             AllRecordData::Unknown(it) => it.rdlen(compress),
         }
@@ -298,6 +383,15 @@ impl<'a> ComposeRecordData for AllRecordData<&'a [u8], ParsedName<&'a [u8]>> {
             AllRecordData::Rt(it) => it.compose_rdata(target),
             AllRecordData::Px(it) => it.compose_rdata(target),
             AllRecordData::Kx(it) => it.compose_rdata(target),
+            AllRecordData::Hinfo(it) => it.compose_rdata(target),
+            AllRecordData::Naptr(it) => it.compose_rdata(target),
+            AllRecordData::Ds(it) => it.compose_rdata(target),
+            AllRecordData::Sshfp(it) => it.compose_rdata(target),
+            AllRecordData::Rrsig(it) => it.compose_rdata(target),
+            AllRecordData::Nsec(it) => it.compose_rdata(target),
+            AllRecordData::Dnskey(it) => it.compose_rdata(target),
+            AllRecordData::Tlsa(it) => it.compose_rdata(target),
+            AllRecordData::Caa(it) => it.compose_rdata(target),
             AllRecordData::Txt(it) => it.compose_rdata(target),
             AllRecordData::Unknown(it) => it.compose_rdata(target),
         }
@@ -328,6 +422,15 @@ impl<'a> ComposeRecordData for AllRecordData<&'a [u8], ParsedName<&'a [u8]>> {
             AllRecordData::Rt(it) => it.compose_canonical_rdata(target),
             AllRecordData::Px(it) => it.compose_canonical_rdata(target),
             AllRecordData::Kx(it) => it.compose_canonical_rdata(target),
+            AllRecordData::Hinfo(it) => it.compose_canonical_rdata(target),
+            AllRecordData::Naptr(it) => it.compose_canonical_rdata(target),
+            AllRecordData::Ds(it) => it.compose_canonical_rdata(target),
+            AllRecordData::Sshfp(it) => it.compose_canonical_rdata(target),
+            AllRecordData::Rrsig(it) => it.compose_canonical_rdata(target),
+            AllRecordData::Nsec(it) => it.compose_canonical_rdata(target),
+            AllRecordData::Dnskey(it) => it.compose_canonical_rdata(target),
+            AllRecordData::Tlsa(it) => it.compose_canonical_rdata(target),
+            AllRecordData::Caa(it) => it.compose_canonical_rdata(target),
             AllRecordData::Txt(it) => it.compose_canonical_rdata(target),
             AllRecordData::Unknown(it) => it.compose_canonical_rdata(target),
         }
@@ -354,6 +457,15 @@ impl<'a> ComposeRecordData for AllRecordData<&'a [u8], ParsedName<&'a [u8]>> {
       | Rt it ↦ plain_both _ _ _ _ (plain_octets _) (plain_octets _)
       | Px it ↦ plain_both _ _ _ _ (plain_octets _) (plain_both _ _ _ _ (plain_octets _) (plain_octets _))
       | Kx it ↦ plain_both _ _ _ _ (plain_octets _) (plain_octets _)
+      | Hinfo it ↦ plain_both _ _ _ _ (plain_octets _) (plain_octets _)
+      | Naptr it ↦ plain_both _ _ _ _ (plain_octets _) (plain_both _ _ _ _ (plain_octets _) (plain_both _ _ _ _ (plain_octets _) (plain_both _ _ _ _ (plain_octets _) (plain_both _ _ _ _ (plain_octets _) (plain_octets _)))))
+      | Ds it ↦ plain_both _ _ _ _ (plain_octets _) (plain_both _ _ _ _ (plain_octets _) (plain_both _ _ _ _ (plain_octets _) (plain_octets _)))
+      | Sshfp it ↦ plain_both _ _ _ _ (plain_octets _) (plain_both _ _ _ _ (plain_octets _) (plain_octets _))
+      | Rrsig it ↦ plain_both _ _ _ _ (plain_octets _) (plain_both _ _ _ _ (plain_octets _) (plain_both _ _ _ _ (plain_octets _) (plain_both _ _ _ _ (plain_octets _) (plain_both _ _ _ _ (plain_octets _) (plain_both _ _ _ _ (plain_octets _) (plain_both _ _ _ _ (plain_octets _) (plain_both _ _ _ _ (plain_octets _) (plain_octets _))))))))
+      | Nsec it ↦ plain_both _ _ _ _ (plain_octets _) (plain_octets _)
+      | Dnskey it ↦ plain_both _ _ _ _ (plain_octets _) (plain_both _ _ _ _ (plain_octets _) (plain_both _ _ _ _ (plain_octets _) (plain_octets _)))
+      | Tlsa it ↦ plain_both _ _ _ _ (plain_octets _) (plain_both _ _ _ _ (plain_octets _) (plain_both _ _ _ _ (plain_octets _) (plain_octets _)))
+      | Caa it ↦ plain_both _ _ _ _ (plain_octets _) (plain_both _ _ _ _ (plain_octets _) (plain_octets _))
       | Txt it ↦ plain_octets _
       | Unknown it ↦ plain_octets _
     ] };
@@ -379,6 +491,15 @@ impl<'a> ComposeRecordData for AllRecordData<&'a [u8], ParsedName<&'a [u8]>> {
       | Rt it ↦ flat_both _ _ _ _ (flat_octets _) (flat_octets _)
       | Px it ↦ flat_both _ _ _ _ (flat_octets _) (flat_both _ _ _ _ (flat_octets _) (flat_octets _))
       | Kx it ↦ flat_both _ _ _ _ (flat_octets _) (flat_octets _)
+      | Hinfo it ↦ flat_both _ _ _ _ (flat_octets _) (flat_octets _)
+      | Naptr it ↦ flat_both _ _ _ _ (flat_octets _) (flat_both _ _ _ _ (flat_octets _) (flat_both _ _ _ _ (flat_octets _) (flat_both _ _ _ _ (flat_octets _) (flat_both _ _ _ _ (flat_octets _) (flat_octets _)))))
+      | Ds it ↦ flat_both _ _ _ _ (flat_octets _) (flat_both _ _ _ _ (flat_octets _) (flat_both _ _ _ _ (flat_octets _) (flat_octets _)))
+      | Sshfp it ↦ flat_both _ _ _ _ (flat_octets _) (flat_both _ _ _ _ (flat_octets _) (flat_octets _))
+      | Rrsig it ↦ flat_both _ _ _ _ (flat_octets _) (flat_both _ _ _ _ (flat_octets _) (flat_both _ _ _ _ (flat_octets _) (flat_both _ _ _ _ (flat_octets _) (flat_both _ _ _ _ (flat_octets _) (flat_both _ _ _ _ (flat_octets _) (flat_both _ _ _ _ (flat_octets _) (flat_both _ _ _ _ (flat_octets _) (flat_octets _))))))))
+      | Nsec it ↦ flat_both _ _ _ _ (flat_octets _) (flat_octets _)
+      | Dnskey it ↦ flat_both _ _ _ _ (flat_octets _) (flat_both _ _ _ _ (flat_octets _) (flat_both _ _ _ _ (flat_octets _) (flat_octets _)))
+      | Tlsa it ↦ flat_both _ _ _ _ (flat_octets _) (flat_both _ _ _ _ (flat_octets _) (flat_both _ _ _ _ (flat_octets _) (flat_octets _)))
+      | Caa it ↦ flat_both _ _ _ _ (flat_octets _) (flat_both _ _ _ _ (flat_octets _) (flat_octets _))
       | Txt it ↦ flat_octets _
       | Unknown it ↦ flat_octets _
     ] };
@@ -465,6 +586,10 @@ impl<'a> ParseAnyRecordData<'a> for AllRecordData<&'a [u8], ParsedName<&'a [u8]>
                 Ok(it) => Ok(AllRecordData::Ptr(it)),
                 Err(e) => Err(e),
             },
+            13 => match read::<Hinfo<&'a [u8]>, ParseError>(rtype, parser) {
+                Ok(it) => Ok(AllRecordData::Hinfo(it)),
+                Err(e) => Err(e),
+            },
             14 => match read::<Minfo<ParsedName<&'a [u8]>>, ParseError>(rtype, parser) {
                 Ok(it) => Ok(AllRecordData::Minfo(it)),
                 Err(e) => Err(e),
@@ -501,12 +626,44 @@ impl<'a> ParseAnyRecordData<'a> for AllRecordData<&'a [u8], ParsedName<&'a [u8]>
                 Ok(it) => Ok(AllRecordData::Srv(it)),
                 Err(e) => Err(e),
             },
+            35 => match read::<Naptr<&'a [u8], ParsedName<&'a [u8]>>, ParseError>(rtype, parser) {
+                Ok(it) => Ok(AllRecordData::Naptr(it)),
+                Err(e) => Err(e),
+            },
             36 => match read::<Kx<ParsedName<&'a [u8]>>, ParseError>(rtype, parser) {
                 Ok(it) => Ok(AllRecordData::Kx(it)),
                 Err(e) => Err(e),
             },
             39 => match read::<Dname<ParsedName<&'a [u8]>>, ParseError>(rtype, parser) {
                 Ok(it) => Ok(AllRecordData::Dname(it)),
+                Err(e) => Err(e),
+            },
+            43 => match read::<Ds<&'a [u8]>, ParseError>(rtype, parser) {
+                Ok(it) => Ok(AllRecordData::Ds(it)),
+                Err(e) => Err(e),
+            },
+            44 => match read::<Sshfp<&'a [u8]>, ParseError>(rtype, parser) {
+                Ok(it) => Ok(AllRecordData::Sshfp(it)),
+                Err(e) => Err(e),
+            },
+            46 => match read::<Rrsig<&'a [u8], ParsedName<&'a [u8]>>, ParseError>(rtype, parser) {
+                Ok(it) => Ok(AllRecordData::Rrsig(it)),
+                Err(e) => Err(e),
+            },
+            47 => match read::<Nsec<&'a [u8], ParsedName<&'a [u8]>>, ParseError>(rtype, parser) {
+                Ok(it) => Ok(AllRecordData::Nsec(it)),
+                Err(e) => Err(e),
+            },
+            48 => match read::<Dnskey<&'a [u8]>, ParseError>(rtype, parser) {
+                Ok(it) => Ok(AllRecordData::Dnskey(it)),
+                Err(e) => Err(e),
+            },
+            52 => match read::<Tlsa<&'a [u8]>, ParseError>(rtype, parser) {
+                Ok(it) => Ok(AllRecordData::Tlsa(it)),
+                Err(e) => Err(e),
+            },
+            257 => match read::<Caa<&'a [u8]>, ParseError>(rtype, parser) {
+                Ok(it) => Ok(AllRecordData::Caa(it)),
                 Err(e) => Err(e),
             },
             _ => match read::<UnknownRecordData<&'a [u8]>, ParseError>(rtype, parser) {
@@ -574,6 +731,15 @@ impl<'a> fmt::Display for AllRecordData<&'a [u8], ParsedName<&'a [u8]>> {
             AllRecordData::Rt(it) => write!(f, "{it}"),
             AllRecordData::Px(it) => write!(f, "{it}"),
             AllRecordData::Kx(it) => write!(f, "{it}"),
+            AllRecordData::Hinfo(it) => write!(f, "{it}"),
+            AllRecordData::Naptr(it) => write!(f, "{it}"),
+            AllRecordData::Ds(it) => write!(f, "{it}"),
+            AllRecordData::Sshfp(it) => write!(f, "{it}"),
+            AllRecordData::Rrsig(it) => write!(f, "{it}"),
+            AllRecordData::Nsec(it) => write!(f, "{it}"),
+            AllRecordData::Dnskey(it) => write!(f, "{it}"),
+            AllRecordData::Tlsa(it) => write!(f, "{it}"),
+            AllRecordData::Caa(it) => write!(f, "{it}"),
             AllRecordData::Txt(it) => write!(f, "{it}"),
             AllRecordData::Unknown(it) => write!(f, "{it}"),
         }

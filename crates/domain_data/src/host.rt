@@ -288,7 +288,8 @@ impl<N> Soa<N> {
         Ttl::from_secs(self.fields.rest.rest.rest.rest.rest.first)
     }
 
-    /// For how long an answer that there is no such name or data may be kept (RFC 2308, 4).
+    /// For how long an answer that there is no such name or data may be kept, or for the TTL of the SOA record itself
+    /// where that is shorter (RFC 2308, 3 and 5).
     pub fn minimum(&self) -> Ttl
         ensures { ttl_seconds result ≡ soa_minimum self.now }
     {

@@ -8,6 +8,7 @@
 pub mod address;
 pub mod all;
 mod canonical;
+pub mod denial;
 mod display;
 pub mod fields;
 mod flatten;
@@ -24,9 +25,12 @@ pub mod signature;
 pub mod time_field;
 pub mod txt;
 pub mod txt_iter;
+pub mod type_bitmaps;
+pub mod type_blocks;
 
 pub use address::{A, Aaaa};
 pub use all::AllRecordData;
+pub use denial::Nsec;
 pub use domain_fields::{
     DataField, DataName, FieldError, FlattenField, NameField, OrderedField, OrderedLast,
     ReadBackData, ReadBackField, ReadBackLast, ReadField, Sequence, UncompressedNameField, field,
@@ -47,3 +51,5 @@ pub use signature::Rrsig;
 pub use time_field::TimeField;
 pub use txt::{Txt, TxtError};
 pub use txt_iter::TxtIter;
+pub use type_bitmaps::{TypeBitmaps, TypeBitmapsError};
+pub use type_blocks::TypesIter;

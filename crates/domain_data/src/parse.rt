@@ -1,4 +1,5 @@
-//! Reading record data, by the fields that it has.
+//! Reading record data, by the fields that it has: an impl for each list of fields, since one for all isn't
+//! covered by the checker (the page of `domain_fields`, 'Why it is so').
 ghost use Rattle.std.specs.Prelude.{ℕ, List, nat_eq};
 ghost use Rattle.domain_wire.specs.Addresses.{ipv4_of, ipv6_of};
 ghost use Rattle.domain_wire.specs.Refusals.{refusal};

@@ -5,13 +5,15 @@ ghost use Rattle.domain_parsed.specs.ParsedNames.{parsed_labels};
 ghost use Rattle.domain_fields.specs.Data.{AllAt, NotAll};
 ghost use Rattle.domain_strings.specs.TagViews.{tag_octets};
 ghost use Rattle.domain_strings.specs.Views.{char_octets, last_octets};
-ghost use Rattle.domain_data.specs.OctetShapes.{StringsAt, NoStrings, strings_data, RuleAt, NoRule, rule_data, FingerprintAt, NoFingerprint, fingerprint_data, KeyAt, NoKey, key_data, AssociationAt, NoAssociation, association_data, PropertyAt, NoProperty, property_data, SignatureAt, NoSignature, signature_data};
+ghost use Rattle.domain_data.specs.OctetShapes.{StringsAt, NoStrings, strings_data, RuleAt, NoRule, rule_data, FingerprintAt, NoFingerprint, fingerprint_data, KeyAt, NoKey, key_data, AssociationAt, NoAssociation, association_data, PropertyAt, NoProperty, property_data, SignatureAt, NoSignature, signature_data, DenialAt, NoDenial, denial_data};
+ghost use Rattle.domain_data.specs.BitmapViews.{bitmaps_blocks};
 ghost use Rattle.domain_data.specs.Views.{fields_of};
 ghost use Rattle.domain_rdata.specs.Rtypes.{rtype_number};
 
 use crate::fields::FieldsData;
 use crate::rtype_field::RtypeField;
 use crate::time_field::TimeField;
+use crate::type_bitmaps::TypeBitmaps;
 use domain_fields::{Sequence, UncompressedNameField};
 use domain_parsed::ParsedName;
 use domain_rdata::{ParseRecordData, Rtype};
@@ -260,4 +262,29 @@ impl<'a, const TYPE: u16, const TEXT: u8> ParseRecordData<'a>
     }
 
     ghost lawful = { λ _. signature_data };
+}
+
+/// A name that is never compressed, and bitmaps of types: NSEC. Bitmaps that are none are "windows of types out of order",
+/// "invalid length of a type bitmap" or `ShortInput`.
+impl<'a, const TYPE: u16> ParseRecordData<'a>
+    for FieldsData<
+        TYPE,
+        Sequence<UncompressedNameField<ParsedName<&'a [u8]>>, TypeBitmaps<&'a [u8]>>,
+    > {
+    ghost View = { List (List ℕ) × List (ℕ × List ℕ) };
+
+    ghost model = { λ it.
+        (parsed_labels (fields_of it).first.name, bitmaps_blocks (fields_of it).rest) };
+
+    ghost reads_type = { λ t. nat_eq t TYPE };
+
+    ghost encodes = { λ _. AllAt DenialAt };
+
+    ghost fails_with = { λ _. NotAll refusal DenialAt NoDenial };
+
+    fn parse_rdata(rtype: Rtype, parser: &mut Parser<'a>) -> Result<Option<Self>, ParseError> {
+        FieldsData::read(rtype, parser)
+    }
+
+    ghost lawful = { λ _. denial_data };
 }

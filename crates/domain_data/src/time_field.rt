@@ -1,14 +1,17 @@
 //! A time, as a field of record data.
-ghost use Rattle.std.specs.Prelude.{◌≡◌, ◌≤◌, ◌<◌, ◌+◌, ◌%◌, ℕ, Some, refl};
+ghost use Rattle.std.specs.Prelude.{◌≡◌, ℕ, pos, ◌*ℤ◌, Some, refl};
 ghost use Rattle.std.specs.Int.{w32, to_be_bytes, from_be_bytes};
 ghost use Rattle.domain_wire.specs.FixedLength.{fixed_reading};
 ghost use Rattle.domain_wire.specs.Values.{FixedAt, ShortAt};
 ghost use Rattle.domain_fields.specs.Reading.{any_reading};
-ghost use Rattle.domain_data.specs.Times.{is_leap, year_days, month_days, year_from, month_from, two_digits, date_text, time_text};
+ghost use Rattle.domain_data.specs.Times.{time_text};
+ghost use Rattle.jiff.specs.Words.{civil_nanos};
 
 use domain_fields::{FlattenField, OrderedField, ReadBackField, ReadField};
-use domain_label::presentation::ascii_text;
 use domain_wire::{Compose, FixedLen, Parse, ParseError};
+use jiff::Timestamp;
+use jiff::civil::DateTime;
+use jiff::tz::Offset;
 use octseq::{OctetsBuilder, Parser, ShortBuf};
 use std::alloc::Global;
 use std::cmp::Ordering;
@@ -21,101 +24,22 @@ pub struct TimeField {
     pub seconds: u32,
 }
 
-/// Whether a year is a leap year.
-fn is_leap(year: u32) -> bool
-    ensures { result ≡ is_leap year }
+/// The date and the time of day, in UTC, so many seconds after 1970 began.
+fn utc(seconds: u32) -> DateTime
+    ensures instant { civil_nanos result ≡ pos seconds *ℤ pos 1_000_000_000 }
 {
-    year % 4 == 0 && (year % 100 != 0 || year % 400 == 0)
+    let Ok(instant) = Timestamp::from_second(seconds as i64) else {
+        unreachable!();
+    };
+    Offset::UTC.to_datetime(instant)
 }
 
-/// How many days a year has.
-fn year_days(year: u32) -> u32
-    ensures { result ≡ year_days year }
-{
-    if is_leap(year) { 366 } else { 365 }
-}
-
-/// How many days a month of a year has.
-fn month_days(year: u32, month: u32) -> u32
-    ensures { result ≡ month_days year month }
-{
-    if month == 2 {
-        return if is_leap(year) { 29 } else { 28 };
-    }
-    if month == 4 || month == 6 || month == 9 || month == 11 {
-        return 30;
-    }
-    31
-}
-
-/// The year of a day since 1970, and how many of its days come before.
-fn year_of(day: u32) -> (u32, u32)
-    ensures year { result ≡ year_from 137 1970 day }
-    ensures within { result.1 ≤ day }
-{
-    let mut rest = day;
-    for years in 0..137 {
-        let days = year_days(1970 + years);
-        if rest < days {
-            return (1970 + years, rest);
-        }
-        rest -= days;
-    }
-    (2107, rest)
-}
-
-/// The month of a day of a year, and how many of its days come before.
-fn month_of(year: u32, day: u32) -> (u32, u32)
-    ensures month { result ≡ month_from year 12 1 day }
-    ensures within { result.1 ≤ day }
-{
-    let mut rest = day;
-    for months in 0..12 {
-        let days = month_days(year, 1 + months);
-        if rest < days {
-            return (1 + months, rest);
-        }
-        rest -= days;
-    }
-    (13, rest)
-}
-
-/// The digit that a number ends with.
-fn digit(number: u32) -> u8
-    ensures value { result ≡ 48 + number % 10 }
-    ensures ascii { result < 128 }
-{
-    b'0' + (number % 10) as u8
-}
-
-/// Two digits.
-#[derive(Clone, Copy)]
-struct TwoDigits(u32);
-
-impl fmt::Display for TwoDigits {
-    ghost output = { λ it. Some (two_digits it.0) };
-
-    fn fmt<W: fmt::Write>(&self, f: &mut fmt::Formatter<W>) -> fmt::Result {
-        f.write_str(ascii_text(&[digit(self.0 / 10), digit(self.0)]))
-    }
-}
-
-/// The date of a day since 1970.
-#[derive(Clone, Copy)]
-struct DateOf {
-    day: u32,
-    ghost few: { day ≤ 49710 },
-}
-
-impl fmt::Display for DateOf {
-    ghost output = { λ it. Some (date_text it.day) };
-
-    fn fmt<W: fmt::Write>(&self, f: &mut fmt::Formatter<W>) -> fmt::Result {
-        let (year, day) = year_of(self.day);
-        let (month, before) = month_of(year, day);
-        let century = TwoDigits(year / 100);
-        let day = TwoDigits(before + 1);
-        write!(f, "{century}{}{}{day}", TwoDigits(year), TwoDigits(month))
+impl TimeField {
+    /// The date and the time of day, in UTC, without leap seconds.
+    pub fn to_datetime(self) -> DateTime
+        ensures instant { civil_nanos result ≡ pos self.seconds *ℤ pos 1_000_000_000 }
+    {
+        utc(self.seconds)
     }
 }
 
@@ -194,12 +118,16 @@ impl fmt::Display for TimeField {
     ghost output = { λ it. Some (time_text it.seconds) };
 
     fn fmt<W: fmt::Write>(&self, f: &mut fmt::Formatter<W>) -> fmt::Result {
-        let date = DateOf {
-            day: self.seconds / 86400,
-        };
-        let hour = TwoDigits(self.seconds / 3600 % 24);
-        let minute = TwoDigits(self.seconds / 60 % 60);
-        let second = TwoDigits(self.seconds % 60);
-        write!(f, "{date}{hour}{minute}{second}")
+        let at = utc(self.seconds);
+        let year = at.year().unsigned_abs();
+        let month = at.month().unsigned_abs();
+        let day = at.day().unsigned_abs();
+        let hour = at.hour().unsigned_abs();
+        let minute = at.minute().unsigned_abs();
+        let second = at.second().unsigned_abs();
+        write!(
+            f,
+            "{year:04}{month:02}{day:02}{hour:02}{minute:02}{second:02}"
+        )
     }
 }

@@ -1,2 +1,1 @@
-pub mod Base64Walk
 pub mod StringOrder

@@ -1,5 +1,4 @@
 pub mod Base16
-pub mod Base64
 pub mod CharStringLaws
 pub mod CharStrings
 pub mod Quoted

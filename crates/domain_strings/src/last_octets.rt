@@ -4,18 +4,20 @@ ghost use Rattle.std.proofs.Common.{rules};
 ghost use Rattle.std.specs.Cmp.Lexicographic.{pointwise};
 ghost use Rattle.std.specs.Cmp.Rules.{comparing};
 ghost use Rattle.std.specs.Ordering.{on};
+ghost use Rattle.base64.specs.Engines.{standard};
+ghost use Rattle.base64.specs.GeneralPurpose.{encode_of};
 ghost use Rattle.domain_fields.specs.FieldLaws.{fixed_size};
 ghost use Rattle.domain_fields.specs.Parts.{no_name, one_part};
 ghost use Rattle.domain_fields.specs.Reading.{any_reading};
 ghost use Rattle.domain_rdata.specs.AnyData.{IsAllThatIsLeft, TooMuchIsLeft};
 ghost use Rattle.domain_rdata.specs.UnknownReading.{all_that_is_left};
 ghost use Rattle.domain_strings.specs.Base16.{base16_text};
-ghost use Rattle.domain_strings.specs.Base64.{base64_text};
 ghost use Rattle.domain_strings.specs.Quoted.{quoted};
 
-use crate::base64::Base64;
 use crate::hex::Base16;
 use crate::quoted::QuotedAll;
+use base64::display::Base64Display;
+use base64::engine::general_purpose::STANDARD;
 use domain_fields::{DataField, FlattenField, OrderedLast, ReadBackLast, ReadField};
 use domain_rdata::{Composer, LongRecordData};
 use domain_wire::ParseError;
@@ -220,12 +222,10 @@ impl<Octs: Octets> fmt::Display for LastOctets<16, Octs> {
 impl<Octs: Octets> fmt::Display for LastOctets<64, Octs> {
     ghost use Rattle.domain_strings.specs.Views.{last_octets};
 
-    ghost output = { λ it. Some (base64_text (last_octets it)) };
+    ghost output = { λ it. Some (encode_of standard (last_octets it)) };
 
     fn fmt<W: fmt::Write>(&self, f: &mut fmt::Formatter<W>) -> fmt::Result {
-        let text = Base64 {
-            octets: self.octets.as_slice(),
-        };
+        let text = Base64Display::new(self.octets.as_slice(), &STANDARD);
         write!(f, "{text}")
     }
 }

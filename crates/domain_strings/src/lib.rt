@@ -2,7 +2,6 @@
 //! with their text in hexadecimal digits, in base64 (RFC 4648) or between quotes.
 #![tactic(auto)]
 
-mod base64;
 pub mod char_string;
 mod hex;
 pub mod last_octets;

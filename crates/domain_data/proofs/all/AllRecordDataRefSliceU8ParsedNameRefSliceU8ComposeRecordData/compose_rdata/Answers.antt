@@ -80,3 +80,84 @@ returns-in-Px-clause-names g c = rw c.in-Px.is c.compose_rdata-in-Px.ensures.nam
 
 pub returns-in-Kx-clause-names : goal.returns-in-Kx-clause-names
 returns-in-Kx-clause-names g c = rw c.in-Kx.is c.compose_rdata-in-Kx.ensures.names
+
+pub returns-in-Hinfo-clause-ok : goal.returns-in-Hinfo-clause-ok
+returns-in-Hinfo-clause-ok g c = rw c.in-Hinfo.is c.compose_rdata-in-Hinfo.ensures.ok
+
+pub returns-in-Hinfo-clause-full : goal.returns-in-Hinfo-clause-full
+returns-in-Hinfo-clause-full g c = rw c.in-Hinfo.is c.compose_rdata-in-Hinfo.ensures.full
+
+pub returns-in-Hinfo-clause-names : goal.returns-in-Hinfo-clause-names
+returns-in-Hinfo-clause-names g c = rw c.in-Hinfo.is c.compose_rdata-in-Hinfo.ensures.names
+
+pub returns-in-Naptr-clause-ok : goal.returns-in-Naptr-clause-ok
+returns-in-Naptr-clause-ok g c = rw c.in-Naptr.is c.compose_rdata-in-Naptr.ensures.ok
+
+pub returns-in-Naptr-clause-full : goal.returns-in-Naptr-clause-full
+returns-in-Naptr-clause-full g c = rw c.in-Naptr.is c.compose_rdata-in-Naptr.ensures.full
+
+pub returns-in-Naptr-clause-names : goal.returns-in-Naptr-clause-names
+returns-in-Naptr-clause-names g c = rw c.in-Naptr.is c.compose_rdata-in-Naptr.ensures.names
+
+pub returns-in-Ds-clause-ok : goal.returns-in-Ds-clause-ok
+returns-in-Ds-clause-ok g c = rw c.in-Ds.is c.compose_rdata-in-Ds.ensures.ok
+
+pub returns-in-Ds-clause-full : goal.returns-in-Ds-clause-full
+returns-in-Ds-clause-full g c = rw c.in-Ds.is c.compose_rdata-in-Ds.ensures.full
+
+pub returns-in-Ds-clause-names : goal.returns-in-Ds-clause-names
+returns-in-Ds-clause-names g c = rw c.in-Ds.is c.compose_rdata-in-Ds.ensures.names
+
+pub returns-in-Sshfp-clause-ok : goal.returns-in-Sshfp-clause-ok
+returns-in-Sshfp-clause-ok g c = rw c.in-Sshfp.is c.compose_rdata-in-Sshfp.ensures.ok
+
+pub returns-in-Sshfp-clause-full : goal.returns-in-Sshfp-clause-full
+returns-in-Sshfp-clause-full g c = rw c.in-Sshfp.is c.compose_rdata-in-Sshfp.ensures.full
+
+pub returns-in-Sshfp-clause-names : goal.returns-in-Sshfp-clause-names
+returns-in-Sshfp-clause-names g c = rw c.in-Sshfp.is c.compose_rdata-in-Sshfp.ensures.names
+
+pub returns-in-Rrsig-clause-ok : goal.returns-in-Rrsig-clause-ok
+returns-in-Rrsig-clause-ok g c = rw c.in-Rrsig.is c.compose_rdata-in-Rrsig.ensures.ok
+
+pub returns-in-Rrsig-clause-full : goal.returns-in-Rrsig-clause-full
+returns-in-Rrsig-clause-full g c = rw c.in-Rrsig.is c.compose_rdata-in-Rrsig.ensures.full
+
+pub returns-in-Rrsig-clause-names : goal.returns-in-Rrsig-clause-names
+returns-in-Rrsig-clause-names g c = rw c.in-Rrsig.is c.compose_rdata-in-Rrsig.ensures.names
+
+pub returns-in-Nsec-clause-ok : goal.returns-in-Nsec-clause-ok
+returns-in-Nsec-clause-ok g c = rw c.in-Nsec.is c.compose_rdata-in-Nsec.ensures.ok
+
+pub returns-in-Nsec-clause-full : goal.returns-in-Nsec-clause-full
+returns-in-Nsec-clause-full g c = rw c.in-Nsec.is c.compose_rdata-in-Nsec.ensures.full
+
+pub returns-in-Nsec-clause-names : goal.returns-in-Nsec-clause-names
+returns-in-Nsec-clause-names g c = rw c.in-Nsec.is c.compose_rdata-in-Nsec.ensures.names
+
+pub returns-in-Dnskey-clause-ok : goal.returns-in-Dnskey-clause-ok
+returns-in-Dnskey-clause-ok g c = rw c.in-Dnskey.is c.compose_rdata-in-Dnskey.ensures.ok
+
+pub returns-in-Dnskey-clause-full : goal.returns-in-Dnskey-clause-full
+returns-in-Dnskey-clause-full g c = rw c.in-Dnskey.is c.compose_rdata-in-Dnskey.ensures.full
+
+pub returns-in-Dnskey-clause-names : goal.returns-in-Dnskey-clause-names
+returns-in-Dnskey-clause-names g c = rw c.in-Dnskey.is c.compose_rdata-in-Dnskey.ensures.names
+
+pub returns-in-Tlsa-clause-ok : goal.returns-in-Tlsa-clause-ok
+returns-in-Tlsa-clause-ok g c = rw c.in-Tlsa.is c.compose_rdata-in-Tlsa.ensures.ok
+
+pub returns-in-Tlsa-clause-full : goal.returns-in-Tlsa-clause-full
+returns-in-Tlsa-clause-full g c = rw c.in-Tlsa.is c.compose_rdata-in-Tlsa.ensures.full
+
+pub returns-in-Tlsa-clause-names : goal.returns-in-Tlsa-clause-names
+returns-in-Tlsa-clause-names g c = rw c.in-Tlsa.is c.compose_rdata-in-Tlsa.ensures.names
+
+pub returns-in-Caa-clause-ok : goal.returns-in-Caa-clause-ok
+returns-in-Caa-clause-ok g c = rw c.in-Caa.is c.compose_rdata-in-Caa.ensures.ok
+
+pub returns-in-Caa-clause-full : goal.returns-in-Caa-clause-full
+returns-in-Caa-clause-full g c = rw c.in-Caa.is c.compose_rdata-in-Caa.ensures.full
+
+pub returns-in-Caa-clause-names : goal.returns-in-Caa-clause-names
+returns-in-Caa-clause-names g c = rw c.in-Caa.is c.compose_rdata-in-Caa.ensures.names

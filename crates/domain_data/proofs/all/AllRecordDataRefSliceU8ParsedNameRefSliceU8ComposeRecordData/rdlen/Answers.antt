@@ -50,3 +50,30 @@ returns-in-Px-clause-composed c = rw c.in-Px.is c.rdlen-in-Px.ensures.composed
 
 pub returns-in-Kx-clause-composed : goal.returns-in-Kx-clause-composed
 returns-in-Kx-clause-composed c = rw c.in-Kx.is c.rdlen-in-Kx.ensures.composed
+
+pub returns-in-Hinfo-clause-composed : goal.returns-in-Hinfo-clause-composed
+returns-in-Hinfo-clause-composed c = rw c.in-Hinfo.is c.rdlen-in-Hinfo.ensures.composed
+
+pub returns-in-Naptr-clause-composed : goal.returns-in-Naptr-clause-composed
+returns-in-Naptr-clause-composed c = rw c.in-Naptr.is c.rdlen-in-Naptr.ensures.composed
+
+pub returns-in-Ds-clause-composed : goal.returns-in-Ds-clause-composed
+returns-in-Ds-clause-composed c = rw c.in-Ds.is c.rdlen-in-Ds.ensures.composed
+
+pub returns-in-Sshfp-clause-composed : goal.returns-in-Sshfp-clause-composed
+returns-in-Sshfp-clause-composed c = rw c.in-Sshfp.is c.rdlen-in-Sshfp.ensures.composed
+
+pub returns-in-Rrsig-clause-composed : goal.returns-in-Rrsig-clause-composed
+returns-in-Rrsig-clause-composed c = rw c.in-Rrsig.is c.rdlen-in-Rrsig.ensures.composed
+
+pub returns-in-Nsec-clause-composed : goal.returns-in-Nsec-clause-composed
+returns-in-Nsec-clause-composed c = rw c.in-Nsec.is c.rdlen-in-Nsec.ensures.composed
+
+pub returns-in-Dnskey-clause-composed : goal.returns-in-Dnskey-clause-composed
+returns-in-Dnskey-clause-composed c = rw c.in-Dnskey.is c.rdlen-in-Dnskey.ensures.composed
+
+pub returns-in-Tlsa-clause-composed : goal.returns-in-Tlsa-clause-composed
+returns-in-Tlsa-clause-composed c = rw c.in-Tlsa.is c.rdlen-in-Tlsa.ensures.composed
+
+pub returns-in-Caa-clause-composed : goal.returns-in-Caa-clause-composed
+returns-in-Caa-clause-composed c = rw c.in-Caa.is c.rdlen-in-Caa.ensures.composed

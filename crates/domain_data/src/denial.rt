@@ -1,0 +1,44 @@
+//! Data that shows that a name or a type isn't there (RFC 4034, 4).
+ghost use Rattle.std.specs.Prelude.{◌≡◌};
+
+use crate::fields::FieldsData;
+use crate::type_bitmaps::TypeBitmaps;
+use domain_fields::{Sequence, UncompressedNameField};
+use octseq::Octets;
+
+/// The next name of the zone that has records, and the types that the owner has. The name is never compressed, and keeps
+/// its case in the canonical form (RFC 4034, 4, and RFC 6840, 5.1).
+pub type Nsec<Octs, N> = FieldsData<47, Sequence<UncompressedNameField<N>, TypeBitmaps<Octs>>>;
+
+impl<Octs: Octets, N> Nsec<Octs, N> {
+    ghost use Rattle.domain_data.specs.Views.{fields_of, type_of};
+
+    /// Data of these.
+    pub fn new(next_name: N, types: TypeBitmaps<Octs>) -> Nsec<Octs, N>
+        ensures next_name { (fields_of result).first.name ≡ next_name }
+        ensures types { (fields_of result).rest ≡ types }
+        ensures of_type { type_of result ≡ 47 }
+    {
+        FieldsData {
+            fields: Sequence {
+                first: UncompressedNameField { name: next_name },
+                rest: types,
+            },
+        }
+    }
+
+    /// The next name, in the canonical order, of those that have records that are signed. At the last one it is the
+    /// zone's own.
+    pub fn next_name(&self) -> &N
+        ensures { result.now ≡ (fields_of self.now).first.name }
+    {
+        &self.fields.first.name
+    }
+
+    /// The types of records that the owner has.
+    pub fn types(&self) -> &TypeBitmaps<Octs>
+        ensures { result.now ≡ (fields_of self.now).rest }
+    {
+        &self.fields.rest
+    }
+}
