@@ -5,7 +5,7 @@ use Rattle.std.proofs.lemmas.Bool.{ne_eqb}
 use Rattle.std.proofs.Math.Seq.{drop-cons}
 use Rattle.std.proofs.Math.ListN.{drop_of_length-le}
 use Rattle.std.proofs.lemmas.List.{drop-drop, drop-set-lt, take_more_set}
-use Rattle.domain_walk.specs.Hexadecimal.{IsWhite, BeginsWithOctet, BeginsWithNone, IsHexText, IsHexFault, Place, place_after, further}
+use Rattle.domain_walk.specs.Hexadecimal.{IsWhite, BeginsWithOctet, BeginsWithNone, IsHexText, IsHexFault, Position, position_after, further}
 use Rattle.domain_walk.specs.Hexadecimal.IsHexText.{white, octet}
 use Rattle.domain_walk.specs.Hexadecimal.IsHexFault.{after_white, after_octet, here}
 use Rattle.domain_walk.specs.declared.hexadecimal.HexFault.{HexFault}
@@ -52,7 +52,7 @@ pub left_behind : (t s : List ℕ) (i n x : ℕ) → n ≤ i → drop i t ≡ dr
 left_behind t s i n x behind same = drop-set-lt (i + 2) t n x (omega arith) ∙ still_left 2 i t s same
 
 -- A fault after a white octet.
-pub fault_after_white : (p q first : Place) (all t s : List ℕ) (i : ℕ) → i < length t → drop i t ≡ drop i s → IsWhite (slice_index t i) → q ≡ place_after (slice_index t i) p
+pub fault_after_white : (p q first : Position) (all t s : List ℕ) (i : ℕ) → i < length t → drop i t ≡ drop i s → IsWhite (slice_index t i) → q ≡ position_after (slice_index t i) p
     → ((f : HexFault) (line column : ℕ) → IsHexFault p (drop i s) f line column → IsHexFault first all f line column)
     → (f : HexFault) (line column : ℕ) → IsHexFault q (drop (i + 1) s) f line column → IsHexFault first all f line column
 fault_after_white p q first all t s i inside same found offset before f line column more =
@@ -60,7 +60,7 @@ fault_after_white p q first all t s i inside same found offset before f line col
     before f line column (subst (λ r. IsHexFault p r f line column) (sym begins) (after_white found (subst (λ q. IsHexFault q (drop (i + 1) s) f line column) offset more)))
 
 -- A fault after an octet.
-pub fault_after_octet : (p first : Place) (all t s : List ℕ) (i x : ℕ) → i + 2 ≤ length t → drop i t ≡ drop i s → BeginsWithOctet (drop i t) x
+pub fault_after_octet : (p first : Position) (all t s : List ℕ) (i x : ℕ) → i + 2 ≤ length t → drop i t ≡ drop i s → BeginsWithOctet (drop i t) x
     → ((f : HexFault) (line column : ℕ) → IsHexFault p (drop i s) f line column → IsHexFault first all f line column)
     → (f : HexFault) (line column : ℕ) → IsHexFault (further 2 p) (drop (i + 2) s) f line column → IsHexFault first all f line column
 fault_after_octet p first all t s i x inside same found before f line column more =
@@ -69,14 +69,14 @@ fault_after_octet p first all t s i x inside same found before f line column mor
     before f line column (subst (λ r. IsHexFault p r f line column) (sym begins) (after_octet digits more))
 
 -- A fault here.
-pub fault_here : (p first : Place) (all t s : List ℕ) (i skip : ℕ) (f : HexFault) → drop i t ≡ drop i s → BeginsWithNone (drop i t) f skip
+pub fault_here : (p first : Position) (all t s : List ℕ) (i skip : ℕ) (f : HexFault) → drop i t ≡ drop i s → BeginsWithNone (drop i t) f skip
     → ((f : HexFault) (line column : ℕ) → IsHexFault p (drop i s) f line column → IsHexFault first all f line column)
     → IsHexFault first all f (p.line + 1) (p.column + 1 + skip)
 fault_here p first all t s i skip f same none before = before f (p.line + 1) (p.column + 1 + skip) (here (subst (λ r. BeginsWithNone r f skip) same none) refl refl)
 
--- The place after a line feed, and after another octet.
-pub after_feed : (c line column line' column' : ℕ) → c ≡ 10 → line' ≡ line + 1 → column' ≡ 0 → ◌≡◌ {A = Place} (record { line = line'; column = column' }) (place_after c (record { line = line; column = column }))
+-- The position after a line feed, and after another octet.
+pub after_feed : (c line column line' column' : ℕ) → c ≡ 10 → line' ≡ line + 1 → column' ≡ 0 → ◌≡◌ {A = Position} (record { line = line'; column = column' }) (position_after c (record { line = line; column = column }))
 after_feed c line column line' column' feed l k = rw (feed, l, k) refl
 
-pub after_other : (c line column line' column' : ℕ) → (c ≡ 10 → ⊥) → line' ≡ line → column' ≡ column + 1 → ◌≡◌ {A = Place} (record { line = line'; column = column' }) (place_after c (record { line = line; column = column }))
+pub after_other : (c line column line' column' : ℕ) → (c ≡ 10 → ⊥) → line' ≡ line → column' ≡ column + 1 → ◌≡◌ {A = Position} (record { line = line'; column = column' }) (position_after c (record { line = line; column = column }))
 after_other c line column line' column' other l k = let no : nat_eq c 10 ≡ false = ne_eqb c 10 other in rw (no, l, k) refl

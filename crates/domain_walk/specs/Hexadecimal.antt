@@ -33,29 +33,29 @@ pub data IsHexText : (text octets : List ℕ) → Type 0 where
   white : {c : ℕ} {text octets : List ℕ} → IsWhite c → IsHexText text octets → IsHexText (c ∷ text) octets
   octet : {c d x : ℕ} {text octets : List ℕ} → BeginsWithOctet (c ∷ d ∷ text) x → IsHexText text octets → IsHexText (c ∷ d ∷ text) (x ∷ octets)
 
--- a place in a text: how many lines end before it, and how many octets of its line are before it
-pub record Place : Type 0 where
+-- a position in a text: how many lines end before it, and how many octets of its line are before it
+pub record Position : Type 0 where
   pub line : ℕ
   pub column : ℕ
 
 -- where a text begins
-abbrev pub start : Place
+abbrev pub start : Position
 start = record { line = 0; column = 0 }
 
--- the place after n octets that end no line
-abbrev pub further : ℕ → Place → Place
+-- the position after n octets that end no line
+abbrev pub further : ℕ → Position → Position
 further n p = record { line = p.line; column = p.column + n }
 
--- the place after an octet: a line feed ends a line
-abbrev pub place_after : ℕ → Place → Place
-place_after c p = cond (nat_eq c 10) (record { line = p.line + 1; column = 0 }) (further 1 p)
+-- the position after an octet: a line feed ends a line
+abbrev pub position_after : ℕ → Position → Position
+position_after c p = cond (nat_eq c 10) (record { line = p.line + 1; column = 0 }) (further 1 p)
 
--- The text, which begins at the place p, is no octets in digits: the first thing that is wrong, its line and its column, both
+-- The text, which begins at the position p, is no octets in digits: the first thing that is wrong, its line and its column, both
 -- from 1 on.
-pub data IsHexFault : (p : Place) (text : List ℕ) (fault : HexFault) (line column : ℕ) → Type 0 where
-  here : {p : Place} {text : List ℕ} {fault : HexFault} {skip line column : ℕ} → BeginsWithNone text fault skip → line ≡ p.line + 1 → column ≡ p.column + 1 + skip → IsHexFault p text fault line column
-  after_white : {p : Place} {c : ℕ} {text : List ℕ} {fault : HexFault} {line column : ℕ} → IsWhite c → IsHexFault (place_after c p) text fault line column → IsHexFault p (c ∷ text) fault line column
-  after_octet : {p : Place} {c d x : ℕ} {text : List ℕ} {fault : HexFault} {line column : ℕ} → BeginsWithOctet (c ∷ d ∷ text) x → IsHexFault (further 2 p) text fault line column → IsHexFault p (c ∷ d ∷ text) fault line column
+pub data IsHexFault : (p : Position) (text : List ℕ) (fault : HexFault) (line column : ℕ) → Type 0 where
+  here : {p : Position} {text : List ℕ} {fault : HexFault} {skip line column : ℕ} → BeginsWithNone text fault skip → line ≡ p.line + 1 → column ≡ p.column + 1 + skip → IsHexFault p text fault line column
+  after_white : {p : Position} {c : ℕ} {text : List ℕ} {fault : HexFault} {line column : ℕ} → IsWhite c → IsHexFault (position_after c p) text fault line column → IsHexFault p (c ∷ text) fault line column
+  after_octet : {p : Position} {c d x : ℕ} {text : List ℕ} {fault : HexFault} {line column : ℕ} → BeginsWithOctet (c ∷ d ∷ text) x → IsHexFault (further 2 p) text fault line column → IsHexFault p (c ∷ d ∷ text) fault line column
 
 -- the name of what is wrong
 abbrev pub hex_fault_text : HexFault → List ℕ
