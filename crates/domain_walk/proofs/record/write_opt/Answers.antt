@@ -17,4 +17,4 @@ returns-clause-written g c =
     let new = g.W.Sink.contents c.write_options.new.output in
     let by_class = subst (λ class. Appends one two (edns_line (ttl_seconds c.ttl-ttl.result) class rcode ++ 10 ∷ [])) c.class-class.ensures c.in_ok-put_line.ensures.written in
     let line = subst (λ ttl. Appends one two (edns_line ttl it.header.class rcode ++ 10 ∷ [])) c.ttl-ttl.ensures by_class in
-    on_ok_weaker c.write_options.result (λ options. wrote_opt rcode c.args.another it c.data_octets.result.now old one two new c.data_octets.ensures c.in_ok-write_another.ensures.written line options) c.write_options.ensures.written
+    on_ok_weaker c.write_options.result (λ options. wrote_opt rcode c.args.another it c.data_octets.result.now old one two new c.data_octets.ensures.octets c.in_ok-write_another.ensures.written line options) c.write_options.ensures.written
