@@ -1,5 +1,5 @@
 -- What is held of an answer to a query.
-use Rattle.std.proofs.Common.{◌≡◌, ℕ, ◌≤◌, Bool, List, [], ◌∷◌, refl, sym, subst, ◌∙◌}
+use Rattle.std.proofs.Common.{◌≡◌, ℕ, ◌≤◌, Bool, List, [], ◌∷◌, refl, sym, ap, subst, ◌∙◌}
 use Rattle.std.specs.Prelude.{Result, Ok, Err, Option, Some, OnOk, OnErr}
 use Rattle.domain_header.specs.Headers.{SetsHigh}
 use Rattle.domain_message.specs.Entries.{QuestionFields}
@@ -98,3 +98,15 @@ is_whole_or_cut (Err e) c query head May o given capacity s t m same begun pushe
     let it = with_sections begun.questions [] [] [] in
     cut s.header h begun.header (subst (λ x. SetsHigh 2 2 1 x.header h) stays sets) begun.questions begun.repeated
     (subst (λ g. IsMessageOf h (with_opt g it) m) same (made it (subst (λ x. Holds c x it) (sym stays) begun.holds)))
+
+-- A message that was begun, and to which a record was pushed or not, has the limit that it was begun with.
+pub limit_stays : {A E : Type 0} (r : Result A E) (c : Bool) (query : List ℕ) (code limit : ℕ) (head : RecordHead) (May : List ℕ → List ℕ → Type 0) (begun s t : State) → IsBegun c limit begun → StartsAnswer c query code begun s → OnOk r (PushesRecord c Answer head May s t) → OnErr r (t ≡ s) → t.limit ≡ limit
+limit_stays r c query code limit head May begun s t is starts pushed stays = after r pushed stays ∙ started_with starts
+  where
+    after : {A E : Type 0} (r : Result A E) → OnOk r (PushesRecord c Answer head May s t) → OnErr r (t ≡ s) → t.limit ≡ s.limit
+    after (Ok x) pushed stays = pushed.settings.limit
+    after (Err e) pushed stays = ap (λ x. x.limit) stays
+
+    started_with : StartsAnswer c query code begun s → s.limit ≡ limit
+    started_with (repeats header q first asks) = asks.settings.limit ∙ is.limit_is
+    started_with (nothing header none same) = ap (λ x. x.limit) same ∙ is.limit_is
