@@ -170,6 +170,9 @@ def name_octets(labels):
 
 
 def type_text(number):
+    # As questions for any type are written (RFC 2136, 2.4), and as dnspython has it.
+    if number == 255:
+        return "ANY"
     return MNEMONICS.get(number, f"TYPE{number}")
 
 
