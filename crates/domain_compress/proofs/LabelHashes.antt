@@ -1,16 +1,14 @@
 -- The hashes of the labels at the offsets.
-use Rattle.std.proofs.Common.{◌≡◌, ℕ, ◌+◌, ◌≤◌, length, take, map, List, [], ◌∷◌, ◌++◌, Bool, true, false, ◌&&◌, refl, sym, ap, subst, ◌∙◌, arith, slice_index, slice_range, length-append}
+use Rattle.std.proofs.Common.{◌≡◌, ℕ, suc, ◌+◌, ◌≤◌, length, List, [], ◌∷◌, ◌++◌, Bool, true, false, ◌&&◌, refl, sym, ap, subst, ◌∙◌, arith, slice_index, slice_range, length-append}
 use Rattle.std.proofs.lemmas.Grind.{common_steps}
-use Rattle.std.proofs.lemmas.List.{get_or_append_left, take-append-le}
-use Rattle.std.proofs.Math.Seq.{take-length}
+use Rattle.std.proofs.lemmas.List.{get_or_append_left}
 use Rattle.std.proofs.lemmas.Bool.{false≢true}
 use Rattle.std.proofs.lemmas.List.Elements.{All-push}
 use Rattle.std.proofs.Props.{props}
 use Rattle.std.specs.List.{All}
-use Rattle.std.specs.Coded.{Coded-set, coded_list, coded_ℕ}
 use Rattle.domain_compress.specs.declared.written.Written.{Written}
 use Rattle.domain_compress.specs.Ends.{label_hash}
-use Rattle.domain_compress.specs.Hashes.{hash_at, HasHash, IsHashed, IsKnown, hash_of}
+use Rattle.domain_compress.specs.Hashes.{hash_at, HasHash, IsHashed, IsKnown}
 
 slice_more : (t u : List ℕ) (a b : ℕ) → b ≤ length t → slice_range (t ++ u) a b ≡ slice_range t a b
 slice_more t u a b h = grind (arith, common_steps)
@@ -36,22 +34,20 @@ known_push t hashed stands new old w known here e both =
     let b = both_true hashed stands both in
     subst (λ ws. All (IsHashed t) ws) (sym e) (All-push (IsHashed t) old w (known b.0) (here b.1))
 
-pub take_all_items : (ws : List Written) → take (length ws) ws ≡ ws
-take_all_items ws = take-length ws
-
-pub kept_push : (init new old : List Written) (w : Written) → new ≡ old ++ w ∷ [] → length init ≤ length old → take (length init) old ≡ init → take (length init) new ≡ init
-kept_push init new old w e le kept = ap (take (length init)) e ∙ (take-append-le (length init) old (w ∷ []) le ∙ kept)
-
 -- What is known is known in one way.
 known_once : (hashed : Bool) (t : List ℕ) (ws : List Written) → (a b : IsKnown hashed t ws) → a ≡ b
 known_once hashed t ws = Prim.hlevel props
 
-listed_once : (hs : List ℕ) (ws : List Written) → (a b : hs ≡ map hash_of ws) → a ≡ b
-listed_once hs ws = Coded-set (coded_list coded_ℕ) hs (map hash_of ws)
+-- So what holds it is one, whichever proof it has.
+pub held_once : {A : Type 0} (hashed : Bool) (t : List ℕ) (ws : List Written) (F : IsKnown hashed t ws → A) (j k : IsKnown hashed t ws) → F j ≡ F k
+held_once hashed t ws F j k = ap F (known_once hashed t ws j k)
 
--- So what holds it is one, whichever proofs it has.
-pub held_once : {A : Type 0} (hashed : Bool) (t hs : List ℕ) (ws : List Written) (F : hs ≡ map hash_of ws → IsKnown hashed t ws → A) (l m : hs ≡ map hash_of ws) (j k : IsKnown hashed t ws) → F l j ≡ F m k
-held_once hashed t hs ws F l m j k = ap (λ x. F x j) (listed_once hs ws l m) ∙ ap (λ y. F m y) (known_once hashed t ws j k)
+-- The hash of the first of the offsets is known, and so are those of the rest.
+pub known_first : (hashed : Bool) (t : List ℕ) (ws more : List Written) (w : Written) → ws ≡ w ∷ more → IsKnown hashed t ws → hashed ≡ true → IsHashed t w
+known_first hashed t ws more w e known counts = subst (λ vs. All (IsHashed t) vs) e (known counts) 0 w (omega arith)
+
+pub known_rest : (hashed : Bool) (t : List ℕ) (ws more : List Written) (w : Written) → ws ≡ w ∷ more → IsKnown hashed t ws → IsKnown hashed t more
+known_rest hashed t ws more w e known = λ counts i d lt. subst (λ vs. All (IsHashed t) vs) e (known counts) (suc i) d (omega (arith, lt))
 
 pub known_still : (before after : Bool) (t t' o s : List ℕ) (ws vs : List Written) → t' ≡ t ++ s → o ≡ t' → IsKnown before t ws → (IsKnown before o ws → IsKnown after o vs) → IsKnown after t' vs
 known_still before after t t' o s ws vs all read known kept =

@@ -26,7 +26,7 @@ passed_start P name w = record {
   earlier = λ xs ys e h. absurd (omega (arith, h));
 }
 
-meets_length : (o : List ℕ) (i : ℕ) (xs ys : List (List ℕ)) → Meets o i xs ys → length o ≡ i + length (wire ys)
+pub meets_length : (o : List ℕ) (i : ℕ) (xs ys : List (List ℕ)) → Meets o i xs ys → length o ≡ i + length (wire ys)
 meets_length o i xs ys m = omega (arith, m.at, ap length m.whole, length-append (wire xs) (wire ys))
 
 pub after_all : (name : List ℕ) (at : ℕ) → take (length name - at) (drop at name) ≡ drop at name

@@ -1,5 +1,5 @@
 -- What is remembered of the label at an offset.
-use Rattle.std.specs.Prelude.{◌≡◌, ℕ, ◌+◌, ◌≤◌, ◌<◌, List, length, slice_index, slice_range, map, Bool, true}
+use Rattle.std.specs.Prelude.{◌≡◌, ℕ, ◌+◌, ◌<◌, List, length, slice_index, slice_range, Bool, true}
 use Rattle.std.specs.List.{All}
 use Rattle.domain_compress.specs.declared.written.Written.{Written}
 use Rattle.domain_compress.specs.Ends.{label_hash}
@@ -18,15 +18,3 @@ IsHashed t w = HasHash t w.offset w.hash
 -- Where the hashes count, they are those of the labels at the offsets.
 abbrev pub IsKnown : Bool → List ℕ → List Written → Type 0
 IsKnown hashed t ws = hashed ≡ true → All (IsHashed t) ws
-
--- The hash that is kept of a label.
-abbrev pub hash_of : Written → ℕ
-hash_of w = w.hash
-
--- Where the hashes count, they are those that were kept.
-abbrev pub AreListed : Bool → List ℕ → List Written → Type 0
-AreListed hashed hs ws = hashed ≡ true → hs ≡ map hash_of ws
-
--- The hash isn't among those from one index on up to another.
-abbrev pub NotAmong : List ℕ → ℕ → ℕ → ℕ → Type 0
-NotAmong hs from upto h = (i : ℕ) → from ≤ i → i < upto → slice_index hs i ≡ h → ⊥

@@ -2,7 +2,7 @@
 ghost use Rattle.std.specs.Prelude.{◌≡◌, ◌≤◌, OnErr, IfOk};
 ghost use Rattle.domain_label.specs.Wire.{labels_in, IsAbsoluteWire};
 ghost use Rattle.domain_compress.specs.Beginnings.{BeginningWritten};
-ghost use Rattle.domain_compress.specs.Hashes.{IsKnown, AreListed};
+ghost use Rattle.domain_compress.specs.Hashes.{IsKnown};
 ghost use Rattle.domain_compress.specs.MayWrite.{NameExceeds};
 ghost use Rattle.domain_compress.specs.Written.{all_remembered};
 
@@ -15,13 +15,11 @@ use octseq::OctetsBuilder;
 pub(crate) fn append_beginning<Target: OctetsBuilder>(
     target: &mut Target,
     written: &[Written],
-    hashes: &[u16],
     name: &[u8],
     hashed: bool,
 ) -> Result<Option<usize>, Target::AppendError>
     requires wire { IsAbsoluteWire name.now }
     requires known { IsKnown hashed (Target.octets target.now) written.now }
-    requires listed { AreListed hashed hashes.now written.now }
     ensures ok { IfOk result
         (λ begun. BeginningWritten begun (Target.octets target.old) (all_remembered written.now)
         name.now (Target.octets target.new)) }
@@ -31,7 +29,7 @@ pub(crate) fn append_beginning<Target: OctetsBuilder>(
         (Target.capacity target.old)) }
     ensures capacity { Target.capacity target.old ≤ Target.capacity target.new }
 {
-    let Some(beginning) = find_beginning(target.as_slice(), written, hashes, name, hashed) else {
+    let Some(beginning) = find_beginning(target.as_slice(), written, name, hashed) else {
         return Ok(None);
     };
     let mut octets = [0; 255];

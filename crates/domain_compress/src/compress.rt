@@ -1,15 +1,14 @@
 //! A composer that writes names shorter (RFC 1035, 4.1.4).
-ghost use Rattle.std.specs.Prelude.{◌≡◌, ◌≤◌, ◌<◌, ◌+◌, ◌++◌, [], List, length, take, map, OnOk, OnErr, IfSome, true, false};
+ghost use Rattle.std.specs.Prelude.{◌≡◌, ◌≤◌, ◌<◌, ◌+◌, ◌++◌, [], List, length, take, OnOk, OnErr, IfSome, true, false};
 ghost use Rattle.std.proofs.lemmas.Bool.{true≢false, false≢true};
 ghost use Rattle.std.proofs.Props.{props};
 ghost use Rattle.domain_label.specs.Wire.{labels_in, IsAbsoluteWire};
 ghost use Rattle.domain_compress.specs.Compressing.{Adds, RememberedLabel, remembered_within};
-ghost use Rattle.domain_compress.specs.Hashes.{IsKnown, hash_of};
+ghost use Rattle.domain_compress.specs.Hashes.{IsKnown};
 ghost use Rattle.domain_compress.specs.MayWrite.{MayWrite, NameAppended, NameExceeds, adds_appended};
 ghost use Rattle.domain_compress.specs.Written.{all_remembered};
 
 use crate::append::append_beginning;
-use crate::hashes::add_hashes;
 use crate::remember::{forget, remember};
 use crate::written::Written;
 use arrayvec::ArrayVec;
@@ -32,11 +31,8 @@ use octseq::{Octets, OctetsBuilder, OctetsMut, Truncate};
 pub struct CompressComposer<T: Composer> {
     target: T,
     written: ArrayVec<Written, 128>,
-    /// The hashes of the labels at the offsets once more, so that many are compared at a time.
-    hashes: ArrayVec<u16, 128>,
     /// Whether the hashes count, which they don't once octets were lent for writing.
     hashed: bool,
-    ghost listed: { hashes.items ≡ map hash_of written.items },
     ghost known: { IsKnown hashed (T.octets target) written.items } by { Prim.hlevel props },
 }
 
@@ -51,7 +47,6 @@ impl<T: Composer> CompressComposer<T> {
         CompressComposer {
             target,
             written: ArrayVec::new(),
-            hashes: ArrayVec::new(),
             hashed: true,
         }
     }
@@ -105,8 +100,6 @@ impl<T: Composer> Truncate for CompressComposer<T> {
         self.hashed = false;
         self.target.truncate(len);
         self.hashed = forget(&mut self.written, self.target.as_slice(), len);
-        self.hashes.clear();
-        add_hashes(&mut self.hashes, &self.written);
     }
 }
 
@@ -174,7 +167,6 @@ impl<T: Composer> Composer for CompressComposer<T> {
         let begun = match append_beginning(
             &mut self.target,
             self.written.as_slice(),
-            self.hashes.as_slice(),
             name,
             self.hashed,
         ) {
@@ -192,7 +184,6 @@ impl<T: Composer> Composer for CompressComposer<T> {
                 start,
                 end,
             );
-            add_hashes(&mut self.hashes, &self.written);
             return Ok(());
         }
         if let Err(e) = self.target.append_slice(name) {
@@ -201,7 +192,6 @@ impl<T: Composer> Composer for CompressComposer<T> {
         let octets = self.target.as_slice();
         let end = octets.len();
         self.hashed = remember(&mut self.written, self.hashed, octets, name, start, end);
-        add_hashes(&mut self.hashes, &self.written);
         Ok(())
     }
 

@@ -2,9 +2,7 @@
 #![tactic(auto)]
 
 mod append;
-mod by_hash;
 pub mod compress;
-mod hashes;
 pub mod laws;
 mod marks;
 pub mod plan;

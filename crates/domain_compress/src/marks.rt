@@ -3,9 +3,10 @@ ghost use Rattle.std.specs.Prelude.{◌≡◌, ◌<◌, ℕ, List, length, slice
 ghost use Rattle.domain_label.specs.Wire.{IsAbsoluteWire};
 ghost use Rattle.domain_rdata.specs.ReadBack.{StandsAt};
 ghost use Rattle.domain_compress.specs.Ends.{first_label, label_hash, slot_of, IsMarked, AreMarked};
-ghost use Rattle.domain_compress.specs.Hashes.{HasHash};
+ghost use Rattle.domain_compress.specs.Hashes.{HasHash, IsHashed};
 ghost use Rattle.domain_reading.specs.Heads.{IsHeadAt, BrokenAt};
 
+use crate::written::Written;
 use domain_reading::fault::NameFault;
 use domain_reading::head::{Head, read_head};
 use domain_reading::heads::Heads;
@@ -90,7 +91,7 @@ pub(crate) fn hash_there(octets: &[u8], offset: usize) -> (bool, u16)
 }
 
 /// Whether a name whose first label has a marked hash may stand at the offset. Where a pointer stands it may.
-pub(crate) fn may_stand(octets: &[u8], offset: usize, marks: &[u8; 256]) -> bool
+fn may_stand(octets: &[u8], offset: usize, marks: &[u8; 256]) -> bool
     requires { offset < 16384 }
     ensures { (ls : List (List ℕ)) → 0 < length (first_label ls)
         → IsMarked marks.now ls → StandsAt octets.now offset ls → IsTrue result }
@@ -106,4 +107,21 @@ pub(crate) fn may_stand(octets: &[u8], offset: usize, marks: &[u8; 256]) -> bool
         }
         Head::Pointer(_target) => true,
     }
+}
+
+/// The same of a remembered offset, by the hash that was kept where the hashes count.
+pub(crate) fn may_stand_there(
+    octets: &[u8],
+    written: Written,
+    marks: &[u8; 256],
+    hashed: bool,
+) -> bool
+    requires { hashed ≡ true → IsHashed octets.now written }
+    ensures { (ls : List (List ℕ)) → 0 < length (first_label ls)
+        → IsMarked marks.now ls → StandsAt octets.now written.offset ls → IsTrue result }
+{
+    if hashed {
+        return is_marked(marks, written.hash);
+    }
+    may_stand(octets, usize::from(written.offset), marks)
 }

@@ -3,12 +3,12 @@ ghost use Rattle.std.specs.Prelude.{◌≡◌, ◌<◌, ◌≤◌, ◌+◌, ◌+
 ghost use Rattle.std.specs.List.{All};
 ghost use Rattle.domain_label.specs.Wire.{labels_in, IsWire, IsAbsoluteWire};
 ghost use Rattle.domain_compress.specs.Compressing.{pointer_to, remembered_from};
-ghost use Rattle.domain_compress.specs.Hashes.{IsKnown, AreListed};
+ghost use Rattle.domain_compress.specs.Hashes.{IsKnown};
 ghost use Rattle.domain_compress.specs.Planned.{remembered_in_table, offsets, WritesBeginning, WritesFlat};
 ghost use Rattle.domain_compress.specs.Written.{all_remembered};
 
 use crate::remember::remember;
-use crate::search::longest_written;
+use crate::search::longest_suffix;
 use crate::written::Written;
 use arrayvec::ArrayVec;
 use domain_list::composing::put_octets;
@@ -30,18 +30,16 @@ pub struct Beginning {
 pub(crate) fn find_beginning(
     octets: &[u8],
     written: &[Written],
-    hashes: &[u16],
     name: &[u8],
     hashed: bool,
 ) -> Option<Beginning>
     requires wire { IsAbsoluteWire name.now }
     requires known { IsKnown hashed octets.now written.now }
-    requires listed { AreListed hashed hashes.now written.now }
     ensures some { IfSome result
         (WritesBeginning octets.now (all_remembered written.now) name.now) }
     ensures none { IsNone result → WritesFlat octets.now (all_remembered written.now) name.now }
 {
-    let Some(end) = longest_written(octets, written, hashes, name, hashed) else {
+    let Some(end) = longest_suffix(octets, written, name, hashed) else {
         return None;
     };
     if end.pointers == MAX_POINTERS {
@@ -110,7 +108,7 @@ pub fn plan(octets: &[u8], table: &[u16], name: &[u8]) -> Option<Beginning>
         (WritesBeginning octets.now (remembered_in_table table.now) name.now) }
     ensures none { IsNone result → WritesFlat octets.now (remembered_in_table table.now) name.now }
 {
-    find_beginning(octets, written_at(table).as_slice(), &[], name, false)
+    find_beginning(octets, written_at(table).as_slice(), name, false)
 }
 
 /// The offsets of a table.

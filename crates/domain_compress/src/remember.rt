@@ -1,5 +1,5 @@
 //! Remembering where labels were written.
-ghost use Rattle.std.specs.Prelude.{◌≡◌, ◌+◌, ◌≤◌, length, take};
+ghost use Rattle.std.specs.Prelude.{◌≡◌, ◌+◌, ◌≤◌};
 ghost use Rattle.domain_label.specs.Wire.{labels_in, IsWire};
 ghost use Rattle.domain_compress.specs.Compressing.{remembered_too, remembered_within};
 ghost use Rattle.domain_compress.specs.Hashes.{IsKnown};
@@ -26,7 +26,6 @@ pub(crate) fn remember(
     requires end { end ≤ start + 255 }
     ensures known { IsKnown hashed octets.now written.old.items
         → IsKnown result octets.now written.new.items }
-    ensures kept { take (length written.old.items) written.new.items ≡ written.old.items }
     ensures offsets { all_remembered written.new.items
         ≡ remembered_too (all_remembered written.old.items) start end (labels_in labels.now) }
 {

@@ -1,19 +1,21 @@
 //! Finding the longest suffix of a name that was written before.
-ghost use Rattle.std.specs.Prelude.{◌≡◌, ◌<◌, IfSome, IsNone};
-ghost use Rattle.domain_label.specs.Wire.{labels_in, IsAbsoluteWire};
+ghost use Rattle.std.specs.Prelude.{◌≡◌, ◌<◌, ℕ, List, length, IfSome, IsNone};
+ghost use Rattle.domain_label.specs.Wire.{wire, labels_in, IsAbsoluteWire};
 ghost use Rattle.domain_rdata.specs.ReadBack.{StandsAt};
 ghost use Rattle.domain_compress.specs.Compressing.{NoSuffix};
-ghost use Rattle.domain_compress.specs.Hashes.{IsKnown, AreListed};
+ghost use Rattle.domain_compress.specs.Hashes.{IsKnown};
 ghost use Rattle.domain_compress.specs.Written.{all_remembered, StandsThrough, SuffixAt, NoSuffixAt, SuffixFound, Improves, begin_or_length};
 
-use crate::by_hash::longest_by_hash;
-use crate::marks::{mark_firsts, may_stand};
+use crate::marks::{mark_firsts, may_stand_there};
 use crate::written::{Written, WrittenSuffix};
 use domain_label::ignoring_case::same_octets;
 use domain_reading::head::{Head, read_head};
 use domain_reading::heads::Heads;
 use std::marker::Brand;
 use std::sync::ledger::{Blank, Ledger};
+
+/// The most octets that the labels of a name have before its root (RFC 1035, 3.1).
+const MAX_BEFORE_ROOT: usize = 254;
 
 /// How many pointers lead along the name at the offset, where it is this one without case.
 pub(crate) fn pointers_at(octets: &[u8], offset: usize, name: &[u8]) -> Option<u8>
@@ -83,20 +85,80 @@ fn pointers_at_with<L: Ledger>(
     }
 }
 
+/// How many octets the name at the offset has uncompressed, its root included. `None` only where no name is.
+fn wire_len_at(octets: &[u8], offset: usize) -> Option<usize>
+    ensures none { IsNone result
+        → (ls : List (List ℕ)) → StandsAt octets.now offset ls → ⊥ }
+    ensures some { IfSome result (λ n. (ls : List (List ℕ)) → StandsAt octets.now offset ls
+        → length (wire ls) ≡ n) }
+{
+    wire_len_at_with::<Brand>(octets, offset, Blank::new(1))
+}
+
+/// The same over a count of heads, of which no clause tells.
+fn wire_len_at_with<L: Ledger>(octets: &[u8], offset: usize, blank: Blank) -> Option<usize>
+    requires ledger { blank.name ≡ L.name }
+    requires parts { blank.parts ≡ L.parts }
+    requires some { 0 < blank.parts }
+    ensures none { IsNone result
+        → (ls : List (List ℕ)) → StandsAt octets.now offset ls → ⊥ }
+    ensures some { IfSome result (λ n. (ls : List (List ℕ)) → StandsAt octets.now offset ls
+        → length (wire ls) ≡ n) }
+{
+    let mut heads = Heads::<L>::new(blank);
+    let mut at = offset;
+    let mut len = 0;
+    let mut pointers = 0u8;
+    'heads: loop {
+        let head = match read_head(octets, at, &mut heads) {
+            Ok(head) => head,
+            Err(_fault) => return None,
+        };
+        match head {
+            Head::Root => return Some(len + 1),
+            Head::Label(size) => {
+                let more = 1 + usize::from(size);
+                if len + more > MAX_BEFORE_ROOT {
+                    return None;
+                }
+                len += more;
+                at += more;
+            }
+            Head::Pointer(target) => {
+                if target >= at {
+                    return None;
+                }
+                if pointers == 255 {
+                    return None;
+                }
+                pointers += 1;
+                at = target;
+            }
+        }
+    }
+}
+
 /// The longest suffix of the name that is read at the offset, ignoring case, of those that begin before `upto`, and
 /// through how many pointers it is read. The root alone is none.
+///
+/// What is read there can be the suffix alone that has as many octets, so no other is compared with it.
 fn suffix_at(octets: &[u8], offset: usize, name: &[u8], upto: usize) -> Option<(usize, u8)>
     requires { IsAbsoluteWire name.now }
     ensures none { IsNone result → NoSuffixAt octets.now offset name.now upto }
     ensures some { IfSome result (λ r. SuffixAt octets.now offset name.now upto r.0 r.1) }
 {
+    let Some(len) = wire_len_at(octets, offset) else {
+        return None;
+    };
     let mut begin = 0;
     'ends: while begin < upto {
         if name[begin] == 0 {
             return None;
         }
-        if let Some(pointers) = pointers_at(octets, offset, &name[begin..]) {
-            return Some((begin, pointers));
+        if name.len() - begin == len {
+            if let Some(pointers) = pointers_at(octets, offset, &name[begin..]) {
+                return Some((begin, pointers));
+            }
         }
         begin = begin + 1 + usize::from(name[begin]);
     }
@@ -137,10 +199,16 @@ fn better_suffix(
 /// The longest suffix of the name that is read at one of the offsets, ignoring case, and the first of these. The
 /// root alone is none.
 ///
-/// It goes over the offsets once, and reads no hash that was kept. What stands at most of the offsets begins with a
-/// label of another hash than any suffix of the name: no more is read there.
-fn longest_suffix(octets: &[u8], written: &[Written], name: &[u8]) -> Option<WrittenSuffix>
-    requires { IsAbsoluteWire name.now }
+/// It goes over the offsets once. What stands at most of them begins with a label of another hash than any suffix of the
+/// name: no more is read there. What stands at the others is read twice at most, whatever was written.
+pub(crate) fn longest_suffix(
+    octets: &[u8],
+    written: &[Written],
+    name: &[u8],
+    hashed: bool,
+) -> Option<WrittenSuffix>
+    requires wire { IsAbsoluteWire name.now }
+    requires known { IsKnown hashed octets.now written.now }
     ensures none { IsNone result →
         NoSuffix octets.now (all_remembered written.now) (labels_in name.now) }
     ensures some { IfSome result (SuffixFound octets.now (all_remembered written.now) name.now) }
@@ -151,7 +219,7 @@ fn longest_suffix(octets: &[u8], written: &[Written], name: &[u8]) -> Option<Wri
     let mut rest = written;
     'offsets: while let Some((first, more)) = rest.split_first() {
         rest = more;
-        if !may_stand(octets, usize::from(first.offset), &marks) {
+        if !may_stand_there(octets, *first, &marks, hashed) {
             continue;
         }
         best = better_suffix(octets, *first, name, best);
@@ -162,25 +230,4 @@ fn longest_suffix(octets: &[u8], written: &[Written], name: &[u8]) -> Option<Wri
         }
     }
     best
-}
-
-/// The same, by the hashes where they count.
-pub(crate) fn longest_written(
-    octets: &[u8],
-    written: &[Written],
-    hashes: &[u16],
-    name: &[u8],
-    hashed: bool,
-) -> Option<WrittenSuffix>
-    requires wire { IsAbsoluteWire name.now }
-    requires known { IsKnown hashed octets.now written.now }
-    requires listed { AreListed hashed hashes.now written.now }
-    ensures none { IsNone result →
-        NoSuffix octets.now (all_remembered written.now) (labels_in name.now) }
-    ensures some { IfSome result (SuffixFound octets.now (all_remembered written.now) name.now) }
-{
-    if hashed {
-        return longest_by_hash(octets, written, hashes, name);
-    }
-    longest_suffix(octets, written, name)
 }

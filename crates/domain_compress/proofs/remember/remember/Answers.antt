@@ -2,7 +2,7 @@ use Rattle.std.proofs.Common.{List, ◌≡◌, subst, sym, ◌+◌, ◌∙◌, a
 use Rattle.domain_compress.specs.Compressing.{RememberedLabel}
 use Rattle.domain_compress.specs.Written.{all_remembered}
 use Rattle.domain_compress.proofs.Remembering.{Remembered, remember_start, remember_next, remember_full, remember_root, remember_far, remember_all, remembered_size, remembered_push}
-use Rattle.domain_compress.proofs.LabelHashes.{known_push, take_all_items, kept_push}
+use Rattle.domain_compress.proofs.LabelHashes.{known_push}
 use Rattle.domain_compress.proofs.remember.remember.Goals as goal
 
 pub labels-init : goal.labels-init
@@ -10,7 +10,6 @@ labels-init c = record {
   done = remember_start _ _ _ _ c.requires.labels;
   known = λ old. old;
   grown = omega arith;
-  kept = take_all_items c.args.written.now.items;
   few = omega (arith, remembered_size c.args.written.now.items, c.remaining_capacity.ensures);
 }
 
@@ -39,12 +38,8 @@ labels-preserved c =
       done = subst P (sym (remembered_push _ _ _ c.push.ensures.items)) (remember_next _ _ _ _ _ _ _ c.labels.invariant.done c.labels-test.true (sym c.from-len.ensures) (omega arith) (omega arith));
       known = λ old. known_push _ _ _ _ _ _ (c.labels.invariant.known old) c.hash_there-stands.ensures c.push.ensures.items;
       grown = omega (arith, c.labels.invariant.grown, size);
-      kept = kept_push _ _ _ _ c.push.ensures.items c.labels.invariant.grown c.labels.invariant.kept;
       few = omega (arith, remembered_size c.push.new.self.items, size, c.remaining_capacity-in-labels.ensures);
     }
 
 pub returns-clause-offsets : goal.returns-clause-offsets
 returns-clause-offsets c = remember_all _ _ _ _ _ _ c.labels.invariant.done c.labels.invariant.few (omega arith)
-
-pub returns-then-remaining_capacity-eq0-clause-kept : goal.returns-then-remaining_capacity-eq0-clause-kept
-returns-then-remaining_capacity-eq0-clause-kept c = take_all_items c.args.written.now.items

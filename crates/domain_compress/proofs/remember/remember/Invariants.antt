@@ -1,4 +1,4 @@
-use Rattle.std.proofs.Common.{◌-◌, ◌≡◌, ◌≤◌, length, take}
+use Rattle.std.proofs.Common.{◌-◌, ◌≤◌, length}
 use Rattle.domain_compress.specs.Hashes.{IsKnown}
 use Rattle.domain_compress.specs.Written.{all_remembered}
 use Rattle.domain_compress.proofs.Remembering.{Remembered}
@@ -9,7 +9,6 @@ invariant-labels l = record {
   done : Remembered (all_remembered l.initial.written.items) (all_remembered l.written.items) l.labels l.start l.end l.at;
   known : IsKnown l.hashed l.octets l.initial.written.items → IsKnown l.holds l.octets l.written.items;
   grown : length l.initial.written.items ≤ length l.written.items;
-  kept : take (length l.initial.written.items) l.written.items ≡ l.initial.written.items;
   few : length (all_remembered l.written.items) ≤ 128;
 }
 

@@ -1,5 +1,6 @@
 use Rattle.std.proofs.Common.{length}
 use Rattle.domain_compress.specs.Ends.{AreMarked}
+use Rattle.domain_compress.specs.Hashes.{IsKnown}
 use Rattle.domain_compress.proofs.LongerSuffix.{Seen}
 use Rattle.domain_compress.proofs.search.longest_suffix.Given as goal
 
@@ -7,6 +8,7 @@ abbrev pub invariant-offsets : goal.invariant-offsets
 invariant-offsets l = record {
   seen : Seen l.octets l.name l.written l.rest l.best;
   marked : AreMarked l.marks l.name;
+  known : IsKnown l.hashed l.octets l.rest;
 }
 
 abbrev pub decreases-offsets : goal.decreases-offsets

@@ -9,7 +9,7 @@ returns g c = (
     λ w.
         let s = c.args.self.now in
         let t = g.T.Octets.octets (g.T.OctetsMut.with_octets s.target w) in
-        held_once false t s.hashes.items s.written.items (λ l k. record s { target = g.T.OctetsMut.with_octets s.target w; hashed = false; listed = l; known = k }) _ _ _ _,
+        held_once false t s.written.items (λ k. record s { target = g.T.OctetsMut.with_octets s.target w; hashed = false; known = k }) _ _,
   ),
   c.as_slice_mut.ensures,
 )
