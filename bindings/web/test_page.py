@@ -112,6 +112,7 @@ class Page(unittest.TestCase):
     def test_for_screen_readers(self):
         answer = self.find("answer")
         self.assertEqual((answer.get_attribute("role"), answer.get_attribute("aria-live")), ("status", "polite"))
+        self.assertEqual(self.find("entries").accessible_name, "Its questions and records")
         for name in ("sample", "digits", "offset", "limit"):
             self.assertTrue(self.driver.find_element(By.CSS_SELECTOR, f"label[for={name}]").text)
             self.assertTrue(self.find(name).accessible_name)
@@ -140,6 +141,49 @@ class Page(unittest.TestCase):
         self.assertEqual(self.told()[0], "<b></.")
         self.type_into("digits", "")
         self.assertEqual(self.told()[0], SHORT)
+
+    def lines(self):
+        return self.find("entries").get_property("value").split("\n")
+
+    def test_entries_are_read(self):
+        self.assertEqual(self.lines(), [
+            "question www.example.com. IN A", "answer www.example.com. 3600 IN CNAME host.example.com.",
+            "answer host.example.com. 60 IN A \\# 4 c0000201",
+        ])
+        self.type_into("digits", "0007 8180 0000 0001 0000 0000 00 0006 0001 0000003c 0019 0161 00 c017"
+                       + "0000000100000002000000030000000400000005")
+        self.assertEqual(self.lines(), [
+            "answer . 60 IN SOA \\# 26 016100016100" + "0000000100000002000000030000000400000005",
+        ])
+        self.type_into("digits", "0007 8180 0001 0001 0000 0000 00 0001 0001 c0")
+        self.assertEqual(self.lines(), ["question . IN A"])
+        self.assertEqual(self.find("entries-note").text, "after these: unexpected end of input")
+
+    def test_a_changed_entry_is_built(self):
+        self.type_into("entries", "question www.example.com. IN A\nanswer www.example.com. 60 IN A \\# 4 c0000201")
+        # The identifier and the flags stay; the owner is a pointer to the question's name (RFC 1035, 4.1.4).
+        wanted = ("1234 8180 0001 0001 0000 0000 03777777 076578616d706c65 03636f6d 00 0001 0001"
+                  " c00c 0001 0001 0000003c 0004 c0000201").replace(" ", "")
+        self.assertEqual(self.find("digits").get_property("value").replace(" ", ""), wanted)
+        self.assertEqual(self.told()[0], "www.example.com.")
+        self.type_into("offset", str(wanted.index("c00c") // 2))
+        steps = [item.text for item in self.find("steps").find_elements(By.TAG_NAME, "li")]
+        self.assertEqual(steps[0], "at 33: a pointer to 12")
+
+    def test_an_entry_that_says_nothing(self):
+        before = self.find("digits").get_property("value")
+        for line, why in (
+            ("question a..b IN A", "empty label"), ("answer a. 60 IN A 192.0.2.1", "data are a name, or \\# and octets"),
+            ("answer a. 60 IN A \\# 4 c00002", "data have another number of octets"), ("question a. IN LOST",
+             "no name of a type, a class or a code"), ("answer a. x IN NS b.", "a time to live is a number of 32 bits"),
+            ("answer a. 1 IN NS b.\nquestion a. IN A", "a later section was begun"), ("lost a. 1 IN NS b.", "no such section"),
+        ):
+            with self.subTest(line=line):
+                self.type_into("entries", line)
+                number = line.count("\n") + 1
+                self.assertEqual(self.find("entries-note").text, f"Nothing is built: line {number}: {why}")
+                self.assertEqual(self.find("entries").get_attribute("aria-invalid"), "true")
+                self.assertEqual(self.find("digits").get_property("value"), before)
 
     def test_no_network(self):
         self.assertEqual(self.driver.execute_script("return performance.getEntriesByType('resource').length"), 0)

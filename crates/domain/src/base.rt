@@ -118,8 +118,8 @@ pub mod message_builder {
 /// OPT records that are read (RFC 6891).
 pub mod opt {
     pub use domain_edns::{
-        ClientSubnet, Cookie, EdnsOption, ExtendedError, OptData, OptError, OptIter, OptRecord,
-        opt_of,
+        ClientSubnet, Cookie, EdnsOption, ExtendedError, Nsid, OptData, OptError, OptIter,
+        OptRecord, opt_of,
     };
 }
 

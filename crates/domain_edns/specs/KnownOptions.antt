@@ -1,5 +1,7 @@
 -- What the data of options says whose codes are known.
-use Rattle.std.specs.Prelude.{if◌then◌else◌, ◌≡◌, ◌≢◌, ◌⊎◌, ℕ, nat_eq, ◌+◌, ◌-◌, ◌/◌, ◌%◌, ◌^◌, ◌<◌, ◌≤◌, List, ◌++◌, length, drop, slice_index, codes, Option, Some, None}
+use Rattle.std.specs.Prelude.{if◌then◌else◌, ◌≡◌, ◌≢◌, ◌⊎◌, ℕ, nat_eq, ◌+◌, ◌-◌, ◌/◌, ◌%◌, ◌^◌, ◌<◌, ◌≤◌, List, [], ◌∷◌, ◌++◌, length, drop, slice_index, codes, Option, Some, None}
+use Rattle.std.specs.List.{flat_map}
+use Rattle.domain_label.specs.Hex.{hex_digit}
 use Rattle.domain_header.specs.Numbers.{number16}
 use Rattle.domain_wire.specs.Refusals.{Refusal, refusal}
 use Rattle.domain_wire.specs.Refusals.Refusal.{short_input, form}
@@ -9,6 +11,14 @@ use Rattle.domain_wire.specs.declared.error.ParseError.{ParseError}
 abbrev pub OfCode : {A : Type 0} → ℕ → ℕ → (A → Type 0) → Option A → Type 0
 OfCode wanted code Says None = code ≢ wanted
 OfCode wanted code Says (Some it) = (code ≡ wanted) × Says it
+
+-- two hexadecimal digits, the high one first
+abbrev pub octet_digits : ℕ → List ℕ
+octet_digits n = hex_digit (n / 16) ∷ hex_digit (n % 16) ∷ []
+
+-- A name server's identifier is shown by the digits of each octet (RFC 5001, 2.4).
+abbrev pub nsid_text : List ℕ → List ℕ
+nsid_text octets = flat_map octet_digits octets
 
 -- The octets are an extended error: its code in 16 bits, and its text (RFC 8914, 2).
 pub record IsExtendedError (octets : List ℕ) (info_code : ℕ) (text : List ℕ) : Type 0 where

@@ -1,19 +1,70 @@
 //! What options say whose codes are known.
-ghost use Rattle.std.specs.Prelude.{◌≡◌, ◌↔◌, ◌<◌, ◌-◌, ◌^◌, IfOk, IfErr, OnOk, IsTrue, length};
+ghost use Rattle.std.specs.Prelude.{◌≡◌, ◌↔◌, ◌<◌, ◌-◌, ◌^◌, IfOk, IfErr, OnOk, IsTrue, Some, length};
 ghost use Rattle.domain_wire.specs.Refusals.{refusal};
 ghost use Rattle.domain_wire.specs.Refusals.Refusal.{short_input};
-ghost use Rattle.domain_edns.specs.KnownOptions.{OfCode, FaultOf, IsExtendedError, IsCookie, IsCookieFault, family_bits, octets_of_prefix, IsPrefix, IsPrefixFault, IsAddress, IsAddressFault, EndsInZeros, IsClientSubnet, IsSubnetFault};
+ghost use Rattle.domain_edns.specs.KnownOptions.{OfCode, FaultOf, IsExtendedError, IsCookie, IsCookieFault, family_bits, octets_of_prefix, IsPrefix, IsPrefixFault, IsAddress, IsAddressFault, EndsInZeros, IsClientSubnet, IsSubnetFault, octet_digits, nsid_text};
 
 use crate::options::EdnsOption;
 use domain_header::numbers::number_of_16_bits;
+use domain_label::hex::hex_character;
 use domain_wire::ParseError;
+use std::fmt;
 
 /// The codes of the options (IANA's registry of EDNS option codes).
+const NAME_SERVER_IDENTIFIER: u16 = 3;
+
 const CLIENT_SUBNET: u16 = 8;
 
 const COOKIE: u16 = 10;
 
 const EXTENDED_ERROR: u16 = 15;
+
+/// The identifier of the name server that answered (RFC 5001, 2.3), shown as two hexadecimal digits for each octet (2.4).
+#[derive(Clone, Copy, Debug, PartialEq, Eq)]
+pub struct Nsid<'a> {
+    /// Any octets; none in a query, which asks for it.
+    pub identifier: &'a [u8],
+}
+
+impl<'a> Nsid<'a> {
+    /// The identifier that an option is, which is all of its octets. `None` exactly where its code isn't 3.
+    pub fn from_option(option: EdnsOption<'a>) -> Option<Nsid<'a>>
+        ensures { OfCode 3 option.entry.code
+            (λ it. it.identifier.now ≡ option.entry.«data».now) result }
+    {
+        if option.code != NAME_SERVER_IDENTIFIER {
+            return None;
+        }
+        Some(Nsid {
+            identifier: option.data,
+        })
+    }
+}
+
+impl<'a> fmt::Display for Nsid<'a> {
+    ghost output = { λ it. Some (nsid_text it.identifier.now) };
+
+    fn fmt<W: fmt::Write>(&self, f: &mut fmt::Formatter<W>) -> fmt::Result {
+        for octet in self.identifier {
+            write!(f, "{}", Digits(*octet))?;
+        }
+        Ok(())
+    }
+}
+
+/// An octet in two hexadecimal digits.
+#[derive(Clone, Copy)]
+struct Digits(u8);
+
+impl fmt::Display for Digits {
+    ghost output = { λ it. Some (octet_digits it.0) };
+
+    fn fmt<W: fmt::Write>(&self, f: &mut fmt::Formatter<W>) -> fmt::Result {
+        let high = hex_character(self.0 / 16);
+        let low = hex_character(self.0 % 16);
+        write!(f, "{high}{low}")
+    }
+}
 
 /// An extended error: more of why a response has its code (RFC 8914, 2).
 #[derive(Clone, Copy, Debug, PartialEq, Eq)]

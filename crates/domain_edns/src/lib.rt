@@ -7,6 +7,6 @@ pub mod options;
 pub mod record;
 
 pub use data::OptData;
-pub use known::{ClientSubnet, Cookie, ExtendedError};
+pub use known::{ClientSubnet, Cookie, ExtendedError, Nsid};
 pub use options::{EdnsOption, OptIter};
 pub use record::{OptError, OptRecord, opt_of};

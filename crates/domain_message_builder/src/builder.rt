@@ -200,10 +200,12 @@ impl<Target: Composer> MessageBuilder<Target> {
             (Target.capacity (target_of self.old)) e) }
         ensures tight { IfErr result
             (RefusedAsWritten
-            (HasNoRoom N.labels Target.octets Target.capacity Target.may_append question.now (target_of self.old))
+            (HasNoRoom N.labels Target.octets Target.capacity Target.may_append question.now
+            (target_of self.old))
             (Surpasses Target.octets
             (WritesQuestion N.labels Target.octets Target.appends question.now) (target_of self.old)
-            ((state_of Target.octets self.old).limit - (state_of Target.octets self.old).reserved))) }
+            ((state_of Target.octets self.old).limit
+            - (state_of Target.octets self.old).reserved))) }
         ensures capacity { Target.capacity (target_of self.old)
             ≤ Target.capacity (target_of self.new) }
     {
@@ -265,8 +267,10 @@ impl<Target: Composer> MessageBuilder<Target> {
             resource.now (target_of self.old))
             (Surpasses Target.octets
             (WritesRecord N.labels D.type_number Target.octets Target.appends
-            (λ d. D.written d Target Target.octets Target.appends) resource.now) (target_of self.old)
-            ((state_of Target.octets self.old).limit - (state_of Target.octets self.old).reserved))) }
+            (λ d. D.written d Target Target.octets Target.appends) resource.now)
+            (target_of self.old)
+            ((state_of Target.octets self.old).limit
+            - (state_of Target.octets self.old).reserved))) }
         ensures capacity { Target.capacity (target_of self.old)
             ≤ Target.capacity (target_of self.new) }
     {
@@ -312,7 +316,8 @@ impl<Target: Composer> MessageBuilder<Target> {
             resource.now (target_of self.old))
             (Surpasses Target.octets
             (WritesRecord N.labels D.type_number Target.octets Target.appends
-            (λ d. D.written d Target Target.octets Target.appends) resource.now) (target_of self.old)
+            (λ d. D.written d Target Target.octets Target.appends) resource.now)
+            (target_of self.old)
             ((state_of Target.octets self.old).limit - kept))) }
         ensures capacity { Target.capacity (target_of self.old)
             ≤ Target.capacity (target_of self.new) }

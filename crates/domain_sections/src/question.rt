@@ -1,5 +1,5 @@
 //! The question section.
-ghost use Rattle.std.specs.Prelude.{◌≡◌, ◌≤◌, ◌<◌, true, length, IfErr, OnOk, OnErr, Err};
+ghost use Rattle.std.specs.Prelude.{◌≡◌, ◌≤◌, ◌<◌, ◌-◌, true, length, IfErr, OnOk, OnErr, Err};
 ghost use Rattle.domain_header.specs.Headers.{question_count};
 ghost use Rattle.domain_message.specs.LeftToTarget.{WritesQuestion};
 ghost use Rattle.domain_message.specs.declared.section.Section.TheVariants.{Answer};
@@ -9,6 +9,7 @@ ghost use Rattle.domain_message_builder.specs.Finished.{finished_octets};
 ghost use Rattle.domain_message_builder.specs.Pushes.{asked, record_count, with_header, PushesQuestion, Rewinds, RewindsAll};
 ghost use Rattle.domain_message_builder.specs.Reading.{IsMessageOf};
 ghost use Rattle.domain_message_builder.specs.Refusals.{QuestionRefused};
+ghost use Rattle.domain_message_builder.specs.Tight.{HasNoRoom, RefusedAsWritten, Surpasses};
 ghost use Rattle.domain_message_builder.specs.Views.{state_of, target_of};
 ghost use Rattle.domain_sections.specs.Errors.{push_error};
 
@@ -87,6 +88,15 @@ impl<Target: Composer> QuestionBuilder<Target> {
         ensures why { IfErr result (λ e. QuestionRefused Target.compresses
             (asked N.labels question.now) (question_state Target.octets self.old)
             (Target.capacity (question_target self.old)) (push_error e)) }
+        ensures tight { IfErr result (λ e. RefusedAsWritten
+            (HasNoRoom N.labels Target.octets Target.capacity Target.may_append question.now
+            (question_target self.old))
+            (Surpasses Target.octets
+            (WritesQuestion N.labels Target.octets Target.appends question.now)
+            (question_target self.old)
+            ((question_state Target.octets self.old).limit
+            - (question_state Target.octets self.old).reserved))
+            (push_error e)) }
         ensures capacity { Target.capacity (question_target self.old)
             ≤ Target.capacity (question_target self.new) }
     {
@@ -129,9 +139,11 @@ impl<Target: Composer> QuestionBuilder<Target> {
 
     /// Writes the header, and returns the target: its octets are the message.
     pub fn finish(self) -> Target
-        ensures message { (it : Content) → Holds Target.compresses (question_state Target.octets self) it
+        ensures message { (it : Content)
+            → Holds Target.compresses (question_state Target.octets self) it
             → IsMessageOf (question_state Target.octets self).header it (Target.octets result) }
-        ensures octets { Target.octets result ≡ finished_octets (question_state Target.octets self) }
+        ensures octets { Target.octets result
+            ≡ finished_octets (question_state Target.octets self) }
         ensures within { length (Target.octets result)
             ≤ (question_state Target.octets self).limit }
     {

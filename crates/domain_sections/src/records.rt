@@ -1,5 +1,7 @@
 //! The sections of records.
-ghost use Rattle.std.specs.Prelude.{◌≡◌, ◌≤◌, ◌<◌, true, length, IfErr, IfSome, OnOk, OnErr, Err};
+ghost use Rattle.std.specs.Prelude.{◌≡◌, ◌≤◌, ◌<◌, ◌-◌, true, length, IfErr, IfSome, OnOk, OnErr, Err};
+ghost use Rattle.domain_rdata.specs.RecordData.{ComposeRefused};
+ghost use Rattle.domain_header.specs.Headers.{additional_count};
 ghost use Rattle.domain_message.specs.LeftToTarget.{WritesRecord};
 ghost use Rattle.domain_message.specs.RecordParts.{data_of};
 ghost use Rattle.domain_message.specs.SectionOrder.{section_after};
@@ -9,6 +11,7 @@ ghost use Rattle.domain_message_builder.specs.Finished.{finished_octets};
 ghost use Rattle.domain_message_builder.specs.Pushes.{headed, later_count, section_count, with_header, PushesRecord, Rewinds, RewindsAll};
 ghost use Rattle.domain_message_builder.specs.Reading.{IsMessageOf};
 ghost use Rattle.domain_message_builder.specs.Refusals.{RecordRefused};
+ghost use Rattle.domain_message_builder.specs.Tight.{RefusedAsWritten, RefusesEntry, Surpasses};
 ghost use Rattle.domain_message_builder.specs.Views.{state_of, target_of};
 ghost use Rattle.domain_sections.specs.Errors.{push_error};
 
@@ -116,6 +119,18 @@ impl<Target: Composer, S: RecordSection> RecordBuilder<Target, S> {
             (D.composed (data_of resource.now) Target.compresses)
             (record_state Target.octets self.old) (Target.capacity (record_target self.old))
             (push_error e)) }
+        ensures tight { Target.compresses ≡ true → IfErr result (λ e. RefusedAsWritten
+            (RefusesEntry N.labels D.type_number Target.octets Target.capacity Target.may_append
+            Target.appends
+            (λ t. ComposeRefused (D.composed (data_of resource.now) Target.compresses) t)
+            resource.now (record_target self.old))
+            (Surpasses Target.octets
+            (WritesRecord N.labels D.type_number Target.octets Target.appends
+            (λ d. D.written d Target Target.octets Target.appends) resource.now)
+            (record_target self.old)
+            ((record_state Target.octets self.old).limit
+            - (record_state Target.octets self.old).reserved))
+            (push_error e)) }
         ensures capacity { Target.capacity (record_target self.old)
             ≤ Target.capacity (record_target self.new) }
     {
@@ -158,7 +173,8 @@ impl<Target: Composer, S: RecordSection> RecordBuilder<Target, S> {
 
     /// Writes the header, and returns the target: its octets are the message.
     pub fn finish(self) -> Target
-        ensures message { (it : Content) → Holds Target.compresses (record_state Target.octets self) it
+        ensures message { (it : Content)
+            → Holds Target.compresses (record_state Target.octets self) it
             → IsMessageOf (record_state Target.octets self).header it (Target.octets result) }
         ensures octets { Target.octets result ≡ finished_octets (record_state Target.octets self) }
         ensures within { length (Target.octets result) ≤ (record_state Target.octets self).limit }
@@ -170,11 +186,13 @@ impl<Target: Composer, S: RecordSection> RecordBuilder<Target, S> {
 impl<Target: Composer> RecordBuilder<Target, AdditionalSection> {
     ghost use Rattle.domain_message_builder.specs.Cuts.{CannotAddOpt, OptRefused, PushesOpt};
     ghost use Rattle.domain_message_builder.specs.OptViews.{opt_of};
-    ghost use Rattle.domain_sections.specs.Views.{record_state, record_target};
+    ghost use Rattle.domain_sections.specs.Views.{record_builder, record_state, record_target};
+    ghost use Rattle.domain_sections.specs.declared.error.SectionError.TheVariants.{Count};
 
     /// Pushes an OPT record, or nothing, into the octets that were set aside too: none are after it (RFC 6891, 6.1.1).
     ///
-    /// The errors are those of `push`, and only where the record has no room or 65,535 are there. Nothing is then changed.
+    /// The errors are those of `push`, and only where the record has no room or 65,535 are there. Nothing is then changed,
+    /// after `Count` nothing at all, also of what the target remembers.
     pub fn push_opt<Octs: Octets>(
         &mut self,
         opt: &OptBuilder<Octs>,
@@ -188,6 +206,10 @@ impl<Target: Composer> RecordBuilder<Target, AdditionalSection> {
             (push_error e)) }
         ensures no_room { OnErr result (CannotAddOpt (opt_of opt.now)
             (Target.capacity (record_target self.old)) (record_state Target.octets self.old)) }
+        ensures early { IfErr result (λ e. is_early (push_error e) ≡ true
+            → record_builder self.new ≡ record_builder self.old) }
+        ensures count { additional_count (record_state Target.octets self.old).counts ≡ 65535
+            → result ≡ Err Count }
         ensures capacity { Target.capacity (record_target self.old)
             ≤ Target.capacity (record_target self.new) }
     {
