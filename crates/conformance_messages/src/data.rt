@@ -2,7 +2,8 @@
 
 use crate::typed::put_typed;
 use conformance_answer::{Answer, Fail, Fields, is};
-use domain_data::{A, Aaaa, AllRecordData, Cname, Dname, Mx, Ns, Ptr, Soa, Srv};
+use domain_all_data::AllRecordData;
+use domain_data::{A, Aaaa, Cname, Dname, Mx, Ns, Ptr, Soa, Srv};
 use domain_parsed::ParsedName;
 use domain_rdata::{
     CanonicalError, ComposeRecordData, ParseAnyRecordData, ParseRecordData, RecordData, Rtype,

@@ -2,8 +2,9 @@
 
 use crate::data::Read;
 use conformance_answer::Answer;
+use domain_all_data::AllRecordData;
 use domain_compress::CompressComposer;
-use domain_data::{AllRecordData, Naptr};
+use domain_data::Naptr;
 use domain_message::{Message, ParsedRecord, Record, RecordSection, Section};
 use domain_message_builder::MessageBuilder;
 use domain_rdata::{ComposeRecordData, ParseAnyRecordData, ParseRecordData};

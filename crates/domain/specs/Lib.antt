@@ -68,8 +68,8 @@ pub use Rattle.domain_fields.specs.Sequences
 pub use Rattle.domain_data.specs.Shapes
 pub use Rattle.domain_data.specs.Views as DataViews
 pub use Rattle.domain_data.specs.HostFields
-pub use Rattle.domain_data.specs.Strings
-pub use Rattle.domain_data.specs.Txts
-pub use Rattle.domain_data.specs.AllData
-pub use Rattle.domain_data.specs.AllTypes
+pub use Rattle.domain_txt.specs.Strings
+pub use Rattle.domain_txt.specs.Txts
+pub use Rattle.domain_all_data.specs.AllData
+pub use Rattle.domain_all_data.specs.AllTypes
 pub use Rattle.domain_parsed.specs.Parses

@@ -1,16 +1,17 @@
 //! Data of records by their types. The README.md of `domain_data` tells the calls.
 
+pub use domain_all_data::AllRecordData;
 pub use domain_data::{
-    A, Aaaa, Afsdb, AllRecordData, Base16Octets, Base64Octets, Caa, CharString, Cname, Dname,
-    Dnskey, Ds, Hinfo, InvalidTag, Kx, LastOctets, LongCharString, Mb, Md, Mf, Mg, Minfo, Mr, Mx,
-    Naptr, Ns, Nsec, Ptr, Px, QuotedOctets, Rp, Rrsig, Rt, Soa, Srv, Sshfp, Tag, Tlsa, Txt,
-    TxtError, TxtIter, TypeBitmaps, TypeBitmapsError, TypesIter,
+    A, Aaaa, Afsdb, Base16Octets, Base64Octets, Caa, CharString, Cname, Dname, Dnskey, Ds, Hinfo,
+    InvalidTag, Kx, LastOctets, LongCharString, Mb, Md, Mf, Mg, Minfo, Mr, Mx, Naptr, Ns, Nsec,
+    Ptr, Px, QuotedOctets, Rp, Rrsig, Rt, Soa, Srv, Sshfp, Tag, Tlsa, TypeBitmaps,
+    TypeBitmapsError, TypesIter,
 };
 pub use domain_rdata::UnknownRecordData;
+pub use domain_txt::{Txt, TxtError, TxtIter};
 
 /// The types of RFC 1035, in whose data names may be compressed.
 pub mod rfc1035 {
-    pub use domain_data::{
-        A, Cname, Hinfo, Mb, Md, Mf, Mg, Minfo, Mr, Mx, Ns, Ptr, Soa, Txt, TxtError, TxtIter,
-    };
+    pub use domain_data::{A, Cname, Hinfo, Mb, Md, Mf, Mg, Minfo, Mr, Mx, Ns, Ptr, Soa};
+    pub use domain_txt::{Txt, TxtError, TxtIter};
 }

@@ -1,10 +1,1 @@
-pub mod Calendar
 pub mod CanonicalForms
-pub mod TxtPassing
-pub mod TxtShowing
-pub mod Shapes
-pub mod BlockWalk
-pub mod FirstBit
-pub mod TypesWalk
-pub mod TypesShowing
-pub mod BitmapFaults

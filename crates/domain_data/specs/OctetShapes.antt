@@ -15,7 +15,7 @@ use Rattle.domain_strings.specs.CharStrings.{CharStringAt, NoCharString}
 use Rattle.domain_strings.specs.CharStringLaws.{char_string_reading}
 use Rattle.domain_strings.specs.TagLaws.{tag_reading}
 use Rattle.domain_strings.specs.Tags.{TagAt, NoTag}
-use Rattle.domain_data.specs.BitmapReading.{BitmapsAt, NoBitmaps, bitmaps_reading}
+use Rattle.domain_dnssec.specs.BitmapReading.{BitmapsAt, NoBitmaps, bitmaps_reading}
 use Rattle.domain_data.specs.Shapes.{Number16At, Number32At, all_data, number16, one_more, name_before}
 
 -- a number of 8 bits

@@ -2,7 +2,7 @@
 ghost use Rattle.std.specs.Prelude.{◌≡◌};
 
 use crate::fields::FieldsData;
-use crate::type_bitmaps::TypeBitmaps;
+use domain_dnssec::TypeBitmaps;
 use domain_fields::{Sequence, UncompressedNameField};
 use octseq::Octets;
 

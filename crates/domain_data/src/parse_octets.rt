@@ -6,14 +6,12 @@ ghost use Rattle.domain_fields.specs.Data.{AllAt, NotAll};
 ghost use Rattle.domain_strings.specs.TagViews.{tag_octets};
 ghost use Rattle.domain_strings.specs.Views.{char_octets, last_octets};
 ghost use Rattle.domain_data.specs.OctetShapes.{StringsAt, NoStrings, strings_data, RuleAt, NoRule, rule_data, FingerprintAt, NoFingerprint, fingerprint_data, KeyAt, NoKey, key_data, AssociationAt, NoAssociation, association_data, PropertyAt, NoProperty, property_data, SignatureAt, NoSignature, signature_data, DenialAt, NoDenial, denial_data};
-ghost use Rattle.domain_data.specs.BitmapViews.{bitmaps_blocks};
+ghost use Rattle.domain_dnssec.specs.BitmapViews.{bitmaps_blocks};
 ghost use Rattle.domain_data.specs.Views.{fields_of};
 ghost use Rattle.domain_rdata.specs.Rtypes.{rtype_number};
 
 use crate::fields::FieldsData;
-use crate::rtype_field::RtypeField;
-use crate::time_field::TimeField;
-use crate::type_bitmaps::TypeBitmaps;
+use domain_dnssec::{RtypeField, TimeField, TypeBitmaps};
 use domain_fields::{Sequence, UncompressedNameField};
 use domain_parsed::ParsedName;
 use domain_rdata::{ParseRecordData, Rtype};

@@ -2,8 +2,7 @@
 ghost use Rattle.std.specs.Prelude.{◌≡◌};
 
 use crate::fields::FieldsData;
-use crate::rtype_field::RtypeField;
-use crate::time_field::TimeField;
+use domain_dnssec::{RtypeField, TimeField};
 use domain_fields::{Sequence, UncompressedNameField};
 use domain_header::Ttl;
 use domain_rdata::Rtype;

@@ -11,7 +11,7 @@ use Rattle.domain_message.specs.Texts.{spaced, record_text, text_before_data}
 use Rattle.domain_message.specs.declared.section.Section.{Section}
 use Rattle.domain_message.specs.declared.section.Section.TheVariants.{Answer, Authority, Additional}
 use Rattle.domain_rdata.specs.AnyData.{unknown_text}
-use Rattle.domain_data.specs.AllData.{AllFields, AllDataAt, NoAllData, fields_text}
+use Rattle.domain_all_data.specs.AllData.{AllFields, AllDataAt, NoAllData, fields_text}
 use Rattle.domain_walk.specs.Edns.{remark, edns_line, another_text, AreOptionLines}
 
 -- the octets of the data

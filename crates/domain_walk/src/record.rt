@@ -10,7 +10,7 @@ ghost use Rattle.domain_walk.specs.Edns.{another_text};
 
 use crate::edns::{EdnsLine, write_options};
 use crate::streams::Sink;
-use domain_data::AllRecordData;
+use domain_all_data::AllRecordData;
 use domain_header::Rcode;
 use domain_message::{ParsedRecord, Record, RtypeText, Section};
 use domain_rdata::ParseAnyRecordData;

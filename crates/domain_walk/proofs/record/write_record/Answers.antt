@@ -1,6 +1,6 @@
 use Rattle.std.proofs.Common.{refl, rules}
 use Rattle.std.proofs.lemmas.Bool.{false≢true}
-use Rattle.domain_data.specs.AllData.{NoAllData}
+use Rattle.domain_all_data.specs.AllData.{NoAllData}
 use Rattle.domain_message.specs.RecordModel.{record_fields}
 use Rattle.domain_walk.specs.Records.{bare_text, unread_text}
 use Rattle.domain_walk.specs.Records.IsRecordLine.{bare, unread}

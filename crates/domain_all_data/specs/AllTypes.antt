@@ -1,0 +1,85 @@
+-- What contracts see of data of any type.
+use Rattle.std.specs.Prelude.{ℕ}
+use Rattle.octseq.specs.declared.octets.Octets.{Ghosts}
+use Rattle.domain_parsed.specs.declared.parsed.ParsedName.{ParsedName}
+use Rattle.domain_parsed.specs.ParsedNames.{parsed_labels}
+use Rattle.domain_data.specs.HostFields.{soa_mname, soa_rname, soa_serial, soa_refresh, soa_retry, soa_expire, soa_minimum, srv_priority, srv_weight, srv_port, srv_target}
+use Rattle.domain_dnssec.specs.BitmapViews.{bitmaps_blocks}
+use Rattle.domain_data.specs.Views.{fields_of}
+use Rattle.domain_rdata.specs.Rtypes.{rtype_number}
+use Rattle.domain_strings.specs.TagViews.{tag_octets}
+use Rattle.domain_strings.specs.Views.{char_octets, last_octets}
+use Rattle.domain_rdata.specs.Unknown.{data_octets, data_type}
+use Rattle.domain_txt.specs.Txts.{txt_strings}
+use Rattle.domain_all_data.specs.AllData.{AllFields}
+use Rattle.domain_all_data.specs.AllData.AllFields.{ipv4, ipv6, name, names, number_name, number_names, numbers_name, names_numbers, strings, two_strings, rule, digest, fingerprint, signature, denial, key, association, property, octets}
+use Rattle.domain_all_data.specs.declared.all.AllRecordData.{AllRecordData}
+use Rattle.domain_all_data.specs.declared.all.AllRecordData.TheVariants.{A, Aaaa, Ns, Cname, Ptr, Dname, Mx, Soa, Srv, Mb, Md, Mf, Mg, Mr, Minfo, Rp, Afsdb, Rt, Px, Kx, Hinfo, Naptr, Ds, Sshfp, Rrsig, Nsec, Dnskey, Tlsa, Caa, Txt, Unknown}
+
+-- the number of the type of the data (RFC 1035, 3.2.2)
+abbrev pub all_type : {O N : Type 0} {g : Ghosts O} → AllRecordData O N g → ℕ
+all_type (A it) = 1
+all_type (Aaaa it) = 28
+all_type (Ns it) = 2
+all_type (Cname it) = 5
+all_type (Ptr it) = 12
+all_type (Dname it) = 39
+all_type (Mx it) = 15
+all_type (Soa it) = 6
+all_type (Srv it) = 33
+all_type (Mb it) = 7
+all_type (Md it) = 3
+all_type (Mf it) = 4
+all_type (Mg it) = 8
+all_type (Mr it) = 9
+all_type (Minfo it) = 14
+all_type (Rp it) = 17
+all_type (Afsdb it) = 18
+all_type (Rt it) = 21
+all_type (Px it) = 26
+all_type (Kx it) = 36
+all_type (Hinfo it) = 13
+all_type (Naptr it) = 35
+all_type (Ds it) = 43
+all_type (Sshfp it) = 44
+all_type (Rrsig it) = 46
+all_type (Nsec it) = 47
+all_type (Dnskey it) = 48
+all_type (Tlsa it) = 52
+all_type (Caa it) = 257
+all_type (Txt it) = 16
+all_type (Unknown it) = data_type it
+
+-- what data of any type says (RFC 1035, 3.3 and 3.4)
+abbrev pub all_fields : {O P : Type 0} {g : Ghosts O} {h : Ghosts P} → AllRecordData O (ParsedName P h) g → AllFields
+all_fields (A it) = ipv4 (fields_of it)
+all_fields (Aaaa it) = ipv6 (fields_of it)
+all_fields (Ns it) = name (parsed_labels (fields_of it).name)
+all_fields (Cname it) = name (parsed_labels (fields_of it).name)
+all_fields (Ptr it) = name (parsed_labels (fields_of it).name)
+all_fields (Dname it) = name (parsed_labels (fields_of it).name)
+all_fields (Mx it) = number_name ((fields_of it).first, parsed_labels (fields_of it).rest.name)
+all_fields (Soa it) = names_numbers (parsed_labels (soa_mname it), (parsed_labels (soa_rname it), (soa_serial it, (soa_refresh it, (soa_retry it, (soa_expire it, soa_minimum it))))))
+all_fields (Srv it) = numbers_name (srv_priority it, (srv_weight it, (srv_port it, parsed_labels (srv_target it))))
+all_fields (Mb it) = name (parsed_labels (fields_of it).name)
+all_fields (Md it) = name (parsed_labels (fields_of it).name)
+all_fields (Mf it) = name (parsed_labels (fields_of it).name)
+all_fields (Mg it) = name (parsed_labels (fields_of it).name)
+all_fields (Mr it) = name (parsed_labels (fields_of it).name)
+all_fields (Minfo it) = names (parsed_labels (fields_of it).first.name, parsed_labels (fields_of it).rest.name)
+all_fields (Rp it) = names (parsed_labels (fields_of it).first.name, parsed_labels (fields_of it).rest.name)
+all_fields (Afsdb it) = number_name ((fields_of it).first, parsed_labels (fields_of it).rest.name)
+all_fields (Rt it) = number_name ((fields_of it).first, parsed_labels (fields_of it).rest.name)
+all_fields (Px it) = number_names ((fields_of it).first, (parsed_labels (fields_of it).rest.first.name, parsed_labels (fields_of it).rest.rest.name))
+all_fields (Kx it) = number_name ((fields_of it).first, parsed_labels (fields_of it).rest.name)
+all_fields (Hinfo it) = two_strings (char_octets (fields_of it).first, char_octets (fields_of it).rest)
+all_fields (Naptr it) = rule ((fields_of it).first, ((fields_of it).rest.first, (char_octets (fields_of it).rest.rest.first, (char_octets (fields_of it).rest.rest.rest.first, (char_octets (fields_of it).rest.rest.rest.rest.first, parsed_labels (fields_of it).rest.rest.rest.rest.rest.name)))))
+all_fields (Ds it) = digest ((fields_of it).first, ((fields_of it).rest.first, ((fields_of it).rest.rest.first, last_octets (fields_of it).rest.rest.rest)))
+all_fields (Sshfp it) = fingerprint ((fields_of it).first, ((fields_of it).rest.first, last_octets (fields_of it).rest.rest))
+all_fields (Rrsig it) = signature (rtype_number (fields_of it).first.rtype, ((fields_of it).rest.first, ((fields_of it).rest.rest.first, ((fields_of it).rest.rest.rest.first, ((fields_of it).rest.rest.rest.rest.first.seconds, ((fields_of it).rest.rest.rest.rest.rest.first.seconds, ((fields_of it).rest.rest.rest.rest.rest.rest.first, (parsed_labels (fields_of it).rest.rest.rest.rest.rest.rest.rest.first.name, last_octets (fields_of it).rest.rest.rest.rest.rest.rest.rest.rest))))))))
+all_fields (Nsec it) = denial (parsed_labels (fields_of it).first.name, bitmaps_blocks (fields_of it).rest)
+all_fields (Dnskey it) = key ((fields_of it).first, ((fields_of it).rest.first, ((fields_of it).rest.rest.first, last_octets (fields_of it).rest.rest.rest)))
+all_fields (Tlsa it) = association ((fields_of it).first, ((fields_of it).rest.first, ((fields_of it).rest.rest.first, last_octets (fields_of it).rest.rest.rest)))
+all_fields (Caa it) = property ((fields_of it).first, (tag_octets (fields_of it).rest.first, last_octets (fields_of it).rest.rest))
+all_fields (Txt it) = strings (txt_strings it)
+all_fields (Unknown it) = octets (data_octets it)

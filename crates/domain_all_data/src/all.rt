@@ -1,0 +1,743 @@
+//! Data of records of any type.
+ghost use Rattle.std.specs.Prelude.{◌≡◌, true, Some, IfOk, IfErr, OnOk, OnErr};
+ghost use Rattle.octseq.specs.Parsing.{message, position, MovesTo};
+ghost use Rattle.domain_rdata.specs.Rtypes.{rtype_number};
+ghost use Rattle.domain_wire.specs.declared.error.ParseError.{ParseError};
+ghost use Rattle.domain_all_data.specs.AllData.{AllFields, AllDataAt, NoAllData, all_data_reading, fields_text};
+
+use domain_data::{
+    A, Aaaa, Afsdb, Caa, Cname, Dname, Dnskey, Ds, Hinfo, Kx, Mb, Md, Mf, Mg, Minfo, Mr, Mx, Naptr,
+    Ns, Nsec, Ptr, Px, Rp, Rrsig, Rt, Soa, Srv, Sshfp, Tlsa,
+};
+use domain_parsed::ParsedName;
+use domain_rdata::{
+    CanonicalError, ComposeRecordData, Composer, ParseAnyRecordData, ParseRecordData, RecordData,
+    Rtype, UnknownRecordData,
+};
+use domain_txt::Txt;
+use domain_wire::ParseError;
+use octseq::{Octets, Parser};
+use std::alloc::AllocError;
+use std::fmt;
+
+/// Data of a record of any type: the fields of the types that are known here, and the octets of all others (RFC 3597).
+pub enum AllRecordData<Octs: Octets, N> {
+    /// An IPv4 address.
+    A(A),
+    /// An IPv6 address.
+    Aaaa(Aaaa),
+    /// A server of a zone.
+    Ns(Ns<N>),
+    /// The name that the owner stands for.
+    Cname(Cname<N>),
+    /// A name that is pointed to.
+    Ptr(Ptr<N>),
+    /// The name that the end of names below the owner is replaced by.
+    Dname(Dname<N>),
+    /// A host that takes mail.
+    Mx(Mx<N>),
+    /// The start of a zone.
+    Soa(Soa<N>),
+    /// The host of a service.
+    Srv(Srv<N>),
+    /// A host that has a mailbox.
+    Mb(Mb<N>),
+    /// A host that delivers mail.
+    Md(Md<N>),
+    /// A host that forwards mail.
+    Mf(Mf<N>),
+    /// A mailbox of a mail group.
+    Mg(Mg<N>),
+    /// The new name of a mailbox.
+    Mr(Mr<N>),
+    /// Who is responsible for a mailing list.
+    Minfo(Minfo<N>),
+    /// Who is responsible for the owner.
+    Rp(Rp<N>),
+    /// A server of an AFS cell or of DCE.
+    Afsdb(Afsdb<N>),
+    /// A host that leads to the owner.
+    Rt(Rt<N>),
+    /// The map between a mail domain and its X.400 address.
+    Px(Px<N>),
+    /// A host that exchanges keys.
+    Kx(Kx<N>),
+    /// The processor and the system of the owner.
+    Hinfo(Hinfo<Octs>),
+    /// A rule that makes a name or a URI.
+    Naptr(Naptr<Octs, N>),
+    /// The digest of a key of the zone that begins at the owner.
+    Ds(Ds<Octs>),
+    /// The fingerprint of a key of an SSH server.
+    Sshfp(Sshfp<Octs>),
+    /// The signature of the records of a type.
+    Rrsig(Rrsig<Octs, N>),
+    /// The next name, and the types of the owner.
+    Nsec(Nsec<Octs, N>),
+    /// A key of the zone.
+    Dnskey(Dnskey<Octs>),
+    /// What the certificate of a TLS server is matched with.
+    Tlsa(Tlsa<Octs>),
+    /// A property of who may issue certificates.
+    Caa(Caa<Octs>),
+    /// Text.
+    Txt(Txt<Octs>),
+    /// Data of another type.
+    Unknown(UnknownRecordData<Octs>),
+}
+
+impl<Octs: Octets + Copy, N: Copy> Copy for AllRecordData<Octs, N> {}
+
+impl<Octs: Octets + Copy, N: Copy> Clone for AllRecordData<Octs, N> {
+    ghost is_clone = { λ x y. y ≡ x };
+
+    ghost is_infallible = { λ _. Unit {0} };
+
+    fn clone(&self) -> Result<Self, AllocError> {
+        Ok(*self)
+    }
+}
+
+/// The number of the type: that of the fields, or the one that the octets came with.
+impl<Octs: Octets, N> RecordData for AllRecordData<Octs, N> {
+    ghost use Rattle.domain_all_data.specs.AllTypes.{all_type};
+
+    ghost type_number = { all_type };
+
+    fn rtype(&self) -> Rtype {
+        match self {
+            AllRecordData::A(_) => Rtype::from_int(1),
+            AllRecordData::Aaaa(_) => Rtype::from_int(28),
+            AllRecordData::Ns(_) => Rtype::from_int(2),
+            AllRecordData::Cname(_) => Rtype::from_int(5),
+            AllRecordData::Ptr(_) => Rtype::from_int(12),
+            AllRecordData::Dname(_) => Rtype::from_int(39),
+            AllRecordData::Mx(_) => Rtype::from_int(15),
+            AllRecordData::Soa(_) => Rtype::from_int(6),
+            AllRecordData::Srv(_) => Rtype::from_int(33),
+            AllRecordData::Mb(_) => Rtype::from_int(7),
+            AllRecordData::Md(_) => Rtype::from_int(3),
+            AllRecordData::Mf(_) => Rtype::from_int(4),
+            AllRecordData::Mg(_) => Rtype::from_int(8),
+            AllRecordData::Mr(_) => Rtype::from_int(9),
+            AllRecordData::Minfo(_) => Rtype::from_int(14),
+            AllRecordData::Rp(_) => Rtype::from_int(17),
+            AllRecordData::Afsdb(_) => Rtype::from_int(18),
+            AllRecordData::Rt(_) => Rtype::from_int(21),
+            AllRecordData::Px(_) => Rtype::from_int(26),
+            AllRecordData::Kx(_) => Rtype::from_int(36),
+            AllRecordData::Hinfo(_) => Rtype::from_int(13),
+            AllRecordData::Naptr(_) => Rtype::from_int(35),
+            AllRecordData::Ds(_) => Rtype::from_int(43),
+            AllRecordData::Sshfp(_) => Rtype::from_int(44),
+            AllRecordData::Rrsig(_) => Rtype::from_int(46),
+            AllRecordData::Nsec(_) => Rtype::from_int(47),
+            AllRecordData::Dnskey(_) => Rtype::from_int(48),
+            AllRecordData::Tlsa(_) => Rtype::from_int(52),
+            AllRecordData::Caa(_) => Rtype::from_int(257),
+            AllRecordData::Txt(_) => Rtype::from_int(16),
+            AllRecordData::Unknown(it) => it.rtype(),
+        }
+    }
+}
+
+/// The data as its own type has it: names are written shorter in data of the types of RFC 1035 alone (RFC 3597, 4).
+impl<'a> ComposeRecordData for AllRecordData<&'a [u8], ParsedName<&'a [u8]>> {
+    ghost use Rattle.domain_parsed.proofs.ParsedFields.{parsed_absolute};
+    ghost use Rattle.domain_data.specs.Views.{fields_of};
+    ghost use Rattle.domain_all_data.specs.Flat.{plain_octets, plain_name, plain_both, flat_octets, flat_name, flat_both};
+    ghost use Rattle.domain_all_data.specs.declared.all.AllRecordData.TheVariants.{A, Aaaa, Ns, Cname, Ptr, Dname, Mx, Soa, Srv, Mb, Md, Mf, Mg, Mr, Minfo, Rp, Afsdb, Rt, Px, Kx, Hinfo, Naptr, Ds, Sshfp, Rrsig, Nsec, Dnskey, Tlsa, Caa, Txt, Unknown};
+
+    ghost composed = { elim [
+      | A it ↦ ⟦<A as ComposeRecordData>⟧.composed it
+      | Aaaa it ↦ ⟦<Aaaa as ComposeRecordData>⟧.composed it
+      | Ns it ↦ ⟦<Ns<ParsedName<&'a [u8]>> as ComposeRecordData>⟧.composed it
+      | Cname it ↦ ⟦<Cname<ParsedName<&'a [u8]>> as ComposeRecordData>⟧.composed it
+      | Ptr it ↦ ⟦<Ptr<ParsedName<&'a [u8]>> as ComposeRecordData>⟧.composed it
+      | Dname it ↦ ⟦<Dname<ParsedName<&'a [u8]>> as ComposeRecordData>⟧.composed it
+      | Mx it ↦ ⟦<Mx<ParsedName<&'a [u8]>> as ComposeRecordData>⟧.composed it
+      | Soa it ↦ ⟦<Soa<ParsedName<&'a [u8]>> as ComposeRecordData>⟧.composed it
+      | Srv it ↦ ⟦<Srv<ParsedName<&'a [u8]>> as ComposeRecordData>⟧.composed it
+      | Mb it ↦ ⟦<Mb<ParsedName<&'a [u8]>> as ComposeRecordData>⟧.composed it
+      | Md it ↦ ⟦<Md<ParsedName<&'a [u8]>> as ComposeRecordData>⟧.composed it
+      | Mf it ↦ ⟦<Mf<ParsedName<&'a [u8]>> as ComposeRecordData>⟧.composed it
+      | Mg it ↦ ⟦<Mg<ParsedName<&'a [u8]>> as ComposeRecordData>⟧.composed it
+      | Mr it ↦ ⟦<Mr<ParsedName<&'a [u8]>> as ComposeRecordData>⟧.composed it
+      | Minfo it ↦ ⟦<Minfo<ParsedName<&'a [u8]>> as ComposeRecordData>⟧.composed it
+      | Rp it ↦ ⟦<Rp<ParsedName<&'a [u8]>> as ComposeRecordData>⟧.composed it
+      | Afsdb it ↦ ⟦<Afsdb<ParsedName<&'a [u8]>> as ComposeRecordData>⟧.composed it
+      | Rt it ↦ ⟦<Rt<ParsedName<&'a [u8]>> as ComposeRecordData>⟧.composed it
+      | Px it ↦ ⟦<Px<ParsedName<&'a [u8]>> as ComposeRecordData>⟧.composed it
+      | Kx it ↦ ⟦<Kx<ParsedName<&'a [u8]>> as ComposeRecordData>⟧.composed it
+      | Hinfo it ↦ ⟦<Hinfo<&'a [u8]> as ComposeRecordData>⟧.composed it
+      | Naptr it ↦ ⟦<Naptr<&'a [u8], ParsedName<&'a [u8]>> as ComposeRecordData>⟧.composed it
+      | Ds it ↦ ⟦<Ds<&'a [u8]> as ComposeRecordData>⟧.composed it
+      | Sshfp it ↦ ⟦<Sshfp<&'a [u8]> as ComposeRecordData>⟧.composed it
+      | Rrsig it ↦ ⟦<Rrsig<&'a [u8], ParsedName<&'a [u8]>> as ComposeRecordData>⟧.composed it
+      | Nsec it ↦ ⟦<Nsec<&'a [u8], ParsedName<&'a [u8]>> as ComposeRecordData>⟧.composed it
+      | Dnskey it ↦ ⟦<Dnskey<&'a [u8]> as ComposeRecordData>⟧.composed it
+      | Tlsa it ↦ ⟦<Tlsa<&'a [u8]> as ComposeRecordData>⟧.composed it
+      | Caa it ↦ ⟦<Caa<&'a [u8]> as ComposeRecordData>⟧.composed it
+      | Txt it ↦ ⟦<Txt<&'a [u8]> as ComposeRecordData>⟧.composed it
+      | Unknown it ↦ ⟦<UnknownRecordData<&'a [u8]> as ComposeRecordData>⟧.composed it
+    ] };
+
+    ghost written = { elim [
+      | A it ↦ ⟦<A as ComposeRecordData>⟧.written it
+      | Aaaa it ↦ ⟦<Aaaa as ComposeRecordData>⟧.written it
+      | Ns it ↦ ⟦<Ns<ParsedName<&'a [u8]>> as ComposeRecordData>⟧.written it
+      | Cname it ↦ ⟦<Cname<ParsedName<&'a [u8]>> as ComposeRecordData>⟧.written it
+      | Ptr it ↦ ⟦<Ptr<ParsedName<&'a [u8]>> as ComposeRecordData>⟧.written it
+      | Dname it ↦ ⟦<Dname<ParsedName<&'a [u8]>> as ComposeRecordData>⟧.written it
+      | Mx it ↦ ⟦<Mx<ParsedName<&'a [u8]>> as ComposeRecordData>⟧.written it
+      | Soa it ↦ ⟦<Soa<ParsedName<&'a [u8]>> as ComposeRecordData>⟧.written it
+      | Srv it ↦ ⟦<Srv<ParsedName<&'a [u8]>> as ComposeRecordData>⟧.written it
+      | Mb it ↦ ⟦<Mb<ParsedName<&'a [u8]>> as ComposeRecordData>⟧.written it
+      | Md it ↦ ⟦<Md<ParsedName<&'a [u8]>> as ComposeRecordData>⟧.written it
+      | Mf it ↦ ⟦<Mf<ParsedName<&'a [u8]>> as ComposeRecordData>⟧.written it
+      | Mg it ↦ ⟦<Mg<ParsedName<&'a [u8]>> as ComposeRecordData>⟧.written it
+      | Mr it ↦ ⟦<Mr<ParsedName<&'a [u8]>> as ComposeRecordData>⟧.written it
+      | Minfo it ↦ ⟦<Minfo<ParsedName<&'a [u8]>> as ComposeRecordData>⟧.written it
+      | Rp it ↦ ⟦<Rp<ParsedName<&'a [u8]>> as ComposeRecordData>⟧.written it
+      | Afsdb it ↦ ⟦<Afsdb<ParsedName<&'a [u8]>> as ComposeRecordData>⟧.written it
+      | Rt it ↦ ⟦<Rt<ParsedName<&'a [u8]>> as ComposeRecordData>⟧.written it
+      | Px it ↦ ⟦<Px<ParsedName<&'a [u8]>> as ComposeRecordData>⟧.written it
+      | Kx it ↦ ⟦<Kx<ParsedName<&'a [u8]>> as ComposeRecordData>⟧.written it
+      | Hinfo it ↦ ⟦<Hinfo<&'a [u8]> as ComposeRecordData>⟧.written it
+      | Naptr it ↦ ⟦<Naptr<&'a [u8], ParsedName<&'a [u8]>> as ComposeRecordData>⟧.written it
+      | Ds it ↦ ⟦<Ds<&'a [u8]> as ComposeRecordData>⟧.written it
+      | Sshfp it ↦ ⟦<Sshfp<&'a [u8]> as ComposeRecordData>⟧.written it
+      | Rrsig it ↦ ⟦<Rrsig<&'a [u8], ParsedName<&'a [u8]>> as ComposeRecordData>⟧.written it
+      | Nsec it ↦ ⟦<Nsec<&'a [u8], ParsedName<&'a [u8]>> as ComposeRecordData>⟧.written it
+      | Dnskey it ↦ ⟦<Dnskey<&'a [u8]> as ComposeRecordData>⟧.written it
+      | Tlsa it ↦ ⟦<Tlsa<&'a [u8]> as ComposeRecordData>⟧.written it
+      | Caa it ↦ ⟦<Caa<&'a [u8]> as ComposeRecordData>⟧.written it
+      | Txt it ↦ ⟦<Txt<&'a [u8]> as ComposeRecordData>⟧.written it
+      | Unknown it ↦ ⟦<UnknownRecordData<&'a [u8]> as ComposeRecordData>⟧.written it
+    ] };
+
+    ghost uncompressed = { elim [
+      | A it ↦ ⟦<A as ComposeRecordData>⟧.uncompressed it
+      | Aaaa it ↦ ⟦<Aaaa as ComposeRecordData>⟧.uncompressed it
+      | Ns it ↦ ⟦<Ns<ParsedName<&'a [u8]>> as ComposeRecordData>⟧.uncompressed it
+      | Cname it ↦ ⟦<Cname<ParsedName<&'a [u8]>> as ComposeRecordData>⟧.uncompressed it
+      | Ptr it ↦ ⟦<Ptr<ParsedName<&'a [u8]>> as ComposeRecordData>⟧.uncompressed it
+      | Dname it ↦ ⟦<Dname<ParsedName<&'a [u8]>> as ComposeRecordData>⟧.uncompressed it
+      | Mx it ↦ ⟦<Mx<ParsedName<&'a [u8]>> as ComposeRecordData>⟧.uncompressed it
+      | Soa it ↦ ⟦<Soa<ParsedName<&'a [u8]>> as ComposeRecordData>⟧.uncompressed it
+      | Srv it ↦ ⟦<Srv<ParsedName<&'a [u8]>> as ComposeRecordData>⟧.uncompressed it
+      | Mb it ↦ ⟦<Mb<ParsedName<&'a [u8]>> as ComposeRecordData>⟧.uncompressed it
+      | Md it ↦ ⟦<Md<ParsedName<&'a [u8]>> as ComposeRecordData>⟧.uncompressed it
+      | Mf it ↦ ⟦<Mf<ParsedName<&'a [u8]>> as ComposeRecordData>⟧.uncompressed it
+      | Mg it ↦ ⟦<Mg<ParsedName<&'a [u8]>> as ComposeRecordData>⟧.uncompressed it
+      | Mr it ↦ ⟦<Mr<ParsedName<&'a [u8]>> as ComposeRecordData>⟧.uncompressed it
+      | Minfo it ↦ ⟦<Minfo<ParsedName<&'a [u8]>> as ComposeRecordData>⟧.uncompressed it
+      | Rp it ↦ ⟦<Rp<ParsedName<&'a [u8]>> as ComposeRecordData>⟧.uncompressed it
+      | Afsdb it ↦ ⟦<Afsdb<ParsedName<&'a [u8]>> as ComposeRecordData>⟧.uncompressed it
+      | Rt it ↦ ⟦<Rt<ParsedName<&'a [u8]>> as ComposeRecordData>⟧.uncompressed it
+      | Px it ↦ ⟦<Px<ParsedName<&'a [u8]>> as ComposeRecordData>⟧.uncompressed it
+      | Kx it ↦ ⟦<Kx<ParsedName<&'a [u8]>> as ComposeRecordData>⟧.uncompressed it
+      | Hinfo it ↦ ⟦<Hinfo<&'a [u8]> as ComposeRecordData>⟧.uncompressed it
+      | Naptr it ↦ ⟦<Naptr<&'a [u8], ParsedName<&'a [u8]>> as ComposeRecordData>⟧.uncompressed it
+      | Ds it ↦ ⟦<Ds<&'a [u8]> as ComposeRecordData>⟧.uncompressed it
+      | Sshfp it ↦ ⟦<Sshfp<&'a [u8]> as ComposeRecordData>⟧.uncompressed it
+      | Rrsig it ↦ ⟦<Rrsig<&'a [u8], ParsedName<&'a [u8]>> as ComposeRecordData>⟧.uncompressed it
+      | Nsec it ↦ ⟦<Nsec<&'a [u8], ParsedName<&'a [u8]>> as ComposeRecordData>⟧.uncompressed it
+      | Dnskey it ↦ ⟦<Dnskey<&'a [u8]> as ComposeRecordData>⟧.uncompressed it
+      | Tlsa it ↦ ⟦<Tlsa<&'a [u8]> as ComposeRecordData>⟧.uncompressed it
+      | Caa it ↦ ⟦<Caa<&'a [u8]> as ComposeRecordData>⟧.uncompressed it
+      | Txt it ↦ ⟦<Txt<&'a [u8]> as ComposeRecordData>⟧.uncompressed it
+      | Unknown it ↦ ⟦<UnknownRecordData<&'a [u8]> as ComposeRecordData>⟧.uncompressed it
+    ] };
+
+    ghost lowercase = { elim [
+      | A it ↦ ⟦<A as ComposeRecordData>⟧.lowercase it
+      | Aaaa it ↦ ⟦<Aaaa as ComposeRecordData>⟧.lowercase it
+      | Ns it ↦ ⟦<Ns<ParsedName<&'a [u8]>> as ComposeRecordData>⟧.lowercase it
+      | Cname it ↦ ⟦<Cname<ParsedName<&'a [u8]>> as ComposeRecordData>⟧.lowercase it
+      | Ptr it ↦ ⟦<Ptr<ParsedName<&'a [u8]>> as ComposeRecordData>⟧.lowercase it
+      | Dname it ↦ ⟦<Dname<ParsedName<&'a [u8]>> as ComposeRecordData>⟧.lowercase it
+      | Mx it ↦ ⟦<Mx<ParsedName<&'a [u8]>> as ComposeRecordData>⟧.lowercase it
+      | Soa it ↦ ⟦<Soa<ParsedName<&'a [u8]>> as ComposeRecordData>⟧.lowercase it
+      | Srv it ↦ ⟦<Srv<ParsedName<&'a [u8]>> as ComposeRecordData>⟧.lowercase it
+      | Mb it ↦ ⟦<Mb<ParsedName<&'a [u8]>> as ComposeRecordData>⟧.lowercase it
+      | Md it ↦ ⟦<Md<ParsedName<&'a [u8]>> as ComposeRecordData>⟧.lowercase it
+      | Mf it ↦ ⟦<Mf<ParsedName<&'a [u8]>> as ComposeRecordData>⟧.lowercase it
+      | Mg it ↦ ⟦<Mg<ParsedName<&'a [u8]>> as ComposeRecordData>⟧.lowercase it
+      | Mr it ↦ ⟦<Mr<ParsedName<&'a [u8]>> as ComposeRecordData>⟧.lowercase it
+      | Minfo it ↦ ⟦<Minfo<ParsedName<&'a [u8]>> as ComposeRecordData>⟧.lowercase it
+      | Rp it ↦ ⟦<Rp<ParsedName<&'a [u8]>> as ComposeRecordData>⟧.lowercase it
+      | Afsdb it ↦ ⟦<Afsdb<ParsedName<&'a [u8]>> as ComposeRecordData>⟧.lowercase it
+      | Rt it ↦ ⟦<Rt<ParsedName<&'a [u8]>> as ComposeRecordData>⟧.lowercase it
+      | Px it ↦ ⟦<Px<ParsedName<&'a [u8]>> as ComposeRecordData>⟧.lowercase it
+      | Kx it ↦ ⟦<Kx<ParsedName<&'a [u8]>> as ComposeRecordData>⟧.lowercase it
+      | Hinfo it ↦ ⟦<Hinfo<&'a [u8]> as ComposeRecordData>⟧.lowercase it
+      | Naptr it ↦ ⟦<Naptr<&'a [u8], ParsedName<&'a [u8]>> as ComposeRecordData>⟧.lowercase it
+      | Ds it ↦ ⟦<Ds<&'a [u8]> as ComposeRecordData>⟧.lowercase it
+      | Sshfp it ↦ ⟦<Sshfp<&'a [u8]> as ComposeRecordData>⟧.lowercase it
+      | Rrsig it ↦ ⟦<Rrsig<&'a [u8], ParsedName<&'a [u8]>> as ComposeRecordData>⟧.lowercase it
+      | Nsec it ↦ ⟦<Nsec<&'a [u8], ParsedName<&'a [u8]>> as ComposeRecordData>⟧.lowercase it
+      | Dnskey it ↦ ⟦<Dnskey<&'a [u8]> as ComposeRecordData>⟧.lowercase it
+      | Tlsa it ↦ ⟦<Tlsa<&'a [u8]> as ComposeRecordData>⟧.lowercase it
+      | Caa it ↦ ⟦<Caa<&'a [u8]> as ComposeRecordData>⟧.lowercase it
+      | Txt it ↦ ⟦<Txt<&'a [u8]> as ComposeRecordData>⟧.lowercase it
+      | Unknown it ↦ ⟦<UnknownRecordData<&'a [u8]> as ComposeRecordData>⟧.lowercase it
+    ] };
+
+    ghost knows_len = { elim [
+      | A it ↦ ⟦<A as ComposeRecordData>⟧.knows_len it
+      | Aaaa it ↦ ⟦<Aaaa as ComposeRecordData>⟧.knows_len it
+      | Ns it ↦ ⟦<Ns<ParsedName<&'a [u8]>> as ComposeRecordData>⟧.knows_len it
+      | Cname it ↦ ⟦<Cname<ParsedName<&'a [u8]>> as ComposeRecordData>⟧.knows_len it
+      | Ptr it ↦ ⟦<Ptr<ParsedName<&'a [u8]>> as ComposeRecordData>⟧.knows_len it
+      | Dname it ↦ ⟦<Dname<ParsedName<&'a [u8]>> as ComposeRecordData>⟧.knows_len it
+      | Mx it ↦ ⟦<Mx<ParsedName<&'a [u8]>> as ComposeRecordData>⟧.knows_len it
+      | Soa it ↦ ⟦<Soa<ParsedName<&'a [u8]>> as ComposeRecordData>⟧.knows_len it
+      | Srv it ↦ ⟦<Srv<ParsedName<&'a [u8]>> as ComposeRecordData>⟧.knows_len it
+      | Mb it ↦ ⟦<Mb<ParsedName<&'a [u8]>> as ComposeRecordData>⟧.knows_len it
+      | Md it ↦ ⟦<Md<ParsedName<&'a [u8]>> as ComposeRecordData>⟧.knows_len it
+      | Mf it ↦ ⟦<Mf<ParsedName<&'a [u8]>> as ComposeRecordData>⟧.knows_len it
+      | Mg it ↦ ⟦<Mg<ParsedName<&'a [u8]>> as ComposeRecordData>⟧.knows_len it
+      | Mr it ↦ ⟦<Mr<ParsedName<&'a [u8]>> as ComposeRecordData>⟧.knows_len it
+      | Minfo it ↦ ⟦<Minfo<ParsedName<&'a [u8]>> as ComposeRecordData>⟧.knows_len it
+      | Rp it ↦ ⟦<Rp<ParsedName<&'a [u8]>> as ComposeRecordData>⟧.knows_len it
+      | Afsdb it ↦ ⟦<Afsdb<ParsedName<&'a [u8]>> as ComposeRecordData>⟧.knows_len it
+      | Rt it ↦ ⟦<Rt<ParsedName<&'a [u8]>> as ComposeRecordData>⟧.knows_len it
+      | Px it ↦ ⟦<Px<ParsedName<&'a [u8]>> as ComposeRecordData>⟧.knows_len it
+      | Kx it ↦ ⟦<Kx<ParsedName<&'a [u8]>> as ComposeRecordData>⟧.knows_len it
+      | Hinfo it ↦ ⟦<Hinfo<&'a [u8]> as ComposeRecordData>⟧.knows_len it
+      | Naptr it ↦ ⟦<Naptr<&'a [u8], ParsedName<&'a [u8]>> as ComposeRecordData>⟧.knows_len it
+      | Ds it ↦ ⟦<Ds<&'a [u8]> as ComposeRecordData>⟧.knows_len it
+      | Sshfp it ↦ ⟦<Sshfp<&'a [u8]> as ComposeRecordData>⟧.knows_len it
+      | Rrsig it ↦ ⟦<Rrsig<&'a [u8], ParsedName<&'a [u8]>> as ComposeRecordData>⟧.knows_len it
+      | Nsec it ↦ ⟦<Nsec<&'a [u8], ParsedName<&'a [u8]>> as ComposeRecordData>⟧.knows_len it
+      | Dnskey it ↦ ⟦<Dnskey<&'a [u8]> as ComposeRecordData>⟧.knows_len it
+      | Tlsa it ↦ ⟦<Tlsa<&'a [u8]> as ComposeRecordData>⟧.knows_len it
+      | Caa it ↦ ⟦<Caa<&'a [u8]> as ComposeRecordData>⟧.knows_len it
+      | Txt it ↦ ⟦<Txt<&'a [u8]> as ComposeRecordData>⟧.knows_len it
+      | Unknown it ↦ ⟦<UnknownRecordData<&'a [u8]> as ComposeRecordData>⟧.knows_len it
+    ] };
+
+    fn rdlen(&self, compress: bool) -> Option<u16> {
+        match self {
+            AllRecordData::A(it) => it.rdlen(compress),
+            AllRecordData::Aaaa(it) => it.rdlen(compress),
+            AllRecordData::Ns(it) => it.rdlen(compress),
+            AllRecordData::Cname(it) => it.rdlen(compress),
+            AllRecordData::Ptr(it) => it.rdlen(compress),
+            AllRecordData::Dname(it) => it.rdlen(compress),
+            AllRecordData::Mx(it) => it.rdlen(compress),
+            AllRecordData::Soa(it) => it.rdlen(compress),
+            AllRecordData::Srv(it) => it.rdlen(compress),
+            AllRecordData::Mb(it) => it.rdlen(compress),
+            AllRecordData::Md(it) => it.rdlen(compress),
+            AllRecordData::Mf(it) => it.rdlen(compress),
+            AllRecordData::Mg(it) => it.rdlen(compress),
+            AllRecordData::Mr(it) => it.rdlen(compress),
+            AllRecordData::Minfo(it) => it.rdlen(compress),
+            AllRecordData::Rp(it) => it.rdlen(compress),
+            AllRecordData::Afsdb(it) => it.rdlen(compress),
+            AllRecordData::Rt(it) => it.rdlen(compress),
+            AllRecordData::Px(it) => it.rdlen(compress),
+            AllRecordData::Kx(it) => it.rdlen(compress),
+            AllRecordData::Hinfo(it) => it.rdlen(compress),
+            AllRecordData::Naptr(it) => it.rdlen(compress),
+            AllRecordData::Ds(it) => it.rdlen(compress),
+            AllRecordData::Sshfp(it) => it.rdlen(compress),
+            AllRecordData::Rrsig(it) => it.rdlen(compress),
+            AllRecordData::Nsec(it) => it.rdlen(compress),
+            AllRecordData::Dnskey(it) => it.rdlen(compress),
+            AllRecordData::Tlsa(it) => it.rdlen(compress),
+            AllRecordData::Caa(it) => it.rdlen(compress),
+            AllRecordData::Txt(it) => it.rdlen(compress),
+            AllRecordData::Unknown(it) => it.rdlen(compress),
+        }
+    }
+
+    fn compose_rdata<Target: Composer>(
+        &self,
+        target: &mut Target,
+    ) -> Result<(), Target::AppendError> {
+        match self {
+            AllRecordData::A(it) => it.compose_rdata(target),
+            AllRecordData::Aaaa(it) => it.compose_rdata(target),
+            AllRecordData::Ns(it) => it.compose_rdata(target),
+            AllRecordData::Cname(it) => it.compose_rdata(target),
+            AllRecordData::Ptr(it) => it.compose_rdata(target),
+            AllRecordData::Dname(it) => it.compose_rdata(target),
+            AllRecordData::Mx(it) => it.compose_rdata(target),
+            AllRecordData::Soa(it) => it.compose_rdata(target),
+            AllRecordData::Srv(it) => it.compose_rdata(target),
+            AllRecordData::Mb(it) => it.compose_rdata(target),
+            AllRecordData::Md(it) => it.compose_rdata(target),
+            AllRecordData::Mf(it) => it.compose_rdata(target),
+            AllRecordData::Mg(it) => it.compose_rdata(target),
+            AllRecordData::Mr(it) => it.compose_rdata(target),
+            AllRecordData::Minfo(it) => it.compose_rdata(target),
+            AllRecordData::Rp(it) => it.compose_rdata(target),
+            AllRecordData::Afsdb(it) => it.compose_rdata(target),
+            AllRecordData::Rt(it) => it.compose_rdata(target),
+            AllRecordData::Px(it) => it.compose_rdata(target),
+            AllRecordData::Kx(it) => it.compose_rdata(target),
+            AllRecordData::Hinfo(it) => it.compose_rdata(target),
+            AllRecordData::Naptr(it) => it.compose_rdata(target),
+            AllRecordData::Ds(it) => it.compose_rdata(target),
+            AllRecordData::Sshfp(it) => it.compose_rdata(target),
+            AllRecordData::Rrsig(it) => it.compose_rdata(target),
+            AllRecordData::Nsec(it) => it.compose_rdata(target),
+            AllRecordData::Dnskey(it) => it.compose_rdata(target),
+            AllRecordData::Tlsa(it) => it.compose_rdata(target),
+            AllRecordData::Caa(it) => it.compose_rdata(target),
+            AllRecordData::Txt(it) => it.compose_rdata(target),
+            AllRecordData::Unknown(it) => it.compose_rdata(target),
+        }
+    }
+
+    fn compose_canonical_rdata<Target: Composer>(
+        &self,
+        target: &mut Target,
+    ) -> Result<(), CanonicalError<Target::AppendError>> {
+        match self {
+            AllRecordData::A(it) => it.compose_canonical_rdata(target),
+            AllRecordData::Aaaa(it) => it.compose_canonical_rdata(target),
+            AllRecordData::Ns(it) => it.compose_canonical_rdata(target),
+            AllRecordData::Cname(it) => it.compose_canonical_rdata(target),
+            AllRecordData::Ptr(it) => it.compose_canonical_rdata(target),
+            AllRecordData::Dname(it) => it.compose_canonical_rdata(target),
+            AllRecordData::Mx(it) => it.compose_canonical_rdata(target),
+            AllRecordData::Soa(it) => it.compose_canonical_rdata(target),
+            AllRecordData::Srv(it) => it.compose_canonical_rdata(target),
+            AllRecordData::Mb(it) => it.compose_canonical_rdata(target),
+            AllRecordData::Md(it) => it.compose_canonical_rdata(target),
+            AllRecordData::Mf(it) => it.compose_canonical_rdata(target),
+            AllRecordData::Mg(it) => it.compose_canonical_rdata(target),
+            AllRecordData::Mr(it) => it.compose_canonical_rdata(target),
+            AllRecordData::Minfo(it) => it.compose_canonical_rdata(target),
+            AllRecordData::Rp(it) => it.compose_canonical_rdata(target),
+            AllRecordData::Afsdb(it) => it.compose_canonical_rdata(target),
+            AllRecordData::Rt(it) => it.compose_canonical_rdata(target),
+            AllRecordData::Px(it) => it.compose_canonical_rdata(target),
+            AllRecordData::Kx(it) => it.compose_canonical_rdata(target),
+            AllRecordData::Hinfo(it) => it.compose_canonical_rdata(target),
+            AllRecordData::Naptr(it) => it.compose_canonical_rdata(target),
+            AllRecordData::Ds(it) => it.compose_canonical_rdata(target),
+            AllRecordData::Sshfp(it) => it.compose_canonical_rdata(target),
+            AllRecordData::Rrsig(it) => it.compose_canonical_rdata(target),
+            AllRecordData::Nsec(it) => it.compose_canonical_rdata(target),
+            AllRecordData::Dnskey(it) => it.compose_canonical_rdata(target),
+            AllRecordData::Tlsa(it) => it.compose_canonical_rdata(target),
+            AllRecordData::Caa(it) => it.compose_canonical_rdata(target),
+            AllRecordData::Txt(it) => it.compose_canonical_rdata(target),
+            AllRecordData::Unknown(it) => it.compose_canonical_rdata(target),
+        }
+    }
+
+    ghost plain = { elim [
+      | A it ↦ plain_octets _
+      | Aaaa it ↦ plain_octets _
+      | Ns it ↦ plain_name _ (parsed_absolute (fields_of it).name)
+      | Cname it ↦ plain_name _ (parsed_absolute (fields_of it).name)
+      | Ptr it ↦ plain_name _ (parsed_absolute (fields_of it).name)
+      | Dname it ↦ plain_octets _
+      | Mx it ↦ plain_both _ _ _ _ (plain_octets _) (plain_name _ (parsed_absolute (fields_of it).rest.name))
+      | Soa it ↦ plain_both _ _ _ _ (plain_name _ (parsed_absolute (fields_of it).first.name)) (plain_both _ _ _ _ (plain_name _ (parsed_absolute (fields_of it).rest.first.name)) (plain_both _ _ _ _ (plain_octets _) (plain_both _ _ _ _ (plain_octets _) (plain_both _ _ _ _ (plain_octets _) (plain_both _ _ _ _ (plain_octets _) (plain_octets _))))))
+      | Srv it ↦ plain_both _ _ _ _ (plain_octets _) (plain_both _ _ _ _ (plain_octets _) (plain_both _ _ _ _ (plain_octets _) (plain_octets _)))
+      | Mb it ↦ plain_name _ (parsed_absolute (fields_of it).name)
+      | Md it ↦ plain_name _ (parsed_absolute (fields_of it).name)
+      | Mf it ↦ plain_name _ (parsed_absolute (fields_of it).name)
+      | Mg it ↦ plain_name _ (parsed_absolute (fields_of it).name)
+      | Mr it ↦ plain_name _ (parsed_absolute (fields_of it).name)
+      | Minfo it ↦ plain_both _ _ _ _ (plain_name _ (parsed_absolute (fields_of it).first.name)) (plain_name _ (parsed_absolute (fields_of it).rest.name))
+      | Rp it ↦ plain_both _ _ _ _ (plain_octets _) (plain_octets _)
+      | Afsdb it ↦ plain_both _ _ _ _ (plain_octets _) (plain_octets _)
+      | Rt it ↦ plain_both _ _ _ _ (plain_octets _) (plain_octets _)
+      | Px it ↦ plain_both _ _ _ _ (plain_octets _) (plain_both _ _ _ _ (plain_octets _) (plain_octets _))
+      | Kx it ↦ plain_both _ _ _ _ (plain_octets _) (plain_octets _)
+      | Hinfo it ↦ plain_both _ _ _ _ (plain_octets _) (plain_octets _)
+      | Naptr it ↦ plain_both _ _ _ _ (plain_octets _) (plain_both _ _ _ _ (plain_octets _) (plain_both _ _ _ _ (plain_octets _) (plain_both _ _ _ _ (plain_octets _) (plain_both _ _ _ _ (plain_octets _) (plain_octets _)))))
+      | Ds it ↦ plain_both _ _ _ _ (plain_octets _) (plain_both _ _ _ _ (plain_octets _) (plain_both _ _ _ _ (plain_octets _) (plain_octets _)))
+      | Sshfp it ↦ plain_both _ _ _ _ (plain_octets _) (plain_both _ _ _ _ (plain_octets _) (plain_octets _))
+      | Rrsig it ↦ plain_both _ _ _ _ (plain_octets _) (plain_both _ _ _ _ (plain_octets _) (plain_both _ _ _ _ (plain_octets _) (plain_both _ _ _ _ (plain_octets _) (plain_both _ _ _ _ (plain_octets _) (plain_both _ _ _ _ (plain_octets _) (plain_both _ _ _ _ (plain_octets _) (plain_both _ _ _ _ (plain_octets _) (plain_octets _))))))))
+      | Nsec it ↦ plain_both _ _ _ _ (plain_octets _) (plain_octets _)
+      | Dnskey it ↦ plain_both _ _ _ _ (plain_octets _) (plain_both _ _ _ _ (plain_octets _) (plain_both _ _ _ _ (plain_octets _) (plain_octets _)))
+      | Tlsa it ↦ plain_both _ _ _ _ (plain_octets _) (plain_both _ _ _ _ (plain_octets _) (plain_both _ _ _ _ (plain_octets _) (plain_octets _)))
+      | Caa it ↦ plain_both _ _ _ _ (plain_octets _) (plain_both _ _ _ _ (plain_octets _) (plain_octets _))
+      | Txt it ↦ plain_octets _
+      | Unknown it ↦ plain_octets _
+    ] };
+
+    ghost flat = { elim [
+      | A it ↦ flat_octets _
+      | Aaaa it ↦ flat_octets _
+      | Ns it ↦ flat_name _
+      | Cname it ↦ flat_name _
+      | Ptr it ↦ flat_name _
+      | Dname it ↦ flat_octets _
+      | Mx it ↦ flat_both _ _ _ _ (flat_octets _) (flat_name _)
+      | Soa it ↦ flat_both _ _ _ _ (flat_name _) (flat_both _ _ _ _ (flat_name _) (flat_both _ _ _ _ (flat_octets _) (flat_both _ _ _ _ (flat_octets _) (flat_both _ _ _ _ (flat_octets _) (flat_both _ _ _ _ (flat_octets _) (flat_octets _))))))
+      | Srv it ↦ flat_both _ _ _ _ (flat_octets _) (flat_both _ _ _ _ (flat_octets _) (flat_both _ _ _ _ (flat_octets _) (flat_octets _)))
+      | Mb it ↦ flat_name _
+      | Md it ↦ flat_name _
+      | Mf it ↦ flat_name _
+      | Mg it ↦ flat_name _
+      | Mr it ↦ flat_name _
+      | Minfo it ↦ flat_both _ _ _ _ (flat_name _) (flat_name _)
+      | Rp it ↦ flat_both _ _ _ _ (flat_octets _) (flat_octets _)
+      | Afsdb it ↦ flat_both _ _ _ _ (flat_octets _) (flat_octets _)
+      | Rt it ↦ flat_both _ _ _ _ (flat_octets _) (flat_octets _)
+      | Px it ↦ flat_both _ _ _ _ (flat_octets _) (flat_both _ _ _ _ (flat_octets _) (flat_octets _))
+      | Kx it ↦ flat_both _ _ _ _ (flat_octets _) (flat_octets _)
+      | Hinfo it ↦ flat_both _ _ _ _ (flat_octets _) (flat_octets _)
+      | Naptr it ↦ flat_both _ _ _ _ (flat_octets _) (flat_both _ _ _ _ (flat_octets _) (flat_both _ _ _ _ (flat_octets _) (flat_both _ _ _ _ (flat_octets _) (flat_both _ _ _ _ (flat_octets _) (flat_octets _)))))
+      | Ds it ↦ flat_both _ _ _ _ (flat_octets _) (flat_both _ _ _ _ (flat_octets _) (flat_both _ _ _ _ (flat_octets _) (flat_octets _)))
+      | Sshfp it ↦ flat_both _ _ _ _ (flat_octets _) (flat_both _ _ _ _ (flat_octets _) (flat_octets _))
+      | Rrsig it ↦ flat_both _ _ _ _ (flat_octets _) (flat_both _ _ _ _ (flat_octets _) (flat_both _ _ _ _ (flat_octets _) (flat_both _ _ _ _ (flat_octets _) (flat_both _ _ _ _ (flat_octets _) (flat_both _ _ _ _ (flat_octets _) (flat_both _ _ _ _ (flat_octets _) (flat_both _ _ _ _ (flat_octets _) (flat_octets _))))))))
+      | Nsec it ↦ flat_both _ _ _ _ (flat_octets _) (flat_octets _)
+      | Dnskey it ↦ flat_both _ _ _ _ (flat_octets _) (flat_both _ _ _ _ (flat_octets _) (flat_both _ _ _ _ (flat_octets _) (flat_octets _)))
+      | Tlsa it ↦ flat_both _ _ _ _ (flat_octets _) (flat_both _ _ _ _ (flat_octets _) (flat_both _ _ _ _ (flat_octets _) (flat_octets _)))
+      | Caa it ↦ flat_both _ _ _ _ (flat_octets _) (flat_both _ _ _ _ (flat_octets _) (flat_octets _))
+      | Txt it ↦ flat_octets _
+      | Unknown it ↦ flat_octets _
+    ] };
+}
+
+/// Reads data of a type that has such data.
+fn read<'a, D: ParseRecordData<'a>, E: From<ParseError>>(
+    rtype: Rtype,
+    parser: &mut Parser<'a>,
+) -> Result<D, E>
+    requires { D.reads_type (rtype_number rtype) ≡ true }
+    ensures ok { IfOk result
+        (λ it. D.encodes (rtype_number rtype) (message parser.old) (position parser.old)
+        (D.model it) (position parser.new)) }
+    ensures of_type { IfOk result (λ it. D.type_number it ≡ rtype_number rtype) }
+    ensures moves { OnOk result (MovesTo parser.old parser.new (position parser.new)) }
+    ensures err { IfErr result
+        (λ e. (why : ParseError)
+        × D.fails_with (rtype_number rtype) (message parser.old) (position parser.old) why
+        × E.from_gives why e) }
+    ensures unchanged { OnErr result (parser.new ≡ parser.old) }
+{
+    match D::parse_rdata(rtype, parser) {
+        Ok(Some(it)) => Ok(it),
+        Ok(None) => unreachable!(),
+        Err(e) => Err(E::from(e)),
+    }
+}
+
+/// Data of a type that is known is read by its type, and is all that is left; of any other all that is left is taken.
+impl<'a> ParseAnyRecordData<'a> for AllRecordData<&'a [u8], ParsedName<&'a [u8]>> {
+    ghost use Rattle.domain_all_data.specs.AllTypes.{all_fields};
+
+    ghost View = { AllFields };
+
+    ghost model = { all_fields };
+
+    ghost encodes = { AllDataAt };
+
+    ghost fails_with = { NoAllData };
+
+    fn parse_any_rdata(
+        rtype: Rtype,
+        parser: &mut Parser<'a>,
+    ) -> Result<AllRecordData<&'a [u8], ParsedName<&'a [u8]>>, ParseError> {
+        match rtype.to_int() {
+            1 => match read::<A, ParseError>(rtype, parser) {
+                Ok(it) => Ok(AllRecordData::A(it)),
+                Err(e) => Err(e),
+            },
+            2 => match read::<Ns<ParsedName<&'a [u8]>>, ParseError>(rtype, parser) {
+                Ok(it) => Ok(AllRecordData::Ns(it)),
+                Err(e) => Err(e),
+            },
+            3 => match read::<Md<ParsedName<&'a [u8]>>, ParseError>(rtype, parser) {
+                Ok(it) => Ok(AllRecordData::Md(it)),
+                Err(e) => Err(e),
+            },
+            4 => match read::<Mf<ParsedName<&'a [u8]>>, ParseError>(rtype, parser) {
+                Ok(it) => Ok(AllRecordData::Mf(it)),
+                Err(e) => Err(e),
+            },
+            5 => match read::<Cname<ParsedName<&'a [u8]>>, ParseError>(rtype, parser) {
+                Ok(it) => Ok(AllRecordData::Cname(it)),
+                Err(e) => Err(e),
+            },
+            6 => match read::<Soa<ParsedName<&'a [u8]>>, ParseError>(rtype, parser) {
+                Ok(it) => Ok(AllRecordData::Soa(it)),
+                Err(e) => Err(e),
+            },
+            7 => match read::<Mb<ParsedName<&'a [u8]>>, ParseError>(rtype, parser) {
+                Ok(it) => Ok(AllRecordData::Mb(it)),
+                Err(e) => Err(e),
+            },
+            8 => match read::<Mg<ParsedName<&'a [u8]>>, ParseError>(rtype, parser) {
+                Ok(it) => Ok(AllRecordData::Mg(it)),
+                Err(e) => Err(e),
+            },
+            9 => match read::<Mr<ParsedName<&'a [u8]>>, ParseError>(rtype, parser) {
+                Ok(it) => Ok(AllRecordData::Mr(it)),
+                Err(e) => Err(e),
+            },
+            12 => match read::<Ptr<ParsedName<&'a [u8]>>, ParseError>(rtype, parser) {
+                Ok(it) => Ok(AllRecordData::Ptr(it)),
+                Err(e) => Err(e),
+            },
+            13 => match read::<Hinfo<&'a [u8]>, ParseError>(rtype, parser) {
+                Ok(it) => Ok(AllRecordData::Hinfo(it)),
+                Err(e) => Err(e),
+            },
+            14 => match read::<Minfo<ParsedName<&'a [u8]>>, ParseError>(rtype, parser) {
+                Ok(it) => Ok(AllRecordData::Minfo(it)),
+                Err(e) => Err(e),
+            },
+            15 => match read::<Mx<ParsedName<&'a [u8]>>, ParseError>(rtype, parser) {
+                Ok(it) => Ok(AllRecordData::Mx(it)),
+                Err(e) => Err(e),
+            },
+            16 => match read::<Txt<&'a [u8]>, ParseError>(rtype, parser) {
+                Ok(it) => Ok(AllRecordData::Txt(it)),
+                Err(e) => Err(e),
+            },
+            17 => match read::<Rp<ParsedName<&'a [u8]>>, ParseError>(rtype, parser) {
+                Ok(it) => Ok(AllRecordData::Rp(it)),
+                Err(e) => Err(e),
+            },
+            18 => match read::<Afsdb<ParsedName<&'a [u8]>>, ParseError>(rtype, parser) {
+                Ok(it) => Ok(AllRecordData::Afsdb(it)),
+                Err(e) => Err(e),
+            },
+            21 => match read::<Rt<ParsedName<&'a [u8]>>, ParseError>(rtype, parser) {
+                Ok(it) => Ok(AllRecordData::Rt(it)),
+                Err(e) => Err(e),
+            },
+            26 => match read::<Px<ParsedName<&'a [u8]>>, ParseError>(rtype, parser) {
+                Ok(it) => Ok(AllRecordData::Px(it)),
+                Err(e) => Err(e),
+            },
+            28 => match read::<Aaaa, ParseError>(rtype, parser) {
+                Ok(it) => Ok(AllRecordData::Aaaa(it)),
+                Err(e) => Err(e),
+            },
+            33 => match read::<Srv<ParsedName<&'a [u8]>>, ParseError>(rtype, parser) {
+                Ok(it) => Ok(AllRecordData::Srv(it)),
+                Err(e) => Err(e),
+            },
+            35 => match read::<Naptr<&'a [u8], ParsedName<&'a [u8]>>, ParseError>(rtype, parser) {
+                Ok(it) => Ok(AllRecordData::Naptr(it)),
+                Err(e) => Err(e),
+            },
+            36 => match read::<Kx<ParsedName<&'a [u8]>>, ParseError>(rtype, parser) {
+                Ok(it) => Ok(AllRecordData::Kx(it)),
+                Err(e) => Err(e),
+            },
+            39 => match read::<Dname<ParsedName<&'a [u8]>>, ParseError>(rtype, parser) {
+                Ok(it) => Ok(AllRecordData::Dname(it)),
+                Err(e) => Err(e),
+            },
+            43 => match read::<Ds<&'a [u8]>, ParseError>(rtype, parser) {
+                Ok(it) => Ok(AllRecordData::Ds(it)),
+                Err(e) => Err(e),
+            },
+            44 => match read::<Sshfp<&'a [u8]>, ParseError>(rtype, parser) {
+                Ok(it) => Ok(AllRecordData::Sshfp(it)),
+                Err(e) => Err(e),
+            },
+            46 => match read::<Rrsig<&'a [u8], ParsedName<&'a [u8]>>, ParseError>(rtype, parser) {
+                Ok(it) => Ok(AllRecordData::Rrsig(it)),
+                Err(e) => Err(e),
+            },
+            47 => match read::<Nsec<&'a [u8], ParsedName<&'a [u8]>>, ParseError>(rtype, parser) {
+                Ok(it) => Ok(AllRecordData::Nsec(it)),
+                Err(e) => Err(e),
+            },
+            48 => match read::<Dnskey<&'a [u8]>, ParseError>(rtype, parser) {
+                Ok(it) => Ok(AllRecordData::Dnskey(it)),
+                Err(e) => Err(e),
+            },
+            52 => match read::<Tlsa<&'a [u8]>, ParseError>(rtype, parser) {
+                Ok(it) => Ok(AllRecordData::Tlsa(it)),
+                Err(e) => Err(e),
+            },
+            257 => match read::<Caa<&'a [u8]>, ParseError>(rtype, parser) {
+                Ok(it) => Ok(AllRecordData::Caa(it)),
+                Err(e) => Err(e),
+            },
+            _ => match read::<UnknownRecordData<&'a [u8]>, ParseError>(rtype, parser) {
+                Ok(it) => Ok(AllRecordData::Unknown(it)),
+                Err(e) => Err(e),
+            },
+        }
+    }
+
+    ghost lawful = { all_data_reading };
+}
+
+/// The same: each type has such data.
+impl<'a> ParseRecordData<'a> for AllRecordData<&'a [u8], ParsedName<&'a [u8]>> {
+    ghost use Rattle.domain_all_data.specs.AllTypes.{all_fields};
+
+    ghost View = { AllFields };
+
+    ghost model = { all_fields };
+
+    ghost reads_type = { λ _. true };
+
+    ghost encodes = { AllDataAt };
+
+    ghost fails_with = { NoAllData };
+
+    fn parse_rdata(
+        rtype: Rtype,
+        parser: &mut Parser<'a>,
+    ) -> Result<Option<AllRecordData<&'a [u8], ParsedName<&'a [u8]>>>, ParseError> {
+        match AllRecordData::parse_any_rdata(rtype, parser) {
+            Ok(it) => Ok(Some(it)),
+            Err(e) => Err(e),
+        }
+    }
+
+    ghost lawful = { all_data_reading };
+}
+
+/// The presentation format of the type, or that for unknown types (RFC 3597, 5).
+impl<'a> fmt::Display for AllRecordData<&'a [u8], ParsedName<&'a [u8]>> {
+    ghost use Rattle.domain_all_data.specs.AllTypes.{all_fields};
+
+    ghost output = { λ it. Some (fields_text (all_fields it)) };
+
+    fn fmt<W: fmt::Write>(&self, f: &mut fmt::Formatter<W>) -> fmt::Result {
+        match self {
+            AllRecordData::A(it) => write!(f, "{it}"),
+            AllRecordData::Aaaa(it) => write!(f, "{it}"),
+            AllRecordData::Ns(it) => write!(f, "{it}"),
+            AllRecordData::Cname(it) => write!(f, "{it}"),
+            AllRecordData::Ptr(it) => write!(f, "{it}"),
+            AllRecordData::Dname(it) => write!(f, "{it}"),
+            AllRecordData::Mx(it) => write!(f, "{it}"),
+            AllRecordData::Soa(it) => write!(f, "{it}"),
+            AllRecordData::Srv(it) => write!(f, "{it}"),
+            AllRecordData::Mb(it) => write!(f, "{it}"),
+            AllRecordData::Md(it) => write!(f, "{it}"),
+            AllRecordData::Mf(it) => write!(f, "{it}"),
+            AllRecordData::Mg(it) => write!(f, "{it}"),
+            AllRecordData::Mr(it) => write!(f, "{it}"),
+            AllRecordData::Minfo(it) => write!(f, "{it}"),
+            AllRecordData::Rp(it) => write!(f, "{it}"),
+            AllRecordData::Afsdb(it) => write!(f, "{it}"),
+            AllRecordData::Rt(it) => write!(f, "{it}"),
+            AllRecordData::Px(it) => write!(f, "{it}"),
+            AllRecordData::Kx(it) => write!(f, "{it}"),
+            AllRecordData::Hinfo(it) => write!(f, "{it}"),
+            AllRecordData::Naptr(it) => write!(f, "{it}"),
+            AllRecordData::Ds(it) => write!(f, "{it}"),
+            AllRecordData::Sshfp(it) => write!(f, "{it}"),
+            AllRecordData::Rrsig(it) => write!(f, "{it}"),
+            AllRecordData::Nsec(it) => write!(f, "{it}"),
+            AllRecordData::Dnskey(it) => write!(f, "{it}"),
+            AllRecordData::Tlsa(it) => write!(f, "{it}"),
+            AllRecordData::Caa(it) => write!(f, "{it}"),
+            AllRecordData::Txt(it) => write!(f, "{it}"),
+            AllRecordData::Unknown(it) => write!(f, "{it}"),
+        }
+    }
+}

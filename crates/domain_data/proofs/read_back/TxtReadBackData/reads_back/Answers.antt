@@ -1,8 +1,0 @@
-use Rattle.domain_data.specs.TxtReadingLaws.{text_read_back}
-use Rattle.domain_data.specs.Txts.{txt_octets}
-use Rattle.domain_data.proofs.read_back.TxtReadBackData.reads_back.Goals as goal
-
-pub returns : goal.returns
-returns g c =
-    let it = c.args.self.now in
-    text_read_back (txt_octets {g = g.Octs.Octets} it) it.strings it.some it.few

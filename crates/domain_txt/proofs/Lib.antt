@@ -1,0 +1,2 @@
+pub mod TxtPassing
+pub mod TxtShowing
