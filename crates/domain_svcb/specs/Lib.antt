@@ -1,0 +1,12 @@
+pub mod SvcParams
+pub mod ParamLaws
+pub mod ParamViews
+pub mod Lists
+pub mod ListViews
+pub mod Values
+pub mod ValueViews
+pub mod ParamText
+pub mod ParamsReading
+pub mod ParamsViews
+pub mod ServiceViews
+pub mod Services
