@@ -1,4 +1,5 @@
-//! Data of records by their types. The README.md of `domain_data` tells the calls.
+//! Data of records by their types. The README.md of `domain_data` tells the calls, and that of `domain_svcb`
+//! those of SVCB and HTTPS.
 
 pub use domain_data::{
     A, Aaaa, Afsdb, AllRecordData, Base16Octets, Base64Octets, Caa, CharString, Cname, Dname,
@@ -7,6 +8,7 @@ pub use domain_data::{
     TxtError, TxtIter, TypeBitmaps, TypeBitmapsError, TypesIter,
 };
 pub use domain_rdata::UnknownRecordData;
+pub use domain_svcb::{Https, ServiceData, SvcParam, SvcParams, SvcParamsError, SvcParamsIter, Svcb};
 
 /// The types of RFC 1035, in whose data names may be compressed.
 pub mod rfc1035 {
