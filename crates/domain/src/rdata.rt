@@ -1,4 +1,5 @@
-//! Data of records by their types. The README.md of `domain_data` tells the calls.
+//! Data of records by their types. The README.md of `domain_data` tells the calls, and that of `domain_svcb`
+//! those of SVCB and HTTPS.
 
 pub use domain_all_data::AllRecordData;
 pub use domain_data::{
@@ -8,6 +9,7 @@ pub use domain_data::{
     TypeBitmapsError, TypesIter,
 };
 pub use domain_rdata::UnknownRecordData;
+pub use domain_svcb::{Https, ServiceData, SvcParam, SvcParams, SvcParamsError, SvcParamsIter, Svcb};
 pub use domain_txt::{Txt, TxtError, TxtIter};
 
 /// The types of RFC 1035, in whose data names may be compressed.

@@ -5,3 +5,4 @@ pub mod Built
 pub mod MessageHosts
 pub mod Responses
 pub mod Served
+pub mod Services

@@ -31,6 +31,7 @@ pub mod program;
 pub mod reading;
 pub mod records;
 pub mod sections;
+pub mod services;
 pub mod serving;
 pub mod typed_names;
 pub mod values;
