@@ -44,7 +44,7 @@ extern "C" {
 #define DNSNAMES_KEY_LEN 16
 
 /* The version of this header; dnsnames_version tells that of the library. */
-#define DNSNAMES_VERSION "0.3.0"
+#define DNSNAMES_VERSION "0.4.0"
 
 typedef enum dnsnames_status {
     DNSNAMES_OK = 0,
@@ -88,7 +88,7 @@ typedef enum dnsnames_status {
     DNSNAMES_ABSOLUTE = 19,
     /* A length that is passed is larger than the capacity beside it. */
     DNSNAMES_BAD_LENGTH = 20,
-    /* Data of records of this type have no such name. */
+    /* Data of records of this type have no such field: name, number, address, string or option. */
     DNSNAMES_NO_FIELD = 21,
     /* The text names no type, class or code. */
     DNSNAMES_NO_MNEMONIC = 22,
@@ -99,7 +99,9 @@ typedef enum dnsnames_status {
     /* Building: the section has 65,535 entries, which is all that its count can tell. */
     DNSNAMES_TOO_MANY_ENTRIES = 25,
     /* Building: there is no such section. */
-    DNSNAMES_NO_SECTION = 26
+    DNSNAMES_NO_SECTION = 26,
+    /* All strings or options of the data were given: no fault, but the end. */
+    DNSNAMES_NO_MORE = 27
 } dnsnames_status;
 
 /* The version of the library: a text that stays. */
@@ -313,6 +315,78 @@ dnsnames_status dnsnames_record(const uint8_t *message, size_t message_len, size
 dnsnames_status dnsnames_data_name(const uint8_t *message, size_t message_len, size_t data, size_t data_len,
                                    uint16_t type, size_t index, uint8_t *buffer, size_t capacity, size_t *length);
 
+/* The numbers of data, by how many numbers are before them: of MX, RT, PX and KX the preference (of AFSDB the subtype), of
+ * SRV priority, weight and port, of SOA serial, refresh, retry, expire and minimum. */
+enum {
+    DNSNAMES_PREFERENCE = 0,
+    DNSNAMES_PRIORITY = 0,
+    DNSNAMES_WEIGHT = 1,
+    DNSNAMES_PORT = 2,
+    DNSNAMES_SERIAL = 0,
+    DNSNAMES_REFRESH = 1,
+    DNSNAMES_RETRY = 2,
+    DNSNAMES_EXPIRE = 3,
+    DNSNAMES_MINIMUM = 4
+};
+
+/* The number with `index` numbers before it in the data of a record: of 16 bits in MX, AFSDB, RT, PX, KX and SRV, of 32 in
+ * SOA, whose two names are skipped. The data are read whole or not at all, as dnsnames_data_name reads them.
+ *
+ * NO_FIELD where data of this type have no such number; SHORT_INPUT, TRAILING_DATA, LABEL_TYPE, LONG_NAME as
+ * dnsnames_data_name has them of the data. */
+dnsnames_status dnsnames_data_number(const uint8_t *message, size_t message_len, size_t data, size_t data_len,
+                                     uint16_t type, size_t index, uint32_t *value);
+
+/* The address that is the data of a record of class IN: 4 octets of A (RFC 1035, 3.4.1), 16 of AAAA (RFC 3596, 2.2). The
+ * buffer gets them, *length their number.
+ *
+ * NO_FIELD where the type is another; SHORT_INPUT where the data end past the message or have fewer octets, TRAILING_DATA
+ * where they have more; NO_ROOM. */
+dnsnames_status dnsnames_data_address(const uint8_t *message, size_t message_len, size_t data, size_t data_len,
+                                      uint16_t type, uint8_t *buffer, size_t capacity, size_t *length);
+
+/* The character strings of the data of TXT (RFC 1035, 3.3.14) and SPF (RFC 4408, 3.1.1), one after another: *passed is how
+ * many octets of the data were passed, 0 for the first string and then as the call leaves it. *string becomes the offset of
+ * the string's octets in the message, *string_len how many there are.
+ *
+ * NO_MORE where all strings were passed. NO_FIELD where the type is another; SHORT_INPUT where the data end past the
+ * message, where they end in the string, or where they have no octet, since there is one string at least.
+ *
+ *     size_t passed = 0, string, string_len;
+ *     while ((status = dnsnames_data_string(message, message_len, record.data, record.data_len, record.type, &passed,
+ *                                           &string, &string_len)) == DNSNAMES_OK)
+ *         fwrite(message + string, 1, string_len, stdout);
+ *     if (status != DNSNAMES_NO_MORE)
+ *         fprintf(stderr, "%s\n", dnsnames_strerror(status));
+ */
+dnsnames_status dnsnames_data_string(const uint8_t *message, size_t message_len, size_t data, size_t data_len,
+                                     uint16_t type, size_t *passed, size_t *string, size_t *string_len);
+
+/* What an OPT record says by its class and its TTL (RFC 6891, 6.1.2 and 6.1.3): how many octets its sender takes in a
+ * message over UDP (512 where it tells fewer), the response code of twelve bits, the version of EDNS, and the bit DO, 0 or
+ * 1. */
+typedef struct dnsnames_opt_fields {
+    uint16_t size;
+    uint16_t rcode;
+    uint8_t version;
+    uint32_t dnssec_ok;
+} dnsnames_opt_fields;
+
+/* What an OPT record says: type, class_ and ttl are those that dnsnames_record gives, flags those of the message's header,
+ * which have the lower four bits of the response code. NO_FIELD where the type isn't OPT. Whether the record is of the
+ * root, as it must be, and the only one, is for the caller to see. */
+dnsnames_status dnsnames_opt(uint16_t type, uint16_t class_, uint32_t ttl, uint16_t flags, dnsnames_opt_fields *opt);
+
+/* The options in the data of an OPT record (RFC 6891, 6.1.2), one after another: *passed is how many octets of the data were
+ * passed, 0 for the first option and then as the call leaves it. *code becomes its code, *option the offset of its data in
+ * the message, *option_len how many octets these have.
+ *
+ * NO_MORE where all options were passed. NO_FIELD where the type isn't OPT; SHORT_INPUT where the data end past the message
+ * or in the option. */
+dnsnames_status dnsnames_data_option(const uint8_t *message, size_t message_len, size_t data, size_t data_len,
+                                     uint16_t type, size_t *passed, uint16_t *code, size_t *option,
+                                     size_t *option_len);
+
 /* ---- Building messages (RFC 1035, 4.1) ---- */
 
 /* The sections of records. */
@@ -509,12 +583,13 @@ static inline const char *dnsnames_strerror(uint32_t status)
     case DNSNAMES_NULL: return "null pointer";
     case DNSNAMES_ABSOLUTE: return "absolute domain name";
     case DNSNAMES_BAD_LENGTH: return "length larger than its capacity";
-    case DNSNAMES_NO_FIELD: return "no such name in data of this type";
+    case DNSNAMES_NO_FIELD: return "no such field in data of this type";
     case DNSNAMES_NO_MNEMONIC: return "no name of a type, a class or a code";
     case DNSNAMES_NO_BUILDER: return "no builder, or its message is finished";
     case DNSNAMES_WRONG_ORDER: return "a later section was begun";
     case DNSNAMES_TOO_MANY_ENTRIES: return "too many entries in a section";
     case DNSNAMES_NO_SECTION: return "no such section";
+    case DNSNAMES_NO_MORE: return "no more strings or options";
     default: return "unknown status";
     }
 }

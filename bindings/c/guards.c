@@ -43,6 +43,17 @@ uint32_t proved_dnsnames_record(const uint8_t *message, size_t message_len, size
                                 uint16_t *class_, uint32_t *ttl, size_t *data, size_t *data_len, size_t *end);
 uint32_t proved_dnsnames_data_name(const uint8_t *message, size_t message_len, size_t data, size_t data_len,
                                    uint16_t type, size_t index, uint8_t *buffer, size_t capacity, size_t *length);
+uint32_t proved_dnsnames_data_number(const uint8_t *message, size_t message_len, size_t data, size_t data_len,
+                                     uint16_t type, size_t index, uint32_t *value);
+uint32_t proved_dnsnames_data_address(const uint8_t *message, size_t message_len, size_t data, size_t data_len,
+                                      uint16_t type, uint8_t *buffer, size_t capacity, size_t *length);
+uint32_t proved_dnsnames_data_string(const uint8_t *message, size_t message_len, size_t data, size_t data_len,
+                                     uint16_t type, size_t *passed, size_t *string, size_t *string_len);
+uint32_t proved_dnsnames_opt(uint16_t type, uint16_t class_, uint32_t ttl, uint16_t flags, uint16_t *size,
+                             uint16_t *rcode, uint8_t *version, uint32_t *dnssec_ok);
+uint32_t proved_dnsnames_data_option(const uint8_t *message, size_t message_len, size_t data, size_t data_len,
+                                     uint16_t type, size_t *passed, uint16_t *code, size_t *option,
+                                     size_t *option_len);
 uint32_t proved_dnsnames_type_text(uint16_t type, uint8_t *buffer, size_t capacity, size_t *length);
 uint32_t proved_dnsnames_type_from_text(const uint8_t *text, size_t text_len, uint16_t *type);
 uint32_t proved_dnsnames_class_text(uint16_t class_, uint8_t *buffer, size_t capacity, size_t *length);
@@ -245,6 +256,45 @@ dnsnames_status dnsnames_data_name(const uint8_t *message, size_t message_len, s
     return GUARDED(is_null(message, message_len) || is_null(buffer, capacity) || length == NULL,
                    proved_dnsnames_data_name(octets_at(message), message_len, data, data_len, type, index,
                                              room_at(buffer), capacity, length));
+}
+
+dnsnames_status dnsnames_data_number(const uint8_t *message, size_t message_len, size_t data, size_t data_len,
+                                     uint16_t type, size_t index, uint32_t *value)
+{
+    return GUARDED(is_null(message, message_len) || value == NULL,
+                   proved_dnsnames_data_number(octets_at(message), message_len, data, data_len, type, index, value));
+}
+
+dnsnames_status dnsnames_data_address(const uint8_t *message, size_t message_len, size_t data, size_t data_len,
+                                      uint16_t type, uint8_t *buffer, size_t capacity, size_t *length)
+{
+    return GUARDED(is_null(message, message_len) || is_null(buffer, capacity) || length == NULL,
+                   proved_dnsnames_data_address(octets_at(message), message_len, data, data_len, type,
+                                                room_at(buffer), capacity, length));
+}
+
+dnsnames_status dnsnames_data_string(const uint8_t *message, size_t message_len, size_t data, size_t data_len,
+                                     uint16_t type, size_t *passed, size_t *string, size_t *string_len)
+{
+    return GUARDED(is_null(message, message_len) || passed == NULL || string == NULL || string_len == NULL,
+                   proved_dnsnames_data_string(octets_at(message), message_len, data, data_len, type, passed, string,
+                                               string_len));
+}
+
+dnsnames_status dnsnames_opt(uint16_t type, uint16_t class_, uint32_t ttl, uint16_t flags, dnsnames_opt_fields *opt)
+{
+    return GUARDED(opt == NULL, proved_dnsnames_opt(type, class_, ttl, flags, &opt->size, &opt->rcode, &opt->version,
+                                                    &opt->dnssec_ok));
+}
+
+dnsnames_status dnsnames_data_option(const uint8_t *message, size_t message_len, size_t data, size_t data_len,
+                                     uint16_t type, size_t *passed, uint16_t *code, size_t *option,
+                                     size_t *option_len)
+{
+    return GUARDED(is_null(message, message_len) || passed == NULL || code == NULL || option == NULL ||
+                   option_len == NULL,
+                   proved_dnsnames_data_option(octets_at(message), message_len, data, data_len, type, passed, code,
+                                               option, option_len));
 }
 
 dnsnames_status dnsnames_type_text(uint16_t type, uint8_t *buffer, size_t capacity, size_t *length)

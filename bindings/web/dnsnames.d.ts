@@ -40,6 +40,20 @@ export interface DnsRecord extends Question {
     data: Uint8Array;
 }
 
+/** What an OPT record says: `rcode` has twelve bits. */
+export interface Opt {
+    size: number;
+    rcode: number;
+    version: number;
+    dnssecOk: boolean;
+}
+
+/** An option of an OPT record. */
+export interface EdnsOption {
+    code: number;
+    data: Uint8Array;
+}
+
 export type Section = "answers" | "authority" | "additional";
 export type Entry = (Question & { section: "questions" }) | (DnsRecord & { section: Section });
 export type Kind = "type" | "class" | "opcode" | "rcode";
@@ -96,6 +110,11 @@ export class DnsNames {
     question(message: Uint8Array, offset?: number): Question;
     record(message: Uint8Array, offset: number): DnsRecord;
     nameInData(message: Uint8Array, record: DnsRecord, index?: number): NameRead;
+    numberInData(message: Uint8Array, record: DnsRecord, index?: number): number;
+    addressInData(message: Uint8Array, record: DnsRecord): Uint8Array;
+    stringsInData(message: Uint8Array, record: DnsRecord): Generator<Uint8Array, void, undefined>;
+    opt(record: DnsRecord, flags?: number): Opt;
+    optionsInData(message: Uint8Array, record: DnsRecord): Generator<EdnsOption, void, undefined>;
     entries(message: Uint8Array): Generator<Entry, void, undefined>;
     mnemonic(kind: Kind, number: number): string;
     numberOf(kind: Kind, text: string): number;

@@ -36,13 +36,16 @@ const FAULTS = new Map([
     [16, ["NoTable", "invalid table of offsets", ""]],
     [19, ["AbsoluteName", "absolute domain name", "RFC 1035, 3.1"]],
     [20, ["BadLength", "length larger than its capacity", ""]],
-    [21, ["NoField", "no such name in data of this type", ""]],
+    [21, ["NoField", "no such field in data of this type", ""]],
     [22, ["NoMnemonic", "no name of a type, a class or a code", "RFC 3597, 5"]],
     [23, ["NoBuilder", "no builder, or its message is finished", ""]],
     [24, ["WrongOrder", "a later section was begun", "RFC 1035, 4.1"]],
     [25, ["TooManyEntries", "too many entries in a section", "RFC 1035, 4.1.1"]],
     [26, ["NoSection", "no such section", "RFC 1035, 4.1"]],
 ]);
+
+// The status by which the module tells that all strings or options of data were given.
+const NO_MORE = 27;
 
 /** Why something is refused: `fault` is its name, `status` the module's number, `section` the standard's. */
 export class NameFault extends Error {
@@ -199,6 +202,74 @@ export class DnsNames {
         );
         const octets = this.#octets(room, length);
         return { octets, text: this.toText(octets), labels: labelsOf(octets) };
+    }
+
+    /** The number with so many numbers before it in the data of a record of this message: the preference of MX, RT, PX and KX,
+     *  the subtype of AFSDB, the priority, weight and port of SRV, the serial, refresh, retry, expire and minimum of SOA.
+     *  NoField where data of its type have no such number. */
+    numberInData(message, record, index = 0) {
+        const [slice] = this.#begin(message);
+        const [value] = this.#results(1);
+        this.#call("data_number", record.dataOffset, ...slice, ...dataOf(record), toSize(index), value);
+        return this.#view().getUint32(Number(value), true);
+    }
+
+    /** The octets of the address of an A or AAAA record of this message: 4, or 16. NoField for another type, ShortInput or
+     *  TrailingData where the data have fewer or more octets. */
+    addressInData(message, record) {
+        const [slice, room] = this.#begin(message, 16);
+        const [length] = this.#results(1);
+        this.#call("data_address", record.dataOffset, ...slice, ...dataOf(record), ...room, length);
+        return this.#octets(room, length);
+    }
+
+    /** The character strings of a TXT or SPF record of this message, each as its octets. NoField for another type, ShortInput
+     *  where the data have no string or end in one. */
+    *stringsInData(message, record) {
+        for (let passed = 0n; ;) {
+            const [slice] = this.#begin(message);
+            const [at, string, length] = this.#results(3);
+            this.#view().setBigUint64(Number(at), passed, true);
+            const more = this.#more("data_string", record, ...slice, ...dataOf(record), at, string, length);
+            if (!more) return;
+            passed = BigInt(this.#size(at));
+            const begin = this.#size(string);
+            yield message.slice(begin, begin + this.#size(length));
+        }
+    }
+
+    /** What an OPT record says, of the message whose header has these flags (RFC 6891, 6.1). NoField for another type. */
+    opt(record, flags = 0) {
+        const { type, class: class_, ttl } = record;
+        this.#begin();
+        const [size, rcode, version, dnssecOk] = this.#results(4);
+        this.#call("opt", record.offset, type, class_, ttl, flags, size, rcode, version, dnssecOk);
+        return {
+            size: this.#number16(size), rcode: this.#number16(rcode), version: this.#view().getUint8(Number(version)),
+            dnssecOk: this.#view().getUint32(Number(dnssecOk), true) !== 0,
+        };
+    }
+
+    /** The options of an OPT record of this message, each a code and octets (RFC 6891, 6.1.2). NoField for another type,
+     *  ShortInput where the data end in an option. */
+    *optionsInData(message, record) {
+        for (let passed = 0n; ;) {
+            const [slice] = this.#begin(message);
+            const [at, code, option, length] = this.#results(4);
+            this.#view().setBigUint64(Number(at), passed, true);
+            const more = this.#more("data_option", record, ...slice, ...dataOf(record), at, code, option, length);
+            if (!more) return;
+            passed = BigInt(this.#size(at));
+            const begin = this.#size(option);
+            yield { code: this.#number16(code), data: message.slice(begin, begin + this.#size(length)) };
+        }
+    }
+
+    // Whether a call gave a string or an option: not where all were given.
+    #more(call, record, ...values) {
+        const status = this.#exports["dnsnames_" + call](...values) >>> 0;
+        if (status !== 0 && status !== NO_MORE) throw new NameFault(status, record.dataOffset);
+        return status === 0;
     }
 
     /** The questions and records of a message in turn, each with its `section`. */
@@ -368,6 +439,11 @@ export class DnsNames {
     #octets([start], length) {
         return new Uint8Array(this.#exports.memory.buffer, Number(start), this.#size(length)).slice();
     }
+}
+
+// Where the data of a record are, and of which type.
+function dataOf({ dataOffset, data, type }) {
+    return [toSize(dataOffset), BigInt(data.length), type];
 }
 
 // The labels of octets that are a name.

@@ -43,6 +43,30 @@ const cut = { ...alias, data: alias.data.slice(1) };
 assert.equal(faultOf(() => dns.nameInData(message, cut)), "ShortInput");
 const longer = { ...alias, data: message.slice(alias.dataOffset, alias.dataOffset + 3) };
 assert.equal(faultOf(() => dns.nameInData(message, longer)), "TrailingData");
+
+// Numbers, addresses, strings and options of data. The numbers are those of RFC 1035, 5.3.
+const ofData = (type, data, class_ = 1, ttl = 0) => {
+    const builder = dns.builder({ capacity: 200, flags: 0x8183 });
+    builder.record("answers", Uint8Array.of(0), type, data, { class: class_, ttl });
+    const message = builder.finish();
+    return [message, dns.record(message, 12)];
+};
+const soa = ofData(6, octets("016100" + "016200" + "00000014" + "00001c20" + "00000258" + "0036ee80" + "0000003c"));
+assert.deepEqual([0, 1, 2, 3, 4].map((index) => dns.numberInData(...soa, index)), [20, 7200, 600, 3600000, 60]);
+assert.equal(faultOf(() => dns.numberInData(...soa, 5)), "NoField");
+assert.equal(faultOf(() => dns.numberInData(...ofData(15, octets("000a0161")))), "ShortInput");
+assert.deepEqual([...dns.addressInData(...ofData(1, octets("c0000201")))], [192, 0, 2, 1]);
+assert.equal(dns.addressInData(...ofData(28, new Uint8Array(16))).length, 16);
+assert.equal(faultOf(() => dns.addressInData(...ofData(28, new Uint8Array(17)))), "TrailingData");
+const texts = [...dns.stringsInData(...ofData(16, octets("03616263" + "00" + "0164")))];
+assert.deepEqual(texts.map((text) => new TextDecoder().decode(text)), ["abc", "", "d"]);
+assert.equal(faultOf(() => [...dns.stringsInData(...ofData(16, new Uint8Array(0)))]), "ShortInput");
+const edns = ofData(41, octets("000a00027879" + "fde90000"), 1232, 0x01028000);
+assert.deepEqual(dns.opt(edns[1], dns.header(edns[0]).flags), { size: 1232, rcode: 19, version: 2, dnssecOk: true });
+assert.deepEqual([...dns.optionsInData(...edns)].map(({ code, data }) => [code, ...data]), [[10, 120, 121], [65001]]);
+assert.equal(faultOf(() => [...dns.optionsInData(...ofData(41, octets("000a0001")))]), "ShortInput");
+assert.equal(faultOf(() => dns.opt(soa[1])), "NoField");
+
 // Types and codes.
 assert.deepEqual([dns.mnemonic("type", 15), dns.mnemonic("class", 4660), dns.mnemonic("rcode", 3)], ["MX", "CLASS4660", "NXDOMAIN"]);
 assert.deepEqual([dns.numberOf("type", "aaaa"), dns.numberOf("type", "TYPE65280"), dns.numberOf("opcode", "UPDATE")], [28, 65280, 5]);

@@ -560,6 +560,140 @@ static void names_in_data(void)
     REFUSES(DNSNAMES_LABEL_TYPE, name_in(HOSTILE, HOSTILE_LEN, 10, 2, 5, 0, 255));
 }
 
+/* The number in data from an offset on, so many octets, of this type. */
+static uint32_t number_in(const uint8_t *message, size_t len, size_t data, size_t data_len, uint16_t type, size_t index)
+{
+    return dnsnames_data_number(message, len, data, data_len, type, index, &flag);
+}
+
+static void has_number(const uint8_t *message, size_t len, size_t data, size_t data_len, uint16_t type, size_t index,
+                       uint32_t number)
+{
+    size_t less;
+
+    mark();
+    CHECK(number_in(message, len, data, data_len, type, index) == DNSNAMES_OK && flag == number);
+    for (less = 0; less < data_len; less++)
+        REFUSES(DNSNAMES_SHORT_INPUT, number_in(message, len, data, less, type, index));
+}
+
+static void numbers_in_data(void)
+{
+    /* com at 0, five numbers at 5, a.com and b.com at 13, and the numbers of the SOA record of RFC 1035, 5.3. */
+    static const uint8_t octets[] = "\3com\0" "\0\1\377\376\0\65\0\12" "\1a\300\0" "\1b\300\0"
+                                    "\0\0\0\24" "\0\0\34\40" "\0\0\2\130" "\0\66\356\200" "\0\0\0\74" "\0";
+    static const uint16_t preferred[] = {15, 18, 21, 36}, none[] = {0, 1, 2, 5, 12, 13, 14, 16, 17, 28, 39, 41, 65535};
+    static const uint32_t times[] = {20, 7200, 600, 3600000, 60};
+    size_t i, all = sizeof octets - 1;
+
+    for (i = 0; i < sizeof preferred / sizeof *preferred; i++) {
+        has_number(octets, all, 11, 6, preferred[i], DNSNAMES_PREFERENCE, 10);
+        REFUSES(DNSNAMES_NO_FIELD, number_in(octets, all, 11, 6, preferred[i], 1));
+        REFUSES(DNSNAMES_NO_FIELD, number_in(octets, all, 11, 6, preferred[i], SIZE_MAX));
+    }
+    has_number(octets, all, 11, 10, 26, DNSNAMES_PREFERENCE, 10);
+    has_number(octets, all, 7, 10, 33, DNSNAMES_PRIORITY, 65534);
+    has_number(octets, all, 7, 10, 33, DNSNAMES_WEIGHT, 53);
+    has_number(octets, all, 7, 10, 33, DNSNAMES_PORT, 10);
+    REFUSES(DNSNAMES_NO_FIELD, number_in(octets, all, 7, 10, 33, 3));
+    for (i = 0; i < 5; i++)
+        has_number(octets, all, 13, 28, 6, i, times[i]);
+    REFUSES(DNSNAMES_NO_FIELD, number_in(octets, all, 13, 28, 6, 5));
+    for (i = 0; i < sizeof none / sizeof *none; i++)
+        REFUSES(DNSNAMES_NO_FIELD, number_in(octets, all, 13, 4, none[i], 0));
+    REFUSES(DNSNAMES_TRAILING_DATA, number_in(octets, all, 13, 29, 6, 0));
+    REFUSES(DNSNAMES_TRAILING_DATA, number_in(octets, all, 11, 7, 15, 0));
+    REFUSES(DNSNAMES_SHORT_INPUT, number_in(octets, 16, 11, 6, 15, 0));
+    REFUSES(DNSNAMES_SHORT_INPUT, number_in(octets, all, SIZE_MAX, SIZE_MAX, 15, 0));
+    REFUSES(DNSNAMES_LABEL_TYPE, number_in(HOSTILE, HOSTILE_LEN, 8, 6, 15, 0));
+}
+
+static uint32_t address_in(const uint8_t *message, size_t len, size_t data, size_t data_len, uint16_t type,
+                           size_t capacity)
+{
+    return dnsnames_data_address(message, len, data, data_len, type, buffer, capacity, &length);
+}
+
+static void addresses_in_data(void)
+{
+    /* 192.0.2.1 and 2001:db8::1 (RFC 5737, 3; RFC 3849, 4). */
+    static const uint8_t octets[] = "\300\0\2\1" "\40\1\15\270\0\0\0\0\0\0\0\0\0\0\0\1" "\0";
+    size_t i;
+
+    mark();
+    CHECK(address_in(octets, 20, 0, 4, DNSNAMES_TYPE_A, 4) == DNSNAMES_OK && length == 4 && holds(octets, 4));
+    mark();
+    CHECK(address_in(octets, 20, 4, 16, DNSNAMES_TYPE_AAAA, 16) == DNSNAMES_OK && length == 16);
+    CHECK(holds(octets + 4, 16));
+    mark();
+    CHECK(address_in(octets, 20, 4, 16, DNSNAMES_TYPE_AAAA, 15) == DNSNAMES_NO_ROOM && length == 16 && holds(octets, 0));
+    for (i = 0; i < 16; i++)
+        REFUSES(DNSNAMES_SHORT_INPUT, address_in(octets, 20, 4, i, DNSNAMES_TYPE_AAAA, 16));
+    for (i = 0; i < 4; i++)
+        REFUSES(DNSNAMES_SHORT_INPUT, address_in(octets, 20, 0, i, DNSNAMES_TYPE_A, 16));
+    REFUSES(DNSNAMES_TRAILING_DATA, address_in(octets, 20, 0, 5, DNSNAMES_TYPE_A, 16));
+    REFUSES(DNSNAMES_TRAILING_DATA, address_in(octets, 21, 4, 17, DNSNAMES_TYPE_AAAA, 16));
+    REFUSES(DNSNAMES_SHORT_INPUT, address_in(octets, 19, 4, 16, DNSNAMES_TYPE_AAAA, 16));
+    REFUSES(DNSNAMES_SHORT_INPUT, address_in(octets, 20, SIZE_MAX, 4, DNSNAMES_TYPE_A, 16));
+    REFUSES(DNSNAMES_NO_FIELD, address_in(octets, 20, 0, 4, DNSNAMES_TYPE_NS, 16));
+}
+
+static uint32_t string_in(const uint8_t *message, size_t len, size_t data, size_t data_len, uint16_t type)
+{
+    return dnsnames_data_string(message, len, data, data_len, type, &offset, &end, &length);
+}
+
+static void strings_in_data(void)
+{
+    /* An octet, and the strings "abc", "" and "d". */
+    static const uint8_t octets[] = "\7" "\3abc" "\0" "\1d";
+    size_t i, all = sizeof octets - 1;
+
+    offset = 0;
+    CHECK(string_in(octets, all, 1, 7, DNSNAMES_TYPE_TXT) == DNSNAMES_OK && offset == 4 && end == 2 && length == 3);
+    CHECK(string_in(octets, all, 1, 7, DNSNAMES_TYPE_TXT) == DNSNAMES_OK && offset == 5 && end == 6 && length == 0);
+    CHECK(string_in(octets, all, 1, 7, 99) == DNSNAMES_OK && offset == 7 && end == 7 && length == 1);
+    CHECK(string_in(octets, all, 1, 7, DNSNAMES_TYPE_TXT) == DNSNAMES_NO_MORE && offset == 7 && length == 1);
+    REFUSES(DNSNAMES_NO_MORE, string_in(octets, all, 1, 7, DNSNAMES_TYPE_TXT)); /* as many as 77 were passed */
+    REFUSES(DNSNAMES_NO_FIELD, string_in(octets, all, 1, 7, DNSNAMES_TYPE_HINFO));
+    REFUSES(DNSNAMES_SHORT_INPUT, string_in(octets, all, 2, 7, DNSNAMES_TYPE_TXT));
+    REFUSES(DNSNAMES_SHORT_INPUT, string_in(octets, all, SIZE_MAX, SIZE_MAX, DNSNAMES_TYPE_TXT));
+    for (i = 0; i < 4; i++) {
+        offset = 0;
+        CHECK(string_in(octets, all, 1, i, DNSNAMES_TYPE_TXT) == DNSNAMES_SHORT_INPUT && offset == 0);
+    }
+    /* The second string ends past the data, though not past the message. */
+    offset = 5;
+    CHECK(string_in(octets, all, 1, 6, DNSNAMES_TYPE_TXT) == DNSNAMES_SHORT_INPUT && offset == 5);
+}
+
+static void opt_records(void)
+{
+    /* Code 10 with two octets, and code 65001 with none (RFC 6891, 6.1.2). */
+    static const uint8_t octets[] = "\0\12\0\2xy" "\375\351\0\0" "\0";
+    static dnsnames_opt_fields opt;
+    uint16_t code = 0;
+    size_t passed = 0, i;
+
+    CHECK(dnsnames_opt(DNSNAMES_TYPE_OPT, 1232, 0x01028000, 0x8183, &opt) == DNSNAMES_OK);
+    CHECK(opt.size == 1232 && opt.rcode == 19 && opt.version == 2 && opt.dnssec_ok == 1);
+    CHECK(dnsnames_opt(DNSNAMES_TYPE_OPT, 511, 0x00007fff, 0, &opt) == DNSNAMES_OK);
+    CHECK(opt.size == 512 && opt.rcode == 0 && opt.version == 0 && opt.dnssec_ok == 0);
+    CHECK(dnsnames_opt(DNSNAMES_TYPE_TXT, 1232, 0x01028000, 3, &opt) == DNSNAMES_NO_FIELD && opt.size == 512);
+
+#define OPTION(len, data_len) dnsnames_data_option(octets, len, 0, data_len, DNSNAMES_TYPE_OPT, &passed, &code, &end, &length)
+    CHECK(OPTION(10, 10) == DNSNAMES_OK && passed == 6 && code == 10 && end == 4 && length == 2);
+    CHECK(OPTION(10, 10) == DNSNAMES_OK && passed == 10 && code == 65001 && end == 10 && length == 0);
+    CHECK(OPTION(10, 10) == DNSNAMES_NO_MORE && passed == 10 && code == 65001);
+    passed = 0;
+    CHECK(OPTION(10, 0) == DNSNAMES_NO_MORE && OPTION(9, 10) == DNSNAMES_SHORT_INPUT && passed == 0);
+    for (i = 1; i < 6; i++)
+        CHECK(OPTION(10, i) == DNSNAMES_SHORT_INPUT && passed == 0);
+    CHECK(dnsnames_data_option(octets, 10, 0, 10, 40, &passed, &code, &end, &length) == DNSNAMES_NO_FIELD);
+    CHECK(passed == 0 && code == 65001);
+#undef OPTION
+}
+
 static void planning(void)
 {
     static const uint8_t octets[] = "\0\0\0\0\0\0\0\0\0\0\0\0\003www\007example\003com";
@@ -909,6 +1043,10 @@ int main(void)
     labels();
     messages();
     names_in_data();
+    numbers_in_data();
+    addresses_in_data();
+    strings_in_data();
+    opt_records();
     planning();
     appending();
     far_off();

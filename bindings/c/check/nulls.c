@@ -16,6 +16,7 @@ static dnsnames_question_fields question;
 static dnsnames_record_fields record;
 static int32_t order;
 static uint64_t hash;
+static dnsnames_opt_fields opt;
 static dnsnames_builder builder;
 
 /* What a refused call must leave. */
@@ -28,6 +29,7 @@ static void mark(void)
     memset(&header, 0x5a, sizeof header);
     memset(&question, 0x5a, sizeof question);
     memset(&record, 0x5a, sizeof record);
+    memset(&opt, 0x5a, sizeof opt);
     memset(&builder.state, 0x5a, sizeof builder.state);
     flag = 77;
     order = 77;
@@ -57,7 +59,7 @@ static int is_marked(void)
             return 0;
     return length == 77 && end == 77 && table[0] == 0x5a5a && flag == 77 && order == 77 && hash == 77 &&
            is_5a(&header, sizeof header) && is_5a(&question, sizeof question) && is_5a(&record, sizeof record) &&
-           is_5a(&builder.state, sizeof builder.state);
+           is_5a(&opt, sizeof opt) && is_5a(&builder.state, sizeof builder.state);
 }
 
 #define REFUSES(status, call)      \
@@ -96,6 +98,10 @@ static void empty(void)
     REFUSES(DNSNAMES_SHORT_INPUT, dnsnames_question(NONE, 0, 0, &question));
     REFUSES(DNSNAMES_SHORT_INPUT, dnsnames_record(NONE, 0, 0, &record));
     REFUSES(DNSNAMES_SHORT_INPUT, dnsnames_data_name(NONE, 0, 0, 0, 5, 0, buffer, sizeof buffer, &length));
+    REFUSES(DNSNAMES_SHORT_INPUT, dnsnames_data_number(NONE, 0, 0, 0, 15, 0, &flag));
+    REFUSES(DNSNAMES_SHORT_INPUT, dnsnames_data_address(NONE, 0, 0, 0, 1, buffer, sizeof buffer, &length));
+    REFUSES(DNSNAMES_SHORT_INPUT, dnsnames_data_string(NONE, 0, 0, 1, 16, &length, &end, &end));
+    REFUSES(DNSNAMES_NO_MORE, dnsnames_data_option(NONE, 0, 0, 0, 41, &length, &number[0], &end, &end));
     REFUSES(DNSNAMES_NO_MNEMONIC, dnsnames_type_from_text(NONE, 0, &number[0]));
     REFUSES(DNSNAMES_NO_MNEMONIC, dnsnames_class_from_text(NONE, 0, &number[0]));
     REFUSES(DNSNAMES_NO_MNEMONIC, dnsnames_opcode_from_text(NONE, 0, &number[0]));
@@ -113,6 +119,7 @@ static void no_buffer(void)
     CHECK(dnsnames_to_text(NAME, sizeof NAME, 1, NULL, 0, &length) == DNSNAMES_NO_ROOM && length == 4);
     CHECK(dnsnames_lower(NAME, sizeof NAME, NULL, 0, &length) == DNSNAMES_NO_ROOM && length == 5);
     CHECK(dnsnames_data_name(NAME, sizeof NAME, 0, 5, 5, 0, NULL, 0, &length) == DNSNAMES_NO_ROOM && length == 5);
+    CHECK(dnsnames_data_address(NAME, sizeof NAME, 0, 4, 1, NULL, 0, &length) == DNSNAMES_NO_ROOM && length == 4);
     CHECK(dnsnames_type_text(1, NULL, 0, &length) == DNSNAMES_NO_ROOM && length == 1);
     CHECK(dnsnames_class_text(1, NULL, 0, &length) == DNSNAMES_NO_ROOM && length == 2);
     CHECK(dnsnames_opcode_text(0, NULL, 0, &length) == DNSNAMES_NO_ROOM && length == 5);
@@ -160,6 +167,11 @@ static void slices(void)
     NULLED(dnsnames_question(NONE, 1, 0, &question));
     NULLED(dnsnames_record(NONE, 1, 0, &record));
     NULLED(dnsnames_data_name(NONE, 1, 0, 0, 5, 0, buffer, sizeof buffer, &length));
+    NULLED(dnsnames_data_number(NONE, 1, 0, 0, 15, 0, &flag));
+    NULLED(dnsnames_data_address(NONE, 1, 0, 0, 1, buffer, sizeof buffer, &length));
+    NULLED(dnsnames_data_address(NAME, sizeof NAME, 0, 4, 1, NULL, 1, &length));
+    NULLED(dnsnames_data_string(NONE, 1, 0, 0, 16, &length, &end, &end));
+    NULLED(dnsnames_data_option(NONE, 1, 0, 0, 41, &length, &number[0], &end, &end));
     NULLED(dnsnames_type_text(1, NULL, 1, &length));
     NULLED(dnsnames_type_from_text(NONE, 1, &number[0]));
     NULLED(dnsnames_class_text(1, NULL, 1, &length));
@@ -223,6 +235,16 @@ static void results(void)
     NULLED(dnsnames_hash(KEY, NAME, sizeof NAME, NULL));
     NULLED(dnsnames_hash(NULL, NAME, sizeof NAME, &hash));
     NULLED(dnsnames_data_name(NAME, sizeof NAME, 0, 5, 5, 0, buffer, sizeof buffer, NULL));
+    NULLED(dnsnames_data_number(NAME, sizeof NAME, 0, 5, 15, 0, NULL));
+    NULLED(dnsnames_data_address(NAME, sizeof NAME, 0, 4, 1, buffer, sizeof buffer, NULL));
+    NULLED(dnsnames_data_string(NAME, sizeof NAME, 0, 5, 16, NULL, &length, &end));
+    NULLED(dnsnames_data_string(NAME, sizeof NAME, 0, 5, 16, &length, NULL, &end));
+    NULLED(dnsnames_data_string(NAME, sizeof NAME, 0, 5, 16, &length, &end, NULL));
+    NULLED(dnsnames_opt(41, 512, 0, 0, NULL));
+    NULLED(dnsnames_data_option(NAME, sizeof NAME, 0, 5, 41, NULL, &number[0], &length, &end));
+    NULLED(dnsnames_data_option(NAME, sizeof NAME, 0, 5, 41, &length, NULL, &end, &end));
+    NULLED(dnsnames_data_option(NAME, sizeof NAME, 0, 5, 41, &length, &number[0], NULL, &end));
+    NULLED(dnsnames_data_option(NAME, sizeof NAME, 0, 5, 41, &length, &number[0], &end, NULL));
     NULLED(dnsnames_type_text(1, buffer, sizeof buffer, NULL));
     NULLED(dnsnames_type_from_text(NAME + 1, 3, NULL));
     NULLED(dnsnames_class_text(1, buffer, sizeof buffer, NULL));

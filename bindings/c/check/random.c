@@ -23,6 +23,7 @@ struct answer {
     dnsnames_header_fields header;
     dnsnames_question_fields question;
     dnsnames_record_fields record;
+    dnsnames_opt_fields opt;
     uint8_t buffer[1100];
 };
 
@@ -245,21 +246,51 @@ static void ask_to_build(uint8_t names[][255], const size_t *lens, size_t count)
     CHECK(memcmp(octets[0], octets[1], sizeof octets[0]) == 0);
 }
 
+/* Strings and options of data that begin at an offset, up to the first that is none, and what an OPT record says. */
+static void ask_of_parts(const uint8_t *message, size_t len, size_t offset)
+{
+    uint16_t type = random_below(9) == 0 ? (uint16_t)random_below(110) : random_below(4) == 0 ? 99 : 16, code = 0;
+    size_t data_len = random_below(random_below(4) == 0 ? (uint32_t)len + 4 : 20), passed = random_below(8) / 7, at, size;
+    uint32_t ttl = random_below(256) << 24 | random_below(1 << 24);
+    int more = 1;
+
+    while (more) {
+        BOTH(data_string, message, len, offset, data_len, type, (x->size[2] = passed, &x->size[2]), &x->size[0],
+             &x->size[1]);
+        more = second_data_string(message, len, offset, data_len, type, &passed, &at, &size) == DNSNAMES_OK;
+    }
+    type = random_below(9) == 0 ? (uint16_t)random_below(60) : 41;
+    passed = random_below(8) / 7;
+    for (more = 1; more;) {
+        BOTH(data_option, message, len, offset, data_len, type, (x->size[2] = passed, &x->size[2]), &x->number[0],
+             &x->size[0], &x->size[1]);
+        more = second_data_option(message, len, offset, data_len, type, &passed, &code, &at, &size) == DNSNAMES_OK;
+    }
+    BOTH(opt, type, (uint16_t)(ttl / 7 % 1500), ttl, (uint16_t)(ttl / 3), &x->opt);
+}
+
 /* Names in data that begin at an offset: of any type and size, and as large as the names there are. */
 static void ask_of_data(const uint8_t *message, size_t len, size_t offset)
 {
     static const uint16_t types[] = {1, 2, 5, 6, 12, 14, 15, 17, 18, 26, 33, 39};
     uint16_t type = random_below(8) == 0 ? (uint16_t)random_below(70) : types[random_below(12)];
     size_t index = random_below(6) == 0 ? random_below(3) : random_below(2), capacity = random_below(20), end = offset;
-    size_t data_len = random_below(100), begin = offset;
+    size_t data_len = random_below(100), begin = offset, number = random_below(6), address_len = random_below(20);
+    uint16_t address_type = random_below(2) == 0 ? 1 : (uint16_t)(27 + random_below(2));
+
+    if (random_below(3) != 0)
+        address_len = address_type == 1 ? 4 : 16;
 
     BOTH(data_name, message, len, offset, data_len, type, index, x->buffer, sizeof x->buffer, &x->size[0]);
+    BOTH(data_number, message, len, offset, data_len, type, index, &x->flag);
+    BOTH(data_address, message, len, offset, address_len, address_type, x->buffer, capacity, &x->size[0]);
     if (second_skip(message, len, offset, &end) == DNSNAMES_OK && random_below(2) == 0)
         second_skip(message, len, end, &end);
-    begin -= begin < 2 ? 0 : 2 * random_below(2);
+    begin -= begin < 6 ? 0 : 2 * random_below(4);
     data_len = end - begin + (random_below(3) == 0 ? 20 : 0) + random_below(2);
     BOTH(data_name, message, len, begin, data_len, type, index, x->buffer, sizeof x->buffer, &x->size[0]);
     BOTH(data_name, message, len, begin, data_len, type, index, x->buffer, capacity, &x->size[0]);
+    BOTH(data_number, message, len, begin, data_len, type, number, &x->flag);
 }
 
 static void ask_of_message(const uint8_t *message, size_t len)
@@ -279,6 +310,7 @@ static void ask_of_message(const uint8_t *message, size_t len)
         BOTH(question, message, len, offset, &x->question);
         BOTH(record, message, len, offset, &x->record);
         ask_of_data(message, len, offset);
+        ask_of_parts(message, len, offset);
         if (count < 8 && second_read(message, len, offset, 255, names[count], 255, &lens[count], &end,
                                      &compressed) == DNSNAMES_OK)
             count++;

@@ -710,6 +710,102 @@ uint32_t SECOND(data_name)(const uint8_t *message, size_t message_len, size_t da
     return status == DNSNAMES_OK ? give(name, len, buffer, capacity, length) : status;
 }
 
+uint32_t SECOND(data_number)(const uint8_t *message, size_t message_len, size_t data, size_t data_len,
+                             uint16_t type, size_t index, uint32_t *value)
+{
+    size_t row, at, k, shorts;
+    uint32_t status;
+
+    for (row = 0; row < sizeof DATA / sizeof *DATA && DATA[row].type != type; row++)
+        ;
+    if (row == sizeof DATA / sizeof *DATA)
+        return DNSNAMES_NO_FIELD;
+    shorts = DATA[row].before / 2;
+    if (index >= shorts + DATA[row].after / 4)
+        return DNSNAMES_NO_FIELD;
+    if (data > message_len || data_len > message_len - data || data_len < DATA[row].before)
+        return DNSNAMES_SHORT_INPUT;
+    at = data + DATA[row].before;
+    for (k = 0; k < DATA[row].names; k++) {
+        status = SECOND(skip)(message, data + data_len, at, &at);
+        if (status != DNSNAMES_OK)
+            return status;
+    }
+    if (data + data_len - at != DATA[row].after)
+        return data + data_len - at < DATA[row].after ? DNSNAMES_SHORT_INPUT : DNSNAMES_TRAILING_DATA;
+    if (index < shorts) {
+        *value = number16(message + data + 2 * index);
+        return DNSNAMES_OK;
+    }
+    at += 4 * (index - shorts);
+    *value = (uint32_t)number16(message + at) << 16 | number16(message + at + 2);
+    return DNSNAMES_OK;
+}
+
+uint32_t SECOND(data_address)(const uint8_t *message, size_t message_len, size_t data, size_t data_len,
+                              uint16_t type, uint8_t *buffer, size_t capacity, size_t *length)
+{
+    size_t len = type == 1 ? 4 : type == 28 ? 16 : 0;
+
+    if (len == 0)
+        return DNSNAMES_NO_FIELD;
+    if (data > message_len || data_len > message_len - data || data_len < len)
+        return DNSNAMES_SHORT_INPUT;
+    return data_len > len ? DNSNAMES_TRAILING_DATA : give(message + data, len, buffer, capacity, length);
+}
+
+uint32_t SECOND(data_string)(const uint8_t *message, size_t message_len, size_t data, size_t data_len,
+                             uint16_t type, size_t *passed, size_t *string, size_t *string_len)
+{
+    if (type != 16 && type != 99)
+        return DNSNAMES_NO_FIELD;
+    if (data > message_len || data_len > message_len - data)
+        return DNSNAMES_SHORT_INPUT;
+    if (*passed != 0 && *passed >= data_len)
+        return DNSNAMES_NO_MORE;
+    if (data_len == 0 || message[data + *passed] >= data_len - *passed)
+        return DNSNAMES_SHORT_INPUT;
+    *string_len = message[data + *passed];
+    *string = data + *passed + 1;
+    *passed += 1 + *string_len;
+    return DNSNAMES_OK;
+}
+
+uint32_t SECOND(opt)(uint16_t type, uint16_t class_, uint32_t ttl, uint16_t flags, dnsnames_opt_fields *opt)
+{
+    if (type != 41)
+        return DNSNAMES_NO_FIELD;
+    opt->size = class_ > 512 ? class_ : 512;
+    opt->rcode = (uint16_t)((ttl >> 24) << 4 | (flags & 15));
+    opt->version = (uint8_t)(ttl >> 16);
+    opt->dnssec_ok = ttl >> 15 & 1;
+    return DNSNAMES_OK;
+}
+
+uint32_t SECOND(data_option)(const uint8_t *message, size_t message_len, size_t data, size_t data_len,
+                             uint16_t type, size_t *passed, uint16_t *code, size_t *option, size_t *option_len)
+{
+    size_t left, len;
+
+    if (type != 41)
+        return DNSNAMES_NO_FIELD;
+    if (data > message_len || data_len > message_len - data)
+        return DNSNAMES_SHORT_INPUT;
+    if (*passed >= data_len)
+        return DNSNAMES_NO_MORE;
+    left = data_len - *passed;
+    if (left < 4)
+        return DNSNAMES_SHORT_INPUT;
+    len = number16(message + data + *passed + 2);
+    if (left - 4 < len)
+        return DNSNAMES_SHORT_INPUT;
+    *code = number16(message + data + *passed);
+    *option = data + *passed + 4;
+    *option_len = len;
+    *passed += 4 + len;
+    return DNSNAMES_OK;
+}
+
 static void put16(uint8_t *octets, uint32_t number)
 {
     octets[0] = (uint8_t)(number >> 8);

@@ -42,6 +42,15 @@ uint32_t SECOND(question)(const uint8_t *message, size_t message_len, size_t off
 uint32_t SECOND(record)(const uint8_t *message, size_t message_len, size_t offset, dnsnames_record_fields *record);
 uint32_t SECOND(data_name)(const uint8_t *message, size_t message_len, size_t data, size_t data_len, uint16_t type,
                            size_t index, uint8_t *buffer, size_t capacity, size_t *length);
+uint32_t SECOND(data_number)(const uint8_t *message, size_t message_len, size_t data, size_t data_len,
+                             uint16_t type, size_t index, uint32_t *value);
+uint32_t SECOND(data_address)(const uint8_t *message, size_t message_len, size_t data, size_t data_len,
+                              uint16_t type, uint8_t *buffer, size_t capacity, size_t *length);
+uint32_t SECOND(data_string)(const uint8_t *message, size_t message_len, size_t data, size_t data_len,
+                             uint16_t type, size_t *passed, size_t *string, size_t *string_len);
+uint32_t SECOND(opt)(uint16_t type, uint16_t class_, uint32_t ttl, uint16_t flags, dnsnames_opt_fields *opt);
+uint32_t SECOND(data_option)(const uint8_t *message, size_t message_len, size_t data, size_t data_len,
+                             uint16_t type, size_t *passed, uint16_t *code, size_t *option, size_t *option_len);
 uint32_t SECOND(builder_start)(dnsnames_builder *builder, uint8_t *octets, size_t capacity, uint16_t id,
                                uint16_t flags);
 uint32_t SECOND(builder_question)(dnsnames_builder *builder, const uint8_t *name, size_t len, uint16_t type,

@@ -19,7 +19,7 @@ from ._library import (
     TrailingData, WrongOrder,
 )
 from ._builder import Builder
-from ._message import Composer, Header, Message, Question, Record
+from ._message import Composer, EdnsOption, Header, Message, Opt, Question, Record
 from ._mnemonic import Class, Flags, Opcode, Rcode, Type
 from ._name import Name, Reading, read, skip
 
@@ -27,14 +27,16 @@ for _public in (
     BadEscape, BadLabelType, BadSymbol, BinaryLabel, CompressedName, DnsError, EmptyLabel, LongLabel, LongName,
     NoBuilder, NoField, NoLabel, NoMnemonic, NoRoom, RelativeName, ShortInput, TooManyEntries, TooManyPointers,
     TrailingData, WrongOrder,
-    Builder, Class, Flags, Opcode, Rcode, Type, Composer, Header, Message, Question, Record, Name, Reading, read, skip,
+    Builder, Class, Flags, Opcode, Rcode, Type, Composer, EdnsOption, Header, Message, Opt, Question, Record, Name,
+    Reading, read, skip,
 ):
     _public.__module__ = __name__
 del _public
 
 __all__ = [
     "BadEscape", "BadLabelType", "BadSymbol", "BinaryLabel", "Builder", "Class", "Composer", "CompressedName",
-    "DnsError", "EmptyLabel", "Flags", "Header", "LongLabel", "LongName", "Message", "Name", "NoBuilder", "NoField",
-    "NoLabel", "NoMnemonic", "NoRoom", "Opcode", "Question", "Rcode", "Reading", "Record", "RelativeName", "ShortInput",
-    "TooManyEntries", "TooManyPointers", "TrailingData", "Type", "WrongOrder", "read", "skip",
+    "DnsError", "EdnsOption", "EmptyLabel", "Flags", "Header", "LongLabel", "LongName", "Message", "Name", "NoBuilder",
+    "NoField", "NoLabel", "NoMnemonic", "NoRoom", "Opcode", "Opt", "Question", "Rcode", "Reading", "Record",
+    "RelativeName", "ShortInput", "TooManyEntries", "TooManyPointers", "TrailingData", "Type", "WrongOrder", "read",
+    "skip",
 ]

@@ -10,7 +10,7 @@ from typing import Optional, Union
 
 Octets = Union[bytes, bytearray, memoryview]
 
-VERSION = "0.3.0"
+VERSION = "0.4.0"
 
 MAX_LEN = 255
 MAX_TEXT = 1020
@@ -124,9 +124,9 @@ class NoRoom(DnsError):
 
 
 class NoField(DnsError):
-    """Data of records of this type have no such name."""
+    """Data of records of this type have no such field: name, number, address, string or option."""
 
-    status, text = 21, "no such name in data of this type"
+    status, text = 21, "no such field in data of this type"
 
 
 class NoMnemonic(DnsError, KeyError):
@@ -153,6 +153,9 @@ class TooManyEntries(DnsError):
 
     status, text = 25, "too many entries in a section"
 
+
+# All strings or options of data were given: no fault, but the end.
+NO_MORE = 27
 
 FAULTS = {
     fault.status: fault
@@ -190,6 +193,12 @@ class BuilderState(ctypes.Structure):
         *((name, ctypes.c_uint16) for name in ("id", "flags", "questions", "answers", "authority", "additional")),
         ("answer_start", ctypes.c_size_t), ("authority_start", ctypes.c_size_t), ("additional_start", ctypes.c_size_t),
         ("table_len", ctypes.c_size_t), ("table", ctypes.c_uint16 * MAX_TABLE),
+    ]
+
+
+class OptFields(ctypes.Structure):
+    _fields_ = [
+        ("size", ctypes.c_uint16), ("rcode", ctypes.c_uint16), ("version", ctypes.c_uint8), ("dnssec_ok", ctypes.c_uint32),
     ]
 
 
@@ -232,6 +241,11 @@ _ARGUMENTS = {
     "rcode_text": [ctypes.c_uint16, _buffer, _size, _to_size],
     "rcode_from_text": [_octets, _size, _to_16],
     "data_name": [_octets, _size, _size, _size, ctypes.c_uint16, _size, _buffer, _size, _to_size],
+    "data_number": [_octets, _size, _size, _size, ctypes.c_uint16, _size, _to_32],
+    "data_address": [_octets, _size, _size, _size, ctypes.c_uint16, _buffer, _size, _to_size],
+    "data_string": [_octets, _size, _size, _size, ctypes.c_uint16, _to_size, _to_size, _to_size],
+    "data_option": [_octets, _size, _size, _size, ctypes.c_uint16, _to_size, _to_16, _to_size, _to_size],
+    "opt": [ctypes.c_uint16, ctypes.c_uint16, ctypes.c_uint32, ctypes.c_uint16, ctypes.POINTER(OptFields)],
 }
 # The shared object that a wheel carries.
 _BUNDLED = pathlib.Path(__file__).with_name("libdnsnames.so.0")

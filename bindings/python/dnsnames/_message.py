@@ -2,12 +2,13 @@
 
 from __future__ import annotations
 
-from ctypes import byref, c_size_t, c_uint16, create_string_buffer
-from typing import Iterator, NamedTuple, Tuple
+from ctypes import byref, c_size_t, c_uint16, c_uint32, create_string_buffer
+from ipaddress import IPv4Address, IPv6Address
+from typing import Iterator, NamedTuple, Tuple, Union
 
 from ._library import (
-    MAX_LEN, MAX_TABLE, Buffer, HeaderFields, NoField, Octets, QuestionFields, RecordFields, as_octets, as_size, library,
-    refuse,
+    MAX_LEN, MAX_TABLE, NO_MORE, Buffer, HeaderFields, NoField, Octets, OptFields, QuestionFields, RecordFields, as_octets,
+    as_size, library, refuse,
 )
 from ._mnemonic import Class, Flags, Opcode, Rcode, Type
 from ._name import Name, read
@@ -78,6 +79,23 @@ class Question(NamedTuple):
         return f"<question of type {self.type} at offset {self.offset}>"
 
 
+class Opt(NamedTuple):
+    """What an OPT record says (RFC 6891, 6.1): how many octets its sender takes over UDP, the response code of twelve
+    bits, the version of EDNS, and the bit DO."""
+
+    size: int
+    rcode: Rcode
+    version: int
+    dnssec_ok: bool
+
+
+class EdnsOption(NamedTuple):
+    """An option of an OPT record (RFC 6891, 6.1.2)."""
+
+    code: int
+    data: bytes
+
+
 class Record(NamedTuple):
     """A resource record (RFC 1035, 4.1.3) of the message with these octets: it begins at `offset`, and its data at
     `data_offset`. `section` is "answer", "authority" or "additional". Its names are read when they are asked for."""
@@ -120,6 +138,66 @@ class Record(NamedTuple):
                 names.append(self.name_in_data(len(names)))
         except NoField:
             return tuple(names)
+
+    def number(self, index: int = 0) -> int:
+        """The number with so many numbers before it in the data: the preference of MX, RT, PX and KX, the subtype of
+        AFSDB, the priority, weight and port of SRV, the serial, refresh, retry, expire and minimum of SOA.
+
+        Raises NoField where data of this type have no such number, and what `name_in_data` raises of the data.
+        """
+        value = c_uint32()
+        status = library.dnsnames_data_number(*self._data(), as_size(index), byref(value))
+        if status:
+            refuse(status, self.data_offset)
+        return value.value
+
+    def address(self) -> Union[IPv4Address, IPv6Address]:
+        """The address of an A or AAAA record. Raises NoField for another type, ShortInput where the data have fewer octets
+        than the address, TrailingData where they have more."""
+        buffer, length = Buffer(), c_size_t()
+        status = library.dnsnames_data_address(*self._data(), buffer, MAX_LEN, byref(length))
+        if status:
+            refuse(status, self.data_offset)
+        octets = buffer[: length.value]
+        return IPv4Address(octets) if len(octets) == 4 else IPv6Address(octets)
+
+    def strings(self) -> Iterator[bytes]:
+        """The character strings of a TXT or SPF record, one after another. Raises NoField for another type, and
+        ShortInput where the data have no string, or at the string in which they end."""
+        passed, offset, length = c_size_t(), c_size_t(), c_size_t()
+        while True:
+            status = library.dnsnames_data_string(*self._data(), byref(passed), byref(offset), byref(length))
+            if status == NO_MORE:
+                return
+            if status:
+                refuse(status, self.data_offset + passed.value)
+            yield self.message[offset.value : offset.value + length.value]
+
+    def opt(self) -> Opt:
+        """What an OPT record says. Raises NoField for another type, and ShortInput where the message has no header."""
+        found = OptFields()
+        flags = Message(self.message).header.flags
+        status = library.dnsnames_opt(self.type, self.class_, self.ttl, flags, byref(found))
+        if status:
+            refuse(status, self.offset)
+        return Opt(found.size, Rcode(found.rcode), found.version, found.dnssec_ok != 0)
+
+    def options(self) -> Iterator[EdnsOption]:
+        """The options of an OPT record, one after another. Raises NoField for another type, and ShortInput at the option
+        in which the data end."""
+        passed, code, offset, length = c_size_t(), c_uint16(), c_size_t(), c_size_t()
+        while True:
+            status = library.dnsnames_data_option(
+                *self._data(), byref(passed), byref(code), byref(offset), byref(length)
+            )
+            if status == NO_MORE:
+                return
+            if status:
+                refuse(status, self.data_offset + passed.value)
+            yield EdnsOption(code.value, self.message[offset.value : offset.value + length.value])
+
+    def _data(self) -> Tuple[bytes, int, int, int, int]:
+        return self.message, len(self.message), self.data_offset, len(self.data), self.type
 
     def __repr__(self) -> str:
         return f"<record of type {self.type} in section {self.section} at offset {self.offset}>"

@@ -266,6 +266,58 @@ class Messages(unittest.TestCase):
             Composer(0).append(Name("."))
 
 
+def of_data(type_, data, class_=1, ttl=0, flags=0x8183):
+    """A message of one record, of the root."""
+    builder = Builder(700, flags=flags)
+    builder.record("answer", Name("."), type_, data, class_=class_, ttl=ttl)
+    return next(Message(builder.finish()).records())
+
+
+class Data(unittest.TestCase):
+    def test_numbers(self):
+        # The record of RFC 1035, 5.3.
+        soa = of_data(6, bytes(Name("a")) + bytes(Name("b")) + bytes.fromhex("00000014 00001c20 00000258 0036ee80 0000003c"))
+        self.assertEqual([soa.number(index) for index in range(5)], [20, 7200, 600, 3600000, 60])
+        with self.assertRaises(dnsnames.NoField):
+            soa.number(5)
+        srv = of_data(33, b"\0\1\xff\xfe\x00\x35" + bytes(Name("a")))
+        self.assertEqual([srv.number(index) for index in range(3)], [1, 65534, 53])
+        self.assertEqual(of_data(15, b"\0\n\1a\0").number(), 10)
+        for data, error in ((b"\0\n\1a", dnsnames.ShortInput), (b"\0\n\1a\0\0", dnsnames.TrailingData),
+                            (b"\0", dnsnames.ShortInput), (b"\0\n\x40\0", dnsnames.BadLabelType)):
+            with self.subTest(data=data), self.assertRaises(error):
+                of_data(15, data).number()
+
+    def test_addresses(self):
+        self.assertEqual(str(of_data(1, b"\xc0\0\2\1").address()), "192.0.2.1")
+        self.assertEqual(str(of_data(28, bytes.fromhex("20010db8000000000000000000000001")).address()), "2001:db8::1")
+        for type_, data, error in ((1, bytes(3), dnsnames.ShortInput), (28, bytes(17), dnsnames.TrailingData),
+                                   (2, bytes(4), dnsnames.NoField)):
+            with self.subTest(type=type_), self.assertRaises(error):
+                of_data(type_, data).address()
+
+    def test_strings(self):
+        self.assertEqual(list(of_data(16, b"\3abc\0\1d").strings()), [b"abc", b"", b"d"])
+        strings = of_data(16, b"\3abc\2d").strings()
+        self.assertEqual(next(strings), b"abc")
+        for refused, error in ((strings, dnsnames.ShortInput), (of_data(16, b"").strings(), dnsnames.ShortInput),
+                               (of_data(13, b"\0").strings(), dnsnames.NoField)):
+            with self.assertRaises(error):
+                next(refused)
+
+    def test_opt(self):
+        opt = of_data(41, bytes.fromhex("000a00027879fde90000"), class_=1232, ttl=0x01028000)
+        self.assertEqual(opt.opt(), (1232, 19, 2, True))
+        self.assertEqual(list(opt.options()), [(10, b"xy"), (65001, b"")])
+        self.assertEqual(of_data(41, b"", class_=511, ttl=0x7fff, flags=0).opt(), (512, 0, 0, False))
+        for call in (lambda: next(of_data(41, b"\0\n\0\1").options()), lambda: next(of_data(41, b"\0").options())):
+            with self.assertRaises(dnsnames.ShortInput):
+                call()
+        for call in (lambda: next(of_data(16, b"\0").options()), lambda: of_data(16, b"\0").opt()):
+            with self.assertRaises(dnsnames.NoField):
+                call()
+
+
 class Mnemonics(unittest.TestCase):
     def test_numbers_and_texts(self):
         self.assertEqual((Type["MX"], Type["mx"], Type["TYPE15"], Type.MX, Type["*"]), (15, 15, 15, 15, 255))
@@ -351,9 +403,9 @@ class TheHeader(unittest.TestCase):
         self.assertIn(f'version = "{dnsnames.__version__}"', (pathlib.Path(__file__).parents[1] / "pyproject.toml").read_text())
 
     def test_structs(self):
-        kinds = {"uint16_t": "c_ushort", "uint32_t": "c_uint", "size_t": "c_ulong"}
+        kinds = {"uint8_t": "c_ubyte", "uint16_t": "c_ushort", "uint32_t": "c_uint", "size_t": "c_ulong"}
         header = HEADER.read_text()
-        for kind in (_library.HeaderFields, _library.QuestionFields, _library.RecordFields):
+        for kind in (_library.HeaderFields, _library.QuestionFields, _library.RecordFields, _library.OptFields):
             name = kind.__name__.replace("Fields", "").lower()
             body = re.search(rf"typedef struct dnsnames_{name}_fields \{{(.*?)\}}", header, re.DOTALL)[1]
             wanted = [(field, kinds[c]) for c, field in re.findall(r"(\w+) (\w+);", body)]

@@ -34,7 +34,7 @@ pub enum Fault {
     EmptyLabel,
     /// A root label stands in a relative name.
     AbsoluteName,
-    /// Data of records of this type have no such name.
+    /// Data of records of this type have no such field: name, number, address, string or option.
     NoField,
     /// The text names no type, no class or no code.
     NoMnemonic,
@@ -116,7 +116,7 @@ impl fmt::Display for Fault {
             Fault::LongLabel => "long label",
             Fault::EmptyLabel => "empty label",
             Fault::AbsoluteName => "absolute domain name",
-            Fault::NoField => "no such name in data of this type",
+            Fault::NoField => "no such field in data of this type",
             Fault::NoMnemonic => "no name of a type, a class or a code",
             Fault::WrongOrder => "a later section was begun",
             Fault::TooManyEntries => "too many entries in a section",

@@ -29,7 +29,9 @@ mod sys;
 
 pub use builder::Builder;
 pub use fault::Fault;
-pub use message::{Composer, Header, Message, Question, Questions, Record, Records, Section};
+pub use message::{
+    Composer, EdnsOption, Header, Message, Opt, Options, Question, Questions, Record, Records, Section, Strings,
+};
 pub use mnemonic::{Class, Opcode, Rcode, Type};
 pub use name::{check_relative, read, skip, Labels, Name, Read};
 #[cfg(feature = "alloc")]

@@ -4,6 +4,7 @@ use crate::fault::Fault;
 use crate::name::{read, Name, Read};
 use crate::sys::*;
 use crate::{MAX_POINTERS, MAX_TABLE};
+use core::net::IpAddr;
 
 /// A message's first 12 octets (RFC 1035, 4.1.1).
 #[derive(Clone, Copy, Debug, PartialEq, Eq, Default)]
@@ -37,6 +38,16 @@ pub(crate) struct RecordFields {
     data: usize,
     data_len: usize,
     end: usize,
+}
+
+/// What the library tells of an OPT record.
+#[derive(Clone, Copy, Default)]
+#[repr(C)]
+pub(crate) struct OptFields {
+    size: u16,
+    rcode: u16,
+    version: u8,
+    dnssec_ok: u32,
 }
 
 /// A question (RFC 1035, 4.1.2). Its name is read at its offset.
@@ -177,6 +188,93 @@ impl<'a> Message<'a> {
         Ok(Name::of(&buffer[..length]))
     }
 
+    /// The number with `index` numbers before it in the data of a record of this message: the preference of MX, RT, PX and
+    /// KX, the subtype of AFSDB, the priority, weight and port of SRV, the serial, refresh, retry, expire and minimum of
+    /// SOA. `NoField` where data of this type have no such number; the others as [`Message::name_in_data`] has them of the
+    /// data.
+    ///
+    /// ```
+    /// use dnsnames::{Fault, Message};
+    ///
+    /// let message = Message::new(b"\0\0\x81\x80\0\0\0\x01\0\0\0\0\0\0\x0f\0\x01\0\0\0\0\0\x05\0\x0a\x01a\0");
+    /// let record = message.records()?.next().unwrap()?;
+    /// assert_eq!(message.number_in_data(&record, 0), Ok(10));
+    /// assert_eq!(message.number_in_data(&record, 1), Err(Fault::NoField));
+    /// # Ok::<(), Fault>(())
+    /// ```
+    pub fn number_in_data(&self, record: &Record<'_>, index: usize) -> Result<u32, Fault> {
+        let mut value = 0;
+        // SAFETY: as in `read`.
+        let status = unsafe {
+            dnsnames_data_number(
+                self.octets.as_ptr(),
+                self.octets.len(),
+                record.data_offset,
+                record.data.len(),
+                record.rtype,
+                index,
+                &mut value,
+            )
+        };
+        Fault::check(status, None)?;
+        Ok(value)
+    }
+
+    /// The address of an A or AAAA record of this message. `NoField` where the type is another, `ShortInput` where the data
+    /// have fewer octets than the address, `TrailingData` where they have more.
+    pub fn address_in_data(&self, record: &Record<'_>) -> Result<IpAddr, Fault> {
+        let (mut octets, mut length) = ([0; 16], 0);
+        // SAFETY: as in `read`.
+        let status = unsafe {
+            dnsnames_data_address(
+                self.octets.as_ptr(),
+                self.octets.len(),
+                record.data_offset,
+                record.data.len(),
+                record.rtype,
+                octets.as_mut_ptr(),
+                octets.len(),
+                &mut length,
+            )
+        };
+        Fault::check(status, Some(length))?;
+        Ok(match octets {
+            [a, b, c, d, ..] if length == 4 => IpAddr::from([a, b, c, d]),
+            octets => IpAddr::from(octets),
+        })
+    }
+
+    /// The character strings of a TXT or SPF record of this message, one after another. Its fault ends them: `NoField` where
+    /// the type is another, `ShortInput` where the data have no string or end in one.
+    ///
+    /// ```
+    /// use dnsnames::{Fault, Message};
+    ///
+    /// let message = Message::new(b"\0\0\x81\x80\0\0\0\x01\0\0\0\0\0\0\x10\0\x01\0\0\0\0\0\x03\x01a\0");
+    /// let record = message.records()?.next().unwrap()?;
+    /// assert!(message.strings_in_data(&record).eq([Ok(&b"a"[..]), Ok(b"")]));
+    /// # Ok::<(), Fault>(())
+    /// ```
+    pub fn strings_in_data(&self, record: &Record<'a>) -> Strings<'a> {
+        Strings { message: *self, record: *record, passed: Some(0) }
+    }
+
+    /// What an OPT record says, of the message whose header has these flags. `NoField` where the type is another.
+    pub fn opt(&self, record: &Record<'_>, flags: u16) -> Result<Opt, Fault> {
+        let mut found = OptFields::default();
+        // SAFETY: as in `read`.
+        let status = unsafe { dnsnames_opt(record.rtype, record.class, record.ttl, flags, &mut found) };
+        Fault::check(status, None)?;
+        let OptFields { size, rcode, version, dnssec_ok } = found;
+        Ok(Opt { size, rcode, version, dnssec_ok: dnssec_ok != 0 })
+    }
+
+    /// The options of an OPT record of this message, one after another. Its fault ends them: `NoField` where the type is
+    /// another, `ShortInput` where the data end in an option.
+    pub fn options_in_data(&self, record: &Record<'a>) -> Options<'a> {
+        Options { message: *self, record: *record, passed: Some(0) }
+    }
+
     /// The questions that the header counts, up to the first that can't be read, whose fault ends them.
     pub fn questions(&self) -> Result<Questions<'a>, Fault> {
         Ok(Questions { message: *self, offset: 12, left: self.header()?.questions })
@@ -191,6 +289,106 @@ impl<'a> Message<'a> {
             offset = question?.end;
         }
         Ok(Records { message: *self, offset, left: [header.answers, header.authority, header.additional] })
+    }
+}
+
+/// What an OPT record says (RFC 6891, 6.1).
+#[derive(Clone, Copy, Debug, PartialEq, Eq)]
+pub struct Opt {
+    /// How many octets its sender takes in a message over UDP, at least 512.
+    pub size: u16,
+    /// The response code of twelve bits.
+    pub rcode: u16,
+    /// The version of EDNS.
+    pub version: u8,
+    /// The bit DO.
+    pub dnssec_ok: bool,
+}
+
+/// The status by which the library tells that all strings or options were given.
+const NO_MORE: u32 = 27;
+
+/// The character strings of a record.
+#[derive(Clone, Debug)]
+pub struct Strings<'a> {
+    message: Message<'a>,
+    record: Record<'a>,
+    passed: Option<usize>,
+}
+
+impl<'a> Iterator for Strings<'a> {
+    type Item = Result<&'a [u8], Fault>;
+
+    fn next(&mut self) -> Option<Result<&'a [u8], Fault>> {
+        let (mut passed, mut string, mut len) = (self.passed.take()?, 0, 0);
+        let octets = self.message.octets;
+        // SAFETY: as in `read`.
+        let status = unsafe {
+            dnsnames_data_string(
+                octets.as_ptr(),
+                octets.len(),
+                self.record.data_offset,
+                self.record.data.len(),
+                self.record.rtype,
+                &mut passed,
+                &mut string,
+                &mut len,
+            )
+        };
+        if status == NO_MORE {
+            return None;
+        }
+        if let Err(fault) = Fault::check(status, None) {
+            return Some(Err(fault));
+        }
+        self.passed = Some(passed);
+        Some(Ok(&octets[string..][..len]))
+    }
+}
+
+/// An option of an OPT record (RFC 6891, 6.1.2).
+#[derive(Clone, Copy, Debug, PartialEq, Eq)]
+pub struct EdnsOption<'a> {
+    pub code: u16,
+    pub data: &'a [u8],
+}
+
+/// The options of an OPT record.
+#[derive(Clone, Debug)]
+pub struct Options<'a> {
+    message: Message<'a>,
+    record: Record<'a>,
+    passed: Option<usize>,
+}
+
+impl<'a> Iterator for Options<'a> {
+    type Item = Result<EdnsOption<'a>, Fault>;
+
+    fn next(&mut self) -> Option<Result<EdnsOption<'a>, Fault>> {
+        let (mut passed, mut code, mut option, mut len) = (self.passed.take()?, 0, 0, 0);
+        let octets = self.message.octets;
+        // SAFETY: as in `read`.
+        let status = unsafe {
+            dnsnames_data_option(
+                octets.as_ptr(),
+                octets.len(),
+                self.record.data_offset,
+                self.record.data.len(),
+                self.record.rtype,
+                &mut passed,
+                &mut code,
+                &mut option,
+                &mut len,
+            )
+        };
+        if status == NO_MORE {
+            return None;
+        }
+        if let Err(fault) = Fault::check(status, None) {
+            return Some(Err(fault));
+        }
+        self.passed = Some(passed);
+        Some(Ok(EdnsOption { code, data: &octets[option..][..len] }))
     }
 }
 

@@ -4,7 +4,7 @@
 //! nothing else. That is all that the header asks of a caller.
 
 use crate::builder::BuilderFields;
-use crate::message::{Header, QuestionFields, RecordFields};
+use crate::message::{Header, OptFields, QuestionFields, RecordFields};
 
 extern "C" {
     pub fn dnsnames_read(message: *const u8, message_len: usize, offset: usize, limit: u8, buffer: *mut u8, capacity: usize, length: *mut usize, end: *mut usize, compressed: *mut u32) -> u32;
@@ -22,6 +22,11 @@ extern "C" {
     pub fn dnsnames_question(message: *const u8, message_len: usize, offset: usize, question: *mut QuestionFields) -> u32;
     pub fn dnsnames_record(message: *const u8, message_len: usize, offset: usize, record: *mut RecordFields) -> u32;
     pub fn dnsnames_data_name(message: *const u8, message_len: usize, data: usize, data_len: usize, r#type: u16, index: usize, buffer: *mut u8, capacity: usize, length: *mut usize) -> u32;
+    pub fn dnsnames_data_number(message: *const u8, message_len: usize, data: usize, data_len: usize, r#type: u16, index: usize, value: *mut u32) -> u32;
+    pub fn dnsnames_data_address(message: *const u8, message_len: usize, data: usize, data_len: usize, r#type: u16, buffer: *mut u8, capacity: usize, length: *mut usize) -> u32;
+    pub fn dnsnames_data_string(message: *const u8, message_len: usize, data: usize, data_len: usize, r#type: u16, passed: *mut usize, string: *mut usize, string_len: *mut usize) -> u32;
+    pub fn dnsnames_opt(r#type: u16, class_: u16, ttl: u32, flags: u16, opt: *mut OptFields) -> u32;
+    pub fn dnsnames_data_option(message: *const u8, message_len: usize, data: usize, data_len: usize, r#type: u16, passed: *mut usize, code: *mut u16, option: *mut usize, option_len: *mut usize) -> u32;
     pub fn dnsnames_type_text(r#type: u16, buffer: *mut u8, capacity: usize, length: *mut usize) -> u32;
     pub fn dnsnames_type_from_text(text: *const u8, text_len: usize, r#type: *mut u16) -> u32;
     pub fn dnsnames_class_text(class_: u16, buffer: *mut u8, capacity: usize, length: *mut usize) -> u32;

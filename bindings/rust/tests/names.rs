@@ -290,6 +290,77 @@ fn built() {
     assert!(matches!(Builder::new(&mut [0; 11], 0, 0), Err(Fault::NoRoom(Some(12)))));
 }
 
+/// A message of one record: of the root, of class IN, with this type, TTL and data.
+fn of_data(rtype: u16, class: u16, ttl: u32, data: &[u8]) -> Vec<u8> {
+    let mut octets = b"\0\0\x81\x83\0\0\0\x01\0\0\0\0\0".to_vec();
+    octets.extend(rtype.to_be_bytes());
+    octets.extend(class.to_be_bytes());
+    octets.extend(ttl.to_be_bytes());
+    octets.extend((data.len() as u16).to_be_bytes());
+    octets.extend(data);
+    octets
+}
+
+fn record_of(message: Message<'_>) -> Record<'_> {
+    message.records().unwrap().next().unwrap().unwrap()
+}
+
+#[test]
+fn numbers_in_data() {
+    // The record of RFC 1035, 5.3.
+    let soa = of_data(6, 1, 0, b"\x01a\0\x01b\0\0\0\0\x14\0\0\x1c\x20\0\0\x02\x58\0\x36\xee\x80\0\0\0\x3c");
+    let message = Message::new(&soa);
+    let record = record_of(message);
+    let numbers = (0..5).map(|index| message.number_in_data(&record, index).unwrap());
+    assert_eq!(numbers.collect::<Vec<_>>(), [20, 7200, 600, 3600000, 60]);
+    assert_eq!(message.number_in_data(&record, 5), Err(Fault::NoField));
+    let cut = Record { data: &record.data[1..], ..record };
+    assert_eq!(message.number_in_data(&cut, 0), Err(Fault::ShortInput));
+    let srv = of_data(33, 1, 0, b"\0\x01\xff\xfe\0\x35\x01a\0");
+    let message = Message::new(&srv);
+    let record = record_of(message);
+    assert_eq!([0, 1, 2].map(|index| message.number_in_data(&record, index).unwrap()), [1, 65534, 53]);
+    assert_eq!(message.number_in_data(&Record { rtype: 12, ..record }, 0), Err(Fault::NoField));
+}
+
+#[test]
+fn addresses_in_data() {
+    let octets = of_data(28, 1, 0, b"\x20\x01\x0d\xb8\0\0\0\0\0\0\0\0\0\0\0\x01");
+    let message = Message::new(&octets);
+    let record = record_of(message);
+    assert_eq!(message.address_in_data(&record), Ok("2001:db8::1".parse().unwrap()));
+    assert_eq!(message.address_in_data(&Record { rtype: 1, ..record }), Err(Fault::TrailingData));
+    assert_eq!(message.address_in_data(&Record { rtype: 2, ..record }), Err(Fault::NoField));
+    let short = Record { data: &record.data[..15], ..record };
+    assert_eq!(message.address_in_data(&short), Err(Fault::ShortInput));
+    let four = Record { rtype: 1, data: &record.data[..4], ..record };
+    assert_eq!(message.address_in_data(&four), Ok("32.1.13.184".parse().unwrap()));
+}
+
+#[test]
+fn strings_and_options() {
+    let octets = of_data(16, 1, 0, b"\x03abc\0\x01d");
+    let message = Message::new(&octets);
+    let record = record_of(message);
+    assert!(message.strings_in_data(&record).eq([Ok(&b"abc"[..]), Ok(b""), Ok(b"d")]));
+    let cut = Record { data: &record.data[..6], ..record };
+    assert!(message.strings_in_data(&cut).eq([Ok(&b"abc"[..]), Ok(b""), Err(Fault::ShortInput)]));
+    assert!(message.strings_in_data(&Record { data: b"", ..record }).eq([Err(Fault::ShortInput)]));
+    assert!(message.options_in_data(&record).eq([Err(Fault::NoField)]));
+    assert_eq!(message.opt(&record, 0), Err(Fault::NoField));
+
+    let octets = of_data(41, 1232, 0x0102_8000, b"\0\x0a\0\x02xy\xfd\xe9\0\0");
+    let message = Message::new(&octets);
+    let record = record_of(message);
+    let flags = message.header().unwrap().flags;
+    assert_eq!(message.opt(&record, flags), Ok(Opt { size: 1232, rcode: 19, version: 2, dnssec_ok: true }));
+    let (first, last) = (EdnsOption { code: 10, data: b"xy" }, EdnsOption { code: 65001, data: b"" });
+    assert!(message.options_in_data(&record).eq([Ok(first), Ok(last)]));
+    let cut = Record { data: &record.data[..9], ..record };
+    assert!(message.options_in_data(&cut).eq([Ok(first), Err(Fault::ShortInput)]));
+    assert!(message.strings_in_data(&record).eq([Err(Fault::NoField)]));
+}
+
 /// Each call as Rust declares it has the arguments that dnsnames.h declares.
 #[test]
 fn declarations() {
@@ -308,7 +379,7 @@ fn declarations() {
         assert!(header.contains(&declaration), "{declaration}");
         compared += 1;
     }
-    assert_eq!(compared, 29);
+    assert_eq!(compared, 34);
 }
 
 /// The structs have the fields that dnsnames.h gives them, in its order.
@@ -324,6 +395,7 @@ fn structs() {
         ("Header", "header_fields"),
         ("QuestionFields", "question_fields"),
         ("RecordFields", "record_fields"),
+        ("OptFields", "opt_fields"),
         ("BuilderState", "builder_state"),
         ("BuilderFields", "builder"),
     ] {
@@ -354,7 +426,7 @@ fn as_c(argument: &str) -> String {
         "usize" => "size_t".to_string(),
         "i32" => "int32_t".to_string(),
         "BuilderFields" => "dnsnames_builder".to_string(),
-        "Header" | "QuestionFields" | "RecordFields" => {
+        "Header" | "QuestionFields" | "RecordFields" | "OptFields" => {
             format!("dnsnames_{}_fields", kind.trim_end_matches("Fields").to_lowercase())
         }
         kind => kind.replace('u', "uint") + "_t",

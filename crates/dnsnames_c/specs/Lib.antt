@@ -4,5 +4,7 @@ pub mod Labels
 pub mod Plans
 pub mod Messages
 pub mod Data
+pub mod Strings
+pub mod Opts
 pub mod Mnemonics
 pub mod Builders

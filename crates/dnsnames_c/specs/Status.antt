@@ -8,6 +8,8 @@ use Rattle.domain_flat.specs.declared.error.NameErrorKind.{NameErrorKind}
 use Rattle.domain_flat.specs.declared.error.NameErrorKind.TheVariants.{BadLabel, CompressedName, LongName, RelativeName, TrailingData, ShortInput}
 use Rattle.domain_flat.specs.declared.error.RelativeNameErrorKind.{RelativeNameErrorKind}
 use Rattle.domain_flat.specs.declared.error.RelativeNameErrorKind.TheVariants as relative
+use Rattle.domain_offsets.specs.declared.fault.DataFault.{DataFault}
+use Rattle.domain_offsets.specs.declared.fault.DataFault.TheVariants as within
 use Rattle.domain_reading.specs.declared.fault.NameFault.{NameFault}
 use Rattle.domain_reading.specs.declared.fault.NameFault.TheVariants as reading
 
@@ -17,6 +19,13 @@ fault_number reading.ShortInput = 1
 fault_number reading.BadLabelType = 2
 fault_number reading.TooManyPointers = 3
 fault_number reading.LongName = 4
+
+-- of data that have no such field
+abbrev pub data_number : DataFault → ℕ
+data_number within.NoField = 21
+data_number within.ShortInput = 1
+data_number within.TrailingData = 7
+data_number (within.Name f) = fault_number f
 
 -- of octets that are no absolute name
 abbrev pub absolute_number : NameErrorKind → ℕ

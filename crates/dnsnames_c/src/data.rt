@@ -1,79 +1,21 @@
-//! Names in the data of records (RFC 1035, 3.3).
-ghost use Rattle.std.specs.Prelude.{◌≡◌, ◌≢◌, ◌<◌, ◌≤◌, ◌+◌, ◌⊎◌, ℕ, length, IfOk, IfErr, IfSome};
-ghost use Rattle.domain_reading.specs.Faults.{SkipFault};
-ghost use Rattle.dnsnames_c.specs.Data.{shape, NameBegins, FitsShape, BreaksShape, GivesNameAt, GivesDataName};
+//! Fields in the data of records (RFC 1035, 3.3).
+ghost use Rattle.std.specs.Prelude.{◌≡◌};
+ghost use Rattle.dnsnames_c.specs.Data.{GivesNameAt, GivesDataName, GivesDataNumber, GivesDataAddress};
+ghost use Rattle.dnsnames_c.specs.Status.{data_number};
 
 use crate::put::give;
 use crate::read::{number_of, read_into};
-use domain_reading::fault::NameFault;
-use domain_reading::uncounted::encoding_end;
+use domain_offsets::{DataFault, address_in, name_in, number_in};
 
-/// Where names are in data: how many octets come before them, how many names there are, and how many octets follow.
-#[derive(Clone, Copy)]
-struct Shape {
-    before: usize,
-    names: usize,
-    after: usize,
-}
-
-/// The shape of data of a type, where that has names.
-fn shape_of(rtype: u16) -> Option<Shape>
-    ensures shape { result ≡ shape rtype }
-    ensures small { IfSome result (λ s. s.before ≤ 6) }
+/// The number of why data have no such field.
+pub(crate) fn number_of_data(fault: DataFault) -> u32
+    ensures { result ≡ data_number fault }
 {
-    let (before, names, after) = match rtype {
-        2 | 3 | 4 | 5 | 7 | 8 | 9 | 12 | 39 => (0, 1, 0),
-        14 | 17 => (0, 2, 0),
-        6 => (0, 2, 20),
-        15 | 18 | 21 | 36 => (2, 1, 0),
-        26 => (2, 2, 0),
-        33 => (6, 1, 0),
-        _ => return None,
-    };
-    Some(Shape {
-        before,
-        names,
-        after,
-    })
-}
-
-/// The offset at which the name begins that has `index` names before it, where the first begins at `start`.
-fn name_begin(octets: &[u8], start: usize, index: usize) -> Result<usize, NameFault>
-    ensures begins { IfOk result (λ q. NameBegins octets.now start index q) }
-    ensures inside { 0 < index → IfOk result (λ q. q ≤ length octets.now) }
-    ensures fault { IfErr result
-        (λ f. (i : ℕ) × (q : ℕ) × (i < index) × NameBegins octets.now start i q
-        × SkipFault octets.now q f) }
-{
-    let mut begin = start;
-    for passed in 0..index {
-        begin = match encoding_end(octets, begin) {
-            Ok(end) => end,
-            Err(fault) => return Err(fault),
-        };
-    }
-    Ok(begin)
-}
-
-/// Whether octets end where data of this shape end that begin at `data_at`: 0, or the number of why they don't.
-fn check_shape(octets: &[u8], data_at: usize, shape: Shape) -> u32
-    requires names { 0 < shape.names }
-    requires begin { data_at ≤ length octets.now }
-    requires small { shape.before ≤ 6 }
-    ensures { ((result ≡ 0) × FitsShape octets.now data_at shape)
-        ⊎ ((result ≢ 0) × BreaksShape octets.now data_at shape result) }
-{
-    let end = match name_begin(octets, data_at + shape.before, shape.names) {
-        Ok(end) => end,
-        Err(fault) => return number_of(fault),
-    };
-    let left = octets.len() - end;
-    if left < shape.after {
-        1
-    } else if left > shape.after {
-        7
-    } else {
-        0
+    match fault {
+        DataFault::NoField => 21,
+        DataFault::ShortInput => 1,
+        DataFault::TrailingData => 7,
+        DataFault::Name(fault) => number_of(fault),
     }
 }
 
@@ -109,23 +51,59 @@ pub extern "C" fn dnsnames_data_name(
     ensures { GivesDataName message.now data_at data_len rtype index result buffer.old buffer.new
         length.old length.new }
 {
-    let Some(shape) = shape_of(rtype) else {
-        return 21;
-    };
-    if index >= shape.names {
-        return 21;
-    }
-    if data_at > message.len() || message.len() - data_at < data_len {
-        return 1;
-    }
-    let octets = &message[..data_at + data_len];
-    let status = check_shape(octets, data_at, shape);
-    if status != 0 {
-        return status;
-    }
-    let begin = match name_begin(octets, data_at + shape.before, index) {
+    let begin = match name_in(message, data_at, data_len, rtype, index) {
         Ok(begin) => begin,
-        Err(fault) => return number_of(fault),
+        Err(fault) => return number_of_data(fault),
     };
-    give_name(octets, begin, buffer, length)
+    give_name(&message[..data_at + data_len], begin, buffer, length)
+}
+
+/// The number with `index` numbers before it in the data of a record of this type, which are the `data_len` octets of the
+/// message from `data_at` on: the preference of MX, RT, PX and KX, the subtype of AFSDB, the priority, weight and port of
+/// SRV, of 16 bits each, and serial, refresh, retry, expire and minimum of SOA, of 32, in the order of these.
+///
+/// 21 where data of this type have no such number, and 1, 2, 4 and 7 as `dnsnames_data_name` has them of the data: nothing
+/// is changed.
+#[unsafe(no_mangle)]
+pub extern "C" fn dnsnames_data_number(
+    message: &[u8],
+    data_at: usize,
+    data_len: usize,
+    rtype: u16,
+    index: usize,
+    value: &mut u32,
+) -> u32
+    ensures { GivesDataNumber message.now data_at data_len rtype index result value.old value.new }
+{
+    match number_in(message, data_at, data_len, rtype, index) {
+        Ok(number) => {
+            *value = number;
+            0
+        }
+        Err(fault) => number_of_data(fault),
+    }
+}
+
+/// The address that is the data of a record of this type and of class `IN`, which are the `data_len` octets of the message
+/// from `data_at` on, into the buffer: 4 octets for A (RFC 1035, 3.4.1), 16 for AAAA (RFC 3596, 2.2). `length` becomes its
+/// size.
+///
+/// 21 where the type is another; 1 where the data end past the message or have fewer octets, 7 where they have more:
+/// nothing is changed. 8 where it doesn't fit into the buffer, which then stays.
+#[unsafe(no_mangle)]
+pub extern "C" fn dnsnames_data_address(
+    message: &[u8],
+    data_at: usize,
+    data_len: usize,
+    rtype: u16,
+    buffer: &mut [u8],
+    length: &mut usize,
+) -> u32
+    ensures { GivesDataAddress message.now data_at data_len rtype result buffer.old buffer.new
+        length.old length.new }
+{
+    match address_in(message, data_at, data_len, rtype) {
+        Ok(octets) => give(octets, buffer, length),
+        Err(fault) => number_of_data(fault),
+    }
 }

@@ -1,6 +1,6 @@
 use Rattle.std.proofs.Common.{◌≤◌, ◌<◌, length}
-use Rattle.dnsnames_c.specs.Data.{NameBegins}
-use Rattle.dnsnames_c.proofs.data.name_begin.Given as goal
+use Rattle.domain_offsets.specs.Shapes.{NameBegins}
+use Rattle.domain_offsets.proofs.shape.name_begin.Given as goal
 
 abbrev pub invariant-loop-passed : goal.invariant-loop-passed
 invariant-loop-passed l = record {

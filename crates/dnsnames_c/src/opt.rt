@@ -1,0 +1,66 @@
+//! OPT records (RFC 6891, 6.1).
+ghost use Rattle.dnsnames_c.specs.Opts.{GivesOptParts, GivesDataOption};
+
+use crate::data::number_of_data;
+use domain_offsets::option_in;
+
+/// What an OPT record says by its class and its TTL (RFC 6891, 6.1.2 and 6.1.3): how many octets its sender takes in a
+/// message over UDP, 512 where it tells fewer (6.2.3); the response code of twelve bits, of which the flags of the
+/// message's header have the lower four; the version of EDNS; and the bit DO (RFC 3225). 21 where the type isn't OPT:
+/// nothing is changed.
+#[unsafe(no_mangle)]
+pub extern "C" fn dnsnames_opt(
+    rtype: u16,
+    class: u16,
+    ttl: u32,
+    flags: u16,
+    size: &mut u16,
+    rcode: &mut u16,
+    version: &mut u8,
+    dnssec_ok: &mut u32,
+) -> u32
+    ensures { GivesOptParts rtype class ttl flags result size.old size.new rcode.old rcode.new
+        version.old version.new dnssec_ok.old dnssec_ok.new }
+{
+    if rtype != 41 {
+        return 21;
+    }
+    *size = if class < 512 { 512 } else { class };
+    *rcode = (ttl / 0x100_0000) as u16 * 16 + flags % 16;
+    *version = (ttl / 0x1_0000 % 0x100) as u8;
+    *dnssec_ok = ttl / 0x8000 % 2;
+    0
+}
+
+/// The next option in the data of an OPT record, which are the `data_len` octets of the message from `data_at` on (RFC
+/// 6891, 6.1.2). `passed` is how many octets of the data were passed: 0 for the first option, and then as the call leaves
+/// it. `code` becomes its code, `option` the offset of its data in the message, `option_len` how many octets these have.
+///
+/// 27 where all options were passed; 21 where the type isn't OPT; 1 where the data end past the message or in the option:
+/// nothing is changed.
+#[unsafe(no_mangle)]
+pub extern "C" fn dnsnames_data_option(
+    message: &[u8],
+    data_at: usize,
+    data_len: usize,
+    rtype: u16,
+    passed: &mut usize,
+    code: &mut u16,
+    option: &mut usize,
+    option_len: &mut usize,
+) -> u32
+    ensures { GivesDataOption message.now data_at data_len rtype result passed.old passed.new
+        code.old code.new option.old option.new option_len.old option_len.new }
+{
+    match option_in(message, data_at, data_len, rtype, *passed) {
+        Ok(Some(found)) => {
+            *code = found.code;
+            *option = data_at + *passed + 4;
+            *option_len = found.data.len();
+            *passed = *passed + 4 + found.data.len();
+            0
+        }
+        Ok(None) => 27,
+        Err(fault) => number_of_data(fault),
+    }
+}
