@@ -156,7 +156,7 @@ def compare_data(line, answer):
 
 
 TYPED = (13, 35, 43, 44, 46, 47, 48, 52, 257)
-ANY = (1, 2, 5, 6, 12, 15, 16, 17, 18, 21, 26, 28, 33, 36, 39) + TYPED
+ANY = (1, 2, 5, 6, 12, 15, 16, 17, 18, 21, 26, 28, 33, 36, 39, 64, 65) + TYPED
 
 
 def compare_any(line, answer, types):

@@ -158,8 +158,10 @@ TYPED = {
     52: "111x",  # RFC 6698
     257: "1tq",  # RFC 8659
 }
+# SVCB and HTTPS, which `any` knows, too: v service parameters.
+SERVICES = {64: "2wv", 65: "2wv"}  # RFC 9460
 # The types whose fields `any` knows
-ALL = SHAPES | TYPED
+ALL = SHAPES | TYPED | SERVICES
 # The mnemonics that rows have (RFC 1035, 3.2.2, and the RFC of each type)
 MNEMONICS = {1: "A", 2: "NS", 6: "SOA", 15: "MX", 16: "TXT", 28: "AAAA", 43: "DS", 46: "RRSIG", 47: "NSEC", 48: "DNSKEY",
              257: "CAA"}
@@ -192,6 +194,72 @@ def bitmaps(data):
             return types
 
 
+# The keys that have a mnemonic (RFC 9460, 14.3.2; RFC 9461, 5; RFC 9540, 4)
+KEYS = ("mandatory", "alpn", "no-default-alpn", "port", "ipv4hint", "ech", "ipv6hint", "dohpath", "ohttp")
+
+
+def key_text(key):
+    return KEYS[key] if key < len(KEYS) else f"key{key}"
+
+
+def parts(octets, size):
+    """Octets in parts of a size: none if they aren't whole parts."""
+    return [octets[at:at + size] for at in range(0, len(octets), size)] if len(octets) % size == 0 else []
+
+
+def listed(value):
+    """The protocols of a value (RFC 9460, 7.1.1), none if they aren't one octet or more each, and whole."""
+    found = []
+    while value:
+        size, value = value[0], value[1:]
+        if not 1 <= size <= len(value):
+            return []
+        found.append(value[:size])
+        value = value[size:]
+    return found
+
+
+def items(key, value):
+    """The items of a value that is a list, as text before it is quoted: none if it isn't as its key wants it."""
+    if key == 0:  # RFC 9460, 8
+        keys = [int.from_bytes(it, "big") for it in parts(value, 2)]
+        return [key_text(it) for it in keys] if 0 not in keys and all(a < b for a, b in zip(keys, keys[1:])) else []
+    if key == 1:  # A.1
+        return [it.replace(b"\\", b"\\\\").replace(b",", b"\\,") for it in listed(value)]
+    if key == 4:
+        return [str(ipaddress.IPv4Address(it)) for it in parts(value, 4)]
+    return [of_aaaa(Reader(it, 0, 16)) for it in parts(value, 16)]
+
+
+def parameter_text(key, value):
+    """A service parameter (RFC 9460, 2.1): its key by its mnemonic where the value is as the key wants it."""
+    quoted = '="' + spelled(value, b'"\\') + '"' if value else ""
+    if key in (0, 1, 4, 6) and items(key, value):
+        octets = b",".join(it if isinstance(it, bytes) else it.encode() for it in items(key, value))
+        return key_text(key) + '="' + spelled(octets, b'"\\') + '"'
+    if key in (2, 8) and not value:
+        return key_text(key)
+    if key == 3 and len(value) == 2:
+        return f'port="{int.from_bytes(value, "big")}"'
+    if key == 5 and value:
+        return f'ech="{base64.b64encode(value).decode()}"'
+    if key == 7 and value:
+        return "dohpath" + quoted
+    return f"key{key}" + quoted
+
+
+def parameters(data):
+    """Service parameters (RFC 9460, 2.2): keys that ascend, each with a length and so many octets."""
+    texts, least = [], 0
+    while data.place < data.end:
+        key = data.number(2)
+        if key < least:
+            raise Refused("keys of parameters out of order")
+        texts.append(parameter_text(key, data.take(data.number(2))))
+        least = key + 1
+    return texts
+
+
 def field(data, kind, lowercase):
     """A field: its octets, those of the canonical form, and its text."""
     if kind in "nw":
@@ -209,10 +277,12 @@ def field(data, kind, lowercase):
         text = type_text(data.number(2))
     elif kind == "D":
         text = f"{EPOCH + datetime.timedelta(seconds=data.number(4)):%Y%m%d%H%M%S}"
-    elif kind in "xbqm" and data.end - data.place > 65535:
+    elif kind in "xbqmv" and data.end - data.place > 65535:
         raise Refused("record data too long")
     elif kind == "m":
         text = " ".join(type_text(number) for number in bitmaps(data))
+    elif kind == "v":
+        text = " ".join(parameters(data))
     elif kind in "xbq":
         left = data.take(data.end - data.place)
         text = {"x": left.hex(), "b": base64.b64encode(left).decode(), "q": '"' + spelled(left, b'"\\') + '"'}[kind]
@@ -230,7 +300,9 @@ def of_any(rtype, data, shapes):
         if data.place < data.end:
             raise Refused("trailing data")
         length = "-" if "n" in shape else str(sum(map(len, composed)))
-        return b"".join(composed), b"".join(canonical), length, " ".join(texts)
+        text = " ".join(texts)
+        # Where there are no parameters there is no space after the target.
+        return b"".join(composed), b"".join(canonical), length, text.rstrip(" ") if shape.endswith("v") else text
     whole = data.octets[data.place:data.end]
     if len(whole) > 65535:
         raise Refused("record data too long")

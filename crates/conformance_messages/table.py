@@ -564,6 +564,65 @@ def typed_rows():
         row(line, told="bad")
 
 
+def parameter(key, value):
+    return u16(key) + u16(len(value)) + value
+
+
+FOO = name("foo.example.com.")
+# Data of SVCB and HTTPS, and its text: the wire format of RFC 9460, D, and the text that dnspython writes for it.
+SERVICES = (
+    (b"\0\0" + FOO, "0 foo.example.com."), (b"\0\1\0", "1 ."), (b"\0\x10" + FOO + parameter(3, b"\0\x35"), '16 foo.example.com. port="53"'),
+    (b"\0\1" + FOO + parameter(667, b"hello"), '1 foo.example.com. key667="hello"'),
+    (b"\0\1" + FOO + parameter(667, b"hello\xd2qoo"), '1 foo.example.com. key667="hello\\210qoo"'),
+    (b"\0\1" + FOO + parameter(6, bytes.fromhex("20010db8000000000000000000000001" "20010db8000000000000000000530001")),
+     '1 foo.example.com. ipv6hint="2001:db8::1,2001:db8::53:1"'),
+    (b"\0\1" + name("example.com.") + parameter(6, bytes.fromhex("20010db80122034400000000c0000221")),
+     '1 example.com. ipv6hint="2001:db8:122:344::c000:221"'),
+    (b"\0\x10" + name("foo.example.org.") + parameter(0, b"\0\1\0\4") + parameter(1, b"\2h2\5h3-19") + parameter(4, b"\xc0\0\2\1"),
+     '16 foo.example.org. mandatory="alpn,ipv4hint" alpn="h2,h3-19" ipv4hint="192.0.2.1"'),
+    (b"\0\x10" + name("foo.example.org.") + parameter(1, b"\x08f\\oo,bar\2h2"), '16 foo.example.org. alpn="f\\\\\\\\oo\\\\,bar,h2"'),
+    (b"\0\1" + FOO + parameter(1, b"\2h2") + parameter(2, b""), '1 foo.example.com. alpn="h2" no-default-alpn'),
+    (b"\xff\xff" + name("Foo.Example.") + parameter(4, b"\1\2\3\4\xff\0\0\xff"), '65535 Foo.Example. ipv4hint="1.2.3.4,255.0.0.255"'),
+    (b"\0\1\0" + parameter(5, b"\0\x45\xfe\x0d"), '1 . ech="AEX+DQ=="'), (b"\0\1\0" + parameter(667, b""), "1 . key667"),
+    (b"\0\1\0" + parameter(9, b'\\"') + parameter(65535, b" "), '1 . key9="\\\\\\"" key65535=" "'),
+    (b"\0\1\0" + parameter(6, bytes(10) + b"\xff\xff\1\2\3\4"), '1 . ipv6hint="::ffff:1.2.3.4"'),
+)
+# Values that dnspython doesn't take, or of keys that it doesn't know, and their text by RFC 9460, 2.1 and A.1, RFC 9461 and 9540.
+VALUES = (
+    (0, b"", "key0"), (0, b"\0", 'key0="\\000"'), (0, b"\0\0", 'key0="\\000\\000"'), (0, b"\0\4\0\4", 'key0="\\000\\004\\000\\004"'),
+    (0, b"\0\4\0\3", 'key0="\\000\\004\\000\\003"'), (0, b"\0\2\0\5\2\x9b", 'mandatory="no-default-alpn,ech,key667"'),
+    (1, b"", "key1"), (1, b"\0", 'key1="\\000"'), (1, b"\3h2", 'key1="\\003h2"'), (1, b"\2h2\0", 'key1="\\002h2\\000"'), (1, b"\2\"\1", 'alpn="\\"\\001"'),
+    (2, b"\1", 'key2="\\001"'), (3, b"\1", 'key3="\\001"'), (3, b"\0\1\2", 'key3="\\000\\001\\002"'), (3, b"", "key3"),
+    (4, b"", "key4"), (4, b"abc", 'key4="abc"'), (4, b"abcde", 'key4="abcde"'), (5, b"", "key5"), (6, b"abcd", 'key6="abcd"'), (6, b"", "key6"),
+    (7, b"/dns-query{?dns}", 'dohpath="/dns-query{?dns}"'), (7, b"", "key7"), (8, b"", "ohttp"), (8, b"x", 'key8="x"'),
+)
+
+
+def service_rows():
+    topic("data of SVCB and HTTPS: the vectors of RFC 9460, values that their keys don't want, cut, and out of order")
+    for rtype in (64, 65):
+        for octets, text in SERVICES:
+            row("any", rtype, octets, 0, len(octets), told=f"ok {octets.hex()} {octets.hex()} {len(octets)} {text}")
+    for key, value, text in VALUES:
+        octets = b"\0\1\0" + parameter(key, value)
+        row("any", 64, octets, 0, len(octets), told=f"ok {octets.hex()} {octets.hex()} {len(octets)} 1 . {text}")
+    octets = SERVICES[7][0]
+    for size in range(len(octets)):
+        row("any", 64, octets, 0, size)
+    start = b"\0\1\0"
+    out = "err keys of parameters out of order"
+    for params, told in (
+            (parameter(1, b"\1a") + parameter(1, b"\1a"), out), (parameter(4, b"abcd") + parameter(3, b"\0\1"), out),
+            (parameter(1, b"") + b"\0\1", out), (parameter(1, b"") + b"\0\0\0\5", out), (parameter(65535, b"") + parameter(65535, b""), out),
+            (parameter(1, b"") + b"\0", "err " + second.SHORT), (b"\0\1\0", "err " + second.SHORT), (b"\0\1\0\1", "err " + second.SHORT),
+            (parameter(0, b"\0\1") + parameter(65535, bytes(300)), "ok ")):
+        row("any", 65, start + params, 0, len(start + params), told=told)
+    before = header() + name("WWW.Example.com.")
+    for last in (pointer(12), pointer(16), b"\1A" + pointer(12), pointer(len(before) + 2), b"\xc0"):
+        octets = b"\0\1" + last + parameter(3, b"\1\xbb")
+        row("any", 65, before + octets, len(before), len(octets))
+
+
 def rebuild_rows():
     topic("messages that dnspython and libknot wrote, built anew")
     with open(os.path.join(FOLDER, "rebuild.rows"), encoding="ascii") as file:
@@ -715,7 +774,7 @@ def main():
     if not answerer:
         sys.exit(__doc__)
     for make in (header_rows, section_rows, long_rows, data_rows, chain_rows, answers_rows, limit_rows, any_rows,
-                 typed_rows):
+                 typed_rows, service_rows):
         make()
     topic("random and mutated messages")
     for line in random_lines(400, 1):

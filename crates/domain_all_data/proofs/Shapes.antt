@@ -12,8 +12,8 @@ pub no_data_of : (t : ℕ) (s : Shape) (m : List ℕ) (p : ℕ) (e : ParseError)
 no_data_of t s m p e is found = subst (λ s. NoShape s m p e) (sym is) (subst (λ w. NoShape s m p w) (sym found.2) found.1)
 
 -- a type that isn't known
-pub other_type : (r t : ℕ) → r ≡ t → (r ≡ 1 → ⊥) → (r ≡ 2 → ⊥) → (r ≡ 3 → ⊥) → (r ≡ 4 → ⊥) → (r ≡ 5 → ⊥) → (r ≡ 6 → ⊥) → (r ≡ 7 → ⊥) → (r ≡ 8 → ⊥) → (r ≡ 9 → ⊥) → (r ≡ 12 → ⊥) → (r ≡ 13 → ⊥) → (r ≡ 14 → ⊥) → (r ≡ 15 → ⊥) → (r ≡ 16 → ⊥) → (r ≡ 17 → ⊥) → (r ≡ 18 → ⊥) → (r ≡ 21 → ⊥) → (r ≡ 26 → ⊥) → (r ≡ 28 → ⊥) → (r ≡ 33 → ⊥) → (r ≡ 35 → ⊥) → (r ≡ 36 → ⊥) → (r ≡ 39 → ⊥) → (r ≡ 43 → ⊥) → (r ≡ 44 → ⊥) → (r ≡ 46 → ⊥) → (r ≡ 47 → ⊥) → (r ≡ 48 → ⊥) → (r ≡ 52 → ⊥) → (r ≡ 257 → ⊥) → shape_of t ≡ some_octets
-other_type r t same n1 n2 n3 n4 n5 n6 n7 n8 n9 n12 n13 n14 n15 n16 n17 n18 n21 n26 n28 n33 n35 n36 n39 n43 n44 n46 n47 n48 n52 n257 =
+pub other_type : (r t : ℕ) → r ≡ t → (r ≡ 1 → ⊥) → (r ≡ 2 → ⊥) → (r ≡ 3 → ⊥) → (r ≡ 4 → ⊥) → (r ≡ 5 → ⊥) → (r ≡ 6 → ⊥) → (r ≡ 7 → ⊥) → (r ≡ 8 → ⊥) → (r ≡ 9 → ⊥) → (r ≡ 12 → ⊥) → (r ≡ 13 → ⊥) → (r ≡ 14 → ⊥) → (r ≡ 15 → ⊥) → (r ≡ 16 → ⊥) → (r ≡ 17 → ⊥) → (r ≡ 18 → ⊥) → (r ≡ 21 → ⊥) → (r ≡ 26 → ⊥) → (r ≡ 28 → ⊥) → (r ≡ 33 → ⊥) → (r ≡ 35 → ⊥) → (r ≡ 36 → ⊥) → (r ≡ 39 → ⊥) → (r ≡ 43 → ⊥) → (r ≡ 44 → ⊥) → (r ≡ 46 → ⊥) → (r ≡ 47 → ⊥) → (r ≡ 48 → ⊥) → (r ≡ 52 → ⊥) → (r ≡ 257 → ⊥) → (r ≡ 64 → ⊥) → (r ≡ 65 → ⊥) → shape_of t ≡ some_octets
+other_type r t same n1 n2 n3 n4 n5 n6 n7 n8 n9 n12 n13 n14 n15 n16 n17 n18 n21 n26 n28 n33 n35 n36 n39 n43 n44 n46 n47 n48 n52 n257 n64 n65 =
     let a1 : nat_eq t 1 ≡ false = ne_eqb t 1 (λ e. n1 (same ∙ e)) in
     let a2 : nat_eq t 2 ≡ false = ne_eqb t 2 (λ e. n2 (same ∙ e)) in
     let a3 : nat_eq t 3 ≡ false = ne_eqb t 3 (λ e. n3 (same ∙ e)) in
@@ -44,4 +44,6 @@ other_type r t same n1 n2 n3 n4 n5 n6 n7 n8 n9 n12 n13 n14 n15 n16 n17 n18 n21 n
     let a48 : nat_eq t 48 ≡ false = ne_eqb t 48 (λ e. n48 (same ∙ e)) in
     let a52 : nat_eq t 52 ≡ false = ne_eqb t 52 (λ e. n52 (same ∙ e)) in
     let a257 : nat_eq t 257 ≡ false = ne_eqb t 257 (λ e. n257 (same ∙ e)) in
-    rw (a1, a2, a3, a4, a5, a6, a7, a8, a9, a12, a13, a14, a15, a16, a17, a18, a21, a26, a28, a33, a35, a36, a39, a43, a44, a46, a47, a48, a52, a257) refl
+    let a64 : nat_eq t 64 ≡ false = ne_eqb t 64 (λ e. n64 (same ∙ e)) in
+    let a65 : nat_eq t 65 ≡ false = ne_eqb t 65 (λ e. n65 (same ∙ e)) in
+    rw (a1, a2, a3, a4, a5, a6, a7, a8, a9, a12, a13, a14, a15, a16, a17, a18, a21, a26, a28, a33, a35, a36, a39, a43, a44, a46, a47, a48, a52, a257, a64, a65) refl

@@ -27,6 +27,8 @@ use Rattle.domain_strings.specs.Quoted.{quoted, quoted_strings}
 use Rattle.domain_dnssec.specs.Times.{time_text}
 use Rattle.domain_dnssec.specs.TypeBitmaps.{blocks_types}
 use Rattle.domain_dnssec.specs.TypesText.{types_text}
+use Rattle.domain_svcb.specs.ParamText.{service_text}
+use Rattle.domain_svcb.specs.Services.{ServiceAt, NoService, service_data}
 use Rattle.domain_txt.specs.TxtReading.{TextAt, NoText}
 use Rattle.domain_txt.specs.TxtReadingLaws.{text_reading}
 
@@ -50,6 +52,7 @@ pub data AllFields : Type 0 where
   key : ℕ × (ℕ × (ℕ × List ℕ)) → AllFields
   association : ℕ × (ℕ × (ℕ × List ℕ)) → AllFields
   property : ℕ × (List ℕ × List ℕ) → AllFields
+  service : ℕ × (List (List ℕ) × List (ℕ × List ℕ)) → AllFields
   octets : List ℕ → AllFields
 
 -- which fields the data of a type has
@@ -72,6 +75,7 @@ pub data Shape : Type 0 where
   a_key : Shape
   an_association : Shape
   a_property : Shape
+  a_service : Shape
   some_octets : Shape
 
 -- the shape of the data of each type that is known, and octets for all others
@@ -106,7 +110,9 @@ shape_of t =
     (cond (nat_eq t 47) a_denial
     (cond (nat_eq t 48) a_key
     (cond (nat_eq t 52) an_association
-    (cond (nat_eq t 257) a_property some_octets)))))))))))))))))))))))))))))
+    (cond (nat_eq t 257) a_property
+    (cond (nat_eq t 64) a_service
+    (cond (nat_eq t 65) a_service some_octets)))))))))))))))))))))))))))))))
 
 -- Fields are at offset p and end before e, and this is what the data says.
 pub record Says {A : Type 0} (says : A → AllFields) (At : List ℕ → ℕ → A → ℕ → Type 0) (m : List ℕ) (p : ℕ) (it : AllFields) (e : ℕ) : Type 0 where
@@ -134,6 +140,7 @@ ShapeAt a_denial = Says denial (AllAt DenialAt)
 ShapeAt a_key = Says key (AllAt KeyAt)
 ShapeAt an_association = Says association (AllAt AssociationAt)
 ShapeAt a_property = Says property (AllAt PropertyAt)
+ShapeAt a_service = Says service (AllAt ServiceAt)
 ShapeAt some_octets = Says octets IsAllThatIsLeft
 
 -- No data of this shape is at offset p, and why.
@@ -156,6 +163,7 @@ NoShape a_denial = NotAll refusal DenialAt NoDenial
 NoShape a_key = NotAll refusal KeyAt NoKey
 NoShape an_association = NotAll refusal AssociationAt NoAssociation
 NoShape a_property = NotAll refusal PropertyAt NoProperty
+NoShape a_service = NotAll refusal ServiceAt NoService
 NoShape some_octets = TooMuchIsLeft
 
 -- Data of a record of the type t is at offset p, all that is left, and ends before e.
@@ -193,6 +201,7 @@ shape_reading a_denial = said_reading denial_data
 shape_reading a_key = said_reading key_data
 shape_reading an_association = said_reading association_data
 shape_reading a_property = said_reading property_data
+shape_reading a_service = said_reading service_data
 shape_reading some_octets = said_reading all_that_is_left
 
 -- At each offset is one value or one error, never both.
@@ -219,4 +228,5 @@ fields_text (denial it) = text_with_final_dot it.0 ++ (32 ∷ (types_text (block
 fields_text (key it) = decimal it.0 ++ (32 ∷ (decimal it.1.0 ++ (32 ∷ (decimal it.1.1.0 ++ (32 ∷ (encode_of standard it.1.1.1))))))
 fields_text (association it) = decimal it.0 ++ (32 ∷ (decimal it.1.0 ++ (32 ∷ (decimal it.1.1.0 ++ (32 ∷ (base16_text it.1.1.1))))))
 fields_text (property it) = decimal it.0 ++ (32 ∷ (it.1.0 ++ (32 ∷ (quoted it.1.1))))
+fields_text (service it) = service_text it.0 it.1.0 it.1.1
 fields_text (octets os) = unknown_text os

@@ -9,12 +9,14 @@ use Rattle.domain_data.specs.Views.{fields_of}
 use Rattle.domain_rdata.specs.Rtypes.{rtype_number}
 use Rattle.domain_strings.specs.TagViews.{tag_octets}
 use Rattle.domain_strings.specs.Views.{char_octets, last_octets}
+use Rattle.domain_svcb.specs.ParamsViews.{params_of}
+use Rattle.domain_svcb.specs.ServiceViews.{service_fields}
 use Rattle.domain_rdata.specs.Unknown.{data_octets, data_type}
 use Rattle.domain_txt.specs.Txts.{txt_strings}
 use Rattle.domain_all_data.specs.AllData.{AllFields}
-use Rattle.domain_all_data.specs.AllData.AllFields.{ipv4, ipv6, name, names, number_name, number_names, numbers_name, names_numbers, strings, two_strings, rule, digest, fingerprint, signature, denial, key, association, property, octets}
+use Rattle.domain_all_data.specs.AllData.AllFields.{ipv4, ipv6, name, names, number_name, number_names, numbers_name, names_numbers, strings, two_strings, rule, digest, fingerprint, signature, denial, key, association, property, service, octets}
 use Rattle.domain_all_data.specs.declared.all.AllRecordData.{AllRecordData}
-use Rattle.domain_all_data.specs.declared.all.AllRecordData.TheVariants.{A, Aaaa, Ns, Cname, Ptr, Dname, Mx, Soa, Srv, Mb, Md, Mf, Mg, Mr, Minfo, Rp, Afsdb, Rt, Px, Kx, Hinfo, Naptr, Ds, Sshfp, Rrsig, Nsec, Dnskey, Tlsa, Caa, Txt, Unknown}
+use Rattle.domain_all_data.specs.declared.all.AllRecordData.TheVariants.{A, Aaaa, Ns, Cname, Ptr, Dname, Mx, Soa, Srv, Mb, Md, Mf, Mg, Mr, Minfo, Rp, Afsdb, Rt, Px, Kx, Hinfo, Naptr, Ds, Sshfp, Rrsig, Nsec, Dnskey, Tlsa, Caa, Svcb, Https, Txt, Unknown}
 
 -- the number of the type of the data (RFC 1035, 3.2.2)
 abbrev pub all_type : {O N : Type 0} {g : Ghosts O} → AllRecordData O N g → ℕ
@@ -47,6 +49,8 @@ all_type (Nsec it) = 47
 all_type (Dnskey it) = 48
 all_type (Tlsa it) = 52
 all_type (Caa it) = 257
+all_type (Svcb it) = 64
+all_type (Https it) = 65
 all_type (Txt it) = 16
 all_type (Unknown it) = data_type it
 
@@ -81,5 +85,7 @@ all_fields (Nsec it) = denial (parsed_labels (fields_of it).first.name, bitmaps_
 all_fields (Dnskey it) = key ((fields_of it).first, ((fields_of it).rest.first, ((fields_of it).rest.rest.first, last_octets (fields_of it).rest.rest.rest)))
 all_fields (Tlsa it) = association ((fields_of it).first, ((fields_of it).rest.first, ((fields_of it).rest.rest.first, last_octets (fields_of it).rest.rest.rest)))
 all_fields (Caa it) = property ((fields_of it).first, (tag_octets (fields_of it).rest.first, last_octets (fields_of it).rest.rest))
+all_fields (Svcb it) = service ((service_fields it).first, (parsed_labels (service_fields it).rest.first.name, params_of (service_fields it).rest.rest))
+all_fields (Https it) = service ((service_fields it).first, (parsed_labels (service_fields it).rest.first.name, params_of (service_fields it).rest.rest))
 all_fields (Txt it) = strings (txt_strings it)
 all_fields (Unknown it) = octets (data_octets it)

@@ -14,6 +14,7 @@ use domain_rdata::{
     CanonicalError, ComposeRecordData, Composer, ParseAnyRecordData, ParseRecordData, RecordData,
     Rtype, UnknownRecordData,
 };
+use domain_svcb::{Https, Svcb};
 use domain_txt::Txt;
 use domain_wire::ParseError;
 use octseq::{Octets, Parser};
@@ -80,6 +81,10 @@ pub enum AllRecordData<Octs: Octets, N> {
     Tlsa(Tlsa<Octs>),
     /// A property of who may issue certificates.
     Caa(Caa<Octs>),
+    /// Where and how a service is reached.
+    Svcb(Svcb<Octs, N>),
+    /// Where and how a web server is reached.
+    Https(Https<Octs, N>),
     /// Text.
     Txt(Txt<Octs>),
     /// Data of another type.
@@ -135,6 +140,8 @@ impl<Octs: Octets, N> RecordData for AllRecordData<Octs, N> {
             AllRecordData::Dnskey(_) => Rtype::from_int(48),
             AllRecordData::Tlsa(_) => Rtype::from_int(52),
             AllRecordData::Caa(_) => Rtype::from_int(257),
+            AllRecordData::Svcb(_) => Rtype::from_int(64),
+            AllRecordData::Https(_) => Rtype::from_int(65),
             AllRecordData::Txt(_) => Rtype::from_int(16),
             AllRecordData::Unknown(it) => it.rtype(),
         }
@@ -146,7 +153,7 @@ impl<'a> ComposeRecordData for AllRecordData<&'a [u8], ParsedName<&'a [u8]>> {
     ghost use Rattle.domain_parsed.proofs.ParsedFields.{parsed_absolute};
     ghost use Rattle.domain_data.specs.Views.{fields_of};
     ghost use Rattle.domain_all_data.specs.Flat.{plain_octets, plain_name, plain_both, flat_octets, flat_name, flat_both};
-    ghost use Rattle.domain_all_data.specs.declared.all.AllRecordData.TheVariants.{A, Aaaa, Ns, Cname, Ptr, Dname, Mx, Soa, Srv, Mb, Md, Mf, Mg, Mr, Minfo, Rp, Afsdb, Rt, Px, Kx, Hinfo, Naptr, Ds, Sshfp, Rrsig, Nsec, Dnskey, Tlsa, Caa, Txt, Unknown};
+    ghost use Rattle.domain_all_data.specs.declared.all.AllRecordData.TheVariants.{A, Aaaa, Ns, Cname, Ptr, Dname, Mx, Soa, Srv, Mb, Md, Mf, Mg, Mr, Minfo, Rp, Afsdb, Rt, Px, Kx, Hinfo, Naptr, Ds, Sshfp, Rrsig, Nsec, Dnskey, Tlsa, Caa, Svcb, Https, Txt, Unknown};
 
     ghost composed = { elim [
       | A it ↦ ⟦<A as ComposeRecordData>⟧.composed it
@@ -178,6 +185,8 @@ impl<'a> ComposeRecordData for AllRecordData<&'a [u8], ParsedName<&'a [u8]>> {
       | Dnskey it ↦ ⟦<Dnskey<&'a [u8]> as ComposeRecordData>⟧.composed it
       | Tlsa it ↦ ⟦<Tlsa<&'a [u8]> as ComposeRecordData>⟧.composed it
       | Caa it ↦ ⟦<Caa<&'a [u8]> as ComposeRecordData>⟧.composed it
+      | Svcb it ↦ ⟦<Svcb<&'a [u8], ParsedName<&'a [u8]>> as ComposeRecordData>⟧.composed it
+      | Https it ↦ ⟦<Https<&'a [u8], ParsedName<&'a [u8]>> as ComposeRecordData>⟧.composed it
       | Txt it ↦ ⟦<Txt<&'a [u8]> as ComposeRecordData>⟧.composed it
       | Unknown it ↦ ⟦<UnknownRecordData<&'a [u8]> as ComposeRecordData>⟧.composed it
     ] };
@@ -212,6 +221,8 @@ impl<'a> ComposeRecordData for AllRecordData<&'a [u8], ParsedName<&'a [u8]>> {
       | Dnskey it ↦ ⟦<Dnskey<&'a [u8]> as ComposeRecordData>⟧.written it
       | Tlsa it ↦ ⟦<Tlsa<&'a [u8]> as ComposeRecordData>⟧.written it
       | Caa it ↦ ⟦<Caa<&'a [u8]> as ComposeRecordData>⟧.written it
+      | Svcb it ↦ ⟦<Svcb<&'a [u8], ParsedName<&'a [u8]>> as ComposeRecordData>⟧.written it
+      | Https it ↦ ⟦<Https<&'a [u8], ParsedName<&'a [u8]>> as ComposeRecordData>⟧.written it
       | Txt it ↦ ⟦<Txt<&'a [u8]> as ComposeRecordData>⟧.written it
       | Unknown it ↦ ⟦<UnknownRecordData<&'a [u8]> as ComposeRecordData>⟧.written it
     ] };
@@ -246,6 +257,8 @@ impl<'a> ComposeRecordData for AllRecordData<&'a [u8], ParsedName<&'a [u8]>> {
       | Dnskey it ↦ ⟦<Dnskey<&'a [u8]> as ComposeRecordData>⟧.uncompressed it
       | Tlsa it ↦ ⟦<Tlsa<&'a [u8]> as ComposeRecordData>⟧.uncompressed it
       | Caa it ↦ ⟦<Caa<&'a [u8]> as ComposeRecordData>⟧.uncompressed it
+      | Svcb it ↦ ⟦<Svcb<&'a [u8], ParsedName<&'a [u8]>> as ComposeRecordData>⟧.uncompressed it
+      | Https it ↦ ⟦<Https<&'a [u8], ParsedName<&'a [u8]>> as ComposeRecordData>⟧.uncompressed it
       | Txt it ↦ ⟦<Txt<&'a [u8]> as ComposeRecordData>⟧.uncompressed it
       | Unknown it ↦ ⟦<UnknownRecordData<&'a [u8]> as ComposeRecordData>⟧.uncompressed it
     ] };
@@ -280,6 +293,8 @@ impl<'a> ComposeRecordData for AllRecordData<&'a [u8], ParsedName<&'a [u8]>> {
       | Dnskey it ↦ ⟦<Dnskey<&'a [u8]> as ComposeRecordData>⟧.lowercase it
       | Tlsa it ↦ ⟦<Tlsa<&'a [u8]> as ComposeRecordData>⟧.lowercase it
       | Caa it ↦ ⟦<Caa<&'a [u8]> as ComposeRecordData>⟧.lowercase it
+      | Svcb it ↦ ⟦<Svcb<&'a [u8], ParsedName<&'a [u8]>> as ComposeRecordData>⟧.lowercase it
+      | Https it ↦ ⟦<Https<&'a [u8], ParsedName<&'a [u8]>> as ComposeRecordData>⟧.lowercase it
       | Txt it ↦ ⟦<Txt<&'a [u8]> as ComposeRecordData>⟧.lowercase it
       | Unknown it ↦ ⟦<UnknownRecordData<&'a [u8]> as ComposeRecordData>⟧.lowercase it
     ] };
@@ -314,6 +329,8 @@ impl<'a> ComposeRecordData for AllRecordData<&'a [u8], ParsedName<&'a [u8]>> {
       | Dnskey it ↦ ⟦<Dnskey<&'a [u8]> as ComposeRecordData>⟧.knows_len it
       | Tlsa it ↦ ⟦<Tlsa<&'a [u8]> as ComposeRecordData>⟧.knows_len it
       | Caa it ↦ ⟦<Caa<&'a [u8]> as ComposeRecordData>⟧.knows_len it
+      | Svcb it ↦ ⟦<Svcb<&'a [u8], ParsedName<&'a [u8]>> as ComposeRecordData>⟧.knows_len it
+      | Https it ↦ ⟦<Https<&'a [u8], ParsedName<&'a [u8]>> as ComposeRecordData>⟧.knows_len it
       | Txt it ↦ ⟦<Txt<&'a [u8]> as ComposeRecordData>⟧.knows_len it
       | Unknown it ↦ ⟦<UnknownRecordData<&'a [u8]> as ComposeRecordData>⟧.knows_len it
     ] };
@@ -349,6 +366,8 @@ impl<'a> ComposeRecordData for AllRecordData<&'a [u8], ParsedName<&'a [u8]>> {
             AllRecordData::Dnskey(it) => it.rdlen(compress),
             AllRecordData::Tlsa(it) => it.rdlen(compress),
             AllRecordData::Caa(it) => it.rdlen(compress),
+            AllRecordData::Svcb(it) => it.rdlen(compress),
+            AllRecordData::Https(it) => it.rdlen(compress),
             AllRecordData::Txt(it) => it.rdlen(compress),
             AllRecordData::Unknown(it) => it.rdlen(compress),
         }
@@ -388,6 +407,8 @@ impl<'a> ComposeRecordData for AllRecordData<&'a [u8], ParsedName<&'a [u8]>> {
             AllRecordData::Dnskey(it) => it.compose_rdata(target),
             AllRecordData::Tlsa(it) => it.compose_rdata(target),
             AllRecordData::Caa(it) => it.compose_rdata(target),
+            AllRecordData::Svcb(it) => it.compose_rdata(target),
+            AllRecordData::Https(it) => it.compose_rdata(target),
             AllRecordData::Txt(it) => it.compose_rdata(target),
             AllRecordData::Unknown(it) => it.compose_rdata(target),
         }
@@ -427,6 +448,8 @@ impl<'a> ComposeRecordData for AllRecordData<&'a [u8], ParsedName<&'a [u8]>> {
             AllRecordData::Dnskey(it) => it.compose_canonical_rdata(target),
             AllRecordData::Tlsa(it) => it.compose_canonical_rdata(target),
             AllRecordData::Caa(it) => it.compose_canonical_rdata(target),
+            AllRecordData::Svcb(it) => it.compose_canonical_rdata(target),
+            AllRecordData::Https(it) => it.compose_canonical_rdata(target),
             AllRecordData::Txt(it) => it.compose_canonical_rdata(target),
             AllRecordData::Unknown(it) => it.compose_canonical_rdata(target),
         }
@@ -462,6 +485,8 @@ impl<'a> ComposeRecordData for AllRecordData<&'a [u8], ParsedName<&'a [u8]>> {
       | Dnskey it ↦ plain_both _ _ _ _ (plain_octets _) (plain_both _ _ _ _ (plain_octets _) (plain_both _ _ _ _ (plain_octets _) (plain_octets _)))
       | Tlsa it ↦ plain_both _ _ _ _ (plain_octets _) (plain_both _ _ _ _ (plain_octets _) (plain_both _ _ _ _ (plain_octets _) (plain_octets _)))
       | Caa it ↦ plain_both _ _ _ _ (plain_octets _) (plain_both _ _ _ _ (plain_octets _) (plain_octets _))
+      | Svcb it ↦ plain_both _ _ _ _ (plain_octets _) (plain_both _ _ _ _ (plain_octets _) (plain_octets _))
+      | Https it ↦ plain_both _ _ _ _ (plain_octets _) (plain_both _ _ _ _ (plain_octets _) (plain_octets _))
       | Txt it ↦ plain_octets _
       | Unknown it ↦ plain_octets _
     ] };
@@ -496,6 +521,8 @@ impl<'a> ComposeRecordData for AllRecordData<&'a [u8], ParsedName<&'a [u8]>> {
       | Dnskey it ↦ flat_both _ _ _ _ (flat_octets _) (flat_both _ _ _ _ (flat_octets _) (flat_both _ _ _ _ (flat_octets _) (flat_octets _)))
       | Tlsa it ↦ flat_both _ _ _ _ (flat_octets _) (flat_both _ _ _ _ (flat_octets _) (flat_both _ _ _ _ (flat_octets _) (flat_octets _)))
       | Caa it ↦ flat_both _ _ _ _ (flat_octets _) (flat_both _ _ _ _ (flat_octets _) (flat_octets _))
+      | Svcb it ↦ flat_both _ _ _ _ (flat_octets _) (flat_both _ _ _ _ (flat_octets _) (flat_octets _))
+      | Https it ↦ flat_both _ _ _ _ (flat_octets _) (flat_both _ _ _ _ (flat_octets _) (flat_octets _))
       | Txt it ↦ flat_octets _
       | Unknown it ↦ flat_octets _
     ] };
@@ -662,6 +689,14 @@ impl<'a> ParseAnyRecordData<'a> for AllRecordData<&'a [u8], ParsedName<&'a [u8]>
                 Ok(it) => Ok(AllRecordData::Caa(it)),
                 Err(e) => Err(e),
             },
+            64 => match read::<Svcb<&'a [u8], ParsedName<&'a [u8]>>, ParseError>(rtype, parser) {
+                Ok(it) => Ok(AllRecordData::Svcb(it)),
+                Err(e) => Err(e),
+            },
+            65 => match read::<Https<&'a [u8], ParsedName<&'a [u8]>>, ParseError>(rtype, parser) {
+                Ok(it) => Ok(AllRecordData::Https(it)),
+                Err(e) => Err(e),
+            },
             _ => match read::<UnknownRecordData<&'a [u8]>, ParseError>(rtype, parser) {
                 Ok(it) => Ok(AllRecordData::Unknown(it)),
                 Err(e) => Err(e),
@@ -736,6 +771,8 @@ impl<'a> fmt::Display for AllRecordData<&'a [u8], ParsedName<&'a [u8]>> {
             AllRecordData::Dnskey(it) => write!(f, "{it}"),
             AllRecordData::Tlsa(it) => write!(f, "{it}"),
             AllRecordData::Caa(it) => write!(f, "{it}"),
+            AllRecordData::Svcb(it) => write!(f, "{it}"),
+            AllRecordData::Https(it) => write!(f, "{it}"),
             AllRecordData::Txt(it) => write!(f, "{it}"),
             AllRecordData::Unknown(it) => write!(f, "{it}"),
         }

@@ -161,3 +161,21 @@ returns-in-Caa-clause-full g c = rw c.in-Caa.is c.compose_rdata-in-Caa.ensures.f
 
 pub returns-in-Caa-clause-names : goal.returns-in-Caa-clause-names
 returns-in-Caa-clause-names g c = rw c.in-Caa.is c.compose_rdata-in-Caa.ensures.names
+
+pub returns-in-Svcb-clause-ok : goal.returns-in-Svcb-clause-ok
+returns-in-Svcb-clause-ok g c = rw c.in-Svcb.is c.compose_rdata-in-Svcb.ensures.ok
+
+pub returns-in-Svcb-clause-full : goal.returns-in-Svcb-clause-full
+returns-in-Svcb-clause-full g c = rw c.in-Svcb.is c.compose_rdata-in-Svcb.ensures.full
+
+pub returns-in-Svcb-clause-names : goal.returns-in-Svcb-clause-names
+returns-in-Svcb-clause-names g c = rw c.in-Svcb.is c.compose_rdata-in-Svcb.ensures.names
+
+pub returns-in-Https-clause-ok : goal.returns-in-Https-clause-ok
+returns-in-Https-clause-ok g c = rw c.in-Https.is c.compose_rdata-in-Https.ensures.ok
+
+pub returns-in-Https-clause-full : goal.returns-in-Https-clause-full
+returns-in-Https-clause-full g c = rw c.in-Https.is c.compose_rdata-in-Https.ensures.full
+
+pub returns-in-Https-clause-names : goal.returns-in-Https-clause-names
+returns-in-Https-clause-names g c = rw c.in-Https.is c.compose_rdata-in-Https.ensures.names

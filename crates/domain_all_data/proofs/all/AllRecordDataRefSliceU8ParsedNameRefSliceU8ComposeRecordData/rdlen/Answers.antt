@@ -77,3 +77,9 @@ returns-in-Tlsa-clause-composed c = rw c.in-Tlsa.is c.rdlen-in-Tlsa.ensures.comp
 
 pub returns-in-Caa-clause-composed : goal.returns-in-Caa-clause-composed
 returns-in-Caa-clause-composed c = rw c.in-Caa.is c.rdlen-in-Caa.ensures.composed
+
+pub returns-in-Svcb-clause-composed : goal.returns-in-Svcb-clause-composed
+returns-in-Svcb-clause-composed c = rw c.in-Svcb.is c.rdlen-in-Svcb.ensures.composed
+
+pub returns-in-Https-clause-composed : goal.returns-in-Https-clause-composed
+returns-in-Https-clause-composed c = rw c.in-Https.is c.rdlen-in-Https.ensures.composed

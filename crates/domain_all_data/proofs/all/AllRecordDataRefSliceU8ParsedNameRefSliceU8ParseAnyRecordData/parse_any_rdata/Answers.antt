@@ -2,7 +2,7 @@ use Rattle.std.proofs.Common.{refl, sym, ap, ◌∙◌, arith}
 use Rattle.octseq.specs.Parsing.{message, position}
 use Rattle.domain_rdata.specs.Rtypes.{rtype_number}
 use Rattle.domain_all_data.specs.AllData.{shape_of}
-use Rattle.domain_all_data.specs.AllData.Shape.{an_ipv4, an_ipv6, a_name, two_names, a_number_name, a_number_names, some_numbers_name, some_names_numbers, some_strings, a_host, a_rule, a_digest, a_fingerprint, a_signature, a_denial, a_key, an_association, a_property, some_octets}
+use Rattle.domain_all_data.specs.AllData.Shape.{an_ipv4, an_ipv6, a_name, two_names, a_number_name, a_number_names, some_numbers_name, some_names_numbers, some_strings, a_host, a_rule, a_digest, a_fingerprint, a_signature, a_denial, a_key, an_association, a_property, a_service, some_octets}
 use Rattle.domain_all_data.proofs.Shapes.{data_at, no_data_of, other_type}
 use Rattle.domain_all_data.proofs.all.AllRecordDataRefSliceU8ParsedNameRefSliceU8ParseAnyRecordData.parse_any_rdata.Goals as goal
 
@@ -187,7 +187,19 @@ pub returns-in-Err-read-29-clause-err : goal.returns-in-Err-read-29-clause-err
 returns-in-Err-read-29-clause-err c = no_data_of (rtype_number c.args.rtype) a_property (message c.args.parser.now) (position c.args.parser.now) _ (ap shape_of (sym c.to_int.ensures ∙ c.in-257.is)) c.in-Err-read-29.ensures.err
 
 pub returns-in-Ok-read-30-clause-ok : goal.returns-in-Ok-read-30-clause-ok
-returns-in-Ok-read-30-clause-ok c = data_at (rtype_number c.args.rtype) some_octets (message c.args.parser.now) (position c.args.parser.now) _ _ (other_type c.to_int.result (rtype_number c.args.rtype) c.to_int.ensures (λ e. omega arith) (λ e. omega arith) (λ e. omega arith) (λ e. omega arith) (λ e. omega arith) (λ e. omega arith) (λ e. omega arith) (λ e. omega arith) (λ e. omega arith) (λ e. omega arith) (λ e. omega arith) (λ e. omega arith) (λ e. omega arith) (λ e. omega arith) (λ e. omega arith) (λ e. omega arith) (λ e. omega arith) (λ e. omega arith) (λ e. omega arith) (λ e. omega arith) (λ e. omega arith) (λ e. omega arith) (λ e. omega arith) (λ e. omega arith) (λ e. omega arith) (λ e. omega arith) (λ e. omega arith) (λ e. omega arith) (λ e. omega arith) (λ e. omega arith)) (record { fields = _; is = refl; at = c.in-Ok-read-30.ensures.ok })
+returns-in-Ok-read-30-clause-ok c = data_at (rtype_number c.args.rtype) a_service (message c.args.parser.now) (position c.args.parser.now) _ _ (ap shape_of (sym c.to_int.ensures ∙ c.in-64.is)) (record { fields = _; is = refl; at = c.in-Ok-read-30.ensures.ok })
 
 pub returns-in-Err-read-30-clause-err : goal.returns-in-Err-read-30-clause-err
-returns-in-Err-read-30-clause-err c = no_data_of (rtype_number c.args.rtype) some_octets (message c.args.parser.now) (position c.args.parser.now) _ (other_type c.to_int.result (rtype_number c.args.rtype) c.to_int.ensures (λ e. omega arith) (λ e. omega arith) (λ e. omega arith) (λ e. omega arith) (λ e. omega arith) (λ e. omega arith) (λ e. omega arith) (λ e. omega arith) (λ e. omega arith) (λ e. omega arith) (λ e. omega arith) (λ e. omega arith) (λ e. omega arith) (λ e. omega arith) (λ e. omega arith) (λ e. omega arith) (λ e. omega arith) (λ e. omega arith) (λ e. omega arith) (λ e. omega arith) (λ e. omega arith) (λ e. omega arith) (λ e. omega arith) (λ e. omega arith) (λ e. omega arith) (λ e. omega arith) (λ e. omega arith) (λ e. omega arith) (λ e. omega arith) (λ e. omega arith)) c.in-Err-read-30.ensures.err
+returns-in-Err-read-30-clause-err c = no_data_of (rtype_number c.args.rtype) a_service (message c.args.parser.now) (position c.args.parser.now) _ (ap shape_of (sym c.to_int.ensures ∙ c.in-64.is)) c.in-Err-read-30.ensures.err
+
+pub returns-in-Ok-read-31-clause-ok : goal.returns-in-Ok-read-31-clause-ok
+returns-in-Ok-read-31-clause-ok c = data_at (rtype_number c.args.rtype) a_service (message c.args.parser.now) (position c.args.parser.now) _ _ (ap shape_of (sym c.to_int.ensures ∙ c.in-65.is)) (record { fields = _; is = refl; at = c.in-Ok-read-31.ensures.ok })
+
+pub returns-in-Err-read-31-clause-err : goal.returns-in-Err-read-31-clause-err
+returns-in-Err-read-31-clause-err c = no_data_of (rtype_number c.args.rtype) a_service (message c.args.parser.now) (position c.args.parser.now) _ (ap shape_of (sym c.to_int.ensures ∙ c.in-65.is)) c.in-Err-read-31.ensures.err
+
+pub returns-in-Ok-read-32-clause-ok : goal.returns-in-Ok-read-32-clause-ok
+returns-in-Ok-read-32-clause-ok c = data_at (rtype_number c.args.rtype) some_octets (message c.args.parser.now) (position c.args.parser.now) _ _ (other_type c.to_int.result (rtype_number c.args.rtype) c.to_int.ensures (λ e. omega arith) (λ e. omega arith) (λ e. omega arith) (λ e. omega arith) (λ e. omega arith) (λ e. omega arith) (λ e. omega arith) (λ e. omega arith) (λ e. omega arith) (λ e. omega arith) (λ e. omega arith) (λ e. omega arith) (λ e. omega arith) (λ e. omega arith) (λ e. omega arith) (λ e. omega arith) (λ e. omega arith) (λ e. omega arith) (λ e. omega arith) (λ e. omega arith) (λ e. omega arith) (λ e. omega arith) (λ e. omega arith) (λ e. omega arith) (λ e. omega arith) (λ e. omega arith) (λ e. omega arith) (λ e. omega arith) (λ e. omega arith) (λ e. omega arith) (λ e. omega arith) (λ e. omega arith)) (record { fields = _; is = refl; at = c.in-Ok-read-32.ensures.ok })
+
+pub returns-in-Err-read-32-clause-err : goal.returns-in-Err-read-32-clause-err
+returns-in-Err-read-32-clause-err c = no_data_of (rtype_number c.args.rtype) some_octets (message c.args.parser.now) (position c.args.parser.now) _ (other_type c.to_int.result (rtype_number c.args.rtype) c.to_int.ensures (λ e. omega arith) (λ e. omega arith) (λ e. omega arith) (λ e. omega arith) (λ e. omega arith) (λ e. omega arith) (λ e. omega arith) (λ e. omega arith) (λ e. omega arith) (λ e. omega arith) (λ e. omega arith) (λ e. omega arith) (λ e. omega arith) (λ e. omega arith) (λ e. omega arith) (λ e. omega arith) (λ e. omega arith) (λ e. omega arith) (λ e. omega arith) (λ e. omega arith) (λ e. omega arith) (λ e. omega arith) (λ e. omega arith) (λ e. omega arith) (λ e. omega arith) (λ e. omega arith) (λ e. omega arith) (λ e. omega arith) (λ e. omega arith) (λ e. omega arith) (λ e. omega arith) (λ e. omega arith)) c.in-Err-read-32.ensures.err
