@@ -4,10 +4,9 @@ use crate::data::Read;
 use conformance_answer::Answer;
 use domain_all_data::AllRecordData;
 use domain_compress::CompressComposer;
-use domain_data::Naptr;
 use domain_message::{Message, ParsedRecord, Record, RecordSection, Section};
 use domain_message_builder::MessageBuilder;
-use domain_rdata::{ComposeRecordData, ParseAnyRecordData, ParseRecordData};
+use domain_rdata::ParseAnyRecordData;
 use domain_wire::ParseError;
 use octseq::Octets;
 use std::fmt::Display;
@@ -111,42 +110,11 @@ fn push_record(
     found: &ParsedRecord<'_>,
     made: &mut MessageBuilder<Target>,
 ) -> bool {
-    if found.rtype().to_int() == 35 {
-        return push_naptr(out, section, found, made);
-    }
     let mut left = found.data();
-    match AnyData::parse_any_rdata(found.rtype(), &mut left) {
-        Ok(data) => push_data(out, section, found, data, made),
-        Err(error) => is_refused(out, error),
-    }
-}
-
-/// NAPTR is none of the types of `AllRecordData`. But other writers compress its name, and a copy of a pointer may lead
-/// elsewhere in the new message: so it is read as a name (RFC 3597, 4).
-fn push_naptr(
-    out: &mut Answer,
-    section: Section,
-    found: &ParsedRecord<'_>,
-    made: &mut MessageBuilder<Target>,
-) -> bool {
-    let mut left = found.data();
-    match Naptr::<&[u8], Read<'_>>::parse_rdata(found.rtype(), &mut left) {
-        Ok(Some(data)) => push_data(out, section, found, data, made),
-        Ok(None) => {
-            out.agree(false, b"parse_rdata");
-            false
-        }
-        Err(error) => is_refused(out, error),
-    }
-}
-
-fn push_data<D: ComposeRecordData + Drop>(
-    out: &mut Answer,
-    section: Section,
-    found: &ParsedRecord<'_>,
-    data: D,
-    made: &mut MessageBuilder<Target>,
-) -> bool {
+    let data = match AnyData::parse_any_rdata(found.rtype(), &mut left) {
+        Ok(data) => data,
+        Err(error) => return is_refused(out, error),
+    };
     let record = Record::new(found.owner(), found.class(), found.ttl(), data);
     match made.push(section, &record) {
         Ok(()) => true,
