@@ -3,37 +3,8 @@
 use crate::fault::Fault;
 use crate::message::Section;
 use crate::name::Name;
-use crate::sys::*;
-use crate::MAX_TABLE;
 use core::marker::PhantomData;
-
-/// What the library keeps of a message that is built.
-#[derive(Clone, Copy, Debug)]
-#[repr(C)]
-pub(crate) struct BuilderState {
-    limit: usize,
-    len: usize,
-    id: u16,
-    flags: u16,
-    questions: u16,
-    answers: u16,
-    authority: u16,
-    additional: u16,
-    answer_start: usize,
-    authority_start: usize,
-    additional_start: usize,
-    table_len: usize,
-    table: [u16; MAX_TABLE],
-}
-
-/// That, and the octets that it is built in.
-#[derive(Debug)]
-#[repr(C)]
-pub(crate) struct BuilderFields {
-    octets: *mut u8,
-    capacity: usize,
-    state: BuilderState,
-}
+use dnsnames_sys::*;
 
 /// A message that is built in octets of the caller's (RFC 1035, 4.1): questions, and then records, section by section.
 ///
@@ -55,7 +26,7 @@ pub(crate) struct BuilderFields {
 /// ```
 #[derive(Debug)]
 pub struct Builder<'a> {
-    fields: BuilderFields,
+    fields: dnsnames_builder,
     octets: PhantomData<&'a mut [u8]>,
 }
 
@@ -68,7 +39,7 @@ impl<'a> Builder<'a> {
     /// Begins a message of at most these octets, and 65,535, with an identifier and the header's sixteen bits of flags.
     /// `NoRoom` below the header's twelve octets.
     pub fn new(octets: &'a mut [u8], id: u16, flags: u16) -> Result<Builder<'a>, Fault> {
-        let state = BuilderState {
+        let state = dnsnames_builder_state {
             limit: 0,
             len: 0,
             id,
@@ -81,9 +52,9 @@ impl<'a> Builder<'a> {
             authority_start: 0,
             additional_start: 0,
             table_len: 0,
-            table: [0; MAX_TABLE],
+            table: [0; DNSNAMES_MAX_TABLE],
         };
-        let mut fields = BuilderFields { octets: octets.as_mut_ptr(), capacity: octets.len(), state };
+        let mut fields = dnsnames_builder { octets: octets.as_mut_ptr(), capacity: octets.len(), state };
         // SAFETY: as in `read`.
         let status = unsafe { dnsnames_builder_start(&mut fields, octets.as_mut_ptr(), octets.len(), id, flags) };
         Fault::check(status, Some(12))?;
@@ -110,9 +81,9 @@ impl<'a> Builder<'a> {
         data: &[u8],
     ) -> Result<(), Fault> {
         let section = match section {
-            Section::Answer => 1,
-            Section::Authority => 2,
-            Section::Additional => 3,
+            Section::Answer => DNSNAMES_ANSWER,
+            Section::Authority => DNSNAMES_AUTHORITY,
+            Section::Additional => DNSNAMES_ADDITIONAL,
         };
         let owner = owner.as_slice();
         // SAFETY: as in `read`.
@@ -135,14 +106,7 @@ impl<'a> Builder<'a> {
     /// Pushes an OPT record into the additional section (RFC 6891, 6.1): how many octets of a message over UDP are taken,
     /// the upper eight bits of a response code of twelve, the version, the bit DO, and options in wire format. A message
     /// has one at most. `NoRoom`, `TooManyEntries`.
-    pub fn opt(
-        &mut self,
-        size: u16,
-        rcode_ext: u8,
-        version: u8,
-        dnssec_ok: bool,
-        options: &[u8],
-    ) -> Result<(), Fault> {
+    pub fn opt(&mut self, size: u16, rcode_ext: u8, version: u8, dnssec_ok: bool, options: &[u8]) -> Result<(), Fault> {
         // SAFETY: as in `read`.
         let status = unsafe {
             dnsnames_builder_opt(

@@ -1,6 +1,7 @@
 //! Why something is refused.
 
 use core::fmt;
+use dnsnames_sys::*;
 
 /// Why octets or a text are no name, or a message is none, or an entry can't be pushed.
 #[derive(Clone, Copy, Debug, PartialEq, Eq, Hash)]
@@ -50,24 +51,24 @@ impl Fault {
     /// The number that the library answers for it, as dnsnames.h has it.
     pub fn status(self) -> u32 {
         match self {
-            Fault::ShortInput => 1,
-            Fault::BadLabelType => 2,
-            Fault::TooManyPointers => 3,
-            Fault::LongName => 4,
-            Fault::CompressedName => 5,
-            Fault::RelativeName => 6,
-            Fault::TrailingData => 7,
-            Fault::NoRoom(_) => 8,
-            Fault::BadEscape => 11,
-            Fault::BadSymbol => 12,
-            Fault::BinaryLabel => 13,
-            Fault::LongLabel => 14,
-            Fault::EmptyLabel => 15,
-            Fault::AbsoluteName => 19,
-            Fault::NoField => 21,
-            Fault::NoMnemonic => 22,
-            Fault::WrongOrder => 24,
-            Fault::TooManyEntries => 25,
+            Fault::ShortInput => DNSNAMES_SHORT_INPUT,
+            Fault::BadLabelType => DNSNAMES_LABEL_TYPE,
+            Fault::TooManyPointers => DNSNAMES_TOO_MANY_POINTERS,
+            Fault::LongName => DNSNAMES_LONG_NAME,
+            Fault::CompressedName => DNSNAMES_COMPRESSED,
+            Fault::RelativeName => DNSNAMES_RELATIVE,
+            Fault::TrailingData => DNSNAMES_TRAILING_DATA,
+            Fault::NoRoom(_) => DNSNAMES_NO_ROOM,
+            Fault::BadEscape => DNSNAMES_BAD_ESCAPE,
+            Fault::BadSymbol => DNSNAMES_BAD_SYMBOL,
+            Fault::BinaryLabel => DNSNAMES_BINARY_LABEL,
+            Fault::LongLabel => DNSNAMES_LONG_LABEL,
+            Fault::EmptyLabel => DNSNAMES_EMPTY_LABEL,
+            Fault::AbsoluteName => DNSNAMES_ABSOLUTE,
+            Fault::NoField => DNSNAMES_NO_FIELD,
+            Fault::NoMnemonic => DNSNAMES_NO_MNEMONIC,
+            Fault::WrongOrder => DNSNAMES_WRONG_ORDER,
+            Fault::TooManyEntries => DNSNAMES_TOO_MANY_ENTRIES,
             Fault::Other(status) => status,
         }
     }
@@ -75,25 +76,25 @@ impl Fault {
     /// What a status tells: nothing, or a fault.
     pub(crate) fn check(status: u32, needed: Option<usize>) -> Result<(), Fault> {
         Err(match status {
-            0 => return Ok(()),
-            1 => Fault::ShortInput,
-            2 => Fault::BadLabelType,
-            3 => Fault::TooManyPointers,
-            4 => Fault::LongName,
-            5 => Fault::CompressedName,
-            6 => Fault::RelativeName,
-            7 => Fault::TrailingData,
-            8 => Fault::NoRoom(needed),
-            11 => Fault::BadEscape,
-            12 => Fault::BadSymbol,
-            13 => Fault::BinaryLabel,
-            14 => Fault::LongLabel,
-            15 => Fault::EmptyLabel,
-            19 => Fault::AbsoluteName,
-            21 => Fault::NoField,
-            22 => Fault::NoMnemonic,
-            24 => Fault::WrongOrder,
-            25 => Fault::TooManyEntries,
+            DNSNAMES_OK => return Ok(()),
+            DNSNAMES_SHORT_INPUT => Fault::ShortInput,
+            DNSNAMES_LABEL_TYPE => Fault::BadLabelType,
+            DNSNAMES_TOO_MANY_POINTERS => Fault::TooManyPointers,
+            DNSNAMES_LONG_NAME => Fault::LongName,
+            DNSNAMES_COMPRESSED => Fault::CompressedName,
+            DNSNAMES_RELATIVE => Fault::RelativeName,
+            DNSNAMES_TRAILING_DATA => Fault::TrailingData,
+            DNSNAMES_NO_ROOM => Fault::NoRoom(needed),
+            DNSNAMES_BAD_ESCAPE => Fault::BadEscape,
+            DNSNAMES_BAD_SYMBOL => Fault::BadSymbol,
+            DNSNAMES_BINARY_LABEL => Fault::BinaryLabel,
+            DNSNAMES_LONG_LABEL => Fault::LongLabel,
+            DNSNAMES_EMPTY_LABEL => Fault::EmptyLabel,
+            DNSNAMES_ABSOLUTE => Fault::AbsoluteName,
+            DNSNAMES_NO_FIELD => Fault::NoField,
+            DNSNAMES_NO_MNEMONIC => Fault::NoMnemonic,
+            DNSNAMES_WRONG_ORDER => Fault::WrongOrder,
+            DNSNAMES_TOO_MANY_ENTRIES => Fault::TooManyEntries,
             status => Fault::Other(status),
         })
     }

@@ -11,7 +11,8 @@
 //! ```
 //!
 //! What octets and texts spell is decided by the library. What is here passes slices on; it isn't proved. Nothing is
-//! allocated but by `NameBuf`, which the feature `alloc` has: what a call makes goes into a buffer of the caller's.
+//! allocated but by `NameBuf`, which the feature `alloc` has: what a call makes goes into a buffer of the caller's. The
+//! library is declared, and found when a program is linked, by the crate `dnsnames-sys`.
 #![no_std]
 
 #[cfg(feature = "alloc")]
@@ -24,8 +25,6 @@ mod mnemonic;
 mod name;
 #[cfg(feature = "alloc")]
 mod name_buf;
-#[rustfmt::skip]
-mod sys;
 
 pub use builder::Builder;
 pub use fault::Fault;
@@ -38,14 +37,11 @@ pub use name::{check_relative, read, skip, Labels, Name, Read};
 pub use name_buf::NameBuf;
 
 /// The most octets of a name: a buffer of this size has room for each.
-pub const MAX_LEN: usize = 255;
+pub const MAX_LEN: usize = dnsnames_sys::DNSNAMES_MAX_LEN;
 /// The most octets of a name's text.
-pub const MAX_TEXT: usize = 1020;
+pub const MAX_TEXT: usize = dnsnames_sys::DNSNAMES_MAX_TEXT;
 /// The limit on pointers that allows all that a name can have.
-pub const MAX_POINTERS: u8 = 255;
-
-/// The most offsets of labels that are kept for compressing.
-const MAX_TABLE: usize = 128;
+pub const MAX_POINTERS: u8 = dnsnames_sys::DNSNAMES_MAX_POINTERS;
 
 #[cfg(doctest)]
 #[doc = include_str!("../README.md")]

@@ -2,13 +2,12 @@
 
 use crate::fault::Fault;
 use crate::name::{read, Name, Read};
-use crate::sys::*;
-use crate::{MAX_POINTERS, MAX_TABLE};
+use crate::MAX_POINTERS;
 use core::net::IpAddr;
+use dnsnames_sys::*;
 
 /// A message's first 12 octets (RFC 1035, 4.1.1).
 #[derive(Clone, Copy, Debug, PartialEq, Eq, Default)]
-#[repr(C)]
 pub struct Header {
     pub id: u16,
     /// The sixteen bits of flags: QR is 0x8000, RCODE the low four.
@@ -17,37 +16,6 @@ pub struct Header {
     pub answers: u16,
     pub authority: u16,
     pub additional: u16,
-}
-
-/// What the library tells of a question.
-#[derive(Clone, Copy, Default)]
-#[repr(C)]
-pub(crate) struct QuestionFields {
-    qtype: u16,
-    class: u16,
-    end: usize,
-}
-
-/// What the library tells of a record.
-#[derive(Clone, Copy, Default)]
-#[repr(C)]
-pub(crate) struct RecordFields {
-    rtype: u16,
-    class: u16,
-    ttl: u32,
-    data: usize,
-    data_len: usize,
-    end: usize,
-}
-
-/// What the library tells of an OPT record.
-#[derive(Clone, Copy, Default)]
-#[repr(C)]
-pub(crate) struct OptFields {
-    size: u16,
-    rcode: u16,
-    version: u8,
-    dnssec_ok: u32,
 }
 
 /// A question (RFC 1035, 4.1.2). Its name is read at its offset.
@@ -113,11 +81,12 @@ impl<'a> Message<'a> {
 
     /// `ShortInput` where there are fewer than 12 octets.
     pub fn header(&self) -> Result<Header, Fault> {
-        let mut header = Header::default();
+        let mut found = dnsnames_header_fields::default();
         // SAFETY: as in `read`.
-        let status = unsafe { dnsnames_header(self.octets.as_ptr(), self.octets.len(), &mut header) };
+        let status = unsafe { dnsnames_header(self.octets.as_ptr(), self.octets.len(), &mut found) };
         Fault::check(status, None)?;
-        Ok(header)
+        let dnsnames_header_fields { id, flags, questions, answers, authority, additional } = found;
+        Ok(Header { id, flags, questions, answers, authority, additional })
     }
 
     /// The name at an offset, as [`read`] reads it through any number of pointers.
@@ -127,30 +96,29 @@ impl<'a> Message<'a> {
 
     /// The question at an offset: `ShortInput`, `BadLabelType`, `LongName`. The name's pointer isn't followed.
     pub fn question(&self, offset: usize) -> Result<Question, Fault> {
-        let mut found = QuestionFields::default();
+        let mut found = dnsnames_question_fields::default();
         // SAFETY: as in `read`.
         let status = unsafe { dnsnames_question(self.octets.as_ptr(), self.octets.len(), offset, &mut found) };
         Fault::check(status, None)?;
-        Ok(Question { offset, qtype: found.qtype, class: found.class, end: found.end })
+        Ok(Question { offset, qtype: found.r#type, class: found.class_, end: found.end })
     }
 
     /// The record at an offset, of this section: `ShortInput`, `BadLabelType`, `LongName`. The name's pointer isn't
     /// followed.
     pub fn record(&self, section: Section, offset: usize) -> Result<Record<'a>, Fault> {
-        let mut found = RecordFields::default();
+        let mut found = dnsnames_record_fields::default();
         // SAFETY: as in `read`.
         let status = unsafe { dnsnames_record(self.octets.as_ptr(), self.octets.len(), offset, &mut found) };
         Fault::check(status, None)?;
-        let RecordFields { rtype, class, ttl, data, data_len, end } = found;
         Ok(Record {
             section,
             offset,
-            rtype,
-            class,
-            ttl,
-            data_offset: data,
-            data: &self.octets[data..][..data_len],
-            end,
+            rtype: found.r#type,
+            class: found.class_,
+            ttl: found.ttl,
+            data_offset: found.data,
+            data: &self.octets[found.data..][..found.data_len],
+            end: found.end,
         })
     }
 
@@ -261,11 +229,11 @@ impl<'a> Message<'a> {
 
     /// What an OPT record says, of the message whose header has these flags. `NoField` where the type is another.
     pub fn opt(&self, record: &Record<'_>, flags: u16) -> Result<Opt, Fault> {
-        let mut found = OptFields::default();
+        let mut found = dnsnames_opt_fields::default();
         // SAFETY: as in `read`.
         let status = unsafe { dnsnames_opt(record.rtype, record.class, record.ttl, flags, &mut found) };
         Fault::check(status, None)?;
-        let OptFields { size, rcode, version, dnssec_ok } = found;
+        let dnsnames_opt_fields { size, rcode, version, dnssec_ok } = found;
         Ok(Opt { size, rcode, version, dnssec_ok: dnssec_ok != 0 })
     }
 
@@ -305,9 +273,6 @@ pub struct Opt {
     pub dnssec_ok: bool,
 }
 
-/// The status by which the library tells that all strings or options were given.
-const NO_MORE: u32 = 27;
-
 /// The character strings of a record.
 #[derive(Clone, Debug)]
 pub struct Strings<'a> {
@@ -335,7 +300,7 @@ impl<'a> Iterator for Strings<'a> {
                 &mut len,
             )
         };
-        if status == NO_MORE {
+        if status == DNSNAMES_NO_MORE {
             return None;
         }
         if let Err(fault) = Fault::check(status, None) {
@@ -381,7 +346,7 @@ impl<'a> Iterator for Options<'a> {
                 &mut len,
             )
         };
-        if status == NO_MORE {
+        if status == DNSNAMES_NO_MORE {
             return None;
         }
         if let Err(fault) = Fault::check(status, None) {
@@ -454,14 +419,14 @@ impl<'a> Iterator for Records<'a> {
 pub struct Composer<'a> {
     octets: &'a mut [u8],
     len: usize,
-    table: [u16; MAX_TABLE],
+    table: [u16; DNSNAMES_MAX_TABLE],
     table_len: usize,
 }
 
 impl<'a> Composer<'a> {
     /// Composes into these octets, from their beginning on, which is the message's.
     pub fn new(octets: &'a mut [u8]) -> Composer<'a> {
-        Composer { octets, len: 0, table: [0; MAX_TABLE], table_len: 0 }
+        Composer { octets, len: 0, table: [0; DNSNAMES_MAX_TABLE], table_len: 0 }
     }
 
     /// Appends a name: a pointer stands for it, or for its longest end, where that was appended before. `NoRoom` where
@@ -475,7 +440,7 @@ impl<'a> Composer<'a> {
                 self.octets.len(),
                 &mut self.len,
                 self.table.as_mut_ptr(),
-                MAX_TABLE,
+                DNSNAMES_MAX_TABLE,
                 &mut self.table_len,
                 octets.as_ptr(),
                 octets.len(),

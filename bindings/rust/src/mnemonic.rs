@@ -1,19 +1,19 @@
 //! Types, classes and codes as text.
 
 use crate::fault::Fault;
-use crate::sys::*;
 use core::fmt;
 use core::str::FromStr;
+use dnsnames_sys::*;
 
-type TextCall = unsafe extern "C" fn(u16, *mut u8, usize, *mut usize) -> u32;
-type FromTextCall = unsafe extern "C" fn(*const u8, usize, *mut u16) -> u32;
+type TextCall = unsafe extern "C" fn(u16, *mut u8, usize, *mut usize) -> dnsnames_status;
+type FromTextCall = unsafe extern "C" fn(*const u8, usize, *mut u16) -> dnsnames_status;
 
 /// Writes the text of a number.
 fn write_text(call: TextCall, number: u16, f: &mut fmt::Formatter<'_>) -> fmt::Result {
-    let (mut buffer, mut length) = ([0; 12], 0);
+    let (mut buffer, mut length) = ([0; DNSNAMES_MAX_MNEMONIC], 0);
     // SAFETY: as in `read`.
     let status = unsafe { call(number, buffer.as_mut_ptr(), buffer.len(), &mut length) };
-    if status != 0 {
+    if status != DNSNAMES_OK {
         return Err(fmt::Error);
     }
     let text = core::str::from_utf8(&buffer[..length]).map_err(|_| fmt::Error)?;

@@ -1,12 +1,12 @@
 //! Names.
 
 use crate::fault::Fault;
-use crate::sys::*;
 use crate::{MAX_LEN, MAX_TEXT};
 use core::cmp::Ordering;
 use core::fmt;
 use core::hash::{Hash, Hasher};
 use core::ops::Range;
+use dnsnames_sys::*;
 
 /// An absolute name in its wire format without compression (RFC 1035, 3.1): labels, the root last, at most 255 octets.
 ///

@@ -1,4 +1,4 @@
-//! The worked cases of RFC 1035 and RFC 4034, every fault, and that the crate declares what dnsnames.h does.
+//! The worked cases of RFC 1035 and RFC 4034, and every fault.
 
 use dnsnames::*;
 use std::collections::HashSet;
@@ -359,82 +359,4 @@ fn strings_and_options() {
     let cut = Record { data: &record.data[..9], ..record };
     assert!(message.options_in_data(&cut).eq([Ok(first), Err(Fault::ShortInput)]));
     assert!(message.strings_in_data(&record).eq([Err(Fault::NoField)]));
-}
-
-/// Each call as Rust declares it has the arguments that dnsnames.h declares.
-#[test]
-fn declarations() {
-    let folder = std::path::Path::new(env!("CARGO_MANIFEST_DIR"));
-    let Ok(header) = std::fs::read_to_string(folder.join("../c/dnsnames.h")) else {
-        return; // the crate stands alone
-    };
-    let header = header.split_whitespace().collect::<Vec<_>>().join(" ");
-    let source = std::fs::read_to_string(folder.join("src/sys.rs")).unwrap();
-    let mut compared = 0;
-    for line in source.lines().filter_map(|line| line.trim().strip_prefix("pub fn ")) {
-        let (call, rest) = line.split_once('(').unwrap();
-        let arguments = rest.strip_suffix(") -> u32;").unwrap();
-        let wanted: Vec<String> = arguments.split(", ").map(as_c).collect();
-        let declaration = format!("dnsnames_status {call}({});", wanted.join(", "));
-        assert!(header.contains(&declaration), "{declaration}");
-        compared += 1;
-    }
-    assert_eq!(compared, 34);
-}
-
-/// The structs have the fields that dnsnames.h gives them, in its order.
-#[test]
-fn structs() {
-    let folder = std::path::Path::new(env!("CARGO_MANIFEST_DIR"));
-    let Ok(header) = std::fs::read_to_string(folder.join("../c/dnsnames.h")) else {
-        return; // the crate stands alone
-    };
-    let source = std::fs::read_to_string(folder.join("src/message.rs")).unwrap()
-        + &std::fs::read_to_string(folder.join("src/builder.rs")).unwrap();
-    for (name, c_name) in [
-        ("Header", "header_fields"),
-        ("QuestionFields", "question_fields"),
-        ("RecordFields", "record_fields"),
-        ("OptFields", "opt_fields"),
-        ("BuilderState", "builder_state"),
-        ("BuilderFields", "builder"),
-    ] {
-        let body = |text: &str, begin: &str| text.split(begin).nth(1).unwrap().split('}').next().unwrap().to_string();
-        let fields = body(&source, &format!("struct {name} {{"));
-        let lines = fields.lines().map(str::trim).filter(|line| !line.starts_with("//"));
-        let kinds = lines.filter_map(|line| line.trim_end_matches(',').split_once(": ")).map(|(_, kind)| kind);
-        let ours = kinds.map(|kind| match kind {
-            "usize" => "size_t".to_string(),
-            "*mut u8" => "uint8_t".to_string(),
-            "BuilderState" => "dnsnames_builder_state".to_string(),
-            kind => kind.trim_matches(&['[', ']'][..]).split(';').next().unwrap().replace('u', "uint") + "_t",
-        });
-        let theirs = body(&header, &format!("typedef struct dnsnames_{c_name} {{"));
-        let theirs = theirs.split(';').filter_map(|field| field.split_whitespace().next().map(str::to_string));
-        assert_eq!(ours.collect::<Vec<_>>(), theirs.collect::<Vec<_>>());
-    }
-}
-
-fn as_c(argument: &str) -> String {
-    let (name, kind) = argument.split_once(": ").unwrap();
-    let (pointer, kind) = match kind.split_once(' ') {
-        Some(("*const", kind)) => ("const ", kind),
-        Some(("*mut", kind)) => ("", kind),
-        _ => ("value", kind),
-    };
-    let kind = match kind {
-        "usize" => "size_t".to_string(),
-        "i32" => "int32_t".to_string(),
-        "BuilderFields" => "dnsnames_builder".to_string(),
-        "Header" | "QuestionFields" | "RecordFields" | "OptFields" => {
-            format!("dnsnames_{}_fields", kind.trim_end_matches("Fields").to_lowercase())
-        }
-        kind => kind.replace('u', "uint") + "_t",
-    };
-    let name = name.trim_start_matches("r#");
-    if pointer == "value" {
-        format!("{kind} {name}")
-    } else {
-        format!("{pointer}{kind} *{name}")
-    }
 }

@@ -3,12 +3,13 @@
 use std::process::Command;
 
 fn main() {
-    println!("cargo:rerun-if-env-changed=DNSNAMES_LIB_DIR");
+    for name in ["DNSNAMES_LIB_DIR", "PKG_CONFIG_PATH", "DOCS_RS"] {
+        println!("cargo:rerun-if-env-changed={name}");
+    }
     // Pages need no library: there is none where docs.rs makes them.
     if std::env::var_os("DOCS_RS").is_some() {
         return;
     }
-    println!("cargo:rerun-if-env-changed=PKG_CONFIG_PATH");
     match std::env::var("DNSNAMES_LIB_DIR") {
         Ok(folder) => link_archive(&folder),
         Err(_) => link_by_pkg_config(),
