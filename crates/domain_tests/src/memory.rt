@@ -1,8 +1,9 @@
 //! Memory that is refused.
 //!
-//! `rt try --test --fail-alloc N` refuses the Nth request of each test. `.ci/refused-memory` does that for each
-//! N, in copies of these sources that know it: so a call gives the right octets or `ShortBuf`, whichever request is
-//! refused, and at most one call of a test is refused. Where no request is refused, no call is.
+//! `.ci/refused-memory` runs each test whose name has the word `refused` once for each request for memory that it
+//! makes, with that one refused, in a copy of these sources that knows which it is: so a call gives the right octets or
+//! `ShortBuf`, whichever request is refused, and at most one call of a test is refused. Where no request is refused, no
+//! call is.
 
 use crate::names::{
     LOWER_WWW, SCATTERED, WWW, absolute, octets_of, parsed, relative, relative_joined,
@@ -16,7 +17,8 @@ use octseq::{EmptyBuilder, Octets, OctetsBuilder, OctetsFrom, ShortBuf};
 use std::alloc::Global;
 use std::process::Abort;
 
-/// Which request of each test is refused, the first being 1; 0 where none is.
+/// Which request of each test is refused, the first being 1; 0 where none is. Only a test's own body names this and
+/// `MOST_REFUSED`, since it stands in the copy once for each request.
 pub const REFUSED_REQUEST: u32 = 0;
 
 /// How many calls of a test may be refused.
