@@ -428,9 +428,10 @@ typedef struct dnsnames_builder {
  * even twelve for the header.
  *
  * Then questions are pushed, and then records, section by section: each whole, or not at all. After a refusal all is
- * as it was, and the next push is as good as any. Names of questions and owners of records are written as dnsnames_plan
- * tells. What a reader of the message finds after dnsnames_builder_finish is what was pushed, in order, and nothing else;
- * names without ASCII case.
+ * as it was, and the next push is as good as any. Compressed are the names of questions and the owners of records, of
+ * all types: they are written as dnsnames_plan tells. No name in a record's data is, whatever its type. What a reader of
+ * the message finds after dnsnames_builder_finish is what was pushed, in order, and nothing else; names of questions and
+ * owners without ASCII case, data octet for octet.
  *
  *     uint8_t octets[512];
  *     dnsnames_builder builder;
@@ -451,10 +452,16 @@ dnsnames_status dnsnames_builder_start(dnsnames_builder *builder, uint8_t *octet
 dnsnames_status dnsnames_builder_question(dnsnames_builder *builder, const uint8_t *name, size_t len, uint16_t type,
                                           uint16_t class_);
 
-/* Pushes a record (4.1.3) into a section: DNSNAMES_ANSWER, DNSNAMES_AUTHORITY, DNSNAMES_ADDITIONAL. Its data are
- * written as they are passed: names in them stay uncompressed, as any reader takes them, and in records of types that
- * are newer than RFC 1035 they have to be (RFC 3597, 4). NO_BUILDER, NO_SECTION, NO_NAME; WRONG_ORDER where a later
- * section has a record; TOO_MANY_ENTRIES; NO_ROOM where it exceeds the limit, as data of more than 65,535 octets do. */
+/* Pushes a record (4.1.3) into a section: DNSNAMES_ANSWER, DNSNAMES_AUTHORITY, DNSNAMES_ADDITIONAL.
+ *
+ * Its data are written octet for octet as they are passed, whatever the type: no name in them is looked for, checked or
+ * compressed, and no pointer of a later name leads into them. So who puts data together of their parts writes a name in
+ * them uncompressed: any reader takes it, and in records of types that are newer than RFC 1035 it has to be (RFC 3597,
+ * 4). An MX record's data are two octets and a name, those of SOA two names and twenty octets. A pointer in data that
+ * were cut out of another message would lead elsewhere in this one: read such names by dnsnames_data_name.
+ *
+ * NO_BUILDER, NO_SECTION, NO_NAME; WRONG_ORDER where a later section has a record; TOO_MANY_ENTRIES; NO_ROOM where it
+ * exceeds the limit, as data of more than 65,535 octets do. */
 dnsnames_status dnsnames_builder_record(dnsnames_builder *builder, uint32_t section, const uint8_t *owner,
                                         size_t owner_len, uint16_t type, uint16_t class_, uint32_t ttl,
                                         const uint8_t *data, size_t data_len);
