@@ -87,7 +87,7 @@ export interface Builder {
     finish(): Uint8Array;
 }
 
-/** The module of these octets, made ready. */
+/** The module of these octets, made ready: dnsnames_c.wasm, or dnsnames_c32.wasm where there is no 64-bit memory. */
 export function load(octets: BufferSource): Promise<DnsNames>;
 
 /** The calls of one module. */

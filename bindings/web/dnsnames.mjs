@@ -60,7 +60,8 @@ export class NameFault extends Error {
     }
 }
 
-/** The module of these octets (an ArrayBuffer or Uint8Array), made ready. */
+/** The module of these octets (an ArrayBuffer or Uint8Array), made ready: dnsnames_c.wasm, or its copy dnsnames_c32.wasm
+ *  where there is no 64-bit memory, so that WebAssembly.validate says no of the other. */
 export async function load(octets) {
     const { instance } = await WebAssembly.instantiate(octets, {});
     return new DnsNames(instance.exports);
@@ -70,9 +71,15 @@ export async function load(octets) {
 export class DnsNames {
     #exports;
     #next = 0;
+    #pages = BigInt;
 
     constructor(exports) {
         this.#exports = exports;
+        try {
+            exports.memory.grow(0n);
+        } catch {
+            this.#pages = Number; // the memory has 32 bits
+        }
     }
 
     /** The name at an offset of a message, through at most `limit` pointers: its octets without compression, its text
@@ -413,7 +420,7 @@ export class DnsNames {
 
     #grow(size) {
         const missing = size - this.#exports.memory.buffer.byteLength;
-        if (missing > 0) this.#exports.memory.grow(BigInt(Math.ceil(missing / 65536)));
+        if (missing > 0) this.#exports.memory.grow(this.#pages(Math.ceil(missing / 65536)));
     }
 
     // Addresses for so many results, of 8 octets each.

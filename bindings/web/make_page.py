@@ -1,10 +1,11 @@
 #!/usr/bin/env python3
-"""Makes one file of the page, its script and the proved module, which opens from a disk without a server.
+"""Makes one file of the page, its script, the proved module and its copy with 32-bit memory, which opens from a disk
+without a server.
 
-    make_page.py MODULE PAGE
+    make_page.py MODULE NARROWED PAGE
 
-MODULE is dnsnames_c.wasm; PAGE is what is written. Beside a web server index.html, dnsnames.mjs and the module do as
-they are.
+MODULE is dnsnames_c.wasm, NARROWED its copy that narrow.py makes; PAGE is what is written. Beside a web server
+index.html, dnsnames.mjs and the modules do as they are.
 """
 
 import base64
@@ -23,16 +24,16 @@ def only(text: str, old: str, new: str) -> str:
 
 
 def main() -> None:
-    module, page = map(pathlib.Path, sys.argv[1:])
+    *modules, page = map(pathlib.Path, sys.argv[1:])
     html = (FOLDER / "index.html").read_text()
     script = re.sub(r"^export ", "", (FOLDER / "dnsnames.mjs").read_text(), flags=re.MULTILINE)
-    octets = base64.b64encode(module.read_bytes()).decode()
+    octets = ", ".join(f'"{base64.b64encode(it.read_bytes()).decode()}"' for it in modules)
     html = only(html, 'import { load, NameFault } from "./dnsnames.mjs";\n', script)
-    html = only(html, 'const MODULE = "dnsnames_c.wasm";', f'const MODULE = "{octets}";')
-    begin = html.index("async function moduleOctets() {")
+    html = only(html, 'const MODULES = ["dnsnames_c.wasm", "dnsnames_c32.wasm"];', f"const MODULES = [{octets}];")
+    begin = html.index("async function octetsOf(module) {")
     end = html.index("</script>", begin)
-    html = html[:begin] + """function moduleOctets() {
-    return Uint8Array.from(atob(MODULE), (letter) => letter.charCodeAt(0));
+    html = html[:begin] + """function octetsOf(module) {
+    return Uint8Array.from(atob(module), (letter) => letter.charCodeAt(0));
 }
 """ + html[end:]
     page.write_text(html)

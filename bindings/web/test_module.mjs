@@ -1,5 +1,6 @@
 // The calls of dnsnames.mjs over the proved module, in node: test_module.mjs MODULE
 //
+//     node test_module.mjs dnsnames_c32.wasm
 //     node --experimental-wasm-memory64 test_module.mjs dnsnames_c.wasm
 import assert from "node:assert/strict";
 import { readFileSync } from "node:fs";
