@@ -30,9 +30,9 @@ def main() -> None:
     octets = ", ".join(f'"{base64.b64encode(it.read_bytes()).decode()}"' for it in modules)
     html = only(html, 'import { load, NameFault } from "./dnsnames.mjs";\n', script)
     html = only(html, 'const MODULES = ["dnsnames_c.wasm", "dnsnames_c32.wasm"];', f"const MODULES = [{octets}];")
-    begin = html.index("async function octetsOf(module) {")
+    begin = html.index("async function moduleOctets(module) {")
     end = html.index("</script>", begin)
-    html = html[:begin] + """function octetsOf(module) {
+    html = html[:begin] + """function moduleOctets(module) {
     return Uint8Array.from(atob(module), (letter) => letter.charCodeAt(0));
 }
 """ + html[end:]
