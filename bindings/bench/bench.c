@@ -363,26 +363,34 @@ static const struct call MESSAGE_CALLS[] = {
     {"read all", "ldns", ldns_read_all},
 #endif
 };
-enum { MESSAGE_CALL_COUNT = sizeof MESSAGE_CALLS / sizeof *MESSAGE_CALLS, PASSES = 40 };
+enum { MESSAGE_CALL_COUNT = sizeof MESSAGE_CALLS / sizeof *MESSAGE_CALLS, MESSAGE_TURNS = 40, TOGETHER = 100 };
 
-/* Each message once in a pass, and the passes of the libraries in turns. */
+/* Of each hundred messages the best of some turns, in which the libraries alternate, and of these the mean. */
 static void measure_messages(void)
 {
-    double best[MESSAGE_CALL_COUNT];
+    double total[MESSAGE_CALL_COUNT] = {0};
+    size_t begin;
     unsigned i, k;
 
-    for (i = 0; i < PASSES; i++) {
-        for (k = 0; k < MESSAGE_CALL_COUNT; k++) {
-            double begun = now(), took;
-            for (message_turn = 0; message_turn < message_count; message_turn++)
-                MESSAGE_CALLS[k].run();
-            took = (now() - begun) / (double)message_count;
-            if (i == 0 || took < best[k])
-                best[k] = took;
+    for (begin = 0; begin < message_count; begin += TOGETHER) {
+        size_t end = message_count - begin < TOGETHER ? message_count : begin + TOGETHER;
+        double best[MESSAGE_CALL_COUNT];
+        for (i = 0; i < MESSAGE_TURNS; i++) {
+            for (k = 0; k < MESSAGE_CALL_COUNT; k++) {
+                double begun = now(), took;
+                for (message_turn = begin; message_turn < end; message_turn++)
+                    MESSAGE_CALLS[k].run();
+                took = now() - begun;
+                if (i == 0 || took < best[k])
+                    best[k] = took;
+            }
         }
+        for (k = 0; k < MESSAGE_CALL_COUNT; k++)
+            total[k] += best[k];
     }
     for (k = 0; k < MESSAGE_CALL_COUNT; k++)
-        printf("%s\t10 records\t%s\t%.1f\n", MESSAGE_CALLS[k].operation, MESSAGE_CALLS[k].library, best[k]);
+        printf("%s\t10 records\t%s\t%.1f\n", MESSAGE_CALLS[k].operation, MESSAGE_CALLS[k].library,
+               total[k] / (double)message_count);
 }
 
 static void load_messages(const char *path)

@@ -80,29 +80,33 @@ def their_read_all(octets):
 
 
 def measure_messages():
-    """Seconds for each message: the best of some passes over all, in turns."""
+    """Seconds for each message: of each hundred the best of some turns, in which the libraries alternate, and of these the
+    mean."""
     octets = list(messages())
-    ours, theirs = read_all(octets[0]), their_read_all(octets[0]) if dns is not None else None
-    assert len(ours) == 10
-    if theirs is not None:
-        found = [(bytes(name), *numbers[:2], data) for name, *numbers, _, data in ours]
-        wanted = [(name.to_wire(), *numbers[:2], data.to_wire()) for name, *numbers, _, data in theirs]
-        assert found == wanted, (found, wanted)
-    best = {"dnsnames": float("inf")}
     calls = {"dnsnames": read_all}
+    ours = read_all(octets[0])
+    assert len(ours) == 10
     if dns is not None:
-        best["dnspython"], calls["dnspython"] = float("inf"), their_read_all
+        calls["dnspython"] = their_read_all
+        found = [(bytes(name), *numbers[:2], data) for name, *numbers, _, data in ours]
+        wanted = [(name.to_wire(), *numbers[:2], data.to_wire()) for name, *numbers, _, data in their_read_all(octets[0])]
+        assert found == wanted, (found, wanted)
+    total = dict.fromkeys(calls, 0.0)
     gc.disable()
-    for _ in range(5):
-        for library, call in calls.items():
-            begun = time.perf_counter()
-            for message in octets:
-                call(message)
-            best[library] = min(best[library], (time.perf_counter() - begun) / len(octets))
-            gc.collect()
+    for begin in range(0, len(octets), 100):
+        best = dict.fromkeys(calls, float("inf"))
+        for _ in range(5):
+            for library, call in calls.items():
+                begun = time.perf_counter()
+                for message in octets[begin : begin + 100]:
+                    call(message)
+                best[library] = min(best[library], time.perf_counter() - begun)
+        for library, seconds in best.items():
+            total[library] += seconds
+        gc.collect()
     gc.enable()
-    for library, seconds in best.items():
-        print(f"read all\t10 records\t{library}\t{seconds * 1e9:.0f}")
+    for library, seconds in total.items():
+        print(f"read all\t10 records\t{library}\t{seconds / len(octets) * 1e9:.0f}")
 
 
 def main():

@@ -223,9 +223,7 @@ _ARGUMENTS = {
     "header": [_octets, _size, ctypes.POINTER(HeaderFields)],
     "question": [_octets, _size, _size, ctypes.POINTER(QuestionFields)],
     "record": [_octets, _size, _size, ctypes.POINTER(RecordFields)],
-    "table": [
-        _octets, _size, ctypes.c_uint8, _buffer, _size, _buffer, _size, _to_size, _to_size,
-    ],
+    "table": [_octets, _size, ctypes.c_uint8, _to_32, _size, _buffer, _size, _to_size, _to_size],
     "builder_start": [_to_builder, _buffer, _size, ctypes.c_uint16, ctypes.c_uint16],
     "builder_question": [_to_builder, _octets, _size, ctypes.c_uint16, ctypes.c_uint16],
     "builder_record": [
