@@ -80,8 +80,8 @@ def their_read_all(octets):
 
 
 def measure_messages():
-    """Seconds for each message: of each hundred the best of some turns, in which the libraries alternate, and of these the
-    mean."""
+    """Seconds of the processor for each message: of each hundred the best of some turns, in which the libraries alternate,
+    and of these the mean."""
     octets = list(messages())
     calls = {"dnsnames": read_all}
     ours = read_all(octets[0])
@@ -97,10 +97,10 @@ def measure_messages():
         best = dict.fromkeys(calls, float("inf"))
         for _ in range(5):
             for library, call in calls.items():
-                begun = time.perf_counter()
+                begun = time.process_time()
                 for message in octets[begin : begin + 100]:
                     call(message)
-                best[library] = min(best[library], time.perf_counter() - begun)
+                best[library] = min(best[library], time.process_time() - begun)
         for library, seconds in best.items():
             total[library] += seconds
         gc.collect()
