@@ -1,5 +1,7 @@
 /* What a call takes: this library beside libknot and ldns, where they are there (-DWITH_KNOT, -DWITH_LDNS).
  *
+ *     bench FILE       FILE has the messages that are read as a whole, as bench.py writes them
+ *
  * A line for each: operation, input, library, nanoseconds of one call. Libraries take turns of some 100 microseconds,
  * so that all meet the same weather on the machine, and the best turn of each counts. */
 #define _POSIX_C_SOURCE 199309L
@@ -73,7 +75,121 @@ static void ours_from_text(void)
     sink += length;
 }
 
+static const uint8_t KEY[DNSNAMES_KEY_LEN] = "0123456789abcde";
+
+static void ours_hash(void)
+{
+    uint64_t hash;
+
+    if (dnsnames_hash(KEY, in->name, in->len, &hash))
+        fail("hash");
+    sink += (size_t)hash;
+}
+
+static uint64_t word_at(const uint8_t *octets)
+{
+    uint64_t word = 0;
+    unsigned i;
+
+    for (i = 0; i < 8; i++)
+        word |= (uint64_t)octets[i] << 8 * i;
+    return word;
+}
+
+#define TURNED(word, bits) ((word) << (bits) | (word) >> (64 - (bits)))
+
+static void sip_round(uint64_t v[4])
+{
+    v[0] += v[1];
+    v[2] += v[3];
+    v[1] = TURNED(v[1], 13) ^ v[0];
+    v[3] = TURNED(v[3], 16) ^ v[2];
+    v[0] = TURNED(v[0], 32);
+    v[2] += v[1];
+    v[0] += v[3];
+    v[1] = TURNED(v[1], 17) ^ v[2];
+    v[3] = TURNED(v[3], 21) ^ v[0];
+    v[2] = TURNED(v[2], 32);
+}
+
+/* SipHash-2-4 of a name in lower case: whole words, and then the rest with the size above it. */
+static uint64_t plain_hash(const uint8_t *key, const uint8_t *name, size_t len)
+{
+    uint8_t lower[DNSNAMES_MAX_LEN + 8];
+    uint64_t k0 = word_at(key), k1 = word_at(key + 8), word;
+    uint64_t v[4] = {k0 ^ 0x736f6d6570736575u, k1 ^ 0x646f72616e646f6du, k0 ^ 0x6c7967656e657261u,
+                     k1 ^ 0x7465646279746573u};
+    size_t at, i;
+
+    for (i = 0; i < len; i++)
+        lower[i] = (uint8_t)(name[i] + (name[i] >= 'A' && name[i] <= 'Z' ? 32 : 0));
+    memset(lower + len, 0, 8);
+    for (at = 0; at <= len; at += 8) {
+        word = word_at(lower + at);
+        if (len - at < 8)
+            word |= (uint64_t)len << 56;
+        v[3] ^= word;
+        sip_round(v);
+        sip_round(v);
+        v[0] ^= word;
+    }
+    v[2] ^= 255;
+    for (i = 0; i < 4; i++)
+        sip_round(v);
+    return v[0] ^ v[1] ^ v[2] ^ v[3];
+}
+
+static void plain_c_hash(void)
+{
+    sink += (size_t)plain_hash(KEY, in->name, in->len);
+}
+
+/* The messages that are read as a whole, and the one whose turn it is. */
+static struct {
+    const uint8_t *octets;
+    size_t len;
+} *messages;
+static size_t message_count, message_turn;
+
+static void ours_read_all(void)
+{
+    static uint32_t rows[64 * DNSNAMES_ROW_LEN];
+    static uint8_t names[64 * DNSNAMES_MAX_LEN];
+    size_t row_count, names_len;
+
+    if (dnsnames_table(messages[message_turn].octets, messages[message_turn].len, DNSNAMES_MAX_POINTERS, rows,
+                       sizeof rows / sizeof *rows, names, sizeof names, &row_count, &names_len))
+        fail("table");
+    sink += row_count + names_len;
+}
+
 #ifdef WITH_KNOT
+/* Memory that is lent anew to each message, and never freed: what parsing takes without malloc. */
+static _Alignas(16) uint8_t lent[1 << 16];
+static size_t lent_len;
+
+static void *lend(void *context, size_t len)
+{
+    uint8_t *begin = lent + lent_len;
+
+    (void)context;
+    lent_len += (len + 15) / 16 * 16;
+    return lent_len <= sizeof lent ? begin : NULL;
+}
+
+static void knot_read_all(void)
+{
+    knot_mm_t memory = {.alloc = lend};
+    knot_pkt_t *packet;
+
+    lent_len = 0;
+    packet = knot_pkt_new((void *)messages[message_turn].octets, (uint16_t)messages[message_turn].len, &memory);
+    if (packet == NULL || knot_pkt_parse(packet, 0) != KNOT_EOK)
+        fail("knot_pkt_parse");
+    sink += packet->rrset_count;
+    knot_pkt_free(packet);
+}
+
 static void knot_read(void)
 {
     knot_dname_storage_t name;
@@ -112,6 +228,16 @@ static void knot_from_text(void)
 #endif
 
 #ifdef WITH_LDNS
+static void ldns_read_all(void)
+{
+    ldns_pkt *packet;
+
+    if (ldns_wire2pkt(&packet, messages[message_turn].octets, messages[message_turn].len) != LDNS_STATUS_OK)
+        fail("ldns_wire2pkt");
+    sink += ldns_pkt_ancount(packet);
+    ldns_pkt_free(packet);
+}
+
 static ldns_rdf *ldns_name, *ldns_other;
 static ldns_buffer *ldns_text;
 
@@ -172,6 +298,8 @@ static const struct call CALLS[] = {
     {"compare", "dnsnames", ours_compare},
     {"to text", "dnsnames", ours_to_text},
     {"from text", "dnsnames", ours_from_text},
+    {"hash", "dnsnames", ours_hash},
+    {"hash", "plain C", plain_c_hash},
 #ifdef WITH_KNOT
     {"read", "libknot", knot_read},
     {"compare", "libknot", knot_compare},
@@ -226,6 +354,66 @@ static void measure(void)
         printf("%s\t%s\t%s\t%.1f\n", CALLS[k].operation, in->title, CALLS[k].library, best[k]);
 }
 
+static const struct call MESSAGE_CALLS[] = {
+    {"read all", "dnsnames", ours_read_all},
+#ifdef WITH_KNOT
+    {"read all", "libknot", knot_read_all},
+#endif
+#ifdef WITH_LDNS
+    {"read all", "ldns", ldns_read_all},
+#endif
+};
+enum { MESSAGE_CALL_COUNT = sizeof MESSAGE_CALLS / sizeof *MESSAGE_CALLS, MESSAGE_TURNS = 40, TOGETHER = 100 };
+
+/* Of each hundred messages the best of some turns, in which the libraries alternate, and of these the mean. */
+static void measure_messages(void)
+{
+    double total[MESSAGE_CALL_COUNT] = {0};
+    size_t begin;
+    unsigned i, k;
+
+    for (begin = 0; begin < message_count; begin += TOGETHER) {
+        size_t end = message_count - begin < TOGETHER ? message_count : begin + TOGETHER;
+        double best[MESSAGE_CALL_COUNT];
+        for (i = 0; i < MESSAGE_TURNS; i++) {
+            for (k = 0; k < MESSAGE_CALL_COUNT; k++) {
+                double begun = now(), took;
+                for (message_turn = begin; message_turn < end; message_turn++)
+                    MESSAGE_CALLS[k].run();
+                took = now() - begun;
+                if (i == 0 || took < best[k])
+                    best[k] = took;
+            }
+        }
+        for (k = 0; k < MESSAGE_CALL_COUNT; k++)
+            total[k] += best[k];
+    }
+    for (k = 0; k < MESSAGE_CALL_COUNT; k++)
+        printf("%s\t10 records\t%s\t%.1f\n", MESSAGE_CALLS[k].operation, MESSAGE_CALLS[k].library,
+               total[k] / (double)message_count);
+}
+
+static void load_messages(const char *path)
+{
+    FILE *file = fopen(path, "rb");
+    uint8_t size[2], *octets;
+    size_t len;
+
+    if (file == NULL)
+        fail(path);
+    while (fread(size, 1, 2, file) == 2) {
+        len = (size_t)size[0] << 8 | size[1];
+        octets = malloc(len);
+        messages = realloc(messages, (message_count + 1) * sizeof *messages);
+        if (octets == NULL || messages == NULL || fread(octets, 1, len, file) != len)
+            fail(path);
+        messages[message_count].octets = octets;
+        messages[message_count].len = len;
+        message_count++;
+    }
+    fclose(file);
+}
+
 /* The name at the message's offset in its other forms. */
 static void complete(struct input *input, const char *other)
 {
@@ -241,7 +429,7 @@ static void complete(struct input *input, const char *other)
     input->text[text_len] = 0;
 }
 
-int main(void)
+int main(int argc, char **argv)
 {
     static struct input typical = {.title = "typical"}, longest = {.title = "127 labels"};
     static const uint8_t response[] = "\0\0\0\0\0\0\0\0\0\0\0\0\7example\3com\0\0\1\0\1\3www\300\014";
@@ -264,11 +452,18 @@ int main(void)
     longest.other[1] = '0';
 
     for (i = 0; i < 2; i++) {
+        uint64_t hash;
         in = i == 0 ? &typical : &longest;
 #ifdef WITH_LDNS
         prepare_ldns();
 #endif
+        if (dnsnames_hash(KEY, in->name, in->len, &hash) || hash != plain_hash(KEY, in->name, in->len))
+            fail("the hash");
         measure();
+    }
+    if (argc > 1) {
+        load_messages(argv[1]);
+        measure_messages();
     }
     return 0;
 }

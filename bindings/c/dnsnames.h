@@ -6,8 +6,8 @@
  *
  * Every call answers a status, and gives its results through pointers. A refused call, whose status is not
  * DNSNAMES_OK, leaves what the pointers lead to as it was; with DNSNAMES_NO_ROOM alone it tells in *length (and
- * dnsnames_read in its other results) what an answer has, and leaves the buffer. No call allocates, keeps a pointer or
- * has a state, so each may be made from any thread and at any time.
+ * dnsnames_read in its other results) what an answer has, and leaves the buffer; dnsnames_table keeps what it read
+ * before. No call allocates, keeps a pointer or has a state, so each may be made from any thread and at any time.
  *
  * What is proved of each call is what it says here, for all octets and all lengths: which results it gives, when it
  * refuses and with which status, what it leaves, that it ends, and that it reads and writes within the lengths that it
@@ -294,6 +294,47 @@ dnsnames_status dnsnames_question(const uint8_t *message, size_t message_len, si
  * SHORT_INPUT also where the ten octets after the name, or the data, end past the message. */
 dnsnames_status dnsnames_record(const uint8_t *message, size_t message_len, size_t offset,
                                 dnsnames_record_fields *record);
+
+/* What a row of dnsnames_table has at which place: where the entry's name begins in the buffer of names and how many
+ * octets it has there, its type, its class, its time to live in seconds, the offset and the size of its data in the
+ * message, and the offset after it, at which the next entry begins. A question has the time to live 0, and no data: the
+ * size 0, at the offset after it. */
+enum {
+    DNSNAMES_ROW_NAME = 0,
+    DNSNAMES_ROW_NAME_LEN = 1,
+    DNSNAMES_ROW_TYPE = 2,
+    DNSNAMES_ROW_CLASS = 3,
+    DNSNAMES_ROW_TTL = 4,
+    DNSNAMES_ROW_DATA = 5,
+    DNSNAMES_ROW_DATA_LEN = 6,
+    DNSNAMES_ROW_END = 7
+};
+/* How many numbers a row has. */
+#define DNSNAMES_ROW_LEN 8
+
+/* All questions and records that the header counts, in their order: a row of eight numbers for each, and their names,
+ * uncompressed, one after another. rows has room for rows_capacity numbers, so for an eighth as many rows. Each name is
+ * read through at most `limit` pointers. *row_count becomes how many rows there are, *names_len how many octets in names;
+ * what is after them there stays.
+ *
+ * OK where all are there. Else the rows are those of the entries before the first that has none, and the status says why:
+ * SHORT_INPUT, LABEL_TYPE, TOO_MANY_POINTERS, LONG_NAME as dnsnames_read has them of its name; SHORT_INPUT where the
+ * octets after the name, or the data, end past the message, and, with no row, where the message has no header of twelve
+ * octets; NO_ROOM where it is there, but its row or its name doesn't fit, and, with no row, where the message has 2^32
+ * octets or more.
+ *
+ * At most one entry more than there are rows is read, and of each at most 128 labels and `limit` pointers: what a sender
+ * can make it cost is bounded by the size of the message and by the room that the caller gives.
+ *
+ *     uint32_t rows[32 * DNSNAMES_ROW_LEN];
+ *     uint8_t names[32 * DNSNAMES_MAX_LEN];
+ *     size_t row_count, names_len;
+ *     status = dnsnames_table(message, message_len, DNSNAMES_MAX_POINTERS, rows, sizeof rows / sizeof *rows, names,
+ *                             sizeof names, &row_count, &names_len);
+ */
+dnsnames_status dnsnames_table(const uint8_t *message, size_t message_len, uint8_t limit, uint32_t *rows,
+                               size_t rows_capacity, uint8_t *names, size_t names_capacity, size_t *row_count,
+                               size_t *names_len);
 
 /* The name with `index` names before it in the data of a record: data, data_len and type are those that dnsnames_record
  * gives. The buffer gets the uncompressed name, *length its size. Unlike dnsnames_read it reads no octet after the data

@@ -5,9 +5,9 @@
  * them (objcopy), and joins both to one object, in which only the names that dnsnames.h declares are seen. */
 #include "dnsnames.h"
 
-/* Stands for a null pointer to no octets, or to no offsets: a slice's pointer isn't null in the proved calls. Nothing is
- * read there, and nothing written. */
-static const uint16_t nothing[1] = {0};
+/* Stands for a null pointer to no octets, no offsets or no rows: a slice's pointer isn't null in the proved calls. Nothing
+ * is read there, and nothing written. */
+static const uint32_t nothing[1] = {0};
 
 /* What is proved. */
 uint32_t proved_dnsnames_read(const uint8_t *message, size_t message_len, size_t offset, uint8_t limit,
@@ -41,6 +41,9 @@ uint32_t proved_dnsnames_question(const uint8_t *message, size_t message_len, si
                                   uint16_t *class_, size_t *end);
 uint32_t proved_dnsnames_record(const uint8_t *message, size_t message_len, size_t offset, uint16_t *type,
                                 uint16_t *class_, uint32_t *ttl, size_t *data, size_t *data_len, size_t *end);
+uint32_t proved_dnsnames_table(const uint8_t *message, size_t message_len, uint8_t limit, uint32_t *rows,
+                               size_t rows_capacity, uint8_t *names, size_t names_capacity, size_t *row_count,
+                               size_t *names_len);
 uint32_t proved_dnsnames_data_name(const uint8_t *message, size_t message_len, size_t data, size_t data_len,
                                    uint16_t type, size_t index, uint8_t *buffer, size_t capacity, size_t *length);
 uint32_t proved_dnsnames_data_number(const uint8_t *message, size_t message_len, size_t data, size_t data_len,
@@ -98,6 +101,11 @@ static uint8_t *room_at(uint8_t *buffer)
 static uint16_t *offsets_at(uint16_t *table)
 {
     return table == NULL ? (uint16_t *)nothing : table;
+}
+
+static uint32_t *rows_at(uint32_t *rows)
+{
+    return rows == NULL ? (uint32_t *)nothing : rows;
 }
 
 const char *dnsnames_version(void)
@@ -213,7 +221,8 @@ dnsnames_status dnsnames_plan(const uint8_t *octets, size_t octets_len, const ui
 {
     return GUARDED(is_null(octets, octets_len) || is_null(table, table_len) || is_null(name, len) ||
                    begin == NULL || offset == NULL,
-                   proved_dnsnames_plan(octets_at(octets), octets_len, table == NULL ? nothing : table, table_len,
+                   proved_dnsnames_plan(octets_at(octets), octets_len,
+                                        table == NULL ? (const uint16_t *)nothing : table, table_len,
                                         octets_at(name), len, begin, offset));
 }
 
@@ -248,6 +257,16 @@ dnsnames_status dnsnames_record(const uint8_t *message, size_t message_len, size
     return GUARDED(is_null(message, message_len) || record == NULL,
                    proved_dnsnames_record(octets_at(message), message_len, offset, &record->type, &record->class_,
                                           &record->ttl, &record->data, &record->data_len, &record->end));
+}
+
+dnsnames_status dnsnames_table(const uint8_t *message, size_t message_len, uint8_t limit, uint32_t *rows,
+                               size_t rows_capacity, uint8_t *names, size_t names_capacity, size_t *row_count,
+                               size_t *names_len)
+{
+    return GUARDED(is_null(message, message_len) || is_null(rows, rows_capacity) || is_null(names, names_capacity) ||
+                   row_count == NULL || names_len == NULL,
+                   proved_dnsnames_table(octets_at(message), message_len, limit, rows_at(rows), rows_capacity,
+                                         room_at(names), names_capacity, row_count, names_len));
 }
 
 dnsnames_status dnsnames_data_name(const uint8_t *message, size_t message_len, size_t data, size_t data_len,

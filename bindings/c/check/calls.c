@@ -492,6 +492,63 @@ static void messages(void)
     CHECK(record.data == RESPONSE_LEN && record.data_len == 0 && record.end == RESPONSE_LEN);
 }
 
+/* All that a message has, in one call; and what is left of it where rows, names or octets end too soon. */
+static void tables(void)
+{
+    static const uint32_t wanted[] = {
+        0, 17, 1, 1, 0, CNAME, 0, CNAME,
+        17, 17, 5, 1, 3600, 45, 7, ADDRESS,
+        34, 18, 1, 1, 60, 64, 4, EMPTY,
+        52, 1, 41, 4096, 0, RESPONSE_LEN, 0, RESPONSE_LEN,
+    };
+    static const uint8_t names[] = "\3www\7example\3com\0\3www\7example\3com\0\4host\7example\3com\0";
+    static const size_t ends[] = {QUESTION, CNAME, ADDRESS, EMPTY, RESPONSE_LEN}, octets[] = {0, 17, 34, 52, 53};
+    uint32_t rows[40];
+    size_t rows_len = sizeof wanted / sizeof *wanted, capacity, count, len;
+    uint8_t twisted[RESPONSE_LEN];
+
+#define TABLE(octets, len, limit, rows_len, names_len) \
+    dnsnames_table(octets, len, limit, rows, rows_len, buffer, names_len, &count, &length)
+#define HAS(number)                                                                        \
+    CHECK(count == (number) && length == octets[number]);                                  \
+    CHECK(memcmp(rows, wanted, 32 * (number)) == 0 && rows[8 * (number)] == 0x5a5a5a5a);   \
+    CHECK(holds(names, octets[number]))
+#define MARK() (mark(), memset(rows, 0x5a, sizeof rows))
+
+    MARK();
+    CHECK(TABLE(RESPONSE, RESPONSE_LEN, 2, rows_len, octets[4]) == DNSNAMES_OK);
+    HAS(4);
+    for (len = 0; len < RESPONSE_LEN; len++) {
+        MARK();
+        CHECK(TABLE(RESPONSE, len, 255, 40, sizeof buffer) == DNSNAMES_SHORT_INPUT);
+        for (capacity = 0; capacity < 4 && ends[capacity + 1] <= len; capacity++)
+            ;
+        HAS(capacity);
+    }
+    for (capacity = 0; capacity < rows_len; capacity++) {
+        MARK();
+        CHECK(TABLE(RESPONSE, RESPONSE_LEN, 255, capacity, sizeof buffer) == DNSNAMES_NO_ROOM);
+        HAS(capacity / 8);
+    }
+    for (capacity = 0; capacity < octets[4]; capacity++) {
+        MARK();
+        CHECK(TABLE(RESPONSE, RESPONSE_LEN, 255, 40, capacity) == DNSNAMES_NO_ROOM);
+        HAS(capacity < 17 ? 0u : capacity < 34 ? 1u : capacity < 52 ? 2u : 3u);
+    }
+    MARK();
+    CHECK(TABLE(RESPONSE, RESPONSE_LEN, 1, 40, sizeof buffer) == DNSNAMES_TOO_MANY_POINTERS);
+    HAS(2);
+    /* A fault comes before a lack of room. */
+    memcpy(twisted, RESPONSE, RESPONSE_LEN);
+    twisted[ADDRESS] = 0x80;
+    MARK();
+    CHECK(TABLE(twisted, RESPONSE_LEN, 255, 16, sizeof buffer) == DNSNAMES_LABEL_TYPE);
+    HAS(2);
+#undef MARK
+#undef HAS
+#undef TABLE
+}
+
 static uint32_t name_in(const uint8_t *message, size_t len, size_t data, size_t data_len, uint16_t type, size_t index,
                         size_t capacity)
 {
@@ -1042,6 +1099,7 @@ int main(void)
     comparing();
     labels();
     messages();
+    tables();
     names_in_data();
     numbers_in_data();
     addresses_in_data();

@@ -10,7 +10,7 @@ static const uint8_t KEY[DNSNAMES_KEY_LEN];
 static uint8_t buffer[DNSNAMES_MAX_TEXT];
 static size_t length, end;
 static uint16_t number[6], table[DNSNAMES_MAX_TABLE];
-static uint32_t flag;
+static uint32_t flag, rows[DNSNAMES_ROW_LEN];
 static dnsnames_header_fields header;
 static dnsnames_question_fields question;
 static dnsnames_record_fields record;
@@ -26,6 +26,7 @@ static void mark(void)
     length = end = 77;
     memset(number, 0x5a, sizeof number);
     memset(table, 0x5a, sizeof table);
+    memset(rows, 0x5a, sizeof rows);
     memset(&header, 0x5a, sizeof header);
     memset(&question, 0x5a, sizeof question);
     memset(&record, 0x5a, sizeof record);
@@ -59,7 +60,7 @@ static int is_marked(void)
             return 0;
     return length == 77 && end == 77 && table[0] == 0x5a5a && flag == 77 && order == 77 && hash == 77 &&
            is_5a(&header, sizeof header) && is_5a(&question, sizeof question) && is_5a(&record, sizeof record) &&
-           is_5a(&opt, sizeof opt) && is_5a(&builder.state, sizeof builder.state);
+           is_5a(rows, sizeof rows) && is_5a(&opt, sizeof opt) && is_5a(&builder.state, sizeof builder.state);
 }
 
 #define REFUSES(status, call)      \
@@ -97,6 +98,9 @@ static void empty(void)
     REFUSES(DNSNAMES_SHORT_INPUT, dnsnames_header(NONE, 0, &header));
     REFUSES(DNSNAMES_SHORT_INPUT, dnsnames_question(NONE, 0, 0, &question));
     REFUSES(DNSNAMES_SHORT_INPUT, dnsnames_record(NONE, 0, 0, &record));
+    mark();
+    CHECK(dnsnames_table(NONE, 0, 255, NULL, 0, NULL, 0, &length, &end) == DNSNAMES_SHORT_INPUT);
+    CHECK(length == 0 && end == 0);
     REFUSES(DNSNAMES_SHORT_INPUT, dnsnames_data_name(NONE, 0, 0, 0, 5, 0, buffer, sizeof buffer, &length));
     REFUSES(DNSNAMES_SHORT_INPUT, dnsnames_data_number(NONE, 0, 0, 0, 15, 0, &flag));
     REFUSES(DNSNAMES_SHORT_INPUT, dnsnames_data_address(NONE, 0, 0, 0, 1, buffer, sizeof buffer, &length));
@@ -166,6 +170,9 @@ static void slices(void)
     NULLED(dnsnames_header(NONE, 12, &header));
     NULLED(dnsnames_question(NONE, 1, 0, &question));
     NULLED(dnsnames_record(NONE, 1, 0, &record));
+    NULLED(dnsnames_table(NONE, 1, 255, rows, 8, buffer, sizeof buffer, &length, &end));
+    NULLED(dnsnames_table(NAME, sizeof NAME, 255, NULL, 1, buffer, sizeof buffer, &length, &end));
+    NULLED(dnsnames_table(NAME, sizeof NAME, 255, rows, 8, NULL, 1, &length, &end));
     NULLED(dnsnames_data_name(NONE, 1, 0, 0, 5, 0, buffer, sizeof buffer, &length));
     NULLED(dnsnames_data_number(NONE, 1, 0, 0, 15, 0, &flag));
     NULLED(dnsnames_data_address(NONE, 1, 0, 0, 1, buffer, sizeof buffer, &length));
@@ -265,6 +272,8 @@ static void results(void)
     NULLED(dnsnames_header(message, sizeof message, NULL));
     NULLED(dnsnames_question(message, sizeof message, 12, NULL));
     NULLED(dnsnames_record(message, sizeof message, 12, NULL));
+    NULLED(dnsnames_table(message, sizeof message, 255, rows, 8, buffer, sizeof buffer, NULL, &end));
+    NULLED(dnsnames_table(message, sizeof message, 255, rows, 8, buffer, sizeof buffer, &length, NULL));
 }
 
 int main(void)

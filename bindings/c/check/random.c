@@ -25,6 +25,7 @@ struct answer {
     dnsnames_record_fields record;
     dnsnames_opt_fields opt;
     uint8_t buffer[1100];
+    uint32_t rows[12 * DNSNAMES_ROW_LEN];
 };
 
 static struct answer of_library, of_second;
@@ -293,6 +294,55 @@ static void ask_of_data(const uint8_t *message, size_t len, size_t offset)
     BOTH(data_number, message, len, begin, data_len, type, number, &x->flag);
 }
 
+/* A message of a few questions and records, most of whose names are read; in some an octet is another, or the last are
+ * missing. */
+static size_t make_entries(uint8_t *octets)
+{
+    size_t begun[12], at = 12, count, k, i;
+
+    for (k = 0; k < 12; k++)
+        octets[k] = (uint8_t)(k > 4 && k % 2 == 1 ? random_below(4) : 0);
+    count = (size_t)octets[5] + octets[7] + octets[9] + octets[11];
+    for (k = 0; k < count; k++) {
+        size_t labels = random_below(3), to, size = k < octets[5] ? 4 : 10;
+        begun[k] = at;
+        while (labels-- > 0) {
+            octets[at++] = 1;
+            octets[at++] = (uint8_t)('a' + random_below(3));
+        }
+        if (k > 0 && random_below(2) == 0) {
+            to = begun[random_below((uint32_t)k)];
+            octets[at++] = (uint8_t)(192 + to / 256);
+            octets[at++] = (uint8_t)to;
+        } else {
+            octets[at++] = 0;
+        }
+        for (i = 0; i < size; i++)
+            octets[at++] = (uint8_t)random_below(256);
+        if (size == 10) {
+            size = random_below(6);
+            octets[at - 2] = 0;
+            octets[at - 1] = (uint8_t)size;
+            while (size-- > 0)
+                octets[at++] = (uint8_t)random_below(256);
+        }
+    }
+    if (random_below(3) == 0) {
+        i = random_below((uint32_t)at);
+        octets[i] = (uint8_t)(octets[i] ^ 1u << random_below(8));
+    }
+    return at - (random_below(6) == 0 ? random_below((uint32_t)at) : 0);
+}
+
+static void ask_of_table(const uint8_t *message, size_t len)
+{
+    size_t rows = random_below(3) == 0 ? random_below(100) : sizeof x->rows / sizeof *x->rows;
+    size_t names = random_below(3) == 0 ? random_below(100) : sizeof x->buffer;
+    uint8_t limit = random_below(4) == 0 ? (uint8_t)random_below(3) : 255;
+
+    BOTH(table, message, len, limit, x->rows, rows, x->buffer, names, &x->size[0], &x->size[1]);
+}
+
 static void ask_of_message(const uint8_t *message, size_t len)
 {
     static uint8_t names[8][255];
@@ -326,6 +376,7 @@ static void ask_of_message(const uint8_t *message, size_t len)
         ask_to_append(names, lens, count);
         ask_to_build(names, lens, count);
     }
+    ask_of_table(message, len);
 }
 
 int main(int argc, char **argv)
@@ -343,6 +394,10 @@ int main(int argc, char **argv)
         memcpy(message, octets, len);
         ask_of_message(message, len);
         ask_of_text();
+        len = make_entries(octets);
+        message = fence - len;
+        memcpy(message, octets, len);
+        ask_of_table(message, len);
     }
     printf("%lu messages: ", messages);
     return told("calls compared with the second reader");

@@ -672,6 +672,68 @@ uint32_t SECOND(record)(const uint8_t *message, size_t message_len, size_t offse
     return DNSNAMES_OK;
 }
 
+/* The numbers of a row but the first two, of a question or of a record. */
+static uint32_t entry(const uint8_t *message, size_t message_len, size_t offset, int is_question, uint32_t *row)
+{
+    dnsnames_question_fields question;
+    dnsnames_record_fields record;
+    uint32_t status;
+
+    if (is_question) {
+        status = SECOND(question)(message, message_len, offset, &question);
+        if (status != DNSNAMES_OK)
+            return status;
+        record.type = question.type;
+        record.class_ = question.class_;
+        record.ttl = 0;
+        record.data = record.end = question.end;
+        record.data_len = 0;
+    } else {
+        status = SECOND(record)(message, message_len, offset, &record);
+        if (status != DNSNAMES_OK)
+            return status;
+    }
+    row[2] = record.type;
+    row[3] = record.class_;
+    row[4] = record.ttl;
+    row[5] = (uint32_t)record.data;
+    row[6] = (uint32_t)record.data_len;
+    row[7] = (uint32_t)record.end;
+    return DNSNAMES_OK;
+}
+
+uint32_t SECOND(table)(const uint8_t *message, size_t message_len, uint8_t limit, uint32_t *rows,
+                       size_t rows_capacity, uint8_t *names, size_t names_capacity, size_t *row_count,
+                       size_t *names_len)
+{
+    dnsnames_header_fields header;
+    size_t offset = 12, total, length, end;
+    uint32_t compressed, row[8], status = SECOND(header)(message, message_len, &header);
+    uint8_t name[255];
+
+    *row_count = *names_len = 0;
+    if (status != DNSNAMES_OK)
+        return status;
+    total = (size_t)header.questions + header.answers + header.authority + header.additional;
+    while (*row_count < total) {
+        status = SECOND(read)(message, message_len, offset, limit, name, sizeof name, &length, &end, &compressed);
+        if (status == DNSNAMES_OK)
+            status = entry(message, message_len, offset, *row_count < header.questions, row);
+        if (status != DNSNAMES_OK)
+            return status;
+        if (rows_capacity < 8 * (*row_count + 1) || names_capacity < *names_len + length)
+            return DNSNAMES_NO_ROOM;
+        row[0] = (uint32_t)*names_len;
+        row[1] = (uint32_t)length;
+        memcpy(rows + 8 * *row_count, row, sizeof row);
+        memcpy(names + *names_len, name, length);
+        *names_len += length;
+        ++*row_count;
+        offset = row[7];
+    }
+    return DNSNAMES_OK;
+}
+
 /* What is before the names in data of a type, how many names there are, and what is after them. */
 static const struct {
     unsigned type;

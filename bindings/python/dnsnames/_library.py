@@ -6,7 +6,7 @@ import ctypes
 import ctypes.util
 import os
 import pathlib
-from typing import Optional, Union
+from typing import List, Optional, Union
 
 Octets = Union[bytes, bytearray, memoryview]
 
@@ -17,6 +17,7 @@ MAX_TEXT = 1020
 MAX_POINTERS = 255
 MAX_TABLE = 128
 MAX_MNEMONIC = 12
+ROW_LEN = 8
 _MAX_SIZE = 2 ** (8 * ctypes.sizeof(ctypes.c_size_t)) - 1
 
 
@@ -222,6 +223,7 @@ _ARGUMENTS = {
     "header": [_octets, _size, ctypes.POINTER(HeaderFields)],
     "question": [_octets, _size, _size, ctypes.POINTER(QuestionFields)],
     "record": [_octets, _size, _size, ctypes.POINTER(RecordFields)],
+    "table": [_octets, _size, ctypes.c_uint8, _to_32, _size, _buffer, _size, _to_size, _to_size],
     "builder_start": [_to_builder, _buffer, _size, ctypes.c_uint16, ctypes.c_uint16],
     "builder_question": [_to_builder, _octets, _size, ctypes.c_uint16, ctypes.c_uint16],
     "builder_record": [
@@ -293,6 +295,34 @@ def as_size(number: int) -> int:
     if number < 0:
         raise ValueError("offsets and counts are not negative")
     return min(number, _MAX_SIZE)
+
+
+class Room:
+    """What is lent to dnsnames_table: room for so many rows and their names, and what it tells of them."""
+
+    __slots__ = ("_rows", "_numbers", "_names", "_row_count", "_names_len", "_lent")
+
+    def __init__(self, rows: int) -> None:
+        self._rows = (ctypes.c_uint32 * (ROW_LEN * rows))()
+        self._numbers = memoryview(self._rows).cast("B").cast("I")
+        self._names = ctypes.create_string_buffer(MAX_LEN * rows)
+        self._row_count, self._names_len = ctypes.c_size_t(), ctypes.c_size_t()
+        self._lent = (
+            MAX_POINTERS, self._rows, ROW_LEN * rows, self._names, MAX_LEN * rows, ctypes.byref(self._row_count),
+            ctypes.byref(self._names_len),
+        )
+
+    def fill(self, message: bytes) -> int:
+        """The status of the call."""
+        return library.dnsnames_table(message, len(message), *self._lent)
+
+    def numbers(self) -> List[int]:
+        """The numbers of all rows, one row after another."""
+        return self._numbers[: ROW_LEN * self._row_count.value].tolist()
+
+    def names(self) -> bytes:
+        """All names, one after another."""
+        return self._names[: self._names_len.value]
 
 
 # What a caller lends to a call.

@@ -4,13 +4,15 @@ from __future__ import annotations
 
 from ctypes import byref, c_size_t, c_uint16, c_uint32, create_string_buffer
 from ipaddress import IPv4Address, IPv6Address
-from typing import Iterator, NamedTuple, Tuple, Union
+from itertools import chain, islice
+from struct import Struct
+from typing import Any, Callable, Dict, Iterator, List, NamedTuple, Optional, Tuple, Union
 
 from ._library import (
-    MAX_LEN, MAX_TABLE, NO_MORE, Buffer, HeaderFields, NoField, Octets, OptFields, QuestionFields, RecordFields, as_octets,
-    as_size, library, refuse,
+    MAX_LEN, MAX_TABLE, NO_MORE, ROW_LEN, Buffer, HeaderFields, NoField, NoRoom, Octets, OptFields, QuestionFields,
+    RecordFields, Room, as_octets, as_size, library, refuse,
 )
-from ._mnemonic import Class, Flags, Opcode, Rcode, Type
+from ._mnemonic import Class, Flags, Opcode, Rcode, Type, classes, types
 from ._name import Name, read
 
 
@@ -61,19 +63,21 @@ class Header(NamedTuple):
 
 
 class Question(NamedTuple):
-    """A question (RFC 1035, 4.1.2) of the message with these octets: it begins at `offset` and ends before `end`. Its
-    name is read when it is asked for, so a bad one stops nothing else."""
+    """A question (RFC 1035, 4.1.2) of the message with these octets: it begins at `offset` and ends before `end`. A bad
+    name stops nothing else. `owner` is the name where it was read with the question, else None; `name` reads it then."""
 
     message: bytes
     type: Type
     class_: Class
     offset: int
     end: int
+    owner: Optional[Name] = None
 
     @property
     def name(self) -> Name:
         """Raises what `read` raises."""
-        return read(self.message, self.offset).name
+        owner = self.owner
+        return read(self.message, self.offset).name if owner is None else owner
 
     def __repr__(self) -> str:
         return f"<question of type {self.type} at offset {self.offset}>"
@@ -98,7 +102,8 @@ class EdnsOption(NamedTuple):
 
 class Record(NamedTuple):
     """A resource record (RFC 1035, 4.1.3) of the message with these octets: it begins at `offset`, and its data at
-    `data_offset`. `section` is "answer", "authority" or "additional". Its names are read when they are asked for."""
+    `data_offset`. `section` is "answer", "authority" or "additional". Its names are read when they are asked for, so a bad
+    one stops nothing else. `owner` is its own where that was read with the record, else None; `name` reads it then."""
 
     message: bytes
     section: str
@@ -109,11 +114,13 @@ class Record(NamedTuple):
     offset: int
     data_offset: int
     end: int
+    owner: Optional[Name] = None
 
     @property
     def name(self) -> Name:
         """Whose record it is. Raises what `read` raises."""
-        return read(self.message, self.offset).name
+        owner = self.owner
+        return read(self.message, self.offset).name if owner is None else owner
 
     def name_in_data(self, index: int = 0) -> Name:
         """The name with so many names before it in the data; it doesn't leave them.
@@ -203,9 +210,47 @@ class Record(NamedTuple):
         return f"<record of type {self.type} in section {self.section} at offset {self.offset}>"
 
 
+class Sections(NamedTuple):
+    """The entries of each section that were read in one call, and whether they are all that the header counts."""
+
+    questions: List[Question]
+    answers: List[Record]
+    authority: List[Record]
+    additional: List[Record]
+    is_whole: bool
+
+
+# Rooms that no call has: each is one call's alone, whatever the thread.
+_rooms: List[Room] = []
+# How many rows these have.
+_ROWS = 64
+# How many entries the header counts in each section, of a message that has one.
+_COUNTS = Struct("!4x4H").unpack_from
+# What NamedTuple makes a tuple of its kind with.
+_make: Callable[..., Any] = tuple.__new__
+
+
+def _table(octets: bytes) -> Tuple[List[int], bytes]:
+    """The rows of the first entries of a message and their names: of all, or of those before the first that has none."""
+    try:
+        room = _rooms.pop()
+    except IndexError:
+        room = Room(_ROWS)
+    status = room.fill(octets)
+    if status == NoRoom.status and len(octets) >= 12:
+        # No entry has fewer than five octets.
+        larger = Room(min(sum(_COUNTS(octets)), len(octets) // 5) + 1)
+        larger.fill(octets)
+        found = larger.numbers(), larger.names()
+    else:
+        found = room.numbers(), room.names()
+    _rooms.append(room)
+    return found
+
+
 class Message:
-    """A DNS message (RFC 1035, 4.1). Its octets are read when they are asked for: each iterator goes on to the first
-    entry that can't be read, and raises its fault there.
+    """A DNS message (RFC 1035, 4.1). Its octets are read when they are asked for, all entries at once: each iterator goes
+    on to the first entry that can't be read, and raises its fault there.
 
     >>> message = Message(bytes.fromhex("1234 8180 0001 0001 0000 0000 0161 00 0001 0001 c00c 0005 0001 0000003c 0002 c00c"))
     >>> message.header
@@ -218,13 +263,17 @@ class Message:
     a. 60 CNAME a.
     """
 
-    __slots__ = ("_octets",)
+    __slots__ = ("_octets", "_sections")
 
     def __init__(self, octets: Octets) -> None:
         self._octets = as_octets(octets)
+        self._sections: Optional[Sections] = None
 
     def __bytes__(self) -> bytes:
         return self._octets
+
+    def __reduce__(self) -> tuple:
+        return Message, (self._octets,)
 
     @property
     def header(self) -> Header:
@@ -257,45 +306,89 @@ class Message:
             self._octets, section, Type(found.type), Class(found.class_), found.ttl, octets, offset, data, found.end
         )
 
+    def _read(self) -> Sections:
+        """The entries of each section as far as `_table` has them, and whether those are all."""
+        if self._sections is not None:
+            return self._sections
+        octets = self._octets
+        numbers, names = _table(octets)
+        it = iter(numbers)
+        rows = zip(it, it, it, it, it, it, it, it)
+        counts = _COUNTS(octets) if numbers else (0, 0, 0, 0)
+        owners: Dict[bytes, Name] = {}
+        questions: List[Question] = []
+        offset = 12
+        for at, size, type_, class_, _, _, _, end in islice(rows, counts[0]):
+            wire = names[at : at + size]
+            owners[wire] = owner = Name._of(wire)
+            questions.append(_make(Question, (octets, types[type_], classes[class_], offset, end, owner)))
+            offset = end
+        sections: List[List[Record]] = []
+        for section, count in zip(("answer", "authority", "additional"), counts[1:]):
+            records: List[Record] = []
+            for at, size, type_, class_, ttl, begin, length, end in islice(rows, count):
+                wire = names[at : at + size]
+                owner = owners.get(wire)
+                if owner is None:
+                    owners[wire] = owner = Name._of(wire)
+                records.append(_make(Record, (
+                    octets, section, types[type_], classes[class_], ttl, octets[begin : begin + length], offset, begin,
+                    end, owner,
+                )))
+                offset = end
+            sections.append(records)
+        is_whole = len(octets) >= 12 and sum(_COUNTS(octets)) * ROW_LEN == len(numbers)
+        self._sections = found = Sections(questions, *sections, is_whole)
+        return found
+
+    def _one_by_one(self) -> Iterator[Union[Question, Record]]:
+        """All entries: those of `_read`, and then each by a call of its own, which raises where there is none."""
+        header, offset, read_before = self.header, 12, chain(*self._read()[:4])
+        for section, count in zip(("question", "answer", "authority", "additional"), header[2:]):
+            for _ in range(count):
+                entry = next(read_before, None)
+                if entry is None:
+                    entry = self._question(offset) if section == "question" else self._record(section, offset)
+                yield entry
+                offset = entry.end
+
+    def _entries_of(self, sections: Tuple[str, ...]) -> Iterator[Record]:
+        for entry in self._one_by_one():
+            if isinstance(entry, Record):
+                if entry.section == sections[-1]:
+                    yield entry
+                elif entry.section not in sections:
+                    return
+
     def questions(self) -> Iterator[Question]:
         """The questions that the header counts."""
-        offset = 12
-        for _ in range(self.header.questions):
-            question = self._question(offset)
-            yield question
-            offset = question.end
+        found = self._read()
+        return iter(found.questions) if found.is_whole else self._questions_one_by_one()
+
+    def _questions_one_by_one(self) -> Iterator[Question]:
+        yield from islice(self._one_by_one(), self.header.questions)
 
     def records(self) -> Iterator[Record]:
         """The records of all sections, behind the questions."""
-        header, offset = self.header, 12
-        for question in self.questions():
-            offset = question.end
-        for section, count in (
-            ("answer", header.answers), ("authority", header.authority), ("additional", header.additional)
-        ):
-            for _ in range(count):
-                record = self._record(section, offset)
-                yield record
-                offset = record.end
-
-    def _of(self, section: str, sections: Tuple[str, ...]) -> Iterator[Record]:
-        for record in self.records():
-            if record.section == section:
-                yield record
-            elif record.section not in sections:
-                return
+        found = self._read()
+        if found.is_whole:
+            return chain(found.answers, found.authority, found.additional)
+        return (entry for entry in self._one_by_one() if isinstance(entry, Record))
 
     def answers(self) -> Iterator[Record]:
         """The records of the answer section."""
-        return self._of("answer", ())
+        found = self._read()
+        return iter(found.answers) if found.is_whole else self._entries_of(("answer",))
 
     def authority(self) -> Iterator[Record]:
         """The records of the authority section."""
-        return self._of("authority", ("answer",))
+        found = self._read()
+        return iter(found.authority) if found.is_whole else self._entries_of(("answer", "authority"))
 
     def additional(self) -> Iterator[Record]:
         """The records of the additional section."""
-        return self._of("additional", ("answer", "authority"))
+        found = self._read()
+        return iter(found.additional) if found.is_whole else self._entries_of(("answer", "authority", "additional"))
 
 
 class Composer:

@@ -87,6 +87,24 @@ class Class(_Number):
     _text, _from_text = library.dnsnames_class_text, library.dnsnames_class_from_text
 
 
+class _Each(dict):
+    """The number of a kind for each that a message had, made once."""
+
+    __slots__ = ("_kind",)
+
+    def __init__(self, kind: Any) -> None:
+        super().__init__()
+        self._kind = kind
+
+    def __missing__(self, number: int) -> Any:
+        self[number] = made = self._kind(number)
+        return made
+
+
+# At most 65,536 of each.
+types, classes = _Each(Type), _Each(Class)
+
+
 class Opcode(_Number):
     """The kind of query (RFC 1035, 4.1.1): a number of four bits.
 

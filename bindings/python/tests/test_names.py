@@ -2,6 +2,7 @@
 
 import copy
 import doctest
+import itertools
 import os
 import pathlib
 import pickle
@@ -14,6 +15,7 @@ import unittest
 import dnsnames
 from dnsnames import Builder, Composer, Message, Name, Type, read, skip
 from dnsnames import _library
+from dnsnames._message import Sections
 
 HEADER = pathlib.Path(__file__).parents[2] / "c" / "dnsnames.h"
 # RFC 1035, 4.1.4: F.ISI.ARPA at 20, FOO.F.ISI.ARPA at 40, ARPA at 64, the root at 92.
@@ -235,6 +237,70 @@ class Messages(unittest.TestCase):
         with self.assertRaises(dnsnames.TooManyPointers):
             bad.name
         self.assertEqual((str(good.name), good.data), (".", b"\n\2\3\4"))
+
+    def test_entries_after_a_bad_name(self):
+        octets = bytes.fromhex("000081800001000100010001" "0161000001 0001" "c00c000100010000000000021234"
+                               "c02100010001000000010000" "c00c00010001000000020000")
+        message = Message(octets)
+        for _ in range(2):
+            first, bad, last = message.records()
+            self.assertEqual([first.section, bad.section, last.section], ["answer", "authority", "additional"])
+            self.assertEqual([first.name, last.name], [Name("a"), Name("a")])
+            self.assertEqual([first.ttl, bad.ttl, last.ttl], [0, 1, 2])
+            with self.assertRaises(dnsnames.TooManyPointers) as caught:
+                bad.name
+            self.assertEqual(caught.exception.offset, bad.offset)
+            self.assertEqual([list(message.answers()), list(message.authority()), list(message.additional())],
+                             [[first], [bad], [last]])
+            self.assertEqual([str(question.name) for question in message.questions()], ["a."])
+        cut = Message(octets[:-1])
+        self.assertEqual([str(question.name) for question in cut.questions()], ["a."])
+        self.assertEqual(list(cut.answers()), [first._replace(message=octets[:-1])])
+        with self.assertRaises(dnsnames.ShortInput) as caught:
+            list(cut.additional())
+        self.assertEqual(caught.exception.offset, last.offset)
+
+    def test_many_entries(self):
+        label = bytes([63]) + b"x" * 63
+        longest = label * 3 + bytes([61]) + b"y" * 61 + b"\0"
+        for count in (63, 64, 65, 700):
+            octets = bytearray(12) + longest + b"\0\1\0\1"
+            octets[4:8] = b"\0\1" + count.to_bytes(2, "big")
+            for k in range(count):
+                octets += b"\xc0\x0c\0\1\0\1" + k.to_bytes(4, "big") + b"\0\1x"
+            with self.subTest(count=count):
+                records = list(Message(octets).answers())
+                self.assertEqual([record.ttl for record in records], list(range(count)))
+                self.assertEqual({bytes(record.name) for record in records}, {longest})
+                self.assertEqual(records[-1].end, len(octets))
+
+    def test_in_one_call_as_one_by_one(self):
+        draw = random.Random(3)
+
+        def seen(message):
+            found = []
+            try:
+                for entry in itertools.chain(message.questions(), message.records()):
+                    found.append(entry._replace(owner=None))
+                    found.append(entry.name)
+            except dnsnames.DnsError as error:
+                found.append((type(error), error.offset))
+            return found
+
+        for _ in range(2000):
+            octets = bytearray(RESPONSE[: draw.randint(0, len(RESPONSE)) if draw.random() < 0.3 else None])
+            for _ in range(draw.randint(0, 3)):
+                if octets:
+                    octets[draw.randrange(len(octets))] = draw.choice((0, 1, 2, 12, 192, draw.randrange(256)))
+            message, other = Message(octets), Message(octets)
+            other._sections = Sections([], [], [], [], False)
+            self.assertEqual(seen(message), seen(other), octets.hex())
+
+    def test_copied(self):
+        message = Message(RESPONSE)
+        records = list(message.records())
+        for other in (pickle.loads(pickle.dumps(message)), copy.deepcopy(message)):
+            self.assertEqual((bytes(other), list(other.records())), (RESPONSE, records))
 
     def test_a_cut_message(self):
         for length in range(len(RESPONSE)):

@@ -4,3 +4,4 @@ pub mod Writing
 pub mod CompressedFlag
 pub mod Puts
 pub mod Building
+pub mod Tabling

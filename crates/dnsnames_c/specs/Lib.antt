@@ -3,6 +3,7 @@ pub mod Answers
 pub mod Labels
 pub mod Plans
 pub mod Messages
+pub mod Tables
 pub mod Data
 pub mod Strings
 pub mod Opts

@@ -1,8 +1,9 @@
 -- Questions and records in a message (RFC 1035, 4.1). `m` is the message: the list of its octets.
-use Rattle.std.specs.Prelude.{◌≡◌, ◌⊎◌, ℕ, ◌+◌, ◌*◌, ◌≤◌, ◌<◌, List, length, slice_index}
+use Rattle.std.specs.Prelude.{◌≡◌, ◌⊎◌, ℕ, ◌+◌, ◌*◌, ◌≤◌, ◌<◌, Bool, true, false, List, length, slice_index}
 use Rattle.domain_reading.specs.Faults.{Skips, SkipFault}
 use Rattle.domain_reading.specs.declared.fault.NameFault.{NameFault}
 use Rattle.dnsnames_c.specs.Status.{fault_number}
+use Rattle.dnsnames_c.specs.declared.message.Parts.{Parts}
 
 -- The two octets at p as a number, the high one first.
 abbrev pub number_16 : List ℕ → ℕ → ℕ
@@ -57,3 +58,17 @@ abbrev pub GivesRecordParts : List ℕ → ℕ → ℕ → ℕ → ℕ → ℕ �
 GivesRecordParts m p status old_rtype rtype old_class class old_ttl ttl old_data data_at old_len data_len old_end end =
     ((status ≡ 0) × RecordPartsAt m p rtype class ttl data_at data_len end)
     ⊎ (NoRecordParts m p status × (rtype ≡ old_rtype) × (class ≡ old_class) × (ttl ≡ old_ttl) × (data_at ≡ old_data) × (data_len ≡ old_len) × (end ≡ old_end))
+
+-- The octets after the name of a question or of a record have these parts.
+abbrev pub HasParts : List ℕ → Bool → ℕ → Parts → Type 0
+HasParts m true after it =
+    (it.rtype ≡ number_16 m after) × (it.class ≡ number_16 m (after + 2)) × (it.ttl ≡ 0)
+    × (it.data_at ≡ after + 4) × (it.data_len ≡ 0) × (it.end ≡ after + 4) × (it.end ≤ length m)
+HasParts m false after it =
+    (it.rtype ≡ number_16 m after) × (it.class ≡ number_16 m (after + 2)) × (it.ttl ≡ number_32 m (after + 4))
+    × (it.data_at ≡ after + 10) × (it.data_len ≡ number_16 m (after + 8)) × (it.end ≡ after + 10 + it.data_len) × (it.end ≤ length m)
+
+-- The message ends in them.
+abbrev pub LacksParts : List ℕ → Bool → ℕ → Type 0
+LacksParts m true after = length m < after + 4
+LacksParts m false after = (length m < after + 10) ⊎ ((after + 10 ≤ length m) × (length m < after + 10 + number_16 m (after + 8)))

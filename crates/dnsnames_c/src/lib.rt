@@ -16,4 +16,5 @@ mod plan;
 mod put;
 mod read;
 mod string;
+mod table;
 mod text;

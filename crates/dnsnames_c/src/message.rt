@@ -1,12 +1,12 @@
 //! The header of a message, its questions and its records (RFC 1035, 4.1).
-ghost use Rattle.std.specs.Prelude.{◌≡◌, ◌≢◌, ◌<◌, ◌≤◌, ◌+◌, ◌⊎◌, length};
-ghost use Rattle.dnsnames_c.specs.Messages.{number_16, number_32, GivesQuestionParts, GivesRecordParts};
+ghost use Rattle.std.specs.Prelude.{◌≡◌, ◌≢◌, ◌<◌, ◌≤◌, ◌+◌, ◌⊎◌, length, IfSome, IfNone, true, false};
+ghost use Rattle.dnsnames_c.specs.Messages.{number_16, number_32, HasParts, LacksParts, GivesQuestionParts, GivesRecordParts};
 
 use crate::read::number_of;
 use domain_reading::uncounted::encoding_end;
 
 /// The two octets at an offset as a number, the high one first.
-fn number_of_16_bits(message: &[u8], offset: usize) -> u16
+pub(crate) fn number_of_16_bits(message: &[u8], offset: usize) -> u16
     requires { offset + 2 ≤ length message.now }
     ensures { result ≡ number_16 message.now offset }
 {
@@ -21,6 +21,62 @@ fn number_of_32_bits(message: &[u8], offset: usize) -> u32
     let high = u32::from(number_of_16_bits(message, offset));
     let low = u32::from(number_of_16_bits(message, offset + 2));
     high * 65536 + low
+}
+
+/// What follows the name of a question or a record, and the offset after that. A question has no time to live and no data:
+/// these are 0, and no octets at its end.
+#[derive(Clone, Copy)]
+pub(crate) struct Parts {
+    pub(crate) rtype: u16,
+    pub(crate) class: u16,
+    pub(crate) ttl: u32,
+    pub(crate) data_at: usize,
+    pub(crate) data_len: usize,
+    pub(crate) end: usize,
+}
+
+/// What follows the name of a question that ends before `after` (RFC 1035, 4.1.2): nothing where the message ends in it.
+pub(crate) fn question_after(message: &[u8], after: usize) -> Option<Parts>
+    requires { after ≤ length message.now }
+    ensures some { IfSome result (HasParts message.now true after) }
+    ensures none { IfNone result (LacksParts message.now true after) }
+{
+    if message.len() - after < 4 {
+        return None;
+    }
+    Some(Parts {
+        rtype: number_of_16_bits(message, after),
+        class: number_of_16_bits(message, after + 2),
+        ttl: 0,
+        data_at: after + 4,
+        data_len: 0,
+        end: after + 4,
+    })
+}
+
+/// What follows the name of a record that ends before `after` (RFC 1035, 4.1.3): nothing where the message ends in it or in
+/// the data.
+pub(crate) fn record_after(message: &[u8], after: usize) -> Option<Parts>
+    requires { after ≤ length message.now }
+    ensures some { IfSome result (HasParts message.now false after) }
+    ensures none { IfNone result (LacksParts message.now false after) }
+{
+    if message.len() - after < 10 {
+        return None;
+    }
+    let data_len = usize::from(number_of_16_bits(message, after + 8));
+    let data_at = after + 10;
+    if message.len() - data_at < data_len {
+        return None;
+    }
+    Some(Parts {
+        rtype: number_of_16_bits(message, after),
+        class: number_of_16_bits(message, after + 2),
+        ttl: number_of_32_bits(message, after + 4),
+        data_at,
+        data_len,
+        end: data_at + data_len,
+    })
 }
 
 /// The twelve octets that a message begins with, as six numbers (RFC 1035, 4.1.1): its identifier, its flags, and how many
@@ -79,12 +135,12 @@ pub extern "C" fn dnsnames_question(
         Ok(after) => after,
         Err(fault) => return number_of(fault),
     };
-    if message.len() - after < 4 {
+    let Some(parts) = question_after(message, after) else {
         return 1;
-    }
-    *rtype = number_of_16_bits(message, after);
-    *class = number_of_16_bits(message, after + 2);
-    *end = after + 4;
+    };
+    *rtype = parts.rtype;
+    *class = parts.class;
+    *end = parts.end;
     0
 }
 
@@ -112,19 +168,14 @@ pub extern "C" fn dnsnames_record(
         Ok(after) => after,
         Err(fault) => return number_of(fault),
     };
-    if message.len() - after < 10 {
+    let Some(parts) = record_after(message, after) else {
         return 1;
-    }
-    let len = usize::from(number_of_16_bits(message, after + 8));
-    let begin = after + 10;
-    if message.len() - begin < len {
-        return 1;
-    }
-    *rtype = number_of_16_bits(message, after);
-    *class = number_of_16_bits(message, after + 2);
-    *ttl = number_of_32_bits(message, after + 4);
-    *data_at = begin;
-    *data_len = len;
-    *end = begin + len;
+    };
+    *rtype = parts.rtype;
+    *class = parts.class;
+    *ttl = parts.ttl;
+    *data_at = parts.data_at;
+    *data_len = parts.data_len;
+    *end = parts.end;
     0
 }

@@ -36,7 +36,7 @@ fn number_of_bit(bit: bool) -> u32
 #[derive(Clone, Copy)]
 pub(crate) struct Found {
     pub(crate) len: usize,
-    end: usize,
+    pub(crate) end: usize,
     compressed: bool,
 }
 
