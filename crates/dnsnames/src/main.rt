@@ -3,35 +3,26 @@
 //! for each question and record of the message, and `dnsnames text NAME` the wire format of a name.
 #![tactic(auto)]
 
+use domain_tool::start::{Program, start};
 use domain_tool::tool;
-use domain_tool::words::arguments;
-use std::io::ErrorKind;
+use std::alloc::Global;
+use std::io::{Read, Write};
 use std::process::ExitCode;
 
-fn main(rt: HostRuntime) -> ExitCode {
-    let alloc = rt.alloc();
-    let arguments = match arguments(alloc, &rt) {
-        Ok(arguments) => arguments,
-        Err(ErrorKind::OutOfMemory) => return out_of_memory(&rt),
-        // A word that is no text is another word than those of the usage.
-        Err(_) => Vec::new(alloc),
-    };
-    let mut words = Vec::new(alloc);
-    for argument in &arguments {
-        if words.push(argument.as_str()).is_err() {
-            return out_of_memory(&rt);
-        }
+struct Names;
+
+impl Program for Names {
+    fn run<R: Read, W: Write, E: Write>(
+        alloc: Global,
+        words: &[&str],
+        input: &mut R,
+        output: &mut W,
+        errors: &mut E,
+    ) -> u8 {
+        tool::run(alloc, words, input, output, errors)
     }
-    ExitCode::from(tool::run(
-        alloc,
-        words.as_slice(),
-        &mut rt.stdin(),
-        &mut rt.stdout(),
-        &mut rt.stderr(),
-    ))
 }
 
-fn out_of_memory(rt: &HostRuntime) -> ExitCode {
-    let _ = eprintln!(rt; "out of memory");
-    ExitCode::from(3)
+fn main(rt: HostRuntime) -> ExitCode {
+    start::<Names>(&rt)
 }

@@ -5,44 +5,29 @@
 #![tactic(auto)]
 
 use domain_make::engine::run as make;
-use domain_tool::words::arguments;
-use domain_walk::engine;
-use std::io::ErrorKind;
+use domain_tool::start::{Program, start};
+use domain_walk::engine::run as walk;
+use std::alloc::Global;
+use std::io::{Read, Write};
 use std::process::ExitCode;
 
-fn main(rt: HostRuntime) -> ExitCode {
-    let alloc = rt.alloc();
-    let arguments = match arguments(alloc, &rt) {
-        Ok(arguments) => arguments,
-        Err(ErrorKind::OutOfMemory) => return out_of_memory(&rt),
-        // A word that is no text is another word than those of the usage.
-        Err(_) => Vec::new(alloc),
-    };
-    let mut words = Vec::new(alloc);
-    for argument in &arguments {
-        if words.push(argument.as_str()).is_err() {
-            return out_of_memory(&rt);
+struct Walk;
+
+impl Program for Walk {
+    fn run<R: Read, W: Write, E: Write>(
+        alloc: Global,
+        words: &[&str],
+        input: &mut R,
+        output: &mut W,
+        errors: &mut E,
+    ) -> u8 {
+        match words.first() {
+            Some(&"make") => make(alloc, words, input, output, errors),
+            _ => walk(alloc, words, input, output, errors),
         }
     }
-    if let Some(&"make") = words.first() {
-        return ExitCode::from(make(
-            alloc,
-            words.as_slice(),
-            &mut rt.stdin(),
-            &mut rt.stdout(),
-            &mut rt.stderr(),
-        ));
-    }
-    ExitCode::from(engine::run(
-        alloc,
-        words.as_slice(),
-        &mut rt.stdin(),
-        &mut rt.stdout(),
-        &mut rt.stderr(),
-    ))
 }
 
-fn out_of_memory(rt: &HostRuntime) -> ExitCode {
-    let _ = eprintln!(rt; "out of memory");
-    ExitCode::from(3)
+fn main(rt: HostRuntime) -> ExitCode {
+    start::<Walk>(&rt)
 }

@@ -7,6 +7,7 @@ mod entry;
 pub mod entry_kind;
 mod line;
 mod list;
+pub mod start;
 mod text;
 pub mod tool;
 pub mod words;
