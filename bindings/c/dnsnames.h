@@ -7,7 +7,8 @@
  * Every call answers a status, and gives its results through pointers. A refused call, whose status is not
  * DNSNAMES_OK, leaves what the pointers lead to as it was; with DNSNAMES_NO_ROOM alone it tells in *length (and
  * dnsnames_read in its other results) what an answer has, and leaves the buffer; dnsnames_table keeps what it read
- * before. No call allocates, keeps a pointer or has a state, so each may be made from any thread and at any time.
+ * before, and texts of messages and records have their beginning there. No call allocates, keeps a pointer or has a state,
+ * so each may be made from any thread and at any time.
  *
  * What is proved of each call is what it says here, for all octets and all lengths: which results it gives, when it
  * refuses and with which status, what it leaves, that it ends, and that it reads and writes within the lengths that it
@@ -44,7 +45,7 @@ extern "C" {
 #define DNSNAMES_KEY_LEN 16
 
 /* The version of this header; dnsnames_version tells that of the library. */
-#define DNSNAMES_VERSION "0.4.0"
+#define DNSNAMES_VERSION "0.5.0"
 
 typedef enum dnsnames_status {
     DNSNAMES_OK = 0,
@@ -101,7 +102,11 @@ typedef enum dnsnames_status {
     /* Building: there is no such section. */
     DNSNAMES_NO_SECTION = 26,
     /* All strings or options of the data were given: no fault, but the end. */
-    DNSNAMES_NO_MORE = 27
+    DNSNAMES_NO_MORE = 27,
+    /* Text of a message: an entry hasn't the form of one. */
+    DNSNAMES_BAD_FORM = 28,
+    /* Text of a message: it wasn't made. This doesn't come, but no proof tells so. */
+    DNSNAMES_NO_TEXT = 29
 } dnsnames_status;
 
 /* The version of the library: a text that stays. */
@@ -428,6 +433,25 @@ dnsnames_status dnsnames_data_option(const uint8_t *message, size_t message_len,
                                      uint16_t type, size_t *passed, uint16_t *code, size_t *option,
                                      size_t *option_len);
 
+/* ---- Messages as text ---- */
+
+/* The text of a message, as dig writes it (docs/LIBRARY.md shows one): two lines of its header, and for each section its
+ * heading and a line for each question or record, each with a newline. Data that can't be read by their type are shown as
+ * octets (RFC 3597, 5), with the reason behind them.
+ *
+ * The buffer gets what fits of it, *length its whole size: with NO_ROOM, too, which tells so where not all fits. Where all
+ * fits and there is room, a zero octet follows it. SHORT_INPUT where the message ends before all that its header counts, or
+ * in that, and BAD_FORM where an entry hasn't the form of one: the text is then that of what stands before, and NO_ROOM comes
+ * first. NO_TEXT leaves *length, and anything in the buffer. */
+dnsnames_status dnsnames_message_text(const uint8_t *message, size_t message_len, uint8_t *buffer, size_t capacity,
+                                      size_t *length);
+
+/* The line of the record at an offset of a message, with a newline: owner, time to live, class, type and data. An OPT record
+ * is shown as octets here. The buffer and *length as dnsnames_message_text has them. SHORT_INPUT where the message ends in
+ * the record, and BAD_FORM where its owner hasn't the form of a name: these leave all as it was. */
+dnsnames_status dnsnames_record_text(const uint8_t *message, size_t message_len, size_t offset, uint8_t *buffer,
+                                     size_t capacity, size_t *length);
+
 /* ---- Building messages (RFC 1035, 4.1) ---- */
 
 /* The sections of records. */
@@ -638,6 +662,8 @@ static inline const char *dnsnames_strerror(uint32_t status)
     case DNSNAMES_TOO_MANY_ENTRIES: return "too many entries in a section";
     case DNSNAMES_NO_SECTION: return "no such section";
     case DNSNAMES_NO_MORE: return "no more strings or options";
+    case DNSNAMES_BAD_FORM: return "an entry hasn't the form of one";
+    case DNSNAMES_NO_TEXT: return "the text wasn't made";
     default: return "unknown status";
     }
 }

@@ -57,6 +57,10 @@ uint32_t proved_dnsnames_opt(uint16_t type, uint16_t class_, uint32_t ttl, uint1
 uint32_t proved_dnsnames_data_option(const uint8_t *message, size_t message_len, size_t data, size_t data_len,
                                      uint16_t type, size_t *passed, uint16_t *code, size_t *option,
                                      size_t *option_len);
+uint32_t proved_dnsnames_message_text(const uint8_t *message, size_t message_len, uint8_t *buffer, size_t capacity,
+                                      size_t *length);
+uint32_t proved_dnsnames_record_text(const uint8_t *message, size_t message_len, size_t offset, uint8_t *buffer,
+                                     size_t capacity, size_t *length);
 uint32_t proved_dnsnames_type_text(uint16_t type, uint8_t *buffer, size_t capacity, size_t *length);
 uint32_t proved_dnsnames_type_from_text(const uint8_t *text, size_t text_len, uint16_t *type);
 uint32_t proved_dnsnames_class_text(uint16_t class_, uint8_t *buffer, size_t capacity, size_t *length);
@@ -314,6 +318,32 @@ dnsnames_status dnsnames_data_option(const uint8_t *message, size_t message_len,
                    option_len == NULL,
                    proved_dnsnames_data_option(octets_at(message), message_len, data, data_len, type, passed, code,
                                                option, option_len));
+}
+
+/* Puts a zero octet after a text that is whole or ends at a fault, where there is room for it. */
+static dnsnames_status ended_text(dnsnames_status status, uint8_t *buffer, size_t capacity, const size_t *length)
+{
+    if (status != DNSNAMES_NULL && status != DNSNAMES_NO_TEXT && *length < capacity)
+        buffer[*length] = 0;
+    return status;
+}
+
+dnsnames_status dnsnames_message_text(const uint8_t *message, size_t message_len, uint8_t *buffer, size_t capacity,
+                                      size_t *length)
+{
+    return ended_text(GUARDED(is_null(message, message_len) || is_null(buffer, capacity) || length == NULL,
+                              proved_dnsnames_message_text(octets_at(message), message_len, room_at(buffer), capacity,
+                                                           length)),
+                      buffer, capacity, length);
+}
+
+dnsnames_status dnsnames_record_text(const uint8_t *message, size_t message_len, size_t offset, uint8_t *buffer,
+                                     size_t capacity, size_t *length)
+{
+    return ended(GUARDED(is_null(message, message_len) || is_null(buffer, capacity) || length == NULL,
+                         proved_dnsnames_record_text(octets_at(message), message_len, offset, room_at(buffer), capacity,
+                                                     length)),
+                 buffer, capacity, length);
 }
 
 dnsnames_status dnsnames_type_text(uint16_t type, uint8_t *buffer, size_t capacity, size_t *length)

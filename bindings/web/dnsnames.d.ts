@@ -115,6 +115,8 @@ export class DnsNames {
     stringsInData(message: Uint8Array, record: DnsRecord): Generator<Uint8Array, void, undefined>;
     opt(record: DnsRecord, flags?: number): Opt;
     optionsInData(message: Uint8Array, record: DnsRecord): Generator<EdnsOption, void, undefined>;
+    messageText(message: Uint8Array): string;
+    recordText(message: Uint8Array, offset: number): string;
     entries(message: Uint8Array): Generator<Entry, void, undefined>;
     mnemonic(kind: Kind, number: number): string;
     numberOf(kind: Kind, text: string): number;

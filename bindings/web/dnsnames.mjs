@@ -42,10 +42,13 @@ const FAULTS = new Map([
     [24, ["WrongOrder", "a later section was begun", "RFC 1035, 4.1"]],
     [25, ["TooManyEntries", "too many entries in a section", "RFC 1035, 4.1.1"]],
     [26, ["NoSection", "no such section", "RFC 1035, 4.1"]],
+    [28, ["BadForm", "an entry hasn't the form of one", "RFC 1035, 4.1"]],
 ]);
 
 // The status by which the module tells that all strings or options of data were given.
 const NO_MORE = 27;
+// The status by which it tells that a text needs more room.
+const NO_ROOM = 8;
 
 /** Why something is refused: `fault` is its name, `status` the module's number, `section` the standard's. */
 export class NameFault extends Error {
@@ -277,6 +280,30 @@ export class DnsNames {
         const status = this.#exports["dnsnames_" + call](...values) >>> 0;
         if (status !== 0 && status !== NO_MORE) throw new NameFault(status, record.dataOffset);
         return status === 0;
+    }
+
+    /** The text of a message as dig writes it: two lines of its header, and for each section its heading and a line for each
+     *  question or record. Data that can't be read by their type are shown as octets, and why (RFC 3597, 5). ShortInput where
+     *  the message ends before all that its header counts, BadForm where an entry hasn't the form of one. */
+    messageText(message) {
+        return this.#text("message_text", 0, message, []);
+    }
+
+    /** The line of the record at an offset of a message: owner, time to live, class, type and data. ShortInput, BadForm. */
+    recordText(message, offset) {
+        return this.#text("record_text", offset, message, [toSize(offset)]).slice(0, -1);
+    }
+
+    // The text that a call gives, with as much room as it needs.
+    #text(call, offset, message, more) {
+        for (let capacity = 4096; ;) {
+            const [slice, room] = this.#begin(message, capacity);
+            const [length] = this.#results(1);
+            const status = this.#exports["dnsnames_" + call](...slice, ...more, ...room, length) >>> 0;
+            if (status === 0) return new TextDecoder().decode(this.#octets(room, length));
+            if (status !== NO_ROOM || this.#size(length) <= capacity) throw new NameFault(status, offset);
+            capacity = this.#size(length);
+        }
     }
 
     /** The questions and records of a message in turn, each with its `section`. */

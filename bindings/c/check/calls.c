@@ -751,6 +751,66 @@ static void opt_records(void)
 #undef OPTION
 }
 
+/* The response as dig writes it, with an OPT record at its end. */
+static const char SHOWN[] =
+    ";; opcode: QUERY, status: NOERROR, id: 4660\n"
+    ";; flags: qr rd ra; QUESTION: 1, ANSWER: 2, AUTHORITY: 0, ADDITIONAL: 1\n"
+    ";; QUESTION SECTION\n"
+    "www.example.com. IN A\n"
+    ";; ANSWER SECTION\n"
+    "www.example.com. 3600 IN CNAME host.example.com.\n"
+    "host.example.com. 60 IN A 192.0.2.1\n"
+    ";; AUTHORITY SECTION\n"
+    ";; ADDITIONAL SECTION\n"
+    "; EDNS: version: 0, flags:; udp: 4096\n";
+enum { SHOWN_LEN = sizeof SHOWN - 1 };
+
+static void texts_of_messages(void)
+{
+    static const char LINE[] = "host.example.com. 60 IN A 192.0.2.1\n";
+    uint8_t broken[RESPONSE_LEN];
+    size_t capacity, len;
+
+    /* A room of each size: the beginning of the text, and what is behind the room as it was. */
+    for (capacity = 0; capacity < SHOWN_LEN; capacity++) {
+        mark();
+        CHECK(dnsnames_message_text(RESPONSE, RESPONSE_LEN, buffer, capacity, &length) == DNSNAMES_NO_ROOM);
+        CHECK(length == SHOWN_LEN && holds(OCTETS(SHOWN), capacity));
+    }
+    mark();
+    CHECK(dnsnames_message_text(RESPONSE, RESPONSE_LEN, buffer, SHOWN_LEN, &length) == DNSNAMES_OK);
+    CHECK(length == SHOWN_LEN && holds(OCTETS(SHOWN), SHOWN_LEN));
+    mark();
+    CHECK(dnsnames_message_text(RESPONSE, RESPONSE_LEN, buffer, sizeof buffer, &length) == DNSNAMES_OK);
+    CHECK(length == SHOWN_LEN && holds(OCTETS(SHOWN), sizeof SHOWN)); /* with its zero octet */
+
+    /* The message ends at each octet: the text is that of what stands before, with its zero octet. */
+    for (len = 0; len < RESPONSE_LEN; len++) {
+        mark();
+        CHECK(dnsnames_message_text(RESPONSE, len, buffer, sizeof buffer, &length) == DNSNAMES_SHORT_INPUT);
+        CHECK(length < SHOWN_LEN && memcmp(buffer, SHOWN, length) == 0 && buffer[length] == 0);
+        CHECK(length == 0 ? len < 12 : buffer[length - 1] == '\n');
+    }
+    memcpy(broken, RESPONSE, sizeof broken);
+    broken[ADDRESS] = 0x80;
+    CHECK(dnsnames_message_text(broken, sizeof broken, buffer, sizeof buffer, &length) == DNSNAMES_BAD_FORM);
+    CHECK(length == (size_t)(strstr(SHOWN, "host.example.com. 60") - SHOWN) && memcmp(buffer, SHOWN, length) == 0);
+
+    for (capacity = 0; capacity < sizeof LINE - 1; capacity++) {
+        mark();
+        CHECK(dnsnames_record_text(RESPONSE, RESPONSE_LEN, ADDRESS, buffer, capacity, &length) == DNSNAMES_NO_ROOM);
+        CHECK(length == sizeof LINE - 1 && holds(OCTETS(LINE), capacity));
+    }
+    mark();
+    CHECK(dnsnames_record_text(RESPONSE, RESPONSE_LEN, ADDRESS, buffer, sizeof buffer, &length) == DNSNAMES_OK);
+    CHECK(length == sizeof LINE - 1 && holds(OCTETS(LINE), sizeof LINE));
+    REFUSES(DNSNAMES_BAD_FORM, dnsnames_record_text(broken, sizeof broken, ADDRESS, buffer, sizeof buffer, &length));
+    REFUSES(DNSNAMES_SHORT_INPUT, dnsnames_record_text(RESPONSE, EMPTY, ADDRESS + 1, buffer, sizeof buffer, &length));
+    for (len = RESPONSE_LEN; len < RESPONSE_LEN + 3; len++)
+        REFUSES(DNSNAMES_SHORT_INPUT,
+                dnsnames_record_text(RESPONSE, RESPONSE_LEN, len, buffer, sizeof buffer, &length));
+}
+
 static void planning(void)
 {
     static const uint8_t octets[] = "\0\0\0\0\0\0\0\0\0\0\0\0\003www\007example\003com";
@@ -1105,6 +1165,7 @@ int main(void)
     addresses_in_data();
     strings_in_data();
     opt_records();
+    texts_of_messages();
     planning();
     appending();
     far_off();

@@ -106,6 +106,7 @@ static void empty(void)
     REFUSES(DNSNAMES_SHORT_INPUT, dnsnames_data_address(NONE, 0, 0, 0, 1, buffer, sizeof buffer, &length));
     REFUSES(DNSNAMES_SHORT_INPUT, dnsnames_data_string(NONE, 0, 0, 1, 16, &length, &end, &end));
     REFUSES(DNSNAMES_NO_MORE, dnsnames_data_option(NONE, 0, 0, 0, 41, &length, &number[0], &end, &end));
+    REFUSES(DNSNAMES_SHORT_INPUT, dnsnames_record_text(NONE, 0, 0, buffer, sizeof buffer, &length));
     REFUSES(DNSNAMES_NO_MNEMONIC, dnsnames_type_from_text(NONE, 0, &number[0]));
     REFUSES(DNSNAMES_NO_MNEMONIC, dnsnames_class_from_text(NONE, 0, &number[0]));
     REFUSES(DNSNAMES_NO_MNEMONIC, dnsnames_opcode_from_text(NONE, 0, &number[0]));
@@ -178,6 +179,10 @@ static void slices(void)
     NULLED(dnsnames_data_address(NONE, 1, 0, 0, 1, buffer, sizeof buffer, &length));
     NULLED(dnsnames_data_address(NAME, sizeof NAME, 0, 4, 1, NULL, 1, &length));
     NULLED(dnsnames_data_string(NONE, 1, 0, 0, 16, &length, &end, &end));
+    NULLED(dnsnames_message_text(NONE, 1, buffer, sizeof buffer, &length));
+    NULLED(dnsnames_message_text(NAME, sizeof NAME, NULL, 1, &length));
+    NULLED(dnsnames_record_text(NONE, 1, 0, buffer, sizeof buffer, &length));
+    NULLED(dnsnames_record_text(NAME, sizeof NAME, 0, NULL, 1, &length));
     NULLED(dnsnames_data_option(NONE, 1, 0, 0, 41, &length, &number[0], &end, &end));
     NULLED(dnsnames_type_text(1, NULL, 1, &length));
     NULLED(dnsnames_type_from_text(NONE, 1, &number[0]));
@@ -247,6 +252,8 @@ static void results(void)
     NULLED(dnsnames_data_string(NAME, sizeof NAME, 0, 5, 16, NULL, &length, &end));
     NULLED(dnsnames_data_string(NAME, sizeof NAME, 0, 5, 16, &length, NULL, &end));
     NULLED(dnsnames_data_string(NAME, sizeof NAME, 0, 5, 16, &length, &end, NULL));
+    NULLED(dnsnames_message_text(NAME, sizeof NAME, buffer, sizeof buffer, NULL));
+    NULLED(dnsnames_record_text(NAME, sizeof NAME, 0, buffer, sizeof buffer, NULL));
     NULLED(dnsnames_opt(41, 512, 0, 0, NULL));
     NULLED(dnsnames_data_option(NAME, sizeof NAME, 0, 5, 41, NULL, &number[0], &length, &end));
     NULLED(dnsnames_data_option(NAME, sizeof NAME, 0, 5, 41, &length, NULL, &end, &end));

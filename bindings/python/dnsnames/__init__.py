@@ -14,7 +14,7 @@ the package's wheel carries, else `libdnsnames.so.0` where the system finds it. 
 
 from ._library import VERSION as __version__
 from ._library import (
-    BadEscape, BadLabelType, BadSymbol, BinaryLabel, CompressedName, DnsError, EmptyLabel, LongLabel, LongName,
+    BadEscape, BadForm, BadLabelType, BadSymbol, BinaryLabel, CompressedName, DnsError, EmptyLabel, LongLabel, LongName,
     NoBuilder, NoField, NoLabel, NoMnemonic, NoRoom, RelativeName, ShortInput, TooManyEntries, TooManyPointers,
     TrailingData, WrongOrder,
 )
@@ -24,7 +24,7 @@ from ._mnemonic import Class, Flags, Opcode, Rcode, Type
 from ._name import Name, Reading, read, skip
 
 for _public in (
-    BadEscape, BadLabelType, BadSymbol, BinaryLabel, CompressedName, DnsError, EmptyLabel, LongLabel, LongName,
+    BadEscape, BadForm, BadLabelType, BadSymbol, BinaryLabel, CompressedName, DnsError, EmptyLabel, LongLabel, LongName,
     NoBuilder, NoField, NoLabel, NoMnemonic, NoRoom, RelativeName, ShortInput, TooManyEntries, TooManyPointers,
     TrailingData, WrongOrder,
     Builder, Class, Flags, Opcode, Rcode, Type, Composer, EdnsOption, Header, Message, Opt, Question, Record, Name,
@@ -34,7 +34,7 @@ for _public in (
 del _public
 
 __all__ = [
-    "BadEscape", "BadLabelType", "BadSymbol", "BinaryLabel", "Builder", "Class", "Composer", "CompressedName",
+    "BadEscape", "BadForm", "BadLabelType", "BadSymbol", "BinaryLabel", "Builder", "Class", "Composer", "CompressedName",
     "DnsError", "EdnsOption", "EmptyLabel", "Flags", "Header", "LongLabel", "LongName", "Message", "Name", "NoBuilder",
     "NoField", "NoLabel", "NoMnemonic", "NoRoom", "Opcode", "Opt", "Question", "Rcode", "Reading", "Record",
     "RelativeName", "ShortInput", "TooManyEntries", "TooManyPointers", "TrailingData", "Type", "WrongOrder", "read",

@@ -10,7 +10,7 @@ from typing import List, Optional, Union
 
 Octets = Union[bytes, bytearray, memoryview]
 
-VERSION = "0.4.0"
+VERSION = "0.5.0"
 
 MAX_LEN = 255
 MAX_TEXT = 1020
@@ -155,6 +155,12 @@ class TooManyEntries(DnsError):
     status, text = 25, "too many entries in a section"
 
 
+class BadForm(DnsError):
+    """An entry of the message hasn't the form of one: its name can't be read."""
+
+    status, text = 28, "an entry hasn't the form of one"
+
+
 # All strings or options of data were given: no fault, but the end.
 NO_MORE = 27
 
@@ -247,6 +253,8 @@ _ARGUMENTS = {
     "data_address": [_octets, _size, _size, _size, ctypes.c_uint16, _buffer, _size, _to_size],
     "data_string": [_octets, _size, _size, _size, ctypes.c_uint16, _to_size, _to_size, _to_size],
     "data_option": [_octets, _size, _size, _size, ctypes.c_uint16, _to_size, _to_16, _to_size, _to_size],
+    "message_text": [_octets, _size, _buffer, _size, _to_size],
+    "record_text": [_octets, _size, _size, _buffer, _size, _to_size],
     "opt": [ctypes.c_uint16, ctypes.c_uint16, ctypes.c_uint32, ctypes.c_uint16, ctypes.POINTER(OptFields)],
 }
 # The shared object that a wheel carries.

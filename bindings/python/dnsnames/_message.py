@@ -248,6 +248,24 @@ def _table(octets: bytes) -> Tuple[List[int], bytes]:
     return found
 
 
+# Room for the text of a usual message, so that most need one call.
+_TEXT = 4096
+
+
+def _text(call, offset: int, *arguments) -> str:
+    """The text that a call gives, with as much room as it needs."""
+    length, capacity = c_size_t(), _TEXT
+    while True:
+        buffer = create_string_buffer(capacity)
+        status = call(*arguments, buffer, capacity, byref(length))
+        if status == NoRoom.status and length.value > capacity:
+            capacity = length.value
+            continue
+        if status:
+            refuse(status, offset)
+        return buffer.raw[: length.value].decode("ascii")
+
+
 class Message:
     """A DNS message (RFC 1035, 4.1). Its octets are read when they are asked for, all entries at once: each iterator goes
     on to the first entry that can't be read, and raises its fault there.
@@ -283,6 +301,13 @@ class Message:
         if status:
             refuse(status, 0)
         return Header(found.id, found.flags, found.questions, found.answers, found.authority, found.additional)
+
+    def to_text(self) -> str:
+        """The message as `dig` shows it: two lines of its header, and for each section its heading and a line for each
+        question or record. Data that can't be read by their type are shown as octets, and why (RFC 3597, 5). Raises
+        ShortInput where the message ends before all that its header counts, BadForm where an entry hasn't the form of
+        one."""
+        return _text(library.dnsnames_message_text, 0, self._octets, len(self._octets))
 
     def name(self, offset: int) -> Name:
         """The name at an offset, as `read` reads it."""

@@ -43,6 +43,8 @@ pub enum Fault {
     WrongOrder,
     /// The section has 65,535 entries.
     TooManyEntries,
+    /// An entry of a message hasn't the form of one: its name can't be read.
+    BadForm,
     /// What a newer library answers, by its number.
     Other(u32),
 }
@@ -69,6 +71,7 @@ impl Fault {
             Fault::NoMnemonic => DNSNAMES_NO_MNEMONIC,
             Fault::WrongOrder => DNSNAMES_WRONG_ORDER,
             Fault::TooManyEntries => DNSNAMES_TOO_MANY_ENTRIES,
+            Fault::BadForm => DNSNAMES_BAD_FORM,
             Fault::Other(status) => status,
         }
     }
@@ -95,6 +98,7 @@ impl Fault {
             DNSNAMES_NO_MNEMONIC => Fault::NoMnemonic,
             DNSNAMES_WRONG_ORDER => Fault::WrongOrder,
             DNSNAMES_TOO_MANY_ENTRIES => Fault::TooManyEntries,
+            DNSNAMES_BAD_FORM => Fault::BadForm,
             status => Fault::Other(status),
         })
     }
@@ -121,6 +125,7 @@ impl fmt::Display for Fault {
             Fault::NoMnemonic => "no name of a type, a class or a code",
             Fault::WrongOrder => "a later section was begun",
             Fault::TooManyEntries => "too many entries in a section",
+            Fault::BadForm => "an entry hasn\'t the form of one",
             Fault::Other(_) => "refused by the library",
         })
     }

@@ -94,6 +94,36 @@ impl<'a> Message<'a> {
         read(self.octets, offset, MAX_POINTERS, buffer)
     }
 
+    /// The text of the message as `dig` writes it, in the buffer: two lines of its header, and for each section its
+    /// heading and a line for each question or record. Data that can't be read by their type are shown as octets, and why
+    /// (RFC 3597, 5).
+    ///
+    /// `NoRoom` tells how many octets it has. `ShortInput` where the message ends before all that its header counts,
+    /// `BadForm` where an entry hasn't the form of one.
+    pub fn text<'b>(&self, buffer: &'b mut [u8]) -> Result<&'b str, Fault> {
+        let mut len = 0;
+        let (octets, capacity) = (self.octets, buffer.len());
+        // SAFETY: as in `read`.
+        let status = unsafe {
+            dnsnames_message_text(octets.as_ptr(), octets.len(), buffer.as_mut_ptr(), capacity, &mut len)
+        };
+        Fault::check(status, Some(len))?;
+        ascii(&buffer[..len])
+    }
+
+    /// The line of the record at an offset, with a newline: owner, time to live, class, type and data. The faults of
+    /// [`text`](Message::text).
+    pub fn record_text<'b>(&self, offset: usize, buffer: &'b mut [u8]) -> Result<&'b str, Fault> {
+        let mut len = 0;
+        let (octets, capacity) = (self.octets, buffer.len());
+        // SAFETY: as in `read`.
+        let status = unsafe {
+            dnsnames_record_text(octets.as_ptr(), octets.len(), offset, buffer.as_mut_ptr(), capacity, &mut len)
+        };
+        Fault::check(status, Some(len))?;
+        ascii(&buffer[..len])
+    }
+
     /// The question at an offset: `ShortInput`, `BadLabelType`, `LongName`. The name's pointer isn't followed.
     pub fn question(&self, offset: usize) -> Result<Question, Fault> {
         let mut found = dnsnames_question_fields::default();
@@ -473,4 +503,9 @@ impl<'a> Composer<'a> {
     pub fn as_slice(&self) -> &[u8] {
         &self.octets[..self.len]
     }
+}
+
+/// A text of the library, which is ASCII.
+fn ascii(octets: &[u8]) -> Result<&str, Fault> {
+    core::str::from_utf8(octets).map_err(|_| Fault::BadSymbol)
 }

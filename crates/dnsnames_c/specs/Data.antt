@@ -4,6 +4,7 @@ use Rattle.domain_label.specs.Wire.{wire}
 use Rattle.domain_reading.specs.Grammar.{Names}
 use Rattle.domain_reading.specs.Faults.{NameFaultAt}
 use Rattle.domain_reading.specs.declared.fault.NameFault.{NameFault}
+use Rattle.domain_reading.specs.Limits.{max_pointers}
 use Rattle.domain_offsets.specs.Addresses.{HasAddress, LacksAddress}
 use Rattle.domain_offsets.specs.Names.{HasName, LacksName}
 use Rattle.domain_offsets.specs.Numbers.{HasNumber, LacksNumber}
@@ -14,8 +15,8 @@ use Rattle.dnsnames_c.specs.Status.{fault_number, data_number}
 -- The name at q in m was given; or it can't be read, and the number of why, and nothing changed.
 abbrev pub GivesNameAt : List ℕ → ℕ → ℕ → List ℕ → List ℕ → ℕ → ℕ → Type 0
 GivesNameAt m q status old new old_len len =
-    ((ls : List (List ℕ)) × Names 255 m q ls × Gives (wire ls) status old new len)
-    ⊎ ((f : NameFault) × NameFaultAt 255 m q f × (status ≡ fault_number f) × (new ≡ old) × (len ≡ old_len))
+    ((ls : List (List ℕ)) × Names max_pointers m q ls × Gives (wire ls) status old new len)
+    ⊎ ((f : NameFault) × NameFaultAt max_pointers m q f × (status ≡ fault_number f) × (new ≡ old) × (len ≡ old_len))
 
 -- The name with `index` names before it in the data of this type was given, where the data are the octets of the message
 -- from p on, so many. Or the data have no such name, and nothing changed.

@@ -9,3 +9,4 @@ pub mod Strings
 pub mod Opts
 pub mod Mnemonics
 pub mod Builders
+pub mod Shown

@@ -15,6 +15,7 @@ mod opt;
 mod plan;
 mod put;
 mod read;
+mod shown;
 mod string;
 mod table;
 mod text;

@@ -6,6 +6,7 @@ use Rattle.domain_wire.specs.declared.error.ParseError.{ParseError}
 use Rattle.domain_wire.specs.declared.error.ParseError.TheVariants.{ShortInput}
 use Rattle.domain_label.specs.Text.{text_with_final_dot}
 use Rattle.domain_reading.specs.Grammar.{Names, EncodingEnds}
+use Rattle.domain_reading.specs.Limits.{max_pointers}
 use Rattle.domain_rdata.specs.AnyData.{unknown_text}
 use Rattle.domain_tool.specs.NameFaults.{NoNameAt}
 use Rattle.domain_tool.specs.declared.entry_kind.EntryKind.{EntryKind}
@@ -28,7 +29,7 @@ kind_word Additional = codes "additional"
 
 -- The name at p is ls, and e is the offset after it (RFC 1035, 4.1.4).
 pub record NameTo (m : List ℕ) (p : ℕ) (ls : List (List ℕ)) (e : ℕ) : Type 0 where
-  pub named : Names 255 m p ls
+  pub named : Names max_pointers m p ls
   pub front : EncodingEnds m p e
 
 -- What is shown of the name, the type and the class of an entry: the two numbers are at q, after the name.

@@ -6,25 +6,11 @@ use Rattle.domain_tool.specs.declared.tool.ToolError.{ToolError}
 use Rattle.domain_tool.specs.declared.tool.ToolError.TheVariants.{Parse, Text, Read, Write, Memory}
 use Rattle.domain_wire.specs.declared.error.ParseError.{ParseError}
 use Rattle.domain_walk.specs.Asked.{AsksTo, AsksForSomething, WritesAsked, WritesGiven, IsMessage, IsAnswer}
-use Rattle.domain_walk.specs.Failures.{IfStreamFailed, IfWritingFailed}
+use Rattle.domain_lines.specs.Failures.{IfWritingFailed}
 use Rattle.domain_walk.specs.Hexadecimal.{start, IsHexFault}
 use Rattle.domain_walk.specs.declared.engine.Asked.{Asked}
 use Rattle.domain_walk.specs.declared.hexadecimal.HexFault.{HexFault}
-use Rattle.domain_walk.proofs.Telling.{of_input}
-
--- The error is one of reading.
-pub if_reading_failed : (e : ToolError) (failed : Type 0) → (e ≡ Read) ⊎ (e ≡ Memory) → failed → IfStreamFailed (Err e) failed
-if_reading_failed e failed (inl is) it = rw is it
-if_reading_failed e failed (inr is) it = rw is it
-
--- If there is one, it is of writing.
-pub if_writing_failed : (r : Result (Unit {0}) ToolError) (reading writing : Type 0) → IfWritingFailed r writing → IfStreamFailed r (reading ⊎ writing)
-if_writing_failed (Ok done) reading writing it = tt
-if_writing_failed (Err (Parse e)) reading writing it = tt
-if_writing_failed (Err (Text e)) reading writing it = it
-if_writing_failed (Err Read) reading writing it = absurd it
-if_writing_failed (Err Write) reading writing it = inr it
-if_writing_failed (Err Memory) reading writing it = inr it
+use Rattle.domain_lines.proofs.InAndOut.{of_input}
 
 -- The message isn't none, so writing failed.
 pub failed_to_write : (e : ToolError) (writing : Type 0) → ((why : ParseError) → e ≡ Parse why → ⊥) → IfWritingFailed (Err e) writing → writing

@@ -1,5 +1,3 @@
 pub mod HexTexts
 pub mod Telling
-pub mod Showing
 pub mod Failing
-pub mod Entries

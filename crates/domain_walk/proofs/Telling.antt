@@ -1,5 +1,5 @@
 -- What holds while a name is followed and told.
-use Rattle.std.proofs.Common.{◌≡◌, ℕ, ◌+◌, ◌^◌, ◌≤◌, ◌<◌, List, [], ◌∷◌, ◌++◌, length, refl, sym, subst, arith, ◌∙◌, Option, Some, None, IfSome, Bool, length-append, add-one}
+use Rattle.std.proofs.Common.{◌≡◌, ℕ, ◌+◌, ◌^◌, ◌≤◌, ◌<◌, List, [], ◌∷◌, ◌++◌, length, refl, sym, subst, arith, Option, Bool, length-append, add-one}
 use Rattle.std.specs.Io.KnownBytes.{Appends, Keeps}
 use Rattle.std.proofs.KnownBytes.{Appends-nil, Appends-trans}
 use Rattle.domain_reading.specs.Grammar.{OctetAt, LabelAt, PointerAt}
@@ -10,6 +10,7 @@ use Rattle.domain_reading.specs.declared.fault.NameFault.{NameFault}
 use Rattle.domain_reading.specs.declared.fault.NameFault.TheVariants.{ShortInput, BadLabelType, TooManyPointers, LongName}
 use Rattle.domain_reading.specs.declared.progress.Progress.{Progress}
 use Rattle.domain_reading.proofs.WhileReading.{Goes, going_start, going_label, going_pointer}
+use Rattle.domain_lines.proofs.InAndOut.{appends_kept}
 use Rattle.domain_walk.specs.Lines.{label_line, pointer_line, root_line}
 use Rattle.domain_walk.specs.Following.{walk_lines, fault_line, broken_line, FollowedThrough}
 use Rattle.domain_walk.specs.Engines.{IsLastLine, WritesFollowed}
@@ -59,20 +60,9 @@ tells_broken LongName old mid new before heads count g x a c = absurd x
 pub tells_few : {m : List ℕ} {p : ℕ} {w : Progress} {es : List ℕ} (old mid : Option (List ℕ)) (before heads : ℕ) → IsErrorOfText m p w es before heads old mid → w.count + w.pointers + 1 ≤ 383
 tells_few old mid before heads g = omega (arith, g.0.1.noted.count, g.0.1.short, g.0.1.few_labels, g.0.1.few_pointers)
 
--- What holds of the octets that were read holds of the input, where that is known.
-pub of_input : {items message : List ℕ} (P : List ℕ → Type 0) (input : Option (List ℕ)) → IfSome input (λ m. items ≡ m) → message ≡ items → P message → IfSome input P
-of_input P None e same x = tt
-of_input P (Some m) e same x = subst P (same ∙ e) x
-
 -- The lines were written and then the last one.
 pub writes_followed : {m lines : List ℕ} {p count : ℕ} (last : List ℕ) (old mid new : Option (List ℕ)) (found : Bool) → (count ≤ 383) → FollowedThrough m p lines count → Appends old mid lines → IsLastLine m p found count last → Appends mid new (last ++ 10 ∷ []) → WritesFollowed m p found old new
 writes_followed {lines = lines} {count = count} last old mid new found few x a ends b = record { lines = lines; last = last; count = count; few = few; followed = x; ends = ends; appends = Appends-trans old mid new _ _ a b }
-
-pub appends_kept : (a b c : Option (List ℕ)) (bs : List ℕ) → Appends a b bs → Keeps b c → Appends a c bs
-appends_kept None b c bs p q = tt
-appends_kept (Some x) None c bs p q = absurd p
-appends_kept (Some x) (Some y) None bs p q = absurd q
-appends_kept (Some x) (Some y) (Some z) bs p q = q ∙ p
 
 -- What was written stays so where no more is.
 pub still_followed : (m : List ℕ) (p : ℕ) (old mid new : Option (List ℕ)) (found : Bool) → WritesFollowed m p found old mid → Keeps mid new → WritesFollowed m p found old new

@@ -4,7 +4,7 @@ use Rattle.std.specs.Io.KnownBytes.{Keeps}
 use Rattle.domain_tool.specs.Numerals.{IsOffsetWord}
 use Rattle.domain_walk.specs.Engines.{WritesFollowed}
 use Rattle.domain_walk.specs.Hexadecimal.{start, IsHexText, IsHexFault}
-use Rattle.domain_walk.specs.Messages.{WritesShown}
+use Rattle.domain_lines.specs.Messages.{WritesShown}
 use Rattle.domain_walk.specs.declared.hexadecimal.HexFault.{HexFault}
 use Rattle.domain_walk.specs.declared.engine.Asked.{Asked}
 use Rattle.domain_walk.specs.declared.engine.Asked.TheVariants.{Name, Message}

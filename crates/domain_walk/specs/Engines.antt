@@ -6,14 +6,15 @@ use Rattle.domain_label.specs.Text.{text_with_final_dot}
 use Rattle.domain_reading.specs.Grammar.{Names}
 use Rattle.domain_reading.specs.Faults.{NameFaultAt, error_of}
 use Rattle.domain_reading.specs.declared.fault.NameFault.{NameFault}
+use Rattle.domain_reading.specs.Limits.{max_pointers}
 use Rattle.domain_walk.specs.Following.{FollowedThrough}
 pub use Rattle.domain_walk.specs.Lines.{count_text}
 
 -- The last line: the name at p with its final dot, or the reason why there is none, and how many labels and pointers
 -- were read.
 abbrev pub IsLastLine : List ℕ → ℕ → Bool → ℕ → List ℕ → Type 0
-IsLastLine m p true count last = (ls : List (List ℕ)) × Names 255 m p ls × (last ≡ text_with_final_dot ls ++ count_text count)
-IsLastLine m p false count last = (f : NameFault) × NameFaultAt 255 m p f × (last ≡ refusal_text (error_of f) ++ count_text count)
+IsLastLine m p true count last = (ls : List (List ℕ)) × Names max_pointers m p ls × (last ≡ text_with_final_dot ls ++ count_text count)
+IsLastLine m p false count last = (f : NameFault) × NameFaultAt max_pointers m p f × (last ≡ refusal_text (error_of f) ++ count_text count)
 
 -- A line was written for each label and pointer read from p on, at most 383, and a last line with the name or the
 -- reason why there is none.

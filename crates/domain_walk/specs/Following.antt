@@ -4,6 +4,7 @@ use Rattle.domain_reading.specs.Grammar.{OctetAt}
 use Rattle.domain_reading.specs.Faults.{Followed, start, past_label, past_pointer, StepFaultAt}
 use Rattle.domain_reading.specs.declared.fault.NameFault.{NameFault}
 use Rattle.domain_reading.specs.declared.fault.NameFault.TheVariants.{ShortInput, BadLabelType, TooManyPointers, LongName}
+use Rattle.domain_reading.specs.Limits.{max_pointers}
 use Rattle.domain_walk.specs.Lines.{root_line, label_line, pointer_line, cut_line, bad_type_line, long_line, refused_line}
 
 -- One line for each label and each pointer that was read, in this order.
@@ -29,5 +30,5 @@ fault_line n m k fs r LongName x = long_line r x.0
 -- The name at p was followed to its root or to an error: the lines that say so, and how many labels and pointers were
 -- read, the last of them among them.
 pub data FollowedThrough (m : List ℕ) (p : ℕ) (lines : List ℕ) (count : ℕ) : Type 0 where
-  to_root : {k r : ℕ} {fs : List (List ℕ)} (w : Followed 255 m p k fs r) → OctetAt m r 0 → lines ≡ walk_lines w ++ (root_line r ++ 10 ∷ []) → count ≡ length fs + k + 1 → FollowedThrough m p lines count
-  to_fault : {k r : ℕ} {fs : List (List ℕ)} (fault : NameFault) (w : Followed 255 m p k fs r) (x : StepFaultAt 255 m k fs r fault) → lines ≡ walk_lines w ++ (fault_line 255 m k fs r fault x ++ 10 ∷ []) → count ≡ length fs + k + 1 → FollowedThrough m p lines count
+  to_root : {k r : ℕ} {fs : List (List ℕ)} (w : Followed max_pointers m p k fs r) → OctetAt m r 0 → lines ≡ walk_lines w ++ (root_line r ++ 10 ∷ []) → count ≡ length fs + k + 1 → FollowedThrough m p lines count
+  to_fault : {k r : ℕ} {fs : List (List ℕ)} (fault : NameFault) (w : Followed max_pointers m p k fs r) (x : StepFaultAt max_pointers m k fs r fault) → lines ≡ walk_lines w ++ (fault_line 255 m k fs r fault x ++ 10 ∷ []) → count ≡ length fs + k + 1 → FollowedThrough m p lines count

@@ -1,11 +1,6 @@
-pub mod Flags
 pub mod Hexadecimal
-pub mod Edns
-pub mod Records
-pub mod Failures
 pub mod Lines
 pub mod Following
 pub mod Engines
 pub mod LastLines
-pub mod Messages
 pub mod Asked

@@ -6,14 +6,14 @@ ghost use Rattle.domain_walk.specs.Asked.{AsksTo, AsksForSomething, WordAsks, Wr
 ghost use Rattle.domain_tool.specs.declared.tool.ToolError.{ToolError};
 ghost use Rattle.domain_walk.specs.Engines.{WritesFollowed};
 ghost use Rattle.domain_walk.specs.Hexadecimal.{start, IsHexFault};
-ghost use Rattle.domain_walk.specs.Messages.{WritesShown};
+ghost use Rattle.domain_lines.specs.Messages.{WritesShown};
 ghost use Rattle.domain_walk.specs.declared.engine.Asked.{Asked};
 
 use crate::follow::write_lines;
 use crate::hexadecimal::{HexError, read_octets};
-pub use crate::message::show_message;
-use crate::message::write_message;
-use crate::streams::{Sink, Source};
+pub use domain_lines::message::show_message;
+use domain_lines::message::write_message;
+use domain_lines::streams::{Sink, Source};
 use domain_list::dotted::DisplayWithDot;
 use domain_parsed::ParsedName;
 use domain_tool::offset_of_word;

@@ -8,8 +8,8 @@ ghost use Rattle.domain_walk.specs.Following.{FollowedThrough, broken_line};
 ghost use Rattle.domain_walk.specs.Lines.{step_line, refused_line};
 
 use crate::step::Step;
-use crate::streams::Sink;
 use domain_label::Label;
+use domain_lines::streams::Sink;
 use domain_reading::fault::NameFault;
 use domain_reading::head::{Head, read_head};
 use domain_reading::heads::Heads;

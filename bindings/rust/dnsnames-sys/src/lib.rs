@@ -23,7 +23,7 @@ pub const DNSNAMES_MAX_MNEMONIC: usize = 12;
 /// The octets of a key of [`dnsnames_hash`].
 pub const DNSNAMES_KEY_LEN: usize = 16;
 /// The version of these declarations; [`dnsnames_version`] tells that of the library.
-pub const DNSNAMES_VERSION: &str = "0.4.0";
+pub const DNSNAMES_VERSION: &str = "0.5.0";
 
 /// What a call answers: one of the constants below, by which it tells why it refuses.
 pub type dnsnames_status = u32;
@@ -84,6 +84,10 @@ pub const DNSNAMES_TOO_MANY_ENTRIES: dnsnames_status = 25;
 pub const DNSNAMES_NO_SECTION: dnsnames_status = 26;
 /// All strings or options of the data were given: no fault, but the end.
 pub const DNSNAMES_NO_MORE: dnsnames_status = 27;
+/// Text of a message: an entry hasn't the form of one.
+pub const DNSNAMES_BAD_FORM: dnsnames_status = 28;
+/// Text of a message: it wasn't made. This doesn't come.
+pub const DNSNAMES_NO_TEXT: dnsnames_status = 29;
 
 // The flags of a message's header.
 pub const DNSNAMES_FLAG_QR: u16 = 0x8000;
@@ -427,6 +431,23 @@ extern "C" {
         code: *mut u16,
         option: *mut usize,
         option_len: *mut usize,
+    ) -> dnsnames_status;
+    /// The text of a message.
+    pub fn dnsnames_message_text(
+        message: *const u8,
+        message_len: usize,
+        buffer: *mut u8,
+        capacity: usize,
+        length: *mut usize,
+    ) -> dnsnames_status;
+    /// The line of the record at an offset of a message.
+    pub fn dnsnames_record_text(
+        message: *const u8,
+        message_len: usize,
+        offset: usize,
+        buffer: *mut u8,
+        capacity: usize,
+        length: *mut usize,
     ) -> dnsnames_status;
     /// Begins a message in a buffer.
     pub fn dnsnames_builder_start(

@@ -1,5 +1,5 @@
 use Rattle.domain_walk.specs.Engines.{WritesFollowed}
-use Rattle.domain_walk.proofs.Telling.{of_input}
+use Rattle.domain_lines.proofs.InAndOut.{of_input}
 use Rattle.domain_walk.proofs.engine.follow_name.Goals as goal
 
 pub returns-clause-written : goal.returns-clause-written

@@ -1,0 +1,5 @@
+pub mod InAndOut
+pub mod Showing
+pub mod Entries
+pub mod Laying
+pub mod Putting

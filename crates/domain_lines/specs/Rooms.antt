@@ -1,0 +1,17 @@
+-- A text in a buffer of fixed size, as far as it fits.
+use Rattle.std.specs.Prelude.{◌≡◌, ℕ, List, ◌++◌, length, take, drop}
+use Rattle.domain_lines.specs.declared.room.Room.{Room}
+
+-- the buffer with the text at its beginning, as far as it fits, and with what was behind it
+abbrev pub laid : List ℕ → List ℕ → List ℕ
+laid old text = take (length old) (text ++ drop (length text) old)
+
+-- The buffer, which was old, has the text, and this is how many octets the text has.
+pub record Holds (old text buffer : List ℕ) (len : ℕ) : Type 0 where
+  pub octets : buffer ≡ laid old text
+  pub many : len ≡ length text
+
+-- b is the room a after a text was put into it: of the same buffer, with the text behind what was put before.
+pub record takes (a b : Room) (text : List ℕ) : Type 0 where
+  pub same : b.buffer.ghost_name ≡ a.buffer.ghost_name
+  pub behind : (old before : List ℕ) → Holds old before a.buffer.now a.len → Holds old (before ++ text) b.buffer.now b.len

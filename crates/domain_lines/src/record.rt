@@ -1,0 +1,169 @@
+//! The lines of a record.
+ghost use Rattle.std.specs.Prelude.{◌≡◌, ◌∷◌, ◌++◌, ◌↔◌, [], ℕ, List, Some, IsTrue, OnOk, OnErr, IfOk};
+ghost use Rattle.std.specs.List.{list_any};
+ghost use Rattle.domain_header.specs.Values.{rcode_number};
+ghost use Rattle.domain_message.specs.Entries.{RecordFields};
+ghost use Rattle.domain_message.specs.RecordModel.{record_fields};
+ghost use Rattle.domain_lines.specs.Records.{bare_text, unread_text, IsBare, IsRecordLine, has_opt_head, is_opt, IsOptText, IsEntryText};
+ghost use Rattle.domain_lines.specs.Edns.{another_text};
+
+use crate::edns::{EdnsLine, write_options};
+use crate::streams::Sink;
+use domain_all_data::AllRecordData;
+use domain_header::Rcode;
+use domain_message::{ParsedRecord, Record, RtypeText, Section};
+use domain_rdata::ParseAnyRecordData;
+use domain_tool::tool::WriteFault;
+use domain_traits::ToName;
+use domain_wire::ParseError;
+use std::fmt;
+
+/// A record without data.
+#[derive(Clone, Copy)]
+struct BareLine<'a> {
+    record: ParsedRecord<'a>,
+}
+
+impl<'a> fmt::Display for BareLine<'a> {
+    ghost output = { λ it. Some (bare_text (record_fields it.record)) };
+
+    fn fmt<W: fmt::Write>(&self, f: &mut fmt::Formatter<W>) -> fmt::Result {
+        let owner = self.record.owner();
+        let owner = owner.fmt_with_dot();
+        let (ttl, class) = (self.record.ttl(), self.record.class());
+        let rtype = RtypeText::new(self.record.rtype());
+        write!(f, "{owner} {ttl} {class} {rtype}")
+    }
+}
+
+/// A record whose data can't be read: the octets of the data, and why.
+#[derive(Clone, Copy)]
+struct UnreadLine<'a> {
+    record: ParsedRecord<'a>,
+    why: ParseError,
+}
+
+impl<'a> fmt::Display for UnreadLine<'a> {
+    ghost output = { λ it. Some (unread_text (record_fields it.record) it.why) };
+
+    fn fmt<W: fmt::Write>(&self, f: &mut fmt::Formatter<W>) -> fmt::Result {
+        let (record, why) = (self.record, self.why);
+        write!(f, "{record} ; {why}")
+    }
+}
+
+/// Whether the record has no data, and its class says that none is meant: ANY or NONE (RFC 2136, 2.4 and 2.5).
+fn is_bare(found: &ParsedRecord<'_>) -> bool
+    ensures { IsTrue result ↔ IsBare (record_fields found.now) }
+{
+    let class = found.class().to_int();
+    found.rdlen() == 0 && (class == 254 || class == 255)
+}
+
+/// Writes the line of a record, with its data as its type has it, or as octets with a remark where it can't be read.
+pub fn write_record<W: Sink>(found: &ParsedRecord<'_>, output: &mut W) -> Result<(), WriteFault>
+    ensures written { OnOk result
+        ((line : List ℕ) × IsRecordLine (record_fields found.now) line
+        × W.takes output.old output.new (line ++ 10 ∷ [])) }
+    ensures failed { OnErr result (W.failed output.new) }
+{
+    if is_bare(found) {
+        output.put_line(BareLine { record: *found })?;
+        return Ok(());
+    }
+    let mut data = found.data();
+    match AllRecordData::parse_any_rdata(found.rtype(), &mut data) {
+        Ok(rdata) => {
+            let record = Record::new(found.owner(), found.class(), found.ttl(), rdata);
+            output.put_line(record)?;
+            Ok(())
+        }
+        Err(why) => {
+            let record = *found;
+            output.put_line(UnreadLine { record, why })?;
+            Ok(())
+        }
+    }
+}
+
+/// Whether the type is OPT, 41, and the owner the root (RFC 6891, 6.1.1 and 6.1.2).
+fn opt_head_is(found: &ParsedRecord<'_>) -> bool
+    ensures { result ≡ has_opt_head (record_fields found.now) }
+{
+    if found.rtype().to_int() != 41 {
+        return false;
+    }
+    found.owner().is_root()
+}
+
+/// Whether a record of a section is an OPT record: these are in the additional section (RFC 6891, 6.1.1).
+fn opt_is(section: Section, found: &ParsedRecord<'_>) -> bool
+    ensures { result ≡ is_opt section (record_fields found.now) }
+{
+    match section {
+        Section::Additional => opt_head_is(found),
+        Section::Answer | Section::Authority => false,
+    }
+}
+
+/// The line before an OPT record that isn't the first one: a message has at most one (RFC 6891, 6.1.1).
+const ANOTHER: &str = "; another OPT record: FORMERR, RFC 6891 6.1.1";
+
+/// Writes that an OPT record is another one, if it is.
+fn write_another<W: Sink>(another: bool, output: &mut W) -> Result<(), WriteFault>
+    ensures written { OnOk result
+        (W.takes output.old output.new (another_text another)) }
+    ensures failed { OnErr result (W.failed output.new) }
+{
+    if !another {
+        return Ok(());
+    }
+    output.put_line(ANOTHER)?;
+    Ok(())
+}
+
+/// Writes the lines of an OPT record, and says before them that it is another one.
+fn write_opt<W: Sink>(
+    rcode: Rcode,
+    another: bool,
+    found: &ParsedRecord<'_>,
+    output: &mut W,
+) -> Result<(), WriteFault>
+    ensures written { OnOk result
+        ((text : List ℕ) × IsOptText (rcode_number rcode) another (record_fields found.now) text
+        × W.takes output.old output.new text) }
+    ensures failed { OnErr result (W.failed output.new) }
+{
+    write_another(another, output)?;
+    let class = found.class();
+    let ttl = found.ttl();
+    output.put_line(EdnsLine { class, ttl, rcode })?;
+    write_options(found.data_octets(), output)
+}
+
+/// Writes what shows a record of a section: the lines of an OPT record, or the line of another. Returns whether there
+/// was an OPT record.
+pub(crate) fn write_entry<W: Sink>(
+    section: Section,
+    rcode: Rcode,
+    opt_seen: bool,
+    found: &ParsedRecord<'_>,
+    output: &mut W,
+) -> Result<bool, WriteFault>
+    ensures written { OnOk result
+        ((before : List RecordFields) → opt_seen ≡ list_any (is_opt section) before →
+        (text : List ℕ)
+        × IsEntryText (rcode_number rcode) section before (record_fields found.now) text
+        × W.takes output.old output.new text) }
+    ensures seen { IfOk result
+        (λ seen. (before : List RecordFields) → opt_seen ≡ list_any (is_opt section) before →
+        seen ≡ list_any (is_opt section) (before ++ record_fields found.now ∷ [])) }
+    ensures failed { OnErr result (W.failed output.new) }
+{
+    if opt_is(section, found) {
+        write_opt(rcode, opt_seen, found, output)?;
+        return Ok(true);
+    }
+    write_record(found, output)?;
+    Ok(opt_seen)
+}

@@ -1,0 +1,109 @@
+//! What is read to its end, and what lines are written to.
+ghost use Rattle.std.specs.Prelude.{◌≡◌, ◌∷◌, ◌++◌, ◌⊎◌, [], ℕ, List, Option, OnOk, OnErr, IfOk, IfErr, IfSome};
+ghost use Rattle.std.specs.Io.KnownBytes.{Appends, Keeps, IsAtEnd};
+ghost use Rattle.domain_tool.specs.declared.tool.ToolError.{ToolError};
+
+use domain_tool::tool::{ToolError, WriteFault, read_all, write_line};
+use std::alloc::Global;
+use std::fmt::Display;
+use std::io::{Read, Write};
+
+/// A stream that is read to its end: any `Read`.
+///
+/// A contract tells that reading failed by `failed`, of which a function over any `Source` knows nothing but that a call
+/// that failed left it so. So it can't tell of a failure that didn't come.
+pub trait Source {
+    /// What is left to read, where that is known.
+    ghost remaining: { Self → Option (List ℕ) };
+
+    /// The last call failed.
+    ghost failed: { Self → Type 0 };
+
+    /// Reads all that is left. `Read` where reading failed, `Memory` where there was no memory for it.
+    fn read_whole(&mut self, alloc: Global) -> Result<Vec<u8>, ToolError>
+        ensures octets { IfOk result
+            (λ octets. IfSome (remaining self.old) (λ m. octets.items ≡ m)) }
+        ensures whole { OnOk result (IsAtEnd (remaining self.new)) }
+        ensures err { IfErr result (λ e. (e ≡ ToolError.Read) ⊎ (e ≡ ToolError.Memory)) }
+        ensures failed { OnErr result (failed self.new) };
+}
+
+impl<R: Read> Source for R {
+    ghost remaining = { R.remaining };
+
+    ghost failed = { λ _. Unit {0} };
+
+    fn read_whole(&mut self, alloc: Global) -> Result<Vec<u8>, ToolError> {
+        match read_all(alloc, self) {
+            Ok(octets) => Ok(octets),
+            Err(e) => Err(e),
+        }
+    }
+}
+
+/// A stream that lines are written to: any `Write`. `failed` is as that of `Source`.
+pub trait Sink {
+    /// What it holds, where that is known.
+    ghost contents: { Self → Option (List ℕ) };
+
+    /// What it becomes where a text was put into it. Of one whose contents aren't known this tells of the text still.
+    ghost takes: { Self → Self → List ℕ → Type 0 };
+
+    /// The last call failed.
+    ghost failed: { Self → Type 0 };
+
+    /// Writes a text and a newline.
+    fn put_line<D: Display + Drop>(&mut self, text: D) -> Result<(), WriteFault>
+        ensures written { OnOk result
+            (IfSome (D.output text)
+            (λ shown. Appends (contents self.old) (contents self.new) (shown ++ 10 ∷ []))) }
+        ensures taken { OnOk result
+            (IfSome (D.output text) (λ shown. takes self.old self.new (shown ++ 10 ∷ []))) }
+        ensures failed { OnErr result (failed self.new) };
+
+    /// Sends on what was written.
+    fn send(&mut self) -> Result<(), WriteFault>
+        ensures kept { OnOk result (Keeps (contents self.old) (contents self.new)) }
+        ensures failed { OnErr result (failed self.new) };
+
+    /// A text that was put stands behind what it held, where that is known.
+    ghost appends: { (a b : Self) (text : List ℕ) → takes a b text →
+        Appends (contents a) (contents b) text };
+
+    /// Where no text was put it is as it was,
+    ghost nothing: { (a : Self) → takes a a [] };
+
+    /// and one text after another is both together.
+    ghost joined: { (a b c : Self) (first second : List ℕ) → takes a b first →
+        takes b c second → takes a c (first ++ second) };
+}
+
+impl<W: Write> Sink for W {
+    ghost use Rattle.std.proofs.KnownBytes.{Appends-nil, Appends-trans};
+
+    ghost contents = { W.contents };
+
+    ghost takes = { λ a b. Appends (W.contents a) (W.contents b) };
+
+    ghost failed = { λ _. Unit {0} };
+
+    fn put_line<D: Display + Drop>(&mut self, text: D) -> Result<(), WriteFault> {
+        match write_line(self, text) {
+            Ok(()) => Ok(()),
+            Err(fault) => Err(fault),
+        }
+    }
+
+    fn send(&mut self) -> Result<(), WriteFault> {
+        match self.flush() {
+            Ok(()) => Ok(()),
+            Err(_) => Err(WriteFault::Refused),
+        }
+    }
+
+    ghost appends = { λ a b text put. put };
+
+    ghost nothing = { λ a. Appends-nil (W.contents a) };
+
+    ghost joined = { λ a b c. Appends-trans (W.contents a) (W.contents b) (W.contents c) };
+}

@@ -1,7 +1,0 @@
-use Rattle.domain_message.specs.Entries.{QuestionAt}
-use Rattle.domain_walk.specs.Messages.{IsQuestionText}
-use Rattle.domain_walk.proofs.Showing.{Written}
-use Rattle.domain_walk.proofs.message.write_questions.Given as goal
-
-abbrev pub invariant-loop-question : goal.invariant-loop-question
-invariant-loop-question g l = Written QuestionAt IsQuestionText l.initial.parser l._question l.parser (g.W.Sink.contents l.initial.output) (g.W.Sink.contents l.output)
