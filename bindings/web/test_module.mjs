@@ -39,6 +39,17 @@ assert.equal(faultOf(() => dns.nameInData(message, alias, 1)), "NoField");
 assert.deepEqual([0, 1].map((index) => dns.nameInData(message, authority, index).text), ["b.", "c.b."]);
 assert.equal(faultOf(() => dns.nameInData(message, authority, 2)), "NoField");
 
+// The text of the message, and of a record.
+assert.equal(dns.messageText(message), [
+    ";; opcode: QUERY, status: NOERROR, id: 7",
+    ";; flags: qr rd ra; QUESTION: 1, ANSWER: 1, AUTHORITY: 1, ADDITIONAL: 0",
+    ";; QUESTION SECTION", "a. IN A", ";; ANSWER SECTION", "a. 60 IN CNAME a.", ";; AUTHORITY SECTION",
+    ". 0 IN SOA b. c.b. 0 0 0 0 0", ";; ADDITIONAL SECTION", "",
+].join("\n"));
+assert.equal(dns.recordText(message, alias.offset), "a. 60 IN CNAME a.");
+assert.equal(faultOf(() => dns.messageText(message.slice(0, -1))), "ShortInput");
+assert.equal(faultOf(() => dns.recordText(Uint8Array.of(128), 0)), "BadForm");
+
 // Data that end in the name, or go on after it.
 const cut = { ...alias, data: alias.data.slice(1) };
 assert.equal(faultOf(() => dns.nameInData(message, cut)), "ShortInput");

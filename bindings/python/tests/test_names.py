@@ -408,6 +408,40 @@ class Mnemonics(unittest.TestCase):
         self.assertEqual((str(message.header.opcode), str(message.header.rcode)), ("QUERY", "NOERROR"))
 
 
+class Texts(unittest.TestCase):
+    OCTETS = bytes.fromhex("1234 8180 0001 0001 0000 0000 0161 00 0001 0001 c00c 0005 0001 0000003c 0002 c00c")
+    LINES = [
+        ";; opcode: QUERY, status: NOERROR, id: 4660",
+        ";; flags: qr rd ra; QUESTION: 1, ANSWER: 1, AUTHORITY: 0, ADDITIONAL: 0",
+        ";; QUESTION SECTION",
+        "a. IN A",
+        ";; ANSWER SECTION",
+        "a. 60 IN CNAME a.",
+        ";; AUTHORITY SECTION",
+        ";; ADDITIONAL SECTION",
+    ]
+
+    def test_a_message(self):
+        message = Message(self.OCTETS)
+        self.assertEqual(message.to_text(), "".join(line + "\n" for line in self.LINES))
+        self.assertEqual([record.to_text() for record in message.answers()], ["a. 60 IN CNAME a."])
+
+    def test_more_than_a_usual_message(self):
+        many = 200
+        octets = b"\0\0\x80\0\0\0" + many.to_bytes(2, "big") + bytes(4)
+        octets += (b"\0\0\1\0\1" + bytes(4) + b"\0\4\xc0\0\2\1") * many
+        text = Message(octets).to_text()
+        self.assertGreater(len(text), 4096)
+        self.assertEqual(text.count(". 0 IN A 192.0.2.1\n"), many)
+
+    def test_refusals(self):
+        for end in range(len(self.OCTETS)):
+            with self.assertRaises(dnsnames.ShortInput):
+                Message(self.OCTETS[:end]).to_text()
+        with self.assertRaises(dnsnames.BadForm):
+            Message(self.OCTETS[:12] + b"\x80" + self.OCTETS[13:]).to_text()
+
+
 class Builders(unittest.TestCase):
     def test_a_message(self):
         builder = Builder(512, id=0x1234, flags=0x8180)

@@ -360,3 +360,19 @@ fn strings_and_options() {
     assert!(message.options_in_data(&cut).eq([Ok(first), Err(Fault::ShortInput)]));
     assert!(message.strings_in_data(&record).eq([Err(Fault::NoField)]));
 }
+
+#[test]
+fn texts_of_messages() {
+    let octets = b"\x12\x34\x81\x80\0\x01\0\x01\0\0\0\0\x01a\0\0\x01\0\x01\xc0\x0c\0\x05\0\x01\0\0\0\x3c\0\x02\xc0\x0c";
+    let message = Message::new(octets);
+    let mut buffer = [0; 512];
+    let text = message.text(&mut buffer).unwrap();
+    assert!(text.starts_with(";; opcode: QUERY, status: NOERROR, id: 4660\n;; flags: qr rd ra;"));
+    assert!(text.ends_with(";; ANSWER SECTION\na. 60 IN CNAME a.\n;; AUTHORITY SECTION\n;; ADDITIONAL SECTION\n"));
+    let len = text.len();
+    assert_eq!(message.text(&mut [0; 40]), Err(Fault::NoRoom(Some(len))));
+    assert_eq!(message.record_text(19, &mut buffer), Ok("a. 60 IN CNAME a.\n"));
+    assert_eq!(message.record_text(octets.len(), &mut buffer), Err(Fault::ShortInput));
+    assert_eq!(Message::new(b"\x80").record_text(0, &mut buffer), Err(Fault::BadForm));
+    assert_eq!(Message::new(&octets[..30]).text(&mut buffer), Err(Fault::ShortInput));
+}
