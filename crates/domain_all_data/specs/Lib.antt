@@ -1,3 +1,3 @@
 pub mod AllData
 pub mod AllTypes
-pub mod Flat
+pub mod Written

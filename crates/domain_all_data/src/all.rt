@@ -152,7 +152,7 @@ impl<Octs: Octets, N> RecordData for AllRecordData<Octs, N> {
 impl<'a> ComposeRecordData for AllRecordData<&'a [u8], ParsedName<&'a [u8]>> {
     ghost use Rattle.domain_parsed.proofs.ParsedFields.{parsed_absolute};
     ghost use Rattle.domain_data.specs.Views.{fields_of};
-    ghost use Rattle.domain_all_data.specs.Flat.{plain_octets, plain_name, plain_both, flat_octets, flat_name, flat_both};
+    ghost use Rattle.domain_all_data.specs.Written.{one_of_octets, two_of_octets, three_of_octets, four_of_octets, six_of_octets, nine_of_octets, a_name, two_names, octets_and_name, names_and_octets};
     ghost use Rattle.domain_all_data.specs.declared.all.AllRecordData.TheVariants.{A, Aaaa, Ns, Cname, Ptr, Dname, Mx, Soa, Srv, Mb, Md, Mf, Mg, Mr, Minfo, Rp, Afsdb, Rt, Px, Kx, Hinfo, Naptr, Ds, Sshfp, Rrsig, Nsec, Dnskey, Tlsa, Caa, Svcb, Https, Txt, Unknown};
 
     ghost composed = { elim [
@@ -456,75 +456,79 @@ impl<'a> ComposeRecordData for AllRecordData<&'a [u8], ParsedName<&'a [u8]>> {
     }
 
     ghost plain = { elim [
-      | A it ↦ plain_octets _
-      | Aaaa it ↦ plain_octets _
-      | Ns it ↦ plain_name _ (parsed_absolute (fields_of it).name)
-      | Cname it ↦ plain_name _ (parsed_absolute (fields_of it).name)
-      | Ptr it ↦ plain_name _ (parsed_absolute (fields_of it).name)
-      | Dname it ↦ plain_octets _
-      | Mx it ↦ plain_both _ _ _ _ (plain_octets _) (plain_name _ (parsed_absolute (fields_of it).rest.name))
-      | Soa it ↦ plain_both _ _ _ _ (plain_name _ (parsed_absolute (fields_of it).first.name)) (plain_both _ _ _ _ (plain_name _ (parsed_absolute (fields_of it).rest.first.name)) (plain_both _ _ _ _ (plain_octets _) (plain_both _ _ _ _ (plain_octets _) (plain_both _ _ _ _ (plain_octets _) (plain_both _ _ _ _ (plain_octets _) (plain_octets _))))))
-      | Srv it ↦ plain_both _ _ _ _ (plain_octets _) (plain_both _ _ _ _ (plain_octets _) (plain_both _ _ _ _ (plain_octets _) (plain_octets _)))
-      | Mb it ↦ plain_name _ (parsed_absolute (fields_of it).name)
-      | Md it ↦ plain_name _ (parsed_absolute (fields_of it).name)
-      | Mf it ↦ plain_name _ (parsed_absolute (fields_of it).name)
-      | Mg it ↦ plain_name _ (parsed_absolute (fields_of it).name)
-      | Mr it ↦ plain_name _ (parsed_absolute (fields_of it).name)
-      | Minfo it ↦ plain_both _ _ _ _ (plain_name _ (parsed_absolute (fields_of it).first.name)) (plain_name _ (parsed_absolute (fields_of it).rest.name))
-      | Rp it ↦ plain_both _ _ _ _ (plain_octets _) (plain_octets _)
-      | Afsdb it ↦ plain_both _ _ _ _ (plain_octets _) (plain_octets _)
-      | Rt it ↦ plain_both _ _ _ _ (plain_octets _) (plain_octets _)
-      | Px it ↦ plain_both _ _ _ _ (plain_octets _) (plain_both _ _ _ _ (plain_octets _) (plain_octets _))
-      | Kx it ↦ plain_both _ _ _ _ (plain_octets _) (plain_octets _)
-      | Hinfo it ↦ plain_both _ _ _ _ (plain_octets _) (plain_octets _)
-      | Naptr it ↦ plain_both _ _ _ _ (plain_octets _) (plain_both _ _ _ _ (plain_octets _) (plain_both _ _ _ _ (plain_octets _) (plain_both _ _ _ _ (plain_octets _) (plain_both _ _ _ _ (plain_octets _) (plain_octets _)))))
-      | Ds it ↦ plain_both _ _ _ _ (plain_octets _) (plain_both _ _ _ _ (plain_octets _) (plain_both _ _ _ _ (plain_octets _) (plain_octets _)))
-      | Sshfp it ↦ plain_both _ _ _ _ (plain_octets _) (plain_both _ _ _ _ (plain_octets _) (plain_octets _))
-      | Rrsig it ↦ plain_both _ _ _ _ (plain_octets _) (plain_both _ _ _ _ (plain_octets _) (plain_both _ _ _ _ (plain_octets _) (plain_both _ _ _ _ (plain_octets _) (plain_both _ _ _ _ (plain_octets _) (plain_both _ _ _ _ (plain_octets _) (plain_both _ _ _ _ (plain_octets _) (plain_both _ _ _ _ (plain_octets _) (plain_octets _))))))))
-      | Nsec it ↦ plain_both _ _ _ _ (plain_octets _) (plain_octets _)
-      | Dnskey it ↦ plain_both _ _ _ _ (plain_octets _) (plain_both _ _ _ _ (plain_octets _) (plain_both _ _ _ _ (plain_octets _) (plain_octets _)))
-      | Tlsa it ↦ plain_both _ _ _ _ (plain_octets _) (plain_both _ _ _ _ (plain_octets _) (plain_both _ _ _ _ (plain_octets _) (plain_octets _)))
-      | Caa it ↦ plain_both _ _ _ _ (plain_octets _) (plain_both _ _ _ _ (plain_octets _) (plain_octets _))
-      | Svcb it ↦ plain_both _ _ _ _ (plain_octets _) (plain_both _ _ _ _ (plain_octets _) (plain_octets _))
-      | Https it ↦ plain_both _ _ _ _ (plain_octets _) (plain_both _ _ _ _ (plain_octets _) (plain_octets _))
-      | Txt it ↦ plain_octets _
-      | Unknown it ↦ plain_octets _
+      | A it ↦ one_of_octets.plain
+      | Aaaa it ↦ one_of_octets.plain
+      | Ns it ↦ (a_name (parsed_absolute (fields_of it).name)).plain
+      | Cname it ↦ (a_name (parsed_absolute (fields_of it).name)).plain
+      | Ptr it ↦ (a_name (parsed_absolute (fields_of it).name)).plain
+      | Dname it ↦ one_of_octets.plain
+      | Mx it ↦ (octets_and_name (parsed_absolute (fields_of it).rest.name)).plain
+      | Soa it ↦ (names_and_octets (parsed_absolute (fields_of it).first.name)
+          (parsed_absolute (fields_of it).rest.first.name)).plain
+      | Srv it ↦ four_of_octets.plain
+      | Mb it ↦ (a_name (parsed_absolute (fields_of it).name)).plain
+      | Md it ↦ (a_name (parsed_absolute (fields_of it).name)).plain
+      | Mf it ↦ (a_name (parsed_absolute (fields_of it).name)).plain
+      | Mg it ↦ (a_name (parsed_absolute (fields_of it).name)).plain
+      | Mr it ↦ (a_name (parsed_absolute (fields_of it).name)).plain
+      | Minfo it ↦ (two_names (parsed_absolute (fields_of it).first.name)
+          (parsed_absolute (fields_of it).rest.name)).plain
+      | Rp it ↦ two_of_octets.plain
+      | Afsdb it ↦ two_of_octets.plain
+      | Rt it ↦ two_of_octets.plain
+      | Px it ↦ three_of_octets.plain
+      | Kx it ↦ two_of_octets.plain
+      | Hinfo it ↦ two_of_octets.plain
+      | Naptr it ↦ six_of_octets.plain
+      | Ds it ↦ four_of_octets.plain
+      | Sshfp it ↦ three_of_octets.plain
+      | Rrsig it ↦ nine_of_octets.plain
+      | Nsec it ↦ two_of_octets.plain
+      | Dnskey it ↦ four_of_octets.plain
+      | Tlsa it ↦ four_of_octets.plain
+      | Caa it ↦ three_of_octets.plain
+      | Svcb it ↦ three_of_octets.plain
+      | Https it ↦ three_of_octets.plain
+      | Txt it ↦ one_of_octets.plain
+      | Unknown it ↦ one_of_octets.plain
     ] };
 
     ghost flat = { elim [
-      | A it ↦ flat_octets _
-      | Aaaa it ↦ flat_octets _
-      | Ns it ↦ flat_name _
-      | Cname it ↦ flat_name _
-      | Ptr it ↦ flat_name _
-      | Dname it ↦ flat_octets _
-      | Mx it ↦ flat_both _ _ _ _ (flat_octets _) (flat_name _)
-      | Soa it ↦ flat_both _ _ _ _ (flat_name _) (flat_both _ _ _ _ (flat_name _) (flat_both _ _ _ _ (flat_octets _) (flat_both _ _ _ _ (flat_octets _) (flat_both _ _ _ _ (flat_octets _) (flat_both _ _ _ _ (flat_octets _) (flat_octets _))))))
-      | Srv it ↦ flat_both _ _ _ _ (flat_octets _) (flat_both _ _ _ _ (flat_octets _) (flat_both _ _ _ _ (flat_octets _) (flat_octets _)))
-      | Mb it ↦ flat_name _
-      | Md it ↦ flat_name _
-      | Mf it ↦ flat_name _
-      | Mg it ↦ flat_name _
-      | Mr it ↦ flat_name _
-      | Minfo it ↦ flat_both _ _ _ _ (flat_name _) (flat_name _)
-      | Rp it ↦ flat_both _ _ _ _ (flat_octets _) (flat_octets _)
-      | Afsdb it ↦ flat_both _ _ _ _ (flat_octets _) (flat_octets _)
-      | Rt it ↦ flat_both _ _ _ _ (flat_octets _) (flat_octets _)
-      | Px it ↦ flat_both _ _ _ _ (flat_octets _) (flat_both _ _ _ _ (flat_octets _) (flat_octets _))
-      | Kx it ↦ flat_both _ _ _ _ (flat_octets _) (flat_octets _)
-      | Hinfo it ↦ flat_both _ _ _ _ (flat_octets _) (flat_octets _)
-      | Naptr it ↦ flat_both _ _ _ _ (flat_octets _) (flat_both _ _ _ _ (flat_octets _) (flat_both _ _ _ _ (flat_octets _) (flat_both _ _ _ _ (flat_octets _) (flat_both _ _ _ _ (flat_octets _) (flat_octets _)))))
-      | Ds it ↦ flat_both _ _ _ _ (flat_octets _) (flat_both _ _ _ _ (flat_octets _) (flat_both _ _ _ _ (flat_octets _) (flat_octets _)))
-      | Sshfp it ↦ flat_both _ _ _ _ (flat_octets _) (flat_both _ _ _ _ (flat_octets _) (flat_octets _))
-      | Rrsig it ↦ flat_both _ _ _ _ (flat_octets _) (flat_both _ _ _ _ (flat_octets _) (flat_both _ _ _ _ (flat_octets _) (flat_both _ _ _ _ (flat_octets _) (flat_both _ _ _ _ (flat_octets _) (flat_both _ _ _ _ (flat_octets _) (flat_both _ _ _ _ (flat_octets _) (flat_both _ _ _ _ (flat_octets _) (flat_octets _))))))))
-      | Nsec it ↦ flat_both _ _ _ _ (flat_octets _) (flat_octets _)
-      | Dnskey it ↦ flat_both _ _ _ _ (flat_octets _) (flat_both _ _ _ _ (flat_octets _) (flat_both _ _ _ _ (flat_octets _) (flat_octets _)))
-      | Tlsa it ↦ flat_both _ _ _ _ (flat_octets _) (flat_both _ _ _ _ (flat_octets _) (flat_both _ _ _ _ (flat_octets _) (flat_octets _)))
-      | Caa it ↦ flat_both _ _ _ _ (flat_octets _) (flat_both _ _ _ _ (flat_octets _) (flat_octets _))
-      | Svcb it ↦ flat_both _ _ _ _ (flat_octets _) (flat_both _ _ _ _ (flat_octets _) (flat_octets _))
-      | Https it ↦ flat_both _ _ _ _ (flat_octets _) (flat_both _ _ _ _ (flat_octets _) (flat_octets _))
-      | Txt it ↦ flat_octets _
-      | Unknown it ↦ flat_octets _
+      | A it ↦ one_of_octets.flat
+      | Aaaa it ↦ one_of_octets.flat
+      | Ns it ↦ (a_name (parsed_absolute (fields_of it).name)).flat
+      | Cname it ↦ (a_name (parsed_absolute (fields_of it).name)).flat
+      | Ptr it ↦ (a_name (parsed_absolute (fields_of it).name)).flat
+      | Dname it ↦ one_of_octets.flat
+      | Mx it ↦ (octets_and_name (parsed_absolute (fields_of it).rest.name)).flat
+      | Soa it ↦ (names_and_octets (parsed_absolute (fields_of it).first.name)
+          (parsed_absolute (fields_of it).rest.first.name)).flat
+      | Srv it ↦ four_of_octets.flat
+      | Mb it ↦ (a_name (parsed_absolute (fields_of it).name)).flat
+      | Md it ↦ (a_name (parsed_absolute (fields_of it).name)).flat
+      | Mf it ↦ (a_name (parsed_absolute (fields_of it).name)).flat
+      | Mg it ↦ (a_name (parsed_absolute (fields_of it).name)).flat
+      | Mr it ↦ (a_name (parsed_absolute (fields_of it).name)).flat
+      | Minfo it ↦ (two_names (parsed_absolute (fields_of it).first.name)
+          (parsed_absolute (fields_of it).rest.name)).flat
+      | Rp it ↦ two_of_octets.flat
+      | Afsdb it ↦ two_of_octets.flat
+      | Rt it ↦ two_of_octets.flat
+      | Px it ↦ three_of_octets.flat
+      | Kx it ↦ two_of_octets.flat
+      | Hinfo it ↦ two_of_octets.flat
+      | Naptr it ↦ six_of_octets.flat
+      | Ds it ↦ four_of_octets.flat
+      | Sshfp it ↦ three_of_octets.flat
+      | Rrsig it ↦ nine_of_octets.flat
+      | Nsec it ↦ two_of_octets.flat
+      | Dnskey it ↦ four_of_octets.flat
+      | Tlsa it ↦ four_of_octets.flat
+      | Caa it ↦ three_of_octets.flat
+      | Svcb it ↦ three_of_octets.flat
+      | Https it ↦ three_of_octets.flat
+      | Txt it ↦ one_of_octets.flat
+      | Unknown it ↦ one_of_octets.flat
     ] };
 }
 

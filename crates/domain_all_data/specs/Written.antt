@@ -1,0 +1,76 @@
+-- What may be appended for data: always its octets with no name compressed, and where no name is written shorter nothing else.
+use Rattle.std.specs.Prelude.{◌≡◌, ℕ, Bool, false, List, [], ◌∷◌, ◌++◌, refl}
+use Rattle.std.proofs.Common.{ap, ◌∙◌}
+use Rattle.domain_label.specs.Wire.{wire, IsAbsoluteName}
+use Rattle.domain_rdata.specs.FlatNames.{wire_reads_back}
+use Rattle.domain_rdata.specs.RecordData.{NameOctets}
+use Rattle.domain_fields.specs.Sequences.{BothComposed}
+
+-- These octets may always be appended, and where no name is written shorter nothing else may.
+pub record IsWritten (May : Bool → List ℕ → List ℕ → Type 0) (octets : List ℕ) : Type 0 where
+  pub plain : (compresses : Bool) (t : List ℕ) → May compresses t octets
+  pub flat : (t s : List ℕ) → May false t s → s ≡ octets
+
+-- Fields of these octets are appended, one after the other.
+abbrev pub Fields : List ℕ → List (List ℕ) → List ℕ → List ℕ → Type 0
+Fields a [] = λ _ s. s ≡ a
+Fields a (b ∷ more) = BothComposed (λ _ s. s ≡ a) (Fields b more)
+
+-- the octets of these fields
+abbrev pub all_fields : List ℕ → List (List ℕ) → List ℕ
+all_fields a [] = a
+all_fields a (b ∷ more) = a ++ all_fields b more
+
+-- a field and those after it
+pub both : {First Rest : Bool → List ℕ → List ℕ → Type 0} {a b : List ℕ} → IsWritten First a → IsWritten Rest b → IsWritten (λ c. BothComposed (First c) (Rest c)) (a ++ b)
+both {First} {Rest} {a} {b} first rest = record {
+  plain = λ compresses t. record {
+    first = a;
+    rest = b;
+    first_allowed = first.plain compresses t;
+    rest_allowed = rest.plain compresses (t ++ a);
+    all = refl;
+  };
+  flat = λ t s may. may.all ∙ (ap (λ x. x ++ may.rest) (first.flat t may.first may.first_allowed) ∙ ap (λ x. a ++ x) (rest.flat (t ++ may.first) may.rest may.rest_allowed));
+}
+
+-- a field whose octets are always the same
+pub one_of_octets : {a : List ℕ} → IsWritten (λ _ _ s. s ≡ a) a
+one_of_octets = record { plain = λ _ _. refl; flat = λ _ _ same. same }
+
+-- fields whose octets are always the same
+pub fields : (a : List ℕ) (more : List (List ℕ)) → IsWritten (λ _. Fields a more) (all_fields a more)
+fields a [] = one_of_octets
+fields a (b ∷ more) = both one_of_octets (fields b more)
+
+pub two_of_octets : {a b : List ℕ} → IsWritten (λ _. Fields a (b ∷ [])) (all_fields a (b ∷ []))
+two_of_octets {a} {b} = fields a (b ∷ [])
+
+pub three_of_octets : {a b c : List ℕ} → IsWritten (λ _. Fields a (b ∷ c ∷ [])) (all_fields a (b ∷ c ∷ []))
+three_of_octets {a} {b} {c} = fields a (b ∷ c ∷ [])
+
+pub four_of_octets : {a b c d : List ℕ} → IsWritten (λ _. Fields a (b ∷ c ∷ d ∷ [])) (all_fields a (b ∷ c ∷ d ∷ []))
+four_of_octets {a} {b} {c} {d} = fields a (b ∷ c ∷ d ∷ [])
+
+pub six_of_octets : {a b c d e f : List ℕ} → IsWritten (λ _. Fields a (b ∷ c ∷ d ∷ e ∷ f ∷ [])) (all_fields a (b ∷ c ∷ d ∷ e ∷ f ∷ []))
+six_of_octets {a} {b} {c} {d} {e} {f} = fields a (b ∷ c ∷ d ∷ e ∷ f ∷ [])
+
+pub nine_of_octets : {a b c d e f g h i : List ℕ} → IsWritten (λ _. Fields a (b ∷ c ∷ d ∷ e ∷ f ∷ g ∷ h ∷ i ∷ [])) (all_fields a (b ∷ c ∷ d ∷ e ∷ f ∷ g ∷ h ∷ i ∷ []))
+nine_of_octets {a} {b} {c} {d} {e} {f} {g} {h} {i} = fields a (b ∷ c ∷ d ∷ e ∷ f ∷ g ∷ h ∷ i ∷ [])
+
+-- a name
+pub a_name : {ls : List (List ℕ)} → IsAbsoluteName ls → IsWritten (NameOctets ls) (wire ls)
+a_name {ls} name = record {
+  plain = λ _ t. record { read = wire_reads_back t ls name; flat = λ _. refl };
+  flat = λ t s octets. octets.flat refl;
+}
+
+pub two_names : {ls ms : List (List ℕ)} → IsAbsoluteName ls → IsAbsoluteName ms → IsWritten (λ c. BothComposed (NameOctets ls c) (NameOctets ms c)) (wire ls ++ wire ms)
+two_names first second = both (a_name first) (a_name second)
+
+pub octets_and_name : {a : List ℕ} {ls : List (List ℕ)} → IsAbsoluteName ls → IsWritten (λ c. BothComposed (λ _ s. s ≡ a) (NameOctets ls c)) (a ++ wire ls)
+octets_and_name name = both one_of_octets (a_name name)
+
+-- two names and five fields of octets
+pub names_and_octets : {ls ms : List (List ℕ)} {a b c d e : List ℕ} → IsAbsoluteName ls → IsAbsoluteName ms → IsWritten (λ k. BothComposed (NameOctets ls k) (BothComposed (NameOctets ms k) (Fields a (b ∷ c ∷ d ∷ e ∷ [])))) (wire ls ++ (wire ms ++ all_fields a (b ∷ c ∷ d ∷ e ∷ [])))
+names_and_octets {ls} {ms} {a} {b} {c} {d} {e} first second = both (a_name first) (both (a_name second) (fields a (b ∷ c ∷ d ∷ e ∷ [])))
