@@ -1,13 +1,14 @@
 // The types of dnsnames.mjs. A module of TypeScript has them where this file lies beside that one.
 
-/** Why something is refused: `fault` is its name, `status` the module's number, `section` the standard's, and `offset` where
- *  what was asked for begins. */
+/** Why something is refused: `fault` is its name, `status` the module's number, `section` the standard's, `offset` where
+ *  what was asked for begins, and `shown`, of a message's text, that of what stands before. */
 export class NameFault extends Error {
     readonly name: "NameFault";
     readonly status: number;
     readonly fault: string;
     readonly section: string;
     readonly offset: number | undefined;
+    readonly shown?: string;
     constructor(status: number, offset?: number);
 }
 

@@ -284,7 +284,8 @@ export class DnsNames {
 
     /** The text of a message as dig writes it: two lines of its header, and for each section its heading and a line for each
      *  question or record. Data that can't be read by their type are shown as octets, and why (RFC 3597, 5). ShortInput where
-     *  the message ends before all that its header counts, BadForm where an entry hasn't the form of one. */
+     *  the message ends before all that its header counts, BadForm where an entry hasn't the form of one: `shown` is then the
+     *  text of what stands before. */
     messageText(message) {
         return this.#text("message_text", 0, message, []);
     }
@@ -300,9 +301,14 @@ export class DnsNames {
             const [slice, room] = this.#begin(message, capacity);
             const [length] = this.#results(1);
             const status = this.#exports["dnsnames_" + call](...slice, ...more, ...room, length) >>> 0;
+            if (status === NO_ROOM && this.#size(length) > capacity) {
+                capacity = this.#size(length);
+                continue;
+            }
             if (status === 0) return new TextDecoder().decode(this.#octets(room, length));
-            if (status !== NO_ROOM || this.#size(length) <= capacity) throw new NameFault(status, offset);
-            capacity = this.#size(length);
+            const fault = new NameFault(status, offset);
+            if (call === "message_text" && FAULTS.has(status)) fault.shown = new TextDecoder().decode(this.#octets(room, length));
+            throw fault;
         }
     }
 

@@ -48,6 +48,7 @@ assert.equal(dns.messageText(message), [
 ].join("\n"));
 assert.equal(dns.recordText(message, alias.offset), "a. 60 IN CNAME a.");
 assert.equal(faultOf(() => dns.messageText(message.slice(0, -1))), "ShortInput");
+assert.throws(() => dns.messageText(message.slice(0, 12)), ({ shown }) => shown.endsWith(";; QUESTION SECTION\n"));
 assert.equal(faultOf(() => dns.recordText(Uint8Array.of(128), 0)), "BadForm");
 
 // Data that end in the name, or go on after it.

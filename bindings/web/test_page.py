@@ -158,6 +158,9 @@ class Page(unittest.TestCase):
         self.type_into("digits", "0007 8180 0001 0001 0000 0000 00 0001 0001 c0")
         self.assertEqual(self.lines(), ["question . IN A"])
         self.assertEqual(self.find("entries-note").text, "after these: unexpected end of input")
+        self.assertEqual(self.find("text").text.split("\n")[2:], [
+            ";; QUESTION SECTION", ". IN A", ";; ANSWER SECTION", "unexpected end of input",
+        ])
 
     def test_a_changed_entry_is_built(self):
         self.type_into("entries", "question www.example.com. IN A\nanswer www.example.com. 60 IN A \\# 4 c0000201")
@@ -166,6 +169,7 @@ class Page(unittest.TestCase):
                   " c00c 0001 0001 0000003c 0004 c0000201").replace(" ", "")
         self.assertEqual(self.find("digits").get_property("value").replace(" ", ""), wanted)
         self.assertEqual(self.told()[0], "www.example.com.")
+        self.assertIn("\nwww.example.com. 60 IN A 192.0.2.1\n", self.find("text").text)
         self.type_into("offset", str(wanted.index("c00c") // 2))
         steps = [item.text for item in self.find("steps").find_elements(By.TAG_NAME, "li")]
         self.assertEqual(steps[0], "at 33: a pointer to 12")
