@@ -106,7 +106,9 @@ typedef enum dnsnames_status {
     /* Text of a message: an entry hasn't the form of one. */
     DNSNAMES_BAD_FORM = 28,
     /* Text of a message: it wasn't made. This doesn't come, but no proof tells so. */
-    DNSNAMES_NO_TEXT = 29
+    DNSNAMES_NO_TEXT = 29,
+    /* Aliases: the first question has no canonical name, or more records lead on than the limit allows. */
+    DNSNAMES_NO_END = 30
 } dnsnames_status;
 
 /* The version of the library: a text that stays. */
@@ -340,6 +342,22 @@ enum {
 dnsnames_status dnsnames_table(const uint8_t *message, size_t message_len, uint8_t limit, uint32_t *rows,
                                size_t rows_capacity, uint8_t *names, size_t names_capacity, size_t *row_count,
                                size_t *names_len);
+
+/* Whether a message answers a query: *yes becomes 1 where it is a response with the query's identifier and the query's
+ * questions, in their order, names without ASCII case, and 0 otherwise. A message with a question missing answers none, and
+ * none answers it. SHORT_INPUT where one of the two has fewer than twelve octets. */
+dnsnames_status dnsnames_is_answer(const uint8_t *message, size_t message_len, const uint8_t *query, size_t query_len,
+                                   uint32_t *yes);
+
+/* The canonical name of the first question, uncompressed: that to which at most `limit` CNAME records of the answers lead
+ * from the question's, and from which none leads on (RFC 1034, 3.6.2); the question's own, where none does. The records may
+ * be in any order; of two of one name the first is followed; classes, and the type that is asked for, aren't heeded.
+ *
+ * NO_END where more records lead on, as where a name leads back to itself, where there is no question, or where one that
+ * the header counts is missing. SHORT_INPUT where the message has fewer than twelve octets. The answers are read at most
+ * once more often than the limit says; resolvers follow 11 to 16. */
+dnsnames_status dnsnames_canonical_name(const uint8_t *message, size_t message_len, uint16_t limit, uint8_t *buffer,
+                                        size_t capacity, size_t *length);
 
 /* The name with `index` names before it in the data of a record: data, data_len and type are those that dnsnames_record
  * gives. The buffer gets the uncompressed name, *length its size. Unlike dnsnames_read it reads no octet after the data
@@ -664,6 +682,7 @@ static inline const char *dnsnames_strerror(uint32_t status)
     case DNSNAMES_NO_MORE: return "no more strings or options";
     case DNSNAMES_BAD_FORM: return "an entry hasn't the form of one";
     case DNSNAMES_NO_TEXT: return "the text wasn't made";
+    case DNSNAMES_NO_END: return "aliases lead to no name";
     default: return "unknown status";
     }
 }

@@ -44,6 +44,10 @@ uint32_t proved_dnsnames_record(const uint8_t *message, size_t message_len, size
 uint32_t proved_dnsnames_table(const uint8_t *message, size_t message_len, uint8_t limit, uint32_t *rows,
                                size_t rows_capacity, uint8_t *names, size_t names_capacity, size_t *row_count,
                                size_t *names_len);
+uint32_t proved_dnsnames_is_answer(const uint8_t *message, size_t message_len, const uint8_t *query, size_t query_len,
+                                   uint32_t *yes);
+uint32_t proved_dnsnames_canonical_name(const uint8_t *message, size_t message_len, uint16_t limit, uint8_t *buffer,
+                                        size_t capacity, size_t *length);
 uint32_t proved_dnsnames_data_name(const uint8_t *message, size_t message_len, size_t data, size_t data_len,
                                    uint16_t type, size_t index, uint8_t *buffer, size_t capacity, size_t *length);
 uint32_t proved_dnsnames_data_number(const uint8_t *message, size_t message_len, size_t data, size_t data_len,
@@ -271,6 +275,21 @@ dnsnames_status dnsnames_table(const uint8_t *message, size_t message_len, uint8
                    row_count == NULL || names_len == NULL,
                    proved_dnsnames_table(octets_at(message), message_len, limit, rows_at(rows), rows_capacity,
                                          room_at(names), names_capacity, row_count, names_len));
+}
+
+dnsnames_status dnsnames_is_answer(const uint8_t *message, size_t message_len, const uint8_t *query, size_t query_len,
+                                   uint32_t *yes)
+{
+    return GUARDED(is_null(message, message_len) || is_null(query, query_len) || yes == NULL,
+                   proved_dnsnames_is_answer(octets_at(message), message_len, octets_at(query), query_len, yes));
+}
+
+dnsnames_status dnsnames_canonical_name(const uint8_t *message, size_t message_len, uint16_t limit, uint8_t *buffer,
+                                        size_t capacity, size_t *length)
+{
+    return GUARDED(is_null(message, message_len) || is_null(buffer, capacity) || length == NULL,
+                   proved_dnsnames_canonical_name(octets_at(message), message_len, limit, room_at(buffer), capacity,
+                                                  length));
 }
 
 dnsnames_status dnsnames_data_name(const uint8_t *message, size_t message_len, size_t data, size_t data_len,

@@ -116,6 +116,8 @@ export class DnsNames {
     stringsInData(message: Uint8Array, record: DnsRecord): Generator<Uint8Array, void, undefined>;
     opt(record: DnsRecord, flags?: number): Opt;
     optionsInData(message: Uint8Array, record: DnsRecord): Generator<EdnsOption, void, undefined>;
+    isAnswer(message: Uint8Array, query: Uint8Array): boolean;
+    canonicalName(message: Uint8Array, limit?: number): { octets: Uint8Array; text: string } | null;
     messageText(message: Uint8Array): string;
     recordText(message: Uint8Array, offset: number): string;
     entries(message: Uint8Array): Generator<Entry, void, undefined>;

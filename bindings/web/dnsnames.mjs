@@ -49,6 +49,8 @@ const FAULTS = new Map([
 const NO_MORE = 27;
 // The status by which it tells that a text needs more room.
 const NO_ROOM = 8;
+// The status by which it tells that aliases lead to no name.
+const NO_END = 30;
 
 /** Why something is refused: `fault` is its name, `status` the module's number, `section` the standard's. */
 export class NameFault extends Error {
@@ -280,6 +282,27 @@ export class DnsNames {
         const status = this.#exports["dnsnames_" + call](...values) >>> 0;
         if (status !== 0 && status !== NO_MORE) throw new NameFault(status, record.dataOffset);
         return status === 0;
+    }
+
+    /** Whether a message answers a query: a response with the query's identifier and the query's questions. ShortInput. */
+    isAnswer(message, query) {
+        const slices = this.#begin(message, query);
+        const [yes] = this.#results(1);
+        this.#call("is_answer", 0, ...slices.flat(), yes);
+        return this.#view().getUint32(Number(yes), true) === 1;
+    }
+
+    /** The name to which at most `limit` CNAME records of the answers lead from the first question's (RFC 1034, 3.6.2): its
+     *  octets and its text. Null where more of them lead on, as they do in a ring, or a question is missing. */
+    canonicalName(message, limit = 16) {
+        if (!Number.isInteger(limit) || limit < 0 || limit > 65535) throw new RangeError("the limit is from 0 to 65,535");
+        const [slice, room] = this.#begin(message, MAX_LEN);
+        const [length] = this.#results(1);
+        const status = this.#exports.dnsnames_canonical_name(...slice, limit, ...room, length) >>> 0;
+        if (status === NO_END) return null;
+        if (status !== 0) throw new NameFault(status, 0);
+        const octets = this.#octets(room, length);
+        return { octets, text: this.toText(octets) };
     }
 
     /** The text of a message as dig writes it: two lines of its header, and for each section its heading and a line for each

@@ -39,6 +39,13 @@ assert.equal(faultOf(() => dns.nameInData(message, alias, 1)), "NoField");
 assert.deepEqual([0, 1].map((index) => dns.nameInData(message, authority, index).text), ["b.", "c.b."]);
 assert.equal(faultOf(() => dns.nameInData(message, authority, 2)), "NoField");
 
+// Whether it answers, and where its aliases lead: in a ring.
+const query = Uint8Array.of(...message.slice(0, 2), 1, 0, 0, 1, 0, 0, 0, 0, 0, 0, 1, 65, 0, 0, 1, 0, 1);
+assert.deepEqual([dns.isAnswer(message, query), dns.isAnswer(query, message)], [true, false]);
+assert.equal(faultOf(() => dns.isAnswer(message, new Uint8Array(11))), "ShortInput");
+assert.equal(dns.canonicalName(message), null);
+assert.equal(dns.canonicalName(query, 0).text, "A.");
+
 // The text of the message, and of a record.
 assert.equal(dns.messageText(message), [
     ";; opcode: QUERY, status: NOERROR, id: 7",

@@ -751,6 +751,51 @@ static void opt_records(void)
 #undef OPTION
 }
 
+static void answers_and_aliases(void)
+{
+    static const uint8_t QUERY[] = "\x12\x34\1\0\0\1\0\0\0\0\0\0\3WWW\7example\3COM\0\0\1\0\1";
+    enum { QUERY_LEN = sizeof QUERY - 1 };
+    uint8_t other[RESPONSE_LEN];
+    size_t len, capacity;
+
+    CHECK(dnsnames_is_answer(RESPONSE, RESPONSE_LEN, QUERY, QUERY_LEN, &flag) == DNSNAMES_OK && flag == 1);
+    CHECK(dnsnames_is_answer(QUERY, QUERY_LEN, RESPONSE, RESPONSE_LEN, &flag) == DNSNAMES_OK && flag == 0);
+    /* Not with another identifier, as no response, with another name, type or class, or with one question more. */
+    for (len = 0; len < 6; len++) {
+        static const size_t at[] = {1, 2, 5, 15, 30, 32};
+        memcpy(other, RESPONSE, sizeof other);
+        other[at[len]] ^= len == 1 ? 0x80 : 2;
+        CHECK(dnsnames_is_answer(other, sizeof other, QUERY, QUERY_LEN, &flag) == DNSNAMES_OK && flag == 0);
+    }
+    for (len = 12; len < QUERY_LEN; len++)
+        CHECK(dnsnames_is_answer(RESPONSE, RESPONSE_LEN, QUERY, len, &flag) == DNSNAMES_OK && flag == 0);
+    for (len = 0; len < 12; len++) {
+        REFUSES(DNSNAMES_SHORT_INPUT, dnsnames_is_answer(RESPONSE, len, QUERY, QUERY_LEN, &flag));
+        REFUSES(DNSNAMES_SHORT_INPUT, dnsnames_is_answer(RESPONSE, RESPONSE_LEN, QUERY, len, &flag));
+        REFUSES(DNSNAMES_SHORT_INPUT, dnsnames_canonical_name(RESPONSE, len, 16, buffer, sizeof buffer, &length));
+    }
+
+    for (capacity = 0; capacity < 18; capacity++) {
+        mark();
+        CHECK(dnsnames_canonical_name(RESPONSE, RESPONSE_LEN, 1, buffer, capacity, &length) == DNSNAMES_NO_ROOM);
+        CHECK(length == 18 && holds(OCTETS(""), 0));
+    }
+    mark();
+    CHECK(dnsnames_canonical_name(RESPONSE, RESPONSE_LEN, 1, buffer, 18, &length) == DNSNAMES_OK && length == 18);
+    CHECK(holds(OCTETS("\4host\7example\3com"), 18));
+    REFUSES(DNSNAMES_NO_END, dnsnames_canonical_name(RESPONSE, RESPONSE_LEN, 0, buffer, sizeof buffer, &length));
+    mark();
+    CHECK(dnsnames_canonical_name(QUERY, QUERY_LEN, 0, buffer, sizeof buffer, &length) == DNSNAMES_OK);
+    CHECK(length == 17 && holds(OCTETS("\3WWW\7example\3COM"), 17));
+    REFUSES(DNSNAMES_NO_END, dnsnames_canonical_name(QUERY, QUERY_LEN - 1, 16, buffer, sizeof buffer, &length));
+    /* The alias leads back to its own owner. */
+    memcpy(other, RESPONSE, sizeof other);
+    memcpy(other + CNAME + 12, "\3www\300\020", 6);
+    other[CNAME + 11] = 6;
+    memmove(other + CNAME + 18, other + ADDRESS, RESPONSE_LEN - ADDRESS);
+    REFUSES(DNSNAMES_NO_END, dnsnames_canonical_name(other, RESPONSE_LEN - 1, 65535, buffer, sizeof buffer, &length));
+}
+
 /* The response as dig writes it, with an OPT record at its end. */
 static const char SHOWN[] =
     ";; opcode: QUERY, status: NOERROR, id: 4660\n"
@@ -1165,6 +1210,7 @@ int main(void)
     addresses_in_data();
     strings_in_data();
     opt_records();
+    answers_and_aliases();
     texts_of_messages();
     planning();
     appending();

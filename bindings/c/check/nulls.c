@@ -106,6 +106,8 @@ static void empty(void)
     REFUSES(DNSNAMES_SHORT_INPUT, dnsnames_data_address(NONE, 0, 0, 0, 1, buffer, sizeof buffer, &length));
     REFUSES(DNSNAMES_SHORT_INPUT, dnsnames_data_string(NONE, 0, 0, 1, 16, &length, &end, &end));
     REFUSES(DNSNAMES_NO_MORE, dnsnames_data_option(NONE, 0, 0, 0, 41, &length, &number[0], &end, &end));
+    REFUSES(DNSNAMES_SHORT_INPUT, dnsnames_is_answer(NONE, 0, NONE, 0, &flag));
+    REFUSES(DNSNAMES_SHORT_INPUT, dnsnames_canonical_name(NONE, 0, 16, buffer, sizeof buffer, &length));
     REFUSES(DNSNAMES_SHORT_INPUT, dnsnames_record_text(NONE, 0, 0, buffer, sizeof buffer, &length));
     REFUSES(DNSNAMES_NO_MNEMONIC, dnsnames_type_from_text(NONE, 0, &number[0]));
     REFUSES(DNSNAMES_NO_MNEMONIC, dnsnames_class_from_text(NONE, 0, &number[0]));
@@ -179,6 +181,10 @@ static void slices(void)
     NULLED(dnsnames_data_address(NONE, 1, 0, 0, 1, buffer, sizeof buffer, &length));
     NULLED(dnsnames_data_address(NAME, sizeof NAME, 0, 4, 1, NULL, 1, &length));
     NULLED(dnsnames_data_string(NONE, 1, 0, 0, 16, &length, &end, &end));
+    NULLED(dnsnames_is_answer(NONE, 1, NAME, sizeof NAME, &flag));
+    NULLED(dnsnames_is_answer(NAME, sizeof NAME, NONE, 1, &flag));
+    NULLED(dnsnames_canonical_name(NONE, 1, 16, buffer, sizeof buffer, &length));
+    NULLED(dnsnames_canonical_name(NAME, sizeof NAME, 16, NULL, 1, &length));
     NULLED(dnsnames_message_text(NONE, 1, buffer, sizeof buffer, &length));
     NULLED(dnsnames_message_text(NAME, sizeof NAME, NULL, 1, &length));
     NULLED(dnsnames_record_text(NONE, 1, 0, buffer, sizeof buffer, &length));
@@ -252,6 +258,8 @@ static void results(void)
     NULLED(dnsnames_data_string(NAME, sizeof NAME, 0, 5, 16, NULL, &length, &end));
     NULLED(dnsnames_data_string(NAME, sizeof NAME, 0, 5, 16, &length, NULL, &end));
     NULLED(dnsnames_data_string(NAME, sizeof NAME, 0, 5, 16, &length, &end, NULL));
+    NULLED(dnsnames_is_answer(NAME, sizeof NAME, NAME, sizeof NAME, NULL));
+    NULLED(dnsnames_canonical_name(NAME, sizeof NAME, 16, buffer, sizeof buffer, NULL));
     NULLED(dnsnames_message_text(NAME, sizeof NAME, buffer, sizeof buffer, NULL));
     NULLED(dnsnames_record_text(NAME, sizeof NAME, 0, buffer, sizeof buffer, NULL));
     NULLED(dnsnames_opt(41, 512, 0, 0, NULL));

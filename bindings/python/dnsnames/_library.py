@@ -163,6 +163,8 @@ class BadForm(DnsError):
 
 # All strings or options of data were given: no fault, but the end.
 NO_MORE = 27
+# Aliases lead to no name.
+NO_END = 30
 
 FAULTS = {
     fault.status: fault
@@ -253,6 +255,8 @@ _ARGUMENTS = {
     "data_address": [_octets, _size, _size, _size, ctypes.c_uint16, _buffer, _size, _to_size],
     "data_string": [_octets, _size, _size, _size, ctypes.c_uint16, _to_size, _to_size, _to_size],
     "data_option": [_octets, _size, _size, _size, ctypes.c_uint16, _to_size, _to_16, _to_size, _to_size],
+    "is_answer": [_octets, _size, _octets, _size, _to_32],
+    "canonical_name": [_octets, _size, ctypes.c_uint16, _buffer, _size, _to_size],
     "message_text": [_octets, _size, _buffer, _size, _to_size],
     "record_text": [_octets, _size, _size, _buffer, _size, _to_size],
     "opt": [ctypes.c_uint16, ctypes.c_uint16, ctypes.c_uint32, ctypes.c_uint16, ctypes.POINTER(OptFields)],

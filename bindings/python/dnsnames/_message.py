@@ -9,8 +9,8 @@ from struct import Struct
 from typing import Any, Callable, Dict, Iterator, List, NamedTuple, Optional, Tuple, Union
 
 from ._library import (
-    MAX_LEN, MAX_TABLE, NO_MORE, ROW_LEN, Buffer, HeaderFields, NoField, NoRoom, Octets, OptFields, QuestionFields,
-    RecordFields, Room, as_octets, as_size, library, refuse,
+    MAX_LEN, MAX_TABLE, NO_END, NO_MORE, ROW_LEN, Buffer, HeaderFields, NoField, NoRoom, Octets, OptFields,
+    QuestionFields, RecordFields, Room, as_octets, as_size, library, refuse,
 )
 from ._mnemonic import Class, Flags, Opcode, Rcode, Type, classes, types
 from ._name import Name, read
@@ -301,6 +301,32 @@ class Message:
         if status:
             refuse(status, 0)
         return Header(found.id, found.flags, found.questions, found.answers, found.authority, found.additional)
+
+    def is_answer_to(self, query: Message) -> bool:
+        """Whether this is a response with the query's identifier and the query's questions. Raises ShortInput where one of
+        the two has fewer than 12 octets."""
+        yes = c_uint32()
+        status = library.dnsnames_is_answer(
+            self._octets, len(self._octets), query._octets, len(query._octets), byref(yes)
+        )
+        if status:
+            refuse(status, 0)
+        return yes.value == 1
+
+    def canonical_name(self, limit: int = 16) -> Optional[Name]:
+        """The name to which at most so many CNAME records of the answers lead from the first question's, and from which
+        none leads on (RFC 1034, 3.6.2). None where more of them lead on, as they do in a ring, or a question is missing."""
+        if not 0 <= limit <= 65535:
+            raise ValueError("the limit is from 0 to 65,535")
+        buffer, length = Buffer(), c_size_t()
+        status = library.dnsnames_canonical_name(
+            self._octets, len(self._octets), limit, buffer, MAX_LEN, byref(length)
+        )
+        if status == NO_END:
+            return None
+        if status:
+            refuse(status, 0)
+        return Name._of(buffer[: length.value])
 
     def to_text(self) -> str:
         """The message as `dig` shows it: two lines of its header, and for each section its heading and a line for each

@@ -408,6 +408,29 @@ class Mnemonics(unittest.TestCase):
         self.assertEqual((str(message.header.opcode), str(message.header.rcode)), ("QUERY", "NOERROR"))
 
 
+class Answers(unittest.TestCase):
+    QUERY = bytes.fromhex("1234 0100 0001 0000 0000 0000 0141 00 0001 0001")
+    ANSWER = bytes.fromhex("1234 8180 0001 0001 0000 0000 0161 00 0001 0001 c00c 0005 0001 0000003c")
+
+    def test_answers(self):
+        query, answer = Message(self.QUERY), Message(self.ANSWER + b"\0\3\1b\0")
+        self.assertIs(answer.is_answer_to(query), True)
+        self.assertIs(query.is_answer_to(answer), False)
+        self.assertIs(Message(b"\x12\x35" + bytes(answer)[2:]).is_answer_to(query), False)
+        with self.assertRaises(dnsnames.ShortInput):
+            answer.is_answer_to(Message(b""))
+
+    def test_aliases(self):
+        answer, ring = Message(self.ANSWER + b"\0\3\1b\0"), Message(self.ANSWER + b"\0\2\xc0\x0c")
+        self.assertEqual(answer.canonical_name(), Name("b"))
+        self.assertEqual(str(Message(self.QUERY).canonical_name(0)), "A.")
+        self.assertIsNone(answer.canonical_name(0))
+        self.assertIsNone(ring.canonical_name(65535))
+        self.assertIsNone(Message(self.QUERY[:-1]).canonical_name())
+        with self.assertRaises(ValueError):
+            answer.canonical_name(65536)
+
+
 class Texts(unittest.TestCase):
     OCTETS = bytes.fromhex("1234 8180 0001 0001 0000 0000 0161 00 0001 0001 c00c 0005 0001 0000003c 0002 c00c")
     LINES = [

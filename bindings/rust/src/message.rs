@@ -94,6 +94,33 @@ impl<'a> Message<'a> {
         read(self.octets, offset, MAX_POINTERS, buffer)
     }
 
+    /// Whether this message answers the query: a response with the query's identifier and the query's questions.
+    /// `ShortInput` where one of the two has fewer than 12 octets.
+    pub fn is_answer(&self, query: &Message<'_>) -> Result<bool, Fault> {
+        let mut yes = 0;
+        let (ours, theirs) = (self.octets, query.octets);
+        // SAFETY: as in `read`.
+        let status = unsafe { dnsnames_is_answer(ours.as_ptr(), ours.len(), theirs.as_ptr(), theirs.len(), &mut yes) };
+        Fault::check(status, None)?;
+        Ok(yes == 1)
+    }
+
+    /// The name to which at most `limit` CNAME records of the answers lead from the first question's (RFC 1034, 3.6.2).
+    /// `None` where more of them lead on, as they do in a ring, or a question is missing. `ShortInput`, `NoRoom`.
+    pub fn canonical_name<'b>(&self, limit: u16, buffer: &'b mut [u8]) -> Result<Option<Name<'b>>, Fault> {
+        let mut len = 0;
+        let (octets, capacity) = (self.octets, buffer.len());
+        // SAFETY: as in `read`.
+        let status = unsafe {
+            dnsnames_canonical_name(octets.as_ptr(), octets.len(), limit, buffer.as_mut_ptr(), capacity, &mut len)
+        };
+        if status == DNSNAMES_NO_END {
+            return Ok(None);
+        }
+        Fault::check(status, Some(len))?;
+        Name::from_slice(&buffer[..len]).map(Some)
+    }
+
     /// The text of the message as `dig` writes it, in the buffer: two lines of its header, and for each section its
     /// heading and a line for each question or record. Data that can't be read by their type are shown as octets, and why
     /// (RFC 3597, 5).
@@ -104,9 +131,8 @@ impl<'a> Message<'a> {
         let mut len = 0;
         let (octets, capacity) = (self.octets, buffer.len());
         // SAFETY: as in `read`.
-        let status = unsafe {
-            dnsnames_message_text(octets.as_ptr(), octets.len(), buffer.as_mut_ptr(), capacity, &mut len)
-        };
+        let status =
+            unsafe { dnsnames_message_text(octets.as_ptr(), octets.len(), buffer.as_mut_ptr(), capacity, &mut len) };
         Fault::check(status, Some(len))?;
         ascii(&buffer[..len])
     }

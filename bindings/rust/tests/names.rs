@@ -362,6 +362,21 @@ fn strings_and_options() {
 }
 
 #[test]
+fn answers_and_aliases() {
+    let query = b"\x12\x34\x01\0\0\x01\0\0\0\0\0\0\x01A\0\0\x01\0\x01";
+    let ring = b"\x12\x34\x81\x80\0\x01\0\x01\0\0\0\0\x01a\0\0\x01\0\x01\xc0\x0c\0\x05\0\x01\0\0\0\x3c\0\x02\xc0\x0c";
+    let led = b"\x12\x34\x81\x80\0\x01\0\x01\0\0\0\0\x01a\0\0\x01\0\x01\xc0\x0c\0\x05\0\x01\0\0\0\x3c\0\x03\x01b\0";
+    let (query, ring, led) = (Message::new(query), Message::new(ring), Message::new(led));
+    assert_eq!((led.is_answer(&query), query.is_answer(&led)), (Ok(true), Ok(false)));
+    assert_eq!(led.is_answer(&Message::new(b"")), Err(Fault::ShortInput));
+    let mut buffer = [0; MAX_LEN];
+    assert_eq!(led.canonical_name(1, &mut buffer).unwrap().unwrap().to_string(), "b");
+    assert_eq!(query.canonical_name(0, &mut buffer).unwrap().unwrap().to_string(), "A");
+    assert_eq!((led.canonical_name(0, &mut buffer), ring.canonical_name(16, &mut [0; 1])), (Ok(None), Ok(None)));
+    assert_eq!(led.canonical_name(1, &mut [0; 2]), Err(Fault::NoRoom(Some(3))));
+}
+
+#[test]
 fn texts_of_messages() {
     let octets = b"\x12\x34\x81\x80\0\x01\0\x01\0\0\0\0\x01a\0\0\x01\0\x01\xc0\x0c\0\x05\0\x01\0\0\0\x3c\0\x02\xc0\x0c";
     let message = Message::new(octets);

@@ -10,3 +10,4 @@ pub mod Opts
 pub mod Mnemonics
 pub mod Builders
 pub mod Shown
+pub mod Replies

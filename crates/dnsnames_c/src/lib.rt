@@ -4,6 +4,7 @@
 //! anything: what it gives goes into the caller's buffers. The header `dnsnames.h` names the numbers that calls answer.
 #![tactic(auto)]
 
+mod answer;
 mod builder;
 mod check;
 mod compare;

@@ -88,6 +88,8 @@ pub const DNSNAMES_NO_MORE: dnsnames_status = 27;
 pub const DNSNAMES_BAD_FORM: dnsnames_status = 28;
 /// Text of a message: it wasn't made. This doesn't come.
 pub const DNSNAMES_NO_TEXT: dnsnames_status = 29;
+/// Aliases: the first question has no canonical name, or more records lead on than the limit allows.
+pub const DNSNAMES_NO_END: dnsnames_status = 30;
 
 // The flags of a message's header.
 pub const DNSNAMES_FLAG_QR: u16 = 0x8000;
@@ -431,6 +433,23 @@ extern "C" {
         code: *mut u16,
         option: *mut usize,
         option_len: *mut usize,
+    ) -> dnsnames_status;
+    /// Whether a message answers a query.
+    pub fn dnsnames_is_answer(
+        message: *const u8,
+        message_len: usize,
+        query: *const u8,
+        query_len: usize,
+        yes: *mut u32,
+    ) -> dnsnames_status;
+    /// The canonical name of the first question.
+    pub fn dnsnames_canonical_name(
+        message: *const u8,
+        message_len: usize,
+        limit: u16,
+        buffer: *mut u8,
+        capacity: usize,
+        length: *mut usize,
     ) -> dnsnames_status;
     /// The text of a message.
     pub fn dnsnames_message_text(

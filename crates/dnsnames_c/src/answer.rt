@@ -1,0 +1,59 @@
+//! Whether a message answers a query, and the name that CNAME records of its answers lead to.
+ghost use Rattle.std.specs.Prelude.{◌≡◌, ◌≢◌, ◌≤◌, ◌↔◌, length};
+ghost use Rattle.domain_message.specs.Answering.{IsAnswerTo};
+ghost use Rattle.dnsnames_c.specs.Replies.{GivesCanonicalName};
+
+use crate::put::give;
+use domain_list::composing::put_name;
+use domain_message::Message;
+
+/// Whether a message answers a query: `yes` becomes 1 where it is a response with the query's identifier and the query's
+/// questions, in their order, names without ASCII case (RFC 1035, 4.1.1 and 7.3), and 0 otherwise. A message with a
+/// question missing answers none, and none answers it. 1 where one of the two has fewer than twelve octets: nothing is
+/// changed.
+#[unsafe(no_mangle)]
+pub extern "C" fn dnsnames_is_answer(message: &[u8], query: &[u8], yes: &mut u32) -> u32
+    ensures read { (result ≡ 0) ↔ ((12 ≤ length message.now) × (12 ≤ length query.now)) }
+    ensures yes { result ≡ 0 → (yes.new ≡ 1) ↔ IsAnswerTo message.now query.now }
+    ensures bit { result ≡ 0 → yes.new ≤ 1 }
+    ensures err { result ≢ 0 → (result ≡ 1) × (yes.new ≡ yes.old) }
+{
+    let Ok(message) = Message::from_octets(message) else {
+        return 1;
+    };
+    let Ok(query) = Message::from_octets(query) else {
+        return 1;
+    };
+    *yes = if message.is_answer(&query) { 1 } else { 0 };
+    0
+}
+
+/// The name to which at most `limit` CNAME records of the answers lead from the name of the first question, and from which
+/// none leads on (RFC 1034, 3.6.2), into the buffer with no pointer in it; `length` becomes its size. Where none leads on
+/// from that, it is the question's name. The records may be in any order; of two of one name the first is followed;
+/// classes, and the type that is asked for, aren't heeded. The answers are read at most once more often than the limit
+/// says; resolvers follow 11 to 16.
+///
+/// 1 where the message has fewer than twelve octets. 30 where more records lead on, as they do where a name leads back to
+/// itself, where there is no question, or where one that the header counts is missing: nothing is changed. 8 where the
+/// name doesn't fit into the buffer, which then stays.
+#[unsafe(no_mangle)]
+pub extern "C" fn dnsnames_canonical_name(
+    message: &[u8],
+    limit: u16,
+    buffer: &mut [u8],
+    length: &mut usize,
+) -> u32
+    ensures { GivesCanonicalName message.now limit result buffer.old buffer.new length.old
+        length.new }
+{
+    let Ok(message) = Message::from_octets(message) else {
+        return 1;
+    };
+    let Some(name) = message.canonical_name_with_limit(limit) else {
+        return 30;
+    };
+    let mut octets = [0; 255];
+    let len = put_name(&name, &mut octets);
+    give(&octets[..len], buffer, length)
+}
