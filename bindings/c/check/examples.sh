@@ -33,6 +33,20 @@ additional . 41' out/names $response
 is follow_cname 0 'www.example.com.
 host.example.com.' out/follow_cname $response
 
+lines=';; opcode: QUERY, status: NOERROR, id: 4660
+;; flags: qr rd ra; QUESTION: 1, ANSWER: 3, AUTHORITY: 0, ADDITIONAL: 1
+;; QUESTION SECTION
+www.example.com. IN A
+;; ANSWER SECTION
+www.example.com. 3600 IN CNAME host.example.com.'
+is show 0 "$lines
+host.example.com. 60 IN A 192.0.2.1
+example.com. 60 IN MX 10 www.example.com.
+;; AUTHORITY SECTION
+;; ADDITIONAL SECTION
+; EDNS: version: 0, flags:; udp: 4096
+canonical name: host.example.com." out/show $response
+
 # The text of the fault, as tell_hex gives it for octets that end too soon.
 short=$(echo 03 | out/tell_hex | sed 's/.*: //')
 head -c 60 $response > out/cut
@@ -40,6 +54,8 @@ is 'names, of a cut message' 1 'question   www.example.com. 1
 answer     www.example.com. 5
   data     host.example.com. 5
 record at offset 52: '"$short" out/names out/cut
+is 'show, of a cut message' 1 "$lines
+$short" out/show out/cut
 
 # Two aliases that lead to each other.
 printf '\000\000\201\200\000\001\000\002\000\000\000\000\001a\000\000\001\000\001' > out/ring
