@@ -171,7 +171,7 @@ FAULTS = {
     for fault in (
         ShortInput, BadLabelType, TooManyPointers, LongName, CompressedName, RelativeName, TrailingData, NoRoom,
         NoLabel, BadEscape, BadSymbol, BinaryLabel, LongLabel, EmptyLabel, NoField, NoMnemonic, NoBuilder,
-        WrongOrder, TooManyEntries,
+        WrongOrder, TooManyEntries, BadForm,
     )
 }
 

@@ -450,7 +450,7 @@ class Texts(unittest.TestCase):
         self.assertEqual([record.to_text() for record in message.answers()], ["a. 60 IN CNAME a."])
 
     def test_more_than_a_usual_message(self):
-        many = 200
+        many = 300
         octets = b"\0\0\x80\0\0\0" + many.to_bytes(2, "big") + bytes(4)
         octets += (b"\0\0\1\0\1" + bytes(4) + b"\0\4\xc0\0\2\1") * many
         text = Message(octets).to_text()

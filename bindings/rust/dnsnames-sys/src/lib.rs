@@ -91,6 +91,17 @@ pub const DNSNAMES_NO_TEXT: dnsnames_status = 29;
 /// Aliases: the first question has no canonical name, or more records lead on than the limit allows.
 pub const DNSNAMES_NO_END: dnsnames_status = 30;
 
+// What a row of `dnsnames_table` has at which place, and how many numbers it has.
+pub const DNSNAMES_ROW_NAME: usize = 0;
+pub const DNSNAMES_ROW_NAME_LEN: usize = 1;
+pub const DNSNAMES_ROW_TYPE: usize = 2;
+pub const DNSNAMES_ROW_CLASS: usize = 3;
+pub const DNSNAMES_ROW_TTL: usize = 4;
+pub const DNSNAMES_ROW_DATA: usize = 5;
+pub const DNSNAMES_ROW_DATA_LEN: usize = 6;
+pub const DNSNAMES_ROW_END: usize = 7;
+pub const DNSNAMES_ROW_LEN: usize = 8;
+
 // The flags of a message's header.
 pub const DNSNAMES_FLAG_QR: u16 = 0x8000;
 pub const DNSNAMES_FLAG_AA: u16 = 0x0400;
@@ -369,6 +380,18 @@ extern "C" {
         message_len: usize,
         offset: usize,
         record: *mut dnsnames_record_fields,
+    ) -> dnsnames_status;
+    /// All questions and records that the header counts.
+    pub fn dnsnames_table(
+        message: *const u8,
+        message_len: usize,
+        limit: u8,
+        rows: *mut u32,
+        rows_capacity: usize,
+        names: *mut u8,
+        names_capacity: usize,
+        row_count: *mut usize,
+        names_len: *mut usize,
     ) -> dnsnames_status;
     /// The name with `index` names before it in the data of a record.
     pub fn dnsnames_data_name(
