@@ -302,7 +302,9 @@ dnsnames_status dnsnames_question(const uint8_t *message, size_t message_len, si
 dnsnames_status dnsnames_record(const uint8_t *message, size_t message_len, size_t offset,
                                 dnsnames_record_fields *record);
 
-/* What a row of dnsnames_table has at which place: where the entry's name begins in the buffer of names and how many
+/* How many numbers a row of dnsnames_table has. */
+#define DNSNAMES_ROW_LEN 8
+/* What such a row has at which place: where the entry's name begins in the buffer of names and how many
  * octets it has there, its type, its class, its time to live in seconds, the offset and the size of its data in the
  * message, and the offset after it, at which the next entry begins. A question has the time to live 0, and no data: the
  * size 0, at the offset after it. */
@@ -316,8 +318,6 @@ enum {
     DNSNAMES_ROW_DATA_LEN = 6,
     DNSNAMES_ROW_END = 7
 };
-/* How many numbers a row has. */
-#define DNSNAMES_ROW_LEN 8
 
 /* All questions and records that the header counts, in their order: a row of eight numbers for each, and their names,
  * uncompressed, one after another. rows has room for rows_capacity numbers, so for an eighth as many rows. Each name is

@@ -79,11 +79,6 @@ class Question(NamedTuple):
         owner = self.owner
         return read(self.message, self.offset).name if owner is None else owner
 
-    def to_text(self) -> str:
-        """Its line as `dig` shows it: owner, time to live, class, type and data. Data that can't be read by its type are
-        shown as octets, and why (RFC 3597, 5). Raises BadForm where the owner can't be read."""
-        return _text(library.dnsnames_record_text, self.offset, self.message, len(self.message), self.offset)[:-1]
-
     def __repr__(self) -> str:
         return f"<question of type {self.type} at offset {self.offset}>"
 
@@ -126,6 +121,11 @@ class Record(NamedTuple):
         """Whose record it is. Raises what `read` raises."""
         owner = self.owner
         return read(self.message, self.offset).name if owner is None else owner
+
+    def to_text(self) -> str:
+        """Its line as `dig` shows it: owner, time to live, class, type and data. Data that can't be read by its type are
+        shown as octets, and why (RFC 3597, 5). Raises BadForm where the owner can't be read."""
+        return _text(library.dnsnames_record_text, self.offset, self.message, len(self.message), self.offset)[:-1]
 
     def name_in_data(self, index: int = 0) -> Name:
         """The name with so many names before it in the data; it doesn't leave them.

@@ -393,6 +393,23 @@ extern "C" {
         row_count: *mut usize,
         names_len: *mut usize,
     ) -> dnsnames_status;
+    /// Whether a message answers a query.
+    pub fn dnsnames_is_answer(
+        message: *const u8,
+        message_len: usize,
+        query: *const u8,
+        query_len: usize,
+        yes: *mut u32,
+    ) -> dnsnames_status;
+    /// The canonical name of the first question.
+    pub fn dnsnames_canonical_name(
+        message: *const u8,
+        message_len: usize,
+        limit: u16,
+        buffer: *mut u8,
+        capacity: usize,
+        length: *mut usize,
+    ) -> dnsnames_status;
     /// The name with `index` names before it in the data of a record.
     pub fn dnsnames_data_name(
         message: *const u8,
@@ -456,23 +473,6 @@ extern "C" {
         code: *mut u16,
         option: *mut usize,
         option_len: *mut usize,
-    ) -> dnsnames_status;
-    /// Whether a message answers a query.
-    pub fn dnsnames_is_answer(
-        message: *const u8,
-        message_len: usize,
-        query: *const u8,
-        query_len: usize,
-        yes: *mut u32,
-    ) -> dnsnames_status;
-    /// The canonical name of the first question.
-    pub fn dnsnames_canonical_name(
-        message: *const u8,
-        message_len: usize,
-        limit: u16,
-        buffer: *mut u8,
-        capacity: usize,
-        length: *mut usize,
     ) -> dnsnames_status;
     /// The text of a message.
     pub fn dnsnames_message_text(
