@@ -455,7 +455,8 @@ dnsnames_status dnsnames_data_option(const uint8_t *message, size_t message_len,
 
 /* The text of a message, as dig writes it (docs/LIBRARY.md shows one): two lines of its header, and for each section its
  * heading and a line for each question or record, each with a newline. Data that can't be read by their type are shown as
- * octets (RFC 3597, 5), with the reason behind them.
+ * octets (RFC 3597, 5), with the reason behind them. Names that pointers lead to are written out, so a message of 65,535
+ * octets can be made whose text has more than nine million.
  *
  * The buffer gets what fits of it, *length its whole size: with NO_ROOM, too, which tells so where not all fits. Where all
  * fits and there is room, a zero octet follows it. SHORT_INPUT where the message ends before all that its header counts, or

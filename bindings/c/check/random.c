@@ -1,4 +1,5 @@
-/* 10,000 random messages: the library and the second reader must answer every call alike, and write the same.
+/* 10,000 random messages: the library and the second reader must answer alike, and write the same, each call but
+ * those of answers, aliases and texts of messages, which worked cases try (calls.c).
  *
  *     random [MESSAGES [SEED]]
  *
