@@ -1,5 +1,5 @@
 /* 10,000 random messages: the library and the second reader must answer alike, and write the same, each call but
- * those of answers, aliases and texts of messages, which worked cases try (calls.c).
+ * those of texts of messages and records, which worked cases try (calls.c).
  *
  *     random [MESSAGES [SEED]]
  *
@@ -344,6 +344,56 @@ static void ask_of_table(const uint8_t *message, size_t len)
     BOTH(table, message, len, limit, x->rows, rows, x->buffer, names, &x->size[0], &x->size[1]);
 }
 
+/* A response of a few questions and CNAME records over three names, and its query; in some an octet is another. */
+static size_t make_aliases(uint8_t *octets, size_t *query_len, uint8_t *query)
+{
+    size_t at = 12, k, count, size;
+
+    memset(octets, 0, 12);
+    octets[2] = random_below(8) == 0 ? 0 : 0x80;
+    octets[5] = (uint8_t)(random_below(8) == 0 ? random_below(3) : 1);
+    octets[7] = (uint8_t)random_below(6);
+    for (k = 0, count = (size_t)octets[5] + octets[7]; k < count; k++) {
+        octets[at++] = 1;
+        octets[at++] = (uint8_t)("abcA"[random_below(4)]);
+        octets[at++] = 0;
+        octets[at++] = 0;
+        octets[at++] = k < octets[5] ? 1 : (uint8_t)(random_below(6) == 0 ? 1 : 5);
+        octets[at++] = 0;
+        octets[at++] = 1;
+        if (k + 1 == octets[5] || (octets[5] == 0 && k == 0))
+            memcpy(query, octets, *query_len = at);
+        if (k < octets[5])
+            continue;
+        size = random_below(8) == 0 ? random_below(5) : 3;
+        memset(octets + at, 0, 6);
+        octets[at + 5] = (uint8_t)size;
+        at += 6;
+        octets[at] = 1;
+        octets[at + 1] = (uint8_t)("abcB"[random_below(4)]);
+        octets[at + 2] = 0;
+        octets[at + 3] = 0;
+        at += size;
+    }
+    if (count == 0)
+        memcpy(query, octets, *query_len = at);
+    query[2] = 0;
+    if (random_below(3) == 0)
+        octets[random_below((uint32_t)at)] ^= (uint8_t)(1u << random_below(8));
+    return at - (random_below(8) == 0 ? random_below((uint32_t)at) : 0);
+}
+
+static void ask_of_aliases(const uint8_t *message, size_t len, const uint8_t *query, size_t query_len)
+{
+    uint16_t limit = (uint16_t)random_below(5);
+    size_t capacity = random_below(5);
+
+    BOTH(is_answer, message, len, query, query_len, &x->flag);
+    BOTH(is_answer, query, query_len, message, len, &x->flag);
+    BOTH(canonical_name, message, len, limit, x->buffer, sizeof x->buffer, &x->size[0]);
+    BOTH(canonical_name, message, len, 9, x->buffer, capacity, &x->size[0]);
+}
+
 static void ask_of_message(const uint8_t *message, size_t len)
 {
     static uint8_t names[8][255];
@@ -382,7 +432,8 @@ static void ask_of_message(const uint8_t *message, size_t len)
 
 int main(int argc, char **argv)
 {
-    static uint8_t octets[FENCED];
+    static uint8_t octets[FENCED], query[200];
+    size_t query_len = 0;
     unsigned long messages = argc > 1 ? strtoul(argv[1], NULL, 10) : 10000, i;
 
     if (argc > 2)
@@ -399,6 +450,10 @@ int main(int argc, char **argv)
         message = fence - len;
         memcpy(message, octets, len);
         ask_of_table(message, len);
+        len = make_aliases(octets, &query_len, query);
+        message = fence - len;
+        memcpy(message, octets, len);
+        ask_of_aliases(message, len, query, query_len);
     }
     printf("%lu messages: ", messages);
     return told("calls compared with the second reader");

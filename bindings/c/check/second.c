@@ -734,6 +734,95 @@ uint32_t SECOND(table)(const uint8_t *message, size_t message_len, uint8_t limit
     return DNSNAMES_OK;
 }
 
+/* A question whose name was read. */
+struct asked {
+    uint8_t name[255];
+    size_t len;
+    dnsnames_question_fields fields;
+};
+
+static int read_asked(const uint8_t *message, size_t message_len, size_t offset, struct asked *asked)
+{
+    size_t end;
+    uint32_t compressed;
+
+    return SECOND(read)(message, message_len, offset, 255, asked->name, 255, &asked->len, &end, &compressed) ==
+               DNSNAMES_OK &&
+           SECOND(question)(message, message_len, offset, &asked->fields) == DNSNAMES_OK;
+}
+
+/* RFC 1035, 4.1.1 and 7.3. */
+uint32_t SECOND(is_answer)(const uint8_t *message, size_t message_len, const uint8_t *query, size_t query_len,
+                           uint32_t *yes)
+{
+    struct asked ours, theirs;
+    unsigned left;
+
+    if (message_len < 12 || query_len < 12)
+        return DNSNAMES_SHORT_INPUT;
+    *yes = 0;
+    left = number16(message + 4);
+    if (message[2] < 128 || memcmp(message, query, 2) != 0 || left != number16(query + 4))
+        return DNSNAMES_OK;
+    for (ours.fields.end = theirs.fields.end = 12; left > 0; left--)
+        if (!read_asked(message, message_len, ours.fields.end, &ours) ||
+            !read_asked(query, query_len, theirs.fields.end, &theirs) || order_names(ours.name, theirs.name) != 0 ||
+            ours.fields.type != theirs.fields.type || ours.fields.class_ != theirs.fields.class_)
+            return DNSNAMES_OK;
+    *yes = 1;
+    return DNSNAMES_OK;
+}
+
+/* The target of the first CNAME record of a name, among so many records from an offset on, or as many as are there. */
+static int alias_of(const uint8_t *message, size_t message_len, size_t offset, unsigned left, struct asked *name)
+{
+    struct asked owner, target;
+    dnsnames_record_fields record;
+    uint32_t compressed;
+    size_t end;
+
+    for (; left > 0; left--, offset = record.end) {
+        if (SECOND(read)(message, message_len, offset, 255, owner.name, 255, &owner.len, &end, &compressed) !=
+                DNSNAMES_OK ||
+            SECOND(record)(message, message_len, offset, &record) != DNSNAMES_OK)
+            return 0;
+        if (record.type != 5 || order_names(owner.name, name->name) != 0 ||
+            SECOND(read)(message, record.end, record.data, 255, target.name, 255, &target.len, &end, &compressed) !=
+                DNSNAMES_OK ||
+            end != record.end)
+            continue;
+        memcpy(name->name, target.name, target.len);
+        name->len = target.len;
+        return 1;
+    }
+    return 0;
+}
+
+/* RFC 1034, 3.6.2. */
+uint32_t SECOND(canonical_name)(const uint8_t *message, size_t message_len, uint16_t limit, uint8_t *buffer,
+                                size_t capacity, size_t *length)
+{
+    struct asked name, other;
+    unsigned left, questions;
+    size_t answers = 12;
+
+    if (message_len < 12)
+        return DNSNAMES_SHORT_INPUT;
+    questions = number16(message + 4);
+    if (questions == 0)
+        return DNSNAMES_NO_END;
+    for (left = questions; left > 0; left--) {
+        struct asked *asked = left == questions ? &name : &other;
+        if (!read_asked(message, message_len, answers, asked))
+            return DNSNAMES_NO_END;
+        answers = asked->fields.end;
+    }
+    for (left = limit; alias_of(message, message_len, answers, number16(message + 6), &name); left--)
+        if (left == 0)
+            return DNSNAMES_NO_END;
+    return give(name.name, name.len, buffer, capacity, length);
+}
+
 /* What is before the names in data of a type, how many names there are, and what is after them. */
 static const struct {
     unsigned type;

@@ -43,6 +43,10 @@ uint32_t SECOND(record)(const uint8_t *message, size_t message_len, size_t offse
 uint32_t SECOND(table)(const uint8_t *message, size_t message_len, uint8_t limit, uint32_t *rows,
                        size_t rows_capacity, uint8_t *names, size_t names_capacity, size_t *row_count,
                        size_t *names_len);
+uint32_t SECOND(is_answer)(const uint8_t *message, size_t message_len, const uint8_t *query, size_t query_len,
+                           uint32_t *yes);
+uint32_t SECOND(canonical_name)(const uint8_t *message, size_t message_len, uint16_t limit, uint8_t *buffer,
+                                size_t capacity, size_t *length);
 uint32_t SECOND(data_name)(const uint8_t *message, size_t message_len, size_t data, size_t data_len, uint16_t type,
                            size_t index, uint8_t *buffer, size_t capacity, size_t *length);
 uint32_t SECOND(data_number)(const uint8_t *message, size_t message_len, size_t data, size_t data_len,
