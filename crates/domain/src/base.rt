@@ -107,7 +107,7 @@ pub mod message {
 /// crates/domain_sections/README.md how with a type for each section.
 pub mod message_builder {
     pub use domain_message_builder::{
-        MessageBuilder, OptBuilder, PushError, StartError, builder_laws,
+        MessageBuilder, OptBuilder, PushError, StartError, builder_laws, pushed_data_reads_back,
     };
     pub use domain_sections::{
         AdditionalBuilder, AdditionalSection, AnswerBuilder, AnswerSection, AuthorityBuilder,

@@ -10,3 +10,4 @@ pub mod OneResult
 mod LabelHashes
 pub mod Standing
 mod Planning
+mod Inside

@@ -8,3 +8,4 @@ pub mod Beginnings
 pub mod MayWrite
 pub mod Standing
 pub mod Planned
+pub mod Forgetting

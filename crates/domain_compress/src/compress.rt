@@ -2,8 +2,10 @@
 ghost use Rattle.std.specs.Prelude.{◌≡◌, ◌≤◌, ◌<◌, ◌+◌, ◌++◌, [], List, length, take, OnOk, OnErr, IfSome, true, false};
 ghost use Rattle.std.proofs.lemmas.Bool.{true≢false, false≢true};
 ghost use Rattle.std.proofs.Props.{props};
+ghost use Rattle.octseq.specs.Octets.{appended_twice};
 ghost use Rattle.domain_label.specs.Wire.{labels_in, IsAbsoluteWire};
 ghost use Rattle.domain_compress.specs.Compressing.{Adds, RememberedLabel, remembered_within};
+ghost use Rattle.domain_compress.specs.Forgetting.{AllWithin, entries_within, entries_inside, few_entries, all_within, all_left, within_twice, name_cut, few_remembered, remembered_still, may_write_so};
 ghost use Rattle.domain_compress.specs.Hashes.{IsKnown};
 ghost use Rattle.domain_compress.specs.MayWrite.{MayWrite, NameAppended, NameExceeds, adds_appended};
 ghost use Rattle.domain_compress.specs.Written.{all_remembered};
@@ -34,6 +36,8 @@ pub struct CompressComposer<T: Composer> {
     /// Whether the hashes count, which they don't once octets were lent for writing.
     hashed: bool,
     ghost known: { IsKnown hashed (T.octets target) written.items } by { Prim.hlevel props },
+    ghost inside: { AllWithin (length (T.octets target)) written.items } by { Prim.hlevel props },
+    ghost few: { length written.items ≤ 128 },
 }
 
 impl<T: Composer> CompressComposer<T> {
@@ -73,7 +77,14 @@ impl<T: Composer> Octets for CompressComposer<T> {
 }
 
 impl<T: Composer> OctetsMut for CompressComposer<T> {
-    ghost with_octets = { λ c w. record c { target = T.with_octets c.target w; hashed = false; known = λ e. absurd (false≢true e) } };
+    ghost with_octets = { λ c w. record c {
+      target = T.with_octets c.target w;
+      written = entries_within (length (T.octets (T.with_octets c.target w))) c.written;
+      hashed = false;
+      known = λ e. absurd (false≢true e);
+      inside = entries_inside (length (T.octets (T.with_octets c.target w))) c.written.items;
+      few = few_entries (length (T.octets (T.with_octets c.target w))) c.written.items c.few;
+    } };
 
     fn as_slice_mut(&mut self) -> &mut [u8] {
         self.hashed = false;
@@ -82,11 +93,16 @@ impl<T: Composer> OctetsMut for CompressComposer<T> {
 
     ghost written = { λ c w h. T.written c.target w h };
 
+    ghost number_stays = { λ c w. T.number_stays c.target w };
+
     ghost room_stays = { λ c w. T.room_stays c.target w };
 }
 
 impl<T: Composer> Truncate for CompressComposer<T> {
     ghost use Rattle.domain_compress.specs.Composers.{remembered_labels};
+
+    ghost cuts = { λ c n d. (T.octets d.target ≡ take n (T.octets c.target))
+        × (remembered_labels d ≡ remembered_within n (remembered_labels c)) };
 
     /// Keeps the first `len` octets, all where `len` is larger, and forgets the offsets of names that ended past
     /// them.
@@ -98,15 +114,23 @@ impl<T: Composer> Truncate for CompressComposer<T> {
     {
         // While octets go away under the offsets, no hash counts.
         self.hashed = false;
+        let octets = self.target.as_slice();
+        let left = len.min(octets.len());
+        let hashed = forget(&mut self.written, &octets[..left], len);
         self.target.truncate(len);
-        self.hashed = forget(&mut self.written, self.target.as_slice(), len);
+        self.hashed = hashed;
     }
+
+    ghost cut = { λ _ _ _ cut. cut.0 };
 }
 
 impl<T: Composer> OctetsBuilder for CompressComposer<T> {
     ghost use Rattle.domain_compress.specs.Composers.{remembered_labels};
 
     type AppendError = T::AppendError;
+
+    ghost extends = { λ c s d. (T.octets d.target ≡ T.octets c.target ++ s)
+        × (remembered_labels d ≡ remembered_labels c) };
 
     /// Appends all of the octets, or none, as the target does. The offsets stay.
     fn append_slice(&mut self, slice: &[u8]) -> Result<(), T::AppendError>
@@ -121,6 +145,15 @@ impl<T: Composer> OctetsBuilder for CompressComposer<T> {
     {
         self.target.append_slice(slice)
     }
+
+    ghost extended = { λ _ _ _ done. done.0 };
+
+    ghost joined = { λ c d e s t first second. (
+      appended_twice (T.octets c.target) (T.octets d.target) (T.octets e.target) s t first.0
+          second.0,
+      remembered_still (remembered_labels c) (remembered_labels d) (remembered_labels e) first.1
+          second.1,
+    ) };
 
     ghost fixed = { λ c. T.fixed c.target };
 }
@@ -137,6 +170,8 @@ impl<T: Composer> Composer for CompressComposer<T> {
     ghost Memory = { List RememberedLabel };
 
     ghost memory = { remembered_labels };
+
+    ghost kept_within = { remembered_within };
 
     ghost appends = { λ c ls d. Adds (T.octets c.target) (remembered_labels c) ls
         (T.octets d.target) (remembered_labels d) };
@@ -201,6 +236,26 @@ impl<T: Composer> Composer for CompressComposer<T> {
 
     ghost appended = { λ c d ls. adds_appended (T.octets c.target) (remembered_labels c)
         (remembered_labels d) ls (T.octets d.target) };
+
+    ghost decides = { λ c d ls s octets memory may. may_write_so (T.octets c.target)
+        (T.octets d.target) (remembered_labels c) (remembered_labels d) ls s octets memory may };
+
+    ghost octets_leave = { λ _ _ _ done. done.1 };
+
+    ghost writing_leaves = { λ c w. all_left (length (T.octets c.target))
+        (length (T.octets (T.with_octets c.target w))) c.written.items
+        (T.number_stays c.target w) c.inside };
+
+    ghost cut_keeps = { λ _ _ _ cut. cut.1 };
+
+    ghost all_kept = { λ c. all_within (length (T.octets c.target)) (remembered_labels c)
+        c.inside };
+
+    ghost name_forgotten = { λ c d ls. name_cut (T.octets c.target) (remembered_labels c)
+        (remembered_labels d) ls (T.octets d.target) (few_remembered c.written.items c.few)
+        c.inside };
+
+    ghost kept_twice = { within_twice };
 
     ghost reads_back = { λ c ls s name w. compressed_reads_back (T.octets c.target)
         (all_remembered c.written.items) ls w.0 s name w.1 };

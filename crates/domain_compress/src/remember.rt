@@ -1,5 +1,5 @@
 //! Remembering where labels were written.
-ghost use Rattle.std.specs.Prelude.{◌≡◌, ◌+◌, ◌≤◌};
+ghost use Rattle.std.specs.Prelude.{◌≡◌, ◌+◌, ◌≤◌, length};
 ghost use Rattle.domain_label.specs.Wire.{labels_in, IsWire};
 ghost use Rattle.domain_compress.specs.Compressing.{remembered_too, remembered_within};
 ghost use Rattle.domain_compress.specs.Hashes.{IsKnown};
@@ -67,6 +67,7 @@ pub(crate) fn forget(written: &mut ArrayVec<Written, 128>, octets: &[u8], len: u
     ensures known { IsKnown result octets.now written.new.items }
     ensures offsets { all_remembered written.new.items
         ≡ remembered_within len (all_remembered written.old.items) }
+    ensures few { length written.new.items ≤ length written.old.items }
 {
     let _room = written.remaining_capacity();
     let mut kept = ArrayVec::new();

@@ -14,6 +14,8 @@ impl<const TYPE: u16, F: ReadBackLast> ReadBackData for FieldsData<TYPE, F> {
 
     ghost like = { λ it. F.like (fields_of it) };
 
+    ghost moves = { λ it. F.moves (fields_of it) };
+
     fn reads_back(&self) {
         self.fields.reads_back_last()
     }

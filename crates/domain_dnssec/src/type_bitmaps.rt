@@ -188,7 +188,7 @@ impl<Octs: Octets> DataField for TypeBitmaps<Octs> {
 
     ghost composed = { λ it _ _ s. s ≡ bitmaps_octets it };
 
-    ghost written = { λ it _ octets _ old new. octets new ≡ octets old ++ bitmaps_octets it };
+    ghost written = { λ it _ extends _ old new. extends old (bitmaps_octets it) new };
 
     ghost known_len = { λ it _. Some (length (bitmaps_octets it)) };
 
@@ -212,6 +212,8 @@ impl<Octs: Octets> DataField for TypeBitmaps<Octs> {
     }
 
     ghost forms = { λ it lowercase. one_part lowercase (no_name (bitmaps_octets it)) };
+
+    ghost moves = { λ _ _ _ _ _ _ same. same };
 
     ghost plain = { λ _ _ _. refl };
 

@@ -6,3 +6,4 @@ pub mod Parts
 pub mod ReadBack
 pub mod Reading
 pub mod Sequences
+pub mod Moves

@@ -1,6 +1,6 @@
 -- A name in record data, and its end (RFC 1035, 3.3).
-use Rattle.std.specs.Prelude.{◌≡◌, ℕ, ◌+◌, ◌≤◌, List, length}
-use Rattle.std.proofs.Common.{arith, ap, sym, ◌∙◌}
+use Rattle.std.specs.Prelude.{◌≡◌, ℕ, ◌≤◌, List, length}
+use Rattle.std.proofs.Common.{ap, sym, ◌∙◌}
 use Rattle.domain_wire.specs.declared.error.ParseError.{ParseError}
 use Rattle.domain_wire.specs.Refusals.{refusal}
 use Rattle.domain_wire.specs.Values.{IsReading}

@@ -2,6 +2,7 @@
 ghost use Rattle.std.specs.Prelude.{◌≡◌, ℕ, ◌++◌, ◌∷◌, [], ◌+◌, ◌<◌, ◌≤◌, List, length, OnOk, OnErr, Bool, false, Option, Some, refl};
 ghost use Rattle.domain_rdata.specs.ReadBack.{Appended, Exceeds};
 ghost use Rattle.domain_fields.specs.FieldLaws.{fixed_size};
+ghost use Rattle.domain_fields.specs.Moves.{NamesMove};
 ghost use Rattle.domain_fields.specs.Parts.{Part, no_name, parts_octets, one_part};
 
 use domain_rdata::Composer;
@@ -23,10 +24,10 @@ pub trait DataField {
     /// The octets that may be appended to these octets of a target, which may write names shorter or not.
     ghost composed: { Self → Bool → List ℕ → List ℕ → Type 0 };
 
-    /// What a target becomes where the field was appended: `octets` are those of a target, and `named` is what a target
-    /// becomes where a name was appended as the target may write it ([`Composer::appends`]).
-    ghost written: { Self → (T : Type 0) → (T → List ℕ) → (T → List (List ℕ) → T → Type 0) → T → T →
-        Type 0 };
+    /// What a target becomes where the field was appended, by what it becomes where octets were appended
+    /// ([`OctetsBuilder::extends`](octseq::OctetsBuilder)) and where a name was, as the target may write it ([`Composer::appends`]).
+    ghost written: { Self → (T : Type 0) → (T → List ℕ → T → Type 0) →
+        (T → List (List ℕ) → T → Type 0) → T → T → Type 0 };
 
     /// How many octets the field has, where that is known before it is composed.
     ghost known_len: { Self → Bool → Option ℕ };
@@ -49,7 +50,9 @@ pub trait DataField {
             (Appended (composed self.now Target.compresses (Target.octets target.old))
             (Target.octets target.old) (Target.octets target.new)) }
         ensures names { OnOk result
-            (written self.now Target Target.octets Target.appends target.old target.new) }
+            (written self.now Target Target.extends Target.appends target.old target.new) }
+        ensures memory { Target.kept_within (length (Target.octets target.old))
+            (Target.memory target.new) ≡ Target.memory target.old }
         ensures unchanged { OnErr result (Target.octets target.new ≡ Target.octets target.old) }
         ensures full { OnErr result
             (Exceeds (composed self.now Target.compresses (Target.octets target.old))
@@ -69,6 +72,8 @@ pub trait DataField {
         ensures ok { OnOk result
             (Target.octets target.new
             ≡ Target.octets target.old ++ uncompressed self.now lowercase) }
+        ensures memory { Target.kept_within (length (Target.octets target.old))
+            (Target.memory target.new) ≡ Target.memory target.old }
         ensures unchanged { OnErr result (Target.octets target.new ≡ Target.octets target.old) }
         ensures full { OnErr result
             (Target.capacity target.old
@@ -78,6 +83,11 @@ pub trait DataField {
     /// In both forms the octets are those of the parts: names in lowercase, or with their case, and other octets as they are.
     ghost forms: { (it : Self) (lowercase : Bool) →
         uncompressed it lowercase ≡ parts_octets lowercase (parts it) };
+
+    /// Of the octets before it the field asks for its names alone: where each name that may be composed after the octets t may
+    /// be after u, so may the field.
+    ghost moves: { (it : Self) (compresses : Bool) (t u s : List ℕ) → NamesMove compresses t u →
+        composed it compresses t s → composed it compresses u s };
 
     /// The field may always be written with no name compressed.
     ghost plain: { (it : Self) (compresses : Bool) (t : List ℕ) →
@@ -103,7 +113,7 @@ impl<T: FixedLen> DataField for T {
 
     ghost composed = { λ it _ _ s. s ≡ T.composed_octets it };
 
-    ghost written = { λ it _ octets _ old new. octets new ≡ octets old ++ T.composed_octets it };
+    ghost written = { λ it _ extends _ old new. extends old (T.composed_octets it) new };
 
     ghost known_len = { λ _ _. Some T.LEN };
 
@@ -127,6 +137,8 @@ impl<T: FixedLen> DataField for T {
     }
 
     ghost forms = { λ it lowercase. one_part lowercase (no_name (T.composed_octets it)) };
+
+    ghost moves = { λ _ _ _ _ _ _ same. same };
 
     ghost plain = { λ _ _ _. refl };
 

@@ -8,6 +8,7 @@ ghost use Rattle.domain_rdata.specs.ReadBack.{Appended, Exceeds};
 ghost use Rattle.domain_rdata.specs.RecordData.{NameOctets};
 ghost use Rattle.domain_fields.specs.Cases.{cased_labels};
 ghost use Rattle.domain_fields.specs.FieldLaws.{fixed_size, cased_size, name_size, wire_octets};
+ghost use Rattle.domain_fields.specs.Moves.{name_moves};
 ghost use Rattle.domain_fields.specs.Names.{NameFieldAt, NoNameField, name_reading};
 ghost use Rattle.domain_fields.specs.Parts.{a_name, one_part};
 ghost use Rattle.domain_fields.specs.Reading.{any_reading};
@@ -32,6 +33,8 @@ pub trait DataName: Absolute {
             (Target.octets target.old) (Target.octets target.new)) }
         ensures appends { OnOk result
             (Target.appends target.old (Self.labels self.now) target.new) }
+        ensures memory { Target.kept_within (length (Target.octets target.old))
+            (Target.memory target.new) ≡ Target.memory target.old }
         ensures unchanged { OnErr result (Target.octets target.new ≡ Target.octets target.old) }
         ensures full { OnErr result
             (Exceeds (Target.may_append target.old (Self.labels self.now))
@@ -45,6 +48,10 @@ pub trait DataName: Absolute {
     ) -> Result<(), Target::AppendError>
         ensures ok { OnOk result
             (Target.octets target.new ≡ Target.octets target.old ++ wire (Self.labels self.now)) }
+        ensures extends { OnOk result
+            (Target.extends target.old (wire (Self.labels self.now)) target.new) }
+        ensures memory { Target.kept_within (length (Target.octets target.old))
+            (Target.memory target.new) ≡ Target.memory target.old }
         ensures unchanged { OnErr result (Target.octets target.new ≡ Target.octets target.old) }
         ensures full { OnErr result
             (Target.capacity target.old
@@ -59,6 +66,8 @@ pub trait DataName: Absolute {
         ensures ok { OnOk result
             (Target.octets target.new
             ≡ Target.octets target.old ++ wire (lowercase_labels (Self.labels self.now))) }
+        ensures memory { Target.kept_within (length (Target.octets target.old))
+            (Target.memory target.new) ≡ Target.memory target.old }
         ensures unchanged { OnErr result (Target.octets target.new ≡ Target.octets target.old) }
         ensures full { OnErr result
             (Target.capacity target.old
@@ -84,6 +93,8 @@ pub trait DataName: Absolute {
         ensures ok { OnOk result
             (Target.octets target.new
             ≡ Target.octets target.old ++ wire (cased_labels lowercase (Self.labels self.now))) }
+        ensures memory { Target.kept_within (length (Target.octets target.old))
+            (Target.memory target.new) ≡ Target.memory target.old }
         ensures unchanged { OnErr result (Target.octets target.new ≡ Target.octets target.old) }
         ensures full { OnErr result
             (Target.capacity target.old
@@ -233,6 +244,8 @@ impl<N: DataName> DataField for NameField<N> {
 
     ghost forms = { λ it lowercase. one_part lowercase (a_name (N.labels it.name)) };
 
+    ghost moves = { λ it c t u s. name_moves (N.labels it.name) c t u s };
+
     ghost plain = { λ it c t. wire_octets (N.labels it.name) c t (N.absolute it.name) };
 
     ghost flat = { λ it t s name. name.flat refl };
@@ -281,7 +294,7 @@ impl<N: DataName> DataField for UncompressedNameField<N> {
 
     ghost composed = { λ it _ _ s. s ≡ wire (N.labels it.name) };
 
-    ghost written = { λ it _ octets _ old new. octets new ≡ octets old ++ wire (N.labels it.name) };
+    ghost written = { λ it _ extends _ old new. extends old (wire (N.labels it.name)) new };
 
     ghost known_len = { λ it _. Some (length (wire (N.labels it.name))) };
 
@@ -305,6 +318,8 @@ impl<N: DataName> DataField for UncompressedNameField<N> {
     }
 
     ghost forms = { λ it lowercase. one_part lowercase (a_name (N.labels it.name)) };
+
+    ghost moves = { λ _ _ _ _ _ _ same. same };
 
     ghost plain = { λ _ _ _. refl };
 

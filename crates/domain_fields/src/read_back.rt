@@ -1,5 +1,5 @@
 //! What is composed for a field, and for data, is read back.
-ghost use Rattle.std.specs.Prelude.{◌≡◌, ℕ, List};
+ghost use Rattle.std.specs.Prelude.{◌≡◌, Bool, ℕ, List};
 ghost use Rattle.std.specs.Int.{w8, w16, w32, from_be_bytes};
 ghost use Rattle.domain_label.specs.Lowercase.{lowercase_labels};
 ghost use Rattle.domain_wire.specs.Addresses.{ipv4_octets, ipv4_of, ipv6_octets, ipv6_of};
@@ -8,6 +8,7 @@ ghost use Rattle.domain_wire.specs.Values.{FixedAt};
 ghost use Rattle.domain_wire.specs.declared.net.Ipv4Addr.{Ipv4Addr};
 ghost use Rattle.domain_wire.specs.declared.net.Ipv6Addr.{Ipv6Addr};
 ghost use Rattle.domain_fields.specs.Names.{NameFieldAt};
+ghost use Rattle.domain_fields.specs.Moves.{NamesMove};
 ghost use Rattle.domain_fields.specs.ReadBack.{IsReadBack, IsReadBackWhole};
 ghost use Rattle.domain_fields.specs.Sequences.{BothAt};
 
@@ -245,6 +246,10 @@ pub trait ReadBackData: ComposeRecordData {
     fn reads_back(&self)
         ensures { IsReadBackWhole (Self.composed self.now) (seen_at (Self.type_number self.now))
             (like self.now) };
+
+    /// Of the octets before it the data asks for its names alone, as a field does ([`DataField`]).
+    ghost moves: { (it : Self) (compresses : Bool) (t u s : List ℕ) → NamesMove compresses t u →
+        Self.composed it compresses t s → Self.composed it compresses u s };
 }
 
 /// The same octets.
@@ -256,6 +261,8 @@ impl<Octs: Octets> ReadBackData for UnknownRecordData<Octs> {
     ghost seen_at = { λ _. IsAllThatIsLeft };
 
     ghost like = { λ it seen. seen ≡ data_octets it };
+
+    ghost moves = { λ _ _ _ _ _ _ same. same };
 
     fn reads_back(&self) {}
 }

@@ -1,5 +1,6 @@
 //! One field after another.
 ghost use Rattle.std.specs.Prelude.{◌++◌, false};
+ghost use Rattle.domain_fields.specs.Moves.{both_moves};
 ghost use Rattle.domain_fields.specs.Parts.{both_parts};
 ghost use Rattle.domain_fields.specs.Sequences.{BothComposed, BothWritten, BothAt, NotBoth, both_reading, both_len, both_plain, both_flat, both_sized, both_canonical};
 
@@ -53,8 +54,8 @@ impl<A: DataField, B: DataField> DataField for Sequence<A, B> {
 
     ghost composed = { λ it c. BothComposed (A.composed it.first c) (B.composed it.rest c) };
 
-    ghost written = { λ it T octets named.
-        BothWritten (A.written it.first T octets named) (B.written it.rest T octets named) };
+    ghost written = { λ it T extends named.
+        BothWritten (A.written it.first T extends named) (B.written it.rest T extends named) };
 
     ghost known_len = { λ it c. both_len (A.known_len it.first c) (B.known_len it.rest c) };
 
@@ -105,6 +106,9 @@ impl<A: DataField, B: DataField> DataField for Sequence<A, B> {
     ghost forms = { λ it lowercase. both_parts (A.uncompressed it.first lowercase)
         (B.uncompressed it.rest lowercase) lowercase (A.parts it.first) (B.parts it.rest)
         (A.forms it.first lowercase) (B.forms it.rest lowercase) };
+
+    ghost moves = { λ it c t u s. both_moves (A.composed it.first) (B.composed it.rest) c t u s
+        (A.moves it.first) (B.moves it.rest) };
 
     ghost plain = { λ it c t. both_plain (A.composed it.first c) (B.composed it.rest c) t
         (A.uncompressed it.first false) (B.uncompressed it.rest false) (A.plain it.first c t)

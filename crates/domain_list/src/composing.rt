@@ -1,5 +1,5 @@
 //! Writing names in wire format, without compression (RFC 1035, 3.1).
-ghost use Rattle.std.specs.Prelude.{◌≡◌, ◌≤◌, ◌<◌, ◌+◌, ◌++◌, length, take, IfSome, OnOk, OnErr};
+ghost use Rattle.std.specs.Prelude.{◌≡◌, ◌≤◌, ◌<◌, ◌+◌, ◌++◌, [], length, take, IfSome, OnOk, OnErr};
 ghost use Rattle.domain_label.specs.Lowercase.{lowercase, lowercase_labels};
 ghost use Rattle.domain_label.specs.Labels.{label_octets};
 ghost use Rattle.domain_label.specs.Wire.{wire, wire_label};
@@ -134,7 +134,10 @@ pub fn compose_name<'a, N: ToLabelIter<'a>, Target: OctetsBuilder>(
 ) -> Result<(), Target::AppendError>
     ensures ok { OnOk result
         (Target.octets target.new ≡ Target.octets target.old ++ wire (N.labels name.now)) }
+    ensures extends { OnOk result
+        (Target.extends target.old (wire (N.labels name.now)) target.new) }
     ensures unchanged { OnErr result (Target.octets target.new ≡ Target.octets target.old) }
+    ensures nothing { OnErr result (Target.extends target.old [] target.new) }
     ensures full { OnErr result
         (Target.capacity target.old
         < length (Target.octets target.old) + length (wire (N.labels name.now))) }
@@ -162,7 +165,10 @@ pub fn compose_canonical_name<'a, N: ToLabelIter<'a>, Target: OctetsBuilder>(
     ensures ok { OnOk result
         (Target.octets target.new
         ≡ Target.octets target.old ++ wire (lowercase_labels (N.labels name.now))) }
+    ensures extends { OnOk result
+        (Target.extends target.old (wire (lowercase_labels (N.labels name.now))) target.new) }
     ensures unchanged { OnErr result (Target.octets target.new ≡ Target.octets target.old) }
+    ensures nothing { OnErr result (Target.extends target.old [] target.new) }
     ensures full { OnErr result
         (Target.capacity target.old
         < length (Target.octets target.old)

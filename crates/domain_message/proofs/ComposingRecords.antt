@@ -102,11 +102,15 @@ name_appended name b t new May names done = record { octets = done.octets; allow
 pub names_exceed : (name : List (List ℕ)) (b : Bool) (t : List ℕ) (May : List ℕ → Type 0) (capacity : ℕ) → ((s : List ℕ) → May s → NameOctets name b t s) → Exceeds May t capacity → Exceeds (NameOctets name b t) t capacity
 names_exceed name b t May capacity names refused = record { octets = refused.octets; allowed = names refused.octets refused.allowed; full = refused.full }
 
--- a target's own call appended the owner's name, and the numbers and the data came after it
-pub name_then_data : {T : Type 0} (octets : T → List ℕ) (appends written : T → T → Type 0) (old named numbered new : T) (numbers : List ℕ) (r rtype class ttl : ℕ) → appends old named → octets numbered ≡ octets named ++ numbers → numbers ≡ before_length r class ttl → r ≡ rtype → LeavesNames octets written (octets numbered) new → NameThenData octets appends written (before_length rtype class ttl) old new
-name_then_data octets appends written old named numbered new numbers r rtype class ttl name is same typed rest =
-    let whole : octets numbered ≡ octets named ++ before_length rtype class ttl = is ∙ ap (λ x. octets named ++ x) (same ∙ ap (λ k. before_length k class ttl) typed) in
-    record { named = named; name = name; rest = subst (λ t. LeavesNames octets written t new) whole rest }
+-- a target's own calls appended the owner's name and the numbers, and the data came after them
+pub name_then_data : {T : Type 0} (octets : T → List ℕ) (extends : T → List ℕ → T → Type 0) (cuts : T → ℕ → T → Type 0) (appends written : T → T → Type 0) (old named numbered new : T) (numbers : List ℕ) (r rtype class ttl : ℕ) → appends old named → extends named numbers numbered → numbers ≡ before_length r class ttl → r ≡ rtype → LeavesNames octets extends cuts written numbered new → NameThenData octets extends cuts appends written (before_length rtype class ttl) old new
+name_then_data octets extends cuts appends written old named numbered new numbers r rtype class ttl name done same typed rest =
+    let P : List ℕ → Type 0 = λ x. extends named x numbered in
+    record {
+      numbered = numbered;
+      front = record { named = named; name = name; rest = subst P (same ∙ ap (λ k. before_length k class ttl) typed) done };
+      rest = rest;
+    }
 
 -- the data was refused after the owner's name and the numbers
 pub refused_at_data : {T E : Type 0} (octets : T → List ℕ) (May : List ℕ → Type 0) (appends : T → T → Type 0) (Refuses : List ℕ → ℕ → E → Type 0) (old named numbered : T) (numbers : List ℕ) (r rtype class ttl capacity room : ℕ) (e : E) → appends old named → octets numbered ≡ octets named ++ numbers → numbers ≡ before_length r class ttl → r ≡ rtype → capacity ≤ room → Refuses (octets numbered) room e → RefusesRecord octets May appends (before_length rtype class ttl) Refuses old capacity e

@@ -1,5 +1,5 @@
 -- The canonical form of a record (RFC 4034, 6.2).
-use Rattle.std.specs.Prelude.{◌≡◌, ◌⊎◌, ℕ, ◌+◌, ◌<◌, List, ◌++◌, length, Option}
+use Rattle.std.specs.Prelude.{◌⊎◌, ℕ, ◌+◌, ◌<◌, List, ◌++◌, length, Option}
 use Rattle.domain_label.specs.Lowercase.{lowercase_labels}
 use Rattle.domain_label.specs.Wire.{wire}
 use Rattle.domain_rdata.specs.Canonical.{CanonicalRefused}

@@ -1,5 +1,5 @@
 //! Questions.
-ghost use Rattle.std.specs.Prelude.{◌≡◌, ◌≤◌, Some, OnOk, OnErr};
+ghost use Rattle.std.specs.Prelude.{◌≡◌, ◌≤◌, Some, length, OnOk, OnErr};
 ghost use Rattle.domain_header.specs.Values.{class_number};
 ghost use Rattle.domain_rdata.specs.ReadBack.{Appended, Exceeds};
 ghost use Rattle.domain_rdata.specs.Rtypes.{rtype_number};
@@ -132,7 +132,7 @@ impl<'a, N: AbsoluteLabels<'a>> Question<N> {
 
     /// Appends the question, or nothing: the name, which the target may compress, then the type and the class. Fails
     /// only if the question, with a name as the target may then write it, exceeds the spare capacity. The target's
-    /// octets are then unchanged.
+    /// octets, and what it remembers, are then unchanged.
     pub fn compose<Target: Composer>(
         &'a self,
         target: &mut Target,
@@ -146,8 +146,12 @@ impl<'a, N: AbsoluteLabels<'a>> Question<N> {
             (BeginsWithName (Target.may_append target.old (N.labels (question_name self.now)))
             (after_qname self.now)) (Target.octets target.old) (Target.octets target.new)) }
         ensures written { OnOk result
-            (WritesQuestion N.labels Target.octets Target.appends self.now target.old target.new) }
+            (WritesQuestion N.labels Target.extends Target.appends self.now target.old target.new) }
+        ensures memory { Target.kept_within (length (Target.octets target.old))
+            (Target.memory target.new) ≡ Target.memory target.old }
         ensures unchanged { OnErr result (Target.octets target.new ≡ Target.octets target.old) }
+        ensures memory_unchanged { OnErr result
+            (Target.memory target.new ≡ Target.memory target.old) }
         ensures full { OnErr result
             (Exceeds
             (MayComposeQuestion N.labels self.now Target.compresses (Target.octets target.old))

@@ -1,5 +1,5 @@
 //! Records of a name, a class, a TTL and data.
-ghost use Rattle.std.specs.Prelude.{◌≡◌, ◌≤◌, ◌==◌, ◌++◌, ◌⊎◌, Some, OnOk, OnErr, IfErr, true};
+ghost use Rattle.std.specs.Prelude.{◌≡◌, ◌≤◌, ◌==◌, ◌++◌, ◌⊎◌, Some, length, OnOk, OnErr, IfErr, true};
 ghost use Rattle.std.specs.Cmp.{partial_equiv_from_equiv, nat_eq_equiv, nat_cmp_total, on_per, and_per, on_equiv, and_equiv, on_total, then_total};
 ghost use Rattle.std.specs.Ordering.{on, eq_of_both, then_cmp, nat_cmp};
 ghost use Rattle.std.specs.Fmt.{◌++?◌};
@@ -191,7 +191,8 @@ impl<'a, N: AbsoluteLabels<'a>, D: ComposeRecordData> Record<N, D> {
 
     /// Appends the record, names as the target composes them: owner, type, class, TTL, the length of the data, the data.
     /// `Long` only if data that may be appended has more than 65,535 octets, `Append` only if the record exceeds the spare
-    /// capacity, its owner's name as the target may then write it. The target's octets are then unchanged.
+    /// capacity, its owner's name as the target may then write it. The target's octets, and what it remembers, are then
+    /// unchanged.
     pub fn compose<Target: Composer>(
         &'a self,
         target: &mut Target,
@@ -206,9 +207,14 @@ impl<'a, N: AbsoluteLabels<'a>, D: ComposeRecordData> Record<N, D> {
             (after_owner D.type_number self.now)) (Target.octets target.old)
             (Target.octets target.new)) }
         ensures written { Target.compresses ≡ true →
-            OnOk result (WritesRecord N.labels D.type_number Target.octets Target.appends
-            (λ d. D.written d Target Target.octets Target.appends) self.now target.old target.new) }
+            OnOk result (WritesRecord N.labels D.type_number Target.octets Target.extends
+            Target.cuts Target.appends (λ d. D.written d Target Target.extends Target.appends)
+            self.now target.old target.new) }
+        ensures memory { Target.kept_within (length (Target.octets target.old))
+            (Target.memory target.new) ≡ Target.memory target.old }
         ensures unchanged { OnErr result (Target.octets target.new ≡ Target.octets target.old) }
+        ensures memory_unchanged { OnErr result
+            (Target.memory target.new ≡ Target.memory target.old) }
         ensures why { IfErr result
             (λ e. MayRefuseRecord N.labels D.type_number D.composed self.now Target.compresses
             (Target.octets target.old) (Target.capacity target.old) e) }
@@ -241,7 +247,8 @@ impl<'a, N: AbsoluteLabels<'a>, D: ComposeRecordData> Record<N, D> {
     /// RRSIG record tells (RFC 4034, 3.1.4), and not what a cache has left of it.
     ///
     /// `Append` only where it exceeds the spare capacity, `Long` only where the data has more than 65,535 octets, and
-    /// `UnknownNames` where its names aren't known ([`ComposeRecordData`]). The target's octets are then unchanged.
+    /// `UnknownNames` where its names aren't known ([`ComposeRecordData`]). The target's octets, and what it remembers, are
+    /// then unchanged.
     pub fn compose_canonical<Target: Composer>(
         &'a self,
         original_ttl: Ttl,
@@ -253,7 +260,11 @@ impl<'a, N: AbsoluteLabels<'a>, D: ComposeRecordData> Record<N, D> {
             (Target.octets target.old ++ canonical_head (N.labels (owner_of self.now))
             (D.type_number (data_of self.now)) (class_number (class_of self.now))
             (ttl_seconds original_ttl)) (Target.octets target.new)) }
+        ensures memory { Target.kept_within (length (Target.octets target.old))
+            (Target.memory target.new) ≡ Target.memory target.old }
         ensures unchanged { OnErr result (Target.octets target.new ≡ Target.octets target.old) }
+        ensures memory_unchanged { OnErr result
+            (Target.memory target.new ≡ Target.memory target.old) }
         ensures why { IfErr result (CanonicalRecordRefused
             (canonical_form (D.type_number (data_of self.now)) (D.uncompressed (data_of self.now))
             (D.lowercase (data_of self.now)))

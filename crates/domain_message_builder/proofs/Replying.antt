@@ -10,7 +10,7 @@ use Rattle.domain_header.specs.Numbers.{number16}
 use Rattle.domain_header.specs.declared.flags.Header.{Header}
 use Rattle.domain_message_builder.specs.Answers.{IsAnswerHeader, AnswersHeaderOf, HasNoQuestion, BeginsWithQuestion, RepeatsQuestion, StartsAnswer, NotStarted, CannotAsk, StartsError}
 use Rattle.domain_message_builder.specs.Answers.StartsAnswer.{repeats, nothing}
-use Rattle.domain_message_builder.specs.Answers.RepeatsQuestion.{repeats as given, nothing as untouched}
+use Rattle.domain_message_builder.specs.Answers.RepeatsQuestion.{repeats as given}
 use Rattle.domain_message_builder.specs.Answers.StartsError.{bare}
 use Rattle.domain_message_builder.specs.Pushes.{with_header, PushesQuestion}
 use Rattle.domain_message_builder.specs.Refusals.{QuestionRefused}
@@ -117,5 +117,5 @@ bare_after c m rcode old mid new h capacity room e is set stays same q begins wh
     bare (subst (AnswersHeaderOf m rcode) (sym head) is) q begins (cannot_ask c q old capacity e told) (all ∙ ap (λ k. with_header k old) (sym head))
 
 -- the target was given the question, whose header was set before
-pub given_after : {T : Type 0} (octets : T → List ℕ) (appends : T → List (List ℕ) → T → Type 0) (m : List ℕ) (old mid new : T) (q : QuestionFields) → BeginsWithQuestion m q → mid ≡ old → NameThen octets (λ c d. appends c q.name d) (type_and_class q.rtype q.class) mid new → RepeatsQuestion octets appends m old new
-given_after octets appends m old mid new q begins same writes = given q begins (subst (λ t. NameThen octets (λ c d. appends c q.name d) (type_and_class q.rtype q.class) t new) same writes)
+pub given_after : {T : Type 0} (extends : T → List ℕ → T → Type 0) (appends : T → List (List ℕ) → T → Type 0) (m : List ℕ) (old mid new : T) (q : QuestionFields) → BeginsWithQuestion m q → mid ≡ old → NameThen extends (λ c d. appends c q.name d) (type_and_class q.rtype q.class) mid new → RepeatsQuestion extends appends m old new
+given_after extends appends m old mid new q begins same writes = given q begins (subst (λ t. NameThen extends (λ c d. appends c q.name d) (type_and_class q.rtype q.class) t new) same writes)

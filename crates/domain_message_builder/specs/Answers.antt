@@ -1,5 +1,5 @@
 -- Messages that answer others.
-use Rattle.std.specs.Prelude.{◌≡◌, ℕ, ◌<◌, ◌-◌, ◌%◌, ◌⊎◌, Bool, List, slice_index}
+use Rattle.std.specs.Prelude.{◌≡◌, ℕ, ◌<◌, ◌-◌, ◌⊎◌, Bool, List, slice_index}
 use Rattle.domain_header.specs.Bits.{bit, bits}
 use Rattle.domain_header.specs.Headers.{header_id, header_high, header_low, question_count}
 use Rattle.domain_header.specs.Numbers.{number16}
@@ -44,11 +44,11 @@ pub record BeginsWithQuestion (m : List ℕ) (q : QuestionFields) : Type 0 where
   pub end : ℕ
   pub at : QuestionAt m 12 q end
 
--- How a target becomes where an answer to the message was begun: by its own call it appended the name of the first question, as
--- that stands there, and type and class came after it; or there is none, and the target is as it was.
-pub data RepeatsQuestion {T : Type 0} (octets : T → List ℕ) (appends : T → List (List ℕ) → T → Type 0) (m : List ℕ) (old new : T) : Type 0 where
-  repeats : (q : QuestionFields) → BeginsWithQuestion m q → NameThen octets (λ c d. appends c q.name d) (type_and_class q.rtype q.class) old new → RepeatsQuestion octets appends m old new
-  nothing : HasNoQuestion m → new ≡ old → RepeatsQuestion octets appends m old new
+-- How a target becomes where an answer to the message was begun: by its own calls it appended the name of the first question, as
+-- that stands there, and type and class; or there is none, and the target is as it was.
+pub data RepeatsQuestion {T : Type 0} (extends : T → List ℕ → T → Type 0) (appends : T → List (List ℕ) → T → Type 0) (m : List ℕ) (old new : T) : Type 0 where
+  repeats : (q : QuestionFields) → BeginsWithQuestion m q → NameThen extends (λ c d. appends c q.name d) (type_and_class q.rtype q.class) old new → RepeatsQuestion extends appends m old new
+  nothing : HasNoQuestion m → new ≡ old → RepeatsQuestion extends appends m old new
 
 -- An answer to the message was begun: its header was set, and its first question was pushed, if it has one.
 pub data StartsAnswer (compresses : Bool) (m : List ℕ) (rcode : ℕ) (old new : State) : Type 0 where

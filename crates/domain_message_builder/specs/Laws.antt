@@ -1,5 +1,5 @@
 -- The statements of the laws for callers.
-use Rattle.std.specs.Prelude.{◌≡◌, ℕ, Bool, List, [], ◌∷◌, ◌++◌, length, drop, ⊤}
+use Rattle.std.specs.Prelude.{◌≡◌, ℕ, Bool, List, [], ◌∷◌, ◌++◌, ◌+◌, length, drop, ⊤}
 use Rattle.domain_label.specs.Lowercase.{lowercase_labels}
 use Rattle.domain_header.specs.Numbers.{number16}
 use Rattle.domain_header.specs.declared.flags.Header.{Header}
@@ -51,6 +51,11 @@ pub record ReadsAs (it : Content) (m : List ℕ) : Type 0 where
 -- A reader of a message that was built gives what was pushed.
 abbrev pub MessagesReadBack : Type 0
 MessagesReadBack = (header : Header) (it : Content) (m : List ℕ) → IsMessageOf header it m → ReadsAs it m
+
+-- The octets s are read where they stand after the octets t, to their end, as what is like the data. `At m p it e`: what is seen so is in
+-- the octets m at p, and ends before e.
+abbrev pub IsSeenAfter : {Seen : Type 0} → (List ℕ → ℕ → Seen → ℕ → Type 0) → (Seen → Type 0) → List ℕ → List ℕ → Type 0
+IsSeenAfter {Seen} At Alike t s = (it : Seen) × At (t ++ s) (length t) it (length t + length s) × Alike it
 
 -- What may be composed for a name after a blank header may be after any header of twelve octets.
 abbrev pub NamesUnderAnyHeader : Type 0

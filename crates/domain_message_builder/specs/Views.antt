@@ -4,11 +4,11 @@ use Rattle.domain_message_builder.specs.State.{State}
 use Rattle.domain_message_builder.specs.declared.builder.MessageBuilder.{MessageBuilder}
 
 -- the target
-abbrev pub target_of : {T E : Type 0} {g : _} {h : _} {i : _} {j : _} → MessageBuilder T E g h i j → T
+abbrev pub target_of : {T E : Type 0} {g : _} {h : _} {i : _} {j : _} {k : _} {l : _} → MessageBuilder T E g h i j k l → T
 target_of b = b.target
 
 -- what is seen of a builder whose target has the octets that `octets` tells
-abbrev pub state_of : {T E : Type 0} {g : _} {h : _} {i : _} {j : _} → (T → List ℕ) → MessageBuilder T E g h i j → State
+abbrev pub state_of : {T E : Type 0} {g : _} {h : _} {i : _} {j : _} {k : _} {l : _} → (T → List ℕ) → MessageBuilder T E g h i j k l → State
 state_of octets b = record {
   header = b.header;
   limit = b.limit;

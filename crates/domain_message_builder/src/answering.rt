@@ -1,5 +1,5 @@
 //! Messages that answer others.
-ghost use Rattle.std.specs.Prelude.{◌≡◌, ◌≤◌, true, IfErr, OnOk, OnErr};
+ghost use Rattle.std.specs.Prelude.{◌≡◌, ◌≤◌, true, length, IfErr, OnOk, OnErr};
 ghost use Rattle.domain_header.specs.Headers.{header_id, header_high, header_low};
 ghost use Rattle.domain_header.specs.Values.{rcode_number};
 ghost use Rattle.domain_message.specs.Messages.{message_octets};
@@ -44,12 +44,16 @@ impl<Target: Composer> MessageBuilder<Target> {
         ensures ok { OnOk result (StartsAnswer Target.compresses
             (message_octets query.now) (rcode_number rcode)
             (state_of Target.octets self.old) (state_of Target.octets self.new)) }
+        ensures memory { Target.kept_within (length (Target.octets (target_of self.old)))
+            (Target.memory (target_of self.new)) ≡ Target.memory (target_of self.old) }
         ensures unchanged { OnErr result
             (state_of Target.octets self.new ≡ state_of Target.octets self.old) }
+        ensures memory_unchanged { OnErr result
+            (Target.memory (target_of self.new) ≡ Target.memory (target_of self.old)) }
         ensures why { IfErr result (λ e. NotStarted Target.compresses
             (message_octets query.now) (state_of Target.octets self.old)
             (Target.capacity (target_of self.old)) e) }
-        ensures written { OnOk result (RepeatsQuestion Target.octets Target.appends
+        ensures written { OnOk result (RepeatsQuestion Target.extends Target.appends
             (message_octets query.now) (target_of self.old) (target_of self.new)) }
         ensures early { IfErr result
             (λ e. is_early e ≡ true → target_of self.new ≡ target_of self.old) }
@@ -74,6 +78,8 @@ impl<Target: Composer> MessageBuilder<Target> {
         ensures starts { StartsError Target.compresses
             (message_octets query.now) (rcode_number rcode) (Target.capacity (target_of self.old))
             (state_of Target.octets self.old) (state_of Target.octets self.new) }
+        ensures memory { Target.kept_within (length (Target.octets (target_of self.old)))
+            (Target.memory (target_of self.new)) ≡ Target.memory (target_of self.old) }
         ensures capacity { Target.capacity (target_of self.old)
             ≤ Target.capacity (target_of self.new) }
     {

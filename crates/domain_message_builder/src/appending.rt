@@ -25,8 +25,10 @@ pub(crate) fn append_question<'a, N: AbsoluteLabels<'a>, Target: Composer>(
         (AsksIn Target.compresses (asked N.labels question.now) (Target.octets target.old))
         (Target.octets target.old) (Target.octets target.new)) }
     ensures written { OnOk result
-        (WritesQuestion N.labels Target.octets Target.appends question.now target.old target.new) }
+        (WritesQuestion N.labels Target.extends Target.appends question.now target.old target.new) }
     ensures within { OnOk result (length (Target.octets target.new) ≤ most) }
+    ensures memory { Target.kept_within (length (Target.octets target.old))
+        (Target.memory target.new) ≡ Target.memory target.old }
     ensures unchanged { OnErr result (Target.octets target.new ≡ Target.octets target.old) }
     ensures why { IfErr result
         (λ e. QuestionNotAppended Target.compresses (asked N.labels question.now)
@@ -35,7 +37,7 @@ pub(crate) fn append_question<'a, N: AbsoluteLabels<'a>, Target: Composer>(
         (RefusedAsWritten
         (HasNoRoom N.labels Target.octets Target.capacity Target.may_append question.now target.old)
         (Surpasses Target.octets
-        (WritesQuestion N.labels Target.octets Target.appends question.now) target.old
+        (WritesQuestion N.labels Target.extends Target.appends question.now) target.old
         most)) }
     ensures capacity { Target.capacity target.old ≤ Target.capacity target.new }
 {
@@ -61,9 +63,11 @@ pub(crate) fn append_record<'a, N: AbsoluteLabels<'a>, D: ComposeRecordData, Tar
         (D.composed (data_of resource.now) Target.compresses) (Target.octets target.old))
         (Target.octets target.old) (Target.octets target.new)) }
     ensures written { Target.compresses ≡ true →
-        OnOk result (WritesRecord N.labels D.type_number Target.octets Target.appends
-        (λ d. D.written d Target Target.octets Target.appends) resource.now target.old target.new) }
+        OnOk result (WritesRecord N.labels D.type_number Target.octets Target.extends
+        Target.cuts Target.appends (λ d. D.written d Target Target.extends Target.appends) resource.now target.old target.new) }
     ensures within { OnOk result (length (Target.octets target.new) ≤ most) }
+    ensures memory { Target.kept_within (length (Target.octets target.old))
+        (Target.memory target.new) ≡ Target.memory target.old }
     ensures unchanged { OnErr result (Target.octets target.new ≡ Target.octets target.old) }
     ensures why { IfErr result (λ e. RecordNotAppended Target.compresses
         (headed N.labels D.type_number resource.now)
@@ -76,8 +80,8 @@ pub(crate) fn append_record<'a, N: AbsoluteLabels<'a>, D: ComposeRecordData, Tar
         (λ t. ComposeRefused (D.composed (data_of resource.now) Target.compresses) t)
         resource.now target.old)
         (Surpasses Target.octets
-        (WritesRecord N.labels D.type_number Target.octets Target.appends
-        (λ d. D.written d Target Target.octets Target.appends) resource.now) target.old
+        (WritesRecord N.labels D.type_number Target.octets Target.extends
+        Target.cuts Target.appends (λ d. D.written d Target Target.extends Target.appends) resource.now) target.old
         most)) }
     ensures capacity { Target.capacity target.old ≤ Target.capacity target.new }
 {

@@ -7,7 +7,7 @@ ghost use Rattle.domain_message.specs.LeftToTarget.{WritesQuestion, WritesRecord
 ghost use Rattle.domain_message_builder.specs.Contents.{blank_header, Content, Holds};
 ghost use Rattle.domain_message_builder.specs.Errors.{is_early};
 ghost use Rattle.domain_message_builder.specs.Finished.{finished_octets};
-ghost use Rattle.domain_message_builder.specs.SectionStarts.{IsInOrder};
+ghost use Rattle.domain_message_builder.specs.SectionStarts.{IsInOrder, start_of};
 ghost use Rattle.domain_message_builder.specs.Pushes.{asked, headed, PushesQuestion, PushesRecord, Rewinds, RewindsAll};
 ghost use Rattle.domain_message_builder.specs.Tight.{Surpasses, RefusedAsWritten, HasNoRoom, RefusesEntry};
 ghost use Rattle.domain_message_builder.specs.Refusals.{NotBegun, QuestionRefused, RecordRefused};
@@ -177,7 +177,7 @@ impl<Target: Composer> MessageBuilder<Target> {
     ///
     /// `Order` exactly if a record was pushed, else `Count` exactly if there are 65,535 questions; else `Limit` or
     /// `Append` only if octets that may be composed for it exceed the limit, less what is set aside, or the target's
-    /// room. Nothing is then changed; after `Order` and `Count` nothing at all, also of what the target remembers.
+    /// room. Nothing is then changed, nor what the target remembers.
     pub fn push_question<'a, N: AbsoluteLabels<'a>>(
         &mut self,
         question: &'a Question<N>,
@@ -185,10 +185,14 @@ impl<Target: Composer> MessageBuilder<Target> {
         ensures ok { OnOk result (PushesQuestion Target.compresses (asked N.labels question.now)
             (state_of Target.octets self.old) (state_of Target.octets self.new)) }
         ensures written { OnOk result
-            (WritesQuestion N.labels Target.octets Target.appends question.now
+            (WritesQuestion N.labels Target.extends Target.appends question.now
             (target_of self.old) (target_of self.new)) }
+        ensures memory { Target.kept_within (length (Target.octets (target_of self.old)))
+            (Target.memory (target_of self.new)) ≡ Target.memory (target_of self.old) }
         ensures unchanged { OnErr result
             (state_of Target.octets self.new ≡ state_of Target.octets self.old) }
+        ensures memory_unchanged { OnErr result
+            (Target.memory (target_of self.new) ≡ Target.memory (target_of self.old)) }
         ensures early { IfErr result (λ e. is_early e ≡ true → self.new ≡ self.old) }
         ensures order { 0 < record_count (state_of Target.octets self.old).counts
             → result ≡ Err Order }
@@ -203,7 +207,7 @@ impl<Target: Composer> MessageBuilder<Target> {
             (HasNoRoom N.labels Target.octets Target.capacity Target.may_append question.now
             (target_of self.old))
             (Surpasses Target.octets
-            (WritesQuestion N.labels Target.octets Target.appends question.now) (target_of self.old)
+            (WritesQuestion N.labels Target.extends Target.appends question.now) (target_of self.old)
             ((state_of Target.octets self.old).limit
             - (state_of Target.octets self.old).reserved))) }
         ensures capacity { Target.capacity (target_of self.old)
@@ -232,8 +236,8 @@ impl<Target: Composer> MessageBuilder<Target> {
     ///
     /// `Order` exactly if a later section has a record, else `Count` exactly if this one has 65,535; else `Long` only if
     /// data that may be composed for it has over 65,535 octets, and `Limit` or `Append` only if octets that may be
-    /// composed exceed the limit, less what is set aside, or the target's room. Nothing is then changed; after `Order` and
-    /// `Count` nothing at all, also of what the target remembers.
+    /// composed exceed the limit, less what is set aside, or the target's room. Nothing is then changed, nor what the target
+    /// remembers.
     pub fn push<'a, N: AbsoluteLabels<'a>, D: ComposeRecordData>(
         &mut self,
         section: Section,
@@ -244,11 +248,15 @@ impl<Target: Composer> MessageBuilder<Target> {
             (D.composed (data_of resource.now) Target.compresses)
             (state_of Target.octets self.old) (state_of Target.octets self.new)) }
         ensures written { Target.compresses ≡ true →
-            OnOk result (WritesRecord N.labels D.type_number Target.octets Target.appends
-            (λ d. D.written d Target Target.octets Target.appends) resource.now
+            OnOk result (WritesRecord N.labels D.type_number Target.octets Target.extends
+            Target.cuts Target.appends (λ d. D.written d Target Target.extends Target.appends) resource.now
             (target_of self.old) (target_of self.new)) }
+        ensures memory { Target.kept_within (length (Target.octets (target_of self.old)))
+            (Target.memory (target_of self.new)) ≡ Target.memory (target_of self.old) }
         ensures unchanged { OnErr result
             (state_of Target.octets self.new ≡ state_of Target.octets self.old) }
+        ensures memory_unchanged { OnErr result
+            (Target.memory (target_of self.new) ≡ Target.memory (target_of self.old)) }
         ensures early { IfErr result (λ e. is_early e ≡ true → self.new ≡ self.old) }
         ensures order { 0 < later_count section (state_of Target.octets self.old).counts
             → result ≡ Err Order }
@@ -266,8 +274,8 @@ impl<Target: Composer> MessageBuilder<Target> {
             (λ t. ComposeRefused (D.composed (data_of resource.now) Target.compresses) t)
             resource.now (target_of self.old))
             (Surpasses Target.octets
-            (WritesRecord N.labels D.type_number Target.octets Target.appends
-            (λ d. D.written d Target Target.octets Target.appends) resource.now)
+            (WritesRecord N.labels D.type_number Target.octets Target.extends
+            Target.cuts Target.appends (λ d. D.written d Target Target.extends Target.appends) resource.now)
             (target_of self.old)
             ((state_of Target.octets self.old).limit
             - (state_of Target.octets self.old).reserved))) }
@@ -292,11 +300,15 @@ impl<Target: Composer> MessageBuilder<Target> {
             (with_reserved kept (state_of Target.octets self.old))
             (state_of Target.octets self.new)) }
         ensures written { Target.compresses ≡ true →
-            OnOk result (WritesRecord N.labels D.type_number Target.octets Target.appends
-            (λ d. D.written d Target Target.octets Target.appends) resource.now
+            OnOk result (WritesRecord N.labels D.type_number Target.octets Target.extends
+            Target.cuts Target.appends (λ d. D.written d Target Target.extends Target.appends) resource.now
             (target_of self.old) (target_of self.new)) }
+        ensures memory { Target.kept_within (length (Target.octets (target_of self.old)))
+            (Target.memory (target_of self.new)) ≡ Target.memory (target_of self.old) }
         ensures unchanged { OnErr result
             (state_of Target.octets self.new ≡ state_of Target.octets self.old) }
+        ensures memory_unchanged { OnErr result
+            (Target.memory (target_of self.new) ≡ Target.memory (target_of self.old)) }
         ensures early { IfErr result (λ e. is_early e ≡ true → self.new ≡ self.old) }
         ensures order { 0 < later_count section (state_of Target.octets self.old).counts
             → result ≡ Err Order }
@@ -315,8 +327,8 @@ impl<Target: Composer> MessageBuilder<Target> {
             (λ t. ComposeRefused (D.composed (data_of resource.now) Target.compresses) t)
             resource.now (target_of self.old))
             (Surpasses Target.octets
-            (WritesRecord N.labels D.type_number Target.octets Target.appends
-            (λ d. D.written d Target Target.octets Target.appends) resource.now)
+            (WritesRecord N.labels D.type_number Target.octets Target.extends
+            Target.cuts Target.appends (λ d. D.written d Target Target.extends Target.appends) resource.now)
             (target_of self.old)
             ((state_of Target.octets self.old).limit - kept))) }
         ensures capacity { Target.capacity (target_of self.old)
@@ -347,6 +359,8 @@ impl<Target: Composer> MessageBuilder<Target> {
     pub fn rewind(&mut self, section: Section)
         ensures rewinds { Rewinds Target.compresses section
             (state_of Target.octets self.old) (state_of Target.octets self.new) }
+        ensures cut { Target.cuts (target_of self.old)
+            (start_of section (state_of Target.octets self.old).starts) (target_of self.new) }
         ensures capacity { Target.capacity (target_of self.new)
             ≡ Target.capacity (target_of self.old) }
     {
@@ -360,6 +374,7 @@ impl<Target: Composer> MessageBuilder<Target> {
     pub fn rewind_all(&mut self)
         ensures rewinds { RewindsAll Target.compresses
             (state_of Target.octets self.old) (state_of Target.octets self.new) }
+        ensures cut { Target.cuts (target_of self.old) 12 (target_of self.new) }
         ensures capacity { Target.capacity (target_of self.new)
             ≡ Target.capacity (target_of self.old) }
     {
@@ -373,6 +388,7 @@ impl<Target: Composer> MessageBuilder<Target> {
         ensures message { (it : Content) → Holds Target.compresses (state_of Target.octets self) it
             → IsMessageOf (state_of Target.octets self).header it (Target.octets result) }
         ensures octets { Target.octets result ≡ finished_octets (state_of Target.octets self) }
+        ensures memory { Target.memory result ≡ Target.memory (target_of self) }
         ensures within { length (Target.octets result) ≤ (state_of Target.octets self).limit }
     {
         let MessageBuilder {

@@ -14,5 +14,5 @@ mod truncating;
 
 pub use builder::MessageBuilder;
 pub use error::{PushError, StartError};
-pub use laws::builder_laws;
+pub use laws::{builder_laws, pushed_data_reads_back};
 pub use opt::OptBuilder;

@@ -1,11 +1,13 @@
 //! Messages that are cut, and the OPT record at their end.
 ghost use Rattle.std.specs.Prelude.{◌≡◌, ◌≤◌, true, false, length, option_copied, IfOk, IfErr, OnOk, OnErr};
+ghost use Rattle.domain_message.specs.declared.section.Section.TheVariants.{Answer};
 ghost use Rattle.domain_header.specs.Headers.{SetsHigh, additional_count};
 ghost use Rattle.domain_message_builder.specs.Cuts.{PushesOpt, OptRefused, CannotAddOpt, Truncates, is_cut, EndsAnswer, NotEnded};
 ghost use Rattle.domain_message_builder.specs.Ends.{MarksCut, KeepsOpt, LosesOpt, KeepsOpts, LosesOpts};
 ghost use Rattle.domain_message_builder.specs.Errors.{is_for_room, is_early};
 ghost use Rattle.domain_message_builder.specs.Finished.{EndsIn};
 ghost use Rattle.domain_message_builder.specs.OptViews.{opt_of, opt_given};
+ghost use Rattle.domain_message_builder.specs.SectionStarts.{start_of};
 ghost use Rattle.domain_message_builder.specs.Views.{state_of, target_of};
 
 use crate::builder::MessageBuilder;
@@ -39,8 +41,12 @@ impl<Target: Composer> MessageBuilder<Target> {
     ) -> Result<(), PushError<Target::AppendError>>
         ensures ok { OnOk result (PushesOpt Target.compresses (opt_of opt.now)
             (state_of Target.octets self.old) (state_of Target.octets self.new)) }
+        ensures memory { Target.kept_within (length (Target.octets (target_of self.old)))
+            (Target.memory (target_of self.new)) ≡ Target.memory (target_of self.old) }
         ensures unchanged { OnErr result
             (state_of Target.octets self.new ≡ state_of Target.octets self.old) }
+        ensures memory_unchanged { OnErr result
+            (Target.memory (target_of self.new) ≡ Target.memory (target_of self.old)) }
         ensures why { IfErr result (λ e. OptRefused Target.compresses (opt_of opt.now)
             (state_of Target.octets self.old) (Target.capacity (target_of self.old)) e) }
         ensures no_room { OnErr result (CannotAddOpt (opt_of opt.now)
@@ -60,6 +66,8 @@ impl<Target: Composer> MessageBuilder<Target> {
     pub fn truncate(&mut self)
         ensures truncates { Truncates Target.compresses
             (state_of Target.octets self.old) (state_of Target.octets self.new) }
+        ensures cut { Target.cuts (target_of self.old)
+            (start_of Answer (state_of Target.octets self.old).starts) (target_of self.new) }
         ensures capacity { Target.capacity (target_of self.new)
             ≡ Target.capacity (target_of self.old) }
     {

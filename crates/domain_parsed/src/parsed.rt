@@ -531,7 +531,10 @@ impl<Octs: Octets> ParsedName<Octs> {
     ) -> Result<(), Target::AppendError>
         ensures ok { OnOk result
             (Target.octets target.new ≡ Target.octets target.old ++ wire (parsed_labels self.now)) }
+        ensures extends { OnOk result
+            (Target.extends target.old (wire (parsed_labels self.now)) target.new) }
         ensures unchanged { OnErr result (Target.octets target.new ≡ Target.octets target.old) }
+        ensures nothing { OnErr result (Target.extends target.old [] target.new) }
         ensures full { OnErr result (Target.capacity target.old
             < length (Target.octets target.old) + length (wire (parsed_labels self.now))) }
         ensures capacity { Target.capacity target.old ≤ Target.capacity target.new }

@@ -1,24 +1,36 @@
 -- Names that are left to a target.
-use Rattle.std.proofs.Common.{Result, Ok, Err, OnOk, ◌≡◌, ◌∙◌, ℕ, Bool, List, ◌++◌, length, sym, subst}
+use Rattle.std.proofs.Common.{Result, Ok, Err, OnOk, ◌≡◌, ◌∙◌, ℕ, Bool, List, ◌++◌, length, ap, sym, subst}
 use Rattle.std.specs.Int.{w16, to_be_bytes}
-use Rattle.domain_rdata.specs.LeavingNames.{WrittenBehind, LeavesNames, behind_length, length_moves}
+use Rattle.domain_rdata.specs.LeavingNames.{WrittenBehind, Measured, LeavesNames}
+use Rattle.domain_rdata.specs.LeavingNames.LeavesNames.{at_once, measured, length_moves}
 use Rattle.domain_rdata.specs.RecordData.{DataAfterLength}
 
--- What stands behind a length stands there however the octets before and the length are called.
-behind_moved : {T : Type 0} (octets : T → List ℕ) (written : T → T → Type 0) (old cut : List ℕ) (k len n : ℕ) (new : T) → cut ≡ old → k ≡ len → WrittenBehind octets written cut k n new → WrittenBehind octets written old len n new
-behind_moved octets written old cut k len n new same told x =
-    let P : List ℕ → Type 0 = λ t. WrittenBehind octets written t len n new in
-    let Q : ℕ → Type 0 = λ j. WrittenBehind octets written cut j n new in
-    subst P same (subst Q told x)
+-- What stands behind a length stands there however the length is called.
+behind_called : {T : Type 0} (octets : T → List ℕ) (extends : T → List ℕ → T → Type 0) (written : T → T → Type 0) (old : T) (k len n : ℕ) (new : T) → k ≡ len → WrittenBehind octets extends written old k n new → WrittenBehind octets extends written old len n new
+behind_called octets extends written old k len n new told x =
+    let P : ℕ → Type 0 = λ j. WrittenBehind octets extends written old j n new in
+    subst P told x
 
 -- Behind its own length the data's names are left to the target.
-pub behind_own_length : {T : Type 0} (octets : T → List ℕ) (written : T → T → Type 0) (old cut : List ℕ) (k n : ℕ) (new : T) → cut ≡ old → k ≡ n → WrittenBehind octets written cut k n new → LeavesNames octets written old new
-behind_own_length octets written old cut k n new same told x = behind_length n (behind_moved octets written old cut k n n new same told x)
+pub behind_own_length : {T : Type 0} (octets : T → List ℕ) (extends : T → List ℕ → T → Type 0) (cuts : T → ℕ → T → Type 0) (written : T → T → Type 0) (old : T) (k n : ℕ) (new : T) → k ≡ n → WrittenBehind octets extends written old k n new → LeavesNames octets extends cuts written old new
+behind_own_length octets extends cuts written old k n new told x = at_once n (behind_called octets extends written old k n n new told x)
+
+-- The data was composed to be measured, and cut off again.
+pub was_measured : {T : Type 0} (octets : T → List ℕ) (extends : T → List ℕ → T → Type 0) (cuts : T → ℕ → T → Type 0) (written : T → T → Type 0) (old made again : T) (seen : List ℕ) (n : ℕ) → seen ≡ octets old → WrittenBehind octets extends written old 0 n made → cuts made (length seen) again → Measured octets extends cuts written old n again
+was_measured octets extends cuts written old made again seen n same behind cut =
+    let P : ℕ → Type 0 = λ j. cuts made j again in
+    record { made = made; behind_none = behind; back = subst P (ap length same) cut }
+
+-- Behind the length that was measured, too.
+pub behind_measured_length : {T : Type 0} (octets : T → List ℕ) (extends : T → List ℕ → T → Type 0) (cuts : T → ℕ → T → Type 0) (written : T → T → Type 0) (old again : T) (k n m : ℕ) (new : T) → Measured octets extends cuts written old n again → k ≡ n → m ≡ n → WrittenBehind octets extends written again k m new → LeavesNames octets extends cuts written old new
+behind_measured_length octets extends cuts written old again k n m new was told size x =
+    let P : ℕ → Type 0 = λ j. WrittenBehind octets extends written again n j new in
+    measured n again was (subst P size (behind_called octets extends written again k n m new told x))
 
 -- Where no length is right, nothing is asked of what was appended.
-pub no_length_stays : {T U E : Type 0} (octets : T → List ℕ) (written : T → T → Type 0) (old cut : List ℕ) (k n m : ℕ) (first second new : T) (r : Result U E) → cut ≡ old → k ≡ n → WrittenBehind octets written old 0 n first → WrittenBehind octets written cut k m second → (m ≡ n → ⊥) → OnOk r (LeavesNames octets written old new)
-no_length_stays octets written old cut k n m first second new (Ok x) same told at_first again other = length_moves n m first second at_first (behind_moved octets written old cut k n m second same told again) other
-no_length_stays octets written old cut k n m first second new (Err e) same told at_first again other = tt
+pub no_length_stays : {T U E : Type 0} (octets : T → List ℕ) (extends : T → List ℕ → T → Type 0) (cuts : T → ℕ → T → Type 0) (written : T → T → Type 0) (old again : T) (k n m : ℕ) (second new : T) (r : Result U E) → Measured octets extends cuts written old n again → k ≡ n → WrittenBehind octets extends written again k m second → (m ≡ n → ⊥) → OnOk r (LeavesNames octets extends cuts written old new)
+no_length_stays octets extends cuts written old again k n m second new (Ok x) was told behind other = length_moves n m again second was (behind_called octets extends written again k n m second told behind) other
+no_length_stays octets extends cuts written old again k n m second new (Err e) was told behind other = tt
 
 -- A length that is told of all data that may be composed is that of the data.
 pub told_length : (Composed : Bool → List ℕ → List ℕ → Type 0) (asked compresses : Bool) (old new : List ℕ) (len n : ℕ) → asked ≡ compresses → ((t s : List ℕ) → Composed asked t s → length s ≡ len) → DataAfterLength (Composed compresses) old len n new → len ≡ n

@@ -102,12 +102,12 @@ pub trait ComposeRecordData: RecordData {
     /// not.
     ghost composed: { Self → Bool → List ℕ → List ℕ → Type 0 };
 
-    /// What a target becomes where the data was appended: `octets` are those of a target, and `named` is what a target
-    /// becomes where a name was appended as the target may write it ([`Composer::appends`]).
+    /// What a target becomes where the data was appended, by what it becomes where octets were appended
+    /// ([`OctetsBuilder::extends`]) and where a name was, as the target may write it ([`Composer::appends`]).
     ///
     /// So a name that may be compressed is left to the target.
-    ghost written: { Self → (T : Type 0) → (T → List ℕ) → (T → List (List ℕ) → T → Type 0) → T → T →
-        Type 0 };
+    ghost written: { Self → (T : Type 0) → (T → List ℕ → T → Type 0) →
+        (T → List (List ℕ) → T → Type 0) → T → T → Type 0 };
 
     /// The octets with no name compressed: all that a target takes that doesn't write names shorter.
     ghost uncompressed: { Self → List ℕ };
@@ -145,7 +145,9 @@ pub trait ComposeRecordData: RecordData {
             (Appended (composed self.now Target.compresses (Target.octets target.old))
             (Target.octets target.old) (Target.octets target.new)) }
         ensures names { OnOk result
-            (written self.now Target Target.octets Target.appends target.old target.new) }
+            (written self.now Target Target.extends Target.appends target.old target.new) }
+        ensures memory { Target.kept_within (length (Target.octets target.old))
+            (Target.memory target.new) ≡ Target.memory target.old }
         ensures unchanged { OnErr result (Target.octets target.new ≡ Target.octets target.old) }
         ensures full { OnErr result
             (Exceeds (composed self.now Target.compresses (Target.octets target.old))
@@ -165,6 +167,8 @@ pub trait ComposeRecordData: RecordData {
             (WithForm
             (canonical_form (Self.type_number self.now) (uncompressed self.now)
             (lowercase self.now)) (Target.octets target.old) (Target.octets target.new)) }
+        ensures memory { Target.kept_within (length (Target.octets target.old))
+            (Target.memory target.new) ≡ Target.memory target.old }
         ensures unchanged { OnErr result (Target.octets target.new ≡ Target.octets target.old) }
         ensures why { IfErr result
             (λ e. FormRefused
@@ -185,9 +189,10 @@ pub trait ComposeRecordData: RecordData {
             (LengthAndData (composed self.now Target.compresses) (Target.octets target.old)
             (Target.octets target.new)) }
         ensures names { Target.compresses ≡ true →
-            OnOk result (LeavesNames Target.octets
-            (written self.now Target Target.octets Target.appends) (Target.octets target.old)
-            target.new) }
+            OnOk result (LeavesNames Target.octets Target.extends Target.cuts
+            (written self.now Target Target.extends Target.appends) target.old target.new) }
+        ensures memory { Target.kept_within (length (Target.octets target.old))
+            (Target.memory target.new) ≡ Target.memory target.old }
         ensures unchanged { OnErr result (Target.octets target.new ≡ Target.octets target.old) }
         ensures why { IfErr result
             (λ e. ComposeRefused (composed self.now Target.compresses) (Target.octets target.old)
@@ -216,6 +221,8 @@ pub trait ComposeRecordData: RecordData {
             (WithLengthAndForm
             (canonical_form (Self.type_number self.now) (uncompressed self.now)
             (lowercase self.now)) (Target.octets target.old) (Target.octets target.new)) }
+        ensures memory { Target.kept_within (length (Target.octets target.old))
+            (Target.memory target.new) ≡ Target.memory target.old }
         ensures unchanged { OnErr result (Target.octets target.new ≡ Target.octets target.old) }
         ensures why { IfErr result
             (λ e. CanonicalRefused
@@ -269,9 +276,10 @@ fn compose_after<Data: ComposeRecordData, Target: Composer>(
         (λ n. DataAfterLength (Data.composed rdata.now Target.compresses) (Target.octets target.old)
         len n (Target.octets target.new)) }
     ensures names { IfOk result
-        (λ n. WrittenBehind Target.octets
-        (Data.written rdata.now Target Target.octets Target.appends) (Target.octets target.old)
-        len n target.new) }
+        (λ n. WrittenBehind Target.octets Target.extends
+        (Data.written rdata.now Target Target.extends Target.appends) target.old len n target.new) }
+    ensures memory { Target.kept_within (length (Target.octets target.old))
+        (Target.memory target.new) ≡ Target.memory target.old }
     ensures unchanged { OnErr result (Target.octets target.new ≡ Target.octets target.old) }
     ensures full { OnErr result
         (ExceedsWithLength (Data.composed rdata.now Target.compresses) (Target.octets target.old)
@@ -302,9 +310,10 @@ fn compose_measured<Data: ComposeRecordData, Target: Composer>(
         (LengthAndData (Data.composed rdata.now Target.compresses) (Target.octets target.old)
         (Target.octets target.new)) }
     ensures names { Target.compresses ≡ true →
-        OnOk result (LeavesNames Target.octets
-        (Data.written rdata.now Target Target.octets Target.appends) (Target.octets target.old)
-        target.new) }
+        OnOk result (LeavesNames Target.octets Target.extends Target.cuts
+        (Data.written rdata.now Target Target.extends Target.appends) target.old target.new) }
+    ensures memory { Target.kept_within (length (Target.octets target.old))
+        (Target.memory target.new) ≡ Target.memory target.old }
     ensures unchanged { OnErr result (Target.octets target.new ≡ Target.octets target.old) }
     ensures why { IfErr result
         (λ e. ComposeRefused (Data.composed rdata.now Target.compresses) (Target.octets target.old)
@@ -346,6 +355,8 @@ fn compose_flat<Data: ComposeRecordData, Target: Composer>(
     ensures ok { OnOk result
         (LengthAndData (Data.composed rdata.now Target.compresses) (Target.octets target.old)
         (Target.octets target.new)) }
+    ensures memory { Target.kept_within (length (Target.octets target.old))
+        (Target.memory target.new) ≡ Target.memory target.old }
     ensures unchanged { OnErr result (Target.octets target.new ≡ Target.octets target.old) }
     ensures why { IfErr result
         (λ e. ComposeRefused (Data.composed rdata.now Target.compresses) (Target.octets target.old)

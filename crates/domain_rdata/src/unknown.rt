@@ -158,7 +158,7 @@ impl<Octs: Octets> ComposeRecordData for UnknownRecordData<Octs> {
 
     ghost composed = { λ it _ _ s. s ≡ data_octets it };
 
-    ghost written = { λ it _ octets _ old new. octets new ≡ octets old ++ data_octets it };
+    ghost written = { λ it _ extends _ old new. extends old (data_octets it) new };
 
     ghost uncompressed = { data_octets };
 

@@ -3,6 +3,7 @@ ghost use Rattle.std.specs.Prelude.{◌≡◌, ◌<◌, ◌↔◌, IsTrue, IfSom
 ghost use Rattle.domain_message.specs.SectionOrder.{section_after};
 ghost use Rattle.domain_message.specs.declared.section.Section.TheVariants.{Answer};
 ghost use Rattle.domain_message_builder.specs.Pushes.{later_count, record_count, Rewinds};
+ghost use Rattle.domain_message_builder.specs.SectionStarts.{start_of};
 ghost use Rattle.domain_message_builder.specs.Views.{state_of, target_of};
 
 use domain_header::HeaderCounts;
@@ -37,6 +38,9 @@ pub(crate) fn without_records<Target: Composer>(
     ensures rewinds { 0 < record_count (state_of Target.octets builder).counts
         → Rewinds Target.compresses Answer
         (state_of Target.octets builder) (state_of Target.octets result) }
+    ensures cut { 0 < record_count (state_of Target.octets builder).counts
+        → Target.cuts (target_of builder)
+        (start_of Answer (state_of Target.octets builder).starts) (target_of result) }
     ensures capacity { Target.capacity (target_of result) ≡ Target.capacity (target_of builder) }
 {
     if !has_records(builder.counts()) {
@@ -58,6 +62,9 @@ pub(crate) fn without_later<Target: Composer>(
     ensures rewinds { 0 < later_count section (state_of Target.octets builder).counts
         → IfSome (section_after section) (λ next. Rewinds Target.compresses next
         (state_of Target.octets builder) (state_of Target.octets result)) }
+    ensures cut { 0 < later_count section (state_of Target.octets builder).counts
+        → IfSome (section_after section) (λ next. Target.cuts (target_of builder)
+        (start_of next (state_of Target.octets builder).starts) (target_of result)) }
     ensures capacity { Target.capacity (target_of result) ≡ Target.capacity (target_of builder) }
 {
     let Some(next) = section.next_section() else {

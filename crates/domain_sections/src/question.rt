@@ -68,8 +68,8 @@ impl<Target: Composer> QuestionBuilder<Target> {
     /// Pushes a question, or nothing.
     ///
     /// `Count` exactly if there are 65,535 questions; else `Limit` or `Append` only if octets that may be composed for it
-    /// exceed the limit, less what is set aside, or the target's room. Nothing is then changed; after `Count` nothing at
-    /// all, also of what the target remembers.
+    /// exceed the limit, less what is set aside, or the target's room. Nothing is then changed, nor what the target
+    /// remembers.
     pub fn push<'a, N: AbsoluteLabels<'a>>(
         &mut self,
         question: &'a Question<N>,
@@ -77,10 +77,14 @@ impl<Target: Composer> QuestionBuilder<Target> {
         ensures ok { OnOk result (PushesQuestion Target.compresses (asked N.labels question.now)
             (question_state Target.octets self.old) (question_state Target.octets self.new)) }
         ensures written { OnOk result
-            (WritesQuestion N.labels Target.octets Target.appends question.now
+            (WritesQuestion N.labels Target.extends Target.appends question.now
             (question_target self.old) (question_target self.new)) }
+        ensures memory { Target.kept_within (length (Target.octets (question_target self.old)))
+            (Target.memory (question_target self.new)) ≡ Target.memory (question_target self.old) }
         ensures unchanged { OnErr result
             (question_state Target.octets self.new ≡ question_state Target.octets self.old) }
+        ensures memory_unchanged { OnErr result
+            (Target.memory (question_target self.new) ≡ Target.memory (question_target self.old)) }
         ensures early { IfErr result (λ e. is_early (push_error e) ≡ true
             → question_builder self.new ≡ question_builder self.old) }
         ensures count { question_count (question_state Target.octets self.old).counts ≡ 65535
@@ -92,7 +96,7 @@ impl<Target: Composer> QuestionBuilder<Target> {
             (HasNoRoom N.labels Target.octets Target.capacity Target.may_append question.now
             (question_target self.old))
             (Surpasses Target.octets
-            (WritesQuestion N.labels Target.octets Target.appends question.now)
+            (WritesQuestion N.labels Target.extends Target.appends question.now)
             (question_target self.old)
             ((question_state Target.octets self.old).limit
             - (question_state Target.octets self.old).reserved))
@@ -110,6 +114,7 @@ impl<Target: Composer> QuestionBuilder<Target> {
     pub fn rewind(&mut self)
         ensures rewinds { RewindsAll Target.compresses
             (question_state Target.octets self.old) (question_state Target.octets self.new) }
+        ensures cut { Target.cuts (question_target self.old) 12 (question_target self.new) }
         ensures capacity { Target.capacity (question_target self.new)
             ≡ Target.capacity (question_target self.old) }
     {

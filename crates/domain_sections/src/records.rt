@@ -11,6 +11,7 @@ ghost use Rattle.domain_message_builder.specs.Finished.{finished_octets};
 ghost use Rattle.domain_message_builder.specs.Pushes.{headed, later_count, section_count, with_header, PushesRecord, Rewinds, RewindsAll};
 ghost use Rattle.domain_message_builder.specs.Reading.{IsMessageOf};
 ghost use Rattle.domain_message_builder.specs.Refusals.{RecordRefused};
+ghost use Rattle.domain_message_builder.specs.SectionStarts.{start_of};
 ghost use Rattle.domain_message_builder.specs.Tight.{RefusedAsWritten, RefusesEntry, Surpasses};
 ghost use Rattle.domain_message_builder.specs.Views.{state_of, target_of};
 ghost use Rattle.domain_sections.specs.Errors.{push_error};
@@ -94,8 +95,7 @@ impl<Target: Composer, S: RecordSection> RecordBuilder<Target, S> {
     ///
     /// `Count` exactly if the section has 65,535 records; else `Long` only if data that may be composed for it has over
     /// 65,535 octets, and `Limit` or `Append` only if octets that may be composed exceed the limit, less what is set
-    /// aside, or the target's room. Nothing is then changed; after `Count` nothing at all, also of what the target
-    /// remembers.
+    /// aside, or the target's room. Nothing is then changed, nor what the target remembers.
     pub fn push<'a, N: AbsoluteLabels<'a>, D: ComposeRecordData>(
         &mut self,
         resource: &'a Record<N, D>,
@@ -105,11 +105,15 @@ impl<Target: Composer, S: RecordSection> RecordBuilder<Target, S> {
             (D.composed (data_of resource.now) Target.compresses)
             (record_state Target.octets self.old) (record_state Target.octets self.new)) }
         ensures written { Target.compresses ≡ true →
-            OnOk result (WritesRecord N.labels D.type_number Target.octets Target.appends
-            (λ d. D.written d Target Target.octets Target.appends) resource.now
+            OnOk result (WritesRecord N.labels D.type_number Target.octets Target.extends
+            Target.cuts Target.appends (λ d. D.written d Target Target.extends Target.appends) resource.now
             (record_target self.old) (record_target self.new)) }
+        ensures memory { Target.kept_within (length (Target.octets (record_target self.old)))
+            (Target.memory (record_target self.new)) ≡ Target.memory (record_target self.old) }
         ensures unchanged { OnErr result
             (record_state Target.octets self.new ≡ record_state Target.octets self.old) }
+        ensures memory_unchanged { OnErr result
+            (Target.memory (record_target self.new) ≡ Target.memory (record_target self.old)) }
         ensures early { IfErr result (λ e. is_early (push_error e) ≡ true
             → record_builder self.new ≡ record_builder self.old) }
         ensures count { section_count S.SECTION (record_state Target.octets self.old).counts ≡ 65535
@@ -125,8 +129,8 @@ impl<Target: Composer, S: RecordSection> RecordBuilder<Target, S> {
             (λ t. ComposeRefused (D.composed (data_of resource.now) Target.compresses) t)
             resource.now (record_target self.old))
             (Surpasses Target.octets
-            (WritesRecord N.labels D.type_number Target.octets Target.appends
-            (λ d. D.written d Target Target.octets Target.appends) resource.now)
+            (WritesRecord N.labels D.type_number Target.octets Target.extends
+            Target.cuts Target.appends (λ d. D.written d Target Target.extends Target.appends) resource.now)
             (record_target self.old)
             ((record_state Target.octets self.old).limit
             - (record_state Target.octets self.old).reserved))
@@ -144,6 +148,9 @@ impl<Target: Composer, S: RecordSection> RecordBuilder<Target, S> {
     pub fn rewind(&mut self)
         ensures rewinds { Rewinds Target.compresses S.SECTION
             (record_state Target.octets self.old) (record_state Target.octets self.new) }
+        ensures cut { Target.cuts (record_target self.old)
+            (start_of S.SECTION (record_state Target.octets self.old).starts)
+            (record_target self.new) }
         ensures capacity { Target.capacity (record_target self.new)
             ≡ Target.capacity (record_target self.old) }
     {
@@ -177,6 +184,7 @@ impl<Target: Composer, S: RecordSection> RecordBuilder<Target, S> {
             → Holds Target.compresses (record_state Target.octets self) it
             → IsMessageOf (record_state Target.octets self).header it (Target.octets result) }
         ensures octets { Target.octets result ≡ finished_octets (record_state Target.octets self) }
+        ensures memory { Target.memory result ≡ Target.memory (record_target self) }
         ensures within { length (Target.octets result) ≤ (record_state Target.octets self).limit }
     {
         self.builder.finish()
@@ -192,15 +200,19 @@ impl<Target: Composer> RecordBuilder<Target, AdditionalSection> {
     /// Pushes an OPT record, or nothing, into the octets that were set aside too: none are after it (RFC 6891, 6.1.1).
     ///
     /// The errors are those of `push`, and only where the record has no room or 65,535 are there. Nothing is then changed,
-    /// after `Count` nothing at all, also of what the target remembers.
+    /// nor what the target remembers.
     pub fn push_opt<Octs: Octets>(
         &mut self,
         opt: &OptBuilder<Octs>,
     ) -> Result<(), SectionError<Target::AppendError>>
         ensures ok { OnOk result (PushesOpt Target.compresses (opt_of opt.now)
             (record_state Target.octets self.old) (record_state Target.octets self.new)) }
+        ensures memory { Target.kept_within (length (Target.octets (record_target self.old)))
+            (Target.memory (record_target self.new)) ≡ Target.memory (record_target self.old) }
         ensures unchanged { OnErr result
             (record_state Target.octets self.new ≡ record_state Target.octets self.old) }
+        ensures memory_unchanged { OnErr result
+            (Target.memory (record_target self.new) ≡ Target.memory (record_target self.old)) }
         ensures why { IfErr result (λ e. OptRefused Target.compresses (opt_of opt.now)
             (record_state Target.octets self.old) (Target.capacity (record_target self.old))
             (push_error e)) }

@@ -124,7 +124,7 @@ impl<Octs: Octets> DataField for CharString<Octs> {
 
     ghost composed = { λ it _ _ s. s ≡ counted (char_octets it) };
 
-    ghost written = { λ it _ octets _ old new. octets new ≡ octets old ++ counted (char_octets it) };
+    ghost written = { λ it _ extends _ old new. extends old (counted (char_octets it)) new };
 
     ghost known_len = { λ it _. Some (length (counted (char_octets it))) };
 
@@ -157,6 +157,8 @@ impl<Octs: Octets> DataField for CharString<Octs> {
     }
 
     ghost forms = { λ it lowercase. one_part lowercase (no_name (counted (char_octets it))) };
+
+    ghost moves = { λ _ _ _ _ _ _ same. same };
 
     ghost plain = { λ _ _ _. refl };
 

@@ -114,7 +114,7 @@ impl<const TEXT: u8, Octs: Octets> DataField for LastOctets<TEXT, Octs> {
 
     ghost composed = { λ it _ _ s. s ≡ last_octets it };
 
-    ghost written = { λ it _ octets _ old new. octets new ≡ octets old ++ last_octets it };
+    ghost written = { λ it _ extends _ old new. extends old (last_octets it) new };
 
     ghost known_len = { λ it _. Some (length (last_octets it)) };
 
@@ -138,6 +138,8 @@ impl<const TEXT: u8, Octs: Octets> DataField for LastOctets<TEXT, Octs> {
     }
 
     ghost forms = { λ it lowercase. one_part lowercase (no_name (last_octets it)) };
+
+    ghost moves = { λ _ _ _ _ _ _ same. same };
 
     ghost plain = { λ _ _ _. refl };
 

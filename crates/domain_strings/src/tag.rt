@@ -137,7 +137,7 @@ impl<Octs: Octets> DataField for Tag<Octs> {
 
     ghost composed = { λ it _ _ s. s ≡ counted (tag_octets it) };
 
-    ghost written = { λ it _ octets _ old new. octets new ≡ octets old ++ counted (tag_octets it) };
+    ghost written = { λ it _ extends _ old new. extends old (counted (tag_octets it)) new };
 
     ghost known_len = { λ it _. Some (length (counted (tag_octets it))) };
 
@@ -161,6 +161,8 @@ impl<Octs: Octets> DataField for Tag<Octs> {
     }
 
     ghost forms = { λ it lowercase. one_part lowercase (no_name (counted (tag_octets it))) };
+
+    ghost moves = { λ _ _ _ _ _ _ same. same };
 
     ghost plain = { λ _ _ _. refl };
 

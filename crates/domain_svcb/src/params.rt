@@ -196,7 +196,7 @@ impl<Octs: Octets> DataField for SvcParams<Octs> {
 
     ghost composed = { λ it _ _ s. s ≡ params_held it };
 
-    ghost written = { λ it _ octets _ old new. octets new ≡ octets old ++ params_held it };
+    ghost written = { λ it _ extends _ old new. extends old (params_held it) new };
 
     ghost known_len = { λ it _. Some (length (params_held it)) };
 
@@ -220,6 +220,8 @@ impl<Octs: Octets> DataField for SvcParams<Octs> {
     }
 
     ghost forms = { λ it lowercase. one_part lowercase (no_name (params_held it)) };
+
+    ghost moves = { λ _ _ _ _ _ _ same. same };
 
     ghost plain = { λ _ _ _. refl };
 

@@ -196,6 +196,8 @@ impl<const TYPE: u16, F: ReadBackLast> ReadBackData for ServiceData<TYPE, F> {
 
     ghost like = { λ it. F.like (service_fields it) };
 
+    ghost moves = { λ it. F.moves (service_fields it) };
+
     fn reads_back(&self) {
         self.fields.reads_back_last()
     }

@@ -38,7 +38,7 @@ impl<'a> RecordData for Unmeasured<'a> {
 impl<'a> ComposeRecordData for Unmeasured<'a> {
     ghost composed = { λ it _ _ s. s ≡ it.octets.now };
 
-    ghost written = { λ it _ octets _ old new. octets new ≡ octets old ++ it.octets.now };
+    ghost written = { λ it _ extends _ old new. extends old it.octets.now new };
 
     ghost uncompressed = { λ it. it.octets.now };
 

@@ -1,5 +1,5 @@
 //! The calls of absolute names.
-ghost use Rattle.std.specs.Prelude.{◌≡◌, ◌<◌, ◌≤◌, ◌+◌, ◌++◌, ◌↔◌, length, IsTrue, IfOk, IfSome, IsOkAnd, OnOk, OnErr};
+ghost use Rattle.std.specs.Prelude.{◌≡◌, ◌<◌, ◌≤◌, ◌+◌, ◌++◌, [], ◌↔◌, length, IsTrue, IfOk, IfSome, IsOkAnd, OnOk, OnErr};
 ghost use Rattle.std.specs.Cow.{IsBorrowedSlice};
 ghost use Rattle.domain_label.specs.Lowercase.{lowercase_labels};
 ghost use Rattle.domain_label.specs.Wire.{wire};
@@ -160,7 +160,10 @@ pub trait ToName<'a>: AbsoluteLabels<'a> {
     ) -> Result<(), Target::AppendError>
         ensures ok { OnOk result
             (Target.octets target.new ≡ Target.octets target.old ++ wire (Self.labels self.now)) }
+        ensures extends { OnOk result
+            (Target.extends target.old (wire (Self.labels self.now)) target.new) }
         ensures unchanged { OnErr result (Target.octets target.new ≡ Target.octets target.old) }
+        ensures nothing { OnErr result (Target.extends target.old [] target.new) }
         ensures full { OnErr result
             (Target.capacity target.old
             < length (Target.octets target.old) + length (wire (Self.labels self.now))) }
@@ -181,7 +184,10 @@ pub trait ToName<'a>: AbsoluteLabels<'a> {
         ensures ok { OnOk result
             (Target.octets target.new
             ≡ Target.octets target.old ++ wire (lowercase_labels (Self.labels self.now))) }
+        ensures extends { OnOk result (Target.extends target.old
+            (wire (lowercase_labels (Self.labels self.now))) target.new) }
         ensures unchanged { OnErr result (Target.octets target.new ≡ Target.octets target.old) }
+        ensures nothing { OnErr result (Target.extends target.old [] target.new) }
         ensures full { OnErr result
             (Target.capacity target.old
             < length (Target.octets target.old)

@@ -129,7 +129,10 @@ pub trait ToRelativeName<'a>: RelativeLabels<'a> {
     ) -> Result<(), Target::AppendError>
         ensures ok { OnOk result
             (Target.octets target.new ≡ Target.octets target.old ++ wire (Self.labels self.now)) }
+        ensures extends { OnOk result
+            (Target.extends target.old (wire (Self.labels self.now)) target.new) }
         ensures unchanged { OnErr result (Target.octets target.new ≡ Target.octets target.old) }
+        ensures nothing { OnErr result (Target.extends target.old [] target.new) }
         ensures full { OnErr result
             (Target.capacity target.old
             < length (Target.octets target.old) + length (wire (Self.labels self.now))) }
@@ -150,7 +153,10 @@ pub trait ToRelativeName<'a>: RelativeLabels<'a> {
         ensures ok { OnOk result
             (Target.octets target.new
             ≡ Target.octets target.old ++ wire (lowercase_labels (Self.labels self.now))) }
+        ensures extends { OnOk result (Target.extends target.old
+            (wire (lowercase_labels (Self.labels self.now))) target.new) }
         ensures unchanged { OnErr result (Target.octets target.new ≡ Target.octets target.old) }
+        ensures nothing { OnErr result (Target.extends target.old [] target.new) }
         ensures full { OnErr result
             (Target.capacity target.old
             < length (Target.octets target.old)

@@ -16,5 +16,7 @@ impl<Octs: Octets> ReadBackData for Txt<Octs> {
 
     ghost like = { λ it seen. seen ≡ txt_strings it };
 
+    ghost moves = { λ _ _ _ _ _ _ same. same };
+
     fn reads_back(&self) {}
 }

@@ -226,7 +226,7 @@ impl<Octs: Octets> ComposeRecordData for Txt<Octs> {
 
     ghost composed = { λ it _ _ s. s ≡ txt_octets it };
 
-    ghost written = { λ it _ octets _ old new. octets new ≡ octets old ++ txt_octets it };
+    ghost written = { λ it _ extends _ old new. extends old (txt_octets it) new };
 
     ghost uncompressed = { txt_octets };
 

@@ -1,5 +1,5 @@
 //! Values of fixed length, and how they are written on the wire.
-ghost use Rattle.std.specs.Prelude.{◌≡◌, ℕ, ◌++◌, ◌+◌, ◌<◌, ◌≤◌, List, length, OnOk, OnErr, IfSome, MatchResult, [], Ok, Err, refl};
+ghost use Rattle.std.specs.Prelude.{◌≡◌, ℕ, ◌++◌, ◌+◌, ◌<◌, ◌≤◌, List, [], length, OnOk, OnErr, IfSome, MatchResult, [], Ok, Err, refl};
 ghost use Rattle.std.specs.Int.{w8, w16, w32, w64, w128, to_be_bytes, cast_unsigned};
 ghost use Rattle.domain_wire.specs.Addresses.{ipv4_octets, ipv6_octets, exactly_len};
 ghost use Rattle.std.specs.Fn.{FnOnceReturnsAtMut};
@@ -26,7 +26,10 @@ pub trait Compose {
     fn compose<Target: OctetsBuilder>(&self, target: &mut Target) -> Result<(), Target::AppendError>
         ensures ok { OnOk result
             (Target.octets target.new ≡ Target.octets target.old ++ composed_octets self.now) }
+        ensures extends { OnOk result
+            (Target.extends target.old (composed_octets self.now) target.new) }
         ensures unchanged { OnErr result (Target.octets target.new ≡ Target.octets target.old) }
+        ensures nothing { OnErr result (Target.extends target.old [] target.new) }
         ensures full { OnErr result
             (Target.capacity target.old
             < length (Target.octets target.old) + length (composed_octets self.now)) }

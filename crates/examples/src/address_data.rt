@@ -33,7 +33,7 @@ impl RecordData for AddressData {
 impl ComposeRecordData for AddressData {
     ghost composed = { λ it _ _ s. s ≡ ipv4_octets it.address };
 
-    ghost written = { λ it _ octets _ old new. octets new ≡ octets old ++ ipv4_octets it.address };
+    ghost written = { λ it _ extends _ old new. extends old (ipv4_octets it.address) new };
 
     ghost uncompressed = { λ it. ipv4_octets it.address };
 

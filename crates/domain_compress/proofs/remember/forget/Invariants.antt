@@ -9,6 +9,7 @@ invariant-offsets l = record {
   all : remembered_within l.len (all_remembered l.fn.written.items) ≡ all_remembered l.kept.items ++ remembered_within l.len (all_remembered l.rest);
   known : IsKnown l.holds l.octets l.kept.items;
   few : length l.kept.items + length l.rest ≤ 128;
+  fewer : length l.kept.items + length l.rest ≤ length l.fn.written.items;
 }
 
 abbrev pub decreases-offsets : goal.decreases-offsets

@@ -1,5 +1,5 @@
 use Rattle.std.proofs.Common.{◌≤◌, ◌≡◌, ◌∙◌, sym, arith}
-use Rattle.domain_rdata.proofs.Leaving.{behind_own_length, no_length_stays}
+use Rattle.domain_rdata.proofs.Leaving.{was_measured, behind_measured_length, no_length_stays}
 use Rattle.domain_rdata.proofs.Lengths.{cut_back, exceeds_less, refused_less_so}
 use Rattle.domain_rdata.proofs.record_data.compose_measured.Goals as goal
 
@@ -18,10 +18,10 @@ returns-clause-why g c =
 
 pub returns-then-again-len-clause-names : goal.returns-then-again-len-clause-names
 returns-then-again-len-clause-names g c compressing =
-    let same : g.Target.Octets.octets c.truncate-2.new.self ≡ g.Target.Octets.octets c.args.target.now = cut_back _ _ _ _ _ _ _ c.in-Ok.ensures.ok c.as_slice-start.ensures.octets c.truncate-2.ensures.octets in
-    behind_own_length _ _ _ _ _ _ _ same (omega (arith, c.if-again-len.true, c.if-len-gt-MOST_OCTETS.false)) c.in-Ok-compose_after.ensures.names
+    let was = was_measured _ _ _ _ _ _ _ _ _ c.as_slice-start.ensures.octets c.in-Ok.ensures.names c.truncate-2.ensures.cuts in
+    behind_measured_length _ _ _ _ _ _ _ _ _ _ was (omega (arith, c.if-len-gt-MOST_OCTETS.false)) (omega (arith, c.if-again-len.true)) c.in-Ok-compose_after.ensures.names
 
 pub returns-clause-names : goal.returns-clause-names
 returns-clause-names g c compressing =
-    let same : g.Target.Octets.octets c.truncate-2.new.self ≡ g.Target.Octets.octets c.args.target.now = cut_back _ _ _ _ _ _ _ c.in-Ok.ensures.ok c.as_slice-start.ensures.octets c.truncate-2.ensures.octets in
-    no_length_stays _ _ _ _ _ _ _ _ _ _ _ same (omega (arith, c.if-len-gt-MOST_OCTETS.false)) c.in-Ok.ensures.names c.in-Ok-compose_after.ensures.names c.if-again-len.false
+    let was = was_measured _ _ _ _ _ _ _ _ _ c.as_slice-start.ensures.octets c.in-Ok.ensures.names c.truncate-2.ensures.cuts in
+    no_length_stays _ _ _ _ _ _ _ _ _ _ _ _ was (omega (arith, c.if-len-gt-MOST_OCTETS.false)) c.in-Ok-compose_after.ensures.names c.if-again-len.false

@@ -1,4 +1,4 @@
-use Rattle.std.proofs.Common.{◌≡◌, ◌≤◌, ◌+◌, refl, arith, ap, length, length-drop, rules}
+use Rattle.std.proofs.Common.{refl, arith, ap, length, length-drop, rules}
 use Rattle.std.proofs.lemmas.List.{length-take-le}
 use Rattle.octseq.specs.Parsing.{message, position}
 use Rattle.domain_reading.proofs.NameOrFault.{names_or_fault}

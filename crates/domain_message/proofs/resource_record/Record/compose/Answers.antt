@@ -31,7 +31,7 @@ returns-clause-name g c =
 
 pub returns-clause-written : goal.returns-clause-written
 returns-clause-written g c compressing =
-    name_then_data _ _ _ _ _ _ _ _ _ _ _ _ c.in_default.ensures.appends c.in_default-append_slice.ensures.ok c.octets_before_length-numbers.ensures c.rtype.ensures (c.in_default-compose_len_rdata.ensures.names compressing)
+    name_then_data _ _ _ _ _ _ _ _ _ _ _ _ _ _ c.in_default.ensures.appends c.in_default-append_slice.ensures.extends c.octets_before_length-numbers.ensures c.rtype.ensures (c.in_default-compose_len_rdata.ensures.names compressing)
 
 pub returns-in-Err-clause-tight : goal.returns-in-Err-clause-tight
 returns-in-Err-clause-tight g c = at_owner (named_exceeds _ _ _ _ c.in-Err.ensures.full)

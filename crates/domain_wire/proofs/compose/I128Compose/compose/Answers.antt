@@ -9,3 +9,10 @@ returns-clause-ok g c =
     let written : c.to_be_bytes.result ≡ to_be_bytes w128 (cast_unsigned w128 c.args.self.now) =
     c.to_be_bytes.ensures ∙ ap (λ z. to_be_bytes w128 (cast_unsigned w128 z)) (to_z-of_z w128 c.args.self.now (search rules)) in
     subst Appends written c.append_slice.ensures.ok
+
+pub returns-clause-extends : goal.returns-clause-extends
+returns-clause-extends g c =
+    let Extends : List ℕ → Type 0 = λ octets. OnOk c.append_slice.result (g.Target.OctetsBuilder.extends c.args.target.now octets c.append_slice.new.self) in
+    let written : c.to_be_bytes.result ≡ to_be_bytes w128 (cast_unsigned w128 c.args.self.now) =
+    c.to_be_bytes.ensures ∙ ap (λ z. to_be_bytes w128 (cast_unsigned w128 z)) (to_z-of_z w128 c.args.self.now (search rules)) in
+    subst Extends written c.append_slice.ensures.extends
