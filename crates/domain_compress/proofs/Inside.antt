@@ -1,16 +1,16 @@
 -- The names that are remembered end within the octets.
-use Rattle.std.proofs.Common.{◌≡◌, ◌∙◌, ℕ, ◌≤◌, List, ◌++◌, length, take, arith, ap, sym, subst, length-append, false, Bool, min}
+use Rattle.std.proofs.Common.{◌≡◌, ◌∙◌, ℕ, ◌≤◌, List, ◌++◌, append_assoc, ◌<◌, ◌∷◌, [], length, take, arith, ap, sym, subst, length-append, false, Bool}
 use Rattle.std.specs.List.{All}
 use Rattle.std.proofs.Props.{props}
 use Rattle.std.proofs.lemmas.Grind.{common_steps}
 use Rattle.std.proofs.lemmas.List.Elements.{All-weaker, All-append, All-take}
 use Rattle.arrayvec.specs.ArrayVec.{ArrayVec}
 use Rattle.domain_compress.specs.Compressing.{RememberedLabel, remembered_from, remembered_too, remembered_within}
-use Rattle.domain_compress.specs.Forgetting.{EndsWithin, entries_within, entries_all, all_end, within_inside}
+use Rattle.domain_compress.specs.Forgetting.{kept_first, left_first, EndsWithin, entries_within, entries_all, all_end, within_inside}
 use Rattle.domain_compress.specs.Hashes.{IsKnown}
 use Rattle.domain_compress.specs.declared.written.Written.{Written}
-use Rattle.domain_compress.specs.Written.{all_remembered}
-use Rattle.domain_compress.proofs.Remembering.{remembered_size}
+use Rattle.domain_compress.specs.Written.{remembered, all_remembered}
+use Rattle.domain_compress.proofs.Remembering.{remembered_size, remembered_push}
 
 inside_more : (k n : ℕ) (ws : List RememberedLabel) → k ≤ n → All (EndsWithin k) ws → All (EndsWithin n) ws
 inside_more k n ws le h = All-weaker (EndsWithin k) (EndsWithin n) (λ w end. omega (arith, end, le)) ws h
@@ -43,6 +43,18 @@ inside_cut t u n ws vs cut old told =
     let both = within_inside n (length t) ws old in
     subst (All (EndsWithin (length u))) (sym told) (All-weaker (λ w. (w.end ≤ n) × (w.end ≤ length t)) (EndsWithin (length u)) (λ w h. omega (arith, taken_whole n w.end t h.0 h.1, ap length cut)) (remembered_within n ws) both)
 
+-- What is left of the entries up to here, and of those that follow, is what is left of all.
+pub entry_left : (n : ℕ) (all : List RememberedLabel) (kept new rest more : List Written) (v w : Written) → all ≡ all_remembered kept ++ remembered_within n (all_remembered rest) → rest ≡ v ∷ more → v.end ≤ n → remembered w ≡ remembered v → new ≡ kept ++ w ∷ [] → all ≡ all_remembered new ++ remembered_within n (all_remembered more)
+entry_left n all kept new rest more v w before is within same pushed =
+    let left = remembered_within n (all_remembered more) in
+    let split : remembered_within n (all_remembered rest) ≡ remembered v ∷ left = ap (λ ws. remembered_within n (all_remembered ws)) is ∙ kept_first n (remembered v) (all_remembered more) within in
+    let one : all_remembered new ≡ all_remembered kept ++ remembered v ∷ [] = remembered_push new kept w pushed ∙ ap (λ r. all_remembered kept ++ r ∷ []) same in
+    before ∙ (ap (λ r. all_remembered kept ++ r) split ∙ sym (ap (λ r. r ++ left) one ∙ append_assoc (all_remembered kept) (remembered v ∷ []) left))
+
+pub entry_cut : (n : ℕ) (all : List RememberedLabel) (kept rest more : List Written) (v : Written) → all ≡ all_remembered kept ++ remembered_within n (all_remembered rest) → rest ≡ v ∷ more → n < v.end → all ≡ all_remembered kept ++ remembered_within n (all_remembered more)
+entry_cut n all kept rest more v before is past =
+    before ∙ ap (λ r. all_remembered kept ++ r) (ap (λ ws. remembered_within n (all_remembered ws)) is ∙ left_first n (remembered v) (all_remembered more) past)
+
 known_once : (hashed : Bool) (t : List ℕ) (ws : List Written) → (a b : IsKnown hashed t ws) → a ≡ b
 known_once hashed t ws = Prim.hlevel props
 
@@ -52,15 +64,11 @@ inside_once n ws = Prim.hlevel props
 few_once : (ws : List Written) → (a b : length ws ≤ 128) → a ≡ b
 few_once ws = Prim.hlevel props
 
--- The octets that are left are those before the cut.
-pub left_before : (len left : ℕ) (o t u : List ℕ) → left ≡ min len (length o) → o ≡ t → u ≡ take len t → take left o ≡ u
-left_before len left o t u least read cut =
-    let whole : take (min len (length o)) o ≡ take len o = grind (arith, common_steps) in
-    ap (λ n. take n o) least ∙ (whole ∙ (ap (take len) read ∙ sym cut))
-
--- What is known of the octets that were read is known of the target's.
-pub known_so : (hashed : Bool) (o t : List ℕ) (ws : List Written) → o ≡ t → IsKnown hashed o ws → IsKnown hashed t ws
-known_so hashed o t ws read known = subst (λ m. IsKnown hashed m ws) read known
+-- What is known of the octets that are left is known of the target's.
+pub known_left : (hashed left : Bool) (len : ℕ) (o t u : List ℕ) (ws vs : List Written) → o ≡ t → u ≡ take len t → IsKnown hashed t ws → (IsKnown hashed o ws → IsKnown left (take len o) vs) → IsKnown left u vs
+known_left hashed left len o t u ws vs read cut known kept =
+    let same : take len o ≡ u = ap (take len) read ∙ sym cut in
+    subst (λ m. IsKnown left m vs) same (kept (subst (λ m. IsKnown hashed m ws) (sym read) known))
 
 pub few_left : (old new : List Written) → length new ≤ length old → length old ≤ 128 → length new ≤ 128
 few_left old new fewer few = omega (arith, fewer, few)

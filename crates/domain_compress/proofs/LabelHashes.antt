@@ -1,7 +1,7 @@
 -- The hashes of the labels at the offsets.
-use Rattle.std.proofs.Common.{◌≡◌, ℕ, suc, ◌+◌, ◌≤◌, length, List, [], ◌∷◌, ◌++◌, Bool, true, false, ◌&&◌, refl, sym, ap, subst, ◌∙◌, arith, slice_index, slice_range, length-append}
+use Rattle.std.proofs.Common.{◌≡◌, ℕ, suc, ◌+◌, ◌≤◌, ◌<◌, length, List, [], ◌∷◌, ◌++◌, take, drop, ◌-◌, Bool, true, false, ◌&&◌, refl, sym, ap, subst, ◌∙◌, arith, slice_index, slice_range, length-append}
 use Rattle.std.proofs.lemmas.Grind.{common_steps}
-use Rattle.std.proofs.lemmas.List.{get_or_append_left}
+use Rattle.std.proofs.lemmas.List.{get_or_append_left, drop-take, take-take}
 use Rattle.std.proofs.lemmas.Bool.{false≢true}
 use Rattle.std.proofs.lemmas.List.Elements.{All-push}
 use Rattle.std.proofs.Props.{props}
@@ -14,15 +14,35 @@ slice_more : (t u : List ℕ) (a b : ℕ) → b ≤ length t → slice_range (t 
 slice_more t u a b h = grind (arith, common_steps)
 
 -- A label stays where it stands after more octets.
-hash_more : (t u : List ℕ) (p h : ℕ) → HasHash t p h → HasHash (t ++ u) p h
-hash_more t u p h x =
-    let head : slice_index (t ++ u) p ≡ slice_index t p = get_or_append_left t u 0 p (omega (arith, x.1)) in
-    let label : slice_range (t ++ u) (p + 1) (p + 1 + slice_index t p) ≡ slice_range t (p + 1) (p + 1 + slice_index t p) = slice_more t u (p + 1) (p + 1 + slice_index t p) (omega (arith, x.1)) in
+hash_more : (t u : List ℕ) (p e h : ℕ) → HasHash t p e h → HasHash (t ++ u) p e h
+hash_more t u p e h x =
+    let head : slice_index (t ++ u) p ≡ slice_index t p = get_or_append_left t u 0 p (omega (arith, x.1.0, x.1.1)) in
+    let label : slice_range (t ++ u) (p + 1) (p + 1 + slice_index t p) ≡ slice_range t (p + 1) (p + 1 + slice_index t p) = slice_more t u (p + 1) (p + 1 + slice_index t p) (omega (arith, x.1.0, x.1.1)) in
     let same : hash_at (t ++ u) p ≡ hash_at t p = ap (λ n. label_hash (slice_range (t ++ u) (p + 1) (p + 1 + n))) head ∙ ap label_hash label in
-    (omega (arith, head, x.0), omega (arith, head, x.1, length-append t u), x.2 ∙ sym same)
+    (omega (arith, head, x.0), (omega (arith, head, x.1.0), omega (arith, x.1.1, length-append t u)), x.2 ∙ sym same)
+
+index_left : (t : List ℕ) (n p : ℕ) → p < n → slice_index (take n t) p ≡ slice_index t p
+index_left t n p h = grind (arith, common_steps)
+
+slice_left : (t : List ℕ) (n a b : ℕ) → a ≤ b → b ≤ n → slice_range (take n t) a b ≡ slice_range t a b
+slice_left t n a b le h =
+    let split : n ≡ a + (n - a) = omega (arith, le, h) in
+    let rest : drop a (take n t) ≡ take (n - a) (drop a t) = ap (λ k. drop a (take k t)) split ∙ drop-take a (n - a) t in
+    ap (take (b - a)) rest ∙ take-take (b - a) (n - a) (drop a t) (omega (arith, le, h))
+
+length_left : (t : List ℕ) (n e : ℕ) → e ≤ n → e ≤ length t → e ≤ length (take n t)
+length_left t n e one two = grind (arith, common_steps)
+
+-- So it does where octets are cut after its name.
+pub hash_left : (t : List ℕ) (n p e h : ℕ) → e ≤ n → HasHash t p e h → HasHash (take n t) p e h
+hash_left t n p e h before x =
+    let head : slice_index (take n t) p ≡ slice_index t p = index_left t n p (omega (arith, x.1.0, before)) in
+    let label : slice_range (take n t) (p + 1) (p + 1 + slice_index t p) ≡ slice_range t (p + 1) (p + 1 + slice_index t p) = slice_left t n (p + 1) (p + 1 + slice_index t p) (omega arith) (omega (arith, x.1.0, before)) in
+    let same : hash_at (take n t) p ≡ hash_at t p = ap (λ k. label_hash (slice_range (take n t) (p + 1) (p + 1 + k))) head ∙ ap label_hash label in
+    (omega (arith, head, x.0), (omega (arith, head, x.1.0), length_left t n e before x.1.1), x.2 ∙ sym same)
 
 pub known_more : (hashed : Bool) (t u : List ℕ) (ws : List Written) → IsKnown hashed t ws → IsKnown hashed (t ++ u) ws
-known_more hashed t u ws known = λ e k d lt. hash_more t u _ _ (known e k d lt)
+known_more hashed t u ws known = λ e k d lt. hash_more t u _ _ _ (known e k d lt)
 
 both_true : (a b : Bool) → (a && b) ≡ true → (a ≡ true) × (b ≡ true)
 both_true true b e = (refl, e)
@@ -33,6 +53,12 @@ pub known_push : (t : List ℕ) (hashed stands : Bool) (new old : List Written) 
 known_push t hashed stands new old w known here e both =
     let b = both_true hashed stands both in
     subst (λ ws. All (IsHashed t) ws) (sym e) (All-push (IsHashed t) old w (known b.0) (here b.1))
+
+-- An offset of those that are left is remembered.
+pub known_kept : (t : List ℕ) (n : ℕ) (stands holds : Bool) (new kept : List Written) (w : Written) → IsKnown holds (take n t) kept → (stands ≡ true → IsHashed t w) → w.end ≤ n → new ≡ kept ++ w ∷ [] → IsKnown (stands && holds) (take n t) new
+known_kept t n stands holds new kept w known here before e both =
+    let b = both_true stands holds both in
+    subst (λ ws. All (IsHashed (take n t)) ws) (sym e) (All-push (IsHashed (take n t)) kept w (known b.1) (hash_left t n w.offset w.end w.hash before (here b.0)))
 
 -- What is known is known in one way.
 known_once : (hashed : Bool) (t : List ℕ) (ws : List Written) → (a b : IsKnown hashed t ws) → a ≡ b

@@ -85,16 +85,16 @@ label_inside m p n x = omega (arith, x.1, x.2.inside)
 pub label_here : (m : List ℕ) (p n h : ℕ) → LabelOf m p n → h ≡ label_hash (slice_range m (p + 1) (p + 1 + n)) → h ≡ hash_at m p
 label_here m p n h x e = e ∙ ap (λ k. label_hash (slice_range m (p + 1) (p + 1 + k))) (sym (first_octet m p n x))
 
-pub label_hashed : (m : List ℕ) (p n h : ℕ) → LabelOf m p n → p + 1 + n < length m → h ≡ label_hash (slice_range m (p + 1) (p + 1 + n)) → HasHash m p h
-label_hashed m p n h x more e = (label_low m p n x, omega (arith, more, first_octet m p n x), label_here m p n h x e)
+pub label_hashed : (m : List ℕ) (p n e h : ℕ) → LabelOf m p n → p + 1 + n ≤ e → e ≤ length m → h ≡ label_hash (slice_range m (p + 1) (p + 1 + n)) → HasHash m p e h
+label_hashed m p n e h x ends inside same = (label_low m p n x, (omega (arith, ends, first_octet m p n x), inside), label_here m p n h x same)
 
 -- An end with a marked label doesn't stand where the hash isn't marked.
-pub not_hashed : (marks m : List ℕ) (p h : ℕ) (ls : List (List ℕ)) → HasHash m p h → (slice_index marks (slot_of h) ≡ 1 → ⊥) → 0 < length (first_label ls) → IsMarked marks ls → StandsAt m p ls → ⊥
-not_hashed marks m p h ls hashed none some marked s = none (seen_marked marks m p h ls hashed.0 hashed.2 some marked s)
+pub not_hashed : (marks m : List ℕ) (p e h : ℕ) (ls : List (List ℕ)) → HasHash m p e h → (slice_index marks (slot_of h) ≡ 1 → ⊥) → 0 < length (first_label ls) → IsMarked marks ls → StandsAt m p ls → ⊥
+not_hashed marks m p e h ls hashed none some marked s = none (seen_marked marks m p h ls hashed.0 hashed.2 some marked s)
 
 -- A name stands at no offset whose hash is another than that of its first label.
-pub other_hash : (m : List ℕ) (p h : ℕ) (ls : List (List ℕ)) → HasHash m p h → (h ≡ first_hash ls → ⊥) → 0 < length (first_label ls) → StandsAt m p ls → ⊥
-other_hash m p h ls hashed none some s = none (hashed.2 ∙ ((seen m p ls some s).hash hashed.0 ∙ same_hash _ _ (same_first s.0 ls s.2)))
+pub other_hash : (m : List ℕ) (p e h : ℕ) (ls : List (List ℕ)) → HasHash m p e h → (h ≡ first_hash ls → ⊥) → 0 < length (first_label ls) → StandsAt m p ls → ⊥
+other_hash m p e h ls hashed none some s = none (hashed.2 ∙ ((seen m p ls some s).hash hashed.0 ∙ same_hash _ _ (same_first s.0 ls s.2)))
 
 name_label : (name : List ℕ) (at : ℕ) (before ls : List (List ℕ)) (y : List ℕ) → Meets name at before (y ∷ ls) → slice_range name (at + 1) (at + 1 + length y) ≡ y
 name_label name at before ls y m =

@@ -79,10 +79,11 @@ remembered_still a b c first second = second ∙ first
 pub may_write_so : (t u : List ℕ) (ws vs : List RememberedLabel) (ls : List (List ℕ)) (s : List ℕ) → t ≡ u → ws ≡ vs → MayWrite t ws ls s → MayWrite u vs ls s
 may_write_so t u ws vs ls s octets memory may = subst (λ x. MayWrite x vs ls s) octets (subst (λ x. MayWrite t x ls s) memory may)
 
-kept_first : (n : ℕ) (w : RememberedLabel) (ws : List RememberedLabel) → w.end ≤ n → remembered_within n (w ∷ ws) ≡ w ∷ remembered_within n ws
+-- A name that ends within the octets is left by a cut to them, and another isn't.
+pub kept_first : (n : ℕ) (w : RememberedLabel) (ws : List RememberedLabel) → w.end ≤ n → remembered_within n (w ∷ ws) ≡ w ∷ remembered_within n ws
 kept_first n w ws h = grind (arith, common_steps)
 
-left_first : (n : ℕ) (w : RememberedLabel) (ws : List RememberedLabel) → n < w.end → remembered_within n (w ∷ ws) ≡ remembered_within n ws
+pub left_first : (n : ℕ) (w : RememberedLabel) (ws : List RememberedLabel) → n < w.end → remembered_within n (w ∷ ws) ≡ remembered_within n ws
 left_first n w ws h = grind (arith, common_steps)
 
 -- A cut after all of the names forgets none.

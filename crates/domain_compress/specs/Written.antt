@@ -2,6 +2,7 @@
 use Rattle.std.specs.Prelude.{◌≡◌, ℕ, ◌+◌, ◌<◌, ◌≤◌, List, [], ◌∷◌, ◌++◌, length, take, map, Option, None, Some}
 use Rattle.domain_label.specs.Lowercase.{lowercase_labels}
 use Rattle.domain_label.specs.Wire.{wire, labels_in}
+use Rattle.domain_reading.specs.Limits.{max_pointers}
 use Rattle.domain_reading.specs.Grammar.{Reads}
 use Rattle.domain_rdata.specs.ReadBack.{StandsAt}
 use Rattle.domain_compress.specs.declared.written.Written.{Written}
@@ -21,7 +22,7 @@ pub record StandsThrough (t : List ℕ) (p : ℕ) (ls : List (List ℕ)) (k : �
   pub labels : List (List ℕ)
   pub reads : Reads t p k labels
   pub same : lowercase_labels labels ≡ lowercase_labels ls
-  pub few : k ≤ 255
+  pub few : k ≤ max_pointers
 
 -- The suffix of the name that begins at the offset at of its wire format, before upto, stands at p.
 pub record SuffixAt (t : List ℕ) (p : ℕ) (name : List ℕ) (upto at k : ℕ) : Type 0 where

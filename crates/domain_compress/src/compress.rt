@@ -113,12 +113,11 @@ impl<T: Composer> Truncate for CompressComposer<T> {
             ≡ remembered_within len (remembered_labels self.old) }
     {
         // While octets go away under the offsets, no hash counts.
+        let hashed = self.hashed;
         self.hashed = false;
-        let octets = self.target.as_slice();
-        let left = len.min(octets.len());
-        let hashed = forget(&mut self.written, &octets[..left], len);
+        let left = forget(&mut self.written, self.target.as_slice(), len, hashed);
         self.target.truncate(len);
-        self.hashed = hashed;
+        self.hashed = left;
     }
 
     ghost cut = { λ _ _ _ cut. cut.0 };

@@ -74,20 +74,32 @@ fn head_at_with<L: Ledger>(octets: &[u8], offset: usize, blank: Blank) -> Result
     read_head(octets, offset, &mut heads)
 }
 
-/// The hash of the label at the offset, and whether a label stands there at all, with another octet after it.
-pub(crate) fn hash_there(octets: &[u8], offset: usize) -> (bool, u16)
+/// The hash of the label at the offset, and whether a label stands there at all that ends at `last` at the latest.
+pub(crate) fn hash_there(octets: &[u8], offset: usize, last: usize) -> (bool, u16)
     requires { offset < 16384 }
-    ensures { result.0 ≡ true → HasHash octets.now offset result.1 }
+    ensures { result.0 ≡ true → HasHash octets.now offset last result.1 }
 {
     let Ok(Head::Label(len)) = head_at(octets, offset) else {
         return (false, 0);
     };
     let start = offset + 1;
     let end = start + usize::from(len);
-    if end >= octets.len() {
+    if end > last || last > octets.len() {
         return (false, 0);
     }
     (true, hash(&octets[start..end]))
+}
+
+/// The same of a remembered offset, by the hash that was kept where the hashes count.
+pub(crate) fn hash_kept(octets: &[u8], written: Written, hashed: bool) -> (bool, u16)
+    ensures { (hashed ≡ true → IsHashed octets.now written) → result.0 ≡ true
+        → HasHash octets.now written.offset written.end result.1 }
+{
+    if hashed {
+        return (true, written.hash);
+    }
+    let (offset, end) = (usize::from(written.offset), usize::from(written.end));
+    hash_there(octets, offset, end)
 }
 
 /// Whether a name whose first label has a marked hash may stand at the offset. Where a pointer stands it may.

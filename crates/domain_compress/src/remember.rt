@@ -1,11 +1,11 @@
 //! Remembering where labels were written.
-ghost use Rattle.std.specs.Prelude.{◌≡◌, ◌+◌, ◌≤◌, length};
+ghost use Rattle.std.specs.Prelude.{◌≡◌, ◌+◌, ◌≤◌, length, take};
 ghost use Rattle.domain_label.specs.Wire.{labels_in, IsWire};
 ghost use Rattle.domain_compress.specs.Compressing.{remembered_too, remembered_within};
 ghost use Rattle.domain_compress.specs.Hashes.{IsKnown};
 ghost use Rattle.domain_compress.specs.Written.{all_remembered};
 
-use crate::marks::hash_there;
+use crate::marks::{hash_kept, hash_there};
 use crate::written::Written;
 use arrayvec::ArrayVec;
 
@@ -49,7 +49,7 @@ pub(crate) fn remember(
         if written.remaining_capacity() == 0 {
             return holds;
         }
-        let (stands, hash) = hash_there(octets, start + at);
+        let (stands, hash) = hash_there(octets, start + at, end);
         written.push(Written {
             offset: (start + at) as u16,
             end: end as u16,
@@ -61,10 +61,16 @@ pub(crate) fn remember(
     holds
 }
 
-/// Forgets the offsets of names that end past `len`, and reads the hashes of the others anew. Tells whether they
-/// are those of the labels in the octets.
-pub(crate) fn forget(written: &mut ArrayVec<Written, 128>, octets: &[u8], len: usize) -> bool
-    ensures known { IsKnown result octets.now written.new.items }
+/// Forgets the offsets of names that end past `len`, and reads the hashes of the others anew where they don't count. Tells
+/// whether they are those of the labels in the first `len` octets.
+pub(crate) fn forget(
+    written: &mut ArrayVec<Written, 128>,
+    octets: &[u8],
+    len: usize,
+    hashed: bool,
+) -> bool
+    ensures known { IsKnown hashed octets.now written.old.items
+        → IsKnown result (take len octets.now) written.new.items }
     ensures offsets { all_remembered written.new.items
         ≡ remembered_within len (all_remembered written.old.items) }
     ensures few { length written.new.items ≤ length written.old.items }
@@ -73,17 +79,18 @@ pub(crate) fn forget(written: &mut ArrayVec<Written, 128>, octets: &[u8], len: u
     let mut kept = ArrayVec::new();
     let mut holds = true;
     let mut rest = written.as_slice();
-    'offsets: while let [first, more @ ..] = rest {
-        if usize::from(first.end) <= len {
-            let (stands, hash) = hash_there(octets, usize::from(first.offset));
-            kept.push(Written {
-                offset: first.offset,
-                end: first.end,
-                hash,
-            });
-            holds = stands & holds;
-        }
+    'offsets: while let Some((first, more)) = rest.split_first() {
         rest = more;
+        if usize::from(first.end) > len {
+            continue;
+        }
+        let (stands, hash) = hash_kept(octets, *first, hashed);
+        kept.push(Written {
+            offset: first.offset,
+            end: first.end,
+            hash,
+        });
+        holds = stands & holds;
     }
     *written = kept;
     holds

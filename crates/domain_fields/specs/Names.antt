@@ -4,6 +4,7 @@ use Rattle.std.proofs.Common.{ap, sym, ◌∙◌}
 use Rattle.domain_wire.specs.declared.error.ParseError.{ParseError}
 use Rattle.domain_wire.specs.Refusals.{refusal}
 use Rattle.domain_wire.specs.Values.{IsReading}
+use Rattle.domain_reading.specs.Limits.{max_pointers}
 use Rattle.domain_reading.proofs.Reading.{reads_once}
 use Rattle.domain_reading.proofs.NameOrFault.{names_or_fault, one_fault}
 use Rattle.domain_reading.proofs.OneEncoding.{front_once}
@@ -14,12 +15,12 @@ use Rattle.domain_reading.specs.ParseResult.{HasNoName}
 
 -- The name at offset p is ls, and e is the end of its encoding (RFC 1035, 4.1.4).
 pub record NameFieldAt (m : List ℕ) (p : ℕ) (ls : List (List ℕ)) (e : ℕ) : Type 0 where
-  pub named : Names 255 m p ls
+  pub named : Names max_pointers m p ls
   pub front : EncodingEnds m p e
 
 -- No name is at offset p, and why.
 abbrev pub NoNameField : List ℕ → ℕ → ParseError → Type 0
-NoNameField m p why = HasNoName 255 m p (refusal why)
+NoNameField m p why = HasNoName max_pointers m p (refusal why)
 
 name_once : {m : List ℕ} {p : ℕ} {xs ys : List (List ℕ)} {e f : ℕ} → NameFieldAt m p xs e → NameFieldAt m p ys f → (xs ≡ ys) × (e ≡ f)
 name_once a b = ((reads_once a.named.reads b.named.reads).1, (front_once a.front.2 b.front.2).2)

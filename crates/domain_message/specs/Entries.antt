@@ -3,18 +3,19 @@ use Rattle.std.specs.Prelude.{◌≡◌, ℕ, ◌+◌, ◌<◌, ◌≤◌, List,
 use Rattle.domain_wire.specs.declared.error.ParseError.{ParseError}
 use Rattle.domain_wire.specs.declared.error.ParseError.TheVariants.{ShortInput}
 use Rattle.domain_wire.specs.Refusals.{refusal}
+use Rattle.domain_reading.specs.Limits.{max_pointers}
 use Rattle.domain_reading.specs.Grammar.{Names, EncodingEnds}
 use Rattle.domain_reading.specs.ParseResult.{HasNoName}
 use Rattle.domain_header.specs.Numbers.{number16, number32}
 
 -- The labels of the name at p are ls, and its encoding ends before e: after the root or the first pointer (RFC 1035, 4.1.4).
 pub record WholeNameAt (m : List ℕ) (p : ℕ) (ls : List (List ℕ)) (e : ℕ) : Type 0 where
-  pub labels : Names 255 m p ls
+  pub labels : Names max_pointers m p ls
   pub encoding : EncodingEnds m p e
 
 -- No name is at p, or fewer than n octets follow it, and why.
 pub data NoNameBefore (n : ℕ) (m : List ℕ) (p : ℕ) (why : ParseError) : Type 0 where
-  no_name : HasNoName 255 m p (refusal why) → NoNameBefore n m p why
+  no_name : HasNoName max_pointers m p (refusal why) → NoNameBefore n m p why
   too_short : (ls : List (List ℕ)) (e : ℕ) → WholeNameAt m p ls e → length m < e + n → why ≡ ShortInput → NoNameBefore n m p why
 
 -- what a question says

@@ -4,6 +4,7 @@ use Rattle.std.proofs.Common.{arith, ap, sym, refl, inl, inr, ◌∙◌}
 use Rattle.domain_wire.specs.declared.error.ParseError.{ParseError}
 use Rattle.domain_wire.specs.Refusals.{refusal}
 use Rattle.domain_wire.specs.Values.{IsReading}
+use Rattle.domain_reading.specs.Limits.{max_pointers}
 use Rattle.domain_reading.proofs.Reading.{reads_once}
 use Rattle.std.proofs.lemmas.Bool.{cases_lt}
 use Rattle.domain_reading.proofs.NameOrFault.{names_or_fault, one_fault, name_or_fault, NameOrFault}
@@ -102,9 +103,9 @@ record_reading = record {
 
 -- A name is at each offset, or none.
 pub name_decided : (m : List ℕ) (p : ℕ) → ((ls : List (List ℕ)) × (e : ℕ) × WholeNameAt m p ls e) ⊎ ((ls : List (List ℕ)) (e : ℕ) → WholeNameAt m p ls e → ⊥)
-name_decided m p = look (name_or_fault 255 m p)
+name_decided m p = look (name_or_fault max_pointers m p)
   where
-    look : NameOrFault 255 m p → ((ls : List (List ℕ)) × (e : ℕ) × WholeNameAt m p ls e) ⊎ ((ls : List (List ℕ)) (e : ℕ) → WholeNameAt m p ls e → ⊥)
+    look : NameOrFault max_pointers m p → ((ls : List (List ℕ)) × (e : ℕ) × WholeNameAt m p ls e) ⊎ ((ls : List (List ℕ)) (e : ℕ) → WholeNameAt m p ls e → ⊥)
     look (inl (ls, named)) = let skips = names_skips named in inl (ls, skips.0, record { labels = named; encoding = (skips.1.passed, skips.1.stop, skips.1.front) })
     look (inr (why, fault)) = inr (λ ls e at. names_or_fault at.labels fault)
 

@@ -4,6 +4,7 @@ ghost use Rattle.std.specs.Cmp.{partial_equiv_from_equiv, on_per, and_per};
 ghost use Rattle.std.specs.Cmp.Lexicographic.{nat_list_eq_equiv};
 ghost use Rattle.octseq.specs.Parsing.{message, position};
 ghost use Rattle.domain_parsed.specs.ParsedNames.{parsed_labels};
+ghost use Rattle.domain_reading.specs.Limits.{max_pointers};
 ghost use Rattle.domain_reading.specs.Faults.{NameFaultAt};
 ghost use Rattle.domain_reading.specs.declared.fault.NameFault.{NameFault};
 ghost use Rattle.domain_rdata.specs.AnyData.{unknown_text};
@@ -140,7 +141,8 @@ pub struct ParsedRecord<'a> {
     ttl: Ttl,
     rdlen: u16,
     data: Parser<'a>,
-    ghost named: { (fault : NameFault) → NameFaultAt 255 (message owner) (position owner) fault → ⊥ },
+    ghost named: { (fault : NameFault) →
+        NameFaultAt max_pointers (message owner) (position owner) fault → ⊥ },
     ghost sized: { length (drop (position «data») (message «data»)) ≡ rdlen },
 }
 
