@@ -8,23 +8,23 @@ use Rattle.domain_message_builder.specs.Contents.{Content, RecordHead, no_conten
 use Rattle.domain_message_builder.specs.Pushes.{with_header, record_added, IsBegun, PushesQuestion, PushesRecord}
 use Rattle.domain_message_builder.specs.Reading.{IsMessageOf}
 use Rattle.domain_message_builder.specs.State.{State}
-use Rattle.domain_make.specs.Drafts.{Draft, IsBlankDraft, IsAsked, IsRemark, LineSays, IsLine, LinesSay, TextSays, IsDraft, Takes, TakesAll}
+use Rattle.domain_make.specs.Drafts.{Draft, IsBlankDraft, IsAsked, IsRemark, IsLine, LinesSay, TextSays, IsDraft, Takes, TakesAll}
 use Rattle.domain_make.specs.Drafts.LineSays.{empty, remark, asked, question, entry}
 use Rattle.domain_make.specs.Drafts.LinesSay.{none, line}
 use Rattle.domain_make.specs.Entries.{IsQuestionWords, IsRecordWords}
-use Rattle.domain_make.specs.Faults.{IfRefused}
+use Rattle.domain_data_text.specs.Faults.{IfRefused}
 use Rattle.domain_make.specs.Made.{IsMade, IfLine}
 use Rattle.domain_make.specs.Refusals.{Refuses, StopsAt, StopsFrom, HasRoom}
 use Rattle.domain_make.specs.Remarks.{IsTrimmed, Remarks}
-use Rattle.domain_make.specs.Words.{WordAt, words_at, AreWords}
-use Rattle.domain_make.specs.declared.words.Word.{Word}
+use Rattle.domain_data_text.specs.Words.{WordAt, words_at, AreWords}
+use Rattle.domain_data_text.specs.declared.words.Word.{Word}
 use Rattle.domain_make.specs.declared.error.LineError.{LineError}
 use Rattle.domain_make.specs.declared.error.MakeError.{MakeError}
 use Rattle.domain_make.specs.declared.error.MakeError.TheVariants.{Line, Read, Write, Memory}
 use Rattle.domain_make.specs.declared.remark.Stage.{Stage}
 use Rattle.domain_make.specs.declared.remark.Stage.TheVariants.{Start, Questions, Records}
-use Rattle.domain_make.specs.declared.error.Stop.{Stop}
-use Rattle.domain_make.specs.declared.error.Stop.TheVariants.{Refused}
+use Rattle.domain_data_text.specs.declared.error.Stop.{Stop}
+use Rattle.domain_data_text.specs.declared.error.Stop.TheVariants.{Refused}
 use Rattle.domain_make.proofs.Refusing.{accepted}
 
 -- What follows where a call succeeds.

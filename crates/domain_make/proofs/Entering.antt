@@ -8,22 +8,23 @@ use Rattle.domain_message_builder.specs.Refusals.{QuestionRefused, RecordRefused
 use Rattle.domain_message_builder.specs.State.{State}
 use Rattle.domain_message_builder.specs.declared.error.PushError.{PushError}
 use Rattle.domain_message_builder.specs.declared.error.PushError.TheVariants.{Append, Long, Count, Limit, Order}
-use Rattle.domain_make.specs.Data.{IsData}
-use Rattle.domain_make.specs.Entries.{IsQuestionWords, IsRecordWords}
-use Rattle.domain_make.specs.Faults.{IfRefused, NoName, NoNumber32, NoClass, NoType, NoData, NoQuestion, NoRecord, BeginsRecord, LongRecord}
+use Rattle.domain_data_text.specs.Data.{IsData}
+use Rattle.domain_make.specs.Entries.{IsClassWord, IsTypeWord, first_column, IsQuestionWords, IsRecordWords}
+use Rattle.domain_data_text.specs.Faults.{IfRefused, NoName, NoNumber32, NoData}
+use Rattle.domain_make.specs.Faults.{NoClass, NoType, NoQuestion, NoRecord, BeginsRecord, LongRecord}
 use Rattle.domain_make.specs.Faults.NoQuestion.{name as question_lacks_name, class as question_lacks_class, rtype as question_lacks_type}
 use Rattle.domain_make.specs.Faults.NoRecord.{owner as record_lacks_owner, ttl as record_lacks_ttl, class as record_lacks_class, rtype as record_lacks_type, rdata as record_lacks_data}
-use Rattle.domain_make.specs.Parts.{IsNameWord, IsNumber32, IsClassWord, IsTypeWord}
+use Rattle.domain_data_text.specs.Parts.{IsNameWord, IsNumber32}
 use Rattle.domain_make.specs.Refusals.{TellsPush, QuestionStops, RecordStops, NoPushedQuestion, NoPushedRecord}
 use Rattle.domain_make.specs.Refusals.NotPushed.{long, order, many, limit}
 use Rattle.domain_make.specs.Refusals.NoPushedQuestion.{no_question, stopped as question_stopped_by}
 use Rattle.domain_make.specs.Refusals.NoPushedRecord.{no_record, stopped as record_stopped_by}
-use Rattle.domain_make.specs.Words.{WordAt, word_at, words_at, first_column}
-use Rattle.domain_make.specs.declared.error.Fault.{Fault}
-use Rattle.domain_make.specs.declared.error.Fault.TheVariants as fault
-use Rattle.domain_make.specs.declared.error.Stop.{Stop}
-use Rattle.domain_make.specs.declared.words.Word.{Word}
-use Rattle.domain_make.proofs.Telling.{if_refused}
+use Rattle.domain_data_text.specs.Words.{WordAt, word_at, words_at}
+use Rattle.domain_data_text.specs.declared.error.Fault.{Fault}
+use Rattle.domain_data_text.specs.declared.error.Fault.TheVariants as fault
+use Rattle.domain_data_text.specs.declared.error.Stop.{Stop}
+use Rattle.domain_data_text.specs.declared.words.Word.{Word}
+use Rattle.domain_data_text.proofs.Telling.{if_refused}
 
 -- what a slice of words has past its end
 abbrev pub no_word : Word

@@ -1,12 +1,5 @@
-pub mod Stepping
-pub mod Telling
-pub mod Scanning
-pub mod Spelling
 pub mod Texts
-pub mod Naming
-pub mod Listing
 pub mod Once
-pub mod Records
 pub mod Entering
 pub mod Marking
 pub mod Refusing

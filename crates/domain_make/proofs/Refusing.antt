@@ -1,19 +1,20 @@
 -- Lines that aren't taken say nothing, and a text whose lines all say something has none.
-use Rattle.std.proofs.Common.{◌≡◌, ℕ, suc, ◌+◌, ◌-◌, ◌<◌, ◌≤◌, Bool, List, [], ◌∷◌, length, get_or, refl, sym, ap, subst, ◌∙◌, arith, inl, inr}
+use Rattle.std.proofs.Common.{◌≡◌, ℕ, suc, ◌+◌, ◌<◌, ◌≤◌, Bool, List, [], ◌∷◌, length, get_or, refl, sym, ap, subst, ◌∙◌, arith, inl, inr}
 use Rattle.std.specs.Prelude.{◌≢◌, ◌⊎◌, slice_index, slice_range}
 use Rattle.std.proofs.lemmas.Bool.{cases_lt, cases_order}
 use Rattle.domain_message.specs.Entries.{QuestionFields}
 use Rattle.domain_message.specs.declared.section.Section.{Section}
 use Rattle.domain_message.specs.declared.section.Section.TheVariants.{Answer, Authority, Additional}
-use Rattle.domain_message_builder.specs.Contents.{RecordHead, AsksIn, RecordsIn, Holds}
+use Rattle.domain_message_builder.specs.Contents.{RecordHead, AsksIn, RecordsIn}
 use Rattle.domain_message_builder.specs.State.{State}
 use Rattle.domain_rdata.specs.ReadBack.{Exceeds}
-use Rattle.domain_make.specs.Drafts.{Draft, IsBlankDraft, IsAsked, IsRemark, LineSays, IsLine, LinesSay, TextSays, IsDraft}
+use Rattle.domain_make.specs.Drafts.{Draft, IsAsked, IsRemark, LineSays, IsLine, LinesSay, TextSays, IsDraft}
 use Rattle.domain_make.specs.Drafts.LineSays.{asked as says_asked, empty as says_empty, entry as says_entry, question as says_question, remark as says_remark}
 use Rattle.domain_make.specs.Drafts.LinesSay.{none, line}
 use Rattle.domain_make.specs.Entries.{IsQuestionWords, IsRecordWords}
-use Rattle.domain_make.specs.Faults.{NoWords, NoQuestion, NoRecord}
-use Rattle.domain_make.specs.Refusals.{NoRemark, IsOutside, IsFaulty, NotPushed, QuestionStops, RecordStops, QuestionNotPushed, RecordNotPushed, NoPushedQuestion, NoPushedRecord, HasNoRoom, IsRefused, Refuses, StopsAt, HasRoom}
+use Rattle.domain_data_text.specs.Faults.{NoWords}
+use Rattle.domain_make.specs.Faults.{NoQuestion, NoRecord}
+use Rattle.domain_make.specs.Refusals.{NoRemark, IsOutside, IsFaulty, QuestionStops, RecordStops, QuestionNotPushed, RecordNotPushed, NoPushedQuestion, NoPushedRecord, IsRefused, Refuses, StopsAt, HasRoom}
 use Rattle.domain_make.specs.Refusals.IsFaulty.{asked as faulty_asked, asked_words as faulty_asked_words, entry as faulty_entry, no_words as faulty_no_words, outside as faulty_outside, question as faulty_question, remark as faulty_remark}
 use Rattle.domain_make.specs.Refusals.NotPushed.{long, order, many, limit}
 use Rattle.domain_make.specs.Refusals.NoPushedQuestion.{no_question as lack_question_no_question, stopped as lack_question_stopped}
@@ -21,16 +22,16 @@ use Rattle.domain_make.specs.Refusals.NoPushedRecord.{no_record as lack_record_n
 use Rattle.domain_make.specs.Refusals.HasNoRoom.{asked as room_asked, entry as room_entry, question as room_question}
 use Rattle.domain_make.specs.Refusals.IsRefused.{says_nothing, no_room}
 use Rattle.domain_make.specs.Remarks.{IsTrimmed, Remarks}
-use Rattle.domain_make.specs.Words.{WordAt, word_at, words_at, AreWords, first_column}
-use Rattle.domain_make.specs.declared.error.Fault.{Fault}
-use Rattle.domain_make.specs.declared.error.Fault.TheVariants as fault
+use Rattle.domain_data_text.specs.Words.{WordAt, word_at, words_at, AreWords}
+use Rattle.domain_data_text.specs.declared.error.Fault.{Fault}
+use Rattle.domain_data_text.specs.declared.error.Fault.TheVariants as fault
 use Rattle.domain_make.specs.declared.error.LineError.{LineError}
 use Rattle.domain_make.specs.declared.remark.Stage.{Stage}
 use Rattle.domain_make.specs.declared.remark.Stage.TheVariants.{Start, Codes, Told, Questions, Records}
-use Rattle.domain_make.specs.declared.words.Word.{Word}
+use Rattle.domain_data_text.specs.declared.words.Word.{Word}
 use Rattle.domain_make.proofs.Marking.{trimmed_once, no_remark, remark_once}
 use Rattle.domain_make.proofs.Once.{no_question, no_record}
-use Rattle.domain_make.proofs.Scanning.{words_once, no_words}
+use Rattle.domain_data_text.proofs.Scanning.{words_once, no_words}
 
 two_stages : (s : Stage) (section : Section) → s ≡ Questions → s ≡ Records section → ⊥
 two_stages s section e f = cc

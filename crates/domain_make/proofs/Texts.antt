@@ -1,5 +1,5 @@
 -- Texts that are put together.
-use Rattle.std.proofs.Common.{◌≡◌, ℕ, zero, suc, ◌+◌, ◌<◌, ◌≤◌, List, [], ◌∷◌, ◌++◌, length, Bool, true, false, cond, refl, sym, ap, subst, ◌∙◌, append_assoc, inl, inr, arith, eq-eqb, length-append, take}
+use Rattle.std.proofs.Common.{◌≡◌, ℕ, zero, suc, ◌<◌, ◌≤◌, List, [], ◌∷◌, ◌++◌, length, Bool, true, false, cond, refl, sym, ap, subst, ◌∙◌, inl, inr, arith, eq-eqb, length-append, take}
 use Rattle.std.specs.Prelude.{◌⊎◌, ◌≢◌, codes, IsTrue, Option, Some, None, MatchOption, slice_index, nat_eq}
 use Rattle.std.proofs.lemmas.Bool.{false≢true, cases_lt}
 use Rattle.std.proofs.lemmas.List.{append-nil, append_cancel_left, get_or_at, get_or-take, length-take-le}

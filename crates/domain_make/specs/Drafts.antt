@@ -1,5 +1,5 @@
 -- What the lines of a text say, one after the other.
-use Rattle.std.specs.Prelude.{◌≡◌, ◌⊎◌, ◌≢◌, ℕ, suc, ◌+◌, ◌<◌, ◌≤◌, Bool, List, [], ◌∷◌, ◌++◌, length, slice_index, slice_range}
+use Rattle.std.specs.Prelude.{◌≡◌, ◌⊎◌, ◌≢◌, ℕ, suc, ◌+◌, ◌<◌, ◌≤◌, Bool, List, [], length, slice_index, slice_range}
 use Rattle.domain_header.specs.Headers.{header_id, header_high, header_low}
 use Rattle.domain_header.specs.declared.flags.Header.{Header}
 use Rattle.domain_message.specs.Entries.{QuestionFields}
@@ -9,7 +9,7 @@ use Rattle.domain_message_builder.specs.State.{State}
 use Rattle.domain_message.specs.declared.section.Section.{Section}
 use Rattle.domain_make.specs.Entries.{IsQuestionWords, IsRecordWords}
 use Rattle.domain_make.specs.Remarks.{IsTrimmed, Remarks}
-use Rattle.domain_make.specs.Words.{WordAt, AreWords}
+use Rattle.domain_data_text.specs.Words.{WordAt, AreWords}
 use Rattle.domain_make.specs.declared.remark.Stage.{Stage}
 use Rattle.domain_make.specs.declared.remark.Stage.TheVariants.{Start, Questions, Records}
 

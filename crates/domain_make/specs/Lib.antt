@@ -1,9 +1,3 @@
-pub mod Steps
-pub mod Words
-pub mod Parts
-pub mod Strings
-pub mod Fields
-pub mod Data
 pub mod Entries
 pub mod Faults
 pub mod Remarks

@@ -1,5 +1,5 @@
 -- Why a line isn't taken after what was said.
-use Rattle.std.specs.Prelude.{◌≡◌, ◌≢◌, ◌⊎◌, ℕ, ◌+◌, ◌-◌, ◌<◌, Bool, List, [], ◌∷◌, ◌++◌, length, slice_index, slice_range, codes}
+use Rattle.std.specs.Prelude.{◌≡◌, ◌≢◌, ◌⊎◌, ℕ, ◌+◌, ◌-◌, ◌<◌, Bool, List, ◌∷◌, length, slice_index, slice_range}
 use Rattle.domain_message.specs.Entries.{QuestionFields}
 use Rattle.domain_message.specs.declared.section.Section.{Section}
 use Rattle.domain_message.specs.declared.section.Section.TheVariants.{Answer, Authority, Additional}
@@ -11,12 +11,13 @@ use Rattle.domain_message_builder.specs.declared.error.PushError.TheVariants.{Ap
 use Rattle.domain_header.specs.Headers.{question_count}
 use Rattle.domain_rdata.specs.ReadBack.{Exceeds}
 use Rattle.domain_make.specs.Drafts.{Draft, IsBlankDraft, IsAsked, IsRemark, LineSays, IsLine, LinesSay, IsDraft}
-use Rattle.domain_make.specs.Entries.{IsQuestionWords, IsRecordWords}
-use Rattle.domain_make.specs.Faults.{Tells, NoWords, NoQuestion, NoRecord}
+use Rattle.domain_make.specs.Entries.{first_column, IsQuestionWords, IsRecordWords}
+use Rattle.domain_data_text.specs.Faults.{Tells, NoWords}
+use Rattle.domain_make.specs.Faults.{NoQuestion, NoRecord}
 use Rattle.domain_make.specs.Remarks.{IsTrimmed, IsCodesLine, AreCodes, IsFlagsLine, BeginsWithFlags, IsHeading, EndsInSection, BeginsAsOpt}
-use Rattle.domain_make.specs.Words.{WordAt, AreWords, first_column}
-use Rattle.domain_make.specs.declared.error.Fault.{Fault}
-use Rattle.domain_make.specs.declared.error.Fault.TheVariants as fault
+use Rattle.domain_data_text.specs.Words.{WordAt, AreWords}
+use Rattle.domain_data_text.specs.declared.error.Fault.{Fault}
+use Rattle.domain_data_text.specs.declared.error.Fault.TheVariants as fault
 use Rattle.domain_make.specs.declared.error.LineError.{LineError}
 use Rattle.domain_make.specs.declared.remark.Flags.{Flags}
 use Rattle.domain_make.specs.declared.remark.Stage.{Stage}

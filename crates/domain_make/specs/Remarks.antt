@@ -5,8 +5,8 @@ use Rattle.domain_header.specs.Headers.{header_id, header_high, header_low, Sets
 use Rattle.domain_header.specs.Tables.{opcode_text, rcode_text}
 use Rattle.domain_header.specs.declared.flags.Header.{Header}
 use Rattle.domain_message.specs.declared.section.Section.TheVariants.{Answer, Authority, Additional}
-use Rattle.domain_make.specs.Parts.{IsNumber16}
-use Rattle.domain_make.specs.Words.{IsBlank}
+use Rattle.domain_data_text.specs.Parts.{IsNumber16}
+use Rattle.domain_data_text.specs.Words.{IsBlank}
 use Rattle.domain_make.specs.declared.remark.Flags.{Flags}
 use Rattle.domain_make.specs.declared.remark.Stage.{Stage}
 use Rattle.domain_make.specs.declared.remark.Stage.TheVariants.{Start, Codes, Told, Questions, Records}

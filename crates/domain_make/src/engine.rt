@@ -20,8 +20,8 @@ use std::io::{Read, Write};
 
 /// Appends to an empty target the message that the lines of a text say.
 ///
-/// `Line` has the first line that isn't taken, and why: it says nothing of a message, or an entry that isn't pushed after
-/// those before it. `Memory` where there was no memory, or the target isn't empty.
+/// `Line` has the first line that isn't taken, and why: it says nothing of a message, or an entry that isn't pushed
+/// after those before it. `Memory` where there was no memory, or the target isn't empty.
 pub fn make_message<Target: Composer + Drop>(
     alloc: Global,
     text: &[u8],

@@ -1,15 +1,10 @@
 //! Messages from the lines that show them (RFC 1035, 5.1).
 #![tactic(auto)]
 
-mod data;
 pub mod engine;
 mod entry;
 pub mod error;
-mod fields;
 mod line;
-mod parts;
 mod remark;
-mod string;
-mod words;
 
 pub use engine::make_message;

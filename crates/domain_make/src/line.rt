@@ -2,17 +2,18 @@
 ghost use Rattle.std.specs.Prelude.{◌≡◌, ◌≢◌, ◌<◌, ◌≤◌, ◌↔◌, length, slice_index, IsTrue, OnOk, IfOk, IfErr};
 ghost use Rattle.domain_message_builder.specs.Views.{state_of};
 ghost use Rattle.domain_make.specs.Drafts.{IsAsked, IsRemark, IsLine, Takes, TakesAll};
-ghost use Rattle.domain_make.specs.Faults.{IfRefused};
+ghost use Rattle.domain_data_text.specs.Faults.{IfRefused};
 ghost use Rattle.domain_make.specs.Made.{IfLine};
 ghost use Rattle.domain_make.specs.Refusals.{IsOutside, Refuses, StopsFrom};
-ghost use Rattle.domain_make.specs.Words.{AreWords, words_at};
-ghost use Rattle.domain_make.specs.declared.error.Stop.{Stop};
+ghost use Rattle.domain_data_text.specs.Words.{AreWords, words_at};
+ghost use Rattle.domain_data_text.specs.declared.error.Stop.{Stop};
 ghost use Rattle.domain_make.specs.declared.remark.Stage.{Stage};
 
 use crate::entry::{push_question, push_record};
-use crate::error::{Fault, LineError, MakeError, Stop};
+use crate::error::{LineError, MakeError};
 use crate::remark::{Stage, remark, trimmed};
-use crate::words::{Word, words_of};
+use domain_data_text::error::{Fault, Stop};
+use domain_data_text::words::{Word, words_of};
 use domain_message::Section;
 use domain_message_builder::MessageBuilder;
 use domain_rdata::Composer;

@@ -3,16 +3,16 @@ ghost use Rattle.std.specs.Prelude.{◌≡◌, ◌≢◌, ◌⊎◌, ◌++◌, �
 ghost use Rattle.domain_header.specs.Headers.{SetsHigh, SetsLow};
 ghost use Rattle.domain_header.specs.Tables.{opcode_text, rcode_text};
 ghost use Rattle.domain_header.specs.Values.{opcode_number, rcode_number};
-ghost use Rattle.domain_make.specs.Faults.{IfRefused, Tells, Lacks};
-ghost use Rattle.domain_make.specs.Parts.{IsNumber16};
+ghost use Rattle.domain_data_text.specs.Faults.{IfRefused, Tells, Lacks};
+ghost use Rattle.domain_data_text.specs.Parts.{IsNumber16};
 ghost use Rattle.domain_make.specs.Refusals.{NoRemark};
 ghost use Rattle.domain_make.specs.Remarks.{IsTrimmed, IsCodesLine, AreCodes, SetsCodes, flag_words, words_before, BeginsWithFlags, SetsFlags, IsWithColon, IsHeading, EndsInSection, BeginsAsOpt, Remarks};
-ghost use Rattle.domain_make.specs.declared.error.Fault.{Fault};
+ghost use Rattle.domain_data_text.specs.declared.error.Fault.{Fault};
 ghost use Rattle.domain_make.specs.declared.remark.Flags.{Flags};
 ghost use Rattle.domain_make.specs.declared.remark.Stage.{Stage};
 
-use crate::error::{Fault, Stop};
-use crate::words::is_blank;
+use domain_data_text::error::{Fault, Stop};
+use domain_data_text::words::is_blank;
 use domain_header::{Header, Opcode, Rcode};
 use domain_message::Section;
 use domain_tool::offset_of_word;

@@ -1,5 +1,5 @@
 use Rattle.domain_make.proofs.Entering.{record_refused, record_stopped}
-use Rattle.domain_make.proofs.Telling.{passed_on}
+use Rattle.domain_data_text.proofs.Telling.{passed_on}
 use Rattle.domain_make.proofs.entry.push_record.Goals as goal
 
 pub returns-in_err-resource-clause-err : goal.returns-in_err-resource-clause-err

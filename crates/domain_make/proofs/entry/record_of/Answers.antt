@@ -1,7 +1,7 @@
 use Rattle.std.proofs.Common.{arith, get_or, refl, subst, sym}
-use Rattle.domain_make.specs.Parts.{IsClassWord, IsTypeWord}
+use Rattle.domain_make.specs.Entries.{IsClassWord, IsTypeWord}
 use Rattle.domain_make.proofs.Entering.{no_word, four, record_no_owner, record_no_ttl, record_no_class, record_no_type, record_no_data, begins_record, long_data}
-use Rattle.domain_make.proofs.Telling.{passed_on}
+use Rattle.domain_data_text.proofs.Telling.{passed_on}
 use Rattle.domain_make.proofs.entry.record_of.Goals as goal
 
 pub returns-in_err-name-clause-err : goal.returns-in_err-name-clause-err

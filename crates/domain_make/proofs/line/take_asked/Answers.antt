@@ -1,8 +1,8 @@
 use Rattle.std.proofs.Common.{sym, subst}
-use Rattle.domain_make.specs.Words.{AreWords, words_at}
+use Rattle.domain_data_text.specs.Words.{AreWords, words_at}
 use Rattle.domain_make.proofs.Drafting.{on_ok, takes_asked}
 use Rattle.domain_make.proofs.Refusing.{refuses_asked, refuses_asked_words}
-use Rattle.domain_make.proofs.Telling.{passed_on, if_err, if_refused}
+use Rattle.domain_data_text.proofs.Telling.{passed_on, if_err, if_refused}
 use Rattle.domain_make.proofs.line.take_asked.Goals as goal
 
 pub returns-in_err-words-clause-err : goal.returns-in_err-words-clause-err

@@ -1,10 +1,10 @@
 use Rattle.std.proofs.Common.{◌≡◌, sym, subst, arith, ◌∙◌}
 use Rattle.std.proofs.lemmas.Bool.{false≢true}
 use Rattle.domain_make.specs.declared.remark.Stage.TheVariants.{Questions}
-use Rattle.domain_make.specs.Words.{AreWords, words_at}
+use Rattle.domain_data_text.specs.Words.{AreWords, words_at}
 use Rattle.domain_make.proofs.Drafting.{takes_nothing}
 use Rattle.domain_make.proofs.Refusing.{refuses_words, refuses_outside_first, only_questions}
-use Rattle.domain_make.proofs.Telling.{passed_on, if_refused}
+use Rattle.domain_data_text.proofs.Telling.{passed_on, if_refused}
 use Rattle.domain_make.proofs.line.take_entry.Goals as goal
 
 pub returns-in_err-words-clause-err : goal.returns-in_err-words-clause-err

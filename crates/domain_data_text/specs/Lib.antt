@@ -1,0 +1,7 @@
+pub mod Steps
+pub mod Words
+pub mod Parts
+pub mod Strings
+pub mod Fields
+pub mod Data
+pub mod Faults

@@ -1,0 +1,123 @@
+//! The data of a record.
+ghost use Rattle.std.specs.Prelude.{◌≡◌, ◌⊎◌, ◌↔◌, ◌++◌, ℕ, List, IsTrue, OnOk, IfOk, IfErr};
+ghost use Rattle.domain_data_text.specs.Data.{IsOfStrings, AreStrings, AreDigits, IsGeneric, IsTyped, IsData};
+ghost use Rattle.domain_data_text.specs.Faults.{IfRefused, FirstNone, NoString, NoDigits, NoGeneric, NoTyped, NoData};
+ghost use Rattle.domain_data_text.specs.Fields.{IsField};
+ghost use Rattle.domain_data_text.specs.Parts.{IsDigitsWord};
+ghost use Rattle.domain_data_text.specs.Words.{words_at};
+ghost use Rattle.domain_data_text.specs.declared.fields.Field.{Field};
+
+use crate::error::{Fault, Stop};
+use crate::fields::{fields_of, push_fields};
+use crate::parts::{number16_of, push_digits};
+use crate::string::push_string;
+use crate::words::Word;
+use std::alloc::Global;
+
+/// Appends the character strings that words are.
+fn push_strings(alloc: Global, words: &[Word<'_>], data: &mut Vec<u8>) -> Result<(), Stop>
+    ensures ok { OnOk result ((octets : List ℕ) × AreStrings (words_at words.now) octets
+        × (data.new.items ≡ data.old.items ++ octets)) }
+    ensures err { IfErr result (λ e. IfRefused e
+        (FirstNone (IsField Field.Text) NoString (words_at words.now))) }
+{
+    for word in words {
+        push_string(alloc, word, data)?;
+    }
+    Ok(())
+}
+
+/// Appends the octets that words are in hexadecimal digits.
+fn push_all_digits(words: &[Word<'_>], data: &mut Vec<u8>) -> Result<(), Stop>
+    ensures ok { OnOk result ((octets : List ℕ) × AreDigits (words_at words.now) octets
+        × (data.new.items ≡ data.old.items ++ octets)) }
+    ensures err { IfErr result (λ e. IfRefused e
+        (FirstNone IsDigitsWord NoDigits (words_at words.now))) }
+{
+    for word in words {
+        push_digits(word, data)?;
+    }
+    Ok(())
+}
+
+/// The data of any type in the form of RFC 3597, 5, after its first word: how many octets, and the octets.
+fn generic_data(alloc: Global, column: usize, words: &[Word<'_>]) -> Result<Vec<u8>, Stop>
+    ensures ok { IfOk result (λ made. IsGeneric (words_at words.now) made.items) }
+    ensures err { IfErr result (λ e. IfRefused e (NoGeneric column (words_at words.now))) }
+{
+    let Some((count, digits)) = words.split_first() else {
+        return Err(Stop::Refused(Fault::Words, column));
+    };
+    let told = number16_of(count)?;
+    let mut data = Vec::new(alloc);
+    push_all_digits(digits, &mut data)?;
+    if data.len() != usize::from(told) {
+        return Err(Stop::Refused(Fault::Octets, count.column));
+    }
+    Ok(data)
+}
+
+/// Whether data of a type is character strings.
+fn is_of_strings(rtype: u16) -> bool
+    ensures { IsTrue result ↔ IsOfStrings rtype }
+{
+    rtype == 16 || rtype == 99
+}
+
+/// The data of a type in the form of this type.
+fn typed_data(alloc: Global, rtype: u16, column: usize, words: &[Word<'_>]) -> Result<Vec<u8>, Stop>
+    ensures ok { IfOk result (λ made. IsTyped rtype (words_at words.now) made.items) }
+    ensures err { IfErr result (λ e. IfRefused e
+        (NoTyped rtype column (words_at words.now))) }
+{
+    let mut data = Vec::new(alloc);
+    if is_of_strings(rtype) {
+        if words.is_empty() {
+            return Err(Stop::Refused(Fault::Words, column));
+        }
+        push_strings(alloc, words, &mut data)?;
+        return Ok(data);
+    }
+    let Some(fields) = fields_of(rtype) else {
+        return Err(Stop::Refused(Fault::UnreadType, column));
+    };
+    push_fields(alloc, fields, column, words, &mut data)?;
+    Ok(data)
+}
+
+/// Whether records of a class may have no data.
+fn may_lack(class: u16) -> bool
+    ensures { IsTrue result ↔ ((class ≡ 254) ⊎ (class ≡ 255)) }
+{
+    class == 254 || class == 255
+}
+
+/// The data of a record of this type and class, whose words these are: behind `\#` how many octets there are, and these
+/// in hexadecimal digits; or what data of the type is made of; or no words, where the class is ANY or NONE.
+///
+/// `Refused` has the fault of the first word that isn't what stands there, in its column. Where data of the type has
+/// another number of words it is `Words`, and where such data is read behind `\#` alone `UnreadType`, both in the column
+/// that is given, of the type's word. Behind `\#` it is `Octets` where there are more or fewer than are told, in the
+/// column of their number, and `Words` where no number follows, in the column of `\#`. `Memory` where there was none.
+pub fn data_of(
+    alloc: Global,
+    rtype: u16,
+    class: u16,
+    column: usize,
+    words: &[Word<'_>],
+) -> Result<Vec<u8>, Stop>
+    ensures ok { IfOk result (λ made. IsData rtype class (words_at words.now) made.items) }
+    ensures err { IfErr result (λ e. IfRefused e
+        (NoData rtype class column (words_at words.now))) }
+{
+    let Some((first, rest)) = words.split_first() else {
+        if may_lack(class) {
+            return Ok(Vec::new(alloc));
+        }
+        return typed_data(alloc, rtype, column, words);
+    };
+    if first.octets == b"\\#".as_slice() {
+        return generic_data(alloc, first.column, rest);
+    }
+    typed_data(alloc, rtype, column, words)
+}
