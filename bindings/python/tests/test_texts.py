@@ -17,6 +17,8 @@ try:
 except ImportError:
     dns = None
 
+# A zone file takes these otherwise. Names are shown as the Rust crate `domain` shows them, which doesn't escape them.
+SIGNS = b'"();'
 LETTERS = b"abcdefghijklmnopqrstuvwxyzABCDEFGHIJKLMNOPQRSTUVWXYZ0123456789-_"
 BASE64 = "QUJD", "RGVhciByZWFkZXI=", "AQIDBAUGBwgJCgsMDQ4PEA=="
 TYPES = "A", "NS", "MX", "TXT", "AAAA", "SRV", "NAPTR", "DS", "RRSIG", "NSEC", "CAA", "TYPE1234"
@@ -30,7 +32,7 @@ class Words:
         self.pool = [self._name() for _ in range(6)]
 
     def _label(self) -> bytes:
-        octets = range(256) if self.random.random() < 0.2 else LETTERS
+        octets = [it for it in range(256) if it not in SIGNS] if self.random.random() < 0.2 else LETTERS
         return bytes(self.random.choice(octets) for _ in range(self.random.choice((1, 2, 3, 7, 12))))
 
     def _name(self) -> "dns.name.Name":
