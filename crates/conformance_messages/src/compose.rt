@@ -5,8 +5,9 @@ use conformance_answer::{Answer, Fail};
 use domain_compress::CompressComposer;
 use domain_data::{A, Aaaa, Cname, Dname, Mx, Ns, Ptr, Soa, Srv};
 use domain_header::HeaderSection;
-use domain_message::{Message, ParsedRecord, Record, RecordSection};
+use domain_message::{Message, RecordSection};
 use domain_rdata::{ComposeRecordData, Composer, ParseRecordData, UnknownRecordData};
+use domain_record::{ParsedRecord, Record};
 use domain_wire::ParseError;
 use octseq::{Octets, OctetsBuilder};
 

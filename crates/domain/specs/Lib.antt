@@ -52,13 +52,14 @@ pub use Rattle.domain_tool.specs.WireText
 pub use Rattle.domain_header.specs.Headers
 pub use Rattle.domain_header.specs.Numbered
 pub use Rattle.domain_header.specs.Tables
-pub use Rattle.domain_message.specs.Entries
+pub use Rattle.domain_record.specs.Entries
+pub use Rattle.domain_record.specs.Once
+pub use Rattle.domain_record.specs.LeftToTarget
 pub use Rattle.domain_message.specs.Sections
 pub use Rattle.domain_message.specs.Runs
 pub use Rattle.domain_message.specs.Aliases
 pub use Rattle.domain_message.specs.Answering
 pub use Rattle.domain_message.specs.Kept
-pub use Rattle.domain_message.specs.LeftToTarget
 pub use Rattle.domain_edns.specs.Options
 pub use Rattle.domain_edns.specs.OptRecords
 pub use Rattle.domain_edns.specs.Views as OptDataViews

@@ -98,9 +98,9 @@ pub mod header {
 pub mod message {
     pub use domain_header::ShortMessage;
     pub use domain_message::{
-        Message, QuestionSection, RecordIter, RecordSection, Section, entry_laws, reads_back_laws,
-        section_laws,
+        Message, QuestionSection, RecordIter, RecordSection, Section, section_laws,
     };
+    pub use domain_record::{entry_laws, reads_back_laws};
 }
 
 /// Messages that are written (RFC 1035, 4.1). crates/domain_message_builder/README.md tells how to write one, and
@@ -125,18 +125,18 @@ pub mod opt {
 
 /// Questions (RFC 1035, 4.1.2).
 pub mod question {
-    pub use domain_message::Question;
+    pub use domain_record::Question;
 }
 
 /// Records (RFC 1035, 4.1.3).
 pub mod record {
     pub use domain_header::Ttl;
-    pub use domain_message::{ParsedRecord, Record, RecordHeader};
+    pub use domain_record::{ParsedRecord, Record, RecordHeader};
 }
 
 /// Numbers that have mnemonics.
 pub mod iana {
     pub use domain_header::{Class, Opcode, Rcode};
-    pub use domain_message::{RtypeText, rtype_from_mnemonic, rtype_from_text, rtype_mnemonic};
     pub use domain_rdata::Rtype;
+    pub use domain_record::{RtypeText, rtype_from_mnemonic, rtype_from_text, rtype_mnemonic};
 }

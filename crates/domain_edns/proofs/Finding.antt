@@ -8,15 +8,15 @@ use Rattle.domain_label.specs.Wire.{Root}
 use Rattle.domain_parsed.specs.ParsedNames.{parsed_labels}
 use Rattle.domain_parsed.specs.declared.parsed.ParsedName.{ParsedName}
 use Rattle.domain_header.specs.Numbers.{number16}
-use Rattle.domain_message.specs.Entries.{RecordFields}
+use Rattle.domain_record.specs.Entries.{RecordFields}
 use Rattle.domain_message.specs.Kept.{keeps, FirstKept, MissesKept, TakesKept, IsMadeOf, HasDataError, GivesKept, kept_parser, kept_left, kept_class}
-use Rattle.domain_message.specs.RecordParts.{owner_of, class_of, ttl_of, data_of}
+use Rattle.domain_record.specs.RecordParts.{owner_of, class_of, ttl_of, data_of}
 use Rattle.domain_header.specs.Values.{class_number, ttl_seconds}
 use Rattle.domain_message.specs.Sections.{Begins, entries_left, records_message, records_offset, records_left}
 use Rattle.domain_message.specs.declared.section.RecordSection.{RecordSection}
 use Rattle.domain_message.specs.declared.section.Section.TheVariants.{Additional}
 use Rattle.domain_message.specs.declared.kept.RecordIter.{RecordIter}
-use Rattle.domain_message.specs.declared.resource_record.Record.{Record}
+use Rattle.domain_record.specs.declared.resource_record.Record.{Record}
 use Rattle.domain_edns.specs.Options.{AreAllThatIsLeft}
 use Rattle.domain_edns.specs.OptRecords.{is_opt, SaysOpt, opt_class, opt_ttl, opt_data}
 use Rattle.domain_edns.specs.Views.{opt_octets}

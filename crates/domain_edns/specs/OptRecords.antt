@@ -5,7 +5,7 @@ use Rattle.domain_wire.specs.declared.error.ParseError.{ParseError}
 use Rattle.domain_header.specs.Bits.{bit}
 use Rattle.domain_header.specs.Numbers.{number16}
 use Rattle.domain_label.specs.Wire.{Root}
-use Rattle.domain_message.specs.Entries.{RecordFields}
+use Rattle.domain_record.specs.Entries.{RecordFields}
 use Rattle.domain_message.specs.Kept.{FirstKept, NoneKept, MissesKept}
 use Rattle.domain_message.specs.Sections.{AuthorityTo, NoAuthority}
 use Rattle.domain_edns.specs.Options.{AreAllThatIsLeft}

@@ -7,8 +7,9 @@ ghost use Rattle.domain_edns.specs.OptRecords.{IsTheOpt, HasOptFault, opt_error_
 use crate::data::OptData;
 use crate::options::OptIter;
 use domain_header::Rcode;
-use domain_message::{Message, Record};
+use domain_message::Message;
 use domain_parsed::ParsedName;
+use domain_record::Record;
 use domain_wire::ParseError;
 use octseq::Octets;
 use std::error::Error;
@@ -50,7 +51,7 @@ pub struct OptRecord<'a> {
 impl<'a> OptRecord<'a> {
     ghost use Rattle.domain_edns.specs.Views.{opt_octets, options_left};
     ghost use Rattle.domain_header.specs.Values.{class_number, ttl_seconds};
-    ghost use Rattle.domain_message.specs.RecordParts.{class_of, ttl_of, data_of};
+    ghost use Rattle.domain_record.specs.RecordParts.{class_of, ttl_of, data_of};
 
     /// What this OPT record says.
     pub fn from_record(record: &Record<ParsedName<&'a [u8]>, OptData<'a>>) -> OptRecord<'a>

@@ -3,7 +3,7 @@ ghost use Rattle.std.specs.Prelude.{◌≡◌, ◌≤◌, ◌++◌, ◌⊎◌, �
 ghost use Rattle.std.specs.Io.KnownBytes.{IsAtEnd};
 ghost use Rattle.octseq.specs.Parsing.{message, position, MovesTo};
 ghost use Rattle.domain_header.specs.Values.{rcode_number};
-ghost use Rattle.domain_message.specs.Entries.{QuestionAt, NoQuestion, RecordAt, NoRecord};
+ghost use Rattle.domain_record.specs.Entries.{QuestionAt, NoQuestion, RecordAt, NoRecord};
 ghost use Rattle.domain_message.specs.Sections.{counted};
 ghost use Rattle.domain_tool.specs.Engines.{IfRefused, OnAnswer};
 ghost use Rattle.domain_lines.specs.Failures.{IfWritingFailed, IfStreamFailed};
@@ -14,7 +14,8 @@ use crate::flags::word_if;
 use crate::record::write_entry;
 use crate::streams::{Sink, Source};
 use domain_header::{Header, HeaderCounts, Rcode};
-use domain_message::{ParsedRecord, Question, Section};
+use domain_message::Section;
+use domain_record::{ParsedRecord, Question};
 use domain_tool::tool::ToolError;
 use domain_wire::ParseError;
 use domain_wire::parse::Parse;

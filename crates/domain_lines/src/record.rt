@@ -2,8 +2,8 @@
 ghost use Rattle.std.specs.Prelude.{◌≡◌, ◌∷◌, ◌++◌, ◌↔◌, [], ℕ, List, Some, IsTrue, OnOk, OnErr, IfOk};
 ghost use Rattle.std.specs.List.{list_any};
 ghost use Rattle.domain_header.specs.Values.{rcode_number};
-ghost use Rattle.domain_message.specs.Entries.{RecordFields};
-ghost use Rattle.domain_message.specs.RecordModel.{record_fields};
+ghost use Rattle.domain_record.specs.Entries.{RecordFields};
+ghost use Rattle.domain_record.specs.RecordModel.{record_fields};
 ghost use Rattle.domain_lines.specs.Records.{bare_text, unread_text, IsBare, IsRecordLine, has_opt_head, is_opt, IsOptText, IsEntryText};
 ghost use Rattle.domain_lines.specs.Edns.{another_text};
 
@@ -11,8 +11,9 @@ use crate::edns::{EdnsLine, write_options};
 use crate::streams::Sink;
 use domain_all_data::AllRecordData;
 use domain_header::Rcode;
-use domain_message::{ParsedRecord, Record, RtypeText, Section};
+use domain_message::Section;
 use domain_rdata::ParseAnyRecordData;
+use domain_record::{ParsedRecord, Record, RtypeText};
 use domain_tool::tool::WriteFault;
 use domain_traits::ToName;
 use domain_wire::ParseError;

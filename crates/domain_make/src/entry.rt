@@ -1,8 +1,8 @@
 //! Questions and records that lines are.
 ghost use Rattle.std.specs.Prelude.{◌≡◌, ◌⊎◌, ℕ, List, OnOk, IfOk, IfErr};
 ghost use Rattle.domain_header.specs.Values.{class_number};
-ghost use Rattle.domain_message.specs.Entries.{QuestionFields};
-ghost use Rattle.domain_message.specs.RecordParts.{data_of as data_in};
+ghost use Rattle.domain_record.specs.Entries.{QuestionFields};
+ghost use Rattle.domain_record.specs.RecordParts.{data_of as data_in};
 ghost use Rattle.domain_message_builder.specs.Contents.{RecordHead};
 ghost use Rattle.domain_message_builder.specs.Pushes.{asked, headed, PushesQuestion, PushesRecord};
 ghost use Rattle.domain_message_builder.specs.Views.{state_of};
@@ -20,9 +20,10 @@ use domain_data_text::error::{Fault, Stop};
 use domain_data_text::parts::{OwnName, name_of, number32_of, text_of};
 use domain_data_text::words::Word;
 use domain_header::{Class, Ttl};
-use domain_message::{Question, Record, Section, rtype_from_text};
+use domain_message::Section;
 use domain_message_builder::{MessageBuilder, PushError};
 use domain_rdata::{Composer, Rtype, UnknownRecordData};
+use domain_record::{Question, Record, rtype_from_text};
 use octseq::Octets;
 use std::alloc::Global;
 

@@ -1,8 +1,5 @@
 pub mod Aliases
 pub mod Comparing
-pub mod ComposingRecords
-pub mod DataStanding
-pub mod Names
 pub mod OneList
 pub mod Sections
 pub mod Skipping

@@ -5,12 +5,14 @@ use Rattle.std.specs.Ordering.{on, eq_of_both}
 use Rattle.domain_list.specs.Order.{same_name}
 use Rattle.domain_header.specs.Bits.{bit}
 use Rattle.domain_header.specs.Numbers.{number16}
-use Rattle.domain_message.specs.Entries.{QuestionFields, QuestionAt}
+use Rattle.domain_record.specs.Entries.{QuestionFields, QuestionAt}
 use Rattle.domain_message.specs.Sections.{Run}
 
 -- Equal questions: their types and classes are equal, and their names ignoring ASCII case.
 abbrev pub same_question : QuestionFields → QuestionFields → Bool
-same_question = eq_of_both (on (λ q. q.name) same_name) (eq_of_both (on (λ q. q.rtype) ◌==◌) (on (λ q. q.class) ◌==◌))
+same_question =
+    eq_of_both (on (λ q. q.name) same_name) (eq_of_both (on (λ q. q.rtype) ◌==◌)
+    (on (λ q. q.class) ◌==◌))
 
 -- As many questions are at p of m as are at q of o, n of them, and each equals the one with the same number.
 pub record SameQuestions (m : List ℕ) (p : ℕ) (o : List ℕ) (q n : ℕ) : Type 0 where

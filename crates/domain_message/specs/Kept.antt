@@ -7,10 +7,10 @@ use Rattle.domain_wire.specs.declared.error.ParseError.{ParseError}
 use Rattle.domain_parsed.specs.declared.parsed.ParsedName.{ParsedName}
 use Rattle.domain_parsed.specs.ParsedNames.{parsed_labels}
 use Rattle.domain_header.specs.Values.{class_number, ttl_seconds}
-use Rattle.domain_message.specs.Entries.{RecordFields, RecordAt, NoRecord}
-use Rattle.domain_message.specs.RecordParts.{owner_of, class_of, ttl_of, data_of}
+use Rattle.domain_record.specs.Entries.{RecordFields, RecordAt, NoRecord}
+use Rattle.domain_record.specs.RecordParts.{owner_of, class_of, ttl_of, data_of}
 use Rattle.domain_message.specs.Sections.{Run}
-use Rattle.domain_message.specs.declared.resource_record.Record.{Record}
+use Rattle.domain_record.specs.declared.resource_record.Record.{Record}
 use Rattle.domain_message.specs.declared.kept.RecordIter.{RecordIter}
 
 -- Whether the class of a record is asked for: IN, or any.
@@ -39,12 +39,15 @@ pub record IsMadeOf {O D V : Type 0} {g : Ghosts O} (type_of : D → ℕ) (seen 
   pub data_is : HasData Encodes it (seen (data_of made))
 
 -- The data of a record has an error, as its type reads it, that is returned as e.
-abbrev pub HasDataError : {E : Type 0} → (ParseError → E → Type 0) → (ℕ → List ℕ → ℕ → ParseError → Type 0) → RecordFields → E → Type 0
-HasDataError Becomes Fails it e = (why : ParseError) × Fails it.header.rtype it.octets it.start why × Becomes why e
+abbrev pub HasDataError : {E : Type 0} → (ParseError → E → Type 0)
+    → (ℕ → List ℕ → ℕ → ParseError → Type 0) → RecordFields → E → Type 0
+HasDataError Becomes Fails it e =
+    (why : ParseError) × Fails it.header.rtype it.octets it.start why × Becomes why e
 
 -- The first record from p on that is kept, of n that are left, is `it`: others are before it, k are left after it, and
 -- it ends before q.
-pub record FirstKept (keep : RecordFields → Bool) (m : List ℕ) (p n : ℕ) (it : RecordFields) (q k : ℕ) : Type 0 where
+pub record FirstKept (keep : RecordFields → Bool) (m : List ℕ) (p n : ℕ) (it : RecordFields)
+    (q k : ℕ) : Type 0 where
   pub before : List RecordFields
   pub others : AreOthers keep before
   pub offset : ℕ
@@ -62,7 +65,8 @@ pub record NoneKept (keep : RecordFields → Bool) (m : List ℕ) (p n : ℕ) : 
   pub count : n ≡ length before
 
 -- A record is missing of the n that are left from p on, and why, and none before it is kept.
-pub record MissesKept (keep : RecordFields → Bool) (m : List ℕ) (p n : ℕ) (why : ParseError) : Type 0 where
+pub record MissesKept (keep : RecordFields → Bool) (m : List ℕ) (p n : ℕ)
+    (why : ParseError) : Type 0 where
   pub before : List RecordFields
   pub others : AreOthers keep before
   pub offset : ℕ
@@ -71,7 +75,8 @@ pub record MissesKept (keep : RecordFields → Bool) (m : List ℕ) (p n : ℕ) 
   pub missing : NoRecord m offset why
 
 -- The data of a record that is kept has an error, and none of n records that are left from p on is kept before it.
-pub record BreaksKept {E : Type 0} (keep : RecordFields → Bool) (Broken : RecordFields → E → Type 0) (m : List ℕ) (p n : ℕ) (e : E) : Type 0 where
+pub record BreaksKept {E : Type 0} (keep : RecordFields → Bool) (Broken : RecordFields → E → Type 0)
+    (m : List ℕ) (p n : ℕ) (e : E) : Type 0 where
   pub before : List RecordFields
   pub others : AreOthers keep before
   pub offset : ℕ
@@ -97,12 +102,23 @@ kept_class s = s.only_in
 
 -- A call at p, with n records left, returned the first that is kept, or the error of the first that is missing or whose
 -- data can't be read, or nothing: none that is left is kept. Then the offset is q, and k are left.
-abbrev pub TakesKept : {W E : Type 0} → (RecordFields → Bool) → (RecordFields → W → Type 0) → (RecordFields → E → Type 0) → (ParseError → E → Type 0) → List ℕ → ℕ → ℕ → Option (Result W E) → ℕ → ℕ → Type 0
+abbrev pub TakesKept : {W E : Type 0} → (RecordFields → Bool) → (RecordFields → W → Type 0)
+    → (RecordFields → E → Type 0) → (ParseError → E → Type 0) → List ℕ → ℕ → ℕ → Option (Result W E)
+    → ℕ → ℕ → Type 0
 TakesKept keep Made Broken Becomes m p n None q k = NoneKept keep m p n × (k ≡ 0)
-TakesKept keep Made Broken Becomes m p n (Some (Ok made)) q k = (it : RecordFields) × FirstKept keep m p n it q k × Made it made
-TakesKept keep Made Broken Becomes m p n (Some (Err e)) q k = (k ≡ 0) × (((why : ParseError) × MissesKept keep m p n why × Becomes why e) ⊎ BreaksKept keep Broken m p n e)
+TakesKept keep Made Broken Becomes m p n (Some (Ok made)) q k =
+    (it : RecordFields) × FirstKept keep m p n it q k × Made it made
+TakesKept keep Made Broken Becomes m p n (Some (Err e)) q k =
+    (k ≡ 0) × (((why : ParseError) × MissesKept keep m p n why × Becomes why e)
+    ⊎ BreaksKept keep Broken m p n e)
 
 -- A call of `next` took the next record that is kept.
-abbrev pub GivesKept : {O D E V : Type 0} {g : Ghosts O} → (D → ℕ) → (D → V) → (ℕ → Bool) → (ℕ → List ℕ → ℕ → V → ℕ → Type 0) → (ℕ → List ℕ → ℕ → ParseError → Type 0) → (ParseError → E → Type 0) → RecordIter D E → Option (Result (Record (ParsedName O g) D) E) → RecordIter D E → Type 0
-GivesKept {g = g} type_of seen reads_type Encodes Fails Becomes s r t = (message (kept_parser t) ≡ message (kept_parser s)) × (kept_class t ≡ kept_class s)
-    × TakesKept (keeps reads_type (kept_class s)) (IsMadeOf {g = g} type_of seen Encodes) (HasDataError Becomes Fails) Becomes (message (kept_parser s)) (position (kept_parser s)) (kept_left s) r (position (kept_parser t)) (kept_left t)
+abbrev pub GivesKept : {O D E V : Type 0} {g : Ghosts O} → (D → ℕ) → (D → V) → (ℕ → Bool)
+    → (ℕ → List ℕ → ℕ → V → ℕ → Type 0) → (ℕ → List ℕ → ℕ → ParseError → Type 0)
+    → (ParseError → E → Type 0) → RecordIter D E → Option (Result (Record (ParsedName O g) D) E)
+    → RecordIter D E → Type 0
+GivesKept {g = g} type_of seen reads_type Encodes Fails Becomes s r t =
+    (message (kept_parser t) ≡ message (kept_parser s)) × (kept_class t ≡ kept_class s)
+    × TakesKept (keeps reads_type (kept_class s)) (IsMadeOf {g = g} type_of seen Encodes)
+    (HasDataError Becomes Fails) Becomes (message (kept_parser s)) (position (kept_parser s))
+    (kept_left s) r (position (kept_parser t)) (kept_left t)

@@ -4,12 +4,12 @@ use Rattle.octseq.specs.declared.octets.Octets.{Ghosts}
 use Rattle.octseq.specs.Parsing.{message, position}
 use Rattle.domain_wire.specs.declared.error.ParseError.{ParseError}
 use Rattle.domain_parsed.specs.declared.parsed.ParsedName.{ParsedName}
-use Rattle.domain_message.specs.Entries.{QuestionFields, QuestionAt, NoQuestion, RecordFields, RecordAt, NoRecord}
-use Rattle.domain_message.specs.Models.{question_fields}
-use Rattle.domain_message.specs.RecordModel.{record_fields}
+use Rattle.domain_record.specs.Entries.{QuestionFields, QuestionAt, NoQuestion, RecordFields, RecordAt, NoRecord}
+use Rattle.domain_record.specs.Models.{question_fields}
+use Rattle.domain_record.specs.RecordModel.{record_fields}
 use Rattle.domain_header.specs.Numbers.{number16}
-use Rattle.domain_message.specs.declared.question.Question.{Question}
-use Rattle.domain_message.specs.declared.record.ParsedRecord.{ParsedRecord}
+use Rattle.domain_record.specs.declared.question.Question.{Question}
+use Rattle.domain_record.specs.declared.record.ParsedRecord.{ParsedRecord}
 use Rattle.domain_message.specs.declared.section.QuestionSection.{QuestionSection}
 use Rattle.domain_message.specs.declared.section.RecordSection.{RecordSection}
 use Rattle.domain_message.specs.declared.section.Section.{Section}
@@ -21,7 +21,9 @@ Run At m p [] e = e ≡ p
 Run At m p (x ∷ xs) e = (q : ℕ) × At m p x q × Run At m q xs e
 
 -- Fewer than n entries are at p, one after the other: the next is missing, and why.
-pub record Lacks {V : Type 0} (At : List ℕ → ℕ → V → ℕ → Type 0) (Fails : List ℕ → ℕ → ParseError → Type 0) (m : List ℕ) (p n : ℕ) (why : ParseError) : Type 0 where
+pub record Lacks {V : Type 0} (At : List ℕ → ℕ → V → ℕ → Type 0)
+    (Fails : List ℕ → ℕ → ParseError → Type 0) (m : List ℕ) (p n : ℕ)
+    (why : ParseError) : Type 0 where
   pub before : List V
   pub few : length before < n
   pub offset : ℕ
@@ -35,10 +37,14 @@ entries_left (Err e) = 0
 
 -- A call at p, with c entries left, returned the entry there, or the error that it is missing, or nothing: after the last
 -- one, or after an error. Then the offset is q, and d are left.
-abbrev pub TakesEntry : {V W : Type 0} → (W → V) → (List ℕ → ℕ → V → ℕ → Type 0) → (List ℕ → ℕ → ParseError → Type 0) → List ℕ → ℕ → Result ℕ ParseError → Option (Result W ParseError) → ℕ → Result ℕ ParseError → Type 0
+abbrev pub TakesEntry : {V W : Type 0} → (W → V) → (List ℕ → ℕ → V → ℕ → Type 0)
+    → (List ℕ → ℕ → ParseError → Type 0) → List ℕ → ℕ → Result ℕ ParseError
+    → Option (Result W ParseError) → ℕ → Result ℕ ParseError → Type 0
 TakesEntry seen At Fails m p c None q d = (entries_left c ≡ 0) × (q ≡ p) × (d ≡ c)
-TakesEntry seen At Fails m p c (Some (Ok x)) q d = (n : ℕ) × (c ≡ Ok (n + 1)) × (d ≡ Ok n) × At m p (seen x) q
-TakesEntry seen At Fails m p c (Some (Err e)) q d = (n : ℕ) × (c ≡ Ok (n + 1)) × (d ≡ Err e) × (q ≡ p) × Fails m p e
+TakesEntry seen At Fails m p c (Some (Ok x)) q d =
+    (n : ℕ) × (c ≡ Ok (n + 1)) × (d ≡ Ok n) × At m p (seen x) q
+TakesEntry seen At Fails m p c (Some (Err e)) q d =
+    (n : ℕ) × (c ≡ Ok (n + 1)) × (d ≡ Err e) × (q ≡ p) × Fails m p e
 
 -- the octets that an iterator over questions reads
 abbrev pub questions_message : QuestionSection → List ℕ
@@ -69,14 +75,19 @@ abbrev pub records_section : RecordSection → Section
 records_section s = s.section
 
 -- A call of `next` returned the next question, or the error that it is missing, or nothing: none was left.
-abbrev pub GivesQuestion : {O : Type 0} {g : Ghosts O} → QuestionSection → Option (Result (Question (ParsedName O g)) ParseError) → QuestionSection → Type 0
+abbrev pub GivesQuestion : {O : Type 0} {g : Ghosts O} → QuestionSection
+    → Option (Result (Question (ParsedName O g)) ParseError) → QuestionSection → Type 0
 GivesQuestion s r t = (questions_message t ≡ questions_message s)
-    × TakesEntry question_fields QuestionAt NoQuestion (questions_message s) (questions_offset s) (questions_left s) r (questions_offset t) (questions_left t)
+    × TakesEntry question_fields QuestionAt NoQuestion (questions_message s) (questions_offset s)
+    (questions_left s) r (questions_offset t) (questions_left t)
 
 -- A call of `next` returned the next record, or the error that it is missing, or nothing: none was left.
-abbrev pub GivesRecord : RecordSection → Option (Result ParsedRecord ParseError) → RecordSection → Type 0
-GivesRecord s r t = (records_message t ≡ records_message s) × (records_section t ≡ records_section s)
-    × TakesEntry record_fields RecordAt NoRecord (records_message s) (records_offset s) (records_left s) r (records_offset t) (records_left t)
+abbrev pub GivesRecord : RecordSection → Option (Result ParsedRecord ParseError) → RecordSection
+    → Type 0
+GivesRecord s r t =
+    (records_message t ≡ records_message s) × (records_section t ≡ records_section s)
+    × TakesEntry record_fields RecordAt NoRecord (records_message s) (records_offset s)
+    (records_left s) r (records_offset t) (records_left t)
 
 -- how many records the header counts in a section
 abbrev pub counted : List ℕ → Section → ℕ
@@ -92,11 +103,15 @@ pub record Begins (m : List ℕ) (s : Section) (e : ℕ) (it : RecordSection) : 
   pub left : records_left it ≡ Ok (counted m s)
 
 -- The entries that were left are at p, and the section begins after them.
-abbrev pub BeginsAfter : {V : Type 0} → (List ℕ → ℕ → V → ℕ → Type 0) → List ℕ → ℕ → Result ℕ ParseError → Section → RecordSection → Type 0
-BeginsAfter {V} At m p c s it = (xs : List V) × (e : ℕ) × (c ≡ Ok (length xs)) × Run At m p xs e × Begins m s e it
+abbrev pub BeginsAfter : {V : Type 0} → (List ℕ → ℕ → V → ℕ → Type 0) → List ℕ → ℕ
+    → Result ℕ ParseError → Section → RecordSection → Type 0
+BeginsAfter {V} At m p c s it =
+    (xs : List V) × (e : ℕ) × (c ≡ Ok (length xs)) × Run At m p xs e × Begins m s e it
 
 -- An entry that was left is missing, or was before, and why.
-pub data Misses {V : Type 0} (At : List ℕ → ℕ → V → ℕ → Type 0) (Fails : List ℕ → ℕ → ParseError → Type 0) (m : List ℕ) (p : ℕ) (c : Result ℕ ParseError) (why : ParseError) : Type 0 where
+pub data Misses {V : Type 0} (At : List ℕ → ℕ → V → ℕ → Type 0)
+    (Fails : List ℕ → ℕ → ParseError → Type 0) (m : List ℕ) (p : ℕ) (c : Result ℕ ParseError)
+    (why : ParseError) : Type 0 where
   before : c ≡ Err why → Misses At Fails m p c why
   now : (n : ℕ) → c ≡ Ok n → Lacks At Fails m p n why → Misses At Fails m p c why
 

@@ -4,15 +4,15 @@ ghost use Rattle.domain_parsed.specs.ParsedNames.{parsed_labels};
 ghost use Rattle.domain_message.specs.Aliases.{IsAlias, IsCanonical, IsCanonicalWithin};
 ghost use Rattle.domain_message.specs.AliasParts.{GivesAlias, GivesCnames, EndsBefore, LeadsOn, Asked};
 ghost use Rattle.domain_message.specs.Messages.{message_octets};
-ghost use Rattle.domain_message.specs.RecordModel.{record_fields};
+ghost use Rattle.domain_record.specs.RecordModel.{record_fields};
 ghost use Rattle.domain_message.specs.Sections.{NoQuestions};
 ghost use Rattle.domain_header.specs.Numbers.{number16};
 ghost use Rattle.domain_wire.specs.declared.error.ParseError.{ParseError};
 
 use crate::message::Message;
-use crate::record::ParsedRecord;
 use crate::section::RecordSection;
 use domain_parsed::ParsedName;
+use domain_record::ParsedRecord;
 use domain_traits::ToName;
 use domain_wire::parse::Parse;
 use octseq::Octets;

@@ -5,7 +5,7 @@ ghost use Rattle.domain_message.specs.Answering.{IsAnswerTo, SameQuestions, Same
 ghost use Rattle.domain_message.specs.Messages.{message_octets};
 
 use crate::message::Message;
-use crate::question::Question;
+use domain_record::Question;
 use domain_wire::parse::Parse;
 use octseq::{Octets, Parser};
 

@@ -1,10 +1,10 @@
 //! Messages.
 ghost use Rattle.std.specs.Prelude.{◌≡◌, ◌≤◌, ◌<◌, ◌↔◌, ◌⊎◌, ℕ, length, slice_index, IfOk, IfErr, IfSome, IsErr, IsNone, Ok};
 
-use crate::question::Question;
 use crate::section::{QuestionSection, RecordSection};
 use domain_header::{Header, HeaderCounts, ShortMessage};
 use domain_parsed::ParsedName;
+use domain_record::Question;
 use domain_wire::ParseError;
 use domain_wire::parse::Parse;
 use octseq::{Octets, Parser};
@@ -39,8 +39,8 @@ impl<Octs: Octets> Message<Octs> {
     ghost use Rattle.domain_header.specs.Headers.{header_id, header_high, header_low, question_count, answer_count, authority_count, additional_count};
     ghost use Rattle.domain_message.specs.Sections.{questions_message, questions_offset, questions_left, Begins, QuestionsTo, AnswersTo, AuthorityTo, NoQuestions, NoAnswers, NoAuthority};
     ghost use Rattle.domain_message.specs.declared.section.Section.TheVariants.{Answer, Authority, Additional};
-    ghost use Rattle.domain_message.specs.Entries.{QuestionAt, NoQuestion};
-    ghost use Rattle.domain_message.specs.Models.{question_fields};
+    ghost use Rattle.domain_record.specs.Entries.{QuestionAt, NoQuestion};
+    ghost use Rattle.domain_record.specs.Models.{question_fields};
     ghost use Rattle.domain_message.specs.Sole.{NoSoleQuestion};
     ghost use Rattle.domain_wire.specs.declared.error.ParseError.{ParseError};
 

@@ -3,10 +3,9 @@ ghost use Rattle.std.specs.Prelude.{◌≡◌, ◌≤◌, length, IfOk, IfErr, I
 ghost use Rattle.std.specs.Iterator.{at_most};
 ghost use Rattle.octseq.specs.Parsing.{message, position};
 
-use crate::question::Question;
-use crate::record::ParsedRecord;
 use domain_header::HeaderCounts;
 use domain_parsed::ParsedName;
+use domain_record::{ParsedRecord, Question};
 use domain_wire::ParseError;
 use domain_wire::parse::Parse;
 use octseq::Parser;
@@ -58,7 +57,7 @@ pub struct QuestionSection<'a> {
 
 impl<'a> QuestionSection<'a> {
     ghost use Rattle.domain_message.specs.Sections.{questions_message, questions_offset, questions_left, BeginsAfter, Misses};
-    ghost use Rattle.domain_message.specs.Entries.{QuestionAt, NoQuestion};
+    ghost use Rattle.domain_record.specs.Entries.{QuestionAt, NoQuestion};
     ghost use Rattle.domain_header.specs.Numbers.{number16};
     ghost use Rattle.domain_message.specs.declared.section.Section.TheVariants.{Answer};
 
@@ -153,7 +152,7 @@ pub struct RecordSection<'a> {
 
 impl<'a> RecordSection<'a> {
     ghost use Rattle.domain_message.specs.Sections.{records_message, records_offset, records_left, records_section, entries_left, Begins, BeginsAfter, Misses};
-    ghost use Rattle.domain_message.specs.Entries.{RecordAt, NoRecord};
+    ghost use Rattle.domain_record.specs.Entries.{RecordAt, NoRecord};
     ghost use Rattle.domain_message.specs.SectionOrder.{section_after};
     ghost use Rattle.domain_message.specs.declared.section.Section.{Section};
 

@@ -4,9 +4,9 @@ use Rattle.domain_header.specs.Bits.{bit, bits}
 use Rattle.domain_header.specs.Headers.{header_id, header_high, header_low, question_count}
 use Rattle.domain_header.specs.Numbers.{number16}
 use Rattle.domain_header.specs.declared.flags.Header.{Header}
-use Rattle.domain_message.specs.Composing.{type_and_class}
-use Rattle.domain_message.specs.Entries.{QuestionFields, QuestionAt, NoQuestion}
-use Rattle.domain_message.specs.LeftToTarget.{NameThen}
+use Rattle.domain_record.specs.Composing.{type_and_class}
+use Rattle.domain_record.specs.Entries.{QuestionFields, QuestionAt, NoQuestion}
+use Rattle.domain_record.specs.LeftToTarget.{NameThen}
 use Rattle.domain_wire.specs.declared.error.ParseError.{ParseError}
 use Rattle.domain_rdata.specs.ReadBack.{Exceeds}
 use Rattle.domain_message_builder.specs.Contents.{AsksIn}

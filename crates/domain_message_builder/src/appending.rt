@@ -2,8 +2,8 @@
 ghost use Rattle.std.specs.Prelude.{◌≡◌, ◌≤◌, length, OnOk, OnErr, IfErr, true};
 ghost use Rattle.domain_rdata.specs.ReadBack.{Appended};
 ghost use Rattle.domain_rdata.specs.RecordData.{ComposeRefused};
-ghost use Rattle.domain_message.specs.RecordParts.{data_of};
-ghost use Rattle.domain_message.specs.LeftToTarget.{WritesQuestion, WritesRecord};
+ghost use Rattle.domain_record.specs.RecordParts.{data_of};
+ghost use Rattle.domain_record.specs.LeftToTarget.{WritesQuestion, WritesRecord};
 ghost use Rattle.domain_message_builder.specs.Contents.{AsksIn, RecordsIn};
 ghost use Rattle.domain_message_builder.specs.Pushes.{asked, headed};
 ghost use Rattle.domain_message_builder.specs.Refusals.{QuestionNotAppended, RecordNotAppended};
@@ -11,8 +11,8 @@ ghost use Rattle.domain_message_builder.specs.Tight.{Surpasses, RefusedAsWritten
 
 use crate::error::PushError;
 use domain_list::AbsoluteLabels;
-use domain_message::{Question, Record};
 use domain_rdata::{ComposeRdataError, ComposeRecordData, Composer};
+use domain_record::{Question, Record};
 use octseq::{Octets, Truncate};
 
 /// Appends a question, up to this many octets in all, or nothing.

@@ -2,8 +2,8 @@
 ghost use Rattle.std.specs.Prelude.{◌≡◌, ◌≤◌, ◌<◌, ◌+◌, ◌-◌, ◌↔◌, true, length, take, IfOk, IfErr, IsErr, OnOk, OnErr};
 ghost use Rattle.std.proofs.Props.{props};
 ghost use Rattle.domain_rdata.specs.RecordData.{ComposeRefused};
-ghost use Rattle.domain_message.specs.RecordParts.{data_of};
-ghost use Rattle.domain_message.specs.LeftToTarget.{WritesQuestion, WritesRecord};
+ghost use Rattle.domain_record.specs.RecordParts.{data_of};
+ghost use Rattle.domain_record.specs.LeftToTarget.{WritesQuestion, WritesRecord};
 ghost use Rattle.domain_message_builder.specs.Contents.{blank_header, Content, Holds};
 ghost use Rattle.domain_message_builder.specs.Errors.{is_early};
 ghost use Rattle.domain_message_builder.specs.Finished.{finished_octets};
@@ -22,8 +22,9 @@ use crate::error::{PushError, StartError};
 use crate::section_starts::SectionStarts;
 use domain_header::{Header, HeaderCounts, HeaderSection};
 use domain_list::AbsoluteLabels;
-use domain_message::{Question, Record, Section};
+use domain_message::Section;
 use domain_rdata::{ComposeRecordData, Composer, RecordData};
+use domain_record::{Question, Record};
 use octseq::{Octets, OctetsBuilder, OctetsMut, Truncate};
 
 /// A message that is built: questions, and then the records of the three sections, in their order (RFC 1035, 4.1).

@@ -1,7 +1,7 @@
 //! The question section.
 ghost use Rattle.std.specs.Prelude.{◌≡◌, ◌≤◌, ◌<◌, ◌-◌, true, length, IfErr, OnOk, OnErr, Err};
 ghost use Rattle.domain_header.specs.Headers.{question_count};
-ghost use Rattle.domain_message.specs.LeftToTarget.{WritesQuestion};
+ghost use Rattle.domain_record.specs.LeftToTarget.{WritesQuestion};
 ghost use Rattle.domain_message.specs.declared.section.Section.TheVariants.{Answer};
 ghost use Rattle.domain_message_builder.specs.Contents.{Content, Holds};
 ghost use Rattle.domain_message_builder.specs.Errors.{is_early};
@@ -17,9 +17,9 @@ use crate::back::without_records;
 use crate::error::{SectionError, without_order};
 use domain_header::Header;
 use domain_list::AbsoluteLabels;
-use domain_message::Question;
 use domain_message_builder::MessageBuilder;
 use domain_rdata::Composer;
+use domain_record::Question;
 
 /// A message whose questions are pushed (RFC 1035, 4.1.2). It has no records.
 ///

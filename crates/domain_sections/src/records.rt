@@ -2,8 +2,8 @@
 ghost use Rattle.std.specs.Prelude.{◌≡◌, ◌≤◌, ◌<◌, ◌-◌, true, length, IfErr, IfSome, OnOk, OnErr, Err};
 ghost use Rattle.domain_rdata.specs.RecordData.{ComposeRefused};
 ghost use Rattle.domain_header.specs.Headers.{additional_count};
-ghost use Rattle.domain_message.specs.LeftToTarget.{WritesRecord};
-ghost use Rattle.domain_message.specs.RecordParts.{data_of};
+ghost use Rattle.domain_record.specs.LeftToTarget.{WritesRecord};
+ghost use Rattle.domain_record.specs.RecordParts.{data_of};
 ghost use Rattle.domain_message.specs.SectionOrder.{section_after};
 ghost use Rattle.domain_message_builder.specs.Contents.{Content, Holds};
 ghost use Rattle.domain_message_builder.specs.Errors.{is_early};
@@ -21,9 +21,9 @@ use crate::error::{SectionError, without_order};
 use crate::section::{AdditionalSection, AnswerSection, AuthoritySection, RecordSection};
 use domain_header::Header;
 use domain_list::AbsoluteLabels;
-use domain_message::Record;
 use domain_message_builder::{MessageBuilder, OptBuilder};
 use domain_rdata::{ComposeRecordData, Composer};
+use domain_record::Record;
 use octseq::Octets;
 use std::marker::PhantomData;
 

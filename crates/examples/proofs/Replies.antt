@@ -2,7 +2,7 @@
 use Rattle.std.proofs.Common.{◌≡◌, ℕ, ◌≤◌, Bool, List, [], ◌∷◌, refl, sym, ap, subst, ◌∙◌}
 use Rattle.std.specs.Prelude.{Result, Ok, Err, Option, Some, OnOk, OnErr}
 use Rattle.domain_header.specs.Headers.{SetsHigh}
-use Rattle.domain_message.specs.Entries.{QuestionFields}
+use Rattle.domain_record.specs.Entries.{QuestionFields}
 use Rattle.domain_message.specs.declared.section.Section.TheVariants.{Answer, Authority, Additional}
 use Rattle.domain_message_builder.specs.Answers.{AnswersHeaderOf, StartsAnswer, StartsError}
 use Rattle.domain_message_builder.specs.Answers.StartsAnswer.{repeats, nothing}

@@ -2,7 +2,7 @@
 use Rattle.std.specs.Prelude.{◌≡◌, ℕ, Bool, List, [], ◌∷◌}
 use Rattle.domain_header.specs.Headers.{SetsHigh}
 use Rattle.domain_header.specs.declared.flags.Header.{Header}
-use Rattle.domain_message.specs.Entries.{QuestionFields}
+use Rattle.domain_record.specs.Entries.{QuestionFields}
 use Rattle.domain_message_builder.specs.Answers.{AnswersHeaderOf, HasNoQuestion, BeginsWithQuestion}
 use Rattle.domain_message_builder.specs.Contents.{Content, RecordHead, PushedRecord}
 use Rattle.domain_message_builder.specs.Cuts.{opt_record}

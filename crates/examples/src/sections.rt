@@ -1,6 +1,6 @@
 //! Messages that are built section by section.
 ghost use Rattle.std.specs.Prelude.{◌<◌, length, IfSome, IsNone};
-ghost use Rattle.domain_message.specs.RecordParts.{data_of};
+ghost use Rattle.domain_record.specs.RecordParts.{data_of};
 ghost use Rattle.domain_message_builder.specs.Pushes.{asked, headed};
 ghost use Rattle.examples.specs.Built.{IsAnswer, NotAnswered};
 

@@ -2,7 +2,7 @@
 ghost use Rattle.std.specs.Prelude.{◌<◌, ◌≤◌, ◌⊎◌, length, IfSome, IsNone};
 ghost use Rattle.domain_header.specs.Values.{rcode_number};
 ghost use Rattle.domain_message.specs.Messages.{message_octets};
-ghost use Rattle.domain_message.specs.RecordParts.{data_of};
+ghost use Rattle.domain_record.specs.RecordParts.{data_of};
 ghost use Rattle.domain_message_builder.specs.OptViews.{opt_of};
 ghost use Rattle.domain_message_builder.specs.Pushes.{headed};
 ghost use Rattle.examples.specs.Served.{IsReferral, IsErrorAnswer, IsWholeOrCut};

@@ -1,0 +1,3 @@
+pub mod ComposingRecords
+pub mod DataStanding
+pub mod Names

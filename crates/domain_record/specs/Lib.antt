@@ -1,0 +1,17 @@
+pub mod CanonicalRecords
+pub mod Composing
+pub mod Entries
+pub mod Facts
+pub mod HeaderLaws
+pub mod Laws
+pub mod LeftToTarget
+pub mod MayCompose
+pub mod Models
+pub mod Once
+pub mod Readings
+pub mod ReadsBack
+pub mod RecordModel
+pub mod RecordParts
+pub mod TextViews
+pub mod Texts
+pub mod Views
