@@ -6,13 +6,14 @@ use Rattle.domain_label.specs.Wire.{wire}
 use Rattle.domain_reading.specs.Grammar.{Names, EncodingEnds}
 use Rattle.domain_reading.specs.Faults.{Skips}
 use Rattle.domain_reading.proofs.OneEncoding.{front_once, names_skips}
-use Rattle.dnsnames_c.specs.Answers.{PutsAt}
-use Rattle.dnsnames_c.specs.Messages.{number_16, HasParts, LacksParts}
+use Rattle.domain_buffer.specs.Puts.{PutsAt}
+use Rattle.domain_header.specs.Numbers.{number16}
+use Rattle.domain_offsets.specs.Entries.{HasParts, LacksParts}
 use Rattle.dnsnames_c.specs.Tables.{entry_count, row, PartsAt, NoPartsAt, Tabled, Takes, Holds}
 use Rattle.dnsnames_c.specs.Tables.Tabled.{header, entry}
-use Rattle.dnsnames_c.specs.declared.message.Parts.{Parts}
+use Rattle.domain_offsets.specs.declared.entry.Parts.{Parts}
 use Rattle.dnsnames_c.specs.declared.table.Taken.{Taken}
-use Rattle.dnsnames_c.proofs.Puts.{puts_both, puts_size}
+use Rattle.domain_buffer.proofs.Puts.{puts_both, puts_size}
 
 -- A name that is read is skipped, to where its encoding ends.
 pub read_skips : (k : ℕ) (m : List ℕ) (p e : ℕ) (ls : List (List ℕ)) → Names k m p ls → EncodingEnds m p e → Skips m p e
@@ -27,23 +28,14 @@ not_less b n q is so =
     omega (arith, past)
 
 -- What follows the name is that of the next entry.
-pub parts_here : (m : List ℕ) (n p after : ℕ) (b : Bool) (it : Parts) → Skips m p after → IsTrue b ↔ (n < number_16 m 4) → HasParts m b after it → PartsAt m n p it
-parts_here m n p after true it s kind h = inl (
-  kind.0 refl,
-  record { after = after; name = s; rtype_is = h.0; class_is = h.1; ends = h.5; inside = h.6 },
-  h.2,
-  h.3 ∙ sym h.5,
-  h.4,
-)
-parts_here m n p after false it s kind h = inr (
-  not_less false n (number_16 m 4) refl kind.1,
-  record { after = after; name = s; rtype_is = h.0; class_is = h.1; ttl_is = h.2; len_is = h.4; data_is = h.3; ends = h.5; inside = h.6 },
-)
+pub parts_here : (m : List ℕ) (n p after : ℕ) (b : Bool) (it : Parts) → Skips m p after → IsTrue b ↔ (n < number16 m 4) → HasParts m b after it → PartsAt m n p it
+parts_here m n p after true it s kind h = inl (kind.0 refl, record { after = after; name = s; parts = h })
+parts_here m n p after false it s kind h = inr (not_less false n (number16 m 4) refl kind.1, record { after = after; name = s; parts = h })
 
 -- It is missing, so the next entry isn't there.
-pub no_parts_here : (m : List ℕ) (n p after : ℕ) (b : Bool) → Skips m p after → IsTrue b ↔ (n < number_16 m 4) → LacksParts m b after → NoPartsAt m n p 1
+pub no_parts_here : (m : List ℕ) (n p after : ℕ) (b : Bool) → Skips m p after → IsTrue b ↔ (n < number16 m 4) → LacksParts m b after → NoPartsAt m n p 1
 no_parts_here m n p after true s kind h = inl (kind.0 refl, inr (after, s, h, refl))
-no_parts_here m n p after false s kind h = inr (not_less false n (number_16 m 4) refl kind.1, elim h [ inl short ↦ inl (inr (after, s, short, refl)) | inr long ↦ inr (after, s, long.0, long.1, refl) ])
+no_parts_here m n p after false s kind h = inr (not_less false n (number16 m 4) refl kind.1, inr (after, s, h, refl))
 
 -- A table has eight numbers for each entry.
 pub tabled_size : {k : ℕ} {m : List ℕ} {n p : ℕ} {rows names : List ℕ} → Tabled k m n rows names p → length rows ≡ 8 * n

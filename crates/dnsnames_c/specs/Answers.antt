@@ -1,5 +1,5 @@
 -- What the calls return, and what they leave in the caller's buffers.
-use Rattle.std.specs.Prelude.{◌≡◌, ◌⊎◌, ℕ, zero, suc, ◌+◌, ◌≤◌, ◌<◌, List, ◌++◌, length, take, drop}
+use Rattle.std.specs.Prelude.{◌≡◌, ◌⊎◌, ℕ, zero, suc, ◌≤◌, ◌<◌, List, length}
 use Rattle.std.specs.Str.{chars, IsUtf8}
 use Rattle.domain_label.specs.Wire.{wire, IsAbsoluteWire, IsRelativeWire}
 use Rattle.domain_label.specs.Text.{text_with_final_dot, displayed}
@@ -11,35 +11,40 @@ use Rattle.domain_flat.specs.declared.error.RelativeNameErrorKind.{RelativeNameE
 use Rattle.domain_reading.specs.Grammar.{Names, EncodingEnds, IsContiguous}
 use Rattle.domain_reading.specs.Faults.{NameFaultAt, Skips, SkipFault}
 use Rattle.domain_reading.specs.declared.fault.NameFault.{NameFault}
+use Rattle.domain_buffer.specs.Puts.{PutsAt}
 use Rattle.dnsnames_c.specs.Status.{fault_number, absolute_number, relative_number, text_number}
-
--- The octets are in the buffer from p on, and what was before and after them is unchanged.
-abbrev pub PutsAt : ℕ → List ℕ → List ℕ → List ℕ → Type 0
-PutsAt p octets old new = new ≡ take p old ++ octets ++ drop (p + length octets) old
 
 -- The number of octets was given. They were put into the buffer (0), or they don't fit and it is unchanged (8).
 abbrev pub Gives : List ℕ → ℕ → List ℕ → List ℕ → ℕ → Type 0
 Gives octets status old new len =
-    (len ≡ length octets) × (((status ≡ 0) × (length octets ≤ length old) × PutsAt 0 octets old new) ⊎ ((status ≡ 8) × (length old < length octets) × (new ≡ old)))
+    (len ≡ length octets) × (((status ≡ 0) × (length octets ≤ length old) × PutsAt 0 octets old new)
+    ⊎ ((status ≡ 8) × (length old < length octets) × (new ≡ old)))
 
 -- The octets o are the wire format of an absolute name (0), or have the fault with this number.
 abbrev pub ChecksAbsolute : List ℕ → ℕ → Type 0
-ChecksAbsolute o status = ((status ≡ 0) × IsAbsoluteWire o) ⊎ ((kind : NameErrorKind) × AbsoluteFault o kind × (status ≡ absolute_number kind))
+ChecksAbsolute o status =
+    ((status ≡ 0) × IsAbsoluteWire o) ⊎ ((kind : NameErrorKind) × AbsoluteFault o kind
+    × (status ≡ absolute_number kind))
 
 -- The octets o are the wire format of a relative name (0), or have the fault with this number.
 abbrev pub ChecksRelative : List ℕ → ℕ → Type 0
-ChecksRelative o status = ((status ≡ 0) × IsRelativeWire o) ⊎ ((kind : RelativeNameErrorKind) × RelativeFault o kind × (status ≡ relative_number kind))
+ChecksRelative o status =
+    ((status ≡ 0) × IsRelativeWire o) ⊎ ((kind : RelativeNameErrorKind) × RelativeFault o kind
+    × (status ≡ relative_number kind))
 
 -- 0 where the name at p in m is uncompressed from its first label on, otherwise 1.
 abbrev pub CompressedNumber : List ℕ → ℕ → ℕ → Type 0
-CompressedNumber m p compressed = ((compressed ≡ 0) × IsContiguous m p) ⊎ ((compressed ≡ 1) × (IsContiguous m p → ⊥))
+CompressedNumber m p compressed =
+    ((compressed ≡ 0) × IsContiguous m p) ⊎ ((compressed ≡ 1) × (IsContiguous m p → ⊥))
 
 -- The name at p in m, through at most n pointers, was given, with the offset after its root or first pointer and whether
 -- it is compressed (RFC 1035, 4.1.4); or there is none, the number is that of its fault, and nothing changed.
 abbrev pub ReadsName : ℕ → List ℕ → ℕ → ℕ → List ℕ → List ℕ → ℕ → ℕ → ℕ → ℕ → ℕ → ℕ → Type 0
 ReadsName n m p status old new old_len len old_end end old_compressed compressed =
-    ((ls : List (List ℕ)) × Names n m p ls × EncodingEnds m p end × CompressedNumber m p compressed × Gives (wire ls) status old new len)
-    ⊎ ((f : NameFault) × NameFaultAt n m p f × (status ≡ fault_number f) × (new ≡ old) × (len ≡ old_len) × (end ≡ old_end) × (compressed ≡ old_compressed))
+    ((ls : List (List ℕ)) × Names n m p ls × EncodingEnds m p end × CompressedNumber m p compressed
+    × Gives (wire ls) status old new len)
+    ⊎ ((f : NameFault) × NameFaultAt n m p f × (status ≡ fault_number f) × (new ≡ old)
+    × (len ≡ old_len) × (end ≡ old_end) × (compressed ≡ old_compressed))
 
 -- The offset after the root or first pointer of the name at p in m was given (0); or the number is that of the fault, and
 -- nothing changed.
@@ -52,8 +57,10 @@ ReturnsEnd m p status old new =
 -- and nothing changed. A text that isn't UTF-8 has the number of a character that is no octet (12).
 abbrev pub ReadsText : List ℕ → ℕ → List ℕ → List ℕ → ℕ → ℕ → Type 0
 ReadsText t status old new old_len len =
-    (IsUtf8 t × (ls : List (List ℕ)) × IsTextOfName (chars t) ls × Gives (wire ls) status old new len)
-    ⊎ (IsUtf8 t × (f : TextFault) × IsTextOfNoName (chars t) f × (status ≡ text_number f) × (new ≡ old) × (len ≡ old_len))
+    (IsUtf8 t × (ls : List (List ℕ)) × IsTextOfName (chars t) ls
+    × Gives (wire ls) status old new len)
+    ⊎ (IsUtf8 t × (f : TextFault) × IsTextOfNoName (chars t) f × (status ≡ text_number f)
+    × (new ≡ old) × (len ≡ old_len))
     ⊎ ((IsUtf8 t → ⊥) × (status ≡ 12) × (new ≡ old) × (len ≡ old_len))
 
 -- These octets, made of the name o, were given; or o is no absolute name (9), and nothing changed.

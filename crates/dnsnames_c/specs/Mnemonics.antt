@@ -18,5 +18,6 @@ response_text n = text_of response_rows (codes "RCODE") n
 abbrev pub GivesNumber : List Row → List ℕ → ℕ → List ℕ → ℕ → ℕ → ℕ → Type 0
 GivesNumber rows word bound t status old new =
     ((status ≡ 0) × IsUtf8 t × Named rows word t (Some new) × (new < bound))
-    ⊎ ((status ≡ 22) × IsUtf8 t × (named : Option ℕ) × Named rows word t named × IfSome named (λ n. bound ≤ n) × (new ≡ old))
+    ⊎ ((status ≡ 22) × IsUtf8 t × (named : Option ℕ) × Named rows word t named
+    × IfSome named (λ n. bound ≤ n) × (new ≡ old))
     ⊎ ((status ≡ 22) × (IsUtf8 t → ⊥) × (new ≡ old))

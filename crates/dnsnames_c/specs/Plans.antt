@@ -1,58 +1,30 @@
 -- How a name is to be written with compression (RFC 1035, 4.1.4), and what writing it leaves.
-use Rattle.std.specs.Prelude.{◌≡◌, ◌⊎◌, ℕ, ◌+◌, ◌≤◌, ◌<◌, List, ◌++◌, length, take, drop}
-use Rattle.std.specs.List.{All}
-use Rattle.domain_label.specs.Wire.{labels_in, IsWire, IsAbsoluteWire}
-use Rattle.domain_compress.specs.Compressing.{Compresses, remembered_from}
-use Rattle.domain_compress.specs.Planned.{remembered_in_table, offsets, WritesPointer, WritesFlat}
-use Rattle.dnsnames_c.specs.Answers.{PutsAt}
-
--- At most 128 offsets to which a pointer can lead.
-abbrev pub IsTable : List ℕ → Type 0
-IsTable table = (length table ≤ 128) × All (λ p. p < 16384) table
+use Rattle.std.specs.Prelude.{◌≡◌, ◌⊎◌, ℕ, ◌≤◌, ◌<◌, List, length, take, drop}
+use Rattle.domain_label.specs.Wire.{labels_in, IsAbsoluteWire}
+use Rattle.domain_compress.specs.Planned.{remembered_in_table, WritesPointer, WritesFlat}
+use Rattle.domain_buffer.specs.Plans.{IsTable, WritesName, HasNoRoom, more_of_table}
 
 -- The name is to be written with a pointer (0) or without one (17); or the table is no table (16), or the name is no
 -- absolute name (9). With any number but 0 nothing changed.
 abbrev pub Plans : List ℕ → List ℕ → List ℕ → ℕ → ℕ → ℕ → ℕ → ℕ → Type 0
 Plans t table name status old_begin begin old_offset offset =
-    ((status ≡ 0) × IsTable table × IsAbsoluteWire name × WritesPointer t (remembered_in_table table) name begin offset)
-    ⊎ ((status ≡ 17) × IsTable table × IsAbsoluteWire name × WritesFlat t (remembered_in_table table) name × (begin ≡ old_begin) × (offset ≡ old_offset))
+    ((status ≡ 0) × IsTable table × IsAbsoluteWire name
+    × WritesPointer t (remembered_in_table table) name begin offset)
+    ⊎ ((status ≡ 17) × IsTable table × IsAbsoluteWire name
+    × WritesFlat t (remembered_in_table table) name × (begin ≡ old_begin)
+    × (offset ≡ old_offset))
     ⊎ ((status ≡ 16) × (IsTable table → ⊥) × (begin ≡ old_begin) × (offset ≡ old_offset))
-    ⊎ ((status ≡ 9) × IsTable table × (IsAbsoluteWire name → ⊥) × (begin ≡ old_begin) × (offset ≡ old_offset))
-
--- After t these octets are to be written for the name: its labels up to begin, and a pointer where begin isn't its end.
-pub record Spells (t table name : List ℕ) (begin : ℕ) (octets : List ℕ) : Type 0 where
-  pub compresses : Compresses t (remembered_in_table table) (labels_in name) (labels_in (take begin name)) octets
-  pub wire_form : IsWire (take begin name)
-  pub inside : begin ≤ length name
-
--- After the first octets of o, up to start, the name was written: its labels up to begin, and a pointer where begin isn't
--- its end. What was written ends at end, and the octets after it are unchanged.
-pub record WritesName (o : List ℕ) (start : ℕ) (table name : List ℕ) (begin end : ℕ) (o' : List ℕ) : Type 0 where
-  pub octets : List ℕ
-  pub compresses : Compresses (take start o) (remembered_in_table table) (labels_in name) (labels_in (take begin name)) octets
-  pub wire_form : IsWire (take begin name)
-  pub inside : begin ≤ length name
-  pub ends : end ≡ start + length octets
-  pub fits : end ≤ length o
-  pub puts : PutsAt start octets o o'
-
--- What is to be written for the name after the first octets of o, up to start, ends past o.
-pub record HasNoRoom (o : List ℕ) (start : ℕ) (table name : List ℕ) : Type 0 where
-  pub labels : List (List ℕ)
-  pub octets : List ℕ
-  pub compresses : Compresses (take start o) (remembered_in_table table) (labels_in name) labels octets
-  pub long : length o < start + length octets
-
--- The table, and the offsets of these labels, written from start on, up to 128 in all and as many as there is room for.
-abbrev pub more_of_table : ℕ → List ℕ → ℕ → List (List ℕ) → List ℕ
-more_of_table room table start labels = take room (take 128 (table ++ offsets (remembered_from start start labels)))
+    ⊎ ((status ≡ 9) × IsTable table × (IsAbsoluteWire name → ⊥) × (begin ≡ old_begin)
+    × (offset ≡ old_offset))
 
 -- The name was written after the first octets, and the offsets of its labels were added after the first offsets.
-pub record AppendsName (o : List ℕ) (len : ℕ) (table : List ℕ) (count : ℕ) (name : List ℕ) (o' : List ℕ) (len' : ℕ) (table' : List ℕ) (count' : ℕ) : Type 0 where
+pub record AppendsName (o : List ℕ) (len : ℕ) (table : List ℕ) (count : ℕ) (name : List ℕ)
+    (o' : List ℕ) (len' : ℕ) (table' : List ℕ) (count' : ℕ) : Type 0 where
   pub begin : ℕ
   pub writes : WritesName o len (take count table) name begin len' o'
   pub fits : count' ≤ length table
-  pub offsets : take count' table' ≡ more_of_table (length table) (take count table) len (labels_in (take begin name))
+  pub offsets : take count' table' ≡ more_of_table (length table) (take count table) len
+      (labels_in (take begin name))
   pub rest : drop count' table' ≡ drop count' table
 
 -- Why a name isn't written: a length is too large (20), the table is no table (16), the name is no absolute name (9) or
@@ -61,11 +33,15 @@ abbrev pub RefusesName : List ℕ → ℕ → List ℕ → ℕ → List ℕ → 
 RefusesName o len table count name status =
     ((status ≡ 20) × ((length o < len) ⊎ (length table < count)))
     ⊎ ((status ≡ 16) × (len ≤ length o) × (count ≤ length table) × (IsTable (take count table) → ⊥))
-    ⊎ ((status ≡ 9) × (len ≤ length o) × (count ≤ length table) × IsTable (take count table) × (IsAbsoluteWire name → ⊥))
-    ⊎ ((status ≡ 8) × (len ≤ length o) × (count ≤ length table) × IsTable (take count table) × IsAbsoluteWire name × HasNoRoom o len (take count table) name)
+    ⊎ ((status ≡ 9) × (len ≤ length o) × (count ≤ length table) × IsTable (take count table)
+    × (IsAbsoluteWire name → ⊥))
+    ⊎ ((status ≡ 8) × (len ≤ length o) × (count ≤ length table) × IsTable (take count table)
+    × IsAbsoluteWire name × HasNoRoom o len (take count table) name)
 
 -- The name was written (0); or it wasn't, and nothing changed.
 abbrev pub Appends : List ℕ → ℕ → List ℕ → ℕ → List ℕ → ℕ → List ℕ → ℕ → List ℕ → ℕ → Type 0
 Appends o len table count name status o' len' table' count' =
-    ((status ≡ 0) × (len ≤ length o) × (count ≤ length table) × IsTable (take count table) × IsAbsoluteWire name × AppendsName o len table count name o' len' table' count')
-    ⊎ (RefusesName o len table count name status × (o' ≡ o) × (len' ≡ len) × (table' ≡ table) × (count' ≡ count))
+    ((status ≡ 0) × (len ≤ length o) × (count ≤ length table) × IsTable (take count table)
+    × IsAbsoluteWire name × AppendsName o len table count name o' len' table' count')
+    ⊎ (RefusesName o len table count name status × (o' ≡ o) × (len' ≡ len) × (table' ≡ table)
+    × (count' ≡ count))

@@ -23,17 +23,21 @@ text_number len why capacity = cond (nat_lt capacity len) 8 (end_number why)
 
 -- The text is in the buffer, as far as it fits, and its size was given.
 abbrev pub GivesText : List ℕ → Option ParseError → ℕ → List ℕ → List ℕ → ℕ → Type 0
-GivesText text why status old new len = Holds old text new len × (status ≡ text_number len why (length old))
+GivesText text why status old new len =
+    Holds old text new len × (status ≡ text_number len why (length old))
 
 -- The text that shows the message was given; or it wasn't made (29).
 abbrev pub GivesMessageText : List ℕ → ℕ → List ℕ → List ℕ → ℕ → ℕ → Type 0
 GivesMessageText m status old new old_len len =
-    ((why : Option ParseError) × (text : List ℕ) × IsTextOf m why text × GivesText text why status old new len)
+    ((why : Option ParseError) × (text : List ℕ) × IsTextOf m why text
+    × GivesText text why status old new len)
     ⊎ ((status ≡ 29) × (len ≡ old_len))
 
 -- The line of the record at p was given; or there is none, and nothing changed; or it wasn't made (29).
 abbrev pub GivesRecordText : List ℕ → ℕ → ℕ → List ℕ → List ℕ → ℕ → ℕ → Type 0
 GivesRecordText m p status old new old_len len =
-    ((it : RecordFields) × (end : ℕ) × (line : List ℕ) × RecordAt m p it end × IsRecordLine it line × GivesText (line ++ 10 ∷ []) None status old new len)
-    ⊎ ((why : ParseError) × NoRecord m p why × (status ≡ error_number why) × (new ≡ old) × (len ≡ old_len))
+    ((it : RecordFields) × (end : ℕ) × (line : List ℕ) × RecordAt m p it end × IsRecordLine it line
+    × GivesText (line ++ 10 ∷ []) None status old new len)
+    ⊎ ((why : ParseError) × NoRecord m p why × (status ≡ error_number why) × (new ≡ old)
+    × (len ≡ old_len))
     ⊎ ((status ≡ 29) × (len ≡ old_len))

@@ -8,6 +8,11 @@ use Rattle.dnsnames_c.specs.Status.{data_number}
 -- or no string comes there, and nothing changed.
 abbrev pub GivesDataString : List ℕ → ℕ → ℕ → ℕ → ℕ → ℕ → ℕ → ℕ → ℕ → ℕ → ℕ → Type 0
 GivesDataString message p data_len rtype status old_passed passed old_string string old_len len =
-    ((status ≡ 0) × (s : List ℕ) × HasString message p data_len rtype old_passed s × (string ≡ p + old_passed + 1) × (len ≡ length s) × (passed ≡ old_passed + 1 + length s))
-    ⊎ ((status ≡ 27) × NoStringLeft message p data_len rtype old_passed × (passed ≡ old_passed) × (string ≡ old_string) × (len ≡ old_len))
-    ⊎ ((why : DataFault) × LacksString message p data_len rtype old_passed why × (status ≡ data_number why) × (passed ≡ old_passed) × (string ≡ old_string) × (len ≡ old_len))
+    ((status ≡ 0) × (s : List ℕ) × HasString message p data_len rtype old_passed s
+    × (string ≡ p + old_passed + 1) × (len ≡ length s)
+    × (passed ≡ old_passed + 1 + length s))
+    ⊎ ((status ≡ 27) × NoStringLeft message p data_len rtype old_passed × (passed ≡ old_passed)
+    × (string ≡ old_string) × (len ≡ old_len))
+    ⊎ ((why : DataFault) × LacksString message p data_len rtype old_passed why
+    × (status ≡ data_number why) × (passed ≡ old_passed) × (string ≡ old_string)
+    × (len ≡ old_len))

@@ -1,32 +1,31 @@
 -- Tables of all that a message has: a row of numbers for each question and record, and their names (RFC 1035, 4.1). `m` is
 -- the message: the list of its octets.
-use Rattle.std.specs.Prelude.{◌≡◌, ◌⊎◌, ℕ, suc, ◌+◌, ◌*◌, ◌^◌, ◌≤◌, ◌<◌, List, [], ◌∷◌, ◌++◌, length}
+use Rattle.std.specs.Prelude.{◌≡◌, ◌⊎◌, ℕ, true, false, suc, ◌+◌, ◌*◌, ◌^◌, ◌≤◌, ◌<◌, List, [], ◌∷◌, ◌++◌, length}
 use Rattle.domain_label.specs.Wire.{wire}
 use Rattle.domain_reading.specs.Grammar.{Names}
 use Rattle.domain_reading.specs.Faults.{NameFaultAt}
 use Rattle.domain_reading.specs.declared.fault.NameFault.{NameFault}
-use Rattle.dnsnames_c.specs.Answers.{PutsAt}
-use Rattle.dnsnames_c.specs.Messages.{number_16, EndsShort, QuestionPartsAt, RecordPartsAt, NoRecordParts}
+use Rattle.domain_buffer.specs.Puts.{PutsAt}
+use Rattle.domain_header.specs.Numbers.{number16}
+use Rattle.dnsnames_c.specs.Messages.{EntryAt, NoEntryAt}
 use Rattle.dnsnames_c.specs.Status.{fault_number}
-use Rattle.dnsnames_c.specs.declared.message.Parts.{Parts}
+use Rattle.domain_offsets.specs.declared.entry.Parts.{Parts}
 use Rattle.dnsnames_c.specs.declared.table.Taken.{Taken}
 
 -- how many questions and records the header counts, in all sections
 abbrev pub entry_count : List ℕ → ℕ
-entry_count m = number_16 m 4 + number_16 m 6 + number_16 m 8 + number_16 m 10
+entry_count m = number16 m 4 + number16 m 6 + number16 m 8 + number16 m 10
 
--- The entry with n entries before it is at p: as long as the header counts questions a question, and then a record. A
--- question has no time to live and no data: these are 0, and no octets at its end.
+-- The entry with n entries before it is at p: as long as the header counts questions a question, and then a record.
 abbrev pub PartsAt : List ℕ → ℕ → ℕ → Parts → Type 0
 PartsAt m n p it =
-    ((n < number_16 m 4) × QuestionPartsAt m p it.rtype it.class it.end × (it.ttl ≡ 0) × (it.data_at ≡ it.end) × (it.data_len ≡ 0))
-    ⊎ ((number_16 m 4 ≤ n) × RecordPartsAt m p it.rtype it.class it.ttl it.data_at it.data_len it.end)
+    ((n < number16 m 4) × EntryAt m true p it) ⊎ ((number16 m 4 ≤ n) × EntryAt m false p it)
 
 -- No such entry is at p, and this is the number of the fault.
 abbrev pub NoPartsAt : List ℕ → ℕ → ℕ → ℕ → Type 0
 NoPartsAt m n p status =
-    ((n < number_16 m 4) × EndsShort m p 4 status)
-    ⊎ ((number_16 m 4 ≤ n) × NoRecordParts m p status)
+    ((n < number16 m 4) × NoEntryAt m true p status)
+    ⊎ ((number16 m 4 ≤ n) × NoEntryAt m false p status)
 
 -- The row of an entry whose name has so many octets, from an offset on in the buffer of names.
 abbrev pub row : ℕ → ℕ → Parts → List ℕ
@@ -36,17 +35,26 @@ row at len it = at ∷ len ∷ it.rtype ∷ it.class ∷ it.ttl ∷ it.data_at �
 -- names, one after the other, and the next entry is at p.
 pub data Tabled (k : ℕ) (m : List ℕ) : ℕ → List ℕ → List ℕ → ℕ → Type 0 where
   header : 12 ≤ length m → Tabled k m 0 [] [] 12
-  entry : {n p : ℕ} {rows names : List ℕ} {ls : List (List ℕ)} {it : Parts} → Tabled k m n rows names p → n < entry_count m → Names k m p ls → PartsAt m n p it → Tabled k m (suc n) (rows ++ row (length names) (length (wire ls)) it) (names ++ wire ls) it.end
+  entry : {n p : ℕ} {rows names : List ℕ} {ls : List (List ℕ)} {it : Parts}
+      → Tabled k m n rows names p → n < entry_count m → Names k m p ls → PartsAt m n p it
+      → Tabled k m (suc n) (rows ++ row (length names) (length (wire ls)) it)
+      (names ++ wire ls) it.end
 
 -- The entry at p, with n before it, can't be put after them, and this is the number of the reason: no name is there, or no
 -- such entry, or its row doesn't fit, or its name doesn't.
-pub data NotTaken (k : ℕ) (m : List ℕ) (n p rows_room names_len names_room status : ℕ) : Type 0 where
-  no_name : {f : NameFault} → NameFaultAt k m p f → status ≡ fault_number f → NotTaken k m n p rows_room names_len names_room status
-  no_parts : {ls : List (List ℕ)} → Names k m p ls → NoPartsAt m n p status → NotTaken k m n p rows_room names_len names_room status
-  no_room : {ls : List (List ℕ)} {it : Parts} → Names k m p ls → PartsAt m n p it → (rows_room < 8 * n + 8) ⊎ (names_room < names_len + length (wire ls)) → status ≡ 8 → NotTaken k m n p rows_room names_len names_room status
+pub data NotTaken (k : ℕ) (m : List ℕ) (n p rows_room names_len names_room status : ℕ) : Type
+    0 where
+  no_name : {f : NameFault} → NameFaultAt k m p f → status ≡ fault_number f
+      → NotTaken k m n p rows_room names_len names_room status
+  no_parts : {ls : List (List ℕ)} → Names k m p ls → NoPartsAt m n p status
+      → NotTaken k m n p rows_room names_len names_room status
+  no_room : {ls : List (List ℕ)} {it : Parts} → Names k m p ls → PartsAt m n p it
+      → (rows_room < 8 * n + 8) ⊎ (names_room < names_len + length (wire ls)) → status ≡ 8
+      → NotTaken k m n p rows_room names_len names_room status
 
 -- The next entry was put after those that were taken.
-pub record Takes (k : ℕ) (m : List ℕ) (old : Taken) (old_rows rows old_names names : List ℕ) (new : Taken) : Type 0 where
+pub record Takes (k : ℕ) (m : List ℕ) (old : Taken) (old_rows rows old_names names : List ℕ)
+    (new : Taken) : Type 0 where
   pub labels : List (List ℕ)
   pub parts : Parts
   pub name : Names k m old.offset labels
@@ -60,7 +68,8 @@ pub record Takes (k : ℕ) (m : List ℕ) (old : Taken) (old_rows rows old_names
   pub name_put : PutsAt old.names (wire labels) old_names names
 
 -- The first n entries were put into rows and names, and nothing else there was changed.
-pub record Holds (k : ℕ) (m : List ℕ) (n p len : ℕ) (old_rows rows old_names names : List ℕ) : Type 0 where
+pub record Holds (k : ℕ) (m : List ℕ) (n p len : ℕ)
+    (old_rows rows old_names names : List ℕ) : Type 0 where
   pub numbers : List ℕ
   pub octets : List ℕ
   pub tabled : Tabled k m n numbers octets p
@@ -75,7 +84,13 @@ Stops k m n p rows_room names_len names_room status =
     ⊎ ((n < entry_count m) × NotTaken k m n p rows_room names_len names_room status)
 
 -- The table of the message was written, as far as its entries are there and fit.
-pub data Tables (k : ℕ) (m : List ℕ) (status : ℕ) (old_rows rows old_names names : List ℕ) (count len : ℕ) : Type 0 where
-  no_header : length m < 12 → status ≡ 1 → count ≡ 0 → len ≡ 0 → rows ≡ old_rows → names ≡ old_names → Tables k m status old_rows rows old_names names count len
-  too_long : 2 ^ 32 ≤ length m → status ≡ 8 → count ≡ 0 → len ≡ 0 → rows ≡ old_rows → names ≡ old_names → Tables k m status old_rows rows old_names names count len
-  entries : {p : ℕ} → 12 ≤ length m → length m < 2 ^ 32 → Holds k m count p len old_rows rows old_names names → Stops k m count p (length old_rows) len (length old_names) status → Tables k m status old_rows rows old_names names count len
+pub data Tables (k : ℕ) (m : List ℕ) (status : ℕ) (old_rows rows old_names names : List ℕ)
+    (count len : ℕ) : Type 0 where
+  no_header : length m < 12 → status ≡ 1 → count ≡ 0 → len ≡ 0 → rows ≡ old_rows → names ≡ old_names
+      → Tables k m status old_rows rows old_names names count len
+  too_long : 2 ^ 32 ≤ length m → status ≡ 8 → count ≡ 0 → len ≡ 0 → rows ≡ old_rows
+      → names ≡ old_names → Tables k m status old_rows rows old_names names count len
+  entries : {p : ℕ} → 12 ≤ length m → length m < 2 ^ 32
+      → Holds k m count p len old_rows rows old_names names
+      → Stops k m count p (length old_rows) len (length old_names) status
+      → Tables k m status old_rows rows old_names names count len

@@ -1,83 +1,12 @@
 //! The header of a message, its questions and its records (RFC 1035, 4.1).
-ghost use Rattle.std.specs.Prelude.{◌≡◌, ◌≢◌, ◌<◌, ◌≤◌, ◌+◌, ◌⊎◌, length, IfSome, IfNone, true, false};
-ghost use Rattle.dnsnames_c.specs.Messages.{number_16, number_32, HasParts, LacksParts, GivesQuestionParts, GivesRecordParts};
+ghost use Rattle.std.specs.Prelude.{◌≡◌, ◌≢◌, ◌<◌, ◌≤◌, ◌⊎◌, length};
+ghost use Rattle.domain_header.specs.Numbers.{number16};
+ghost use Rattle.dnsnames_c.specs.Messages.{GivesQuestionParts, GivesRecordParts};
 
 use crate::read::number_of;
+use domain_header::numbers::number_of_16_bits;
+use domain_offsets::entry::{question_after, record_after};
 use domain_reading::uncounted::encoding_end;
-
-/// The two octets at an offset as a number, the high one first.
-pub(crate) fn number_of_16_bits(message: &[u8], offset: usize) -> u16
-    requires { offset + 2 ≤ length message.now }
-    ensures { result ≡ number_16 message.now offset }
-{
-    u16::from(message[offset]) * 256 + u16::from(message[offset + 1])
-}
-
-/// The four octets at an offset as a number, the high one first.
-fn number_of_32_bits(message: &[u8], offset: usize) -> u32
-    requires { offset + 4 ≤ length message.now }
-    ensures { result ≡ number_32 message.now offset }
-{
-    let high = u32::from(number_of_16_bits(message, offset));
-    let low = u32::from(number_of_16_bits(message, offset + 2));
-    high * 65536 + low
-}
-
-/// What follows the name of a question or a record, and the offset after that. A question has no time to live and no data:
-/// these are 0, and no octets at its end.
-#[derive(Clone, Copy)]
-pub(crate) struct Parts {
-    pub(crate) rtype: u16,
-    pub(crate) class: u16,
-    pub(crate) ttl: u32,
-    pub(crate) data_at: usize,
-    pub(crate) data_len: usize,
-    pub(crate) end: usize,
-}
-
-/// What follows the name of a question that ends before `after` (RFC 1035, 4.1.2): nothing where the message ends in it.
-pub(crate) fn question_after(message: &[u8], after: usize) -> Option<Parts>
-    requires { after ≤ length message.now }
-    ensures some { IfSome result (HasParts message.now true after) }
-    ensures none { IfNone result (LacksParts message.now true after) }
-{
-    if message.len() - after < 4 {
-        return None;
-    }
-    Some(Parts {
-        rtype: number_of_16_bits(message, after),
-        class: number_of_16_bits(message, after + 2),
-        ttl: 0,
-        data_at: after + 4,
-        data_len: 0,
-        end: after + 4,
-    })
-}
-
-/// What follows the name of a record that ends before `after` (RFC 1035, 4.1.3): nothing where the message ends in it or in
-/// the data.
-pub(crate) fn record_after(message: &[u8], after: usize) -> Option<Parts>
-    requires { after ≤ length message.now }
-    ensures some { IfSome result (HasParts message.now false after) }
-    ensures none { IfNone result (LacksParts message.now false after) }
-{
-    if message.len() - after < 10 {
-        return None;
-    }
-    let data_len = usize::from(number_of_16_bits(message, after + 8));
-    let data_at = after + 10;
-    if message.len() - data_at < data_len {
-        return None;
-    }
-    Some(Parts {
-        rtype: number_of_16_bits(message, after),
-        class: number_of_16_bits(message, after + 2),
-        ttl: number_of_32_bits(message, after + 4),
-        data_at,
-        data_len,
-        end: data_at + data_len,
-    })
-}
 
 /// The twelve octets that a message begins with, as six numbers (RFC 1035, 4.1.1): its identifier, its flags, and how many
 /// questions, answers, records of authority and further records it says to have. 1 where it has fewer: nothing is changed.
@@ -93,12 +22,12 @@ pub extern "C" fn dnsnames_header(
 ) -> u32
     ensures status { ((result ≡ 0) × (12 ≤ length message.now))
         ⊎ ((result ≡ 1) × (length message.now < 12)) }
-    ensures id { result ≡ 0 → id.new ≡ number_16 message.now 0 }
-    ensures flags { result ≡ 0 → flags.new ≡ number_16 message.now 2 }
-    ensures questions { result ≡ 0 → questions.new ≡ number_16 message.now 4 }
-    ensures answers { result ≡ 0 → answers.new ≡ number_16 message.now 6 }
-    ensures authority { result ≡ 0 → authority.new ≡ number_16 message.now 8 }
-    ensures additional { result ≡ 0 → additional.new ≡ number_16 message.now 10 }
+    ensures id { result ≡ 0 → id.new ≡ number16 message.now 0 }
+    ensures flags { result ≡ 0 → flags.new ≡ number16 message.now 2 }
+    ensures questions { result ≡ 0 → questions.new ≡ number16 message.now 4 }
+    ensures answers { result ≡ 0 → answers.new ≡ number16 message.now 6 }
+    ensures authority { result ≡ 0 → authority.new ≡ number16 message.now 8 }
+    ensures additional { result ≡ 0 → additional.new ≡ number16 message.now 10 }
     ensures err { result ≢ 0 →
         (id.new ≡ id.old) × (flags.new ≡ flags.old) × (questions.new ≡ questions.old)
         × (answers.new ≡ answers.old) × (authority.new ≡ authority.old)

@@ -1,12 +1,13 @@
 //! All questions and records of a message in one call (RFC 1035, 4.1).
-ghost use Rattle.std.specs.Prelude.{◌≡◌, ◌≤◌, ◌<◌, ◌+◌, ◌*◌, ◌^◌, ◌↔◌, length, IsTrue, IfOk, IfErr, OnErr, IfSome, IfNone};
-ghost use Rattle.dnsnames_c.specs.Messages.{number_16, HasParts, LacksParts};
-ghost use Rattle.dnsnames_c.specs.Answers.{PutsAt};
+ghost use Rattle.std.specs.Prelude.{◌≡◌, ◌≤◌, ◌<◌, ◌+◌, ◌*◌, ◌^◌, ◌↔◌, length, IsTrue, IfOk, IfErr, OnErr};
+ghost use Rattle.domain_header.specs.Numbers.{number16};
+ghost use Rattle.domain_buffer.specs.Puts.{PutsAt};
 ghost use Rattle.dnsnames_c.specs.Tables.{row, Takes, NotTaken, Holds, Stops, Tables};
 
-use crate::message::{Parts, number_of_16_bits, question_after, record_after};
-use crate::put::place;
 use crate::read::{number_of, read_into};
+use domain_buffer::put::place;
+use domain_header::numbers::number_of_16_bits;
+use domain_offsets::entry::{Parts, parts_after};
 
 /// How many entries were taken, how many octets their names have, and the offset of the next entry in the message.
 #[derive(Clone, Copy)]
@@ -53,19 +54,6 @@ fn place_row(numbers: [u32; 8], rows: &mut [u32], count: usize)
     rows[at..at + 8].copy_from_slice(&numbers);
 }
 
-/// What follows the name of a question or of a record.
-fn parts_after(message: &[u8], after: usize, is_question: bool) -> Option<Parts>
-    requires { after ≤ length message.now }
-    ensures some { IfSome result (HasParts message.now is_question after) }
-    ensures none { IfNone result (LacksParts message.now is_question after) }
-{
-    if is_question {
-        question_after(message, after)
-    } else {
-        record_after(message, after)
-    }
-}
-
 /// Puts the row and the name of the next entry after those that were taken, or nothing: then the number tells why.
 fn take_entry(
     message: &[u8],
@@ -76,7 +64,7 @@ fn take_entry(
     names: &mut [u8],
 ) -> Result<Taken, u32>
     requires small { length message.now < 2 ^ 32 }
-    requires question { IsTrue is_question ↔ (taken.count < number_16 message.now 4) }
+    requires question { IsTrue is_question ↔ (taken.count < number16 message.now 4) }
     requires few { taken.count < 262140 }
     requires short { taken.names ≤ 255 * taken.count }
     requires rows { 8 * taken.count ≤ length rows.old }

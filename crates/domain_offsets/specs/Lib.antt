@@ -1,3 +1,4 @@
+pub mod Entries
 pub mod Shapes
 pub mod Names
 pub mod Numbers

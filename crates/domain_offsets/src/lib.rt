@@ -5,6 +5,7 @@
 #![tactic(auto)]
 
 pub mod address;
+pub mod entry;
 pub mod fault;
 pub mod name;
 pub mod number;
@@ -13,6 +14,7 @@ pub mod shape;
 pub mod string;
 
 pub use address::address_in;
+pub use entry::{Parts, parts_after, question_after, record_after};
 pub use fault::DataFault;
 pub use name::name_in;
 pub use number::number_in;

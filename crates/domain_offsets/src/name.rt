@@ -1,5 +1,5 @@
 //! Names in record data.
-ghost use Rattle.std.specs.Prelude.{◌≡◌, IfOk, IfErr};
+ghost use Rattle.std.specs.Prelude.{IfOk, IfErr};
 ghost use Rattle.domain_offsets.specs.Names.{HasName, LacksName};
 
 use crate::fault::DataFault;

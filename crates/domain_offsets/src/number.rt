@@ -1,6 +1,5 @@
 //! Numbers in record data.
-ghost use Rattle.std.specs.Prelude.{◌≡◌, ◌<◌, ◌≤◌, ◌+◌, ◌*◌, length, IfOk, IfErr};
-ghost use Rattle.domain_offsets.specs.Shapes.{FitsShape};
+ghost use Rattle.std.specs.Prelude.{◌<◌, ◌≤◌, ◌+◌, ◌*◌, length, IfOk, IfErr};
 ghost use Rattle.domain_offsets.specs.Numbers.{IsNumber, HasNumber, LacksNumber};
 
 use crate::fault::DataFault;

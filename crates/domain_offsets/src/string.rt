@@ -1,5 +1,5 @@
 //! Character strings in record data (RFC 1035, 3.3).
-ghost use Rattle.std.specs.Prelude.{◌≡◌, ◌↔◌, ◌+◌, ◌≤◌, length, IsTrue, IfOk, IfErr, MatchOption};
+ghost use Rattle.std.specs.Prelude.{◌↔◌, ◌+◌, ◌≤◌, length, IsTrue, IfOk, IfErr, MatchOption};
 ghost use Rattle.domain_wire.specs.declared.error.ParseError.TheVariants.{ShortInput};
 ghost use Rattle.domain_strings.specs.CharStrings.{CharStringAt, NoCharString};
 ghost use Rattle.domain_offsets.specs.Texts.{IsOfStrings, NoStringLeft, HasString, LacksString};

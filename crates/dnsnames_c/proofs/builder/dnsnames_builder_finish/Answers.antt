@@ -1,6 +1,6 @@
 use Rattle.std.proofs.Common.{inl, refl}
-use Rattle.dnsnames_c.specs.Builders.{header_of, counts_of}
-use Rattle.dnsnames_c.proofs.Building.{header_put, finishes}
+use Rattle.domain_buffer.specs.Builders.{header_of, counts_of}
+use Rattle.domain_buffer.proofs.Building.{header_put, finishes}
 use Rattle.dnsnames_c.proofs.builder.dnsnames_builder_finish.Goals as goal
 
 pub returns : goal.returns

@@ -1,8 +1,8 @@
 use Rattle.std.proofs.Common.{◌≡◌, ◌∙◌, inl, refl, subst, arith, rules, append-nil}
 use Rattle.domain_label.specs.Wire.{IsAbsoluteWire}
 use Rattle.domain_message_builder.specs.Pushes.{record_count}
-use Rattle.dnsnames_c.specs.Builders.{counts_of, Enters}
-use Rattle.dnsnames_c.proofs.Building.{question_pushed}
+use Rattle.domain_buffer.specs.Builders.{counts_of, Enters}
+use Rattle.domain_buffer.proofs.Building.{question_pushed}
 use Rattle.dnsnames_c.proofs.builder.dnsnames_builder_question.Goals as goal
 
 pub returns : goal.returns

@@ -1,5 +1,5 @@
 use Rattle.std.proofs.Common.{◌+◌, inl, refl, arith}
-use Rattle.dnsnames_c.proofs.Building.{cuts, tc_added, tc_kept}
+use Rattle.domain_buffer.proofs.Building.{cuts, tc_added, tc_kept}
 use Rattle.dnsnames_c.proofs.builder.dnsnames_builder_truncate.Goals as goal
 
 pub returns-then-builder-eq0 : goal.returns-then-builder-eq0

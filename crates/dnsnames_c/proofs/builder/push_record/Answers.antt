@@ -1,9 +1,9 @@
-use Rattle.std.proofs.Common.{◌≡◌, ◌≤◌, ◌+◌, ◌++◌, ◌∙◌, length, inl, refl, ap, subst, arith, append_assoc, length-append}
+use Rattle.std.proofs.Common.{◌≡◌, ◌≤◌, ◌++◌, ◌∙◌, length, inl, refl, ap, subst, arith, append_assoc, length-append}
 use Rattle.std.proofs.lemmas.Bool.{false≢true}
 use Rattle.std.specs.Int.{w16, to_be_bytes}
 use Rattle.domain_record.specs.Composing.{before_length}
-use Rattle.dnsnames_c.specs.Builders.{headed, after_owner, Enters}
-use Rattle.dnsnames_c.proofs.Building.{record_pushed}
+use Rattle.domain_buffer.specs.Builders.{headed, after_owner, Enters}
+use Rattle.domain_buffer.proofs.Building.{record_pushed}
 use Rattle.dnsnames_c.proofs.builder.push_record.Goals as goal
 
 pub returns : goal.returns

@@ -1,7 +1,7 @@
 use Rattle.std.proofs.Common.{◌≡◌, ◌*◌, length, inl, inr, refl, ap, subst, sym, arith, ◌∙◌}
 use Rattle.std.proofs.lemmas.List.{length-take-le}
 use Rattle.domain_label.specs.Wire.{wire}
-use Rattle.dnsnames_c.specs.Answers.{PutsAt}
+use Rattle.domain_buffer.specs.Puts.{PutsAt}
 use Rattle.dnsnames_c.specs.Tables.{row}
 use Rattle.dnsnames_c.specs.Tables.NotTaken.{no_name, no_parts, no_room}
 use Rattle.dnsnames_c.proofs.Tabling.{read_skips, parts_here, no_parts_here}

@@ -1,6 +1,6 @@
 use Rattle.std.proofs.Common.{◌≡◌, ◌+◌, ◌++◌, length, refl, arith, length-append}
-use Rattle.dnsnames_c.proofs.Puts.{puts_both, puts_size}
-use Rattle.dnsnames_c.proofs.builder.place_entry.Goals as goal
+use Rattle.domain_buffer.proofs.Puts.{puts_both, puts_size}
+use Rattle.domain_buffer.proofs.builder.place_entry.Goals as goal
 
 pub returns : goal.returns
 returns c =

@@ -1,6 +1,6 @@
 use Rattle.std.proofs.Common.{◌<◌, ◌≤◌, length}
 use Rattle.std.specs.List.{AllWithin}
-use Rattle.dnsnames_c.proofs.plan.is_table.Given as goal
+use Rattle.domain_buffer.proofs.plan.is_table.Given as goal
 
 abbrev pub invariant-loop-offset : goal.invariant-loop-offset
 invariant-loop-offset l = record {

@@ -1,6 +1,6 @@
 use Rattle.std.proofs.Common.{◌≡◌, ◌+◌, ◌∙◌, length, take, ap, refl, arith}
-use Rattle.dnsnames_c.proofs.Writing.{spells_flat}
-use Rattle.dnsnames_c.proofs.plan.spell.Goals as goal
+use Rattle.domain_buffer.proofs.Writing.{spells_flat}
+use Rattle.domain_buffer.proofs.plan.spell.Goals as goal
 
 pub returns-in-None-clause-spells : goal.returns-in-None-clause-spells
 returns-in-None-clause-spells c =

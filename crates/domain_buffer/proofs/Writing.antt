@@ -5,8 +5,8 @@ use Rattle.domain_label.specs.Wire.{labels_in, IsWire, IsAbsoluteWire}
 use Rattle.domain_label.proofs.WireLaws.{absolute_wire}
 use Rattle.domain_compress.specs.Compressing.{Compresses, pointer_to}
 use Rattle.domain_compress.specs.Planned.{remembered_in_table, WritesPointer, WritesFlat}
-use Rattle.dnsnames_c.specs.Answers.{PutsAt}
-use Rattle.dnsnames_c.specs.Plans.{Spells, WritesName, HasNoRoom}
+use Rattle.domain_buffer.specs.Puts.{PutsAt}
+use Rattle.domain_buffer.specs.Plans.{Spells, WritesName, HasNoRoom}
 
 pub spells_pointer : (t table name : List ℕ) (begin offset : ℕ) (s : List ℕ) → WritesPointer t (remembered_in_table table) name begin offset → s ≡ take begin name ++ pointer_to offset → Spells t table name begin s
 spells_pointer t table name begin offset s w e = record {

@@ -3,7 +3,7 @@ use Rattle.std.proofs.Common.{◌≡◌, ℕ, ◌+◌, ◌≤◌, List, ◌++◌
 use Rattle.std.proofs.lemmas.Grind.{common_steps}
 use Rattle.std.proofs.lemmas.List.{length-take-le}
 use Rattle.std.proofs.lemmas.Slice.{drop-append-drop}
-use Rattle.dnsnames_c.specs.Answers.{PutsAt}
+use Rattle.domain_buffer.specs.Puts.{PutsAt}
 
 -- what the buffer begins with then
 pub puts_take : (p : ℕ) (s o o' : List ℕ) → p + length s ≤ length o → PutsAt p s o o' → take (p + length s) o' ≡ take p o ++ s

@@ -29,11 +29,11 @@ use Rattle.domain_header.specs.Bits.{SetsBits}
 use Rattle.domain_header.specs.Headers.{header_octets, counts_octets}
 use Rattle.domain_header.specs.declared.counts.HeaderCounts.{HeaderCounts}
 use Rattle.domain_header.specs.declared.flags.Header.{Header}
-use Rattle.dnsnames_c.specs.Answers.{PutsAt}
-use Rattle.dnsnames_c.specs.Builders.{state, header_of, starts_of, counts_of, table_of, questioned, counted, entered, asked, after_owner, Exactly, IsUsable, Enters, PushesData}
-use Rattle.dnsnames_c.proofs.Puts.{puts_take, puts_size, puts_first}
-use Rattle.dnsnames_c.specs.Plans.{IsTable, Spells, more_of_table}
-use Rattle.dnsnames_c.specs.declared.builder.Builder.{Builder}
+use Rattle.domain_buffer.specs.Puts.{PutsAt}
+use Rattle.domain_buffer.specs.Builders.{state, header_of, starts_of, counts_of, table_of, questioned, counted, entered, asked, after_owner, Exactly, IsUsable, Enters, PushesData}
+use Rattle.domain_buffer.proofs.Puts.{puts_take, puts_size, puts_first}
+use Rattle.domain_buffer.specs.Plans.{IsTable, Spells, more_of_table}
+use Rattle.domain_buffer.specs.declared.builder.Builder.{Builder}
 
 -- A pointer can lead to offsets below 16,384.
 kept_low : (p : ℕ) (here : RememberedLabel) (ws : List RememberedLabel) → here.at ≡ p → All (λ q. q < 16384) (offsets ws) → All (λ q. q < 16384) (offsets (if nat_lt p 16384 then here ∷ ws else []))
