@@ -1,12 +1,15 @@
 -- The hashes of the labels at the offsets.
-use Rattle.std.proofs.Common.{◌≡◌, ℕ, suc, ◌+◌, ◌≤◌, ◌<◌, length, List, [], ◌∷◌, ◌++◌, take, drop, ◌-◌, Bool, true, false, ◌&&◌, refl, sym, ap, subst, ◌∙◌, arith, slice_index, slice_range, length-append}
+use Rattle.std.proofs.Common.{◌≡◌, ℕ, suc, ◌+◌, ◌≤◌, ◌<◌, nat_le, length, List, [], ◌∷◌, ◌++◌, take, drop, ◌-◌, Bool, true, false, ◌&&◌, refl, sym, ap, subst, ◌∙◌, arith, slice_index, slice_range, length-append}
 use Rattle.std.proofs.lemmas.Grind.{common_steps}
 use Rattle.std.proofs.lemmas.List.{get_or_append_left, drop-take, take-take}
-use Rattle.std.proofs.lemmas.Bool.{false≢true}
-use Rattle.std.proofs.lemmas.List.Elements.{All-push}
+use Rattle.std.proofs.lemmas.Bool.{false≢true, leb-true}
+use Rattle.std.proofs.lemmas.List.Elements.{All-nil, All-cons, All-head, All-tail, All-push, All-take, All-weaker, filter_passes}
 use Rattle.std.proofs.Props.{props}
 use Rattle.std.specs.List.{All}
 use Rattle.domain_compress.specs.declared.written.Written.{Written}
+use Rattle.domain_compress.specs.Compressing.{RememberedLabel, remembered_within}
+use Rattle.domain_compress.specs.Forgetting.{EndsWithin}
+use Rattle.domain_compress.specs.Written.{remembered, all_remembered}
 use Rattle.domain_compress.specs.Ends.{label_hash}
 use Rattle.domain_compress.specs.Hashes.{hash_at, HasHash, IsHashed, IsKnown}
 
@@ -79,3 +82,17 @@ pub known_still : (before after : Bool) (t t' o s : List ℕ) (ws vs : List Writ
 known_still before after t t' o s ws vs all read known kept =
     let whole : t ++ s ≡ o = sym all ∙ sym read in
     subst (λ m. IsKnown after m vs) read (kept (subst (λ m. IsKnown before m ws) whole (known_more before t s ws known)))
+
+all_left : (t : List ℕ) (n : ℕ) (ws : List Written) → All (IsHashed t) ws → All (EndsWithin n) (all_remembered ws) → All (IsHashed (take n t)) ws
+all_left t n [] known inside = All-nil (IsHashed (take n t))
+all_left t n (w ∷ ws) known inside =
+    let here = hash_left t n w.offset w.end w.hash (All-head (EndsWithin n) (remembered w) (all_remembered ws) inside) (All-head (IsHashed t) w ws known) in
+    All-cons (IsHashed (take n t)) w ws here (all_left t n ws (All-tail (IsHashed t) w ws known) (All-tail (EndsWithin n) (remembered w) (all_remembered ws) inside))
+
+-- Where a cut leaves the first ones alone, their hashes stay known.
+pub first_known : (t : List ℕ) (n left : ℕ) (ws vs : List Written) → All (IsHashed t) ws → remembered_within n (all_remembered ws) ≡ all_remembered (take left ws) → vs ≡ take left ws → All (IsHashed (take n t)) vs
+first_known t n left ws vs known kept is =
+    let test : RememberedLabel → Bool = λ w. nat_le w.end n in
+    let passed = All-weaker (λ w. test w ≡ true) (EndsWithin n) (λ w h. leb-true w.end n h) (remembered_within n (all_remembered ws)) (filter_passes test (all_remembered ws)) in
+    let inside : All (EndsWithin n) (all_remembered (take left ws)) = subst (All (EndsWithin n)) kept passed in
+    subst (All (IsHashed (take n t))) (sym is) (all_left t n (take left ws) (All-take (IsHashed t) left ws known) inside)

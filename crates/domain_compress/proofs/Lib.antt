@@ -11,3 +11,5 @@ mod LabelHashes
 pub mod Standing
 mod Planning
 mod Inside
+mod SpelledOut
+mod FirstPlaces

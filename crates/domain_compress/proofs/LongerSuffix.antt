@@ -14,7 +14,7 @@ use Rattle.domain_compress.specs.Written.{remembered, all_remembered, SuffixAt, 
 use Rattle.domain_compress.proofs.ComparedInMessage.{stands_so}
 use Rattle.domain_compress.proofs.Searching.{fewer, shorter}
 
-none_more : (t : List ℕ) (b : List (List ℕ)) (ws vs : List RememberedLabel) → NoneRemembered t ws b → NoneRemembered t vs b → NoneRemembered t (ws ++ vs) b
+pub none_more : (t : List ℕ) (b : List (List ℕ)) (ws vs : List RememberedLabel) → NoneRemembered t ws b → NoneRemembered t vs b → NoneRemembered t (ws ++ vs) b
 none_more t b [] vs none more = more
 none_more t b (w ∷ ws) vs none more = (none.0, none_more t b ws vs none.1 more)
 
@@ -25,7 +25,7 @@ first_more t b p (w ∷ ws) vs first = elim first [
   | inr later ↦ inr (later.0, first_more t b p ws vs later.1)
 ]
 
-first_here : (t : List ℕ) (b : List (List ℕ)) (w : RememberedLabel) (ws : List RememberedLabel) → NoneRemembered t ws b → StandsAt t w.at b → FirstRemembered t (ws ++ w ∷ []) b w.at
+pub first_here : (t : List ℕ) (b : List (List ℕ)) (w : RememberedLabel) (ws : List RememberedLabel) → NoneRemembered t ws b → StandsAt t w.at b → FirstRemembered t (ws ++ w ∷ []) b w.at
 first_here t b w [] none s = inl (s, refl)
 first_here t b w (v ∷ ws) none s = inr (none.0, first_here t b w ws none.1 s)
 
@@ -130,7 +130,7 @@ pub record Seen (t : List ℕ) (name : List ℕ) (all rest : List Written) (best
 pub seen_start : (t : List ℕ) (name : List ℕ) (all : List Written) → Seen t name all all None
 seen_start t name all = record { offsets_seen = []; split = refl; longest = λ xs ys e more. tt }
 
-split_more : (seen : List RememberedLabel) (w : Written) (all rest more : List Written) → all_remembered all ≡ seen ++ all_remembered rest → rest ≡ w ∷ more → all_remembered all ≡ (seen ++ remembered w ∷ []) ++ all_remembered more
+pub split_more : (seen : List RememberedLabel) (w : Written) (all rest more : List Written) → all_remembered all ≡ seen ++ all_remembered rest → rest ≡ w ∷ more → all_remembered all ≡ (seen ++ remembered w ∷ []) ++ all_remembered more
 split_more seen w all rest more split e = split ∙ (ap (λ r. seen ++ all_remembered r) e ∙ sym (append_assoc seen (remembered w ∷ []) (all_remembered more)))
 
 pub seen_next : (t : List ℕ) (name : List ℕ) (all rest more : List Written) (w : Written) (old new : Option WrittenSuffix) → (s : Seen t name all rest old) → rest ≡ w ∷ more → ((ws : List RememberedLabel) → Longest t ws name old → Longest t (ws ++ remembered w ∷ []) name new) → Seen t name all more new

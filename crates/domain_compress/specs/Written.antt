@@ -7,7 +7,8 @@ use Rattle.domain_reading.specs.Grammar.{Reads}
 use Rattle.domain_rdata.specs.ReadBack.{StandsAt}
 use Rattle.domain_compress.specs.declared.written.Written.{Written}
 use Rattle.domain_compress.specs.declared.written.WrittenSuffix.{WrittenSuffix}
-use Rattle.domain_compress.specs.Compressing.{RememberedLabel, NoSuffix, FirstRemembered, LongestSuffix}
+use Rattle.domain_compress.specs.declared.written.Place.{Place}
+use Rattle.domain_compress.specs.Compressing.{RememberedLabel, NoneRemembered, NoSuffix, FirstRemembered, LongestSuffix}
 
 -- the offset at which a label was written, and the end of its name
 abbrev pub remembered : Written → RememberedLabel
@@ -44,6 +45,11 @@ pub record FirstFound (t : List ℕ) (ws : List Written) (ls : List (List ℕ)) 
   pub first : FirstRemembered t (all_remembered ws) ls p
   pub through : StandsThrough t p ls k
   pub low : p < 16384
+
+-- Such a name stands first there, or at none of the offsets.
+abbrev pub FirstPlace : List ℕ → List Written → List (List ℕ) → Option Place → Type 0
+FirstPlace t ws ls None = NoneRemembered t (all_remembered ws) ls
+FirstPlace t ws ls (Some place) = FirstFound t ws ls place.offset place.pointers
 
 -- The labels of the wire format up to where the suffix begins are before, and those after are the longest suffix that
 -- stands anywhere, at its offset first.

@@ -6,7 +6,7 @@ ghost use Rattle.domain_compress.specs.Hashes.{IsKnown};
 ghost use Rattle.domain_compress.specs.MayWrite.{NameExceeds};
 ghost use Rattle.domain_compress.specs.Written.{all_remembered};
 
-use crate::plan::{find_beginning, put_pointed};
+use crate::plan::{find_beginning, pointer, put_pointed};
 use crate::written::Written;
 use octseq::OctetsBuilder;
 
@@ -32,6 +32,12 @@ pub(crate) fn append_beginning<Target: OctetsBuilder>(
     let Some(beginning) = find_beginning(target.as_slice(), written, name, hashed) else {
         return Ok(None);
     };
+    if beginning.begin == 0 {
+        return match target.append_slice(&pointer(beginning.offset)) {
+            Ok(()) => Ok(Some(0)),
+            Err(e) => Err(e),
+        };
+    }
     let mut octets = [0; 255];
     let len = put_pointed(name, beginning.begin, beginning.offset, &mut octets);
     match target.append_slice(&octets[..len]) {

@@ -1,5 +1,5 @@
 //! Remembering where labels were written.
-ghost use Rattle.std.specs.Prelude.{◌≡◌, ◌+◌, ◌≤◌, length, take};
+ghost use Rattle.std.specs.Prelude.{◌≡◌, ◌+◌, ◌≤◌, length, take, IfSome};
 ghost use Rattle.domain_label.specs.Wire.{labels_in, IsWire};
 ghost use Rattle.domain_compress.specs.Compressing.{remembered_too, remembered_within};
 ghost use Rattle.domain_compress.specs.Hashes.{IsKnown};
@@ -12,9 +12,9 @@ use arrayvec::ArrayVec;
 /// A pointer leads to offsets below this one.
 const OFFSETS_END: usize = 16384;
 
-/// Remembers where these labels stand, but for the root, that were written from `start` on for a name that ends
-/// at `end`. Tells whether all hashes are still those of the labels in the octets.
-pub(crate) fn remember(
+/// Remembers labels one by one.
+#[inline(never)]
+fn remember_each(
     written: &mut ArrayVec<Written, 128>,
     hashed: bool,
     octets: &[u8],
@@ -61,9 +61,58 @@ pub(crate) fn remember(
     holds
 }
 
+/// Remembers where these labels stand, but for the root, that were written from `start` on for a name that ends
+/// at `end`. Tells whether all hashes are still those of the labels in the octets.
+#[inline(always)]
+pub(crate) fn remember(
+    written: &mut ArrayVec<Written, 128>,
+    hashed: bool,
+    octets: &[u8],
+    labels: &[u8],
+    start: usize,
+    end: usize,
+) -> bool
+    requires labels { IsWire labels.now }
+    requires end { end ≤ start + 255 }
+    ensures known { IsKnown hashed octets.now written.old.items
+        → IsKnown result octets.now written.new.items }
+    ensures offsets { all_remembered written.new.items
+        ≡ remembered_too (all_remembered written.old.items) start end (labels_in labels.now) }
+{
+    if written.remaining_capacity() == 0 {
+        return hashed;
+    }
+    if labels.len() == 0 {
+        return hashed;
+    }
+    remember_each(written, hashed, octets, labels, start, end)
+}
+
+/// How many of the entries are left by a cut to `len` octets, where these are the first ones.
+fn first_left(written: &[Written], len: usize) -> Option<usize>
+    ensures some { IfSome result (λ n. (n ≤ length written.now)
+        × (remembered_within len (all_remembered written.now)
+        ≡ all_remembered (take n written.now))) }
+{
+    let mut left = 0;
+    let mut is_cut = false;
+    for label in written {
+        if usize::from(label.end) > len {
+            is_cut = true;
+            continue;
+        }
+        if is_cut {
+            return None;
+        }
+        left += 1;
+    }
+    Some(left)
+}
+
 /// Forgets the offsets of names that end past `len`, and reads the hashes of the others anew where they don't count. Tells
 /// whether they are those of the labels in the first `len` octets.
-pub(crate) fn forget(
+#[inline(never)]
+fn forget_each(
     written: &mut ArrayVec<Written, 128>,
     octets: &[u8],
     len: usize,
@@ -94,4 +143,29 @@ pub(crate) fn forget(
     }
     *written = kept;
     holds
+}
+
+/// Forgets the offsets of names that end past `len`. Tells whether the hashes of the others are those of the labels in the
+/// first `len` octets: where they don't count, they are read anew.
+///
+/// Mostly the names that were written last are forgotten, and the entries before them stay as they are.
+pub(crate) fn forget(
+    written: &mut ArrayVec<Written, 128>,
+    octets: &[u8],
+    len: usize,
+    hashed: bool,
+) -> bool
+    ensures known { IsKnown hashed octets.now written.old.items
+        → IsKnown result (take len octets.now) written.new.items }
+    ensures offsets { all_remembered written.new.items
+        ≡ remembered_within len (all_remembered written.old.items) }
+    ensures few { length written.new.items ≤ length written.old.items }
+{
+    if hashed {
+        if let Some(left) = first_left(written.as_slice(), len) {
+            written.truncate(left);
+            return true;
+        }
+    }
+    forget_each(written, octets, len, hashed)
 }

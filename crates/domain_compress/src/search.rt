@@ -1,13 +1,14 @@
 //! Finding the longest suffix of a name that was written before.
-ghost use Rattle.std.specs.Prelude.{◌≡◌, ◌<◌, ℕ, List, length, IfSome, IsNone};
+ghost use Rattle.std.specs.Prelude.{◌≡◌, ◌<◌, ℕ, List, length, slice_index, IfSome, IsNone, true};
+ghost use Rattle.std.specs.List.{All};
 ghost use Rattle.domain_label.specs.Wire.{wire, labels_in, IsAbsoluteWire};
 ghost use Rattle.domain_rdata.specs.ReadBack.{StandsAt};
 ghost use Rattle.domain_compress.specs.Compressing.{NoSuffix};
-ghost use Rattle.domain_compress.specs.Hashes.{IsKnown};
-ghost use Rattle.domain_compress.specs.Written.{all_remembered, StandsThrough, SuffixAt, NoSuffixAt, SuffixFound, Improves, begin_or_length};
+ghost use Rattle.domain_compress.specs.Hashes.{IsHashed, IsKnown};
+ghost use Rattle.domain_compress.specs.Written.{all_remembered, StandsThrough, SuffixAt, NoSuffixAt, SuffixFound, FirstPlace, Longest, Improves, begin_or_length};
 
-use crate::marks::{mark_firsts, may_stand_there};
-use crate::written::{Written, WrittenSuffix};
+use crate::marks::{hash, mark_firsts, may_stand_there};
+use crate::written::{Place, Written, WrittenSuffix};
 use domain_label::ignoring_case::same_octets;
 use domain_reading::head::{Head, read_head};
 use domain_reading::heads::Heads;
@@ -16,6 +17,12 @@ use std::sync::ledger::{Blank, Ledger};
 
 /// The most octets that the labels of a name have before its root (RFC 1035, 3.1).
 const MAX_BEFORE_ROOT: usize = 254;
+
+/// The most suffixes of a name that are looked for by themselves.
+const MOST_SUFFIXES: u8 = 8;
+
+/// The most times that another name may stand where the hash of a suffix led to.
+const MOST_MISSES: u8 = 4;
 
 /// How many pointers lead along the name at the offset, where it is this one without case.
 pub(crate) fn pointers_at(octets: &[u8], offset: usize, name: &[u8]) -> Option<u8>
@@ -83,6 +90,35 @@ fn pointers_at_with<L: Ledger>(
             }
         }
     }
+}
+
+/// Whether the name is spelled out at a remembered offset, to the end of the name that it was written for. Its octets are
+/// compared all at once.
+#[inline(always)]
+fn is_spelled_out(octets: &[u8], written: Written, name: &[u8]) -> bool
+    requires { IsAbsoluteWire name.now }
+    ensures { result ≡ true
+        → StandsThrough octets.now written.offset (labels_in name.now) 0 }
+{
+    let offset = usize::from(written.offset);
+    let end = offset + name.len();
+    if end != usize::from(written.end) || end > octets.len() {
+        return false;
+    }
+    same_octets(&octets[offset..end], name)
+}
+
+/// The same at a remembered offset, where a name may be spelled out.
+fn pointers_there(octets: &[u8], written: Written, name: &[u8]) -> Option<u8>
+    requires { IsAbsoluteWire name.now }
+    ensures none { IsNone result → StandsAt octets.now written.offset (labels_in name.now) → ⊥ }
+    ensures through { IfSome result
+        (StandsThrough octets.now written.offset (labels_in name.now)) }
+{
+    if is_spelled_out(octets, written, name) {
+        return Some(0);
+    }
+    pointers_at(octets, usize::from(written.offset), name)
 }
 
 /// How many octets the name at the offset has uncompressed, its root included. `None` only where no name is.
@@ -196,12 +232,12 @@ fn better_suffix(
     }
 }
 
-/// The longest suffix of the name that is read at one of the offsets, ignoring case, and the first of these. The
-/// root alone is none.
+/// The longest suffix of the name that is read at one of the offsets, in time that no names make longer.
 ///
 /// It goes over the offsets once. What stands at most of them begins with a label of another hash than any suffix of the
 /// name: no more is read there. What stands at the others is read twice at most, whatever was written.
-pub(crate) fn longest_suffix(
+#[inline(never)]
+fn suffix_by_marks(
     octets: &[u8],
     written: &[Written],
     name: &[u8],
@@ -230,4 +266,103 @@ pub(crate) fn longest_suffix(
         }
     }
     best
+}
+
+/// Where the name stands first, if at any of the offsets, by the hash of its first label. `None` where the hashes led to
+/// other names too often.
+fn first_place(octets: &[u8], written: &[Written], name: &[u8]) -> Option<Option<Place>>
+    requires wire { IsAbsoluteWire name.now }
+    requires some { slice_index name.now 0 ≡ 0 → ⊥ }
+    requires hashed { All (IsHashed octets.now) written.now }
+    ensures { IfSome result (FirstPlace octets.now written.now (labels_in name.now)) }
+{
+    let end = 1 + usize::from(name[0]);
+    let first = hash(&name[1..end]);
+    let mut misses = 0u8;
+    let mut rest = written;
+    'offsets: while let Some((entry, others)) = rest.split_first() {
+        rest = others;
+        if entry.hash != first {
+            continue;
+        }
+        if let Some(pointers) = pointers_there(octets, *entry, name) {
+            return Some(Some(Place {
+                offset: entry.offset,
+                pointers,
+            }));
+        }
+        misses += 1;
+        if misses == MOST_MISSES {
+            return None;
+        }
+    }
+    Some(None)
+}
+
+/// The longest suffix of the name that stands at one of the offsets, where the hashes count: each suffix is looked for, from
+/// the longest on. `None` where that takes too long.
+fn suffix_by_hashes(
+    octets: &[u8],
+    written: &[Written],
+    name: &[u8],
+) -> Option<Option<WrittenSuffix>>
+    requires wire { IsAbsoluteWire name.now }
+    requires hashed { All (IsHashed octets.now) written.now }
+    ensures { IfSome result (Longest octets.now (all_remembered written.now) name.now) }
+{
+    let mut begin = 0;
+    let mut suffixes = 0u8;
+    'ends: while name[begin] != 0 {
+        if suffixes == MOST_SUFFIXES {
+            return None;
+        }
+        suffixes += 1;
+        let Some(found) = first_place(octets, written, &name[begin..]) else {
+            return None;
+        };
+        if let Some(place) = found {
+            return Some(Some(WrittenSuffix {
+                begin,
+                offset: place.offset,
+                pointers: place.pointers,
+            }));
+        }
+        begin = begin + 1 + usize::from(name[begin]);
+    }
+    Some(None)
+}
+
+/// The longest suffix of the name that is read at one of the offsets, ignoring case, and the first of these. The
+/// root alone is none.
+///
+/// The name that was written first, mostly that of a question, is often written again. Else each suffix is looked for where
+/// the hashes count. If they lead to other names too often, which whoever chooses the names
+/// can bring about, the offsets are gone over once for all of the suffixes.
+pub(crate) fn longest_suffix(
+    octets: &[u8],
+    written: &[Written],
+    name: &[u8],
+    hashed: bool,
+) -> Option<WrittenSuffix>
+    requires wire { IsAbsoluteWire name.now }
+    requires known { IsKnown hashed octets.now written.now }
+    ensures none { IsNone result →
+        NoSuffix octets.now (all_remembered written.now) (labels_in name.now) }
+    ensures some { IfSome result (SuffixFound octets.now (all_remembered written.now) name.now) }
+{
+    if let Some((first, _)) = written.split_first() {
+        if name[0] != 0 && is_spelled_out(octets, *first, name) {
+            return Some(WrittenSuffix {
+                begin: 0,
+                offset: first.offset,
+                pointers: 0,
+            });
+        }
+    }
+    if hashed {
+        if let Some(found) = suffix_by_hashes(octets, written, name) {
+            return found;
+        }
+    }
+    suffix_by_marks(octets, written, name, hashed)
 }

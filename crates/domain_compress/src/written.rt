@@ -30,3 +30,11 @@ pub(crate) struct WrittenSuffix {
     /// How many pointers lead along it there.
     pub(crate) pointers: u8,
 }
+
+/// Where a name stands first of the offsets.
+#[derive(Clone, Copy)]
+pub(crate) struct Place {
+    pub(crate) offset: u16,
+    /// How many pointers lead along it there.
+    pub(crate) pointers: u8,
+}

@@ -1,28 +1,11 @@
-use Rattle.std.proofs.Common.{refl, ap, length, arith}
-use Rattle.domain_compress.proofs.Inside.{entry_left, entry_cut}
-use Rattle.domain_compress.proofs.LabelHashes.{known_first, known_rest, known_kept}
+use Rattle.std.proofs.Common.{take, subst, List, ◌≡◌}
+use Rattle.domain_compress.specs.Compressing.{remembered_within}
+use Rattle.domain_compress.specs.declared.written.Written.{Written}
+use Rattle.domain_compress.specs.Written.{all_remembered}
+use Rattle.domain_compress.proofs.LabelHashes.{first_known}
 use Rattle.domain_compress.proofs.remember.forget.Goals as goal
 
-pub offsets-preserved-then-from-len : goal.offsets-preserved-then-from-len
-offsets-preserved-then-from-len c =
-    let kept = c.offsets.invariant in
-    let is = c.in-Some.ensures.cases.0 in
-    record {
-      all = entry_cut _ _ _ _ _ _ kept.all is (omega arith);
-      known = kept.known;
-      rest_known = λ old. known_rest _ _ _ _ _ is (kept.rest_known old);
-      few = omega (arith, kept.few, ap length is);
-      fewer = omega (arith, kept.fewer, ap length is);
-    }
-
-pub offsets-preserved : goal.offsets-preserved
-offsets-preserved c =
-    let kept = c.offsets.invariant in
-    let is = c.in-Some.ensures.cases.0 in
-    record {
-      all = entry_left _ _ _ _ _ _ _ _ kept.all is (omega arith) refl c.push.ensures.items;
-      known = λ old. known_kept _ _ _ _ _ _ _ (kept.known old) (c.hash_kept-stands.ensures (known_first _ _ _ _ _ is (kept.rest_known old))) (omega arith) c.push.ensures.items;
-      rest_known = λ old. known_rest _ _ _ _ _ is (kept.rest_known old);
-      few = omega (arith, kept.few, ap length is, c.push.ensures.len);
-      fewer = omega (arith, kept.fewer, ap length is, c.push.ensures.len);
-    }
+pub returns-in-Some-clause-known : goal.returns-in-Some-clause-known
+returns-in-Some-clause-known c = λ old counts.
+    let P : List Written → Type 0 = λ ws. remembered_within c.args.len (all_remembered ws) ≡ all_remembered (take c.in-Some.left ws) in
+    first_known _ _ _ _ _ (old c.if-hashed.true) (subst P c.as_slice.ensures.value c.in-Some.ensures.some.1) c.truncate.ensures.items

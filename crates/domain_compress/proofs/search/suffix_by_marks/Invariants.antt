@@ -2,7 +2,7 @@ use Rattle.std.proofs.Common.{length}
 use Rattle.domain_compress.specs.Ends.{AreMarked}
 use Rattle.domain_compress.specs.Hashes.{IsKnown}
 use Rattle.domain_compress.proofs.LongerSuffix.{Seen}
-use Rattle.domain_compress.proofs.search.longest_suffix.Given as goal
+use Rattle.domain_compress.proofs.search.suffix_by_marks.Given as goal
 
 abbrev pub invariant-offsets : goal.invariant-offsets
 invariant-offsets l = record {

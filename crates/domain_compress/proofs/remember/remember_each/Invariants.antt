@@ -2,7 +2,7 @@ use Rattle.std.proofs.Common.{◌-◌, ◌≤◌, length}
 use Rattle.domain_compress.specs.Hashes.{IsKnown}
 use Rattle.domain_compress.specs.Written.{all_remembered}
 use Rattle.domain_compress.proofs.Remembering.{Remembered}
-use Rattle.domain_compress.proofs.remember.remember.Given as goal
+use Rattle.domain_compress.proofs.remember.remember_each.Given as goal
 
 abbrev pub invariant-labels : goal.invariant-labels
 invariant-labels l = record {

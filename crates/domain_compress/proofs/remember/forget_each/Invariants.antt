@@ -2,7 +2,7 @@ use Rattle.std.proofs.Common.{◌≡◌, ◌≤◌, ◌+◌, ◌++◌, length, t
 use Rattle.domain_compress.specs.Compressing.{remembered_within}
 use Rattle.domain_compress.specs.Hashes.{IsKnown}
 use Rattle.domain_compress.specs.Written.{all_remembered}
-use Rattle.domain_compress.proofs.remember.forget.Given as goal
+use Rattle.domain_compress.proofs.remember.forget_each.Given as goal
 
 abbrev pub invariant-offsets : goal.invariant-offsets
 invariant-offsets l = record {
