@@ -1,7 +1,8 @@
 //! Writing the labels before a suffix of a name, and a pointer to where that stands.
-ghost use Rattle.std.specs.Prelude.{◌≡◌, ◌≤◌, OnErr, IfOk};
+ghost use Rattle.std.specs.Prelude.{◌≡◌, ◌≤◌, ◌<◌, ◌+◌, ◌++◌, length, take, OnOk, OnErr, IfOk};
 ghost use Rattle.domain_label.specs.Wire.{labels_in, IsAbsoluteWire};
 ghost use Rattle.domain_compress.specs.Beginnings.{BeginningWritten};
+ghost use Rattle.domain_compress.specs.Compressing.{pointer_to};
 ghost use Rattle.domain_compress.specs.Hashes.{IsKnown};
 ghost use Rattle.domain_compress.specs.MayWrite.{NameExceeds};
 ghost use Rattle.domain_compress.specs.Written.{all_remembered};
@@ -9,6 +10,72 @@ ghost use Rattle.domain_compress.specs.Written.{all_remembered};
 use crate::plan::{find_beginning, pointer, put_pointed};
 use crate::written::Written;
 use octseq::OctetsBuilder;
+
+/// Appends a pointer to an offset.
+#[inline(always)]
+fn append_pointer<Target: OctetsBuilder>(
+    target: &mut Target,
+    offset: u16,
+) -> Result<(), Target::AppendError>
+    requires { offset < 16384 }
+    ensures ok { OnOk result
+        (Target.octets target.new ≡ Target.octets target.old ++ pointer_to offset) }
+    ensures unchanged { OnErr result (Target.octets target.new ≡ Target.octets target.old) }
+    ensures full { OnErr result (Target.capacity target.old
+        < length (Target.octets target.old) + length (pointer_to offset)) }
+    ensures capacity { Target.capacity target.old ≤ Target.capacity target.new }
+{
+    target.append_slice(&pointer(offset))
+}
+
+/// Appends the first `begin` octets of a name, and a pointer to an offset after them.
+///
+/// It isn't inlined, since its buffer is cleared wherever it is a part of another function.
+#[inline(never)]
+fn append_pointed<Target: OctetsBuilder>(
+    target: &mut Target,
+    name: &[u8],
+    begin: usize,
+    offset: u16,
+) -> Result<(), Target::AppendError>
+    requires low { offset < 16384 }
+    requires inside { begin + 2 ≤ length name.now }
+    requires short { length name.now ≤ 255 }
+    ensures ok { OnOk result (Target.octets target.new
+        ≡ Target.octets target.old ++ (take begin name.now ++ pointer_to offset)) }
+    ensures unchanged { OnErr result (Target.octets target.new ≡ Target.octets target.old) }
+    ensures full { OnErr result (Target.capacity target.old
+        < length (Target.octets target.old) + length (take begin name.now ++ pointer_to offset)) }
+    ensures capacity { Target.capacity target.old ≤ Target.capacity target.new }
+{
+    let mut octets = [0; 255];
+    let len = put_pointed(name, begin, offset, &mut octets);
+    target.append_slice(&octets[..len])
+}
+
+/// The same, where there may be no octets before the pointer.
+#[inline(always)]
+fn append_begun<Target: OctetsBuilder>(
+    target: &mut Target,
+    name: &[u8],
+    begin: usize,
+    offset: u16,
+) -> Result<(), Target::AppendError>
+    requires low { offset < 16384 }
+    requires inside { begin + 2 ≤ length name.now }
+    requires short { length name.now ≤ 255 }
+    ensures ok { OnOk result (Target.octets target.new
+        ≡ Target.octets target.old ++ (take begin name.now ++ pointer_to offset)) }
+    ensures unchanged { OnErr result (Target.octets target.new ≡ Target.octets target.old) }
+    ensures full { OnErr result (Target.capacity target.old
+        < length (Target.octets target.old) + length (take begin name.now ++ pointer_to offset)) }
+    ensures capacity { Target.capacity target.old ≤ Target.capacity target.new }
+{
+    if begin == 0 {
+        return append_pointer(target, offset);
+    }
+    append_pointed(target, name, begin, offset)
+}
 
 /// Appends the labels before the longest suffix of the name that was written, and a pointer to it. `None` where
 /// there is no such suffix, or one pointer too many would lead along the name: it is then to be written uncompressed.
@@ -32,16 +99,9 @@ pub(crate) fn append_beginning<Target: OctetsBuilder>(
     let Some(beginning) = find_beginning(target.as_slice(), written, name, hashed) else {
         return Ok(None);
     };
-    if beginning.begin == 0 {
-        return match target.append_slice(&pointer(beginning.offset)) {
-            Ok(()) => Ok(Some(0)),
-            Err(e) => Err(e),
-        };
-    }
-    let mut octets = [0; 255];
-    let len = put_pointed(name, beginning.begin, beginning.offset, &mut octets);
-    match target.append_slice(&octets[..len]) {
-        Ok(()) => Ok(Some(beginning.begin)),
+    let (begin, offset) = (beginning.begin, beginning.offset);
+    match append_begun(target, name, begin, offset) {
+        Ok(()) => Ok(Some(begin)),
         Err(e) => Err(e),
     }
 }

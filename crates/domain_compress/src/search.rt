@@ -350,14 +350,15 @@ pub(crate) fn longest_suffix(
         NoSuffix octets.now (all_remembered written.now) (labels_in name.now) }
     ensures some { IfSome result (SuffixFound octets.now (all_remembered written.now) name.now) }
 {
-    if let Some((first, _)) = written.split_first() {
-        if name[0] != 0 && is_spelled_out(octets, *first, name) {
-            return Some(WrittenSuffix {
-                begin: 0,
-                offset: first.offset,
-                pointers: 0,
-            });
-        }
+    let Some((first, _)) = written.split_first() else {
+        return None;
+    };
+    if name[0] != 0 && is_spelled_out(octets, *first, name) {
+        return Some(WrittenSuffix {
+            begin: 0,
+            offset: first.offset,
+            pointers: 0,
+        });
     }
     if hashed {
         if let Some(found) = suffix_by_hashes(octets, written, name) {

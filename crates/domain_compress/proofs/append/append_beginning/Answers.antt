@@ -1,4 +1,4 @@
-use Rattle.std.proofs.Common.{ℕ, List, ◌++◌, length, refl, sym, ap, subst, ◌∙◌, arith}
+use Rattle.std.proofs.Common.{ℕ, List, refl, sym, subst}
 use Rattle.std.specs.List.{All}
 use Rattle.domain_compress.specs.Hashes.{IsHashed}
 use Rattle.domain_compress.specs.Planned.{WritesPointer, WritesFlat}
@@ -17,17 +17,11 @@ returns-in_default-clause-ok g c =
 pub returns-in-Ok-clause-ok : goal.returns-in-Ok-clause-ok
 returns-in-Ok-clause-ok g c =
     let b = c.in-Some.beginning in
-    let t = g.Target.Octets.octets c.args.target.now in
     let P : List ℕ → Type 0 = λ t. WritesPointer t (all_remembered c.args.written.now) c.args.name.now b.begin b.offset in
-    let Q : ℕ → Type 0 = λ n. WritesPointer t (all_remembered c.args.written.now) c.args.name.now n b.offset in
-    let writes = subst Q c.if-beginning-eq0.true (subst P c.as_slice.ensures.octets c.in-Some.ensures.some) in
-    pointed_so t _ _ 0 _ _ writes (c.in-Ok.ensures.ok ∙ ap (λ o. t ++ o) c.pointer.ensures)
+    pointed_so _ _ _ _ _ _ (subst P c.as_slice.ensures.octets c.in-Some.ensures.some) c.in-Ok.ensures.ok
 
 pub returns-in-Err-clause-full : goal.returns-in-Err-clause-full
 returns-in-Err-clause-full g c =
     let b = c.in-Some.beginning in
-    let t = g.Target.Octets.octets c.args.target.now in
     let P : List ℕ → Type 0 = λ t. WritesPointer t (all_remembered c.args.written.now) c.args.name.now b.begin b.offset in
-    let Q : ℕ → Type 0 = λ n. WritesPointer t (all_remembered c.args.written.now) c.args.name.now n b.offset in
-    let writes = subst Q c.if-beginning-eq0.true (subst P c.as_slice.ensures.octets c.in-Some.ensures.some) in
-    exceeds_pointed _ _ _ 0 _ _ writes (omega (arith, c.in-Err.ensures.full, ap length c.pointer.ensures))
+    exceeds_pointed _ _ _ _ _ _ (subst P c.as_slice.ensures.octets c.in-Some.ensures.some) c.in-Err.ensures.full
