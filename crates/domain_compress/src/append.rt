@@ -1,14 +1,14 @@
 //! Writing the labels before a suffix of a name, and a pointer to where that stands.
 ghost use Rattle.std.specs.Prelude.{◌≡◌, ◌≤◌, ◌<◌, ◌+◌, ◌++◌, length, take, OnOk, OnErr, IfOk};
 ghost use Rattle.domain_label.specs.Wire.{labels_in, IsAbsoluteWire};
-ghost use Rattle.domain_compress.specs.Beginnings.{BeginningWritten};
+ghost use Rattle.domain_compress.specs.Beginnings.{BeginningWritten, PointerWritten};
 ghost use Rattle.domain_compress.specs.Compressing.{pointer_to};
 ghost use Rattle.domain_compress.specs.Hashes.{IsKnown};
 ghost use Rattle.domain_compress.specs.MayWrite.{NameExceeds};
-ghost use Rattle.domain_compress.specs.Written.{all_remembered};
+ghost use Rattle.domain_compress.specs.Written.{all_remembered, SuffixFound};
 
 use crate::plan::{find_beginning, pointer, put_pointed};
-use crate::written::Written;
+use crate::written::{Written, WrittenSuffix};
 use octseq::OctetsBuilder;
 
 /// Appends a pointer to an offset.
@@ -75,6 +75,34 @@ fn append_begun<Target: OctetsBuilder>(
         return append_pointer(target, offset);
     }
     append_pointed(target, name, begin, offset)
+}
+
+/// Appends a pointer to where the whole name stands.
+#[inline(always)]
+pub(crate) fn append_again<Target: OctetsBuilder>(
+    target: &mut Target,
+    written: &[Written],
+    name: &[u8],
+    found: WrittenSuffix,
+) -> Result<(), Target::AppendError>
+    requires wire { IsAbsoluteWire name.now }
+    requires found { SuffixFound (Target.octets target.now) (all_remembered written.now)
+        name.now found }
+    requires whole { found.begin ≡ 0 }
+    requires plain { found.pointers ≡ 0 }
+    ensures ok { OnOk result (PointerWritten
+        (Target.octets target.old) (all_remembered written.now) name.now 0
+        (Target.octets target.new)) }
+    ensures unchanged { OnErr result (Target.octets target.new ≡ Target.octets target.old) }
+    ensures full { OnErr result (NameExceeds
+        (Target.octets target.old) (all_remembered written.now) (labels_in name.now)
+        (Target.capacity target.old)) }
+    ensures capacity { Target.capacity target.old ≤ Target.capacity target.new }
+{
+    match append_pointer(target, found.offset) {
+        Ok(()) => Ok(()),
+        Err(e) => Err(e),
+    }
 }
 
 /// Appends the labels before the longest suffix of the name that was written, and a pointer to it. `None` where

@@ -10,8 +10,9 @@ ghost use Rattle.domain_compress.specs.Hashes.{IsKnown};
 ghost use Rattle.domain_compress.specs.MayWrite.{MayWrite, NameAppended, NameExceeds, adds_appended};
 ghost use Rattle.domain_compress.specs.Written.{all_remembered};
 
-use crate::append::append_beginning;
+use crate::append::{append_again, append_beginning};
 use crate::remember::{forget, remember};
+use crate::search::first_again;
 use crate::written::Written;
 use arrayvec::ArrayVec;
 use domain_rdata::Composer;
@@ -61,6 +62,60 @@ impl<T: Composer> CompressComposer<T> {
     {
         let CompressComposer { target, .. } = self;
         target
+    }
+}
+
+impl<T: Composer> CompressComposer<T> {
+    ghost use Rattle.domain_compress.specs.Composers.{remembered_labels};
+
+    /// Appends a name that isn't the one that was written first, or is written otherwise.
+    #[inline(never)]
+    fn append_searched(&mut self, name: &[u8]) -> Result<(), T::AppendError>
+        requires { IsAbsoluteWire name.now }
+        ensures appends { OnOk result (Adds
+            (T.octets self.old.target) (remembered_labels self.old) (labels_in name.now)
+            (T.octets self.new.target) (remembered_labels self.new)) }
+        ensures ok { OnOk result (NameAppended
+            (T.octets self.old.target) (remembered_labels self.old) (labels_in name.now)
+            (T.octets self.new.target)) }
+        ensures unchanged { OnErr result (T.octets self.new.target ≡ T.octets self.old.target) }
+        ensures memory_unchanged { OnErr result
+            (remembered_labels self.new ≡ remembered_labels self.old) }
+        ensures full { OnErr result (NameExceeds
+            (T.octets self.old.target) (remembered_labels self.old) (labels_in name.now)
+            (T.capacity self.old.target)) }
+        ensures capacity { T.capacity self.old.target ≤ T.capacity self.new.target }
+    {
+        let start = self.target.as_slice().len();
+        let begun = match append_beginning(
+            &mut self.target,
+            self.written.as_slice(),
+            name,
+            self.hashed,
+        ) {
+            Ok(begun) => begun,
+            Err(e) => return Err(e),
+        };
+        if let Some(at) = begun {
+            let octets = self.target.as_slice();
+            let end = octets.len();
+            self.hashed = remember(
+                &mut self.written,
+                self.hashed,
+                octets,
+                &name[..at],
+                start,
+                end,
+            );
+            return Ok(());
+        }
+        if let Err(e) = self.target.append_slice(name) {
+            return Err(e);
+        }
+        let octets = self.target.as_slice();
+        let end = octets.len();
+        self.hashed = remember(&mut self.written, self.hashed, octets, name, start, end);
+        Ok(())
     }
 }
 
@@ -197,36 +252,13 @@ impl<T: Composer> Composer for CompressComposer<T> {
             (T.capacity self.old.target)) }
         ensures capacity { T.capacity self.old.target ≤ T.capacity self.new.target }
     {
-        let start = self.target.as_slice().len();
-        let begun = match append_beginning(
-            &mut self.target,
-            self.written.as_slice(),
-            name,
-            self.hashed,
-        ) {
-            Ok(begun) => begun,
-            Err(e) => return Err(e),
-        };
-        if let Some(at) = begun {
-            let octets = self.target.as_slice();
-            let end = octets.len();
-            self.hashed = remember(
-                &mut self.written,
-                self.hashed,
-                octets,
-                &name[..at],
-                start,
-                end,
-            );
-            return Ok(());
+        if let Some(found) = first_again(self.target.as_slice(), self.written.as_slice(), name) {
+            match append_again(&mut self.target, self.written.as_slice(), name, found) {
+                Ok(()) => return Ok(()),
+                Err(e) => return Err(e),
+            }
         }
-        if let Err(e) = self.target.append_slice(name) {
-            return Err(e);
-        }
-        let octets = self.target.as_slice();
-        let end = octets.len();
-        self.hashed = remember(&mut self.written, self.hashed, octets, name, start, end);
-        Ok(())
+        self.append_searched(name)
     }
 
     fn can_compress(&self) -> bool {

@@ -332,11 +332,32 @@ fn suffix_by_hashes(
     Some(None)
 }
 
+/// The first offset, where the whole name is spelled out there. It is mostly that of a question, which is often written
+/// again.
+#[inline(always)]
+pub(crate) fn first_again(octets: &[u8], written: &[Written], name: &[u8]) -> Option<WrittenSuffix>
+    requires wire { IsAbsoluteWire name.now }
+    ensures { IfSome result (λ found.
+        (SuffixFound octets.now (all_remembered written.now) name.now found)
+        × ((found.begin ≡ 0) × (found.pointers ≡ 0))) }
+{
+    let Some((first, _)) = written.split_first() else {
+        return None;
+    };
+    if name[0] != 0 && is_spelled_out(octets, *first, name) {
+        return Some(WrittenSuffix {
+            begin: 0,
+            offset: first.offset,
+            pointers: 0,
+        });
+    }
+    None
+}
+
 /// The longest suffix of the name that is read at one of the offsets, ignoring case, and the first of these. The
 /// root alone is none.
 ///
-/// The name that was written first, mostly that of a question, is often written again. Else each suffix is looked for where
-/// the hashes count. If they lead to other names too often, which whoever chooses the names
+/// Each suffix is looked for where the hashes count. If they lead to other names too often, which whoever chooses the names
 /// can bring about, the offsets are gone over once for all of the suffixes.
 pub(crate) fn longest_suffix(
     octets: &[u8],
@@ -350,15 +371,8 @@ pub(crate) fn longest_suffix(
         NoSuffix octets.now (all_remembered written.now) (labels_in name.now) }
     ensures some { IfSome result (SuffixFound octets.now (all_remembered written.now) name.now) }
 {
-    let Some((first, _)) = written.split_first() else {
+    if written.len() == 0 {
         return None;
-    };
-    if name[0] != 0 && is_spelled_out(octets, *first, name) {
-        return Some(WrittenSuffix {
-            begin: 0,
-            offset: first.offset,
-            pointers: 0,
-        });
     }
     if hashed {
         if let Some(found) = suffix_by_hashes(octets, written, name) {

@@ -1,30 +1,16 @@
-use Rattle.std.proofs.Common.{◌∙◌, ap, ◌++◌, length, take, refl}
-use Rattle.domain_label.specs.Wire.{labels_in}
-use Rattle.domain_label.proofs.WireLaws.{absolute_wire}
-use Rattle.domain_compress.proofs.Inside.{inside_too, few_too}
-use Rattle.domain_compress.proofs.LabelHashes.{known_still}
+use Rattle.std.proofs.Common.{List, ◌∙◌, ap, sym, subst, take, append-nil}
+use Rattle.std.proofs.lemmas.List.{take_all}
+use Rattle.domain_compress.specs.Beginnings.{PointerWritten}
+use Rattle.domain_compress.specs.Forgetting.{few_remembered}
+use Rattle.domain_compress.specs.declared.written.Written.{Written}
+use Rattle.domain_compress.specs.Written.{all_remembered}
+use Rattle.domain_compress.proofs.Composing.{adds_pointer}
 use Rattle.domain_compress.proofs.compress.CompressComposerComposer.append_flat_name.Goals as goal
 
-pub remember-self-requires-2-clause-labels : goal.remember-self-requires-2-clause-labels
-remember-self-requires-2-clause-labels g c = absolute_wire c.requires
-
-pub invariant_of-self-in-Some : goal.invariant_of-self-in-Some
-invariant_of-self-in-Some g c =
-    let all = (rw c.in-Some.is at c.in-Ok.ensures.ok).all in
-    record {
-      known = known_still _ _ _ _ _ _ _ _ all c.as_slice-octets.ensures.octets c.args.self.now.known c.remember-self.ensures.known;
-      inside = inside_too _ _ _ _ _ _ (length c.as_slice-start.result.now) (labels_in (take c.in-Some.at c.args.name.now)) all c.as_slice-octets.ensures.octets c.args.self.now.inside c.remember-self.ensures.offsets;
-      few = few_too _ _ c.remember-self.ensures.offsets;
-    }
-
-pub invariant_of-self-2 : goal.invariant_of-self-2
-invariant_of-self-2 g c =
-    let all = c.in_default-append_slice.ensures.ok ∙ ap (λ t. t ++ c.args.name.now) (rw c.in_default.is at c.in-Ok.ensures.ok).0 in
-    record {
-      known = known_still _ _ _ _ _ _ _ _ all c.as_slice-octets-2.ensures.octets c.args.self.now.known c.remember-self-2.ensures.known;
-      inside = inside_too _ _ _ _ _ _ (length c.as_slice-start.result.now) (labels_in c.args.name.now) all c.as_slice-octets-2.ensures.octets c.args.self.now.inside c.remember-self-2.ensures.offsets;
-      few = few_too _ _ c.remember-self-2.ensures.offsets;
-    }
-
-pub returns-in-Err-append_slice-clause-memory_unchanged : goal.returns-in-Err-append_slice-clause-memory_unchanged
-returns-in-Err-append_slice-clause-memory_unchanged g c = refl
+pub returns-in-Ok-clause-appends : goal.returns-in-Ok-clause-appends
+returns-in-Ok-clause-appends g c =
+    let s = c.args.self.now in
+    let ws = all_remembered s.written.items in
+    let P : List Written → Type 0 = λ vs. PointerWritten (g.T.Octets.octets s.target) (all_remembered vs) c.args.name.now 0 (g.T.Octets.octets c.append_again.new.target) in
+    let written = subst P c.as_slice-in-Some.ensures.value c.in-Ok.ensures.ok in
+    adds_pointer _ ws ws c.args.name.now 0 _ written (sym (ap (take 128) (append-nil ws) ∙ take_all 128 ws (few_remembered s.written.items s.few)))
