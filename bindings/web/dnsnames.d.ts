@@ -1,7 +1,8 @@
 // The types of dnsnames.mjs. A module of TypeScript has them where this file lies beside that one.
 
 /** Why something is refused: `fault` is its name, `status` the module's number, `section` the standard's, `offset` where
- *  what was asked for begins, and `shown`, of a message's text, that of what stands before. */
+ *  what was asked for begins, `shown`, of a message's text, that of what stands before, and `entries`, of its table, those
+ *  that do. */
 export class NameFault extends Error {
     readonly name: "NameFault";
     readonly status: number;
@@ -9,6 +10,7 @@ export class NameFault extends Error {
     readonly section: string;
     readonly offset: number | undefined;
     readonly shown?: string;
+    readonly entries?: NamedEntry[];
     constructor(status: number, offset?: number);
 }
 
@@ -56,7 +58,9 @@ export interface EdnsOption {
 }
 
 export type Section = "answers" | "authority" | "additional";
-export type Entry = (Question & { section: "questions" }) | (DnsRecord & { section: Section });
+/** A question or a record: `name` are the octets of its name, without compression, if all names so far can be read. */
+export type Entry = ((Question & { section: "questions" }) | (DnsRecord & { section: Section })) & { name?: Uint8Array };
+export type NamedEntry = Entry & { name: Uint8Array };
 export type Kind = "type" | "class" | "opcode" | "rcode";
 
 /** A writer of names with compression. */
@@ -121,6 +125,7 @@ export class DnsNames {
     messageText(message: Uint8Array): string;
     recordText(message: Uint8Array, offset: number): string;
     entries(message: Uint8Array): Generator<Entry, void, undefined>;
+    table(message: Uint8Array): NamedEntry[];
     mnemonic(kind: Kind, number: number): string;
     numberOf(kind: Kind, text: string): number;
     builder(options?: { capacity?: number; id?: number; flags?: number }): Builder;

@@ -16,6 +16,10 @@ const MAX_MNEMONIC = 12;
 const BUILDER = { size: 320, len: 8, flags: 18 };
 const SECTIONS = ["answers", "authority", "additional"];
 
+// A row of the module's table has eight numbers of 32 bits; no question or record has fewer than five octets.
+const ROW_LEN = 8;
+const LEAST_ENTRY = 5;
+
 // What a status is called, what it means, and where the standard has it.
 const FAULTS = new Map([
     [1, ["ShortInput", "unexpected end of input", "RFC 1035, 3.1 and 4.1.4"]],
@@ -335,15 +339,61 @@ export class DnsNames {
         }
     }
 
-    /** The questions and records of a message in turn, each with its `section`. */
+    /** The questions and records of a message in turn, each with its `section`, and with the octets of its `name` where that
+     *  and all names before it can be read. Throws the fault of the first question or record that can't be read; a name that
+     *  can't be stops nothing. */
     *entries(message) {
-        const header = this.header(message);
+        const header = this.header(message), found = this.#rows(message, this.#table(message));
         let offset = 12;
-        for (const section of ["questions", "answers", "authority", "additional"]) {
+        for (const section of ["questions", ...SECTIONS]) {
             for (let i = 0; i < header[section]; i++) {
-                const entry = section === "questions" ? this.question(message, offset) : this.record(message, offset);
-                yield { section, ...entry };
+                const entry = found.next().value ?? {
+                    section, ...(section === "questions" ? this.question(message, offset) : this.record(message, offset)),
+                };
+                yield entry;
                 offset = entry.end;
+            }
+        }
+    }
+
+    /** All questions and records of a message in an array, each with its `section` and the octets of its `name`, read in one
+     *  call. Throws the fault of the first that can't be read, or whose name can't: ShortInput, BadLabelType, TooManyPointers,
+     *  LongName; its `entries` are then those before. */
+    table(message) {
+        const found = this.#table(message), entries = [...this.#rows(message, found)];
+        if (found.status === 0) return entries;
+        throw Object.assign(new NameFault(found.status, entries.at(-1)?.end ?? 12), { entries });
+    }
+
+    // All rows of a message, their names one after another, and why there are no more. There is room for as many entries as
+    // the header counts, and the octets have.
+    #table(message) {
+        const most = Math.min(sum(countsOf(message)), Math.floor(Math.max(message.length - 12, 0) / LEAST_ENTRY));
+        const [slice, rows, names] = this.#begin(message, 4 * ROW_LEN * most, MAX_LEN * most);
+        const [count, length] = this.#results(2);
+        const room = [rows[0], BigInt(ROW_LEN * most), ...names];
+        const status = this.#exports.dnsnames_table(...slice, 255, ...room, count, length) >>> 0;
+        const numbers = new Uint32Array(this.#exports.memory.buffer, Number(rows[0]), ROW_LEN * this.#size(count)).slice();
+        return { status, numbers, names: this.#octets(names, length) };
+    }
+
+    // The questions and records of these rows. A row has where its name begins and how many octets it has, type, class, time to
+    // live, where its data begin, how many octets they have, and where it ends.
+    *#rows(message, { numbers, names }) {
+        const counts = countsOf(message);
+        let offset = 12, row = 0;
+        for (const [i, section] of ["questions", ...SECTIONS].entries()) {
+            for (let left = counts[i]; left > 0 && row < numbers.length; left--, row += ROW_LEN) {
+                const name = names.slice(numbers[row], numbers[row] + numbers[row + 1]);
+                const type = numbers[row + 2], class_ = numbers[row + 3], end = numbers[row + 7];
+                if (section === "questions") {
+                    yield { section, name, offset, type, class: class_, end };
+                } else {
+                    const ttl = numbers[row + 4], dataOffset = numbers[row + 5];
+                    const data = message.slice(dataOffset, dataOffset + numbers[row + 6]);
+                    yield { section, name, offset, type, class: class_, ttl, dataOffset, data, end };
+                }
+                offset = end;
             }
         }
     }
@@ -505,6 +555,15 @@ export class DnsNames {
         return new Uint8Array(this.#exports.memory.buffer, Number(start), this.#size(length)).slice();
     }
 }
+
+// How many questions and records the header of a message counts in each section.
+function countsOf(message) {
+    if (message.length < 12) return [0, 0, 0, 0];
+    const view = new DataView(message.buffer, message.byteOffset);
+    return [4, 6, 8, 10].map((at) => view.getUint16(at));
+}
+
+const sum = (numbers) => numbers.reduce((left, right) => left + right, 0);
 
 // Where the data of a record are, and of which type.
 function dataOf({ dataOffset, data, type }) {

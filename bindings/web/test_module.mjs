@@ -112,4 +112,74 @@ const [asked, address, opt] = [...dns.entries(built)];
 assert.deepEqual([dns.readName(built, asked.offset).text, dns.readName(built, address.offset).text], ["www.example.com.", "www.example.com."]);
 assert.deepEqual([address.ttl, [...address.data], opt.type, opt.class, opt.ttl], [60, [192, 0, 2, 1], 41, 1232, 0x01008000]);
 assert.equal(faultOf(() => dns.builder({ capacity: 11 })), "NoRoom");
+
+// A table has what the calls for one name, question or record have, up to the first fault.
+const oneByOne = (message) => {
+    const entries = [];
+    try {
+        const header = dns.header(message);
+        let offset = 12;
+        for (const section of ["questions", "answers", "authority", "additional"]) {
+            for (let i = 0; i < header[section]; i++) {
+                const name = dns.readName(message, offset).octets;
+                const entry = section === "questions" ? dns.question(message, offset) : dns.record(message, offset);
+                entries.push({ section, name, ...entry });
+                offset = entry.end;
+            }
+        }
+        return { entries, fault: "" };
+    } catch (error) {
+        assert.ok(error instanceof NameFault, String(error));
+        return { entries, fault: error.fault };
+    }
+};
+const tableOf = (message) => {
+    try {
+        return { entries: dns.table(message), fault: "" };
+    } catch (error) {
+        assert.ok(error instanceof NameFault, String(error));
+        assert.equal(error.offset, error.entries.at(-1)?.end ?? 12);
+        return { entries: error.entries, fault: error.fault };
+    }
+};
+assert.deepEqual(dns.table(message).map(({ name }) => dns.toText(name)), ["a.", "a.", "."]);
+for (let end = 0; end <= message.length; end++) {
+    assert.deepEqual(tableOf(message.slice(0, end)), oneByOne(message.slice(0, end)));
+    assert.equal(tableOf(message.slice(0, end)).fault, end < message.length ? "ShortInput" : "");
+}
+let state = 7;
+const random = (below) => (state = (Math.imul(state, 1664525) + 1013904223) >>> 0, Math.floor(state / 2 ** 32 * below));
+let whole = 0;
+for (let i = 0; i < 5000; i++) {
+    const disturbed = message.slice(0, message.length - random(2) * random(30));
+    for (let k = random(4); k > 0; k--) disturbed[random(disturbed.length)] = random(256);
+    const found = tableOf(disturbed);
+    assert.deepEqual(found, oneByOne(disturbed));
+    whole += found.fault === "" ? 1 : 0;
+}
+assert.ok(whole > 500 && whole < 4500, String(whole));
+
+// Every fault of a table; entries go on where a name alone can't be read.
+const counting = (counts, entries) => Uint8Array.of(0, 0, 0, 0, ...counts, ...entries);
+const asking = (...name) => counting([0, 1, 0, 0, 0, 0, 0, 0], [...name, 0, 1, 0, 1]);
+const label = [63, ...new Uint8Array(63).fill(97)];
+for (const [octets, fault, count] of [
+    [new Uint8Array(0), "ShortInput", 0], [new Uint8Array(11), "ShortInput", 0], [asking(), "ShortInput", 0],
+    [asking(64), "BadLabelType", 0], [asking(192, 12), "TooManyPointers", 1], [asking(255, 255), "TooManyPointers", 1],
+    [asking(...label, 192, 12), "LongName", 1], [asking(...label, ...label, ...label, ...label, 0), "LongName", 0],
+]) {
+    assert.deepEqual(tableOf(octets), { entries: [], fault });
+    const read = [];
+    assert.equal(faultOf(() => { for (const entry of dns.entries(octets)) read.push(entry); }), count === 0 ? fault : "");
+    assert.deepEqual(read, count === 0 ? [] : [{ section: "questions", ...dns.question(octets) }]);
+}
+assert.throws(() => dns.table("0".repeat(12)), TypeError);
+
+// As many entries as have room, of a header that counts more than any message has; and each with the longest name.
+const full = counting(new Uint8Array(8).fill(255), new Array(13104).fill([0, 0, 1, 0, 1]).flat());
+assert.deepEqual([full.length, tableOf(full).entries.length, tableOf(full).fault], [65532, 13104, "ShortInput"]);
+const longest = new Array(127).fill([1, 97]).flat();
+const led = [...longest, 0, 0, 1, 0, 1, ...new Array(10877).fill([192, 12, 0, 1, 0, 1]).flat()];
+const amplified = dns.table(counting([10878 >> 8, 10878 & 255, 0, 0, 0, 0, 0, 0], led));
+assert.deepEqual([amplified.length, new Set(amplified.map(({ name }) => name.length))], [10878, new Set([255])]);
 console.log("passed");

@@ -25,6 +25,7 @@ mod mnemonic;
 mod name;
 #[cfg(feature = "alloc")]
 mod name_buf;
+mod table;
 
 pub use builder::Builder;
 pub use fault::Fault;
@@ -35,6 +36,7 @@ pub use mnemonic::{Class, Opcode, Rcode, Type};
 pub use name::{check_relative, read, skip, Labels, Name, Read};
 #[cfg(feature = "alloc")]
 pub use name_buf::NameBuf;
+pub use table::{Row, Table, TableQuestions, TableRecords};
 
 /// The most octets of a name: a buffer of this size has room for each.
 pub const MAX_LEN: usize = dnsnames_sys::DNSNAMES_MAX_LEN;
