@@ -4,7 +4,8 @@ commands in turn, and compares what it prints with the comment that ends the blo
 
     page_programs.py PAGE TOP
 
-TOP is the folder in which `bindings` lies. Commands whose program isn't there are passed over, and named.
+TOP is the folder in which `bindings` lies. Commands whose program isn't there are passed over, and named; so are those of
+node where there is no module for it.
 """
 
 import pathlib
@@ -14,7 +15,8 @@ import subprocess
 import sys
 import tempfile
 
-NEEDS = {"cc": "cc", "python3": "python3", "cargo": "cargo"}
+NEEDS = {"cc": "cc", "python3": "python3", "cargo": "cargo", "node": "node"}
+MODULE = "bindings/web/out/dnsnames_c32.wasm"
 
 
 def blocks(page: str):
@@ -43,6 +45,8 @@ def main() -> int:
             commands = [line for line in lines if not line.startswith("# ")]
             wanted = "".join(line[2:] + "\n" for line in lines if line.startswith("# "))
             missing = [tool for word, tool in NEEDS.items() if re.search(rf"\b{word}\b", text) and not shutil.which(tool)]
+            if re.search(r"\bnode\b", text) and not (top / MODULE).exists():
+                missing.append(MODULE)
             if missing:
                 print(f"passed over, for want of {', '.join(missing)}: {commands[0]}")
                 continue

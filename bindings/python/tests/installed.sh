@@ -1,5 +1,6 @@
 #!/bin/sh
-# Installs a wheel into an empty environment, without a network, and uses it there: installed.sh WHEEL
+# Installs a wheel, or what pip makes of a folder, into an empty environment, without a network, and uses it there:
+# installed.sh WHEEL
 #
 # The environment has neither setuptools nor wheel; no variable names the library, and nothing of this folder is on the
 # path. Taken away again, the package is gone.

@@ -1,0 +1,36 @@
+//! Writes a response with one MX record, and reads it back.
+//!
+//! The zone's name is compressed where it is repeated. Data are written as they are passed: the exchange's name in them
+//! isn't compressed.
+
+use dnsnames::{Builder, Fault, Message, Name, Row, Section, Type, MAX_LEN};
+
+const MX: u16 = 15;
+const IN: u16 = 1;
+/// QR, RD and RA.
+const FLAGS: u16 = 0x8180;
+
+/// The response in the octets (RFC 1035, 4.1).
+fn response<'a>(octets: &'a mut [u8], zone: Name<'_>, ttl: u32, exchange: Name<'_>) -> Result<&'a [u8], Fault> {
+    let mut builder = Builder::new(octets, 0x1234, FLAGS)?;
+    builder.question(zone, MX, IN)?;
+    let data = [&[0, 10], exchange.as_slice()].concat();
+    builder.record(Section::Answer, zone, MX, IN, ttl, &data)?;
+    builder.finish()
+}
+
+fn main() -> Result<(), Fault> {
+    let (mut octets, mut buffer, mut other) = ([0; 512], [0; MAX_LEN], [0; MAX_LEN]);
+    let zone = Name::from_text("example.com", &mut buffer)?;
+    let exchange = Name::from_text("mail.example.com", &mut other)?;
+    let message = Message::new(response(&mut octets, zone, 3600, exchange)?);
+    println!("{}", message.as_slice().iter().map(|octet| format!("{octet:02x}")).collect::<String>());
+    let (mut rows, mut names) = ([Row::EMPTY; 8], [0; 8 * MAX_LEN]);
+    for entry in message.table(&mut rows, &mut names).records() {
+        let (owner, record) = entry?;
+        let (ttl, preference) = (record.ttl, message.number_in_data(&record, 0)?);
+        let exchange = message.name_in_data(&record, 0, &mut buffer)?;
+        println!("{owner:#} {ttl} {} {preference} {exchange:#}", Type(record.rtype));
+    }
+    Ok(())
+}

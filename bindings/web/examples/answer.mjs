@@ -1,0 +1,26 @@
+// Writes a response with one MX record, and reads it back, in node:
+//
+//     node answer.mjs MODULE
+//
+// The zone's name is compressed where it is repeated. Data are written as they are passed: the exchange's name in them isn't
+// compressed.
+import { readFileSync } from "node:fs";
+import { load } from "../dnsnames.mjs";
+
+const dns = await load(readFileSync(process.argv[2]));
+const MX = dns.numberOf("type", "MX");
+
+// The octets of the response (RFC 1035, 4.1). Its flags are QR, RD and RA.
+function response(zone, ttl, preference, exchange) {
+    const builder = dns.builder({ capacity: 512, id: 0x1234, flags: 0x8180 });
+    builder.question(zone, MX);
+    builder.record("answers", zone, MX, Uint8Array.of(preference >> 8, preference & 255, ...exchange), { ttl });
+    return builder.finish();
+}
+
+const message = response(dns.fromText("example.com"), 3600, 10, dns.fromText("mail.example.com"));
+console.log(Buffer.from(message).toString("hex"));
+for (const record of dns.table(message).filter(({ section }) => section === "answers")) {
+    const type = dns.mnemonic("type", record.type), preference = dns.numberInData(message, record);
+    console.log(dns.toText(record.name), record.ttl, type, preference, dns.nameInData(message, record).text);
+}
