@@ -33,7 +33,7 @@ extern "C" {
 
 /* The most octets of an uncompressed name: a buffer of this size has room for each. */
 #define DNSNAMES_MAX_LEN 255
-/* The most octets of a name's text, with a zero octet after it: a buffer of this size has room for each. */
+/* A buffer of this size has room for the text of each name, which has at most 1,004 octets, and a zero octet after it. */
 #define DNSNAMES_MAX_TEXT 1020
 /* The limit of pointers that allows all that a name can have. */
 #define DNSNAMES_MAX_POINTERS 255
@@ -81,7 +81,7 @@ typedef enum dnsnames_status {
     DNSNAMES_EMPTY_LABEL = 15,
     /* Compressing: the table has more than 128 offsets, or one past 16,383. */
     DNSNAMES_NO_TABLE = 16,
-    /* Compressing: the name is to be written uncompressed. */
+    /* Compressing: the name is to be written uncompressed. No fault. */
     DNSNAMES_FLAT = 17,
     /* A pointer is null: that of a result, or one whose length or capacity is not 0. */
     DNSNAMES_NULL = 18,
@@ -231,6 +231,9 @@ dnsnames_status dnsnames_plan(const uint8_t *octets, size_t octets_len, const ui
  * *octets_len. The offsets of the labels that were written, but of the root, are added to the table as long as they
  * are below 16,384, and the table has fewer than DNSNAMES_MAX_TABLE and than its capacity; *table_len becomes how many
  * it has. A message begins with *table_len 0.
+ *
+ * It is for names of questions, owners of records, and names in data of the types of RFC 1035 alone: in data of other types,
+ * as SRV or DNAME, names are written uncompressed (RFC 3597, 4).
  *
  * BAD_LENGTH where *octets_len or *table_len is larger than its capacity, NO_TABLE, NO_NAME, NO_ROOM where the octets
  * don't fit: octets, table and both lengths are then as they were.
@@ -453,10 +456,21 @@ dnsnames_status dnsnames_data_option(const uint8_t *message, size_t message_len,
 
 /* ---- Messages as text ---- */
 
-/* The text of a message, as dig writes it (docs/LIBRARY.md shows one): two lines of its header, and for each section its
- * heading and a line for each question or record, each with a newline. Data that can't be read by their type are shown as
- * octets (RFC 3597, 5), with the reason behind them. Names that pointers lead to are written out, so a message of 65,535
- * octets can be made whose text has more than nine million.
+/* The text of a message, as dig writes it: two lines of its header, and for each section its heading and a line for each
+ * question or record, each with a newline:
+ *
+ *     ;; opcode: QUERY, status: NOERROR, id: 4660
+ *     ;; flags: qr rd ra; QUESTION: 1, ANSWER: 1, AUTHORITY: 0, ADDITIONAL: 1
+ *     ;; QUESTION SECTION
+ *     www.example.com. IN A
+ *     ;; ANSWER SECTION
+ *     www.example.com. 300 IN A 192.0.2.1
+ *     ;; AUTHORITY SECTION
+ *     ;; ADDITIONAL SECTION
+ *     ; EDNS: version: 0, flags: do; udp: 1232
+ *
+ * Data that can't be read by their type are shown as octets (RFC 3597, 5), with the reason behind them. Names that pointers
+ * lead to are written out, so a message of 65,535 octets can be made whose text has more than nine million.
  *
  * The buffer gets what fits of it, *length its whole size: with NO_ROOM, too, which tells so where not all fits. Where all
  * fits and there is room, a zero octet follows it. SHORT_INPUT where the message ends before all that its header counts, or

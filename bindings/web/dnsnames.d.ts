@@ -66,6 +66,8 @@ export type Kind = "type" | "class" | "opcode" | "rcode";
 /** A writer of names with compression. */
 export interface Composer {
     append(name: Uint8Array): void;
+    appendOctets(more: Uint8Array): void;
+    setUint16(offset: number, number: number): void;
     octets(): Uint8Array;
 }
 
@@ -92,8 +94,9 @@ export interface Builder {
     finish(): Uint8Array;
 }
 
-/** The module of these octets, made ready: dnsnames_c.wasm, or dnsnames_c32.wasm where there is no 64-bit memory. */
-export function load(octets: BufferSource): Promise<DnsNames>;
+/** The module made ready, of its octets or of what `fetch` gives: dnsnames_c.wasm, or dnsnames_c32.wasm where there is no
+ *  64-bit memory. */
+export function load(source: BufferSource | Response | PromiseLike<BufferSource | Response>): Promise<DnsNames>;
 
 /** The calls of one module. */
 export class DnsNames {

@@ -1,7 +1,7 @@
 // Domain names and DNS messages (RFC 1035) in JavaScript, read by the proved module dnsnames_c.wasm.
 //
 //     import { load } from "./dnsnames.mjs";
-//     const dns = await load(await (await fetch("dnsnames_c.wasm")).arrayBuffer());
+//     const dns = await load(fetch("dnsnames_c.wasm"));
 //     dns.readName(message, 12).text          // "www.example.com."
 //
 // Octets go in as Uint8Array and come back as new ones. A refusal throws NameFault. What octets and texts spell is
@@ -69,10 +69,11 @@ export class NameFault extends Error {
     }
 }
 
-/** The module of these octets (an ArrayBuffer or Uint8Array), made ready: dnsnames_c.wasm, or its copy dnsnames_c32.wasm
- *  where there is no 64-bit memory, so that WebAssembly.validate says no of the other. */
-export async function load(octets) {
-    const { instance } = await WebAssembly.instantiate(octets, {});
+/** The module made ready, of its octets (an ArrayBuffer or Uint8Array) or of what `fetch` gives: dnsnames_c.wasm, or its copy
+ *  dnsnames_c32.wasm where there is no 64-bit memory, so that WebAssembly.validate says no of the other. */
+export async function load(source) {
+    const given = await source, isOctets = given instanceof ArrayBuffer || ArrayBuffer.isView(given);
+    const { instance } = await (isOctets ? WebAssembly.instantiate(given, {}) : WebAssembly.instantiateStreaming(given, {}));
     return new DnsNames(instance.exports);
 }
 
@@ -470,6 +471,15 @@ export class DnsNames {
             append: (name) => {
                 [length, tableLength] = this.#append(octets, length, table, tableLength, name);
             },
+            /** Appends octets as they are, as a header or the fields between names; throws NoRoom, and changes nothing then. */
+            appendOctets: (more) => {
+                if (more.length > capacity - length) throw new NameFault(NO_ROOM);
+                octets.set(more, length);
+                length += more.length;
+            },
+            /** The two octets at an offset of what was composed become this number, the high one first: a count of the
+             *  header, or the length of data behind it. Throws RangeError where they aren't there. */
+            setUint16: (offset, number) => new DataView(octets.buffer, 0, length).setUint16(offset, number),
             /** What was composed. */
             octets: () => octets.slice(0, length),
         };

@@ -113,6 +113,23 @@ assert.deepEqual([dns.readName(built, asked.offset).text, dns.readName(built, ad
 assert.deepEqual([address.ttl, [...address.data], opt.type, opt.class, opt.ttl], [60, [192, 0, 2, 1], 41, 1232, 0x01008000]);
 assert.equal(faultOf(() => dns.builder({ capacity: 11 })), "NoRoom");
 
+// A message that is composed by hand: a header, a CNAME record with compressed data, whose length is set behind them.
+const composer = dns.composer(47);
+composer.appendOctets(Uint8Array.of(0, 7, 128, 0, 0, 0, 0, 1, 0, 0, 0, 0));
+composer.append(from("www.example.com"));
+composer.appendOctets(Uint8Array.of(0, 5, 0, 1, 0, 0, 0, 60, 0, 0));
+composer.append(from("host.EXAMPLE.com"));
+assert.equal(faultOf(() => composer.appendOctets(new Uint8Array(2))), "NoRoom");
+composer.setUint16(37, 7);
+assert.throws(() => composer.setUint16(45, 0), RangeError);
+const composed = composer.octets();
+assert.deepEqual([composed.length, dns.recordText(composed, 12)], [46, "www.example.com. 60 IN CNAME host.example.com."]);
+
+// The module of what fetch gives.
+const headers = { "content-type": "application/wasm" };
+const fetched = await load(Promise.resolve(new Response(readFileSync(process.argv[2]), { headers })));
+assert.equal(fetched.readName(message).text, "a.");
+
 // A table has what the calls for one name, question or record have, up to the first fault.
 const oneByOne = (message) => {
     const entries = [];

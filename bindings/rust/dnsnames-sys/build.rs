@@ -1,16 +1,17 @@
 //! Finds the library: in the folder that DNSNAMES_LIB_DIR names, else by pkg-config.
 
+use std::env::{var, var_os};
 use std::process::Command;
 
 fn main() {
-    for name in ["DNSNAMES_LIB_DIR", "PKG_CONFIG_PATH", "DOCS_RS"] {
+    for name in ["DNSNAMES_LIB_DIR", "PKG_CONFIG", "PKG_CONFIG_PATH", "DOCS_RS"] {
         println!("cargo:rerun-if-env-changed={name}");
     }
     // Pages need no library: there is none where docs.rs makes them.
-    if std::env::var_os("DOCS_RS").is_some() {
+    if var_os("DOCS_RS").is_some() {
         return;
     }
-    match std::env::var("DNSNAMES_LIB_DIR") {
+    match var("DNSNAMES_LIB_DIR") {
         Ok(folder) => link_archive(&folder),
         Err(_) => link_by_pkg_config(),
     }
@@ -27,8 +28,13 @@ fn link_archive(folder: &str) {
     println!("cargo:rustc-link-lib=static=dnsnames");
 }
 
+/// PKG_CONFIG names another pkg-config. That of this machine doesn't know the libraries of another.
 fn link_by_pkg_config() {
-    let answer = Command::new("pkg-config").args(["--libs", "dnsnames"]).output();
+    if var_os("PKG_CONFIG").is_none() && var_os("HOST") != var_os("TARGET") {
+        panic!("built for another machine: set DNSNAMES_LIB_DIR to the folder of its libdnsnames.a, or PKG_CONFIG");
+    }
+    let command = var("PKG_CONFIG").unwrap_or_else(|_| "pkg-config".to_string());
+    let answer = Command::new(command).args(["--libs", "dnsnames"]).output();
     let flags = match answer {
         Ok(output) if output.status.success() => String::from_utf8_lossy(&output.stdout).into_owned(),
         _ => panic!("the library isn't there: set DNSNAMES_LIB_DIR to the folder of libdnsnames.a, or install it"),

@@ -40,7 +40,7 @@ pub use table::{Row, Table, TableQuestions, TableRecords};
 
 /// The most octets of a name: a buffer of this size has room for each.
 pub const MAX_LEN: usize = dnsnames_sys::DNSNAMES_MAX_LEN;
-/// The most octets of a name's text.
+/// A buffer of this size has room for the text of each name, which has at most 1,004 octets.
 pub const MAX_TEXT: usize = dnsnames_sys::DNSNAMES_MAX_TEXT;
 /// The limit on pointers that allows all that a name can have.
 pub const MAX_POINTERS: u8 = dnsnames_sys::DNSNAMES_MAX_POINTERS;

@@ -304,6 +304,19 @@ impl<'a> Message<'a> {
         Ok(Questions { message: *self, offset: 12, left: self.header()?.questions })
     }
 
+    /// The records of one section, up to the first that can't be read, whose fault ends them. The fault of an entry before
+    /// the section comes at once.
+    pub fn section(&self, section: Section) -> Result<Records<'a>, Fault> {
+        let mut records = self.records()?;
+        for before in [Section::Answer, Section::Authority].into_iter().take(section as usize) {
+            for _ in 0..records.left[before as usize] {
+                records.next().transpose()?;
+            }
+        }
+        records.left[section as usize + 1..].fill(0);
+        Ok(records)
+    }
+
     /// The records of all sections, up to the first that can't be read, whose fault ends them. A question's fault comes
     /// at once.
     pub fn records(&self) -> Result<Records<'a>, Fault> {
@@ -528,6 +541,26 @@ impl<'a> Composer<'a> {
     /// What was composed.
     pub fn as_slice(&self) -> &[u8] {
         &self.octets[..self.len]
+    }
+
+    /// How many octets were composed.
+    pub fn len(&self) -> usize {
+        self.len
+    }
+
+    /// Whether none were.
+    pub fn is_empty(&self) -> bool {
+        self.len == 0
+    }
+
+    /// How many octets there can be.
+    pub fn capacity(&self) -> usize {
+        self.octets.len()
+    }
+
+    /// Takes away what was composed, so that another message begins.
+    pub fn clear(&mut self) {
+        (self.len, self.table_len) = (0, 0);
     }
 }
 

@@ -159,6 +159,17 @@ fn entries() {
     assert_eq!((records[0].ttl, records[1].data, records[2].section), (3600, &[192, 0, 2, 1][..], Section::Additional));
     let mut buffer = [0; MAX_LEN];
     assert_eq!(message.name(records[0].data_offset, &mut buffer).unwrap().name.to_string(), "host.example.com");
+    for (section, wanted) in
+        [(Section::Answer, &records[..2]), (Section::Authority, &[]), (Section::Additional, &records[2..])]
+    {
+        assert!(message.section(section).unwrap().map(Result::unwrap).eq(wanted.iter().copied()));
+    }
+    let cut = Message::new(&RESPONSE[..RESPONSE.len() - 1]);
+    assert!(cut.section(Section::Authority).unwrap().next().is_none());
+    assert!(cut.section(Section::Additional).unwrap().eq([Err(Fault::ShortInput)]));
+    let cut = Message::new(&RESPONSE[..60]);
+    assert!(cut.section(Section::Answer).unwrap().map(Result::err).eq([None, Some(Fault::ShortInput)]));
+    assert_eq!(cut.section(Section::Authority).err(), Some(Fault::ShortInput));
     for len in 0..RESPONSE.len() {
         let cut = Message::new(&RESPONSE[..len]);
         let read = cut.records().and_then(|mut records| records.try_for_each(|record| record.map(|_| ())));
@@ -177,7 +188,12 @@ fn composing() {
     assert_eq!(&composer.as_slice()[29..], b"\x04mail\xc0\x10");
     assert_eq!(composer.append(name("example.org", &mut buffer)), Err(Fault::NoRoom(None)));
     assert_eq!(composer.append_octets(&[0; 5]), Err(Fault::NoRoom(Some(5))));
-    assert_eq!(composer.as_slice().len(), 36);
+    assert_eq!((composer.as_slice().len(), composer.len(), composer.capacity()), (36, 36, 40));
+    composer.clear();
+    assert!(composer.is_empty());
+    composer.append(name("www.example.com", &mut buffer)).unwrap();
+    composer.append(name("www.example.com", &mut buffer)).unwrap();
+    assert_eq!(composer.as_slice(), b"\x03www\x07example\x03com\0\xc0\0");
     assert_eq!(Composer::new(&mut []).append(Name::ROOT), Err(Fault::NoRoom(None)));
 }
 

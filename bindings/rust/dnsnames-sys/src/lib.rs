@@ -12,7 +12,7 @@ use core::ffi::c_char;
 
 /// The most octets of an uncompressed name.
 pub const DNSNAMES_MAX_LEN: usize = 255;
-/// The most octets of a name's text, with a zero octet after it.
+/// Room for the text of each name, which has at most 1,004 octets, and a zero octet after it.
 pub const DNSNAMES_MAX_TEXT: usize = 1020;
 /// The limit of pointers that allows all that a name can have.
 pub const DNSNAMES_MAX_POINTERS: u8 = 255;
@@ -62,7 +62,7 @@ pub const DNSNAMES_LONG_LABEL: dnsnames_status = 14;
 pub const DNSNAMES_EMPTY_LABEL: dnsnames_status = 15;
 /// Compressing: the table has more than 128 offsets, or one past 16,383.
 pub const DNSNAMES_NO_TABLE: dnsnames_status = 16;
-/// Compressing: the name is to be written uncompressed.
+/// Compressing: the name is to be written uncompressed. No fault.
 pub const DNSNAMES_FLAT: dnsnames_status = 17;
 /// A pointer is null: that of a result, or one whose length or capacity is not 0.
 pub const DNSNAMES_NULL: dnsnames_status = 18;
