@@ -14,6 +14,9 @@ export class NameFault extends Error {
     constructor(status: number, offset?: number);
 }
 
+/** The flags, where they stand in the header's 16 bits. */
+export const FLAGS: Readonly<Record<"QR" | "AA" | "TC" | "RD" | "RA" | "AD" | "CD", number>>;
+
 /** A name that was read: its wire format without compression, its text with a final dot, and its labels, the root's last. */
 export interface NameRead {
     octets: Uint8Array;

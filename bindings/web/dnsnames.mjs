@@ -16,6 +16,12 @@ const MAX_MNEMONIC = 12;
 const BUILDER = { size: 320, len: 8, flags: 18 };
 const SECTIONS = ["answers", "authority", "additional"];
 
+/** The flags, where they stand in the header's 16 bits (RFC 1035, 4.1.1; AD and CD RFC 4035, 3.1.6 and 3.2). The four bits
+ *  of the opcode are flags >> 11 & 15, those of the response code flags & 15. */
+export const FLAGS = Object.freeze({
+    QR: 0x8000, AA: 0x0400, TC: 0x0200, RD: 0x0100, RA: 0x0080, AD: 0x0020, CD: 0x0010,
+});
+
 // A row of the module's table has eight numbers of 32 bits; no question or record has fewer than five octets.
 const ROW_LEN = 8;
 const LEAST_ENTRY = 5;

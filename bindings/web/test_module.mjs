@@ -4,7 +4,7 @@
 //     node --experimental-wasm-memory64 test_module.mjs dnsnames_c.wasm
 import assert from "node:assert/strict";
 import { readFileSync } from "node:fs";
-import { DnsNames, load, NameFault } from "./dnsnames.mjs";
+import { DnsNames, FLAGS, load, NameFault } from "./dnsnames.mjs";
 
 const dns = await load(readFileSync(process.argv[2]));
 const from = (text) => dns.fromText(text);
@@ -87,7 +87,12 @@ assert.deepEqual([...dns.optionsInData(...edns)].map(({ code, data }) => [code, 
 assert.equal(faultOf(() => [...dns.optionsInData(...ofData(41, octets("000a0001")))]), "ShortInput");
 assert.equal(faultOf(() => dns.opt(soa[1])), "NoField");
 
-// Types and codes.
+// Types and codes; flags, as the text of a message has them.
+for (const [name, bit] of Object.entries(FLAGS)) {
+    const text = dns.messageText(dns.builder({ flags: bit }).finish());
+    assert.equal(text.match(/;; flags: (\w+);/)[1], name.toLowerCase());
+}
+assert.equal(Object.values(FLAGS).reduce((left, right) => left | right), 0x87b0);
 assert.deepEqual([dns.mnemonic("type", 15), dns.mnemonic("class", 4660), dns.mnemonic("rcode", 3)], ["MX", "CLASS4660", "NXDOMAIN"]);
 assert.deepEqual([dns.numberOf("type", "aaaa"), dns.numberOf("type", "TYPE65280"), dns.numberOf("opcode", "UPDATE")], [28, 65280, 5]);
 assert.equal(faultOf(() => dns.numberOf("type", "MXX")), "NoMnemonic");

@@ -131,10 +131,13 @@ class Rcode(_Number):
 
 
 class Flags(IntFlag):
-    """The flags of a header (RFC 1035, 4.1.1; AD and CD RFC 4035, 3.1.6 and 3.2), where they stand in its 16 bits.
+    """The flags of a header (RFC 1035, 4.1.1; AD and CD RFC 4035, 3.1.6 and 3.2), where they stand in its 16 bits. Their
+    text is that of those that are set, as `dig` writes it.
 
     >>> Flags.QR | Flags.AA in Flags(0x8580), int(Flags.RD)
     (True, 256)
+    >>> print(Flags.QR | Flags.AA)
+    qr aa
     """
 
     QR = 0x8000
@@ -144,3 +147,9 @@ class Flags(IntFlag):
     RA = 0x0080
     AD = 0x0020
     CD = 0x0010
+
+    def __str__(self) -> str:
+        return " ".join(flag.name.lower() for flag in type(self) if flag in self)
+
+    def __format__(self, spec: str) -> str:
+        return format(str(self), spec) if not spec or spec[-1] in "s<>^0123456789" else int.__format__(self, spec)

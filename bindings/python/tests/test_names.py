@@ -404,6 +404,9 @@ class Mnemonics(unittest.TestCase):
     def test_of_a_message(self):
         message = Message(RESPONSE)
         self.assertEqual(message.header.flag_names, dnsnames.Flags.QR | dnsnames.Flags.RD | dnsnames.Flags.RA)
+        flags = message.header.flag_names
+        self.assertEqual((str(flags), f"{flags}", f"{flags:>9}", f"{flags:x}"), ("qr rd ra", "qr rd ra", " qr rd ra", "8180"))
+        self.assertEqual(str(dnsnames.Flags(0)), "")
         self.assertEqual([str(record.type) for record in message.records()], ["CNAME", "A", "OPT"])
         self.assertEqual((str(message.header.opcode), str(message.header.rcode)), ("QUERY", "NOERROR"))
 

@@ -3,12 +3,11 @@
 //! The zone's name is compressed where it is repeated. Data are written as they are passed: the exchange's name in them
 //! isn't compressed.
 
-use dnsnames::{Builder, Fault, Message, Name, Row, Section, Type, MAX_LEN};
+use dnsnames::{Builder, Class, Fault, Header, Message, Name, Row, Section, Type, MAX_LEN};
 
-const MX: u16 = 15;
-const IN: u16 = 1;
-/// QR, RD and RA.
-const FLAGS: u16 = 0x8180;
+const MX: u16 = Type::MX.0;
+const IN: u16 = Class::IN.0;
+const FLAGS: u16 = Header::QR | Header::RD | Header::RA;
 
 /// The response in the octets (RFC 1035, 4.1).
 fn response<'a>(octets: &'a mut [u8], zone: Name<'_>, ttl: u32, exchange: Name<'_>) -> Result<&'a [u8], Fault> {

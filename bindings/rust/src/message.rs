@@ -1,6 +1,7 @@
 //! Messages.
 
 use crate::fault::Fault;
+use crate::mnemonic::{Opcode, Rcode};
 use crate::name::{read, Name, Read};
 use crate::MAX_POINTERS;
 use core::net::IpAddr;
@@ -16,6 +17,40 @@ pub struct Header {
     pub answers: u16,
     pub authority: u16,
     pub additional: u16,
+}
+
+/// The flags, where they stand in the sixteen bits (RFC 1035, 4.1.1; AD and CD RFC 4035, 3.1.6 and 3.2).
+///
+/// ```
+/// use dnsnames::{Header, Opcode, Rcode};
+///
+/// let header = Header { flags: Header::QR | Header::AA | 3, ..Header::default() };
+/// assert!(header.has(Header::QR | Header::AA) && !header.has(Header::QR | Header::TC));
+/// assert_eq!((header.opcode(), header.rcode()), (Opcode::QUERY, Rcode::NXDOMAIN));
+/// ```
+impl Header {
+    pub const QR: u16 = DNSNAMES_FLAG_QR;
+    pub const AA: u16 = DNSNAMES_FLAG_AA;
+    pub const TC: u16 = DNSNAMES_FLAG_TC;
+    pub const RD: u16 = DNSNAMES_FLAG_RD;
+    pub const RA: u16 = DNSNAMES_FLAG_RA;
+    pub const AD: u16 = DNSNAMES_FLAG_AD;
+    pub const CD: u16 = DNSNAMES_FLAG_CD;
+
+    /// Whether all of these flags are set.
+    pub fn has(&self, flags: u16) -> bool {
+        self.flags & flags == flags
+    }
+
+    /// The kind of query.
+    pub fn opcode(&self) -> Opcode {
+        Opcode(self.flags >> 11 & 15)
+    }
+
+    /// The four bits of the response code that the header has; with an OPT record there are eight more.
+    pub fn rcode(&self) -> Rcode {
+        Rcode(self.flags & 15)
+    }
 }
 
 /// A question (RFC 1035, 4.1.2). Its name is read at its offset.

@@ -52,6 +52,15 @@ macro_rules! number {
     };
 }
 
+/// Those that dnsnames.h names.
+macro_rules! named {
+    ($kind:ident: $($name:ident = $number:ident),+) => {
+        impl $kind {
+            $(pub const $name: $kind = $kind($number);)+
+        }
+    };
+}
+
 number!(
     /// The type of a record (RFC 1035, 3.2.2). Its text is its mnemonic, or `TYPE` and the number (RFC 3597, 5).
     ///
@@ -59,7 +68,7 @@ number!(
     /// use dnsnames::{Fault, Type};
     ///
     /// assert_eq!(("mx".parse(), "TYPE65280".parse()), (Ok(Type(15)), Ok(Type(65280))));
-    /// assert_eq!(Type(28).to_string(), "AAAA");
+    /// assert_eq!((Type::MX, Type(28).to_string().as_str()), (Type(15), "AAAA"));
     /// assert_eq!("MXX".parse::<Type>(), Err(Fault::NoMnemonic));
     /// ```
     Type, dnsnames_type_text, dnsnames_type_from_text
@@ -76,4 +85,33 @@ number!(
     /// The response code: four bits of the header (RFC 1035, 4.1.1), and eight more where there is an OPT record (RFC 6891,
     /// 6.1.3). Its text is its mnemonic, or `RCODE` and the number.
     Rcode, dnsnames_rcode_text, dnsnames_rcode_from_text
+);
+
+named!(
+    Type:
+    A = DNSNAMES_TYPE_A, NS = DNSNAMES_TYPE_NS, CNAME = DNSNAMES_TYPE_CNAME, SOA = DNSNAMES_TYPE_SOA,
+    PTR = DNSNAMES_TYPE_PTR, HINFO = DNSNAMES_TYPE_HINFO, MX = DNSNAMES_TYPE_MX, TXT = DNSNAMES_TYPE_TXT,
+    AAAA = DNSNAMES_TYPE_AAAA, SRV = DNSNAMES_TYPE_SRV, NAPTR = DNSNAMES_TYPE_NAPTR, DNAME = DNSNAMES_TYPE_DNAME,
+    OPT = DNSNAMES_TYPE_OPT, DS = DNSNAMES_TYPE_DS, SSHFP = DNSNAMES_TYPE_SSHFP, RRSIG = DNSNAMES_TYPE_RRSIG,
+    NSEC = DNSNAMES_TYPE_NSEC, DNSKEY = DNSNAMES_TYPE_DNSKEY, NSEC3 = DNSNAMES_TYPE_NSEC3, TLSA = DNSNAMES_TYPE_TLSA,
+    SVCB = DNSNAMES_TYPE_SVCB, HTTPS = DNSNAMES_TYPE_HTTPS, TSIG = DNSNAMES_TYPE_TSIG, IXFR = DNSNAMES_TYPE_IXFR,
+    AXFR = DNSNAMES_TYPE_AXFR, ANY = DNSNAMES_TYPE_ANY, CAA = DNSNAMES_TYPE_CAA
+);
+named!(
+    Class:
+    IN = DNSNAMES_CLASS_IN, CH = DNSNAMES_CLASS_CH, HS = DNSNAMES_CLASS_HS, NONE = DNSNAMES_CLASS_NONE,
+    ANY = DNSNAMES_CLASS_ANY
+);
+named!(
+    Opcode:
+    QUERY = DNSNAMES_OPCODE_QUERY, IQUERY = DNSNAMES_OPCODE_IQUERY, STATUS = DNSNAMES_OPCODE_STATUS,
+    NOTIFY = DNSNAMES_OPCODE_NOTIFY, UPDATE = DNSNAMES_OPCODE_UPDATE, DSO = DNSNAMES_OPCODE_DSO
+);
+named!(
+    Rcode:
+    NOERROR = DNSNAMES_RCODE_NOERROR, FORMERR = DNSNAMES_RCODE_FORMERR, SERVFAIL = DNSNAMES_RCODE_SERVFAIL,
+    NXDOMAIN = DNSNAMES_RCODE_NXDOMAIN, NOTIMP = DNSNAMES_RCODE_NOTIMP, REFUSED = DNSNAMES_RCODE_REFUSED,
+    YXDOMAIN = DNSNAMES_RCODE_YXDOMAIN, YXRRSET = DNSNAMES_RCODE_YXRRSET, NXRRSET = DNSNAMES_RCODE_NXRRSET,
+    NOTAUTH = DNSNAMES_RCODE_NOTAUTH, NOTZONE = DNSNAMES_RCODE_NOTZONE, DSOTYPENI = DNSNAMES_RCODE_DSOTYPENI,
+    BADVERS = DNSNAMES_RCODE_BADVERS, BADCOOKIE = DNSNAMES_RCODE_BADCOOKIE
 );

@@ -285,6 +285,25 @@ fn mnemonics() {
 }
 
 #[test]
+fn names_of_numbers() {
+    macro_rules! named {
+        ($kind:ident: $($name:ident)+) => {
+            $(assert_eq!($kind::$name.to_string(), stringify!($name));)+
+        };
+    }
+    named!(Type: A NS CNAME SOA PTR HINFO MX TXT AAAA SRV NAPTR DNAME OPT DS SSHFP RRSIG NSEC DNSKEY NSEC3);
+    named!(Type: TLSA SVCB HTTPS TSIG IXFR AXFR ANY CAA);
+    named!(Class: IN CH HS NONE ANY);
+    named!(Opcode: QUERY IQUERY STATUS NOTIFY UPDATE DSO);
+    named!(Rcode: NOERROR FORMERR SERVFAIL NXDOMAIN NOTIMP REFUSED YXDOMAIN YXRRSET NXRRSET NOTAUTH NOTZONE);
+    named!(Rcode: DSOTYPENI BADVERS BADCOOKIE);
+    let flags = [Header::QR, Header::AA, Header::TC, Header::RD, Header::RA, Header::AD, Header::CD];
+    assert_eq!(flags, [0x8000, 0x400, 0x200, 0x100, 0x80, 0x20, 0x10]);
+    let header = Header { flags: 0xaf9b, ..Header::default() };
+    assert_eq!((header.opcode(), header.rcode()), (Opcode::UPDATE, Rcode(11)));
+}
+
+#[test]
 fn built() {
     let (mut octets, mut buffer, mut other) = ([0; 56], [0; MAX_LEN], [0; MAX_LEN]);
     let (owner, host) = (name("www.example.com", &mut buffer), name("host.example.com", &mut other));

@@ -5,14 +5,14 @@
 // The zone's name is compressed where it is repeated. Data are written as they are passed: the exchange's name in them isn't
 // compressed.
 import { readFileSync } from "node:fs";
-import { load } from "../dnsnames.mjs";
+import { FLAGS, load } from "../dnsnames.mjs";
 
 const dns = await load(readFileSync(process.argv[2]));
 const MX = dns.numberOf("type", "MX");
 
-// The octets of the response (RFC 1035, 4.1). Its flags are QR, RD and RA.
+// The octets of the response (RFC 1035, 4.1).
 function response(zone, ttl, preference, exchange) {
-    const builder = dns.builder({ capacity: 512, id: 0x1234, flags: 0x8180 });
+    const builder = dns.builder({ capacity: 512, id: 0x1234, flags: FLAGS.QR | FLAGS.RD | FLAGS.RA });
     builder.question(zone, MX);
     builder.record("answers", zone, MX, Uint8Array.of(preference >> 8, preference & 255, ...exchange), { ttl });
     return builder.finish();
