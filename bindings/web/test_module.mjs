@@ -204,4 +204,6 @@ const longest = new Array(127).fill([1, 97]).flat();
 const led = [...longest, 0, 0, 1, 0, 1, ...new Array(10877).fill([192, 12, 0, 1, 0, 1]).flat()];
 const amplified = dns.table(counting([10878 >> 8, 10878 & 255, 0, 0, 0, 0, 0, 0], led));
 assert.deepEqual([amplified.length, new Set(amplified.map(({ name }) => name.length))], [10878, new Set([255])]);
+const longText = dns.messageText(counting([10878 >> 8, 10878 & 255, 0, 0, 0, 0, 0, 0], led));
+assert.equal(longText.match(/^(a\.){127} IN A$/gm).length, 10878);
 console.log("passed");
