@@ -169,6 +169,8 @@ for (let end = 0; end <= message.length; end++) {
     assert.deepEqual(tableOf(message.slice(0, end)), oneByOne(message.slice(0, end)));
     assert.equal(tableOf(message.slice(0, end)).fault, end < message.length ? "ShortInput" : "");
 }
+// A part of a larger buffer, as node's Buffer is one.
+assert.deepEqual(dns.table(Uint8Array.of(...new Array(5).fill(255), ...message).subarray(5)), dns.table(message));
 let state = 7;
 const random = (below) => (state = (Math.imul(state, 1664525) + 1013904223) >>> 0, Math.floor(state / 2 ** 32 * below));
 let whole = 0;
