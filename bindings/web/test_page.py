@@ -162,6 +162,13 @@ class Page(unittest.TestCase):
             ";; QUESTION SECTION", ". IN A", ";; ANSWER SECTION", "unexpected end of input",
         ])
 
+    def test_a_long_text(self):
+        """Names that pointers lead to are written out, so a text can have millions of octets."""
+        name, questions = "0161" * 127 + "00", 10878
+        self.type_into("digits", f"00078180{questions:04x}000000000000{name}00010001" + "c00c00010001" * (questions - 1))
+        text = self.driver.execute_script("return document.getElementById('text').textContent")
+        self.assertEqual(text.count("\n" + "a." * 127 + " IN A"), questions)
+
     def test_a_changed_entry_is_built(self):
         self.type_into("entries", "question www.example.com. IN A\nanswer www.example.com. 60 IN A \\# 4 c0000201")
         # The identifier and the flags stay; the owner is a pointer to the question's name (RFC 1035, 4.1.4).
