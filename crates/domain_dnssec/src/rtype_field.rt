@@ -7,7 +7,7 @@ ghost use Rattle.domain_fields.specs.Reading.{any_reading};
 ghost use Rattle.domain_header.specs.Rtypes.{rtype_text};
 ghost use Rattle.domain_rdata.specs.Rtypes.{rtype_number};
 
-use domain_fields::{FlattenField, OrderedField, ReadBackField, ReadField};
+use domain_fields::{FlattenField, HashedField, OrderedField, ReadBackField, ReadField};
 use domain_header::mnemonic::mnemonic_word;
 use domain_header::rtypes::rtypes;
 use domain_rdata::Rtype;
@@ -16,6 +16,7 @@ use octseq::{OctetsBuilder, Parser, ShortBuf};
 use std::alloc::Global;
 use std::cmp::Ordering;
 use std::fmt;
+use std::hash::Hasher;
 
 /// The type of other records: a number of 16 bits, written by its mnemonic.
 #[derive(Clone, Copy, Debug, PartialEq, Eq)]
@@ -71,6 +72,12 @@ impl OrderedField for RtypeField {
         let number = self.rtype.to_int();
         let other = other.rtype.to_int();
         number.canonical_field_cmp(&other, lowercase)
+    }
+}
+
+impl HashedField for RtypeField {
+    fn hash_field<H: Hasher>(&self, state: &mut H) {
+        self.rtype.to_int().hash_field(state);
     }
 }
 

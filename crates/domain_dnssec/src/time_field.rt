@@ -7,7 +7,7 @@ ghost use Rattle.domain_fields.specs.Reading.{any_reading};
 ghost use Rattle.domain_dnssec.specs.Times.{time_text};
 ghost use Rattle.jiff.specs.Words.{civil_nanos};
 
-use domain_fields::{FlattenField, OrderedField, ReadBackField, ReadField};
+use domain_fields::{FlattenField, HashedField, OrderedField, ReadBackField, ReadField};
 use domain_wire::{Compose, FixedLen, Parse, ParseError};
 use jiff::Timestamp;
 use jiff::civil::DateTime;
@@ -16,6 +16,7 @@ use octseq::{OctetsBuilder, Parser, ShortBuf};
 use std::alloc::Global;
 use std::cmp::Ordering;
 use std::fmt;
+use std::hash::Hasher;
 
 /// A time in seconds since 1970 began, in UTC, of 32 bits: written as a date and a time of day (RFC 4034, 3.2), as of the
 /// years from 1970 to 2106.
@@ -87,6 +88,12 @@ impl<'a> ReadField<'a, ParseError> for TimeField {
 impl OrderedField for TimeField {
     fn canonical_field_cmp(&self, other: &TimeField, lowercase: bool) -> Ordering {
         self.seconds.canonical_field_cmp(&other.seconds, lowercase)
+    }
+}
+
+impl HashedField for TimeField {
+    fn hash_field<H: Hasher>(&self, state: &mut H) {
+        self.seconds.hash_field(state);
     }
 }
 

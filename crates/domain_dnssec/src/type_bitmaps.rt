@@ -15,7 +15,9 @@ ghost use Rattle.domain_dnssec.specs.TypesText.{types_text};
 
 use crate::rtype_field::RtypeField;
 use crate::type_blocks::{TypesIter, check_blocks};
-use domain_fields::{DataField, FlattenField, OrderedLast, ReadBackLast, ReadField};
+use domain_fields::{
+    DataField, FlattenField, HashedField, OrderedLast, ReadBackLast, ReadField, hash_octets,
+};
 use domain_rdata::{Composer, LongRecordData};
 use domain_wire::ParseError;
 use octseq::{Octets, Parser, SameOctets, ShortBuf};
@@ -23,6 +25,7 @@ use std::alloc::{AllocError, Global};
 use std::cmp::Ordering;
 use std::error::Error;
 use std::fmt;
+use std::hash::Hasher;
 
 /// Octets that are no bitmaps of types.
 #[derive(Clone, Copy, Debug)]
@@ -231,6 +234,12 @@ impl<Octs: Octets> DataField for TypeBitmaps<Octs> {
 impl<Octs: Octets> OrderedLast for TypeBitmaps<Octs> {
     fn canonical_last_cmp(&self, other: &TypeBitmaps<Octs>, _lowercase: bool) -> Ordering {
         self.as_slice().cmp(other.as_slice())
+    }
+}
+
+impl<Octs: Octets> HashedField for TypeBitmaps<Octs> {
+    fn hash_field<H: Hasher>(&self, state: &mut H) {
+        hash_octets(self.as_slice(), state);
     }
 }
 

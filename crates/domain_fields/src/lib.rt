@@ -4,16 +4,20 @@
 mod display;
 pub mod field;
 pub mod flatten;
+pub mod hash;
 pub mod name_field;
 pub mod order;
+pub mod ordered_data;
 pub mod read;
 pub mod read_back;
 pub mod sequence;
 
 pub use field::DataField;
 pub use flatten::FlattenField;
+pub use hash::{HashedField, hash_octets};
 pub use name_field::{DataName, NameField, UncompressedNameField};
 pub use order::{OrderedField, OrderedLast};
+pub use ordered_data::OrderedData;
 pub use read::{FieldError, ReadField, read_all};
 pub use read_back::{ReadBackData, ReadBackField, ReadBackLast};
 pub use sequence::Sequence;

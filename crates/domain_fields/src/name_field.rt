@@ -1,6 +1,6 @@
 //! Names in record data.
-ghost use Rattle.std.specs.Prelude.{◌≡◌, ◌++◌, ◌∷◌, [], ◌+◌, ◌<◌, ◌≤◌, ℕ, List, length, OnOk, OnErr, None, Some, if◌then◌else◌, refl};
-ghost use Rattle.domain_label.specs.Lowercase.{lowercase_labels};
+ghost use Rattle.std.specs.Prelude.{◌≡◌, ◌++◌, ◌∷◌, [], ◌+◌, ◌<◌, ◌≤◌, ℕ, List, length, fold, OnOk, OnErr, None, Some, if◌then◌else◌, refl};
+ghost use Rattle.domain_label.specs.Lowercase.{lowercase_labels, as_writes};
 ghost use Rattle.domain_label.specs.Wire.{wire};
 ghost use Rattle.domain_list.specs.Order.{composed_order, lowercase_composed_order};
 ghost use Rattle.domain_parsed.specs.ParsedNames.{parsed_labels};
@@ -15,6 +15,7 @@ ghost use Rattle.domain_fields.specs.Reading.{any_reading};
 
 use crate::field::DataField;
 use crate::read::ReadField;
+use domain_list::hashing::hash_name;
 use domain_list::{Absolute, NameLabels};
 use domain_name::Name;
 use domain_parsed::ParsedName;
@@ -23,6 +24,7 @@ use domain_traits::ToName;
 use domain_wire::ParseError;
 use octseq::{Octets, Parser};
 use std::cmp::Ordering;
+use std::hash::Hasher;
 
 /// An absolute name that record data may have.
 pub trait DataName: Absolute {
@@ -83,6 +85,11 @@ pub trait DataName: Absolute {
     fn lowercase_cmp(&self, other: &Self) -> Ordering
         ensures { result
             ≡ lowercase_composed_order (Self.labels self.now) (Self.labels other.now) };
+
+    /// Writes the octets of the name in lowercase with no pointer to the hasher, each as one `u8`.
+    fn hash_lowercase<H: Hasher>(&self, state: &mut H)
+        ensures { state.new
+            ≡ fold H.write state.old (as_writes (wire (lowercase_labels (Self.labels self.now)))) };
 
     /// Appends the name with no pointer, in lowercase if so, or nothing.
     final fn append_cased<Target: Composer>(
@@ -150,6 +157,10 @@ impl<Octs: Octets> DataName for ParsedName<Octs> {
     fn lowercase_cmp(&self, other: &ParsedName<Octs>) -> Ordering {
         self.lowercase_composed_cmp(other)
     }
+
+    fn hash_lowercase<H: Hasher>(&self, state: &mut H) {
+        hash_name(self, state);
+    }
 }
 
 impl<Octs: Octets> DataName for Name<Octs> {
@@ -180,6 +191,10 @@ impl<Octs: Octets> DataName for Name<Octs> {
 
     fn lowercase_cmp(&self, other: &Name<Octs>) -> Ordering {
         self.lowercase_composed_cmp(other)
+    }
+
+    fn hash_lowercase<H: Hasher>(&self, state: &mut H) {
+        hash_name(self, state);
     }
 }
 

@@ -13,7 +13,8 @@ ghost use Rattle.domain_strings.specs.Quoted.{quoted};
 
 use crate::quoted::Quoted;
 use domain_fields::{
-    DataField, FlattenField, OrderedField, OrderedLast, ReadBackField, ReadBackLast, ReadField,
+    DataField, FlattenField, HashedField, OrderedField, OrderedLast, ReadBackField, ReadBackLast,
+    ReadField, hash_octets,
 };
 use domain_rdata::Composer;
 use domain_wire::ParseError;
@@ -22,6 +23,7 @@ use std::alloc::{AllocError, Global};
 use std::cmp::Ordering;
 use std::error::Error;
 use std::fmt;
+use std::hash::Hasher;
 
 /// A character string has at most 255 octets, since one octet tells how many (RFC 1035, 3.3).
 #[derive(Clone, Copy, Debug, PartialEq, Eq)]
@@ -182,6 +184,15 @@ impl<Octs: Octets> OrderedField for CharString<Octs> {
             Ordering::Equal => octets.cmp(others),
             order => order,
         }
+    }
+}
+
+/// The length, and the octets.
+impl<Octs: Octets> HashedField for CharString<Octs> {
+    fn hash_field<H: Hasher>(&self, state: &mut H) {
+        let octets = self.as_slice();
+        state.write_u8(octets.len() as u8);
+        hash_octets(octets, state);
     }
 }
 

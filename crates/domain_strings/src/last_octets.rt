@@ -18,13 +18,16 @@ use crate::hex::Base16;
 use crate::quoted::QuotedAll;
 use base64::display::Base64Display;
 use base64::engine::general_purpose::STANDARD;
-use domain_fields::{DataField, FlattenField, OrderedLast, ReadBackLast, ReadField};
+use domain_fields::{
+    DataField, FlattenField, HashedField, OrderedLast, ReadBackLast, ReadField, hash_octets,
+};
 use domain_rdata::{Composer, LongRecordData};
 use domain_wire::ParseError;
 use octseq::{Octets, Parser, SameOctets, ShortBuf};
 use std::alloc::{AllocError, Global};
 use std::cmp::Ordering;
 use std::fmt;
+use std::hash::Hasher;
 
 /// All octets up to the end of the data, of any values, at most 65,535. Two are equal where their octets are.
 ///
@@ -156,6 +159,12 @@ impl<const TEXT: u8, Octs: Octets> DataField for LastOctets<TEXT, Octs> {
 impl<const TEXT: u8, Octs: Octets> OrderedLast for LastOctets<TEXT, Octs> {
     fn canonical_last_cmp(&self, other: &LastOctets<TEXT, Octs>, _lowercase: bool) -> Ordering {
         self.as_slice().cmp(other.as_slice())
+    }
+}
+
+impl<const TEXT: u8, Octs: Octets> HashedField for LastOctets<TEXT, Octs> {
+    fn hash_field<H: Hasher>(&self, state: &mut H) {
+        hash_octets(self.as_slice(), state);
     }
 }
 

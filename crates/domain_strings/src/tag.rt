@@ -15,7 +15,9 @@ ghost use Rattle.domain_strings.specs.TagLaws.{tag_reading};
 ghost use Rattle.domain_strings.specs.Views.{char_octets};
 
 use crate::char_string::CharString;
-use domain_fields::{DataField, FlattenField, OrderedField, ReadBackField, ReadField};
+use domain_fields::{
+    DataField, FlattenField, HashedField, OrderedField, ReadBackField, ReadField,
+};
 use domain_label::presentation::ascii_text;
 use domain_rdata::Composer;
 use domain_wire::ParseError;
@@ -24,6 +26,7 @@ use std::alloc::{AllocError, Global};
 use std::cmp::Ordering;
 use std::error::Error;
 use std::fmt;
+use std::hash::Hasher;
 
 /// A tag has one octet or more, and they are letters and digits (RFC 8659, 4.1).
 #[derive(Clone, Copy, Debug, PartialEq, Eq)]
@@ -180,6 +183,12 @@ impl<Octs: Octets> DataField for Tag<Octs> {
 impl<Octs: Octets> OrderedField for Tag<Octs> {
     fn canonical_field_cmp(&self, other: &Tag<Octs>, lowercase: bool) -> Ordering {
         self.string.canonical_field_cmp(&other.string, lowercase)
+    }
+}
+
+impl<Octs: Octets> HashedField for Tag<Octs> {
+    fn hash_field<H: Hasher>(&self, state: &mut H) {
+        self.string.hash_field(state);
     }
 }
 

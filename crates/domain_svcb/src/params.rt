@@ -14,7 +14,9 @@ ghost use Rattle.domain_svcb.specs.ParamsReading.{ParamsAt, NoParamsAt, params_r
 ghost use Rattle.domain_svcb.specs.SvcParams.{HasParams, value_with};
 
 use crate::param::{SvcParamsIter, check_params};
-use domain_fields::{DataField, FlattenField, OrderedLast, ReadBackLast, ReadField};
+use domain_fields::{
+    DataField, FlattenField, HashedField, OrderedLast, ReadBackLast, ReadField, hash_octets,
+};
 use domain_rdata::{Composer, LongRecordData};
 use domain_wire::ParseError;
 use octseq::{Octets, Parser, SameOctets, ShortBuf};
@@ -22,6 +24,7 @@ use std::alloc::{AllocError, Global};
 use std::cmp::Ordering;
 use std::error::Error;
 use std::fmt;
+use std::hash::Hasher;
 
 /// Octets that are no service parameters.
 #[derive(Clone, Copy, Debug)]
@@ -238,6 +241,12 @@ impl<Octs: Octets> DataField for SvcParams<Octs> {
 impl<Octs: Octets> OrderedLast for SvcParams<Octs> {
     fn canonical_last_cmp(&self, other: &SvcParams<Octs>, _lowercase: bool) -> Ordering {
         self.as_slice().cmp(other.as_slice())
+    }
+}
+
+impl<Octs: Octets> HashedField for SvcParams<Octs> {
+    fn hash_field<H: Hasher>(&self, state: &mut H) {
+        hash_octets(self.as_slice(), state);
     }
 }
 

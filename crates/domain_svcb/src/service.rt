@@ -1,5 +1,5 @@
 //! Data of SVCB and of types like it: a priority, a target name, and parameters (RFC 9460, 2.2 and 9).
-ghost use Rattle.std.specs.Prelude.{◌≡◌, ℕ, List, nat_eq, false, true, Some};
+ghost use Rattle.std.specs.Prelude.{◌≡◌, ℕ, List, nat_eq, false, true, Some, refl};
 ghost use Rattle.std.specs.Cmp.{on_total};
 ghost use Rattle.std.specs.Cmp.Lexicographic.{slice_cmp, nat_list_cmp_total};
 ghost use Rattle.std.specs.Ordering.{nat_cmp, on};
@@ -14,8 +14,8 @@ ghost use Rattle.domain_svcb.specs.ServiceViews.{service_fields};
 
 use crate::params::SvcParams;
 use domain_fields::{
-    DataField, FlattenField, OrderedLast, ReadBackData, ReadBackLast, Sequence,
-    UncompressedNameField, read_all,
+    DataField, FlattenField, HashedField, OrderedData, OrderedLast, ReadBackData, ReadBackLast,
+    Sequence, UncompressedNameField, read_all,
 };
 use domain_parsed::ParsedName;
 use domain_rdata::{
@@ -27,6 +27,7 @@ use octseq::{Octets, Parser, ShortBuf};
 use std::alloc::Global;
 use std::cmp::Ordering;
 use std::fmt;
+use std::hash::Hasher;
 
 /// A priority, a target name that is never compressed, and parameters (RFC 9460, 2.2).
 pub type ServiceFields<Octs, N> = Sequence<
@@ -186,6 +187,21 @@ impl<const TYPE: u16, F: OrderedLast> CanonicalOrd for ServiceData<TYPE, F> {
         let lowercase = Rtype::from_int(TYPE).has_lowercase_names();
         self.fields.canonical_last_cmp(&other.fields, lowercase)
     }
+}
+
+/// The octets of the fields, one after the other.
+impl<const TYPE: u16, F: OrderedLast + HashedField> OrderedData for ServiceData<TYPE, F> {
+    ghost cased = { λ it. F.uncompressed (service_fields it) };
+
+    fn cased_data_cmp(&self, other: &ServiceData<TYPE, F>, lowercase: bool) -> Ordering {
+        self.fields.canonical_last_cmp(&other.fields, lowercase)
+    }
+
+    fn hash_data<H: Hasher>(&self, state: &mut H) {
+        self.fields.hash_field(state);
+    }
+
+    ghost keeps_case = { λ _. refl };
 }
 
 /// Each field: the same numbers and parameters, and names that are equal ignoring ASCII case.

@@ -16,6 +16,7 @@ ghost use Rattle.domain_txt.specs.Strings.{HasStrings};
 ghost use Rattle.domain_txt.specs.TxtViews.{strings_left};
 
 use crate::txt_iter::{TxtIter, check_strings, first_string};
+use domain_fields::{OrderedData, hash_octets};
 use domain_rdata::{
     CanonicalError, ComposeRecordData, Composer, LongRecordData, ParseRecordData, RecordData, Rtype,
 };
@@ -27,6 +28,7 @@ use std::alloc::{AllocError, Global};
 use std::cmp::Ordering;
 use std::error::Error;
 use std::fmt;
+use std::hash::Hasher;
 
 /// The number of the type (RFC 1035, 3.2.2).
 const TXT: u16 = 16;
@@ -409,4 +411,21 @@ impl<Octs: Octets> fmt::Debug for Txt<Octs> {
     fn fmt<W: fmt::Write>(&self, f: &mut fmt::Formatter<W>) -> fmt::Result {
         write!(f, "Txt({self})")
     }
+}
+
+/// The octets of the strings, each with its length.
+impl<Octs: Octets> OrderedData for Txt<Octs> {
+    ghost use Rattle.domain_txt.specs.Txts.{txt_octets};
+
+    ghost cased = { λ it _. txt_octets it };
+
+    fn cased_data_cmp(&self, other: &Txt<Octs>, _lowercase: bool) -> Ordering {
+        self.as_slice().cmp(other.as_slice())
+    }
+
+    fn hash_data<H: Hasher>(&self, state: &mut H) {
+        hash_octets(self.as_slice(), state);
+    }
+
+    ghost keeps_case = { λ _. refl };
 }
