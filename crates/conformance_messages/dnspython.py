@@ -188,6 +188,21 @@ def compare_any(line, answer, types):
         differ(line, (data, data.to_digestable().hex()), answer)
 
 
+def compare_order(line, answer):
+    """Two data of one type: the order of their canonical forms."""
+    types, both = line.split(" ")[1::2], [octets_of(field) for field in line.split(" ")[2::2]]
+    if types[0] != types[1] or int(types[0]) not in ANY or answer.startswith("err "):
+        return
+    try:
+        forms = [dns.rdata.from_wire(dns.rdataclass.IN, int(types[0]), it, 0, len(it)).to_digestable() for it in both]
+    except Exception:
+        return
+    counts["data in order"] += 1
+    order = "less" if forms[0] < forms[1] else "greater" if forms[0] > forms[1] else "equal"
+    if answer.split(" ")[0] != order:
+        differ(line, order, answer)
+
+
 def compare_header(line, octets, answer):
     if len(octets) != 12 or any(octets[4:]):
         return
@@ -225,6 +240,8 @@ def main():
                 compare_any(line, answer, ANY)
             elif word == "typed":
                 compare_any(line, answer, TYPED)
+            elif word == "order":
+                compare_order(line, answer)
             elif word == "header":
                 compare_header(line, octets_of(fields[0]), answer)
     different = counts.pop("different", 0)

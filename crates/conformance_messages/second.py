@@ -333,6 +333,39 @@ def any_answer(fields, shapes):
     return f"ok {shown[0]} {shown[1]} {length} {text}"
 
 
+def compared(rtype, octets, shapes):
+    """What data of any type is ordered by, and what it is equal by: the type, and the octets of the canonical form, or those
+    with all names in lowercase."""
+    data = Reader(octets, 0, len(octets))
+    if rtype not in shapes:
+        whole = of_any(rtype, data, shapes)[0]
+        return (rtype, whole), (rtype, whole)
+    of_any(rtype, Reader(octets, 0, len(octets)), shapes)
+    composed, lowercase, _texts = zip(*(field(data, kind, True) for kind in shapes[rtype]))
+    return (rtype, b"".join(lowercase if rtype in LOWERCASE else composed)), (rtype, b"".join(lowercase))
+
+
+def order_answer(fields):
+    """The answer to a line `order`."""
+    try:
+        both = [(int(fields[at]), octets_of(fields[at + 1])) for at in (0, 2)]
+    except ValueError:
+        return "bad"
+    if any(rtype > 65535 for rtype, _octets in both):
+        return "bad"
+    faults, read = [], []
+    for rtype, octets in both:
+        try:
+            read.append(compared(rtype, octets, ALL))
+        except Refused as why:
+            faults.append(f"err {why}")
+    if faults:
+        return "".join(faults)
+    (first, mine), (second, yours) = read
+    order = "less" if first < second else "greater" if first > second else "equal"
+    return f"{order} {'same' if mine == yours else 'other'}"
+
+
 class Message:
     def __init__(self, octets):
         if len(octets) < 12:
@@ -402,6 +435,8 @@ def answer(line):
         return unread_answer(octets_of(fields[0]))
     if word in ("any", "typed") and len(fields) == 4:
         return any_answer(fields, TYPED if word == "typed" else ALL)
+    if word == "order" and len(fields) == 4:
+        return order_answer(fields)
     if len(fields) != 2 or word not in ("answers", "limit"):
         return "bad"
     try:

@@ -4,9 +4,10 @@
     table.py ANSWERER [WORD ..]
     table.py --random COUNT SEED
 
-ANSWERER is a command that answers the lines of README.md beside this file; those of `answers`, `limit`, `any` and `typed`
-are answered by second.py, those of `rebuild` by rebuild.rows or, where the message can't be read, by second.py. No answer comes from the program itself. Parts of answers that stand here beside their line must be in what is
-answered.
+ANSWERER is a command that answers the lines of README.md beside this file; those of `answers`, `limit`, `any`, `typed`
+and `order` are answered by second.py, those of `rebuild` by rebuild.rows or, where the message can't be read, by
+second.py. No answer comes from the program itself. Parts of answers that stand here beside their line must be in what
+is answered.
 
 With --random it prints lines of so many random and mutated messages, always the same for a SEED.
 """
@@ -643,6 +644,38 @@ def rebuild_rows():
         row("rebuild", message([question(WWW)], [record(AT, rtype, data)]), told="err ")
 
 
+def order_rows():
+    topic("data of any type: the order of two, and whether they are equal")
+    data = [(rtype, octets) for rtype, octets, _text in ANY + TYPED] + list(OF_TYPE.items())
+    for (rtype, octets), (other, octets_of_other) in zip(data, data[1:] + data[:1]):
+        row("order", rtype, octets, rtype, octets, told="equal same")
+        row("order", rtype, octets, rtype, octets.swapcase())
+        row("order", other, octets_of_other, rtype, octets)
+        row("order", rtype, octets[:-1], rtype, octets)
+    for rtype, before, told in ((MX, u16(10), "equal same"), (33, u16(1) + u16(2) + u16(3), "equal same"), (64, u16(1), "less same")):
+        row("order", rtype, before + name("A."), rtype, before + name("a."), told=told)
+    row("order", 47, name("A.") + b"\0\1\x40", 47, name("a.") + b"\0\1\x40", told="less same")
+    row("order", TXT, b"\1a", TXT, b"\1A", told="greater other")
+    row("order", PRIVATE, b"a", PRIVATE, b"ab", told="less other")
+    row("order", NS, b"\1b\0", NS, b"\2aa\0", told="less other")
+    rng = random.Random(5)
+    for _row in range(600):
+        rtype, octets = rng.choice(data)
+        both = []
+        for _data in range(2):
+            changed = bytearray(octets)
+            for place in range(len(changed)):
+                if 64 < changed[place] < 123 and rng.random() < 0.3:
+                    changed[place] ^= 32
+            if changed and rng.random() < 0.3:
+                place = rng.randrange(len(changed))
+                changed[place] = min(255, changed[place] + 1)
+            both.append(bytes(changed))
+        row("order", rtype, both[0], rtype, both[1])
+    for line in ("order 1 00 1", "order 65536 - 1 -", "order 1 - 65536 -", "order x - 1 -", "order 1 0 1 -"):
+        row(line, told="bad")
+
+
 def random_bitmaps(rng):
     """Blocks of bitmaps, mostly in order and of a length that is allowed; the types that have a mnemonic are of second.py."""
     windows = sorted(rng.sample((0, 1, 4, 5, 77, 254, 255), rng.choice((1, 1, 2, 3))))
@@ -755,7 +788,7 @@ def random_lines(count, seed):
 
 def answers_to(lines, answerer):
     """The answer to each line, by rebuild.rows, by second.py or by the command."""
-    ours = [line.split(" ")[0] in ("answers", "limit", "any", "typed", "rebuild") for line in lines]
+    ours = [line.split(" ")[0] in ("answers", "limit", "any", "typed", "order", "rebuild") for line in lines]
     text = "".join(line + "\n" for line, is_ours in zip(lines, ours) if not is_ours)
     ran = subprocess.run(answerer, input=text.encode(), stdout=subprocess.PIPE, check=True)
     others = ran.stdout.decode().splitlines()
@@ -774,7 +807,7 @@ def main():
     if not answerer:
         sys.exit(__doc__)
     for make in (header_rows, section_rows, long_rows, data_rows, chain_rows, answers_rows, limit_rows, any_rows,
-                 typed_rows, service_rows):
+                 typed_rows, service_rows, order_rows):
         make()
     topic("random and mutated messages")
     for line in random_lines(400, 1):

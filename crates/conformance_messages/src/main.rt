@@ -8,6 +8,7 @@ mod compose;
 mod data;
 mod header;
 mod message;
+mod order;
 mod rebuild;
 mod select;
 mod typed;
@@ -16,6 +17,7 @@ use crate::compose::put_composed;
 use crate::data::put_data;
 use crate::header::{put_class, put_header, put_written_header};
 use crate::message::put_message;
+use crate::order::put_order;
 use crate::rebuild::put_rebuilt;
 use crate::select::{put_is_answer, put_limited};
 use conformance_answer::{Answer, Fail, Fields, is};
@@ -30,6 +32,9 @@ fn respond(line: &[u8], out: &mut Answer) {
     if is(word, b"data") || is(word, b"any") || is(word, b"typed") {
         fields.expect(5, out);
         put_data(out, fields);
+    } else if is(word, b"order") {
+        fields.expect(5, out);
+        put_order(out, fields);
     } else if is(word, b"write") {
         fields.expect(3, out);
         put_written_header(out, fields);

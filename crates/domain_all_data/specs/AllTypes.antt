@@ -54,6 +54,78 @@ all_type (Https it) = 65
 all_type (Txt it) = 16
 all_type (Unknown it) = data_type it
 
+-- 1 for data that is held as octets alone, and 0 for other data
+abbrev pub all_held : {O N : Type 0} {g : Ghosts O} → AllRecordData O N g → ℕ
+all_held (Unknown it) = 1
+all_held (A it) = 0
+all_held (Aaaa it) = 0
+all_held (Ns it) = 0
+all_held (Cname it) = 0
+all_held (Ptr it) = 0
+all_held (Dname it) = 0
+all_held (Mx it) = 0
+all_held (Soa it) = 0
+all_held (Srv it) = 0
+all_held (Mb it) = 0
+all_held (Md it) = 0
+all_held (Mf it) = 0
+all_held (Mg it) = 0
+all_held (Mr it) = 0
+all_held (Minfo it) = 0
+all_held (Rp it) = 0
+all_held (Afsdb it) = 0
+all_held (Rt it) = 0
+all_held (Px it) = 0
+all_held (Kx it) = 0
+all_held (Hinfo it) = 0
+all_held (Naptr it) = 0
+all_held (Ds it) = 0
+all_held (Sshfp it) = 0
+all_held (Rrsig it) = 0
+all_held (Nsec it) = 0
+all_held (Dnskey it) = 0
+all_held (Tlsa it) = 0
+all_held (Caa it) = 0
+all_held (Svcb it) = 0
+all_held (Https it) = 0
+all_held (Txt it) = 0
+
+-- data with octets or names of its own: all but addresses
+abbrev pub owns_memory : {O N : Type 0} {g : Ghosts O} → AllRecordData O N g → Type 0
+owns_memory (A it) = ⊥
+owns_memory (Aaaa it) = ⊥
+owns_memory (Ns it) = Unit {0}
+owns_memory (Cname it) = Unit {0}
+owns_memory (Ptr it) = Unit {0}
+owns_memory (Dname it) = Unit {0}
+owns_memory (Mx it) = Unit {0}
+owns_memory (Soa it) = Unit {0}
+owns_memory (Srv it) = Unit {0}
+owns_memory (Mb it) = Unit {0}
+owns_memory (Md it) = Unit {0}
+owns_memory (Mf it) = Unit {0}
+owns_memory (Mg it) = Unit {0}
+owns_memory (Mr it) = Unit {0}
+owns_memory (Minfo it) = Unit {0}
+owns_memory (Rp it) = Unit {0}
+owns_memory (Afsdb it) = Unit {0}
+owns_memory (Rt it) = Unit {0}
+owns_memory (Px it) = Unit {0}
+owns_memory (Kx it) = Unit {0}
+owns_memory (Hinfo it) = Unit {0}
+owns_memory (Naptr it) = Unit {0}
+owns_memory (Ds it) = Unit {0}
+owns_memory (Sshfp it) = Unit {0}
+owns_memory (Rrsig it) = Unit {0}
+owns_memory (Nsec it) = Unit {0}
+owns_memory (Dnskey it) = Unit {0}
+owns_memory (Tlsa it) = Unit {0}
+owns_memory (Caa it) = Unit {0}
+owns_memory (Svcb it) = Unit {0}
+owns_memory (Https it) = Unit {0}
+owns_memory (Txt it) = Unit {0}
+owns_memory (Unknown it) = Unit {0}
+
 -- what data of any type says (RFC 1035, 3.3 and 3.4)
 abbrev pub all_fields : {O P : Type 0} {g : Ghosts O} {h : Ghosts P} → AllRecordData O (ParsedName P h) g → AllFields
 all_fields (A it) = ipv4 (fields_of it)

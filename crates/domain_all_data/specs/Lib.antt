@@ -1,3 +1,4 @@
 pub mod AllData
 pub mod AllTypes
+pub mod TypedOctets
 pub mod Written

@@ -5,6 +5,7 @@ ghost use Rattle.domain_rdata.specs.Rtypes.{rtype_number};
 ghost use Rattle.domain_wire.specs.declared.error.ParseError.{ParseError};
 ghost use Rattle.domain_all_data.specs.AllData.{AllFields, AllDataAt, NoAllData, all_data_reading, fields_text};
 
+use crate::variants::each_variant;
 use domain_data::{
     A, Aaaa, Afsdb, Caa, Cname, Dname, Dnskey, Ds, Hinfo, Kx, Mb, Md, Mf, Mg, Minfo, Mr, Mx, Naptr,
     Ns, Nsec, Ptr, Px, Rp, Rrsig, Rt, Soa, Srv, Sshfp, Tlsa,
@@ -336,123 +337,21 @@ impl<'a> ComposeRecordData for AllRecordData<&'a [u8], ParsedName<&'a [u8]>> {
     ] };
 
     fn rdlen(&self, compress: bool) -> Option<u16> {
-        match self {
-            AllRecordData::A(it) => it.rdlen(compress),
-            AllRecordData::Aaaa(it) => it.rdlen(compress),
-            AllRecordData::Ns(it) => it.rdlen(compress),
-            AllRecordData::Cname(it) => it.rdlen(compress),
-            AllRecordData::Ptr(it) => it.rdlen(compress),
-            AllRecordData::Dname(it) => it.rdlen(compress),
-            AllRecordData::Mx(it) => it.rdlen(compress),
-            AllRecordData::Soa(it) => it.rdlen(compress),
-            AllRecordData::Srv(it) => it.rdlen(compress),
-            AllRecordData::Mb(it) => it.rdlen(compress),
-            AllRecordData::Md(it) => it.rdlen(compress),
-            AllRecordData::Mf(it) => it.rdlen(compress),
-            AllRecordData::Mg(it) => it.rdlen(compress),
-            AllRecordData::Mr(it) => it.rdlen(compress),
-            AllRecordData::Minfo(it) => it.rdlen(compress),
-            AllRecordData::Rp(it) => it.rdlen(compress),
-            AllRecordData::Afsdb(it) => it.rdlen(compress),
-            AllRecordData::Rt(it) => it.rdlen(compress),
-            AllRecordData::Px(it) => it.rdlen(compress),
-            AllRecordData::Kx(it) => it.rdlen(compress),
-            AllRecordData::Hinfo(it) => it.rdlen(compress),
-            AllRecordData::Naptr(it) => it.rdlen(compress),
-            AllRecordData::Ds(it) => it.rdlen(compress),
-            AllRecordData::Sshfp(it) => it.rdlen(compress),
-            AllRecordData::Rrsig(it) => it.rdlen(compress),
-            AllRecordData::Nsec(it) => it.rdlen(compress),
-            AllRecordData::Dnskey(it) => it.rdlen(compress),
-            AllRecordData::Tlsa(it) => it.rdlen(compress),
-            AllRecordData::Caa(it) => it.rdlen(compress),
-            AllRecordData::Svcb(it) => it.rdlen(compress),
-            AllRecordData::Https(it) => it.rdlen(compress),
-            AllRecordData::Txt(it) => it.rdlen(compress),
-            AllRecordData::Unknown(it) => it.rdlen(compress),
-        }
+        each_variant!(self, it => it.rdlen(compress))
     }
 
     fn compose_rdata<Target: Composer>(
         &self,
         target: &mut Target,
     ) -> Result<(), Target::AppendError> {
-        match self {
-            AllRecordData::A(it) => it.compose_rdata(target),
-            AllRecordData::Aaaa(it) => it.compose_rdata(target),
-            AllRecordData::Ns(it) => it.compose_rdata(target),
-            AllRecordData::Cname(it) => it.compose_rdata(target),
-            AllRecordData::Ptr(it) => it.compose_rdata(target),
-            AllRecordData::Dname(it) => it.compose_rdata(target),
-            AllRecordData::Mx(it) => it.compose_rdata(target),
-            AllRecordData::Soa(it) => it.compose_rdata(target),
-            AllRecordData::Srv(it) => it.compose_rdata(target),
-            AllRecordData::Mb(it) => it.compose_rdata(target),
-            AllRecordData::Md(it) => it.compose_rdata(target),
-            AllRecordData::Mf(it) => it.compose_rdata(target),
-            AllRecordData::Mg(it) => it.compose_rdata(target),
-            AllRecordData::Mr(it) => it.compose_rdata(target),
-            AllRecordData::Minfo(it) => it.compose_rdata(target),
-            AllRecordData::Rp(it) => it.compose_rdata(target),
-            AllRecordData::Afsdb(it) => it.compose_rdata(target),
-            AllRecordData::Rt(it) => it.compose_rdata(target),
-            AllRecordData::Px(it) => it.compose_rdata(target),
-            AllRecordData::Kx(it) => it.compose_rdata(target),
-            AllRecordData::Hinfo(it) => it.compose_rdata(target),
-            AllRecordData::Naptr(it) => it.compose_rdata(target),
-            AllRecordData::Ds(it) => it.compose_rdata(target),
-            AllRecordData::Sshfp(it) => it.compose_rdata(target),
-            AllRecordData::Rrsig(it) => it.compose_rdata(target),
-            AllRecordData::Nsec(it) => it.compose_rdata(target),
-            AllRecordData::Dnskey(it) => it.compose_rdata(target),
-            AllRecordData::Tlsa(it) => it.compose_rdata(target),
-            AllRecordData::Caa(it) => it.compose_rdata(target),
-            AllRecordData::Svcb(it) => it.compose_rdata(target),
-            AllRecordData::Https(it) => it.compose_rdata(target),
-            AllRecordData::Txt(it) => it.compose_rdata(target),
-            AllRecordData::Unknown(it) => it.compose_rdata(target),
-        }
+        each_variant!(self, it => it.compose_rdata(target))
     }
 
     fn compose_canonical_rdata<Target: Composer>(
         &self,
         target: &mut Target,
     ) -> Result<(), CanonicalError<Target::AppendError>> {
-        match self {
-            AllRecordData::A(it) => it.compose_canonical_rdata(target),
-            AllRecordData::Aaaa(it) => it.compose_canonical_rdata(target),
-            AllRecordData::Ns(it) => it.compose_canonical_rdata(target),
-            AllRecordData::Cname(it) => it.compose_canonical_rdata(target),
-            AllRecordData::Ptr(it) => it.compose_canonical_rdata(target),
-            AllRecordData::Dname(it) => it.compose_canonical_rdata(target),
-            AllRecordData::Mx(it) => it.compose_canonical_rdata(target),
-            AllRecordData::Soa(it) => it.compose_canonical_rdata(target),
-            AllRecordData::Srv(it) => it.compose_canonical_rdata(target),
-            AllRecordData::Mb(it) => it.compose_canonical_rdata(target),
-            AllRecordData::Md(it) => it.compose_canonical_rdata(target),
-            AllRecordData::Mf(it) => it.compose_canonical_rdata(target),
-            AllRecordData::Mg(it) => it.compose_canonical_rdata(target),
-            AllRecordData::Mr(it) => it.compose_canonical_rdata(target),
-            AllRecordData::Minfo(it) => it.compose_canonical_rdata(target),
-            AllRecordData::Rp(it) => it.compose_canonical_rdata(target),
-            AllRecordData::Afsdb(it) => it.compose_canonical_rdata(target),
-            AllRecordData::Rt(it) => it.compose_canonical_rdata(target),
-            AllRecordData::Px(it) => it.compose_canonical_rdata(target),
-            AllRecordData::Kx(it) => it.compose_canonical_rdata(target),
-            AllRecordData::Hinfo(it) => it.compose_canonical_rdata(target),
-            AllRecordData::Naptr(it) => it.compose_canonical_rdata(target),
-            AllRecordData::Ds(it) => it.compose_canonical_rdata(target),
-            AllRecordData::Sshfp(it) => it.compose_canonical_rdata(target),
-            AllRecordData::Rrsig(it) => it.compose_canonical_rdata(target),
-            AllRecordData::Nsec(it) => it.compose_canonical_rdata(target),
-            AllRecordData::Dnskey(it) => it.compose_canonical_rdata(target),
-            AllRecordData::Tlsa(it) => it.compose_canonical_rdata(target),
-            AllRecordData::Caa(it) => it.compose_canonical_rdata(target),
-            AllRecordData::Svcb(it) => it.compose_canonical_rdata(target),
-            AllRecordData::Https(it) => it.compose_canonical_rdata(target),
-            AllRecordData::Txt(it) => it.compose_canonical_rdata(target),
-            AllRecordData::Unknown(it) => it.compose_canonical_rdata(target),
-        }
+        each_variant!(self, it => it.compose_canonical_rdata(target))
     }
 
     ghost plain = { elim [
@@ -556,6 +455,15 @@ fn read<'a, D: ParseRecordData<'a>, E: From<ParseError>>(
     }
 }
 
+macro_rules! read_as {
+    ($variant:ident, $data:ty, $rtype:ident, $parser:ident) => {
+        match read::<$data, ParseError>($rtype, $parser) {
+            Ok(it) => Ok(AllRecordData::$variant(it)),
+            Err(e) => Err(e),
+        }
+    };
+}
+
 /// Data of a type that is known is read by its type, and is all that is left; of any other all that is left is taken.
 impl<'a> ParseAnyRecordData<'a> for AllRecordData<&'a [u8], ParsedName<&'a [u8]>> {
     ghost use Rattle.domain_all_data.specs.AllTypes.{all_fields};
@@ -573,138 +481,39 @@ impl<'a> ParseAnyRecordData<'a> for AllRecordData<&'a [u8], ParsedName<&'a [u8]>
         parser: &mut Parser<'a>,
     ) -> Result<AllRecordData<&'a [u8], ParsedName<&'a [u8]>>, ParseError> {
         match rtype.to_int() {
-            1 => match read::<A, ParseError>(rtype, parser) {
-                Ok(it) => Ok(AllRecordData::A(it)),
-                Err(e) => Err(e),
-            },
-            2 => match read::<Ns<ParsedName<&'a [u8]>>, ParseError>(rtype, parser) {
-                Ok(it) => Ok(AllRecordData::Ns(it)),
-                Err(e) => Err(e),
-            },
-            3 => match read::<Md<ParsedName<&'a [u8]>>, ParseError>(rtype, parser) {
-                Ok(it) => Ok(AllRecordData::Md(it)),
-                Err(e) => Err(e),
-            },
-            4 => match read::<Mf<ParsedName<&'a [u8]>>, ParseError>(rtype, parser) {
-                Ok(it) => Ok(AllRecordData::Mf(it)),
-                Err(e) => Err(e),
-            },
-            5 => match read::<Cname<ParsedName<&'a [u8]>>, ParseError>(rtype, parser) {
-                Ok(it) => Ok(AllRecordData::Cname(it)),
-                Err(e) => Err(e),
-            },
-            6 => match read::<Soa<ParsedName<&'a [u8]>>, ParseError>(rtype, parser) {
-                Ok(it) => Ok(AllRecordData::Soa(it)),
-                Err(e) => Err(e),
-            },
-            7 => match read::<Mb<ParsedName<&'a [u8]>>, ParseError>(rtype, parser) {
-                Ok(it) => Ok(AllRecordData::Mb(it)),
-                Err(e) => Err(e),
-            },
-            8 => match read::<Mg<ParsedName<&'a [u8]>>, ParseError>(rtype, parser) {
-                Ok(it) => Ok(AllRecordData::Mg(it)),
-                Err(e) => Err(e),
-            },
-            9 => match read::<Mr<ParsedName<&'a [u8]>>, ParseError>(rtype, parser) {
-                Ok(it) => Ok(AllRecordData::Mr(it)),
-                Err(e) => Err(e),
-            },
-            12 => match read::<Ptr<ParsedName<&'a [u8]>>, ParseError>(rtype, parser) {
-                Ok(it) => Ok(AllRecordData::Ptr(it)),
-                Err(e) => Err(e),
-            },
-            13 => match read::<Hinfo<&'a [u8]>, ParseError>(rtype, parser) {
-                Ok(it) => Ok(AllRecordData::Hinfo(it)),
-                Err(e) => Err(e),
-            },
-            14 => match read::<Minfo<ParsedName<&'a [u8]>>, ParseError>(rtype, parser) {
-                Ok(it) => Ok(AllRecordData::Minfo(it)),
-                Err(e) => Err(e),
-            },
-            15 => match read::<Mx<ParsedName<&'a [u8]>>, ParseError>(rtype, parser) {
-                Ok(it) => Ok(AllRecordData::Mx(it)),
-                Err(e) => Err(e),
-            },
-            16 => match read::<Txt<&'a [u8]>, ParseError>(rtype, parser) {
-                Ok(it) => Ok(AllRecordData::Txt(it)),
-                Err(e) => Err(e),
-            },
-            17 => match read::<Rp<ParsedName<&'a [u8]>>, ParseError>(rtype, parser) {
-                Ok(it) => Ok(AllRecordData::Rp(it)),
-                Err(e) => Err(e),
-            },
-            18 => match read::<Afsdb<ParsedName<&'a [u8]>>, ParseError>(rtype, parser) {
-                Ok(it) => Ok(AllRecordData::Afsdb(it)),
-                Err(e) => Err(e),
-            },
-            21 => match read::<Rt<ParsedName<&'a [u8]>>, ParseError>(rtype, parser) {
-                Ok(it) => Ok(AllRecordData::Rt(it)),
-                Err(e) => Err(e),
-            },
-            26 => match read::<Px<ParsedName<&'a [u8]>>, ParseError>(rtype, parser) {
-                Ok(it) => Ok(AllRecordData::Px(it)),
-                Err(e) => Err(e),
-            },
-            28 => match read::<Aaaa, ParseError>(rtype, parser) {
-                Ok(it) => Ok(AllRecordData::Aaaa(it)),
-                Err(e) => Err(e),
-            },
-            33 => match read::<Srv<ParsedName<&'a [u8]>>, ParseError>(rtype, parser) {
-                Ok(it) => Ok(AllRecordData::Srv(it)),
-                Err(e) => Err(e),
-            },
-            35 => match read::<Naptr<&'a [u8], ParsedName<&'a [u8]>>, ParseError>(rtype, parser) {
-                Ok(it) => Ok(AllRecordData::Naptr(it)),
-                Err(e) => Err(e),
-            },
-            36 => match read::<Kx<ParsedName<&'a [u8]>>, ParseError>(rtype, parser) {
-                Ok(it) => Ok(AllRecordData::Kx(it)),
-                Err(e) => Err(e),
-            },
-            39 => match read::<Dname<ParsedName<&'a [u8]>>, ParseError>(rtype, parser) {
-                Ok(it) => Ok(AllRecordData::Dname(it)),
-                Err(e) => Err(e),
-            },
-            43 => match read::<Ds<&'a [u8]>, ParseError>(rtype, parser) {
-                Ok(it) => Ok(AllRecordData::Ds(it)),
-                Err(e) => Err(e),
-            },
-            44 => match read::<Sshfp<&'a [u8]>, ParseError>(rtype, parser) {
-                Ok(it) => Ok(AllRecordData::Sshfp(it)),
-                Err(e) => Err(e),
-            },
-            46 => match read::<Rrsig<&'a [u8], ParsedName<&'a [u8]>>, ParseError>(rtype, parser) {
-                Ok(it) => Ok(AllRecordData::Rrsig(it)),
-                Err(e) => Err(e),
-            },
-            47 => match read::<Nsec<&'a [u8], ParsedName<&'a [u8]>>, ParseError>(rtype, parser) {
-                Ok(it) => Ok(AllRecordData::Nsec(it)),
-                Err(e) => Err(e),
-            },
-            48 => match read::<Dnskey<&'a [u8]>, ParseError>(rtype, parser) {
-                Ok(it) => Ok(AllRecordData::Dnskey(it)),
-                Err(e) => Err(e),
-            },
-            52 => match read::<Tlsa<&'a [u8]>, ParseError>(rtype, parser) {
-                Ok(it) => Ok(AllRecordData::Tlsa(it)),
-                Err(e) => Err(e),
-            },
-            257 => match read::<Caa<&'a [u8]>, ParseError>(rtype, parser) {
-                Ok(it) => Ok(AllRecordData::Caa(it)),
-                Err(e) => Err(e),
-            },
-            64 => match read::<Svcb<&'a [u8], ParsedName<&'a [u8]>>, ParseError>(rtype, parser) {
-                Ok(it) => Ok(AllRecordData::Svcb(it)),
-                Err(e) => Err(e),
-            },
-            65 => match read::<Https<&'a [u8], ParsedName<&'a [u8]>>, ParseError>(rtype, parser) {
-                Ok(it) => Ok(AllRecordData::Https(it)),
-                Err(e) => Err(e),
-            },
-            _ => match read::<UnknownRecordData<&'a [u8]>, ParseError>(rtype, parser) {
-                Ok(it) => Ok(AllRecordData::Unknown(it)),
-                Err(e) => Err(e),
-            },
+            1 => read_as!(A, A, rtype, parser),
+            2 => read_as!(Ns, Ns<ParsedName<&'a [u8]>>, rtype, parser),
+            3 => read_as!(Md, Md<ParsedName<&'a [u8]>>, rtype, parser),
+            4 => read_as!(Mf, Mf<ParsedName<&'a [u8]>>, rtype, parser),
+            5 => read_as!(Cname, Cname<ParsedName<&'a [u8]>>, rtype, parser),
+            6 => read_as!(Soa, Soa<ParsedName<&'a [u8]>>, rtype, parser),
+            7 => read_as!(Mb, Mb<ParsedName<&'a [u8]>>, rtype, parser),
+            8 => read_as!(Mg, Mg<ParsedName<&'a [u8]>>, rtype, parser),
+            9 => read_as!(Mr, Mr<ParsedName<&'a [u8]>>, rtype, parser),
+            12 => read_as!(Ptr, Ptr<ParsedName<&'a [u8]>>, rtype, parser),
+            13 => read_as!(Hinfo, Hinfo<&'a [u8]>, rtype, parser),
+            14 => read_as!(Minfo, Minfo<ParsedName<&'a [u8]>>, rtype, parser),
+            15 => read_as!(Mx, Mx<ParsedName<&'a [u8]>>, rtype, parser),
+            16 => read_as!(Txt, Txt<&'a [u8]>, rtype, parser),
+            17 => read_as!(Rp, Rp<ParsedName<&'a [u8]>>, rtype, parser),
+            18 => read_as!(Afsdb, Afsdb<ParsedName<&'a [u8]>>, rtype, parser),
+            21 => read_as!(Rt, Rt<ParsedName<&'a [u8]>>, rtype, parser),
+            26 => read_as!(Px, Px<ParsedName<&'a [u8]>>, rtype, parser),
+            28 => read_as!(Aaaa, Aaaa, rtype, parser),
+            33 => read_as!(Srv, Srv<ParsedName<&'a [u8]>>, rtype, parser),
+            35 => read_as!(Naptr, Naptr<&'a [u8], ParsedName<&'a [u8]>>, rtype, parser),
+            36 => read_as!(Kx, Kx<ParsedName<&'a [u8]>>, rtype, parser),
+            39 => read_as!(Dname, Dname<ParsedName<&'a [u8]>>, rtype, parser),
+            43 => read_as!(Ds, Ds<&'a [u8]>, rtype, parser),
+            44 => read_as!(Sshfp, Sshfp<&'a [u8]>, rtype, parser),
+            46 => read_as!(Rrsig, Rrsig<&'a [u8], ParsedName<&'a [u8]>>, rtype, parser),
+            47 => read_as!(Nsec, Nsec<&'a [u8], ParsedName<&'a [u8]>>, rtype, parser),
+            48 => read_as!(Dnskey, Dnskey<&'a [u8]>, rtype, parser),
+            52 => read_as!(Tlsa, Tlsa<&'a [u8]>, rtype, parser),
+            257 => read_as!(Caa, Caa<&'a [u8]>, rtype, parser),
+            64 => read_as!(Svcb, Svcb<&'a [u8], ParsedName<&'a [u8]>>, rtype, parser),
+            65 => read_as!(Https, Https<&'a [u8], ParsedName<&'a [u8]>>, rtype, parser),
+            _ => read_as!(Unknown, UnknownRecordData<&'a [u8]>, rtype, parser),
         }
     }
 
@@ -745,40 +554,6 @@ impl<'a> fmt::Display for AllRecordData<&'a [u8], ParsedName<&'a [u8]>> {
     ghost output = { λ it. Some (fields_text (all_fields it)) };
 
     fn fmt<W: fmt::Write>(&self, f: &mut fmt::Formatter<W>) -> fmt::Result {
-        match self {
-            AllRecordData::A(it) => write!(f, "{it}"),
-            AllRecordData::Aaaa(it) => write!(f, "{it}"),
-            AllRecordData::Ns(it) => write!(f, "{it}"),
-            AllRecordData::Cname(it) => write!(f, "{it}"),
-            AllRecordData::Ptr(it) => write!(f, "{it}"),
-            AllRecordData::Dname(it) => write!(f, "{it}"),
-            AllRecordData::Mx(it) => write!(f, "{it}"),
-            AllRecordData::Soa(it) => write!(f, "{it}"),
-            AllRecordData::Srv(it) => write!(f, "{it}"),
-            AllRecordData::Mb(it) => write!(f, "{it}"),
-            AllRecordData::Md(it) => write!(f, "{it}"),
-            AllRecordData::Mf(it) => write!(f, "{it}"),
-            AllRecordData::Mg(it) => write!(f, "{it}"),
-            AllRecordData::Mr(it) => write!(f, "{it}"),
-            AllRecordData::Minfo(it) => write!(f, "{it}"),
-            AllRecordData::Rp(it) => write!(f, "{it}"),
-            AllRecordData::Afsdb(it) => write!(f, "{it}"),
-            AllRecordData::Rt(it) => write!(f, "{it}"),
-            AllRecordData::Px(it) => write!(f, "{it}"),
-            AllRecordData::Kx(it) => write!(f, "{it}"),
-            AllRecordData::Hinfo(it) => write!(f, "{it}"),
-            AllRecordData::Naptr(it) => write!(f, "{it}"),
-            AllRecordData::Ds(it) => write!(f, "{it}"),
-            AllRecordData::Sshfp(it) => write!(f, "{it}"),
-            AllRecordData::Rrsig(it) => write!(f, "{it}"),
-            AllRecordData::Nsec(it) => write!(f, "{it}"),
-            AllRecordData::Dnskey(it) => write!(f, "{it}"),
-            AllRecordData::Tlsa(it) => write!(f, "{it}"),
-            AllRecordData::Caa(it) => write!(f, "{it}"),
-            AllRecordData::Svcb(it) => write!(f, "{it}"),
-            AllRecordData::Https(it) => write!(f, "{it}"),
-            AllRecordData::Txt(it) => write!(f, "{it}"),
-            AllRecordData::Unknown(it) => write!(f, "{it}"),
-        }
+        each_variant!(self, it => write!(f, "{it}"))
     }
 }

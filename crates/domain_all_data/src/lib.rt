@@ -2,5 +2,11 @@
 #![tactic(auto)]
 
 pub mod all;
+pub mod flatten;
+pub mod order;
+mod owned;
+mod owned_compose;
+mod variants;
 
 pub use all::AllRecordData;
+pub use order::TypedData;
