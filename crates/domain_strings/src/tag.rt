@@ -15,9 +15,7 @@ ghost use Rattle.domain_strings.specs.TagLaws.{tag_reading};
 ghost use Rattle.domain_strings.specs.Views.{char_octets};
 
 use crate::char_string::CharString;
-use domain_fields::{
-    DataField, FlattenField, HashedField, OrderedField, ReadBackField, ReadField,
-};
+use domain_fields::{DataField, FlattenField, HashedField, OrderedField, ReadBackField, ReadField};
 use domain_label::presentation::ascii_text;
 use domain_rdata::Composer;
 use domain_wire::ParseError;
