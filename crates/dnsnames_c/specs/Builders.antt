@@ -12,6 +12,8 @@ use Rattle.domain_message_builder.specs.Pushes.{record_count, section_count, lat
 use Rattle.domain_message_builder.specs.Reading.{IsMessageOf}
 use Rattle.domain_buffer.specs.Puts.{PutsAt}
 use Rattle.domain_buffer.specs.Builders.{header_of, counts_of, state, IsUsable, Enters, TooBig, asked, PushesData}
+use Rattle.domain_buffer.specs.Data.{Fields, whole, IsNamed}
+use Rattle.domain_buffer.specs.Named.{NamedTooBig, PushesNamed}
 use Rattle.domain_buffer.specs.declared.builder.Builder.{Builder}
 
 -- A message was begun with this identifier and these flags, and nothing in it; it has as many octets as the buffer at most, and
@@ -65,13 +67,39 @@ GivesData section owner head rdata status o b o' b' =
     ((status ≡ 0) × PushesData section owner head rdata o b o' b')
     ⊎ (RefusesData section owner rdata o b status × (o' ≡ o) × (b' ≡ b))
 
+-- Why a record isn't pushed whose data have names: the same of what is to be written for these.
+abbrev pub RefusesNamed : Section → List ℕ → Fields → List ℕ → Builder → ℕ → Type 0
+RefusesNamed section owner f o b status =
+    ((status ≡ 24) × (0 < later_count section (counts_of b)))
+    ⊎ ((status ≡ 25) × (later_count section (counts_of b) ≡ 0)
+    × (section_count section (counts_of b) ≡ 65535))
+    ⊎ ((status ≡ 8) × (later_count section (counts_of b) ≡ 0)
+    × (section_count section (counts_of b) < 65535) × NamedTooBig o b owner f)
+
+-- It was pushed (0), its names with compression; or it wasn't, and nothing changed.
+abbrev pub GivesNamed : Section → List ℕ → RecordHead → Fields → ℕ → List ℕ → Builder → List ℕ
+    → Builder → Type 0
+GivesNamed section owner head f status o b o' b' =
+    ((status ≡ 0) × PushesNamed section owner head f o b o' b')
+    ⊎ (RefusesNamed section owner f o b status × (o' ≡ o) × (b' ≡ b))
+
+-- These are the fields of data of a type in which names may be compressed, and so they are written; or data are no such fields,
+-- and are written as they are.
+abbrev pub GivesEither : Section → List ℕ → RecordHead → List ℕ → ℕ → List ℕ → Builder → List ℕ
+    → Builder → Type 0
+GivesEither section owner head rdata status o b o' b' =
+    ((f : Fields) × IsNamed head.rtype f × (whole f ≡ rdata)
+    × GivesNamed section owner head f status o b o' b')
+    ⊎ (((f : Fields) → IsNamed head.rtype f → whole f ≡ rdata → ⊥)
+    × GivesData section owner head rdata status o b o' b')
+
 -- The same of a section by its number; or the builder isn't usable (23), there is no such section (26), or the owner's name
 -- is no absolute name (9).
 abbrev pub GivesRecord : ℕ → List ℕ → RecordHead → List ℕ → ℕ → List ℕ → Builder → List ℕ → Builder
     → Type 0
 GivesRecord number owner head rdata status o b o' b' =
     (IsUsable o b × (section : Section) × (section_of number ≡ Some section) × IsAbsoluteWire owner
-    × GivesData section owner head rdata status o b o' b')
+    × GivesEither section owner head rdata status o b o' b')
     ⊎ ((status ≡ 23) × (IsUsable o b → ⊥) × (o' ≡ o) × (b' ≡ b))
     ⊎ ((status ≡ 26) × IsUsable o b × (section_of number ≡ None) × (o' ≡ o) × (b' ≡ b))
     ⊎ ((status ≡ 9) × IsUsable o b × IsSome (section_of number) × (IsAbsoluteWire owner → ⊥)

@@ -1,13 +1,16 @@
 //! Messages that are built in the caller's buffer (RFC 1035, 4.1).
-ghost use Rattle.std.specs.Prelude.{◌≡◌};
+ghost use Rattle.std.specs.Prelude.{◌≡◌, ◌≤◌, length};
 ghost use Rattle.domain_label.specs.Wire.{IsAbsoluteWire};
 ghost use Rattle.domain_buffer.specs.Builders.{headed, IsUsable};
-ghost use Rattle.dnsnames_c.specs.Builders.{section_of, is_set, Begins, GivesQuestion, GivesData, GivesRecord, GivesOpt, Cuts, Finishes};
+ghost use Rattle.domain_buffer.specs.Data.{fields_of, IsNamed};
+ghost use Rattle.dnsnames_c.specs.Builders.{section_of, is_set, Begins, GivesQuestion, GivesData, GivesNamed, GivesRecord, GivesOpt, Cuts, Finishes};
 
 use domain_buffer::builder::{
     BLANK, Builder, Head, count_of, count_question, count_record, enter, has_later, head_octets,
     header_octets_of, is_usable, type_and_class_octets,
 };
+use domain_buffer::data::{NamedData, named_data};
+use domain_buffer::named::enter_named;
 use domain_buffer::put::place;
 use domain_message::Section;
 use domain_name::Name;
@@ -95,7 +98,7 @@ fn section_named(number: u32) -> Option<Section>
     }
 }
 
-/// Pushes a record, or nothing.
+/// Pushes a record with data as they are, or nothing.
 fn push_record(
     octets: &mut [u8],
     builder: &mut Builder,
@@ -125,8 +128,40 @@ fn push_record(
     0
 }
 
-/// Pushes a record into a section, or nothing: 1 is that of answers, 2 authority, 3 additional. Its data are written as they
-/// are, and the owner's name as `dnsnames_plan` tells.
+/// Pushes a record with data of names, or nothing.
+fn push_named(
+    octets: &mut [u8],
+    builder: &mut Builder,
+    section: Section,
+    owner: &[u8],
+    head: Head,
+    fields: NamedData<'_>,
+) -> u32
+    requires usable { IsUsable octets.old builder.old }
+    requires owner { IsAbsoluteWire owner.now }
+    requires named { IsNamed head.rtype (fields_of fields) }
+    requires before { length fields.before.now ≤ 6 }
+    requires after { length fields.after.now ≤ 20 }
+    ensures { GivesNamed section owner.now (headed owner.now head.rtype head.class head.ttl)
+        (fields_of fields.entry) result octets.old builder.old octets.new builder.new }
+{
+    if has_later(section, builder) {
+        return 24;
+    }
+    if count_of(section, builder) == 65_535 {
+        return 25;
+    }
+    if !enter_named(octets, builder, owner, head, fields) {
+        return 8;
+    }
+    count_record(section, builder);
+    0
+}
+
+/// Pushes a record into a section, or nothing: 1 is that of answers, 2 authority, 3 additional. The owner's name is written
+/// as `dnsnames_plan` tells. So are the names in the data, over the message up to the owner's name, and this too, where the
+/// type is one of RFC 1035 (3.3) that has names, and the data are exactly its fields, with no pointer in a name. All other
+/// data are written as they are.
 ///
 /// 23 where the builder and the octets aren't as these calls leave them, or the message is finished; 26 where there is no
 /// such section; 9 where the owner's name is none; 24 where a later section has a record; 25 where this one has 65,535; 8
@@ -155,7 +190,10 @@ pub extern "C" fn dnsnames_builder_record(
         return 9;
     };
     let head = Head { rtype, class, ttl };
-    push_record(octets, builder, section, owner, head, data)
+    match named_data(rtype, data) {
+        Some(fields) => push_named(octets, builder, section, owner, head, fields),
+        None => push_record(octets, builder, section, owner, head, data),
+    }
 }
 
 /// Pushes an OPT record into the additional section, or nothing (RFC 6891, 6.1): how many octets of a message over UDP its

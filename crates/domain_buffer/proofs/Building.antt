@@ -91,21 +91,27 @@ name_octets t table name named ls wired compresses = record {
   flat = λ h. absurd (true≢false h);
 }
 
-still_usable : (o : List ℕ) (b : Builder) (name rest o' : List ℕ) (b' x : Builder) → IsUsable o b → Enters o b name rest o' b' → x.limit ≡ b.limit → x.len ≡ b'.len → x.table_len ≡ b'.table_len → x.table ≡ b'.table → IsInOrder (starts_of x) x.len → IsUsable o' x
-still_usable o b name rest o' b' x u e limit len count table ordered =
-    let room : b.len + length (e.named ++ rest) ≤ length o = omega (arith, e.ends, e.within, u.room) in
-    let size = puts_size b.len (e.named ++ rest) o o' room e.puts in
+-- what is left after octets were put behind the message
+pub usable_after : (o : List ℕ) (b : Builder) (s o' : List ℕ) (x : Builder) → IsUsable o b → PutsAt b.len s o o' → x.len ≡ b.len + length s → x.len ≤ b.limit → x.limit ≡ b.limit → x.table_len ≤ 128 → IsTable (table_of x) → IsInOrder (starts_of x) x.len → IsUsable o' x
+usable_after o b s o' x u puts ends within limit few table ordered =
+    let room : b.len + length s ≤ length o = omega (arith, ends, within, u.room) in
+    let size = puts_size b.len s o o' room puts in
     let low : 12 ≤ b.len = omega (arith, u.ordered.0, u.ordered.1, u.ordered.2, u.ordered.3) in
-    let same : table_of x ≡ table_of b' = ap (λ n. take n x.table) count ∙ ap (take b'.table_len) table in
     record {
       room = omega (arith, limit, size, u.room);
       small = omega (arith, limit, u.small);
-      within = omega (arith, limit, len, e.within);
+      within = omega (arith, limit, within);
       ordered = ordered;
-      few = omega (arith, count, e.few);
-      table = subst IsTable (sym (same ∙ e.remembers)) (more_is_table (table_of b) b.len (labels_in (take e.begin name)) u.table);
-      begun = puts_first 12 b.len (e.named ++ rest) o o' low (omega (arith, room)) e.puts ∙ u.begun;
+      few = few;
+      table = table;
+      begun = puts_first 12 b.len s o o' low (omega (arith, room)) puts ∙ u.begun;
     }
+
+still_usable : (o : List ℕ) (b : Builder) (name rest o' : List ℕ) (b' x : Builder) → IsUsable o b → Enters o b name rest o' b' → x.limit ≡ b.limit → x.len ≡ b'.len → x.table_len ≡ b'.table_len → x.table ≡ b'.table → IsInOrder (starts_of x) x.len → IsUsable o' x
+still_usable o b name rest o' b' x u e limit len count table ordered =
+    let same : table_of x ≡ table_of b' = ap (λ n. take n x.table) count ∙ ap (take b'.table_len) table in
+    let is = subst IsTable (sym (same ∙ e.remembers)) (more_is_table (table_of b) b.len (labels_in (take e.begin name)) u.table) in
+    usable_after o b (e.named ++ rest) o' x u e.puts (len ∙ e.ends) (omega (arith, len, e.within)) limit (omega (arith, count, e.few)) is ordered
 
 enters_same : (o : List ℕ) (b : Builder) (name rest o' : List ℕ) (b' x : Builder) → Enters o b name rest o' b' → x.len ≡ b'.len → x.table_len ≡ b'.table_len → x.table ≡ b'.table → Enters o b name rest o' x
 enters_same o b name rest o' b' x e len count table = record {
@@ -140,27 +146,28 @@ question_pushed o b name rtype class o' b' x small_type small_class u wired none
     let usable = still_usable o b name rest o' b' y u e refl refl refl refl (ordered_all b'.len b'.len low (omega arith)) in
     subst (λ z. PushesQuestion true (asked name rtype class) (state o b) (state o' z) × IsUsable o' z × Enters o b name rest o' z) same (pushes, usable, enters_same o b name rest o' b' y e refl refl refl)
 
-record_added : (section : Section) (o : List ℕ) (b : Builder) (owner : List ℕ) (head : RecordHead) (rdata o' : List ℕ) (b' y : Builder) → head.rtype < 2 ^ 16 → head.class < 2 ^ 16 → head.ttl < 2 ^ 32 → head.owner ≡ labels_in owner → IsUsable o b → IsAbsoluteWire owner → (0 < later_count section (counts_of b) → ⊥) → Enters o b owner (after_owner head rdata) o' b'
-    → CountsRecord section (counts_of b) (counts_of y) → starts_of y ≡ starts_after section b'.len (starts_of b) → PushesRecord true section head (Exactly rdata) (state o b) (record (state o b) { counts = counts_of y; starts = starts_of y; octets = take b'.len o' })
-record_added section o b owner head rdata o' b' y small_type small_class small_ttl named u wired none e counts at =
+-- A record with data that `May` allows was added.
+pub record_added : (section : Section) (o : List ℕ) (b : Builder) (owner : List ℕ) (head : RecordHead) (May : List ℕ → List ℕ → Type 0) (rdata o' : List ℕ) (b' y : Builder) → head.rtype < 2 ^ 16 → head.class < 2 ^ 16 → head.ttl < 2 ^ 32 → head.owner ≡ labels_in owner → IsUsable o b → IsAbsoluteWire owner → (0 < later_count section (counts_of b) → ⊥) → (e : Enters o b owner (after_owner head rdata) o' b')
+    → May (take b.len o ++ e.named ++ before_length head.rtype head.class head.ttl ++ to_be_bytes w16 (length rdata)) rdata → CountsRecord section (counts_of b) (counts_of y) → starts_of y ≡ starts_after section b'.len (starts_of b) → PushesRecord true section head May (state o b) (record (state o b) { counts = counts_of y; starts = starts_of y; octets = take b'.len o' })
+record_added section o b owner head May rdata o' b' y small_type small_class small_ttl named u wired none e allowed counts at =
     let rest = after_owner head rdata in
     let t = take b.len o in
     let made = take b'.len o' in
     let ends = entered_size o b owner rest o' b' u e in
     let few : length rdata ≤ 65535 = omega (arith, e.ends, e.within, u.small, length-append e.named rest, length-append (before_length head.rtype head.class head.ttl) (to_be_bytes w16 (length rdata) ++ rdata), length-append (to_be_bytes w16 (length rdata)) rdata) in
-    let added : Appended (RecordsIn true head (Exactly rdata) t) t made = record {
+    let added : Appended (RecordsIn true head May t) t made = record {
       octets = e.named ++ rest;
       allowed = record {
         named = e.named;
         name_allowed = subst (λ ls. NameOctets ls true t e.named) (sym named) (name_octets t (table_of b) owner e.named (labels_in (take e.begin owner)) wired e.compresses);
         rdata = rdata;
         few = few;
-        data_allowed = refl;
+        data_allowed = allowed;
         all = refl;
       };
       all = entered_octets o b owner rest o' b' u e;
     } in
-    pushes_record section true head (Exactly rdata) (state o b) (counts_of y) (starts_of y) made b'.len small_type small_class small_ttl none counts at ends (omega (arith, ends, e.within)) added
+    pushes_record section true head May (state o b) (counts_of y) (starts_of y) made b'.len small_type small_class small_ttl none counts at ends (omega (arith, ends, e.within)) added
 
 -- A record was pushed.
 pub record_pushed : (section : Section) (o : List ℕ) (b : Builder) (owner : List ℕ) (head : RecordHead) (rdata o' : List ℕ) (b' x : Builder) → head.rtype < 2 ^ 16 → head.class < 2 ^ 16 → head.ttl < 2 ^ 32 → head.owner ≡ labels_in owner → IsUsable o b → IsAbsoluteWire owner → (0 < later_count section (counts_of b) → ⊥) → Enters o b owner (after_owner head rdata) o' b'
@@ -171,7 +178,7 @@ record_pushed Answer o b owner head rdata o' b' x small_type small_class small_t
     let ordered = ordered_after Answer (starts_of b) b.len b'.len (omega (arith, e.ends)) u.ordered in
     subst (λ z. PushesData Answer owner head rdata o b o' z) same (record {
       enters = enters_same o b owner (after_owner head rdata) o' b' y e refl refl refl;
-      pushes = record_added Answer o b owner head rdata o' b' y small_type small_class small_ttl named u wired none e (refl, refl, refl, refl) refl;
+      pushes = record_added Answer o b owner head (Exactly rdata) rdata o' b' y small_type small_class small_ttl named u wired none e refl (refl, refl, refl, refl) refl;
       usable = still_usable o b owner (after_owner head rdata) o' b' y u e refl refl refl refl ordered;
     })
 record_pushed Authority o b owner head rdata o' b' x small_type small_class small_ttl named u wired none e others counts =
@@ -180,7 +187,7 @@ record_pushed Authority o b owner head rdata o' b' x small_type small_class smal
     let ordered = ordered_after Authority (starts_of b) b.len b'.len (omega (arith, e.ends)) u.ordered in
     subst (λ z. PushesData Authority owner head rdata o b o' z) same (record {
       enters = enters_same o b owner (after_owner head rdata) o' b' y e refl refl refl;
-      pushes = record_added Authority o b owner head rdata o' b' y small_type small_class small_ttl named u wired none e (refl, refl, refl, refl) refl;
+      pushes = record_added Authority o b owner head (Exactly rdata) rdata o' b' y small_type small_class small_ttl named u wired none e refl (refl, refl, refl, refl) refl;
       usable = still_usable o b owner (after_owner head rdata) o' b' y u e refl refl refl refl ordered;
     })
 record_pushed Additional o b owner head rdata o' b' x small_type small_class small_ttl named u wired none e others counts =
@@ -189,7 +196,7 @@ record_pushed Additional o b owner head rdata o' b' x small_type small_class sma
     let ordered = ordered_after Additional (starts_of b) b.len b'.len (omega (arith, e.ends)) u.ordered in
     subst (λ z. PushesData Additional owner head rdata o b o' z) same (record {
       enters = enters_same o b owner (after_owner head rdata) o' b' y e refl refl refl;
-      pushes = record_added Additional o b owner head rdata o' b' y small_type small_class small_ttl named u wired none e (refl, refl, refl, refl) refl;
+      pushes = record_added Additional o b owner head (Exactly rdata) rdata o' b' y small_type small_class small_ttl named u wired none e refl (refl, refl, refl, refl) refl;
       usable = still_usable o b owner (after_owner head rdata) o' b' y u e refl refl refl refl ordered;
     })
 

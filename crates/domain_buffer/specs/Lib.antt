@@ -1,3 +1,5 @@
 pub mod Puts
 pub mod Plans
 pub mod Builders
+pub mod Data
+pub mod Named

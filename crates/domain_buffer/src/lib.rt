@@ -3,6 +3,8 @@
 #![tactic(auto)]
 
 pub mod builder;
+pub mod data;
+pub mod named;
 pub mod plan;
 pub mod put;
 

@@ -1,0 +1,65 @@
+-- Data of records that have names which may be compressed (RFC 1035, 3.3 and 4.1.4).
+use Rattle.std.specs.Prelude.{◌≡◌, ◌≢◌, ◌⊎◌, ℕ, ◌*◌, ◌≤◌, List, [], ◌++◌, length, take, Option, Some, None, nat_le, if◌then◌else◌}
+use Rattle.domain_label.specs.Wire.{IsAbsoluteWire}
+use Rattle.domain_offsets.specs.Shapes.{shape}
+use Rattle.domain_offsets.specs.declared.shape.Shape.{Shape}
+use Rattle.domain_buffer.specs.declared.data.NamedData.{NamedData}
+
+-- what data of a type are in which names may be compressed: a type of RFC 1035, and no newer one (RFC 3597, 4)
+abbrev pub compressed_shape : ℕ → Option Shape
+compressed_shape rtype = if nat_le rtype 15 then shape rtype else None
+
+-- the fields of such data: numbers, a name, another one or nothing, and numbers
+pub record Fields : Type 0 where
+  pub before : List ℕ
+  pub first : List ℕ
+  pub second : List ℕ
+  pub after : List ℕ
+
+-- the fields as they were found
+abbrev pub fields_of : NamedData → Fields
+fields_of d =
+    record {
+      before = d.before.now;
+      first = d.first.now;
+      second = d.second.now;
+      after = d.after.now;
+    }
+
+-- one after the other
+abbrev pub whole : Fields → List ℕ
+whole f = f.before ++ (f.first ++ (f.second ++ f.after))
+
+-- The second is an uncompressed name where there are two, and nothing where there is one.
+abbrev pub IsSecond : ℕ → List ℕ → Type 0
+IsSecond names second =
+    ((names ≡ 1) × (second ≡ [])) ⊎ ((names ≡ 2) × IsAbsoluteWire second)
+
+-- These are the fields of data of this type, in which names may be compressed; and their names are uncompressed.
+pub record IsNamed (rtype : ℕ) (f : Fields) : Type 0 where
+  pub form : Shape
+  pub known : compressed_shape rtype ≡ Some form
+  pub shorts : length f.before ≡ 2 * form.shorts
+  pub first : IsAbsoluteWire f.first
+  pub second : IsSecond form.names f.second
+  pub longs : length f.after ≡ 4 * form.longs
+
+-- The first n octets are an uncompressed name, and no other beginning is one.
+pub record IsNameFront (octets : List ℕ) (n : ℕ) : Type 0 where
+  pub inside : n ≤ length octets
+  pub name : IsAbsoluteWire (take n octets)
+  pub only : (name rest : List ℕ) → IsAbsoluteWire name → octets ≡ name ++ rest → length name ≡ n
+
+-- The octets begin with no uncompressed name.
+abbrev pub HasNoNameFront : List ℕ → Type 0
+HasNoNameFront octets =
+    (name rest : List ℕ) → IsAbsoluteWire name → octets ≡ name ++ rest → ⊥
+
+-- The first n octets are the second name, or nothing where there is one name.
+abbrev pub IsSecondFront : ℕ → List ℕ → ℕ → Type 0
+IsSecondFront names octets n =
+    ((names ≡ 1) × (n ≡ 0)) ⊎ ((names ≡ 2) × IsNameFront octets n)
+
+-- There is neither one name, nor a second one that the octets begin with.
+abbrev pub HasNoSecondFront : ℕ → List ℕ → Type 0
+HasNoSecondFront names octets = (names ≢ 1) × ((names ≡ 2) → HasNoNameFront octets)

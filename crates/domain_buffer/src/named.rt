@@ -1,0 +1,177 @@
+//! Records whose data have names, which are written with compression (RFC 1035, 4.1.4).
+ghost use Rattle.std.specs.Prelude.{◌≡◌, ◌⊎◌, ◌<◌, ◌≤◌, ◌+◌, ◌^◌, ◌++◌, [], length, take, IsTrue, MatchBool, IfSome, IsSome, IsNone};
+ghost use Rattle.domain_label.specs.Wire.{IsAbsoluteWire};
+ghost use Rattle.domain_record.specs.Composing.{before_length};
+ghost use Rattle.domain_buffer.specs.Puts.{PutsAt};
+ghost use Rattle.domain_buffer.specs.Plans.{IsTable};
+ghost use Rattle.domain_buffer.specs.Builders.{headed, entered, IsUsable};
+ghost use Rattle.domain_buffer.specs.Data.{fields_of, IsNamed};
+ghost use Rattle.domain_buffer.specs.Named.{SpellsAny, WritesAfterOwner, HasNoRoomAfterOwner, EntersNamed, NamedTooBig, NamesReadBack};
+
+use crate::builder::{Builder, Head, head_octets, place_entry};
+use crate::data::NamedData;
+use crate::plan::{Spelled, add_offsets, spell};
+use crate::put::place;
+
+/// Puts what is to be written for a name after the octets into a text, or nothing for nothing.
+fn spell_any(octets: &[u8], table: &[u16], name: &[u8], text: &mut [u8; 255]) -> Spelled
+    requires table { IsTable table.now }
+    requires name { (name.now ≡ []) ⊎ IsAbsoluteWire name.now }
+    ensures spells { SpellsAny octets.now table.now name.now result.begin
+        (take result.len text.new) }
+    ensures fits { result.len ≤ 255 }
+{
+    if name.is_empty() {
+        return Spelled { begin: 0, len: 0 };
+    }
+    spell(octets, table, name, text)
+}
+
+/// Puts what follows an owner's name into the buffer from an offset on: a head, and data, whose names are spelled out in
+/// `first` and `second`.
+fn place_data(
+    head: &[u8],
+    fields: NamedData<'_>,
+    first: &[u8],
+    second: &[u8],
+    buffer: &mut [u8],
+    offset: usize,
+)
+    requires { offset
+        + (length head.now + (length fields.before.now
+        + (length first.now + (length second.now + length fields.after.now))))
+        ≤ length buffer.old }
+    ensures { PutsAt offset
+        (head.now ++ (fields.entry.before.now
+        ++ (first.now ++ (second.now ++ fields.entry.after.now))))
+        buffer.old buffer.new }
+{
+    let second_at = offset + head.len() + fields.before.len() + first.len();
+    place_entry(head, fields.before, first, buffer, offset);
+    place(second, buffer, second_at);
+    place(fields.after, buffer, second_at + second.len());
+}
+
+/// What was written: the offset after it, and how many offsets the table has then.
+#[derive(Clone, Copy)]
+pub struct RecordEnd {
+    pub end: usize,
+    pub count: usize,
+}
+
+/// Writes what follows an owner's name, which ends before `start`: the head, and the data, whose names are written as
+/// `plan` of `domain_compress` tells over what stands before `start`. The offsets of their labels are remembered. `None`
+/// where it exceeds the limit: nothing is changed.
+fn write_after_owner(
+    octets: &mut [u8],
+    start: usize,
+    limit: usize,
+    table: &mut [u16; 128],
+    count: usize,
+    head: Head,
+    fields: NamedData<'_>,
+) -> Option<RecordEnd>
+    requires start { start + 10 ≤ limit }
+    requires limit { limit ≤ length octets.old }
+    requires small { limit ≤ 65535 }
+    requires count { count ≤ 128 }
+    requires table { IsTable (take count table.old) }
+    requires named { IsNamed head.rtype (fields_of fields) }
+    requires before { length fields.before.now ≤ 6 }
+    requires after { length fields.after.now ≤ 20 }
+    ensures some { IfSome result
+        (λ e. WritesAfterOwner octets.old start limit (take count table.old)
+        (before_length head.rtype head.class head.ttl) (fields_of fields.entry) e.end e.count
+        octets.new table.new) }
+    ensures none { IsNone result →
+        HasNoRoomAfterOwner octets.old start limit (take count table.old) (fields_of fields.entry)
+        × (octets.new ≡ octets.old) }
+    ensures rtype { IsSome result → head.rtype < 2 ^ 16 }
+    ensures class { IsSome result → head.class < 2 ^ 16 }
+    ensures ttl { IsSome result → head.ttl < 2 ^ 32 }
+{
+    let (mut first_text, mut second_text) = ([0; 255], [0; 255]);
+    let message = &octets[..start];
+    let first = spell(message, &table[..count], fields.first, &mut first_text);
+    let second = spell_any(message, &table[..count], fields.second, &mut second_text);
+    let len = fields.before.len() + first.len + second.len + fields.after.len();
+    if limit - start - 10 < len {
+        return None;
+    }
+    let before_data = head_octets(head, len as u16);
+    let (first_octets, second_octets) = (&first_text[..first.len], &second_text[..second.len]);
+    place_data(
+        &before_data,
+        fields,
+        first_octets,
+        second_octets,
+        octets,
+        start,
+    );
+    let first_at = start + 10 + fields.before.len();
+    let more = add_offsets(table, count, &fields.first[..first.begin], first_at);
+    let second_at = first_at + first.len;
+    let count = add_offsets(table, more, &fields.second[..second.begin], second_at);
+    Some(RecordEnd {
+        end: start + 10 + len,
+        count,
+    })
+}
+
+/// Writes a record after the message whose data have names. The owner's name is written as `plan` of `domain_compress`
+/// tells, and each name in the data as it tells over the message up to the owner's name, and this too; the offsets of all
+/// their labels are remembered. False where it exceeds the limit: nothing is changed.
+pub fn enter_named(
+    octets: &mut [u8],
+    builder: &mut Builder,
+    owner: &[u8],
+    head: Head,
+    fields: NamedData<'_>,
+) -> bool
+    requires usable { IsUsable octets.old builder.old }
+    requires owner { IsAbsoluteWire owner.now }
+    requires named { IsNamed head.rtype (fields_of fields) }
+    requires before { length fields.before.now ≤ 6 }
+    requires after { length fields.after.now ≤ 20 }
+    ensures done { MatchBool result
+        (EntersNamed octets.old builder.old owner.now
+        (headed owner.now head.rtype head.class head.ttl) (fields_of fields.entry) octets.new
+        builder.new × (builder.new ≡ entered builder.old builder.new))
+        (NamedTooBig octets.old builder.old owner.now (fields_of fields.entry)
+        × (octets.new ≡ octets.old) × (builder.new ≡ builder.old)) }
+    ensures rtype { IsTrue result → head.rtype < 2 ^ 16 }
+    ensures class { IsTrue result → head.class < 2 ^ 16 }
+    ensures ttl { IsTrue result → head.ttl < 2 ^ 32 }
+{
+    let (start, limit) = (builder.len, builder.limit);
+    let (mut text, mut kept) = ([0; 255], [0; 255]);
+    let mut table = builder.table;
+    let count = builder.table_len;
+    let named = spell(&octets[..start], &table[..count], owner, &mut text);
+    let after_owner = start + named.len;
+    if limit < after_owner + 10 {
+        return false;
+    }
+    // Names in the data may lead into the owner's name, so that is written first, and taken away again where the rest
+    // doesn't fit.
+    kept[..named.len].copy_from_slice(&octets[start..after_owner]);
+    place(&text[..named.len], octets, start);
+    let count = add_offsets(&mut table, count, &owner[..named.begin], start);
+    match write_after_owner(octets, after_owner, limit, &mut table, count, head, fields) {
+        Some(written) => {
+            builder.table_len = written.count;
+            builder.table = table;
+            builder.len = written.end;
+            true
+        }
+        None => {
+            place(&kept[..named.len], octets, start);
+            false
+        }
+    }
+}
+
+/// Names in data that were pushed are read in the finished message as equal names: a law, and nothing to run.
+pub fn named_laws()
+    ensures { NamesReadBack }
+{}
