@@ -526,10 +526,10 @@ typedef struct dnsnames_builder {
  * even twelve for the header.
  *
  * Then questions are pushed, and then records, section by section: each whole, or not at all. After a refusal all is
- * as it was, and the next push is as good as any. Compressed are the names of questions and the owners of records, of
- * all types: they are written as dnsnames_plan tells. No name in a record's data is, whatever its type. What a reader of
- * the message finds after dnsnames_builder_finish is what was pushed, in order, and nothing else; names of questions and
- * owners without ASCII case, data octet for octet.
+ * as it was, and the next push is as good as any. Compressed are the names of questions, the owners of records of all
+ * types, and names in data by the record's type (dnsnames_builder_record): they are written as dnsnames_plan tells. What
+ * a reader of the message finds after dnsnames_builder_finish is what was pushed, in order, and nothing else; names that
+ * are compressed without ASCII case, all else octet for octet.
  *
  *     uint8_t octets[512];
  *     dnsnames_builder builder;
@@ -552,11 +552,16 @@ dnsnames_status dnsnames_builder_question(dnsnames_builder *builder, const uint8
 
 /* Pushes a record (4.1.3) into a section: DNSNAMES_ANSWER, DNSNAMES_AUTHORITY, DNSNAMES_ADDITIONAL.
  *
- * Its data are written octet for octet as they are passed, whatever the type: no name in them is looked for, checked or
- * compressed, and no pointer of a later name leads into them. So who puts data together of their parts writes a name in
- * them uncompressed: any reader takes it, and in records of types that are newer than RFC 1035 it has to be (RFC 3597,
- * 4). An MX record's data are two octets and a name, those of SOA two names and twenty octets. A pointer in data that
- * were cut out of another message would lead elsewhere in this one: read such names by dnsnames_data_name.
+ * Names in its data are passed uncompressed, and are compressed here where the standards allow it: in records of the
+ * types of RFC 1035 (3.3) that have names, if the data are exactly the type's fields: of NS, MD, MF, CNAME, MB, MG, MR
+ * and PTR a name, of MINFO two, of MX two octets and a name, of SOA two names and twenty octets. Each name is written as
+ * dnsnames_plan tells over the message up to the owner's name, and this too; it isn't looked for in the same data. The
+ * offsets of its labels are remembered, so that later names lead there, as glue's owners do.
+ *
+ * All other data are written octet for octet as they are passed, and no pointer leads into them: data of newer types,
+ * whose names must not be compressed (RFC 3597, 4), as those of SRV and DNAME, and data that aren't such fields, as the
+ * empty ones of an update, or those in which a name has a pointer. A pointer in data that were cut out of another
+ * message would lead elsewhere in this one: read such names by dnsnames_data_name.
  *
  * NO_BUILDER, NO_SECTION, NO_NAME; WRONG_ORDER where a later section has a record; TOO_MANY_ENTRIES; NO_ROOM where it
  * exceeds the limit, as data of more than 65,535 octets do. */

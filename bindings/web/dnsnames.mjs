@@ -425,7 +425,7 @@ export class DnsNames {
 
     /** A message that is built (RFC 1035, 4.1), of at most so many octets: questions, and then records, section by
      *  section. Each is pushed whole, or throws and changes nothing. Names of questions and owners of records are
-     *  compressed, names in data aren't, whatever the type. */
+     *  compressed, and names in data of the types of RFC 1035. */
     builder({ capacity = 65535, id = 0, flags = 0 } = {}) {
         const octets = new Uint8Array(capacity), state = new Uint8Array(BUILDER.size);
         const view = new DataView(state.buffer);
@@ -434,8 +434,9 @@ export class DnsNames {
         return {
             /** Pushes a question. WrongOrder where a record was pushed, NoRoom, TooManyEntries, NoBuilder. */
             question: (name, type, class_ = 1) => push("question", [name], ([slice]) => [...slice, type, class_]),
-            /** Pushes a record into "answers", "authority" or "additional"; its data are written as they are, so a name in
-             *  them is its octets without compression. */
+            /** Pushes a record into "answers", "authority" or "additional". A name in its data is its octets without
+             *  compression; it is compressed where the type is one of RFC 1035, 3.3, and the data are exactly its fields.
+             *  All other data are written as they are. */
             record: (section, owner, type, data, { ttl = 0, class: class_ = 1 } = {}) =>
                 push("record", [owner, data], ([slice, rest]) => [
                     SECTIONS.indexOf(section) + 1, ...slice, type, class_, ttl, ...rest,

@@ -118,6 +118,17 @@ assert.deepEqual([dns.readName(built, asked.offset).text, dns.readName(built, ad
 assert.deepEqual([address.ttl, [...address.data], opt.type, opt.class, opt.ttl], [60, [192, 0, 2, 1], 41, 1232, 0x01008000]);
 assert.equal(faultOf(() => dns.builder({ capacity: 11 })), "NoRoom");
 
+// Names in data are compressed by the record's type: those of MX are, those of SRV aren't.
+const dataOf = (type, hex) => {
+    const building = dns.builder({ capacity: 200 });
+    building.question(owner, 1);
+    building.record("authority", from("example.com"), type, octets(hex));
+    return Buffer.from(building.finish().subarray(45)).toString("hex");
+};
+assert.equal(dataOf(15, "000a" + "026d78" + "076578616d706c6503636f6d00"), "000a026d78c010");
+assert.equal(dataOf(33, "000000000000" + "076578616d706c6503636f6d00"), "000000000000" + "076578616d706c6503636f6d00");
+assert.equal(dataOf(15, "000a"), "000a");
+
 // A message that is composed by hand: a header, a CNAME record with compressed data, whose length is set behind them.
 const composer = dns.composer(47);
 composer.appendOctets(Uint8Array.of(0, 7, 128, 0, 0, 0, 0, 1, 0, 0, 0, 0));

@@ -1117,6 +1117,84 @@ static void building(void)
                        "\0\0\51\4\320\1\0\200\0\0\0", 44) == 0);
 }
 
+/* The data of a record as they are written into a message whose question is www.example.com, and whose record is of
+ * example.com: so the labels of the question's name are at 12, 16 and 24, and the data at 45. */
+static int writes_data(uint16_t type, const uint8_t *data, size_t data_len, const uint8_t *written, size_t len)
+{
+    dnsnames_builder builder = begun(512);
+
+    CHECK(dnsnames_builder_question(&builder, NAME("\3www\7example\3com"), 1, 1) == DNSNAMES_OK);
+    CHECK(dnsnames_builder_record(&builder, 2, NAME("\7example\3com"), type, 1, 0, data, data_len) == DNSNAMES_OK);
+    return builder.state.len == 45 + len && buffer[43] == len >> 8 && buffer[44] == (len & 255) &&
+           memcmp(buffer + 45, written, len) == 0;
+}
+#define WRITES(type, data, written) CHECK(writes_data(type, SPELLED(data), SPELLED(written)))
+
+static void building_names(void)
+{
+    static const uint16_t ONE[] = {2, 3, 4, 5, 7, 8, 9, 12}, LEFT[] = {1, 10, 11, 13, 16, 39, 65, 255, 65535};
+    size_t k;
+
+    for (k = 0; k < sizeof ONE / sizeof *ONE; k++) {
+        WRITES(ONE[k], "\2ns\7example\3com\0", "\2ns\300\020");
+        WRITES(ONE[k], "\3WWW\7exAMple\3com\0", "\300\014");
+        WRITES(ONE[k], "\1a\3net\0", "\1a\3net\0");
+        WRITES(ONE[k], "\0", "\0");
+        /* No data, a pointer, what is cut and what follows: as they are. */
+        WRITES(ONE[k], "", "");
+        WRITES(ONE[k], "\2ns\300\020", "\2ns\300\020");
+        WRITES(ONE[k], "\7example\3com", "\7example\3com");
+        WRITES(ONE[k], "\7example\3com\0\0", "\7example\3com\0\0");
+        WRITES(ONE[k], "\100example\0", "\100example\0");
+    }
+    WRITES(15, "\0\12\2mx\7example\3com\0", "\0\12\2mx\300\020");
+    WRITES(15, "\0", "\0");
+    WRITES(15, "\7example\3com\0", "\7example\3com\0");
+    WRITES(14, "\7example\3com\0\1e\7example\3com\0", "\300\020\1e\300\020");
+    WRITES(14, "\7example\3com\0", "\7example\3com\0");
+    /* The second name isn't looked for in the first. */
+    WRITES(6, "\1a\3net\0\1b\1a\3net\0AAAABBBBCCCCDDDDEEEE", "\1a\3net\0\1b\1a\3net\0AAAABBBBCCCCDDDDEEEE");
+    WRITES(6, "\2ns\7example\3com\0\4host\7example\3com\0AAAABBBBCCCCDDDDEEEE",
+           "\2ns\300\020\4host\300\020AAAABBBBCCCCDDDDEEEE");
+    WRITES(6, "\7example\3com\0\7example\3com\0AAAABBBBCCCCDDDD", "\7example\3com\0\7example\3com\0AAAABBBBCCCCDDDD");
+    /* Types that are newer, or have no name. */
+    WRITES(33, "\0\1\0\2\0\3\7example\3com\0", "\0\1\0\2\0\3\7example\3com\0");
+    WRITES(17, "\7example\3com\0\7example\3com\0", "\7example\3com\0\7example\3com\0");
+    WRITES(18, "\0\1\7example\3com\0", "\0\1\7example\3com\0");
+    WRITES(21, "\0\1\7example\3com\0", "\0\1\7example\3com\0");
+    WRITES(26, "\0\1\7example\3com\0\7example\3com\0", "\0\1\7example\3com\0\7example\3com\0");
+    WRITES(36, "\0\1\7example\3com\0", "\0\1\7example\3com\0");
+    for (k = 0; k < sizeof LEFT / sizeof *LEFT; k++)
+        WRITES(LEFT[k], "\7example\3com\0", "\7example\3com\0");
+}
+
+/* A delegation: the data's name ends as its owner's, which is there for the first time, and glue has the data's name. Each
+ * limit that is too small refuses the record and leaves all; the next push still has its room. */
+static void building_glue(void)
+{
+    static const uint8_t built[] = "\7example\3net\0\0\2\0\1\0\0\0\0\0\5\2ns\300\014"
+                                   "\300\043\0\1\0\1\0\0\0\0\0\4\300\0\2\1";
+    dnsnames_builder builder = begun(512);
+    size_t limit;
+
+    CHECK(dnsnames_builder_record(&builder, 2, NAME("\7example\3net"), 2, 1, 0, NAME("\2ns\7example\3net")) ==
+          DNSNAMES_OK);
+    CHECK(builder.state.len == 40 && builder.state.table_len == 3 && builder.state.table[2] == 35);
+    CHECK(dnsnames_builder_record(&builder, 3, NAME("\2ns\7example\3net"), 1, 1, 0, SPELLED("\300\0\2\1")) ==
+          DNSNAMES_OK);
+    CHECK(builder.state.len == 56 && memcmp(buffer + 12, built, 44) == 0);
+    for (limit = 12; limit < 40; limit++) {
+        builder = begun(512);
+        builder.state.limit = limit;
+        STAYS(DNSNAMES_NO_ROOM, builder,
+              dnsnames_builder_record(&builder, 2, NAME("\7example\3net"), 2, 1, 0, NAME("\2ns\7example\3net")));
+        builder.state.limit = 40;
+        CHECK(dnsnames_builder_record(&builder, 2, NAME("\7example\3net"), 2, 1, 0,
+                                      NAME("\2ns\7example\3net")) == DNSNAMES_OK);
+        CHECK(builder.state.len == 40 && memcmp(buffer + 12, built, 28) == 0);
+    }
+}
+
 static void building_refused(void)
 {
     dnsnames_builder builder = begun(512);
@@ -1217,6 +1295,8 @@ int main(void)
     far_off();
     mnemonics();
     building();
+    building_names();
+    building_glue();
     building_refused();
     building_large();
     statuses();

@@ -91,7 +91,7 @@ is 'ask, of no name' 1 '
 empty label' out/ask a..b A
 is 'ask, of no type' 1 '
 no name of a type, a class or a code' out/ask a.b MXX
-is answer 0 '123481800001000100000000076578616d706c6503636f6d00000f0001c00c000f000100000e100014000a046d61696c076578616d706c6503636f6d00
+is answer 0 '123481800001000100000000076578616d706c6503636f6d00000f0001c00c000f000100000e100009000a046d61696cc00c
 example.com. 3600 MX 10 mail.example.com.' out/answer
 
 printf '03777777 00\nc000\n0377\n\n0g\n' > out/lines

@@ -199,10 +199,44 @@ static void ask_to_append(uint8_t names[][255], const size_t *lens, size_t count
     }
 }
 
-/* Builds a message in turn on both sides, with names that share ends and random data; both keep octets and builder. */
+/* Data that are the fields of a type, with some of the names and others that end as one of them; now and then cut, too
+ * long, or with a pointer in a name. */
+static size_t fields_of(uint16_t *type, uint8_t *data, uint8_t names[][255], const size_t *lens, size_t count)
+{
+    static const uint8_t TYPES[][4] = {
+        {2, 0, 1, 0},  {3, 0, 1, 0},  {4, 0, 1, 0},  {5, 0, 1, 0},  {6, 0, 2, 20}, {7, 0, 1, 0},  {8, 0, 1, 0},
+        {9, 0, 1, 0},  {12, 0, 1, 0}, {14, 0, 2, 0}, {15, 2, 1, 0}, {33, 6, 1, 0}, {39, 0, 1, 0}, {17, 0, 2, 0},
+        {18, 2, 1, 0}, {21, 2, 1, 0}, {26, 2, 2, 0}, {36, 2, 1, 0},
+    };
+    const uint8_t *row = TYPES[random_below(sizeof TYPES / sizeof *TYPES)];
+    size_t len = row[1], left, k;
+
+    *type = row[0];
+    for (k = 0; k < len; k++)
+        data[k] = (uint8_t)random_below(256);
+    for (left = row[2]; left > 0; left--) {
+        k = random_below((uint32_t)count);
+        if (random_below(3) == 0 && lens[k] < 250) {
+            memcpy(data + len, "\1q", 2);
+            len += 2;
+        }
+        memcpy(data + len, names[k], lens[k]);
+        len += lens[k];
+    }
+    for (k = 0; k < row[3]; k++)
+        data[len++] = (uint8_t)random_below(256);
+    if (random_below(12) == 0)
+        data[random_below((uint32_t)len)] = 192;
+    if (random_below(12) == 0)
+        data[len++] = 0;
+    return random_below(12) == 0 ? random_below((uint32_t)len + 1) : len;
+}
+
+/* Builds a message in turn on both sides, with names that share ends, and fields or random data; both keep octets and
+ * builder. */
 static void ask_to_build(uint8_t names[][255], const size_t *lens, size_t count)
 {
-    static uint8_t octets[2][700];
+    static uint8_t octets[2][700], fields[600];
     dnsnames_builder builder[2];
     size_t capacity = random_below(3) == 0 ? random_below(120) : sizeof octets[0], turns = random_below(14), size[2];
     uint32_t status[2], side;
@@ -218,6 +252,11 @@ static void ask_to_build(uint8_t names[][255], const size_t *lens, size_t count)
         uint32_t kind = random_below(12), section = random_below(8) == 0 ? random_below(6) : 1 + random_below(3);
         size_t k = random_below((uint32_t)count), data_len = random_below(30), len = lens[k] - random_below(30) / 29;
         uint16_t type = (uint16_t)random_below(300);
+        const uint8_t *data = names[0];
+        if (random_below(2) == 0) {
+            data_len = fields_of(&type, fields, names, lens, count);
+            data = fields;
+        }
         if (random_below(60) == 0) {
             size_t at = random_below(12 + (uint32_t)sizeof builder[0].state), bit = 1u << random_below(8);
             for (side = 0; side < 2; side++) {
@@ -231,9 +270,9 @@ static void ask_to_build(uint8_t names[][255], const size_t *lens, size_t count)
             if (kind < 3)
                 status[side] = TURN(question, names[k], len, type, 1);
             else if (kind < 10)
-                status[side] = TURN(record, section, names[k], len, type, 1, 0x10203040u + type, names[0], data_len);
+                status[side] = TURN(record, section, names[k], len, type, 1, 0x10203040u + type, data, data_len);
             else if (kind == 10)
-                status[side] = TURN(opt, type, (uint8_t)type, (uint8_t)(type / 2), type % 2, names[0], data_len);
+                status[side] = TURN(opt, type, (uint8_t)type, (uint8_t)(type / 2), type % 2, data, data_len);
             else
                 status[side] = side == 0 ? dnsnames_builder_truncate(b) : second_builder_truncate(b);
         }

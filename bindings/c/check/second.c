@@ -1020,6 +1020,74 @@ static uint32_t build(dnsnames_builder *builder, const uint8_t *name, size_t len
     return DNSNAMES_OK;
 }
 
+/* Where data of a type end before their names and after each, if the names may be compressed: if the type is one of RFC
+ * 1035, and the data are its fields, with no pointer in a name. How many names there are; 0 where none may be. */
+static size_t ends_of_names(unsigned type, const uint8_t *data, size_t data_len, size_t ends[3])
+{
+    size_t row, at, k;
+
+    for (row = 0; row < sizeof DATA / sizeof *DATA && DATA[row].type != type; row++)
+        ;
+    if (row == sizeof DATA / sizeof *DATA || type > 15 || data_len < DATA[row].before)
+        return 0;
+    ends[0] = DATA[row].before;
+    for (k = 0; k < DATA[row].names; k++) {
+        for (at = ends[k]; at < data_len && data[at] != 0; at += 1 + (size_t)data[at])
+            if (data[at] > 63)
+                return 0;
+        if (at >= data_len || at + 1 - ends[k] > 255)
+            return 0;
+        ends[k + 1] = at + 1;
+    }
+    return data_len - ends[k] == DATA[row].after ? k : 0;
+}
+
+/* Writes a record whose data have so many names, each told over what ends with the owner's name: into a copy of the
+ * message, which becomes the message where it has room. */
+static uint32_t build_named(dnsnames_builder *builder, const uint8_t *owner, size_t owner_len, const uint8_t *head,
+                            const uint8_t *data, size_t data_len, const size_t *ends, size_t names)
+{
+    static uint8_t copy[67000];
+    dnsnames_builder_state s = builder->state, after_owner;
+    size_t before_data, k, at, begin;
+    uint16_t offset;
+
+    memcpy(copy, builder->octets, s.len);
+    if (SECOND(append)(copy, s.limit, &s.len, s.table, DNSNAMES_MAX_TABLE, &s.table_len, owner, owner_len) !=
+        DNSNAMES_OK)
+        return DNSNAMES_NO_ROOM;
+    after_owner = s;
+    memcpy(copy + s.len, head, 8);
+    before_data = s.len += 10;
+    memcpy(copy + s.len, data, ends[0]);
+    s.len += ends[0];
+    for (k = 0; k < names; k++) {
+        const uint8_t *name = data + ends[k];
+        size_t len = ends[k + 1] - ends[k];
+        int is_flat = SECOND(plan)(copy, after_owner.len, after_owner.table, after_owner.table_len, name, len,
+                                   &begin, &offset) != DNSNAMES_OK;
+        if (is_flat)
+            begin = len;
+        memcpy(copy + s.len, name, begin);
+        for (at = 0; at < begin && name[at] != 0; at += 1 + (size_t)name[at])
+            if (s.table_len < DNSNAMES_MAX_TABLE && s.len + at < 16384)
+                s.table[s.table_len++] = (uint16_t)(s.len + at);
+        s.len += begin;
+        if (!is_flat) {
+            put16(copy + s.len, 0xc000u + offset);
+            s.len += 2;
+        }
+    }
+    memcpy(copy + s.len, data + ends[names], data_len - ends[names]);
+    s.len += data_len - ends[names];
+    if (s.len > s.limit)
+        return DNSNAMES_NO_ROOM;
+    put16(copy + before_data - 2, (uint32_t)(s.len - before_data));
+    memcpy(builder->octets, copy, s.len);
+    builder->state = s;
+    return DNSNAMES_OK;
+}
+
 uint32_t SECOND(builder_question)(dnsnames_builder *builder, const uint8_t *name, size_t len, uint16_t type,
                                   uint16_t class_)
 {
@@ -1052,6 +1120,7 @@ static uint32_t build_record(dnsnames_builder *builder, uint32_t section, const 
     uint16_t *counts[] = {&s->answers, &s->authority, &s->additional};
     uint8_t head[10];
     uint32_t later, status;
+    size_t ends[3], names;
 
     for (later = section; later < 3; later++)
         if (*counts[later] > 0)
@@ -1063,7 +1132,9 @@ static uint32_t build_record(dnsnames_builder *builder, uint32_t section, const 
     put16(head + 4, ttl >> 16);
     put16(head + 6, ttl);
     put16(head + 8, (uint32_t)data_len);
-    status = build(builder, owner, owner_len, head, sizeof head, data, data_len);
+    names = ends_of_names(type, data, data_len, ends);
+    status = names > 0 ? build_named(builder, owner, owner_len, head, data, data_len, ends, names)
+                       : build(builder, owner, owner_len, head, sizeof head, data, data_len);
     if (status == DNSNAMES_OK) {
         (*counts[section - 1])++;
         if (section == DNSNAMES_ANSWER)

@@ -19,8 +19,8 @@ def _word(number: int, bits: int) -> int:
 
 class Builder:
     """A message that is built (RFC 1035, 4.1): questions, and then records, section by section. Each is pushed whole, or
-    not at all: after a refusal all is as it was. Names of questions and owners of records are compressed, names in data
-    aren't, whatever the type.
+    not at all: after a refusal all is as it was. Names of questions and owners of records are compressed, and names in
+    data of the types of RFC 1035.
 
     >>> from dnsnames import Flags, Message, Name, NoRoom, Type
     >>> query = Builder(id=0x1234, flags=Flags.RD)
@@ -90,9 +90,10 @@ class Builder:
     def record(
         self, section: str, name: Name, type: int, data: Octets, ttl: int = 0, class_: int = Class.IN
     ) -> None:
-        """Pushes a record into a section: "answer", "authority" or "additional". Its data are written as they are,
-        whatever the type: a name in them is `bytes(name)`, as data that were cut out of another message may have pointers,
-        which would lead elsewhere here.
+        """Pushes a record into a section: "answer", "authority" or "additional". A name in its data is `bytes(name)`, as
+        data that were cut out of another message may have pointers, which would lead elsewhere here. It is compressed where
+        the type is one of RFC 1035, 3.3 (NS, MD, MF, CNAME, SOA, MB, MG, MR, PTR, MINFO, MX), and the data are exactly the
+        fields of that type. All other data are written as they are.
 
         Raises WrongOrder where a later section has a record, NoRoom, TooManyEntries, NoBuilder; ValueError for another
         section.

@@ -3,8 +3,7 @@
 
     answer.py
 
-The zone's name is compressed where it is repeated. Data are written as they are passed: the exchange's name in them
-isn't compressed.
+The zone's name is compressed where it is repeated, in the data too, since names in those of MX may be (RFC 1035).
 """
 
 from dnsnames import Builder, Flags, Message, Name, Type

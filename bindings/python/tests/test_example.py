@@ -17,7 +17,7 @@ class Answer(unittest.TestCase):
         )
         self.assertEqual(run.stdout.split("\n"), [
             "123481800001000100000000076578616d706c6503636f6d00000f0001" 
-            "c00c000f000100000e100014000a046d61696c076578616d706c6503636f6d00",
+            "c00c000f000100000e100009000a046d61696cc00c",
             "example.com. 3600 IN MX mail.example.com.", "",
         ])
 

@@ -1,7 +1,6 @@
 //! Writes a response with one MX record, and reads it back.
 //!
-//! The zone's name is compressed where it is repeated. Data are written as they are passed: the exchange's name in them
-//! isn't compressed.
+//! The zone's name is compressed where it is repeated, in the data too, since names in those of MX may be (RFC 1035).
 
 use dnsnames::{Builder, Class, Fault, Header, Message, Name, Row, Section, Type, MAX_LEN};
 

@@ -9,7 +9,7 @@ use dnsnames_sys::*;
 /// A message that is built in octets of the caller's (RFC 1035, 4.1): questions, and then records, section by section.
 ///
 /// Each is pushed whole, or not at all: after a fault all is as it was. Names of questions and owners of records are
-/// compressed, names in data aren't, whatever the type.
+/// compressed, and names in data of the types of RFC 1035.
 ///
 /// ```
 /// use dnsnames::{Builder, Message, Name, Section};
@@ -69,9 +69,10 @@ impl<'a> Builder<'a> {
         Fault::check(status, None)
     }
 
-    /// Pushes a record into a section; its data are written as they are, whatever the type: a name in them is its
-    /// [`Name::as_slice`], and data that were cut out of another message may have pointers, which would lead elsewhere
-    /// here. `WrongOrder` where a later section has a record, `NoRoom`, `TooManyEntries`.
+    /// Pushes a record into a section. A name in its data is its [`Name::as_slice`]; data that were cut out of another
+    /// message may have pointers, which would lead elsewhere here. Names are compressed where the type is one of RFC 1035,
+    /// 3.3 (NS, MD, MF, CNAME, SOA, MB, MG, MR, PTR, MINFO, MX), and the data are exactly the fields of that type; all
+    /// other data are written as they are. `WrongOrder` where a later section has a record, `NoRoom`, `TooManyEntries`.
     pub fn record(
         &mut self,
         section: Section,

@@ -325,6 +325,23 @@ fn built() {
     assert!(matches!(Builder::new(&mut [0; 11], 0, 0), Err(Fault::NoRoom(Some(12)))));
 }
 
+#[test]
+fn built_data() {
+    let data_of = |rtype: u16, data: &[u8]| {
+        let (mut octets, mut buffer, mut other) = ([0; 512], [0; MAX_LEN], [0; MAX_LEN]);
+        let (asked, owner) = (name("www.example.com", &mut buffer), name("example.com", &mut other));
+        let mut builder = Builder::new(&mut octets, 7, 0).unwrap();
+        builder.question(asked, 1, 1).unwrap();
+        builder.record(Section::Authority, owner, rtype, 1, 0, data).unwrap();
+        builder.finish().unwrap()[45..].to_vec()
+    };
+    // MX is a type of RFC 1035; SRV is newer; and data that aren't the fields of MX stay.
+    assert_eq!(data_of(15, b"\0\x0a\x02mx\x07example\x03com\0"), b"\0\x0a\x02mx\xc0\x10");
+    for (rtype, data) in [(33, &b"\0\0\0\0\0\0\x07example\x03com\0"[..]), (15, b""), (15, b"\0\x0a\x02mx\xc0\x10")] {
+        assert_eq!(data_of(rtype, data), data);
+    }
+}
+
 /// A message of one record: of the root, of class IN, with this type, TTL and data.
 fn of_data(rtype: u16, class: u16, ttl: u32, data: &[u8]) -> Vec<u8> {
     let mut octets = b"\0\0\x81\x83\0\0\0\x01\0\0\0\0\0".to_vec();

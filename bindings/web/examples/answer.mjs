@@ -2,8 +2,7 @@
 //
 //     node answer.mjs MODULE
 //
-// The zone's name is compressed where it is repeated. Data are written as they are passed: the exchange's name in them isn't
-// compressed.
+// The zone's name is compressed where it is repeated, in the data too, since names in those of MX may be (RFC 1035).
 import { readFileSync } from "node:fs";
 import { FLAGS, load } from "../dnsnames.mjs";
 

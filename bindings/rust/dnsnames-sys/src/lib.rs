@@ -507,7 +507,7 @@ extern "C" {
         r#type: u16,
         class_: u16,
     ) -> dnsnames_status;
-    /// Pushes a record, with its data as they are passed.
+    /// Pushes a record. Names in its data are compressed as the standards allow it by type; else they are as passed.
     pub fn dnsnames_builder_record(
         builder: *mut dnsnames_builder,
         section: u32,

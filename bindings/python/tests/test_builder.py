@@ -1,0 +1,152 @@
+"""That messages which are built are read by dnspython as what was pushed, and which names in data are compressed."""
+
+import io
+import struct
+import unittest
+
+from dnsnames import Builder, Message, Name, NoRoom, Type
+
+from .test_texts import Words
+
+try:
+    import dns.message
+    import dns.name
+    import dns.rdata
+    import dns.rdataclass
+    import dns.rdatatype
+except ImportError:
+    dns = None
+
+COMPARED = 1500
+IN = 1
+# The types of RFC 1035 (3.3) that have names, by what stands before these, how many there are, and what comes after.
+FIELDS = {
+    2: (0, 1, 0), 3: (0, 1, 0), 4: (0, 1, 0), 5: (0, 1, 0), 6: (0, 2, 20), 7: (0, 1, 0), 8: (0, 1, 0), 9: (0, 1, 0),
+    12: (0, 1, 0), 14: (0, 2, 0), 15: (2, 1, 0),
+}
+SOA = 6
+# Those that are newer and have names, of which dnspython makes data.
+NEWER = 17, 18, 21, 26, 33, 35, 36, 39, 46, 47, 65
+SECTIONS = "answer", "authority", "additional"
+
+
+def data_in(type_: int, names) -> bytes:
+    """Data of a type whose names are some of these."""
+    before, many, after = FIELDS[type_]
+    return bytes(range(before)) + b"".join(bytes(Name(name)) for name in names[:many]) + bytes(range(after))
+
+
+class Compressed(unittest.TestCase):
+    """The question is www.example.com, at 12; the record's owner is example.com, and its data begin at 45."""
+
+    def data(self, type_: int, octets: bytes) -> bytes:
+        builder = Builder(512)
+        builder.question(Name("www.example.com"), Type.A)
+        builder.record("authority", Name("example.com"), type_, octets)
+        message = builder.finish()
+        record = next(Message(message).authority())
+        self.assertEqual((record.type, len(record.data)), (type_, len(message) - 45))
+        return message[45:]
+
+    def test_each_type(self):
+        for type_, (before, many, after) in FIELDS.items():
+            with self.subTest(type=type_):
+                names = (b"\2ns\xc0\x10", b"\xc0\x0c")[:many]
+                written = bytes(range(before)) + b"".join(names) + bytes(range(after))
+                self.assertEqual(self.data(type_, data_in(type_, ("ns.example.com", "WWW.Example.com"))), written)
+
+    def test_what_is_left(self):
+        for type_ in FIELDS:
+            octets = data_in(type_, ("ns.example.com", "www.example.com"))
+            for other in (b"", octets[:-1], octets + b"\0", octets[:-1] + b"\xc0\x10", b"\xc0\x10"):
+                with self.subTest(type=type_, octets=other):
+                    self.assertEqual(self.data(type_, other), other)
+        name = bytes(Name("example.com"))
+        for type_, octets in (
+            (33, bytes(6) + name), (39, name), (17, name + name), (18, bytes(2) + name), (21, bytes(2) + name),
+            (26, bytes(2) + name + name), (36, bytes(2) + name), (1, name), (16, name), (65280, name),
+        ):
+            with self.subTest(type=type_):
+                self.assertEqual(self.data(type_, octets), octets)
+
+    def test_refusals(self):
+        """At each limit that is too small nothing changes, and what has room is pushed as ever."""
+        name, data = Name("example.net"), bytes(Name("ns.example.net"))
+        whole = Builder(512)
+        whole.record("authority", name, Type.NS, data)
+        size = len(whole)
+        for limit in range(12, size):
+            builder = Builder(512)
+            builder.limit = limit
+            with self.subTest(limit=limit), self.assertRaises(NoRoom):
+                builder.record("authority", name, Type.NS, data)
+            self.assertEqual(len(builder), 12)
+            builder.limit = size
+            builder.record("authority", name, Type.NS, data)
+            self.assertEqual(len(builder), size)
+        glue = len(whole)
+        whole.record("additional", Name("ns.example.net"), Type.A, bytes(4))
+        self.assertEqual(len(whole), glue + 2 + 10 + 4)
+
+
+@unittest.skipUnless(dns, "there is no dnspython")
+class ReadByDnspython(unittest.TestCase):
+    def pushed(self, words: "Words") -> list:
+        """Records in the order of their sections: owner, type, TTL, data."""
+        records = []
+        for section in SECTIONS:
+            for _ in range(words.random.randrange(4)):
+                kind, text = words.data()
+                type_ = dns.rdatatype.from_text(kind)
+                data = dns.rdata.from_text(IN, type_, text, dns.name.root, relativize=False)
+                records.append((section, words.name(), int(type_), words.number(31), data))
+        return records
+
+    def built(self, asked, records: list) -> bytes:
+        builder = Builder(65535, id=7)
+        builder.question(Name.from_wire(asked.to_wire()), Type.A)
+        for section, owner, type_, ttl, data in records:
+            builder.record(section, Name.from_wire(owner.to_wire()), type_, data.to_wire(), ttl=ttl)
+        return builder.finish()
+
+    def written(self, asked, records: list) -> bytes:
+        """The octets that dnspython writes of the same."""
+        out, names = io.BytesIO(), {}
+        out.write(bytes(12))
+        asked.to_wire(out, names)
+        out.write(bytes(4))
+        for _, owner, type_, ttl, data in records:
+            owner.to_wire(out, names)
+            out.write(struct.pack("!HHIH", type_, IN, ttl, 0))
+            data.to_wire(out, names)
+        return out.getvalue()
+
+    def test_it_reads_what_was_pushed(self):
+        for seed in range(COMPARED):
+            words = Words(seed)
+            asked, records = words.name(), self.pushed(words)
+            message = dns.message.from_wire(self.built(asked, records), one_rr_per_rrset=True)
+            read = [
+                (section, it.name, int(it.rdtype), it.ttl, it[0])
+                for section, rrsets in zip(SECTIONS, message.sections[1:]) for it in rrsets
+            ]
+            with self.subTest(seed=seed):
+                self.assertEqual(read, records)
+
+    def test_it_is_as_long_as_that_of_dnspython(self):
+        """But for pointers from a second name into the first of the same data, and into data of newer types."""
+        compressed = 0
+        for seed in range(COMPARED):
+            words = Words(seed)
+            asked, records = words.name(), self.pushed(words)
+            records = [record for record in records if record[2] not in (SOA, *NEWER)]
+            octets = self.built(asked, records)
+            with self.subTest(seed=seed):
+                self.assertEqual(len(octets), len(self.written(asked, records)))
+            found = Message(octets).records()
+            compressed += sum(len(it.data) < len(data.to_wire()) for it, (*_, data) in zip(found, records))
+        self.assertGreater(compressed, COMPARED // 10)
+
+
+if __name__ == "__main__":
+    unittest.main()
