@@ -83,6 +83,35 @@ static void check_truncate(struct message *message)
     message->flags |= DNSNAMES_FLAG_TC;
 }
 
+/* What data are of a type of RFC 1035 (3.3) that has names: octets, names, octets. False for any other type. */
+static bool has_names(unsigned type, size_t *before, size_t *names, size_t *after)
+{
+    *before = type == 15 ? 2 : 0;
+    *names = type == 6 || type == 14 ? 2 : 1;
+    *after = type == 6 ? 20 : 0;
+    return (type >= 2 && type <= 9) || type == 12 || type == 14 || type == 15;
+}
+
+/* The octets of the message from `at` to `end` are the data that were pushed: octet for octet, or, where these are the
+ * fields of a type of RFC 1035, with names that are read in the message up to their end and equal those. */
+static bool same_data(const uint8_t *octets, size_t at, size_t end, const struct pushed *it)
+{
+    size_t before, names, after, from;
+    struct name ours, theirs;
+    bool compressed;
+    if (end - at == it->data_len && (it->data_len == 0 || memcmp(octets + at, it->data, it->data_len) == 0))
+        return true;
+    if (!has_names(it->type, &before, &names, &after) || it->data_len < before || end - at < before ||
+        memcmp(octets + at, it->data, before) != 0)
+        return false;
+    at += before;
+    for (from = before; names > 0; names--)
+        if (!reader_name(it->data, it->data_len, from, 0, &theirs, &from, &compressed) ||
+            !reader_name(octets, end, at, 255, &ours, &at, &compressed) || !same_name(&ours, &theirs))
+            return false;
+    return it->data_len - from == after && end - at == after && memcmp(octets + at, it->data + from, after) == 0;
+}
+
 /* The entry at an offset is this one; the offset after it. */
 static size_t check_entry(const uint8_t *octets, size_t len, size_t at, const struct pushed *it)
 {
@@ -92,10 +121,12 @@ static size_t check_entry(const uint8_t *octets, size_t len, size_t at, const st
     MUST(len - at >= 4 && number16(octets + at) == it->type && number16(octets + at + 2) == it->class_);
     if (it->section == 0)
         return at + 4;
-    MUST(len - at >= 10 + it->data_len && number16(octets + at + 8) == it->data_len);
+    MUST(len - at >= 10);
+    size_t data_len = number16(octets + at + 8);
+    MUST(data_len <= it->data_len && len - at - 10 >= data_len);
     MUST(number16(octets + at + 4) * 65536u + number16(octets + at + 6) == it->ttl);
-    MUST(it->data_len == 0 || memcmp(octets + at + 10, it->data, it->data_len) == 0);
-    return at + 10 + it->data_len;
+    MUST(same_data(octets, at + 10, at + 10 + data_len, it));
+    return at + 10 + data_len;
 }
 
 static void check_finished(struct message *message)
@@ -124,7 +155,7 @@ static bool take_push(const uint8_t *data, size_t size, size_t *at, struct pushe
     *at += 3;
     *as_opt = kind % 8 == 7;
     it->section = *as_opt ? 3 : kind % 4;
-    it->type = *as_opt ? 41 : numbers * 257u & 0xffff;
+    it->type = *as_opt ? 41 : kind & 16 ? numbers % 40 : numbers * 257u & 0xffff;
     it->class_ = kind * 9u;
     it->ttl = *as_opt ? numbers << 24 | kind << 16 | (numbers & 1) << 15 : numbers * 0x01020304u;
     if (*as_opt)
