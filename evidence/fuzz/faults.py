@@ -39,13 +39,13 @@ FAULTS = [
     ("head + 1 + open + 1 > 254", "head + 1 + open + 1 > 255"),
     ("open + 1 > 63", "open + 1 > 64"),
     ("if (c < 32 || c > 126) {", "if (c < 32 || c > 127) {"),
-    ("final_dot ? size : size - 1", "size"),
+    ("final_dot || len == 1 ? size : size - 1", "size"),
     ("c <= 'Z' ?", "c < 'Z' ?"),
     ("low(left[k]) < low(right[k]) ?", "(signed char)low(left[k]) < (signed char)low(right[k]) ?"),
     ("return (left[0] > right[0]) - (left[0] < right[0]);", "return 0;"),
     ("return (i > 0) - (j > 0);", "return i > 0;"),
     ("for (i = 0; i < count; i++)", "for (i = 0; i + 1 < count; i++)"),
-    ("h ^ lowered[i]", "h + lowered[i]"),
+    ("sip_hash(key, lowered, size)", "sip_hash(key, name, size)"),
     ("at += 1 + (size_t)name[at]) {\n        if (find", "at++) {\n        if (find"),
     ("for (i = 0; i < table_len; i++) {\n        if (walk", "for (i = table_len; i-- > 0;) {\n        if (walk"),
     ("new_len > capacity", "new_len >= capacity"),
@@ -56,6 +56,9 @@ FAULTS = [
     ("if (message_len - at < 4)", "if (message_len - at <= 4)"),
     ("if (message_len - at < 10)", "if (message_len - at < 9)"),
     ("message_len - at - 10 < len", "message_len - at - 10 <= len"),
+    ("type > 15 ||", "type > 33 ||"),
+    ("0xc000u + offset", "0xc000u + offset + 1"),
+    ("(uint32_t)(s.len - before_data)", "(uint32_t)data_len"),
 ]
 
 
