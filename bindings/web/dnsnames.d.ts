@@ -74,7 +74,7 @@ export interface Composer {
     octets(): Uint8Array;
 }
 
-/** A message that is built. */
+/** A message that is built: names in data are compressed where the record's type is one of RFC 1035. */
 export interface Builder {
     question(name: Uint8Array, type: number, class_?: number): void;
     record(

@@ -54,9 +54,9 @@ fn place_data(
 
 /// What was written: the offset after it, and how many offsets the table has then.
 #[derive(Clone, Copy)]
-pub struct RecordEnd {
-    pub end: usize,
-    pub count: usize,
+struct RecordEnd {
+    end: usize,
+    count: usize,
 }
 
 /// Writes what follows an owner's name, which ends before `start`: the head, and the data, whose names are written as
