@@ -3,6 +3,8 @@ use Rattle.std.specs.Prelude.{◌≡◌, ℕ, ◌<◌, ◌-◌, ◌⊎◌, Bool,
 use Rattle.domain_header.specs.Bits.{bit, bits}
 use Rattle.domain_header.specs.Headers.{header_id, header_high, header_low, question_count}
 use Rattle.domain_header.specs.Numbers.{number16}
+use Rattle.domain_header.specs.Values.{rcode_number}
+use Rattle.domain_header.specs.declared.code.Rcode.{Rcode}
 use Rattle.domain_header.specs.declared.flags.Header.{Header}
 use Rattle.domain_record.specs.Composing.{type_and_class}
 use Rattle.domain_record.specs.Entries.{QuestionFields, QuestionAt, NoQuestion}
@@ -30,7 +32,12 @@ pub record IsAnswerHeader (id high low rcode : ℕ) (answer : Header) : Type 0 w
   pub cd : bit 16 (header_low answer) ≡ bit 16 low
   pub rcode_is : bits 1 16 (header_low answer) ≡ rcode
 
--- the same of a query in a message of these octets
+-- The header is one of an answer to a query with this header, and has this response code.
+abbrev pub AnswersHeader : Header → Rcode → Header → Type 0
+AnswersHeader query rcode answer =
+    IsAnswerHeader (header_id query) (header_high query) (header_low query) (rcode_number rcode) answer
+
+-- The same of a query in a message of these octets.
 abbrev pub AnswersHeaderOf : List ℕ → ℕ → Header → Type 0
 AnswersHeaderOf m rcode answer = IsAnswerHeader (number16 m 0) (slice_index m 2) (slice_index m 3) rcode answer
 

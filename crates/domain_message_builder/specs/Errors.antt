@@ -1,5 +1,5 @@
 -- What errors say, and what they write.
-use Rattle.std.specs.Prelude.{ℕ, Bool, true, false, List, codes}
+use Rattle.std.specs.Prelude.{◌≡◌, ℕ, Bool, true, false, List, codes}
 use Rattle.domain_message_builder.specs.declared.error.PushError.{PushError}
 use Rattle.domain_message_builder.specs.declared.error.PushError.TheVariants.{Append, Long, Count, Limit, Order}
 use Rattle.domain_message_builder.specs.declared.error.StartError.{StartError}
@@ -34,3 +34,7 @@ is_early (Long _) = false
 is_early Count = true
 is_early Limit = false
 is_early Order = true
+
+-- The error is one of those: it is told before anything was composed.
+abbrev pub IsEarly : {E : Type 0} → PushError E → Type 0
+IsEarly e = is_early e ≡ true

@@ -60,3 +60,8 @@ IsSeenAfter {Seen} At Alike t s = (it : Seen) × At (t ++ s) (length t) it (leng
 -- What may be composed for a name after a blank header may be after any header of twelve octets.
 abbrev pub NamesUnderAnyHeader : Type 0
 NamesUnderAnyHeader = (h b s : List ℕ) (ls : List (List ℕ)) (compresses : Bool) → length h ≡ 12 → NameOctets ls compresses (blank_header ++ b) s → NameOctets ls compresses (h ++ b) s
+
+-- Whatever the header is: octets that data may be composed into after a blank header, and octets behind that, are read as what is like
+-- the data where they stand in the message. `May compresses t s`: it may be composed into s after t.
+abbrev pub IsSeenUnderAnyHeader : {Seen : Type 0} → (Bool → List ℕ → List ℕ → Type 0) → (List ℕ → ℕ → Seen → ℕ → Type 0) → (Seen → Type 0) → Type 0
+IsSeenUnderAnyHeader May At Alike = (compresses : Bool) (header b s : List ℕ) → length header ≡ 12 → May compresses (blank_header ++ b) s → IsSeenAfter At Alike (header ++ b) s

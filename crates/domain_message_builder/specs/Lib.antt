@@ -1,10 +1,14 @@
 pub mod Answers
+pub mod BuilderAnswers
+pub mod BuilderEntries
+pub mod Builders
 pub mod Contents
 pub mod Cuts
 pub mod Ends
 pub mod Errors
 pub mod Finished
 pub mod Laws
+pub mod Members
 pub mod Opt
 pub mod OptViews
 pub mod Pushes
@@ -13,5 +17,6 @@ pub mod Refusals
 pub mod SectionStarts
 pub mod State
 pub mod Streams
+pub mod Targets
 pub mod Tight
 pub mod Views

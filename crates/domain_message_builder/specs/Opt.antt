@@ -52,6 +52,10 @@ opt_head o = record { owner = Root; rtype = 41; class = o.udp_payload_size; ttl 
 abbrev pub option_octets : ℕ → List ℕ → List ℕ
 option_octets code data_octets = to_be_bytes w16 code ++ (to_be_bytes w16 (length data_octets) ++ data_octets)
 
+-- with this option after the others
+abbrev pub with_option : ℕ → List ℕ → Opt → Opt
+with_option code data_octets o = with_options (o.options ++ option_octets code data_octets) o
+
 -- Why an option wasn't pushed: the options would be too long; or they wouldn't, and have no room.
 abbrev pub OptionRefused : {E : Type 0} → List ℕ → List ℕ → ℕ → ComposeRdataError E → Type 0
 OptionRefused options data_octets capacity (Append e) = (length options + 4 + length data_octets ≤ 65535) × (capacity < length options + 4 + length data_octets)

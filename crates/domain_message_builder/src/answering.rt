@@ -1,11 +1,10 @@
 //! Messages that answer others.
-ghost use Rattle.std.specs.Prelude.{◌≡◌, ◌≤◌, true, length, IfErr, OnOk, OnErr};
-ghost use Rattle.domain_header.specs.Headers.{header_id, header_high, header_low};
-ghost use Rattle.domain_header.specs.Values.{rcode_number};
-ghost use Rattle.domain_message.specs.Messages.{message_octets};
-ghost use Rattle.domain_message_builder.specs.Answers.{IsAnswerHeader, StartsAnswer, StartsError, NotStarted, RepeatsQuestion};
-ghost use Rattle.domain_message_builder.specs.Errors.{is_early};
-ghost use Rattle.domain_message_builder.specs.Views.{state_of, target_of};
+ghost use Rattle.std.specs.Prelude.{◌≡◌, ◌≤◌, true, IfErr, OnOk, OnErr};
+ghost use Rattle.domain_message_builder.specs.Answers.{AnswersHeader};
+ghost use Rattle.domain_message_builder.specs.BuilderAnswers.{AnswersQuery, AnswersInError, QueryNotAnswered, LeavesQuery};
+ghost use Rattle.domain_message_builder.specs.Builders.{state, target_room, target_memory, KeepsMemory};
+ghost use Rattle.domain_message_builder.specs.Errors.{IsEarly};
+ghost use Rattle.domain_message_builder.specs.Views.{target_of};
 
 use crate::builder::MessageBuilder;
 use crate::error::PushError;
@@ -17,8 +16,7 @@ use octseq::Octets;
 /// The header of an answer: the identifier, the opcode and the bits RD and CD of the query, QR, the response code, and
 /// no other bit (RFC 1035, 4.1.1; RFC 4035, 3.2.2).
 fn answer_header(query: Header, rcode: Rcode) -> Header
-    ensures { IsAnswerHeader (header_id query) (header_high query) (header_low query)
-        (rcode_number rcode) result }
+    ensures { AnswersHeader query rcode result }
 {
     let mut header = Header::new();
     header.set_id(query.id());
@@ -41,24 +39,15 @@ impl<Target: Composer> MessageBuilder<Target> {
         query: &Message<Octs>,
         rcode: Rcode,
     ) -> Result<(), PushError<Target::AppendError>>
-        ensures ok { OnOk result (StartsAnswer Target.compresses
-            (message_octets query.now) (rcode_number rcode)
-            (state_of Target.octets self.old) (state_of Target.octets self.new)) }
-        ensures memory { Target.kept_within (length (Target.octets (target_of self.old)))
-            (Target.memory (target_of self.new)) ≡ Target.memory (target_of self.old) }
-        ensures unchanged { OnErr result
-            (state_of Target.octets self.new ≡ state_of Target.octets self.old) }
-        ensures memory_unchanged { OnErr result
-            (Target.memory (target_of self.new) ≡ Target.memory (target_of self.old)) }
-        ensures why { IfErr result (λ e. NotStarted Target.compresses
-            (message_octets query.now) (state_of Target.octets self.old)
-            (Target.capacity (target_of self.old)) e) }
-        ensures written { OnOk result (RepeatsQuestion Target.extends Target.appends
-            (message_octets query.now) (target_of self.old) (target_of self.new)) }
+        ensures ok { OnOk result (AnswersQuery query.now rcode self.old self.new) }
+        ensures memory { KeepsMemory self.old self.new }
+        ensures unchanged { OnErr result (state self.new ≡ state self.old) }
+        ensures memory_unchanged { OnErr result (target_memory self.new ≡ target_memory self.old) }
+        ensures why { IfErr result (QueryNotAnswered query.now self.old) }
+        ensures written { OnOk result (LeavesQuery query.now self.old self.new) }
         ensures early { IfErr result
-            (λ e. is_early e ≡ true → target_of self.new ≡ target_of self.old) }
-        ensures capacity { Target.capacity (target_of self.old)
-            ≤ Target.capacity (target_of self.new) }
+            (λ e. IsEarly e → target_of self.new ≡ target_of self.old) }
+        ensures capacity { target_room self.old ≤ target_room self.new }
     {
         let before = self.header();
         self.set_header(answer_header(query.header(), rcode));
@@ -75,13 +64,9 @@ impl<Target: Composer> MessageBuilder<Target> {
     /// Begins an answer as `start_answer` does, but for the question where that is refused. It is for errors, which are
     /// told even so.
     pub fn start_error<Octs: Octets>(&mut self, query: &Message<Octs>, rcode: Rcode)
-        ensures starts { StartsError Target.compresses
-            (message_octets query.now) (rcode_number rcode) (Target.capacity (target_of self.old))
-            (state_of Target.octets self.old) (state_of Target.octets self.new) }
-        ensures memory { Target.kept_within (length (Target.octets (target_of self.old)))
-            (Target.memory (target_of self.new)) ≡ Target.memory (target_of self.old) }
-        ensures capacity { Target.capacity (target_of self.old)
-            ≤ Target.capacity (target_of self.new) }
+        ensures starts { AnswersInError query.now rcode self.old self.new }
+        ensures memory { KeepsMemory self.old self.new }
+        ensures capacity { target_room self.old ≤ target_room self.new }
     {
         self.set_header(answer_header(query.header(), rcode));
         let Some(question) = query.first_question() else {

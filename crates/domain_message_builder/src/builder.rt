@@ -1,17 +1,11 @@
 //! A builder of messages.
-ghost use Rattle.std.specs.Prelude.{◌≡◌, ◌≤◌, ◌<◌, ◌+◌, ◌-◌, ◌↔◌, true, length, take, IfOk, IfErr, IsErr, OnOk, OnErr};
+ghost use Rattle.std.specs.Prelude.{◌≡◌, ◌≤◌, ◌<◌, ◌+◌, ◌↔◌, true, length, take, IfOk, IfErr, IsErr, OnOk, OnErr};
 ghost use Rattle.std.proofs.Props.{props};
-ghost use Rattle.domain_rdata.specs.RecordData.{ComposeRefused};
-ghost use Rattle.domain_record.specs.RecordParts.{data_of};
-ghost use Rattle.domain_record.specs.LeftToTarget.{WritesQuestion, WritesRecord};
-ghost use Rattle.domain_message_builder.specs.Contents.{blank_header, Content, Holds};
-ghost use Rattle.domain_message_builder.specs.Errors.{is_early};
+ghost use Rattle.domain_message_builder.specs.Contents.{blank_header};
+ghost use Rattle.domain_message_builder.specs.Errors.{IsEarly};
 ghost use Rattle.domain_message_builder.specs.Finished.{finished_octets};
-ghost use Rattle.domain_message_builder.specs.SectionStarts.{IsInOrder, start_of};
-ghost use Rattle.domain_message_builder.specs.Pushes.{asked, headed, PushesQuestion, PushesRecord, Rewinds, RewindsAll};
-ghost use Rattle.domain_message_builder.specs.Tight.{Surpasses, RefusedAsWritten, HasNoRoom, RefusesEntry};
-ghost use Rattle.domain_message_builder.specs.Refusals.{NotBegun, QuestionRefused, RecordRefused};
-ghost use Rattle.domain_message_builder.specs.Reading.{IsMessageOf};
+ghost use Rattle.domain_message_builder.specs.SectionStarts.{IsInOrder};
+ghost use Rattle.domain_message_builder.specs.Targets.{NotBegunOn};
 
 use crate::appending::{append_question, append_record};
 use crate::counting::{
@@ -48,18 +42,15 @@ pub struct MessageBuilder<Target: Composer> {
 }
 
 impl<Target: Composer + Drop> MessageBuilder<Target> {
-    ghost use Rattle.domain_message_builder.specs.Views.{state_of, target_of};
+    ghost use Rattle.domain_message_builder.specs.Builders.{state, target_room};
     ghost use Rattle.domain_message_builder.specs.Pushes.{IsBegun};
     ghost use Rattle.domain_message_builder.specs.declared.error.StartError.TheVariants.{NotEmpty, ShortLimit};
 
     /// Begins a message of at most 65,535 octets, as `with_limit` does.
     pub fn from_target(target: Target) -> Result<Self, StartError<Target::AppendError>>
-        ensures ok { IfOk result
-            (λ it. IsBegun Target.compresses 65535 (state_of Target.octets it)) }
-        ensures why { IfErr result (λ e.
-            NotBegun (Target.octets target) (Target.capacity target) 65535 e) }
-        ensures capacity { IfOk result (λ it.
-            Target.capacity target ≤ Target.capacity (target_of it)) }
+        ensures ok { IfOk result (λ it. IsBegun Target.compresses 65535 (state it)) }
+        ensures why { IfErr result (NotBegunOn Target.Composer target 65535) }
+        ensures capacity { IfOk result (λ it. Target.capacity target ≤ target_room it) }
         ensures not_empty { 0 < length (Target.octets target) → IsErr result }
         ensures first { 0 < length (Target.octets target) → result ≡ Err NotEmpty }
     {
@@ -71,12 +62,9 @@ impl<Target: Composer + Drop> MessageBuilder<Target> {
     /// `NotEmpty` exactly if the target isn't empty, else `ShortLimit` exactly if the limit is below the twelve octets of
     /// the header, and else `Append` only if the target has no room for these.
     pub fn with_limit(target: Target, limit: u16) -> Result<Self, StartError<Target::AppendError>>
-        ensures ok { IfOk result
-            (λ it. IsBegun Target.compresses limit (state_of Target.octets it)) }
-        ensures why { IfErr result (λ e.
-            NotBegun (Target.octets target) (Target.capacity target) limit e) }
-        ensures capacity { IfOk result (λ it.
-            Target.capacity target ≤ Target.capacity (target_of it)) }
+        ensures ok { IfOk result (λ it. IsBegun Target.compresses limit (state it)) }
+        ensures why { IfErr result (NotBegunOn Target.Composer target limit) }
+        ensures capacity { IfOk result (λ it. Target.capacity target ≤ target_room it) }
         ensures short { limit < 12 → IsErr result }
         ensures not_empty { 0 < length (Target.octets target) → IsErr result }
         ensures first { 0 < length (Target.octets target) → result ≡ Err NotEmpty }
@@ -104,23 +92,26 @@ impl<Target: Composer + Drop> MessageBuilder<Target> {
 }
 
 impl<Target: Composer> MessageBuilder<Target> {
-    ghost use Rattle.domain_message_builder.specs.Views.{target_of, state_of};
+    ghost use Rattle.domain_message_builder.specs.Builders.{state, target_room, target_memory, message_len, KeepsMemory};
+    ghost use Rattle.domain_message_builder.specs.Builders.{HasRecords, HasNoRecords, HasLater, HasNoLater, HasMostQuestions, IsFull};
+    ghost use Rattle.domain_message_builder.specs.Builders.{CutsTo, CutsToSection, RewindsTo, RewindsToHeader, FinishesAs};
+    ghost use Rattle.domain_message_builder.specs.BuilderEntries.{AddsQuestion, LeavesQuestion, QuestionNotAdded, QuestionDoesNotFit};
+    ghost use Rattle.domain_message_builder.specs.BuilderEntries.{AddsRecord, LeavesRecord, RecordNotAdded, RecordDoesNotFit};
+    ghost use Rattle.domain_message_builder.specs.BuilderEntries.{AddsRecordKeeping, RecordNotAddedKeeping, RecordDoesNotFitKeeping};
+    ghost use Rattle.domain_message_builder.specs.Views.{target_of};
     ghost use Rattle.domain_message_builder.specs.Pushes.{with_header, with_reserved};
     ghost use Rattle.domain_message_builder.specs.declared.error.PushError.TheVariants.{Count, Limit, Order};
-    ghost use Rattle.domain_header.specs.Headers.{question_count};
-    ghost use Rattle.domain_message_builder.specs.Pushes.{record_count, section_count, later_count};
 
     /// The identifier and the flags.
     pub fn header(&self) -> Header
-        ensures { result ≡ (state_of Target.octets self.now).header }
+        ensures { result ≡ (state self.now).header }
     {
         self.header
     }
 
     /// Sets the identifier and the flags.
     pub fn set_header(&mut self, header: Header)
-        ensures header { state_of Target.octets self.new
-            ≡ with_header header (state_of Target.octets self.old) }
+        ensures header { state self.new ≡ with_header header (state self.old) }
         ensures target { target_of self.new ≡ target_of self.old }
     {
         self.header = header;
@@ -128,28 +119,28 @@ impl<Target: Composer> MessageBuilder<Target> {
 
     /// How many entries each section has.
     pub fn counts(&self) -> HeaderCounts
-        ensures { result ≡ (state_of Target.octets self.now).counts }
+        ensures { result ≡ (state self.now).counts }
     {
         self.counts
     }
 
     /// How many octets the message has, with its header.
     pub fn len(&self) -> usize
-        ensures { result ≡ length (Target.octets (target_of self.now)) }
+        ensures { result ≡ message_len self.now }
     {
         self.target.as_slice().len()
     }
 
     /// How many octets the message has at most.
     pub fn limit(&self) -> u16
-        ensures { result ≡ (state_of Target.octets self.now).limit }
+        ensures { result ≡ (state self.now).limit }
     {
         self.limit
     }
 
     /// How many octets are set aside.
     pub fn reserved(&self) -> u16
-        ensures { result ≡ (state_of Target.octets self.now).reserved }
+        ensures { result ≡ (state self.now).reserved }
     {
         self.reserved
     }
@@ -158,12 +149,10 @@ impl<Target: Composer> MessageBuilder<Target> {
     ///
     /// `Limit` exactly if the message has no room for them. Nothing is then changed.
     pub fn reserve(&mut self, octets: u16) -> Result<(), PushError<Target::AppendError>>
-        ensures ok { OnOk result (state_of Target.octets self.new
-            ≡ with_reserved octets (state_of Target.octets self.old)) }
+        ensures ok { OnOk result (state self.new ≡ with_reserved octets (state self.old)) }
         ensures target { target_of self.new ≡ target_of self.old }
         ensures err { IfErr result (λ e. e ≡ Limit) }
-        ensures limit { IsErr result ↔ ((state_of Target.octets self.old).limit
-            < length (Target.octets (target_of self.old)) + octets) }
+        ensures limit { IsErr result ↔ ((state self.old).limit < message_len self.old + octets) }
         ensures unchanged { OnErr result (self.new ≡ self.old) }
     {
         let len = self.target.as_slice().len();
@@ -183,36 +172,17 @@ impl<Target: Composer> MessageBuilder<Target> {
         &mut self,
         question: &'a Question<N>,
     ) -> Result<(), PushError<Target::AppendError>>
-        ensures ok { OnOk result (PushesQuestion Target.compresses (asked N.labels question.now)
-            (state_of Target.octets self.old) (state_of Target.octets self.new)) }
-        ensures written { OnOk result
-            (WritesQuestion N.labels Target.extends Target.appends question.now
-            (target_of self.old) (target_of self.new)) }
-        ensures memory { Target.kept_within (length (Target.octets (target_of self.old)))
-            (Target.memory (target_of self.new)) ≡ Target.memory (target_of self.old) }
-        ensures unchanged { OnErr result
-            (state_of Target.octets self.new ≡ state_of Target.octets self.old) }
-        ensures memory_unchanged { OnErr result
-            (Target.memory (target_of self.new) ≡ Target.memory (target_of self.old)) }
-        ensures early { IfErr result (λ e. is_early e ≡ true → self.new ≡ self.old) }
-        ensures order { 0 < record_count (state_of Target.octets self.old).counts
-            → result ≡ Err Order }
-        ensures count { record_count (state_of Target.octets self.old).counts ≡ 0
-            → question_count (state_of Target.octets self.old).counts ≡ 65535
-            → result ≡ Err Count }
-        ensures why { IfErr result (λ e. QuestionRefused Target.compresses
-            (asked N.labels question.now) (state_of Target.octets self.old)
-            (Target.capacity (target_of self.old)) e) }
-        ensures tight { IfErr result
-            (RefusedAsWritten
-            (HasNoRoom N.labels Target.octets Target.capacity Target.may_append question.now
-            (target_of self.old))
-            (Surpasses Target.octets
-            (WritesQuestion N.labels Target.extends Target.appends question.now) (target_of self.old)
-            ((state_of Target.octets self.old).limit
-            - (state_of Target.octets self.old).reserved))) }
-        ensures capacity { Target.capacity (target_of self.old)
-            ≤ Target.capacity (target_of self.new) }
+        ensures ok { OnOk result (AddsQuestion N.labels question.now self.old self.new) }
+        ensures written { OnOk result (LeavesQuestion N.labels question.now self.old self.new) }
+        ensures memory { KeepsMemory self.old self.new }
+        ensures unchanged { OnErr result (state self.new ≡ state self.old) }
+        ensures memory_unchanged { OnErr result (target_memory self.new ≡ target_memory self.old) }
+        ensures early { IfErr result (λ e. IsEarly e → self.new ≡ self.old) }
+        ensures order { HasRecords self.old → result ≡ Err Order }
+        ensures count { HasNoRecords self.old → HasMostQuestions self.old → result ≡ Err Count }
+        ensures why { IfErr result (QuestionNotAdded N.labels question.now self.old) }
+        ensures tight { IfErr result (QuestionDoesNotFit N.labels question.now self.old) }
+        ensures capacity { target_room self.old ≤ target_room self.new }
     {
         let counts = self.counts;
         if has_records(counts) {
@@ -244,44 +214,21 @@ impl<Target: Composer> MessageBuilder<Target> {
         section: Section,
         resource: &'a Record<N, D>,
     ) -> Result<(), PushError<Target::AppendError>>
-        ensures ok { OnOk result (PushesRecord Target.compresses section
-            (headed N.labels D.type_number resource.now)
-            (D.composed (data_of resource.now) Target.compresses)
-            (state_of Target.octets self.old) (state_of Target.octets self.new)) }
-        ensures written { Target.compresses ≡ true →
-            OnOk result (WritesRecord N.labels D.type_number Target.octets Target.extends
-            Target.cuts Target.appends (λ d. D.written d Target Target.extends Target.appends) resource.now
-            (target_of self.old) (target_of self.new)) }
-        ensures memory { Target.kept_within (length (Target.octets (target_of self.old)))
-            (Target.memory (target_of self.new)) ≡ Target.memory (target_of self.old) }
-        ensures unchanged { OnErr result
-            (state_of Target.octets self.new ≡ state_of Target.octets self.old) }
-        ensures memory_unchanged { OnErr result
-            (Target.memory (target_of self.new) ≡ Target.memory (target_of self.old)) }
-        ensures early { IfErr result (λ e. is_early e ≡ true → self.new ≡ self.old) }
-        ensures order { 0 < later_count section (state_of Target.octets self.old).counts
-            → result ≡ Err Order }
-        ensures count { later_count section (state_of Target.octets self.old).counts ≡ 0
-            → section_count section (state_of Target.octets self.old).counts ≡ 65535
-            → result ≡ Err Count }
-        ensures why { IfErr result (λ e. RecordRefused Target.compresses section
-            (headed N.labels D.type_number resource.now)
-            (D.composed (data_of resource.now) Target.compresses)
-            (state_of Target.octets self.old) (Target.capacity (target_of self.old)) e) }
+        ensures ok { OnOk result
+            (AddsRecord N.labels D.ComposeRecordData section resource.now self.old self.new) }
+        ensures written { Target.compresses ≡ true → OnOk result
+            (LeavesRecord N.labels D.ComposeRecordData resource.now self.old self.new) }
+        ensures memory { KeepsMemory self.old self.new }
+        ensures unchanged { OnErr result (state self.new ≡ state self.old) }
+        ensures memory_unchanged { OnErr result (target_memory self.new ≡ target_memory self.old) }
+        ensures early { IfErr result (λ e. IsEarly e → self.new ≡ self.old) }
+        ensures order { HasLater section self.old → result ≡ Err Order }
+        ensures count { HasNoLater section self.old → IsFull section self.old → result ≡ Err Count }
+        ensures why { IfErr result
+            (RecordNotAdded N.labels D.ComposeRecordData section resource.now self.old) }
         ensures tight { Target.compresses ≡ true → IfErr result
-            (RefusedAsWritten
-            (RefusesEntry N.labels D.type_number Target.octets Target.capacity Target.may_append
-            Target.appends
-            (λ t. ComposeRefused (D.composed (data_of resource.now) Target.compresses) t)
-            resource.now (target_of self.old))
-            (Surpasses Target.octets
-            (WritesRecord N.labels D.type_number Target.octets Target.extends
-            Target.cuts Target.appends (λ d. D.written d Target Target.extends Target.appends) resource.now)
-            (target_of self.old)
-            ((state_of Target.octets self.old).limit
-            - (state_of Target.octets self.old).reserved))) }
-        ensures capacity { Target.capacity (target_of self.old)
-            ≤ Target.capacity (target_of self.new) }
+            (RecordDoesNotFit N.labels D.ComposeRecordData resource.now self.old) }
+        ensures capacity { target_room self.old ≤ target_room self.new }
     {
         let kept = self.reserved;
         self.push_keeping(section, resource, kept)
@@ -294,46 +241,22 @@ impl<Target: Composer> MessageBuilder<Target> {
         resource: &'a Record<N, D>,
         kept: u16,
     ) -> Result<(), PushError<Target::AppendError>>
-        requires { kept ≤ (state_of Target.octets self.old).reserved }
-        ensures ok { OnOk result (PushesRecord Target.compresses section
-            (headed N.labels D.type_number resource.now)
-            (D.composed (data_of resource.now) Target.compresses)
-            (with_reserved kept (state_of Target.octets self.old))
-            (state_of Target.octets self.new)) }
-        ensures written { Target.compresses ≡ true →
-            OnOk result (WritesRecord N.labels D.type_number Target.octets Target.extends
-            Target.cuts Target.appends (λ d. D.written d Target Target.extends Target.appends) resource.now
-            (target_of self.old) (target_of self.new)) }
-        ensures memory { Target.kept_within (length (Target.octets (target_of self.old)))
-            (Target.memory (target_of self.new)) ≡ Target.memory (target_of self.old) }
-        ensures unchanged { OnErr result
-            (state_of Target.octets self.new ≡ state_of Target.octets self.old) }
-        ensures memory_unchanged { OnErr result
-            (Target.memory (target_of self.new) ≡ Target.memory (target_of self.old)) }
-        ensures early { IfErr result (λ e. is_early e ≡ true → self.new ≡ self.old) }
-        ensures order { 0 < later_count section (state_of Target.octets self.old).counts
-            → result ≡ Err Order }
-        ensures count { later_count section (state_of Target.octets self.old).counts ≡ 0
-            → section_count section (state_of Target.octets self.old).counts ≡ 65535
-            → result ≡ Err Count }
-        ensures why { IfErr result (λ e. RecordRefused Target.compresses section
-            (headed N.labels D.type_number resource.now)
-            (D.composed (data_of resource.now) Target.compresses)
-            (with_reserved kept (state_of Target.octets self.old))
-            (Target.capacity (target_of self.old)) e) }
+        requires { kept ≤ (state self.old).reserved }
+        ensures ok { OnOk result (AddsRecordKeeping N.labels D.ComposeRecordData section
+            resource.now kept self.old self.new) }
+        ensures written { Target.compresses ≡ true → OnOk result
+            (LeavesRecord N.labels D.ComposeRecordData resource.now self.old self.new) }
+        ensures memory { KeepsMemory self.old self.new }
+        ensures unchanged { OnErr result (state self.new ≡ state self.old) }
+        ensures memory_unchanged { OnErr result (target_memory self.new ≡ target_memory self.old) }
+        ensures early { IfErr result (λ e. IsEarly e → self.new ≡ self.old) }
+        ensures order { HasLater section self.old → result ≡ Err Order }
+        ensures count { HasNoLater section self.old → IsFull section self.old → result ≡ Err Count }
+        ensures why { IfErr result (RecordNotAddedKeeping N.labels D.ComposeRecordData section
+            resource.now kept self.old) }
         ensures tight { Target.compresses ≡ true → IfErr result
-            (RefusedAsWritten
-            (RefusesEntry N.labels D.type_number Target.octets Target.capacity Target.may_append
-            Target.appends
-            (λ t. ComposeRefused (D.composed (data_of resource.now) Target.compresses) t)
-            resource.now (target_of self.old))
-            (Surpasses Target.octets
-            (WritesRecord N.labels D.type_number Target.octets Target.extends
-            Target.cuts Target.appends (λ d. D.written d Target Target.extends Target.appends) resource.now)
-            (target_of self.old)
-            ((state_of Target.octets self.old).limit - kept))) }
-        ensures capacity { Target.capacity (target_of self.old)
-            ≤ Target.capacity (target_of self.new) }
+            (RecordDoesNotFitKeeping N.labels D.ComposeRecordData resource.now kept self.old) }
+        ensures capacity { target_room self.old ≤ target_room self.new }
     {
         let counts = self.counts;
         if has_later(section, counts) {
@@ -358,12 +281,9 @@ impl<Target: Composer> MessageBuilder<Target> {
 
     /// Takes the records of a section, and of those after it, away again.
     pub fn rewind(&mut self, section: Section)
-        ensures rewinds { Rewinds Target.compresses section
-            (state_of Target.octets self.old) (state_of Target.octets self.new) }
-        ensures cut { Target.cuts (target_of self.old)
-            (start_of section (state_of Target.octets self.old).starts) (target_of self.new) }
-        ensures capacity { Target.capacity (target_of self.new)
-            ≡ Target.capacity (target_of self.old) }
+        ensures rewinds { RewindsTo section self.old self.new }
+        ensures cut { CutsToSection section self.old self.new }
+        ensures capacity { target_room self.new ≡ target_room self.old }
     {
         let start = self.starts.of(section);
         self.counts = without_records(section, self.counts);
@@ -373,11 +293,9 @@ impl<Target: Composer> MessageBuilder<Target> {
 
     /// Takes all entries away again.
     pub fn rewind_all(&mut self)
-        ensures rewinds { RewindsAll Target.compresses
-            (state_of Target.octets self.old) (state_of Target.octets self.new) }
-        ensures cut { Target.cuts (target_of self.old) 12 (target_of self.new) }
-        ensures capacity { Target.capacity (target_of self.new)
-            ≡ Target.capacity (target_of self.old) }
+        ensures rewinds { RewindsToHeader self.old self.new }
+        ensures cut { CutsTo 12 self.old self.new }
+        ensures capacity { target_room self.new ≡ target_room self.old }
     {
         self.counts = HeaderCounts::new();
         self.starts = SectionStarts::at(12);
@@ -386,11 +304,10 @@ impl<Target: Composer> MessageBuilder<Target> {
 
     /// Writes the header, and returns the target: its octets are the message.
     pub fn finish(self) -> Target
-        ensures message { (it : Content) → Holds Target.compresses (state_of Target.octets self) it
-            → IsMessageOf (state_of Target.octets self).header it (Target.octets result) }
-        ensures octets { Target.octets result ≡ finished_octets (state_of Target.octets self) }
+        ensures message { FinishesAs self (Target.octets result) }
+        ensures octets { Target.octets result ≡ finished_octets (state self) }
         ensures memory { Target.memory result ≡ Target.memory (target_of self) }
-        ensures within { length (Target.octets result) ≤ (state_of Target.octets self).limit }
+        ensures within { length (Target.octets result) ≤ (state self).limit }
     {
         let MessageBuilder {
             mut target,

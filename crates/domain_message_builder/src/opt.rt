@@ -1,6 +1,6 @@
 //! OPT records (RFC 6891).
 ghost use Rattle.std.specs.Prelude.{◌≡◌, ◌≤◌, ◌<◌, ◌+◌, ◌↔◌, ◌++◌, length, IfOk, IfErr, IsErr, OnOk, OnErr};
-ghost use Rattle.domain_message_builder.specs.Opt.{opt_ttl, option_octets, OptionRefused};
+ghost use Rattle.domain_message_builder.specs.Opt.{opt_ttl, option_octets};
 
 use domain_header::{Class, Ttl};
 use domain_name::Name;
@@ -135,8 +135,8 @@ fn append_option<Octs: OctetsBuilder>(
 }
 
 impl<Octs: OctetsBuilder> OptBuilder<Octs> {
-    ghost use Rattle.domain_message_builder.specs.Opt.{with_options};
-    ghost use Rattle.domain_message_builder.specs.OptViews.{opt_of, options_room};
+    ghost use Rattle.domain_message_builder.specs.Opt.{with_option};
+    ghost use Rattle.domain_message_builder.specs.OptViews.{opt_of, OptionNotAdded};
 
     /// Pushes an option of this code, or nothing (6.1.2).
     ///
@@ -147,11 +147,9 @@ impl<Octs: OctetsBuilder> OptBuilder<Octs> {
         code: u16,
         octets: &[u8],
     ) -> Result<(), ComposeRdataError<Octs::AppendError>>
-        ensures ok { OnOk result (opt_of self.new ≡ with_options
-            ((opt_of self.old).options ++ option_octets code octets.now) (opt_of self.old)) }
+        ensures ok { OnOk result (opt_of self.new ≡ with_option code octets.now (opt_of self.old)) }
         ensures unchanged { OnErr result (opt_of self.new ≡ opt_of self.old) }
-        ensures why { IfErr result (λ e. OptionRefused (opt_of self.old).options octets.now
-            (options_room self.old) e) }
+        ensures why { IfErr result (OptionNotAdded octets.now self.old) }
     {
         let len = self.options.as_slice().len();
         if octets.len() > 65535 || len + octets.len() > 65531 {

@@ -1,10 +1,8 @@
 //! Messages in a stream (RFC 1035, 4.2.2).
 ghost use Rattle.std.specs.Prelude.{◌≡◌, ◌≤◌, ◌<◌, ◌+◌, ◌++◌, length, IfOk, OnOk, OnErr};
-ghost use Rattle.domain_message_builder.specs.Contents.{Content, Holds};
+ghost use Rattle.domain_message_builder.specs.Builders.{state, message_len, FinishesAs};
 ghost use Rattle.domain_message_builder.specs.Finished.{finished_octets};
-ghost use Rattle.domain_message_builder.specs.Reading.{IsMessageOf};
 ghost use Rattle.domain_message_builder.specs.Streams.{in_stream};
-ghost use Rattle.domain_message_builder.specs.Views.{state_of, target_of};
 
 use crate::builder::MessageBuilder;
 use domain_rdata::Composer;
@@ -48,16 +46,12 @@ impl<Target: Composer + Drop> MessageBuilder<Target> {
     ) -> Result<Target, Stream::AppendError>
         ensures ok { IfOk result (λ made. Stream.octets stream.new
             ≡ Stream.octets stream.old ++ in_stream (Target.octets made)) }
-        ensures message { IfOk result (λ made. (it : Content)
-            → Holds Target.compresses (state_of Target.octets self) it
-            → IsMessageOf (state_of Target.octets self).header it (Target.octets made)) }
-        ensures octets { IfOk result (λ made. Target.octets made
-            ≡ finished_octets (state_of Target.octets self)) }
-        ensures within { IfOk result (λ made.
-            length (Target.octets made) ≤ (state_of Target.octets self).limit) }
+        ensures message { IfOk result (λ made. FinishesAs self (Target.octets made)) }
+        ensures octets { IfOk result (λ made. Target.octets made ≡ finished_octets (state self)) }
+        ensures within { IfOk result (λ made. length (Target.octets made) ≤ (state self).limit) }
         ensures unchanged { OnErr result (Stream.octets stream.new ≡ Stream.octets stream.old) }
-        ensures full { OnErr result (Stream.capacity stream.old
-            < length (Stream.octets stream.old) + 2 + length (Target.octets (target_of self))) }
+        ensures full { OnErr result (Stream.capacity stream.old < length
+            (Stream.octets stream.old) + 2 + message_len self) }
         ensures capacity { Stream.capacity stream.old ≤ Stream.capacity stream.new }
     {
         // Two octets tell the length, since the limit has 16 bits.

@@ -1,14 +1,15 @@
 //! Messages that are cut, and the OPT record at their end.
-ghost use Rattle.std.specs.Prelude.{◌≡◌, ◌≤◌, true, false, length, option_copied, IfOk, IfErr, OnOk, OnErr};
-ghost use Rattle.domain_message.specs.declared.section.Section.TheVariants.{Answer};
-ghost use Rattle.domain_header.specs.Headers.{SetsHigh, additional_count};
-ghost use Rattle.domain_message_builder.specs.Cuts.{PushesOpt, OptRefused, CannotAddOpt, Truncates, is_cut, EndsAnswer, NotEnded};
-ghost use Rattle.domain_message_builder.specs.Ends.{MarksCut, KeepsOpt, LosesOpt, KeepsOpts, LosesOpts};
-ghost use Rattle.domain_message_builder.specs.Errors.{is_for_room, is_early};
-ghost use Rattle.domain_message_builder.specs.Finished.{EndsIn};
-ghost use Rattle.domain_message_builder.specs.OptViews.{opt_of, opt_given};
-ghost use Rattle.domain_message_builder.specs.SectionStarts.{start_of};
-ghost use Rattle.domain_message_builder.specs.Views.{state_of, target_of};
+ghost use Rattle.std.specs.Prelude.{◌≡◌, ◌≤◌, true, false, length, IfOk, IfErr, OnOk, OnErr};
+ghost use Rattle.domain_message.specs.declared.section.Section.TheVariants.{Answer, Additional};
+ghost use Rattle.domain_header.specs.Headers.{SetsHigh};
+ghost use Rattle.domain_message_builder.specs.BuilderAnswers.{AddsOpt, OptNotAdded, HasNoPlaceFor};
+ghost use Rattle.domain_message_builder.specs.BuilderAnswers.{EndsWithOpt, EndsWithOpts, LeavesNoRoomFor, LeavesNoRoomForAny};
+ghost use Rattle.domain_message_builder.specs.BuilderAnswers.{EndsAs, ClosesIn, EndRefused};
+ghost use Rattle.domain_message_builder.specs.Builders.{state, target_room, target_memory, KeepsMemory, IsFull, CutsToSection};
+ghost use Rattle.domain_message_builder.specs.Cuts.{Truncates, is_cut};
+ghost use Rattle.domain_message_builder.specs.Ends.{MarksCut};
+ghost use Rattle.domain_message_builder.specs.Errors.{is_for_room, IsEarly};
+ghost use Rattle.domain_message_builder.specs.Views.{target_of};
 
 use crate::builder::MessageBuilder;
 use crate::error::PushError;
@@ -39,23 +40,15 @@ impl<Target: Composer> MessageBuilder<Target> {
         &mut self,
         opt: &OptBuilder<Octs>,
     ) -> Result<(), PushError<Target::AppendError>>
-        ensures ok { OnOk result (PushesOpt Target.compresses (opt_of opt.now)
-            (state_of Target.octets self.old) (state_of Target.octets self.new)) }
-        ensures memory { Target.kept_within (length (Target.octets (target_of self.old)))
-            (Target.memory (target_of self.new)) ≡ Target.memory (target_of self.old) }
-        ensures unchanged { OnErr result
-            (state_of Target.octets self.new ≡ state_of Target.octets self.old) }
-        ensures memory_unchanged { OnErr result
-            (Target.memory (target_of self.new) ≡ Target.memory (target_of self.old)) }
-        ensures why { IfErr result (λ e. OptRefused Target.compresses (opt_of opt.now)
-            (state_of Target.octets self.old) (Target.capacity (target_of self.old)) e) }
-        ensures no_room { OnErr result (CannotAddOpt (opt_of opt.now)
-            (Target.capacity (target_of self.old)) (state_of Target.octets self.old)) }
-        ensures early { IfErr result (λ e. is_early e ≡ true → self.new ≡ self.old) }
-        ensures count { additional_count (state_of Target.octets self.old).counts ≡ 65535
-            → result ≡ Err Count }
-        ensures capacity { Target.capacity (target_of self.old)
-            ≤ Target.capacity (target_of self.new) }
+        ensures ok { OnOk result (AddsOpt opt.now self.old self.new) }
+        ensures memory { KeepsMemory self.old self.new }
+        ensures unchanged { OnErr result (state self.new ≡ state self.old) }
+        ensures memory_unchanged { OnErr result (target_memory self.new ≡ target_memory self.old) }
+        ensures why { IfErr result (OptNotAdded opt.now self.old) }
+        ensures no_room { OnErr result (HasNoPlaceFor opt.now self.old) }
+        ensures early { IfErr result (λ e. IsEarly e → self.new ≡ self.old) }
+        ensures count { IsFull Additional self.old → result ≡ Err Count }
+        ensures capacity { target_room self.old ≤ target_room self.new }
     {
         let record = opt.record();
         self.push_keeping(Section::Additional, &record, 0)
@@ -64,12 +57,9 @@ impl<Target: Composer> MessageBuilder<Target> {
     /// Takes all records away again and sets the bit TC: the message is cut after its questions (RFC 2181, 9). What is
     /// set aside stays so.
     pub fn truncate(&mut self)
-        ensures truncates { Truncates Target.compresses
-            (state_of Target.octets self.old) (state_of Target.octets self.new) }
-        ensures cut { Target.cuts (target_of self.old)
-            (start_of Answer (state_of Target.octets self.old).starts) (target_of self.new) }
-        ensures capacity { Target.capacity (target_of self.new)
-            ≡ Target.capacity (target_of self.old) }
+        ensures truncates { Truncates Target.compresses (state self.old) (state self.new) }
+        ensures cut { CutsToSection Answer self.old self.new }
+        ensures capacity { target_room self.new ≡ target_room self.old }
     {
         self.rewind(Section::Answer);
         self.set_header(cut_header(self.header()));
@@ -80,8 +70,7 @@ impl<Target: Composer> MessageBuilder<Target> {
         &mut self,
         pushed: Result<(), PushError<Target::AppendError>>,
     ) -> Result<(), PushError<Target::AppendError>>
-        ensures ok { OnOk result (MarksCut (is_cut pushed)
-            (state_of Target.octets self.old) (state_of Target.octets self.new)) }
+        ensures ok { OnOk result (MarksCut (is_cut pushed) (state self.old) (state self.new)) }
         ensures target { target_of self.new ≡ target_of self.old }
         ensures why { IfErr result (λ e. (pushed ≡ Err e) × (is_for_room e ≡ false)) }
         ensures refused { IfErr pushed (λ e. is_for_room e ≡ false → result ≡ Err e) }
@@ -102,11 +91,8 @@ impl<Target: Composer> MessageBuilder<Target> {
         &mut self,
         opt: &OptBuilder<Octs>,
     ) -> Result<(), PushError<Target::AppendError>>
-        ensures ok { OnOk result (KeepsOpt Target.compresses (opt_of opt.now)
-            (Target.capacity (target_of self.old))
-            (state_of Target.octets self.old) (state_of Target.octets self.new)) }
-        ensures why { IfErr result (λ e. LosesOpt (opt_of opt.now)
-            (Target.capacity (target_of self.old)) (state_of Target.octets self.old) e) }
+        ensures ok { OnOk result (EndsWithOpt opt.now self.old self.new) }
+        ensures why { IfErr result (LeavesNoRoomFor opt.now self.old) }
     {
         if let Err(_refused) = self.push_opt(opt) {
             self.truncate();
@@ -120,11 +106,8 @@ impl<Target: Composer> MessageBuilder<Target> {
         &mut self,
         opt: Option<&OptBuilder<Octs>>,
     ) -> Result<(), PushError<Target::AppendError>>
-        ensures ok { OnOk result (KeepsOpts Target.compresses (opt_given (option_copied opt.entry))
-            (Target.capacity (target_of self.old))
-            (state_of Target.octets self.old) (state_of Target.octets self.new)) }
-        ensures why { IfErr result (λ e. LosesOpts (opt_given (option_copied opt.entry))
-            (Target.capacity (target_of self.old)) (state_of Target.octets self.old) e) }
+        ensures ok { OnOk result (EndsWithOpts opt.entry self.old self.new) }
+        ensures why { IfErr result (LeavesNoRoomForAny opt.entry self.old) }
     {
         match opt {
             Some(opt) => self.keep_opt(opt),
@@ -148,16 +131,11 @@ impl<Target: Composer + Drop> MessageBuilder<Target> {
         pushed: Result<(), PushError<Target::AppendError>>,
         opt: Option<&OptBuilder<Octs>>,
     ) -> Result<Target, PushError<Target::AppendError>>
-        ensures ok { IfOk result (λ made. EndsAnswer Target.compresses (is_cut pushed)
-            (opt_given (option_copied opt.entry)) (Target.capacity (target_of self))
-            (state_of Target.octets self) (Target.octets made)) }
-        ensures octets { IfOk result (λ made. EndsIn Target.compresses (is_cut pushed)
-            (opt_given (option_copied opt.entry)) (Target.capacity (target_of self))
-            (state_of Target.octets self) (Target.octets made)) }
-        ensures within { IfOk result (λ made.
-            length (Target.octets made) ≤ (state_of Target.octets self).limit) }
-        ensures why { IfErr result (λ e. NotEnded pushed (opt_given (option_copied opt.entry))
-            (Target.capacity (target_of self)) (state_of Target.octets self) e) }
+        ensures ok { IfOk result (λ made. EndsAs pushed opt.entry self (Target.octets made)) }
+        ensures octets { IfOk result (λ made. ClosesIn pushed opt.entry self
+            (Target.octets made)) }
+        ensures within { IfOk result (λ made. length (Target.octets made) ≤ (state self).limit) }
+        ensures why { IfErr result (EndRefused pushed opt.entry self) }
         ensures refused { IfErr pushed (λ e. is_for_room e ≡ false → result ≡ Err e) }
     {
         if let Err(e) = self.mark_cut(pushed) {

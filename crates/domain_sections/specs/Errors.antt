@@ -1,5 +1,6 @@
 -- What errors say, and what they write.
-use Rattle.std.specs.Prelude.{ℕ, List, codes}
+use Rattle.std.specs.Prelude.{◌≡◌, ℕ, true, List, codes}
+use Rattle.domain_message_builder.specs.Errors.{is_early}
 use Rattle.domain_message_builder.specs.declared.error.PushError.{PushError}
 use Rattle.domain_message_builder.specs.declared.error.PushError.TheVariants.{Append, Long, Count, Limit}
 use Rattle.domain_sections.specs.declared.error.SectionError.{SectionError}
@@ -11,6 +12,10 @@ push_error (NoRoom e) = Append e
 push_error (TooLong e) = Long e
 push_error TooMany = Count
 push_error OverLimit = Limit
+
+-- The error is told before anything was composed.
+abbrev pub IsEarly : {E : Type 0} → SectionError E → Type 0
+IsEarly e = is_early (push_error e) ≡ true
 
 -- why an entry wasn't pushed
 abbrev pub section_error_text : {E : Type 0} → SectionError E → List ℕ

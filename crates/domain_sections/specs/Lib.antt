@@ -1,2 +1,4 @@
 pub mod Errors
+pub mod Questions
+pub mod Records
 pub mod Views

@@ -1,10 +1,9 @@
 //! Messages of which records are taken away, if there are any.
-ghost use Rattle.std.specs.Prelude.{◌≡◌, ◌<◌, ◌↔◌, IsTrue, IfSome};
-ghost use Rattle.domain_message.specs.SectionOrder.{section_after};
+ghost use Rattle.std.specs.Prelude.{◌≡◌, ◌<◌, ◌↔◌, IsTrue};
 ghost use Rattle.domain_message.specs.declared.section.Section.TheVariants.{Answer};
-ghost use Rattle.domain_message_builder.specs.Pushes.{later_count, record_count, Rewinds};
-ghost use Rattle.domain_message_builder.specs.SectionStarts.{start_of};
-ghost use Rattle.domain_message_builder.specs.Views.{state_of, target_of};
+ghost use Rattle.domain_message_builder.specs.Builders.{target_room, HasRecords, HasNoRecords, HasLater, HasNoLater};
+ghost use Rattle.domain_message_builder.specs.Builders.{CutsToSection, CutsToNext, RewindsTo, RewindsToNext};
+ghost use Rattle.domain_message_builder.specs.Pushes.{later_count, record_count};
 
 use domain_header::HeaderCounts;
 use domain_message::Section;
@@ -33,15 +32,11 @@ fn has_later(section: Section, counts: HeaderCounts) -> bool
 pub(crate) fn without_records<Target: Composer>(
     builder: MessageBuilder<Target>,
 ) -> MessageBuilder<Target>
-    ensures none { record_count (state_of Target.octets result).counts ≡ 0 }
-    ensures same { record_count (state_of Target.octets builder).counts ≡ 0 → result ≡ builder }
-    ensures rewinds { 0 < record_count (state_of Target.octets builder).counts
-        → Rewinds Target.compresses Answer
-        (state_of Target.octets builder) (state_of Target.octets result) }
-    ensures cut { 0 < record_count (state_of Target.octets builder).counts
-        → Target.cuts (target_of builder)
-        (start_of Answer (state_of Target.octets builder).starts) (target_of result) }
-    ensures capacity { Target.capacity (target_of result) ≡ Target.capacity (target_of builder) }
+    ensures none { HasNoRecords result }
+    ensures same { HasNoRecords builder → result ≡ builder }
+    ensures rewinds { HasRecords builder → RewindsTo Answer builder result }
+    ensures cut { HasRecords builder → CutsToSection Answer builder result }
+    ensures capacity { target_room result ≡ target_room builder }
 {
     if !has_records(builder.counts()) {
         return builder;
@@ -56,16 +51,11 @@ pub(crate) fn without_later<Target: Composer>(
     section: Section,
     builder: MessageBuilder<Target>,
 ) -> MessageBuilder<Target>
-    ensures none { later_count section (state_of Target.octets result).counts ≡ 0 }
-    ensures same { later_count section (state_of Target.octets builder).counts ≡ 0
-        → result ≡ builder }
-    ensures rewinds { 0 < later_count section (state_of Target.octets builder).counts
-        → IfSome (section_after section) (λ next. Rewinds Target.compresses next
-        (state_of Target.octets builder) (state_of Target.octets result)) }
-    ensures cut { 0 < later_count section (state_of Target.octets builder).counts
-        → IfSome (section_after section) (λ next. Target.cuts (target_of builder)
-        (start_of next (state_of Target.octets builder).starts) (target_of result)) }
-    ensures capacity { Target.capacity (target_of result) ≡ Target.capacity (target_of builder) }
+    ensures none { HasNoLater section result }
+    ensures same { HasNoLater section builder → result ≡ builder }
+    ensures rewinds { HasLater section builder → RewindsToNext section builder result }
+    ensures cut { HasLater section builder → CutsToNext section builder result }
+    ensures capacity { target_room result ≡ target_room builder }
 {
     let Some(next) = section.next_section() else {
         return builder;

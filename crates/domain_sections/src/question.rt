@@ -1,17 +1,10 @@
 //! The question section.
-ghost use Rattle.std.specs.Prelude.{◌≡◌, ◌≤◌, ◌<◌, ◌-◌, true, length, IfErr, OnOk, OnErr, Err};
-ghost use Rattle.domain_header.specs.Headers.{question_count};
-ghost use Rattle.domain_record.specs.LeftToTarget.{WritesQuestion};
+ghost use Rattle.std.specs.Prelude.{◌≡◌, ◌≤◌, length, IfErr, OnOk, OnErr, Err};
 ghost use Rattle.domain_message.specs.declared.section.Section.TheVariants.{Answer};
-ghost use Rattle.domain_message_builder.specs.Contents.{Content, Holds};
-ghost use Rattle.domain_message_builder.specs.Errors.{is_early};
+ghost use Rattle.domain_message_builder.specs.Builders.{target_room, HasRecords, HasNoRecords, HasMostQuestions};
+ghost use Rattle.domain_message_builder.specs.Builders.{KeepsMemory, CutsTo, RewindsTo, RewindsToHeader, FinishesAs};
 ghost use Rattle.domain_message_builder.specs.Finished.{finished_octets};
-ghost use Rattle.domain_message_builder.specs.Pushes.{asked, record_count, with_header, PushesQuestion, Rewinds, RewindsAll};
-ghost use Rattle.domain_message_builder.specs.Reading.{IsMessageOf};
-ghost use Rattle.domain_message_builder.specs.Refusals.{QuestionRefused};
-ghost use Rattle.domain_message_builder.specs.Tight.{HasNoRoom, RefusedAsWritten, Surpasses};
-ghost use Rattle.domain_message_builder.specs.Views.{state_of, target_of};
-ghost use Rattle.domain_sections.specs.Errors.{push_error};
+ghost use Rattle.domain_message_builder.specs.Pushes.{with_header};
 
 use crate::back::without_records;
 use crate::error::{SectionError, without_order};
@@ -27,22 +20,20 @@ use domain_record::Question;
 #[derive(Drop)]
 pub struct QuestionBuilder<Target: Composer> {
     pub(crate) builder: MessageBuilder<Target>,
-    ghost no_records: { record_count (state_of Target.octets builder).counts ≡ 0 },
+    ghost no_records: { HasNoRecords builder },
 }
 
 impl<Target: Composer> QuestionBuilder<Target> {
-    ghost use Rattle.domain_sections.specs.Views.{question_builder, question_state, question_target};
+    ghost use Rattle.domain_sections.specs.Errors.{IsEarly};
+    ghost use Rattle.domain_sections.specs.Questions.{IsUnchanged, AddsQuestion, LeavesQuestion, QuestionNotAdded, QuestionDoesNotFit};
+    ghost use Rattle.domain_sections.specs.Views.{question_builder, question_state, question_target, question_room, question_memory};
     ghost use Rattle.domain_sections.specs.declared.error.SectionError.TheVariants.{Count};
 
     /// Goes on with the questions of a message. Its records, if it has any, are taken away again.
     pub fn from_builder(builder: MessageBuilder<Target>) -> Self
-        ensures same { record_count (state_of Target.octets builder).counts ≡ 0
-            → question_builder result ≡ builder }
-        ensures rewinds { 0 < record_count (state_of Target.octets builder).counts
-            → Rewinds Target.compresses Answer
-            (state_of Target.octets builder) (question_state Target.octets result) }
-        ensures capacity { Target.capacity (question_target result)
-            ≡ Target.capacity (target_of builder) }
+        ensures same { HasNoRecords builder → question_builder result ≡ builder }
+        ensures rewinds { HasRecords builder → RewindsTo Answer builder (question_builder result) }
+        ensures capacity { question_room result ≡ target_room builder }
     {
         let builder = without_records(builder);
         QuestionBuilder { builder }
@@ -51,15 +42,14 @@ impl<Target: Composer> QuestionBuilder<Target> {
     /// The message as it stands: its header, its counts, its length and its limit.
     pub fn as_builder(&self) -> &MessageBuilder<Target>
         ensures same { result.now ≡ question_builder self.now }
-        ensures no_records { record_count (state_of Target.octets result.now).counts ≡ 0 }
+        ensures no_records { HasNoRecords result.now }
     {
         &self.builder
     }
 
     /// Sets the identifier and the flags.
     pub fn set_header(&mut self, header: Header)
-        ensures header { question_state Target.octets self.new
-            ≡ with_header header (question_state Target.octets self.old) }
+        ensures header { question_state self.new ≡ with_header header (question_state self.old) }
         ensures target { question_target self.new ≡ question_target self.old }
     {
         self.builder.set_header(header);
@@ -74,35 +64,17 @@ impl<Target: Composer> QuestionBuilder<Target> {
         &mut self,
         question: &'a Question<N>,
     ) -> Result<(), SectionError<Target::AppendError>>
-        ensures ok { OnOk result (PushesQuestion Target.compresses (asked N.labels question.now)
-            (question_state Target.octets self.old) (question_state Target.octets self.new)) }
-        ensures written { OnOk result
-            (WritesQuestion N.labels Target.extends Target.appends question.now
-            (question_target self.old) (question_target self.new)) }
-        ensures memory { Target.kept_within (length (Target.octets (question_target self.old)))
-            (Target.memory (question_target self.new)) ≡ Target.memory (question_target self.old) }
-        ensures unchanged { OnErr result
-            (question_state Target.octets self.new ≡ question_state Target.octets self.old) }
+        ensures ok { OnOk result (AddsQuestion N.labels question.now self.old self.new) }
+        ensures written { OnOk result (LeavesQuestion N.labels question.now self.old self.new) }
+        ensures memory { KeepsMemory (question_builder self.old) (question_builder self.new) }
+        ensures unchanged { OnErr result (question_state self.new ≡ question_state self.old) }
         ensures memory_unchanged { OnErr result
-            (Target.memory (question_target self.new) ≡ Target.memory (question_target self.old)) }
-        ensures early { IfErr result (λ e. is_early (push_error e) ≡ true
-            → question_builder self.new ≡ question_builder self.old) }
-        ensures count { question_count (question_state Target.octets self.old).counts ≡ 65535
-            → result ≡ Err Count }
-        ensures why { IfErr result (λ e. QuestionRefused Target.compresses
-            (asked N.labels question.now) (question_state Target.octets self.old)
-            (Target.capacity (question_target self.old)) (push_error e)) }
-        ensures tight { IfErr result (λ e. RefusedAsWritten
-            (HasNoRoom N.labels Target.octets Target.capacity Target.may_append question.now
-            (question_target self.old))
-            (Surpasses Target.octets
-            (WritesQuestion N.labels Target.extends Target.appends question.now)
-            (question_target self.old)
-            ((question_state Target.octets self.old).limit
-            - (question_state Target.octets self.old).reserved))
-            (push_error e)) }
-        ensures capacity { Target.capacity (question_target self.old)
-            ≤ Target.capacity (question_target self.new) }
+            (question_memory self.new ≡ question_memory self.old) }
+        ensures early { IfErr result (λ e. IsEarly e → IsUnchanged self.old self.new) }
+        ensures count { HasMostQuestions (question_builder self.old) → result ≡ Err Count }
+        ensures why { IfErr result (QuestionNotAdded N.labels question.now self.old) }
+        ensures tight { IfErr result (QuestionDoesNotFit N.labels question.now self.old) }
+        ensures capacity { question_room self.old ≤ question_room self.new }
     {
         let Err(e) = self.builder.push_question(question) else {
             return Ok(());
@@ -112,11 +84,9 @@ impl<Target: Composer> QuestionBuilder<Target> {
 
     /// Takes the questions away again.
     pub fn rewind(&mut self)
-        ensures rewinds { RewindsAll Target.compresses
-            (question_state Target.octets self.old) (question_state Target.octets self.new) }
-        ensures cut { Target.cuts (question_target self.old) 12 (question_target self.new) }
-        ensures capacity { Target.capacity (question_target self.new)
-            ≡ Target.capacity (question_target self.old) }
+        ensures rewinds { RewindsToHeader (question_builder self.old) (question_builder self.new) }
+        ensures cut { CutsTo 12 (question_builder self.old) (question_builder self.new) }
+        ensures capacity { question_room self.new ≡ question_room self.old }
     {
         self.builder.rewind_all();
     }
@@ -124,7 +94,7 @@ impl<Target: Composer> QuestionBuilder<Target> {
     /// The message, with its questions.
     pub fn into_builder(self) -> MessageBuilder<Target>
         ensures same { result ≡ question_builder self }
-        ensures no_records { record_count (state_of Target.octets result).counts ≡ 0 }
+        ensures no_records { HasNoRecords result }
     {
         let QuestionBuilder { builder, .. } = self;
         builder
@@ -132,10 +102,8 @@ impl<Target: Composer> QuestionBuilder<Target> {
 
     /// Goes back to a message without entries: the questions are taken away again.
     pub fn builder(self) -> MessageBuilder<Target>
-        ensures rewinds { RewindsAll Target.compresses
-            (question_state Target.octets self) (state_of Target.octets result) }
-        ensures capacity { Target.capacity (target_of result)
-            ≡ Target.capacity (question_target self) }
+        ensures rewinds { RewindsToHeader (question_builder self) result }
+        ensures capacity { target_room result ≡ question_room self }
     {
         let mut builder = self.into_builder();
         builder.rewind_all();
@@ -144,13 +112,9 @@ impl<Target: Composer> QuestionBuilder<Target> {
 
     /// Writes the header, and returns the target: its octets are the message.
     pub fn finish(self) -> Target
-        ensures message { (it : Content)
-            → Holds Target.compresses (question_state Target.octets self) it
-            → IsMessageOf (question_state Target.octets self).header it (Target.octets result) }
-        ensures octets { Target.octets result
-            ≡ finished_octets (question_state Target.octets self) }
-        ensures within { length (Target.octets result)
-            ≤ (question_state Target.octets self).limit }
+        ensures message { FinishesAs (question_builder self) (Target.octets result) }
+        ensures octets { Target.octets result ≡ finished_octets (question_state self) }
+        ensures within { length (Target.octets result) ≤ (question_state self).limit }
     {
         self.builder.finish()
     }

@@ -1,20 +1,9 @@
 //! The sections of records.
-ghost use Rattle.std.specs.Prelude.{◌≡◌, ◌≤◌, ◌<◌, ◌-◌, true, length, IfErr, IfSome, OnOk, OnErr, Err};
-ghost use Rattle.domain_rdata.specs.RecordData.{ComposeRefused};
-ghost use Rattle.domain_header.specs.Headers.{additional_count};
-ghost use Rattle.domain_record.specs.LeftToTarget.{WritesRecord};
-ghost use Rattle.domain_record.specs.RecordParts.{data_of};
-ghost use Rattle.domain_message.specs.SectionOrder.{section_after};
-ghost use Rattle.domain_message_builder.specs.Contents.{Content, Holds};
-ghost use Rattle.domain_message_builder.specs.Errors.{is_early};
+ghost use Rattle.std.specs.Prelude.{◌≡◌, ◌≤◌, true, length, IfErr, OnOk, OnErr, Err};
+ghost use Rattle.domain_message_builder.specs.Builders.{target_room, HasLater, HasNoLater, IsFull};
+ghost use Rattle.domain_message_builder.specs.Builders.{KeepsMemory, CutsToSection, RewindsTo, RewindsToNext, RewindsToHeader, FinishesAs};
 ghost use Rattle.domain_message_builder.specs.Finished.{finished_octets};
-ghost use Rattle.domain_message_builder.specs.Pushes.{headed, later_count, section_count, with_header, PushesRecord, Rewinds, RewindsAll};
-ghost use Rattle.domain_message_builder.specs.Reading.{IsMessageOf};
-ghost use Rattle.domain_message_builder.specs.Refusals.{RecordRefused};
-ghost use Rattle.domain_message_builder.specs.SectionStarts.{start_of};
-ghost use Rattle.domain_message_builder.specs.Tight.{RefusedAsWritten, RefusesEntry, Surpasses};
-ghost use Rattle.domain_message_builder.specs.Views.{state_of, target_of};
-ghost use Rattle.domain_sections.specs.Errors.{push_error};
+ghost use Rattle.domain_message_builder.specs.Pushes.{with_header};
 
 use crate::back::without_later;
 use crate::error::{SectionError, without_order};
@@ -34,7 +23,7 @@ use std::marker::PhantomData;
 pub struct RecordBuilder<Target: Composer, S: RecordSection> {
     pub(crate) builder: MessageBuilder<Target>,
     section: PhantomData<S>,
-    ghost none_later: { later_count S.SECTION (state_of Target.octets builder).counts ≡ 0 },
+    ghost none_later: { HasNoLater S.SECTION builder },
 }
 
 /// A message whose answers are pushed.
@@ -47,25 +36,24 @@ pub type AuthorityBuilder<Target> = RecordBuilder<Target, AuthoritySection>;
 pub type AdditionalBuilder<Target> = RecordBuilder<Target, AdditionalSection>;
 
 impl<Target: Composer, S: RecordSection> RecordBuilder<Target, S> {
-    ghost use Rattle.domain_sections.specs.Views.{record_builder, record_state, record_target};
+    ghost use Rattle.domain_sections.specs.Errors.{IsEarly};
+    ghost use Rattle.domain_sections.specs.Records.{IsUnchanged, AddsRecord, LeavesRecord, RecordNotAdded, RecordDoesNotFit};
+    ghost use Rattle.domain_sections.specs.Views.{record_builder, record_state, record_target, record_room, record_memory};
     ghost use Rattle.domain_sections.specs.declared.error.SectionError.TheVariants.{Count};
 
     /// Goes on with the records of a section. Those of later sections, if there are any, are taken away again.
     pub fn from_builder(builder: MessageBuilder<Target>) -> Self
-        ensures same { later_count S.SECTION (state_of Target.octets builder).counts ≡ 0
-            → record_builder result ≡ builder }
-        ensures rewinds { 0 < later_count S.SECTION (state_of Target.octets builder).counts
-            → IfSome (section_after S.SECTION) (λ next. Rewinds Target.compresses next
-            (state_of Target.octets builder) (record_state Target.octets result)) }
-        ensures capacity { Target.capacity (record_target result)
-            ≡ Target.capacity (target_of builder) }
+        ensures same { HasNoLater S.SECTION builder → record_builder result ≡ builder }
+        ensures rewinds { HasLater S.SECTION builder
+            → RewindsToNext S.SECTION builder (record_builder result) }
+        ensures capacity { record_room result ≡ target_room builder }
     {
         RecordBuilder::at(without_later(S::SECTION, builder))
     }
 
     /// The same where no later section has a record.
     pub(crate) fn at(builder: MessageBuilder<Target>) -> Self
-        requires { later_count S.SECTION (state_of Target.octets builder).counts ≡ 0 }
+        requires { HasNoLater S.SECTION builder }
         ensures { record_builder result ≡ builder }
     {
         RecordBuilder {
@@ -77,15 +65,14 @@ impl<Target: Composer, S: RecordSection> RecordBuilder<Target, S> {
     /// The message as it stands: its header, its counts, its length and its limit.
     pub fn as_builder(&self) -> &MessageBuilder<Target>
         ensures same { result.now ≡ record_builder self.now }
-        ensures none_later { later_count S.SECTION (state_of Target.octets result.now).counts ≡ 0 }
+        ensures none_later { HasNoLater S.SECTION result.now }
     {
         &self.builder
     }
 
     /// Sets the identifier and the flags.
     pub fn set_header(&mut self, header: Header)
-        ensures header { record_state Target.octets self.new
-            ≡ with_header header (record_state Target.octets self.old) }
+        ensures header { record_state self.new ≡ with_header header (record_state self.old) }
         ensures target { record_target self.new ≡ record_target self.old }
     {
         self.builder.set_header(header);
@@ -100,43 +87,20 @@ impl<Target: Composer, S: RecordSection> RecordBuilder<Target, S> {
         &mut self,
         resource: &'a Record<N, D>,
     ) -> Result<(), SectionError<Target::AppendError>>
-        ensures ok { OnOk result (PushesRecord Target.compresses S.SECTION
-            (headed N.labels D.type_number resource.now)
-            (D.composed (data_of resource.now) Target.compresses)
-            (record_state Target.octets self.old) (record_state Target.octets self.new)) }
-        ensures written { Target.compresses ≡ true →
-            OnOk result (WritesRecord N.labels D.type_number Target.octets Target.extends
-            Target.cuts Target.appends (λ d. D.written d Target Target.extends Target.appends) resource.now
-            (record_target self.old) (record_target self.new)) }
-        ensures memory { Target.kept_within (length (Target.octets (record_target self.old)))
-            (Target.memory (record_target self.new)) ≡ Target.memory (record_target self.old) }
-        ensures unchanged { OnErr result
-            (record_state Target.octets self.new ≡ record_state Target.octets self.old) }
-        ensures memory_unchanged { OnErr result
-            (Target.memory (record_target self.new) ≡ Target.memory (record_target self.old)) }
-        ensures early { IfErr result (λ e. is_early (push_error e) ≡ true
-            → record_builder self.new ≡ record_builder self.old) }
-        ensures count { section_count S.SECTION (record_state Target.octets self.old).counts ≡ 65535
-            → result ≡ Err Count }
-        ensures why { IfErr result (λ e. RecordRefused Target.compresses S.SECTION
-            (headed N.labels D.type_number resource.now)
-            (D.composed (data_of resource.now) Target.compresses)
-            (record_state Target.octets self.old) (Target.capacity (record_target self.old))
-            (push_error e)) }
-        ensures tight { Target.compresses ≡ true → IfErr result (λ e. RefusedAsWritten
-            (RefusesEntry N.labels D.type_number Target.octets Target.capacity Target.may_append
-            Target.appends
-            (λ t. ComposeRefused (D.composed (data_of resource.now) Target.compresses) t)
-            resource.now (record_target self.old))
-            (Surpasses Target.octets
-            (WritesRecord N.labels D.type_number Target.octets Target.extends
-            Target.cuts Target.appends (λ d. D.written d Target Target.extends Target.appends) resource.now)
-            (record_target self.old)
-            ((record_state Target.octets self.old).limit
-            - (record_state Target.octets self.old).reserved))
-            (push_error e)) }
-        ensures capacity { Target.capacity (record_target self.old)
-            ≤ Target.capacity (record_target self.new) }
+        ensures ok { OnOk result
+            (AddsRecord N.labels D.ComposeRecordData resource.now self.old self.new) }
+        ensures written { Target.compresses ≡ true → OnOk result
+            (LeavesRecord N.labels D.ComposeRecordData resource.now self.old self.new) }
+        ensures memory { KeepsMemory (record_builder self.old) (record_builder self.new) }
+        ensures unchanged { OnErr result (record_state self.new ≡ record_state self.old) }
+        ensures memory_unchanged { OnErr result (record_memory self.new ≡ record_memory self.old) }
+        ensures early { IfErr result (λ e. IsEarly e → IsUnchanged self.old self.new) }
+        ensures count { IsFull S.SECTION (record_builder self.old) → result ≡ Err Count }
+        ensures why { IfErr result
+            (RecordNotAdded N.labels D.ComposeRecordData resource.now self.old) }
+        ensures tight { Target.compresses ≡ true → IfErr result
+            (RecordDoesNotFit N.labels D.ComposeRecordData resource.now self.old) }
+        ensures capacity { record_room self.old ≤ record_room self.new }
     {
         let Err(e) = self.builder.push(S::SECTION, resource) else {
             return Ok(());
@@ -146,13 +110,9 @@ impl<Target: Composer, S: RecordSection> RecordBuilder<Target, S> {
 
     /// Takes the records of the section away again.
     pub fn rewind(&mut self)
-        ensures rewinds { Rewinds Target.compresses S.SECTION
-            (record_state Target.octets self.old) (record_state Target.octets self.new) }
-        ensures cut { Target.cuts (record_target self.old)
-            (start_of S.SECTION (record_state Target.octets self.old).starts)
-            (record_target self.new) }
-        ensures capacity { Target.capacity (record_target self.new)
-            ≡ Target.capacity (record_target self.old) }
+        ensures rewinds { RewindsTo S.SECTION (record_builder self.old) (record_builder self.new) }
+        ensures cut { CutsToSection S.SECTION (record_builder self.old) (record_builder self.new) }
+        ensures capacity { record_room self.new ≡ record_room self.old }
     {
         self.builder.rewind(S::SECTION);
     }
@@ -160,7 +120,7 @@ impl<Target: Composer, S: RecordSection> RecordBuilder<Target, S> {
     /// The message, with its entries.
     pub fn into_builder(self) -> MessageBuilder<Target>
         ensures same { result ≡ record_builder self }
-        ensures none_later { later_count S.SECTION (state_of Target.octets result).counts ≡ 0 }
+        ensures none_later { HasNoLater S.SECTION result }
     {
         let RecordBuilder { builder, .. } = self;
         builder
@@ -168,10 +128,8 @@ impl<Target: Composer, S: RecordSection> RecordBuilder<Target, S> {
 
     /// Goes back to a message without entries: all are taken away again.
     pub fn builder(self) -> MessageBuilder<Target>
-        ensures rewinds { RewindsAll Target.compresses
-            (record_state Target.octets self) (state_of Target.octets result) }
-        ensures capacity { Target.capacity (target_of result)
-            ≡ Target.capacity (record_target self) }
+        ensures rewinds { RewindsToHeader (record_builder self) result }
+        ensures capacity { target_room result ≡ record_room self }
     {
         let mut builder = self.into_builder();
         builder.rewind_all();
@@ -180,21 +138,21 @@ impl<Target: Composer, S: RecordSection> RecordBuilder<Target, S> {
 
     /// Writes the header, and returns the target: its octets are the message.
     pub fn finish(self) -> Target
-        ensures message { (it : Content)
-            → Holds Target.compresses (record_state Target.octets self) it
-            → IsMessageOf (record_state Target.octets self).header it (Target.octets result) }
-        ensures octets { Target.octets result ≡ finished_octets (record_state Target.octets self) }
-        ensures memory { Target.memory result ≡ Target.memory (record_target self) }
-        ensures within { length (Target.octets result) ≤ (record_state Target.octets self).limit }
+        ensures message { FinishesAs (record_builder self) (Target.octets result) }
+        ensures octets { Target.octets result ≡ finished_octets (record_state self) }
+        ensures memory { Target.memory result ≡ record_memory self }
+        ensures within { length (Target.octets result) ≤ (record_state self).limit }
     {
         self.builder.finish()
     }
 }
 
 impl<Target: Composer> RecordBuilder<Target, AdditionalSection> {
-    ghost use Rattle.domain_message_builder.specs.Cuts.{CannotAddOpt, OptRefused, PushesOpt};
-    ghost use Rattle.domain_message_builder.specs.OptViews.{opt_of};
-    ghost use Rattle.domain_sections.specs.Views.{record_builder, record_state, record_target};
+    ghost use Rattle.domain_message.specs.declared.section.Section.TheVariants.{Additional};
+    ghost use Rattle.domain_message_builder.specs.BuilderAnswers.{HasNoPlaceFor};
+    ghost use Rattle.domain_sections.specs.Errors.{IsEarly};
+    ghost use Rattle.domain_sections.specs.Records.{IsUnchanged, AddsOpt, OptNotAdded};
+    ghost use Rattle.domain_sections.specs.Views.{record_builder, record_state, record_room, record_memory};
     ghost use Rattle.domain_sections.specs.declared.error.SectionError.TheVariants.{Count};
 
     /// Pushes an OPT record, or nothing, into the octets that were set aside too: none are after it (RFC 6891, 6.1.1).
@@ -205,25 +163,15 @@ impl<Target: Composer> RecordBuilder<Target, AdditionalSection> {
         &mut self,
         opt: &OptBuilder<Octs>,
     ) -> Result<(), SectionError<Target::AppendError>>
-        ensures ok { OnOk result (PushesOpt Target.compresses (opt_of opt.now)
-            (record_state Target.octets self.old) (record_state Target.octets self.new)) }
-        ensures memory { Target.kept_within (length (Target.octets (record_target self.old)))
-            (Target.memory (record_target self.new)) ≡ Target.memory (record_target self.old) }
-        ensures unchanged { OnErr result
-            (record_state Target.octets self.new ≡ record_state Target.octets self.old) }
-        ensures memory_unchanged { OnErr result
-            (Target.memory (record_target self.new) ≡ Target.memory (record_target self.old)) }
-        ensures why { IfErr result (λ e. OptRefused Target.compresses (opt_of opt.now)
-            (record_state Target.octets self.old) (Target.capacity (record_target self.old))
-            (push_error e)) }
-        ensures no_room { OnErr result (CannotAddOpt (opt_of opt.now)
-            (Target.capacity (record_target self.old)) (record_state Target.octets self.old)) }
-        ensures early { IfErr result (λ e. is_early (push_error e) ≡ true
-            → record_builder self.new ≡ record_builder self.old) }
-        ensures count { additional_count (record_state Target.octets self.old).counts ≡ 65535
-            → result ≡ Err Count }
-        ensures capacity { Target.capacity (record_target self.old)
-            ≤ Target.capacity (record_target self.new) }
+        ensures ok { OnOk result (AddsOpt opt.now self.old self.new) }
+        ensures memory { KeepsMemory (record_builder self.old) (record_builder self.new) }
+        ensures unchanged { OnErr result (record_state self.new ≡ record_state self.old) }
+        ensures memory_unchanged { OnErr result (record_memory self.new ≡ record_memory self.old) }
+        ensures why { IfErr result (OptNotAdded opt.now self.old) }
+        ensures no_room { OnErr result (HasNoPlaceFor opt.now (record_builder self.old)) }
+        ensures early { IfErr result (λ e. IsEarly e → IsUnchanged self.old self.new) }
+        ensures count { IsFull Additional (record_builder self.old) → result ≡ Err Count }
+        ensures capacity { record_room self.old ≤ record_room self.new }
     {
         let Err(refused) = self.builder.push_opt(opt) else {
             return Ok(());

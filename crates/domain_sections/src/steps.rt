@@ -1,9 +1,8 @@
 //! The steps from one section to another.
 ghost use Rattle.std.specs.Prelude.{◌≡◌};
 ghost use Rattle.domain_message.specs.declared.section.Section.TheVariants.{Answer, Authority, Additional};
-ghost use Rattle.domain_message_builder.specs.Pushes.{Rewinds};
-ghost use Rattle.domain_message_builder.specs.Views.{state_of, target_of};
-ghost use Rattle.domain_sections.specs.Views.{question_builder, question_state, question_target, record_builder, record_state, record_target};
+ghost use Rattle.domain_message_builder.specs.Builders.{target_room, RewindsTo};
+ghost use Rattle.domain_sections.specs.Views.{question_builder, question_room, record_builder, record_room};
 
 use crate::question::QuestionBuilder;
 use crate::records::{AdditionalBuilder, AnswerBuilder, AuthorityBuilder, RecordBuilder};
@@ -45,10 +44,8 @@ impl<Target: Composer> QuestionBuilder<Target> {
 impl<Target: Composer, S: RecordSection> RecordBuilder<Target, S> {
     /// Goes back to the questions: all records are taken away again.
     pub fn question(self) -> QuestionBuilder<Target>
-        ensures rewinds { Rewinds Target.compresses Answer
-            (record_state Target.octets self) (question_state Target.octets result) }
-        ensures capacity { Target.capacity (question_target result)
-            ≡ Target.capacity (record_target self) }
+        ensures rewinds { RewindsTo Answer (record_builder self) (question_builder result) }
+        ensures capacity { question_room result ≡ record_room self }
     {
         let mut builder = self.into_builder();
         builder.rewind(Section::Answer);
@@ -82,10 +79,8 @@ impl<Target: Composer> RecordBuilder<Target, AnswerSection> {
 impl<Target: Composer> RecordBuilder<Target, AuthoritySection> {
     /// Goes back to the answers: the records of the authority section are taken away again.
     pub fn answer(self) -> AnswerBuilder<Target>
-        ensures rewinds { Rewinds Target.compresses Authority
-            (record_state Target.octets self) (record_state Target.octets result) }
-        ensures capacity { Target.capacity (record_target result)
-            ≡ Target.capacity (record_target self) }
+        ensures rewinds { RewindsTo Authority (record_builder self) (record_builder result) }
+        ensures capacity { record_room result ≡ record_room self }
     {
         back_to_answers(self.into_builder())
     }
@@ -108,20 +103,16 @@ impl<Target: Composer> RecordBuilder<Target, AuthoritySection> {
 impl<Target: Composer> RecordBuilder<Target, AdditionalSection> {
     /// Goes back to the answers: the records of the authority section and the additional ones are taken away again.
     pub fn answer(self) -> AnswerBuilder<Target>
-        ensures rewinds { Rewinds Target.compresses Authority
-            (record_state Target.octets self) (record_state Target.octets result) }
-        ensures capacity { Target.capacity (record_target result)
-            ≡ Target.capacity (record_target self) }
+        ensures rewinds { RewindsTo Authority (record_builder self) (record_builder result) }
+        ensures capacity { record_room result ≡ record_room self }
     {
         back_to_answers(self.into_builder())
     }
 
     /// Goes back to the authority section: the additional records are taken away again.
     pub fn authority(self) -> AuthorityBuilder<Target>
-        ensures rewinds { Rewinds Target.compresses Additional
-            (record_state Target.octets self) (record_state Target.octets result) }
-        ensures capacity { Target.capacity (record_target result)
-            ≡ Target.capacity (record_target self) }
+        ensures rewinds { RewindsTo Additional (record_builder self) (record_builder result) }
+        ensures capacity { record_room result ≡ record_room self }
     {
         let mut builder = self.into_builder();
         builder.rewind(Section::Additional);
@@ -138,10 +129,8 @@ impl<Target: Composer> RecordBuilder<Target, AdditionalSection> {
 
 /// The answers, without what comes after them.
 fn back_to_answers<Target: Composer>(builder: MessageBuilder<Target>) -> AnswerBuilder<Target>
-    ensures rewinds { Rewinds Target.compresses Authority
-        (state_of Target.octets builder) (record_state Target.octets result) }
-    ensures capacity { Target.capacity (record_target result)
-        ≡ Target.capacity (target_of builder) }
+    ensures rewinds { RewindsTo Authority builder (record_builder result) }
+    ensures capacity { record_room result ≡ target_room builder }
 {
     let mut builder = builder;
     builder.rewind(Section::Authority);

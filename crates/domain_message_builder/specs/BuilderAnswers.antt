@@ -1,0 +1,99 @@
+-- What contracts say of a builder of an answer, and of its OPT record. `g` to `l` are as in `Builders`, and `m` is what `Octets`
+-- tells of the query or of the options.
+use Rattle.std.specs.Prelude.{ℕ, List, Option, Result, option_copied}
+use denote.Bor.{Bor}
+use Rattle.octseq.specs.declared.octets.Octets.{Ghosts}
+use Rattle.domain_header.specs.Values.{rcode_number}
+use Rattle.domain_header.specs.declared.code.Rcode.{Rcode}
+use Rattle.domain_message.specs.Messages.{message_octets}
+use Rattle.domain_message.specs.declared.message.Message.{Message}
+use Rattle.domain_message_builder.specs.Answers.{StartsAnswer, StartsError, NotStarted, RepeatsQuestion}
+use Rattle.domain_message_builder.specs.Builders.{state, target_room}
+use Rattle.domain_message_builder.specs.Cuts.{PushesOpt, OptRefused, CannotAddOpt, is_cut, EndsAnswer, NotEnded}
+use Rattle.domain_message_builder.specs.Ends.{KeepsOpt, KeepsOpts, LosesOpt, LosesOpts}
+use Rattle.domain_message_builder.specs.Finished.{EndsIn}
+use Rattle.domain_message_builder.specs.OptViews.{opt_of, opt_given}
+use Rattle.domain_message_builder.specs.Views.{target_of}
+use Rattle.domain_message_builder.specs.declared.builder.MessageBuilder.{MessageBuilder}
+use Rattle.domain_message_builder.specs.declared.error.PushError.{PushError}
+use Rattle.domain_message_builder.specs.declared.opt.OptBuilder.{OptBuilder}
+
+-- An answer to the query was begun: its header, and the question where it has one.
+abbrev pub AnswersQuery : {T E O : Type 0} {g : _} {h : _} {i : _} {j : _} {k : _} {l : _} {m : Ghosts O}
+    → Message O m → Rcode → MessageBuilder T E g h i j k l → MessageBuilder T E g h i j k l → Type 0
+AnswersQuery {g = g} query rcode old new =
+    StartsAnswer g.compresses (message_octets query) (rcode_number rcode) (state old) (state new)
+
+-- An answer to the query was begun, or its header alone was set where the question can't be pushed.
+abbrev pub AnswersInError : {T E O : Type 0} {g : _} {h : _} {i : _} {j : _} {k : _} {l : _} {m : Ghosts O}
+    → Message O m → Rcode → MessageBuilder T E g h i j k l → MessageBuilder T E g h i j k l → Type 0
+AnswersInError {g = g} query rcode old new =
+    StartsError g.compresses (message_octets query) (rcode_number rcode) (target_room old) (state old) (state new)
+
+-- Why no answer was begun.
+abbrev pub QueryNotAnswered : {T E O : Type 0} {g : _} {h : _} {i : _} {j : _} {k : _} {l : _} {m : Ghosts O}
+    → Message O m → MessageBuilder T E g h i j k l → PushError E → Type 0
+QueryNotAnswered {g = g} query b e =
+    NotStarted g.compresses (message_octets query) (state b) (target_room b) e
+
+-- The target was given the name of the query's first question as it stands there, and type and class; or there is none, and the target
+-- is as it was.
+abbrev pub LeavesQuery : {T E O : Type 0} {g : _} {h : _} {i : _} {j : _} {k : _} {l : _} {m : Ghosts O}
+    → Message O m → MessageBuilder T E g h i j k l → MessageBuilder T E g h i j k l → Type 0
+LeavesQuery {g = g} {h = h} query old new =
+    RepeatsQuestion h.extends g.appends (message_octets query) (target_of old) (target_of new)
+
+-- The OPT record was pushed as an additional record, and nothing is set aside any more.
+abbrev pub AddsOpt : {T E O : Type 0} {g : _} {h : _} {i : _} {j : _} {k : _} {l : _} {m : Ghosts O}
+    → OptBuilder O m → MessageBuilder T E g h i j k l → MessageBuilder T E g h i j k l → Type 0
+AddsOpt {g = g} opt old new = PushesOpt g.compresses (opt_of opt) (state old) (state new)
+
+-- Why the OPT record wasn't pushed.
+abbrev pub OptNotAdded : {T E O : Type 0} {g : _} {h : _} {i : _} {j : _} {k : _} {l : _} {m : Ghosts O}
+    → OptBuilder O m → MessageBuilder T E g h i j k l → PushError E → Type 0
+OptNotAdded {g = g} opt b e = OptRefused g.compresses (opt_of opt) (state b) (target_room b) e
+
+-- There is no room for the OPT record, or there are 65,535 additional records.
+abbrev pub HasNoPlaceFor : {T E O : Type 0} {g : _} {h : _} {i : _} {j : _} {k : _} {l : _} {m : Ghosts O}
+    → OptBuilder O m → MessageBuilder T E g h i j k l → Type 0
+HasNoPlaceFor opt b = CannotAddOpt (opt_of opt) (target_room b) (state b)
+
+-- The OPT record was pushed, or, where it can't be after the records, instead of them, and TC was set.
+abbrev pub EndsWithOpt : {T E O : Type 0} {g : _} {h : _} {i : _} {j : _} {k : _} {l : _} {m : Ghosts O}
+    → OptBuilder O m → MessageBuilder T E g h i j k l → MessageBuilder T E g h i j k l → Type 0
+EndsWithOpt {g = g} opt old new =
+    KeepsOpt g.compresses (opt_of opt) (target_room old) (state old) (state new)
+
+-- The OPT record has no room even after the questions alone.
+abbrev pub LeavesNoRoomFor : {T E O : Type 0} {g : _} {h : _} {i : _} {j : _} {k : _} {l : _} {m : Ghosts O}
+    → OptBuilder O m → MessageBuilder T E g h i j k l → PushError E → Type 0
+LeavesNoRoomFor opt b e = LosesOpt (opt_of opt) (target_room b) (state b) e
+
+-- The OPT record was pushed so, if there is one.
+abbrev pub EndsWithOpts : {T E O : Type 0} {g : _} {h : _} {i : _} {j : _} {k : _} {l : _} {m : Ghosts O}
+    → Option (Bor (OptBuilder O m)) → MessageBuilder T E g h i j k l → MessageBuilder T E g h i j k l → Type 0
+EndsWithOpts {g = g} opt old new =
+    KeepsOpts g.compresses (opt_given (option_copied opt)) (target_room old) (state old) (state new)
+
+-- There is an OPT record, and it has no room even after the questions alone.
+abbrev pub LeavesNoRoomForAny : {T E O : Type 0} {g : _} {h : _} {i : _} {j : _} {k : _} {l : _} {m : Ghosts O}
+    → Option (Bor (OptBuilder O m)) → MessageBuilder T E g h i j k l → PushError E → Type 0
+LeavesNoRoomForAny opt b e = LosesOpts (opt_given (option_copied opt)) (target_room b) (state b) e
+
+-- The octets are the answer that was held, cut if a push of it was refused, with the OPT record at its end, if there is one.
+abbrev pub EndsAs : {T E O A : Type 0} {g : _} {h : _} {i : _} {j : _} {k : _} {l : _} {m : Ghosts O}
+    → Result A (PushError E) → Option (Bor (OptBuilder O m)) → MessageBuilder T E g h i j k l → List ℕ → Type 0
+EndsAs {g = g} pushed opt b made =
+    EndsAnswer g.compresses (is_cut pushed) (opt_given (option_copied opt)) (target_room b) (state b) made
+
+-- The octets are the header and the counts of that answer, and what was composed for it.
+abbrev pub ClosesIn : {T E O A : Type 0} {g : _} {h : _} {i : _} {j : _} {k : _} {l : _} {m : Ghosts O}
+    → Result A (PushError E) → Option (Bor (OptBuilder O m)) → MessageBuilder T E g h i j k l → List ℕ → Type 0
+ClosesIn {g = g} pushed opt b made =
+    EndsIn g.compresses (is_cut pushed) (opt_given (option_copied opt)) (target_room b) (state b) made
+
+-- Why the answer wasn't finished.
+abbrev pub EndRefused : {T E O A : Type 0} {g : _} {h : _} {i : _} {j : _} {k : _} {l : _} {m : Ghosts O}
+    → Result A (PushError E) → Option (Bor (OptBuilder O m)) → MessageBuilder T E g h i j k l → PushError E → Type 0
+EndRefused pushed opt b e =
+    NotEnded pushed (opt_given (option_copied opt)) (target_room b) (state b) e
