@@ -151,7 +151,7 @@ def edns_of(lines: List[str]) -> Tuple[Optional[Edns], Optional[int]]:
     if not lines:
         return None, None
     version, flags, zero, size, status = matched(EDNS, lines[0]).groups()
-    # A bit that was given a meaning in 2025, by the name CO, is one that must be zero here.
+    # The bit CO (RFC 9824): an older dig tells it as one that must be zero.
     bits = int(zero or "0", 16) | (0x4000 if " co" in flags else 0)
     options = [matched(OPTION, line).groups() for line in lines[1:]]
     options = [(int(code), bytes.fromhex(octets)) for code, octets in options]

@@ -8,6 +8,7 @@ use Rattle.domain_wire.specs.declared.error.ParseError.{ParseError}
 use Rattle.domain_wire.specs.declared.error.ParseError.TheVariants.{ShortInput}
 use Rattle.domain_edns.specs.Options.{BeginsWithOption, EndsInOption}
 use Rattle.domain_edns.specs.OptRecords.{upper_code, edns_version, dnssec_ok_bit}
+use Rattle.domain_header.specs.Bits.{bit}
 use Rattle.domain_rdata.specs.AnyData.{spaced_octet, unknown_text}
 use Rattle.domain_lines.specs.Flags.{flag_text}
 
@@ -15,9 +16,13 @@ use Rattle.domain_lines.specs.Flags.{flag_text}
 abbrev pub remark : ParseError → List ℕ
 remark why = codes " ; " ++ refusal_text (refusal why)
 
--- the fifteen bits of the TTL of an OPT record that must be zero (6.1.4)
+-- the bit CO of the TTL of an OPT record: whether compact answers are taken (RFC 9824)
+abbrev pub compact_ok_bit : ℕ → ℕ
+compact_ok_bit ttl = bit 16384 ttl
+
+-- the fourteen bits after it, which must be zero (6.1.4)
 abbrev pub bits_of_zero : ℕ → ℕ
-bits_of_zero ttl = ttl % 32768
+bits_of_zero ttl = ttl % 16384
 
 -- sixteen bits in four hexadecimal digits
 abbrev pub four_digits : ℕ → List ℕ
@@ -38,7 +43,7 @@ status_text upper lower = cond (nat_eq upper 0) [] (codes ", status: " ++ long_c
 -- the line of an OPT record: version, flags and size, and the response code where it is a longer one
 abbrev pub edns_line : ℕ → ℕ → ℕ → List ℕ
 edns_line ttl size rcode = codes "; EDNS: version: " ++ (decimal (edns_version ttl) ++ (codes ", flags:" ++ (flag_text (dnssec_ok_bit ttl) (codes " do")
-    ++ (zero_text (bits_of_zero ttl) ++ (codes "udp: " ++ (decimal size ++ status_text (upper_code ttl) rcode))))))
+    ++ (flag_text (compact_ok_bit ttl) (codes " co") ++ (zero_text (bits_of_zero ttl) ++ (codes "udp: " ++ (decimal size ++ status_text (upper_code ttl) rcode)))))))
 
 -- the line before an OPT record that isn't the first one
 abbrev pub another_line : List ℕ

@@ -4,7 +4,7 @@ ghost use Rattle.std.specs.List.{flat_map};
 ghost use Rattle.domain_header.specs.Values.{class_number, ttl_seconds, rcode_number};
 ghost use Rattle.domain_rdata.specs.AnyData.{spaced_octet};
 ghost use Rattle.domain_edns.specs.OptRecords.{dnssec_ok_bit};
-ghost use Rattle.domain_lines.specs.Edns.{zero_text, status_text, edns_line, option_line, cut_option_line, AreOptionLines};
+ghost use Rattle.domain_lines.specs.Edns.{compact_ok_bit, zero_text, status_text, edns_line, option_line, cut_option_line, AreOptionLines};
 
 use crate::flags::word_if;
 use crate::streams::Sink;
@@ -20,6 +20,13 @@ fn dnssec_ok(ttl: u32) -> bool
     ensures { IsTrue result ↔ (dnssec_ok_bit ttl ≡ 1) }
 {
     ttl / 0x8000 % 2 == 1
+}
+
+/// Whether the bit CO is set there (RFC 9824).
+fn compact_ok(ttl: u32) -> bool
+    ensures { IsTrue result ↔ (compact_ok_bit ttl ≡ 1) }
+{
+    ttl / 0x4000 % 2 == 1
 }
 
 /// The bits that must be zero, if they aren't, between the flags and the size.
@@ -84,8 +91,9 @@ impl fmt::Display for EdnsLine {
         let ttl = self.ttl.as_secs();
         let version = ttl / 0x1_0000 % 0x100;
         let dnssec_ok = word_if(dnssec_ok(ttl), " do");
+        let compact_ok = word_if(compact_ok(ttl), " co");
         let zero = MustBeZero {
-            bits: (ttl % 0x8000) as u16,
+            bits: (ttl % 0x4000) as u16,
         };
         let size = self.class.to_int();
         let status = LongStatus {
@@ -94,7 +102,7 @@ impl fmt::Display for EdnsLine {
         };
         write!(
             f,
-            "; EDNS: version: {version}, flags:{dnssec_ok}{zero}udp: {size}{status}"
+            "; EDNS: version: {version}, flags:{dnssec_ok}{compact_ok}{zero}udp: {size}{status}"
         )
     }
 }
