@@ -45,7 +45,7 @@ extern "C" {
 #define DNSNAMES_KEY_LEN 16
 
 /* The version of this header; dnsnames_version tells that of the library. */
-#define DNSNAMES_VERSION "0.5.0"
+#define DNSNAMES_VERSION "0.6.0"
 
 typedef enum dnsnames_status {
     DNSNAMES_OK = 0,

@@ -10,7 +10,7 @@ from typing import List, Optional, Union
 
 Octets = Union[bytes, bytearray, memoryview]
 
-VERSION = "0.5.0"
+VERSION = "0.6.0"
 
 MAX_LEN = 255
 MAX_TEXT = 1020

@@ -23,7 +23,7 @@ pub const DNSNAMES_MAX_MNEMONIC: usize = 12;
 /// The octets of a key of [`dnsnames_hash`].
 pub const DNSNAMES_KEY_LEN: usize = 16;
 /// The version of these declarations; [`dnsnames_version`] tells that of the library.
-pub const DNSNAMES_VERSION: &str = "0.5.0";
+pub const DNSNAMES_VERSION: &str = "0.6.0";
 
 /// What a call answers: one of the constants below, by which it tells why it refuses.
 pub type dnsnames_status = u32;
