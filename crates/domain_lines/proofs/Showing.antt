@@ -22,6 +22,7 @@ use Rattle.domain_tool.specs.declared.tool.ToolError.TheVariants.{Parse, Text, R
 use Rattle.domain_lines.specs.Flags.{flag_text}
 use Rattle.domain_lines.specs.Records.{is_opt, IsEntryText}
 use Rattle.domain_lines.specs.Messages.{codes_line, counts_line, header_lines, header_rcode, questions_heading, section_heading, IsQuestionText, AreTextsOf, ShowsAll, ShowsSome, WritesAll, WritesSome, ShowsQuestions, ShowsSection, StopsInSection, ShowsAnswers, ShowsAuthority, PutsMessage, PutsUntil, WritesMessage, WritesUntil, WritesShown}
+use Rattle.domain_lines.specs.Writing.{Wrote}
 use Rattle.domain_lines.specs.Messages.StopsShowing.{no_header, no_question, no_answer, no_authority, no_additional}
 use Rattle.domain_lines.proofs.InAndOut.{appends_kept}
 
@@ -65,10 +66,6 @@ answered (Err (Text e)) x = x
 answered (Err Read) x = tt
 answered (Err Write) x = tt
 answered (Err Memory) x = tt
-
--- What shows this was put.
-abbrev pub Wrote : (List ℕ → Type 0) → (List ℕ → Type 0) → Type 0
-Wrote Shows Puts = (text : List ℕ) × Shows text × Puts text
 
 -- the word of a flag
 pub flag_is : (set : Bool) (flag : ℕ) (word shown : List ℕ) → (IsTrue set ↔ (flag ≡ 1)) → shown ≡ cond set word [] → shown ≡ flag_text flag word

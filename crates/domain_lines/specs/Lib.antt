@@ -6,3 +6,5 @@ pub mod Messages
 pub mod Rooms
 pub mod Putting
 pub mod RoomLaws
+pub mod Streams
+pub mod Writing

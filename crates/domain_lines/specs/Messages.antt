@@ -40,6 +40,10 @@ header_lines m = (codes_line (number16 m 0) (slice_index m 2) (slice_index m 3) 
 abbrev pub questions_heading : List ℕ
 questions_heading = codes ";; QUESTION SECTION" ++ 10 ∷ []
 
+-- the lines of the header, and the line above the questions
+abbrev pub header_text : List ℕ → List ℕ
+header_text m = header_lines m ++ questions_heading
+
 -- the line above the records of a section
 abbrev pub section_heading : Section → List ℕ
 section_heading Answer = codes ";; ANSWER SECTION"

@@ -5,6 +5,7 @@ use Rattle.domain_record.specs.Entries.{RecordFields, RecordAt, NoRecord}
 use Rattle.domain_lines.specs.Messages.{IsShown, StopsShowing}
 use Rattle.domain_lines.specs.Records.{IsRecordLine}
 use Rattle.domain_lines.specs.Rooms.{Holds}
+use Rattle.domain_lines.specs.declared.put.PutText.{PutText}
 
 -- The text shows the message, to its end (None), or up to what can't be shown, and why.
 abbrev pub IsTextOf : List ℕ → Option ParseError → List ℕ → Type 0
@@ -23,3 +24,11 @@ PutsRecord m p old new len = (it : RecordFields) × (end : ℕ) × (line : List 
 abbrev pub PutsRecordOrNot : List ℕ → ℕ → Option ParseError → List ℕ → List ℕ → ℕ → Type 0
 PutsRecordOrNot m p None old new len = PutsRecord m p old new len
 PutsRecordOrNot m p (Some why) old new len = NoRecord m p why × (new ≡ old) × (len ≡ 0)
+
+-- What is told of a message that was put: how many octets the text has, and why it ends before the message does.
+abbrev pub MessagePut : List ℕ → List ℕ → List ℕ → PutText → Type 0
+MessagePut m old new put = PutsShown m put.why old new put.len
+
+-- What is told of a record at p that was put: how many octets its line has, or why there is none.
+abbrev pub RecordPut : List ℕ → ℕ → List ℕ → List ℕ → PutText → Type 0
+RecordPut m p old new put = PutsRecordOrNot m p put.why old new put.len

@@ -1,10 +1,11 @@
 //! OPT records (RFC 6891, 6.1), as `dig` shows them.
-ghost use Rattle.std.specs.Prelude.{◌≡◌, ◌↔◌, ℕ, List, Some, IsTrue, OnOk, OnErr};
+ghost use Rattle.std.specs.Prelude.{◌≡◌, ◌↔◌, Some, IsTrue, OnOk, OnErr};
 ghost use Rattle.std.specs.List.{flat_map};
 ghost use Rattle.domain_header.specs.Values.{class_number, ttl_seconds, rcode_number};
 ghost use Rattle.domain_rdata.specs.AnyData.{spaced_octet};
 ghost use Rattle.domain_edns.specs.OptRecords.{dnssec_ok_bit};
-ghost use Rattle.domain_lines.specs.Edns.{compact_ok_bit, zero_text, status_text, edns_line, option_line, cut_option_line, AreOptionLines};
+ghost use Rattle.domain_lines.specs.Edns.{compact_ok_bit, zero_text, status_text, edns_line, option_line, cut_option_line};
+ghost use Rattle.domain_lines.specs.Writing.{PutsOptions};
 
 use crate::flags::word_if;
 use crate::streams::Sink;
@@ -177,9 +178,7 @@ impl<'a> fmt::Display for CutOption<'a> {
 
 /// Writes a line for each option, and one for octets at the end that are no whole option.
 pub(crate) fn write_options<W: Sink>(octets: &[u8], output: &mut W) -> Result<(), WriteFault>
-    ensures written { OnOk result
-        ((text : List ℕ) × AreOptionLines octets.now text
-        × W.takes output.old output.new text) }
+    ensures written { OnOk result (PutsOptions octets.now (W.takes output.old output.new)) }
     ensures failed { OnErr result (W.failed output.new) }
 {
     let mut rest = octets;

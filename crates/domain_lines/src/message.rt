@@ -1,14 +1,15 @@
 //! A message, shown in presentation format: the header, the questions, and the records of each section.
-ghost use Rattle.std.specs.Prelude.{◌≡◌, ◌≤◌, ◌++◌, ◌⊎◌, ℕ, List, length, Some, OnOk, IfSome};
+ghost use Rattle.std.specs.Prelude.{◌≡◌, ◌≤◌, length, Some, OnOk};
 ghost use Rattle.std.specs.Io.KnownBytes.{IsAtEnd};
 ghost use Rattle.octseq.specs.Parsing.{message, position, MovesTo};
 ghost use Rattle.domain_header.specs.Values.{rcode_number};
-ghost use Rattle.domain_record.specs.Entries.{QuestionAt, NoQuestion, RecordAt, NoRecord};
 ghost use Rattle.domain_message.specs.Sections.{counted};
 ghost use Rattle.domain_tool.specs.Engines.{IfRefused, OnAnswer};
-ghost use Rattle.domain_lines.specs.Failures.{IfWritingFailed, IfStreamFailed};
-ghost use Rattle.domain_lines.specs.Records.{IsEntryText};
-ghost use Rattle.domain_lines.specs.Messages.{flags_text, codes_line, counts_line, header_lines, header_rcode, questions_heading, section_heading, IsQuestionText, WritesAll, WritesSome, ShowsQuestions, ShowsAnswers, ShowsAuthority, ShowsSection, StopsInSection, PutsMessage, PutsUntil, WritesMessage, WritesUntil};
+ghost use Rattle.domain_lines.specs.Failures.{IfWritingFailed};
+ghost use Rattle.domain_lines.specs.Messages.{flags_text, codes_line, counts_line, header_text, header_rcode, section_heading, PutsMessage};
+ghost use Rattle.domain_lines.specs.Streams.{IfEitherFailed};
+ghost use Rattle.domain_lines.specs.Writing.{PutsQuestions, LacksQuestion, PutsRecords, LacksRecord, PutsSection, StopsIn};
+ghost use Rattle.domain_lines.specs.Writing.{PutsAsked, PutsAnswers, PutsAuthority, PutsPart, PutsPartOf, ShowsGiven, ShowsPart};
 
 use crate::flags::word_if;
 use crate::record::write_entry;
@@ -121,9 +122,7 @@ const QUESTIONS: &str = ";; QUESTION SECTION";
 /// Writes the lines of the header, and the line above the questions.
 fn write_header<W: Sink>(message: &[u8], output: &mut W) -> Result<(), ToolError>
     requires { 12 ≤ length message.now }
-    ensures written { OnOk result
-        (W.takes output.old output.new
-        (header_lines message.now ++ questions_heading)) }
+    ensures written { OnOk result (W.takes output.old output.new (header_text message.now)) }
     ensures refused { IfRefused result (λ _. ⊥) }
     ensures failed { IfWritingFailed result (W.failed output.new) }
 {
@@ -141,13 +140,11 @@ fn write_questions<W: Sink>(
     parser: &mut Parser<'_>,
     output: &mut W,
 ) -> Result<(), ToolError>
-    ensures written { OnOk result
-        (WritesAll QuestionAt IsQuestionText (message parser.old) (position parser.old) count
-        (position parser.new) (W.takes output.old output.new)) }
+    ensures written { OnOk result (PutsQuestions parser.old count parser.new
+        (W.takes output.old output.new)) }
     ensures moves { OnOk result (MovesTo parser.old parser.new (position parser.new)) }
-    ensures refused { IfRefused result
-        (λ e. WritesSome QuestionAt NoQuestion IsQuestionText (message parser.old)
-        (position parser.old) count (W.takes output.old output.new) e) }
+    ensures refused { IfRefused result (LacksQuestion parser.old count
+        (W.takes output.old output.new)) }
     ensures failed { IfWritingFailed result (W.failed output.new) }
 {
     for _question in 0..count {
@@ -168,13 +165,11 @@ fn write_records<W: Sink>(
     parser: &mut Parser<'_>,
     output: &mut W,
 ) -> Result<(), ToolError>
-    ensures written { OnOk result
-        (WritesAll RecordAt (IsEntryText (rcode_number rcode) section) (message parser.old)
-        (position parser.old) count (position parser.new) (W.takes output.old output.new)) }
+    ensures written { OnOk result (PutsRecords rcode section parser.old count parser.new
+        (W.takes output.old output.new)) }
     ensures moves { OnOk result (MovesTo parser.old parser.new (position parser.new)) }
-    ensures refused { IfRefused result
-        (λ e. WritesSome RecordAt NoRecord (IsEntryText (rcode_number rcode) section)
-        (message parser.old) (position parser.old) count (W.takes output.old output.new) e) }
+    ensures refused { IfRefused result (LacksRecord rcode section parser.old count
+        (W.takes output.old output.new)) }
     ensures failed { IfWritingFailed result (W.failed output.new) }
 {
     let mut opt_seen = false;
@@ -196,15 +191,11 @@ fn write_section<W: Sink>(
     output: &mut W,
 ) -> Result<(), ToolError>
     requires { 12 ≤ length (message parser.old) }
-    ensures written { OnOk result
-        ((text : List ℕ)
-        × ShowsSection (message parser.old) section (position parser.old) (position parser.new) text
-        × W.takes output.old output.new text) }
+    ensures written { OnOk result (PutsSection section parser.old parser.new
+        (W.takes output.old output.new)) }
     ensures moves { OnOk result (MovesTo parser.old parser.new (position parser.new)) }
-    ensures refused { IfRefused result
-        (λ e. (text : List ℕ)
-        × StopsInSection (message parser.old) section (position parser.old) text e
-        × W.takes output.old output.new text) }
+    ensures refused { IfRefused result (StopsIn section parser.old
+        (W.takes output.old output.new)) }
     ensures failed { IfWritingFailed result (W.failed output.new) }
 {
     output.put_line(Heading { section })?;
@@ -238,12 +229,10 @@ fn rcode_of(message: &[u8]) -> Rcode
 fn write_to_questions<W: Sink>(parser: &mut Parser<'_>, output: &mut W) -> Result<(), ToolError>
     requires long { 12 ≤ length (message parser.old) }
     requires start { position parser.old ≡ 12 }
-    ensures written { OnOk result
-        ((text : List ℕ) × ShowsQuestions (message parser.old) (position parser.new) text
-        × W.takes output.old output.new text) }
+    ensures written { OnOk result (PutsAsked parser.old parser.new
+        (W.takes output.old output.new)) }
     ensures moves { OnOk result (MovesTo parser.old parser.new (position parser.new)) }
-    ensures refused { IfRefused result
-        (λ e. PutsUntil (message parser.old) e (W.takes output.old output.new)) }
+    ensures refused { IfRefused result (PutsPartOf parser.old (W.takes output.old output.new)) }
     ensures failed { IfWritingFailed result (W.failed output.new) }
 {
     let message = parser.as_slice();
@@ -258,12 +247,10 @@ fn write_to_questions<W: Sink>(parser: &mut Parser<'_>, output: &mut W) -> Resul
 fn write_to_answers<W: Sink>(parser: &mut Parser<'_>, output: &mut W) -> Result<(), ToolError>
     requires long { 12 ≤ length (message parser.old) }
     requires start { position parser.old ≡ 12 }
-    ensures written { OnOk result
-        ((text : List ℕ) × ShowsAnswers (message parser.old) (position parser.new) text
-        × W.takes output.old output.new text) }
+    ensures written { OnOk result (PutsAnswers parser.old parser.new
+        (W.takes output.old output.new)) }
     ensures moves { OnOk result (MovesTo parser.old parser.new (position parser.new)) }
-    ensures refused { IfRefused result
-        (λ e. PutsUntil (message parser.old) e (W.takes output.old output.new)) }
+    ensures refused { IfRefused result (PutsPartOf parser.old (W.takes output.old output.new)) }
     ensures failed { IfWritingFailed result (W.failed output.new) }
 {
     if let Err(e) = write_to_questions(parser, output) {
@@ -276,12 +263,10 @@ fn write_to_answers<W: Sink>(parser: &mut Parser<'_>, output: &mut W) -> Result<
 fn write_to_authority<W: Sink>(parser: &mut Parser<'_>, output: &mut W) -> Result<(), ToolError>
     requires long { 12 ≤ length (message parser.old) }
     requires start { position parser.old ≡ 12 }
-    ensures written { OnOk result
-        ((text : List ℕ) × ShowsAuthority (message parser.old) (position parser.new) text
-        × W.takes output.old output.new text) }
+    ensures written { OnOk result (PutsAuthority parser.old parser.new
+        (W.takes output.old output.new)) }
     ensures moves { OnOk result (MovesTo parser.old parser.new (position parser.new)) }
-    ensures refused { IfRefused result
-        (λ e. PutsUntil (message parser.old) e (W.takes output.old output.new)) }
+    ensures refused { IfRefused result (PutsPartOf parser.old (W.takes output.old output.new)) }
     ensures failed { IfWritingFailed result (W.failed output.new) }
 {
     if let Err(e) = write_to_answers(parser, output) {
@@ -297,8 +282,7 @@ fn write_to_authority<W: Sink>(parser: &mut Parser<'_>, output: &mut W) -> Resul
 pub fn write_message<W: Sink>(message: &[u8], output: &mut W) -> Result<(), ToolError>
     ensures written { OnOk result
         (PutsMessage message.now (W.takes output.old output.new)) }
-    ensures refused { IfRefused result
-        (λ e. PutsUntil message.now e (W.takes output.old output.new)) }
+    ensures refused { IfRefused result (PutsPart message.now (W.takes output.old output.new)) }
     ensures failed { IfWritingFailed result (W.failed output.new) }
 {
     let mut parser = Parser::from_ref(message);
@@ -325,14 +309,11 @@ pub fn show_message<R: Source, W: Sink>(
     output: &mut W,
 ) -> Result<(), ToolError>
     ensures whole { OnAnswer result (IsAtEnd (R.remaining input.new)) }
-    ensures written { OnOk result
-        (IfSome (R.remaining input.old)
-        (λ m. WritesMessage m (W.contents output.old) (W.contents output.new))) }
-    ensures refused { IfRefused result
-        (λ e. IfSome (R.remaining input.old)
-        (λ m. WritesUntil m e (W.contents output.old) (W.contents output.new))) }
-    ensures failed { IfStreamFailed result
-        ((R.failed input.new × (output.new ≡ output.old)) ⊎ W.failed output.new) }
+    ensures written { OnOk result (ShowsGiven (R.remaining input.old)
+        W.contents output.old output.new) }
+    ensures refused { IfRefused result (ShowsPart (R.remaining input.old)
+        W.contents output.old output.new) }
+    ensures failed { IfEitherFailed result R.failed input.new W.failed output.old output.new }
 {
     let octets = match input.read_whole(alloc) {
         Ok(octets) => octets,

@@ -1,6 +1,6 @@
 //! Putting the lines of a message, or of a record, into a buffer.
-ghost use Rattle.std.specs.Prelude.{◌≡◌, IfSome};
-ghost use Rattle.domain_lines.specs.Putting.{PutsShown, PutsRecordOrNot};
+ghost use Rattle.std.specs.Prelude.{IfSome};
+ghost use Rattle.domain_lines.specs.Putting.{MessagePut, RecordPut};
 
 use crate::message::write_message;
 use crate::record::write_record;
@@ -27,8 +27,7 @@ pub struct PutText {
 /// `None` where the lines weren't made: they have more octets than a `usize` counts. No other case comes, but the
 /// contracts of `Display` don't tell so.
 pub fn put_message(message: &[u8], buffer: &mut [u8]) -> Option<PutText>
-    ensures { IfSome result
-        (λ put. PutsShown message.now put.why buffer.old buffer.new put.len) }
+    ensures { IfSome result (MessagePut message.now buffer.old buffer.new) }
 {
     let mut room = Room { buffer, len: 0 };
     let shown = write_message(message, &mut room);
@@ -50,8 +49,7 @@ pub fn put_message(message: &[u8], buffer: &mut [u8]) -> Option<PutText>
 /// The length is that of the line, which needn't have found room. `why` tells why no record is there: nothing is put
 /// then. `None` as `put_message` has it.
 pub fn put_record(message: &[u8], offset: usize, buffer: &mut [u8]) -> Option<PutText>
-    ensures { IfSome result
-        (λ put. PutsRecordOrNot message.now offset put.why buffer.old buffer.new put.len) }
+    ensures { IfSome result (RecordPut message.now offset buffer.old buffer.new) }
 {
     let mut parser = Parser::from_ref(message);
     if let Err(_) = parser.seek(offset) {

@@ -1,11 +1,9 @@
 //! The lines of a record.
-ghost use Rattle.std.specs.Prelude.{◌≡◌, ◌∷◌, ◌++◌, ◌↔◌, [], ℕ, List, Some, IsTrue, OnOk, OnErr, IfOk};
-ghost use Rattle.std.specs.List.{list_any};
-ghost use Rattle.domain_header.specs.Values.{rcode_number};
-ghost use Rattle.domain_record.specs.Entries.{RecordFields};
+ghost use Rattle.std.specs.Prelude.{◌≡◌, ◌↔◌, Some, IsTrue, OnOk, OnErr, IfOk};
 ghost use Rattle.domain_record.specs.RecordModel.{record_fields};
-ghost use Rattle.domain_lines.specs.Records.{bare_text, unread_text, IsBare, IsRecordLine, has_opt_head, is_opt, IsOptText, IsEntryText};
+ghost use Rattle.domain_lines.specs.Records.{bare_text, unread_text, IsBare, has_opt_head, is_opt};
 ghost use Rattle.domain_lines.specs.Edns.{another_text};
+ghost use Rattle.domain_lines.specs.Writing.{PutsLine, PutsOpt, PutsEntry, TellsOpt};
 
 use crate::edns::{EdnsLine, write_options};
 use crate::streams::Sink;
@@ -63,9 +61,7 @@ fn is_bare(found: &ParsedRecord<'_>) -> bool
 
 /// Writes the line of a record, with its data as its type has it, or as octets with a remark where it can't be read.
 pub fn write_record<W: Sink>(found: &ParsedRecord<'_>, output: &mut W) -> Result<(), WriteFault>
-    ensures written { OnOk result
-        ((line : List ℕ) × IsRecordLine (record_fields found.now) line
-        × W.takes output.old output.new (line ++ 10 ∷ [])) }
+    ensures written { OnOk result (PutsLine found.now (W.takes output.old output.new)) }
     ensures failed { OnErr result (W.failed output.new) }
 {
     if is_bare(found) {
@@ -130,9 +126,8 @@ fn write_opt<W: Sink>(
     found: &ParsedRecord<'_>,
     output: &mut W,
 ) -> Result<(), WriteFault>
-    ensures written { OnOk result
-        ((text : List ℕ) × IsOptText (rcode_number rcode) another (record_fields found.now) text
-        × W.takes output.old output.new text) }
+    ensures written { OnOk result (PutsOpt rcode another found.now
+        (W.takes output.old output.new)) }
     ensures failed { OnErr result (W.failed output.new) }
 {
     write_another(another, output)?;
@@ -151,14 +146,9 @@ pub(crate) fn write_entry<W: Sink>(
     found: &ParsedRecord<'_>,
     output: &mut W,
 ) -> Result<bool, WriteFault>
-    ensures written { OnOk result
-        ((before : List RecordFields) → opt_seen ≡ list_any (is_opt section) before →
-        (text : List ℕ)
-        × IsEntryText (rcode_number rcode) section before (record_fields found.now) text
-        × W.takes output.old output.new text) }
-    ensures seen { IfOk result
-        (λ seen. (before : List RecordFields) → opt_seen ≡ list_any (is_opt section) before →
-        seen ≡ list_any (is_opt section) (before ++ record_fields found.now ∷ [])) }
+    ensures written { OnOk result (PutsEntry rcode section opt_seen found.now
+        (W.takes output.old output.new)) }
+    ensures seen { IfOk result (TellsOpt section opt_seen found.now) }
     ensures failed { OnErr result (W.failed output.new) }
 {
     if opt_is(section, found) {

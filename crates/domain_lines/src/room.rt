@@ -1,6 +1,6 @@
 //! A buffer that text is put into as far as it fits.
-ghost use Rattle.std.specs.Prelude.{◌≡◌, ◌≤◌, ◌+◌, ◌++◌, ℕ, List, length, take, drop, None};
-ghost use Rattle.domain_lines.specs.Rooms.{laid, Holds};
+ghost use Rattle.std.specs.Prelude.{◌≡◌, ◌≤◌, ◌+◌, length, None};
+ghost use Rattle.domain_lines.specs.Rooms.{placed, LaysBehind};
 
 use crate::streams::Sink;
 use domain_tool::tool::WriteFault;
@@ -16,16 +16,14 @@ pub(crate) struct Room<'a> {
 /// Puts the octets into the buffer from an offset on.
 fn place(octets: &[u8], buffer: &mut [u8], offset: usize)
     requires { offset + length octets.now ≤ length buffer.old }
-    ensures { buffer.new ≡ take offset buffer.old ++ octets.now
-        ++ drop (offset + length octets.now) buffer.old }
+    ensures { buffer.new ≡ placed octets.now offset buffer.old }
 {
     buffer[offset..offset + octets.len()].copy_from_slice(octets);
 }
 
 /// Puts what fits of the octets into the buffer from an offset on.
 fn put_fitting(octets: &[u8], buffer: &mut [u8], offset: usize)
-    ensures { (old before : List ℕ) → offset ≡ length before → buffer.old ≡ laid old before →
-        buffer.new ≡ laid old (before ++ octets.now) }
+    ensures { LaysBehind offset octets.now buffer.old buffer.new }
 {
     if buffer.len() <= offset {
         return;

@@ -1,6 +1,7 @@
 //! What is read to its end, and what lines are written to.
-ghost use Rattle.std.specs.Prelude.{◌≡◌, ◌∷◌, ◌++◌, ◌⊎◌, [], ℕ, List, Option, OnOk, OnErr, IfOk, IfErr, IfSome};
+ghost use Rattle.std.specs.Prelude.{◌≡◌, ◌++◌, ◌⊎◌, [], ℕ, List, Option, OnOk, OnErr, IfOk, IfErr, IfSome};
 ghost use Rattle.std.specs.Io.KnownBytes.{Appends, Keeps, IsAtEnd};
+ghost use Rattle.domain_lines.specs.Streams.{AppendsLine, TakesLine};
 ghost use Rattle.domain_tool.specs.declared.tool.ToolError.{ToolError};
 
 use domain_tool::tool::{ToolError, WriteFault, read_all, write_line};
@@ -21,8 +22,7 @@ pub trait Source {
 
     /// Reads all that is left. `Read` where reading failed, `Memory` where there was no memory for it.
     fn read_whole(&mut self, alloc: Global) -> Result<Vec<u8>, ToolError>
-        ensures octets { IfOk result
-            (λ octets. IfSome (remaining self.old) (λ m. octets.items ≡ m)) }
+        ensures octets { IfOk result (λ it. IfSome (remaining self.old) (λ m. it.items ≡ m)) }
         ensures whole { OnOk result (IsAtEnd (remaining self.new)) }
         ensures err { IfErr result (λ e. (e ≡ ToolError.Read) ⊎ (e ≡ ToolError.Memory)) }
         ensures failed { OnErr result (failed self.new) };
@@ -54,11 +54,8 @@ pub trait Sink {
 
     /// Writes a text and a newline.
     fn put_line<D: Display + Drop>(&mut self, text: D) -> Result<(), WriteFault>
-        ensures written { OnOk result
-            (IfSome (D.output text)
-            (λ shown. Appends (contents self.old) (contents self.new) (shown ++ 10 ∷ []))) }
-        ensures taken { OnOk result
-            (IfSome (D.output text) (λ shown. takes self.old self.new (shown ++ 10 ∷ []))) }
+        ensures written { OnOk result (AppendsLine contents (D.output text) self.old self.new) }
+        ensures taken { OnOk result (TakesLine takes (D.output text) self.old self.new) }
         ensures failed { OnErr result (failed self.new) };
 
     /// Sends on what was written.

@@ -3,7 +3,8 @@ use Rattle.std.proofs.lemmas.Result.{on_ok_weaker}
 use Rattle.octseq.specs.Parsing.{message, position}
 use Rattle.domain_record.specs.Facts.{same_message}
 use Rattle.domain_lines.specs.Messages.{ShowsAuthority}
-use Rattle.domain_lines.proofs.Showing.{Wrote, stopped_short, stopped_additional, wrote_message}
+use Rattle.domain_lines.specs.Writing.{Wrote}
+use Rattle.domain_lines.proofs.Showing.{stopped_short, stopped_additional, wrote_message}
 use Rattle.domain_lines.proofs.message.write_message.Goals as goal
 
 pub returns-in-Err-clause-refused : goal.returns-in-Err-clause-refused
