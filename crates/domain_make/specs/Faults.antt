@@ -1,5 +1,5 @@
 -- What is told of words that are no question and no record: the first fault, and the column of the part that has it.
-use Rattle.std.specs.Prelude.{◌≡◌, ◌≢◌, ℕ, ◌<◌, List, [], ◌∷◌, length}
+use Rattle.std.specs.Prelude.{◌≡◌, ◌≢◌, ◌⊎◌, ℕ, ◌<◌, List, [], ◌∷◌, length}
 use Rattle.domain_message_builder.specs.Contents.{RecordHead}
 use Rattle.domain_data_text.specs.Faults.{Tells, Lacks, NoName, NoNumber32, NoData}
 use Rattle.domain_data_text.specs.Parts.{IsNameWord, IsNumber32}
@@ -53,3 +53,7 @@ pub record LongRecord (words : List WordAt) (f : Fault) (c : ℕ) : Type 0 where
   pub record_is : IsRecordWords words head octets
   pub long : 65535 < length octets
   pub told : Tells fault.Octets (first_column words) f c
+
+-- The words are no record, or one whose data has too many octets for its length.
+abbrev pub NoFittingRecord : List WordAt → Fault → ℕ → Type 0
+NoFittingRecord words f c = NoRecord words f c ⊎ LongRecord words f c

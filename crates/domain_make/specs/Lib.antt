@@ -4,3 +4,4 @@ pub mod Remarks
 pub mod Drafts
 pub mod Refusals
 pub mod Made
+pub mod Taking

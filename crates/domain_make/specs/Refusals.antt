@@ -1,5 +1,5 @@
 -- Why a line isn't taken after what was said.
-use Rattle.std.specs.Prelude.{◌≡◌, ◌≢◌, ◌⊎◌, ℕ, ◌+◌, ◌-◌, ◌<◌, Bool, List, ◌∷◌, length, slice_index, slice_range}
+use Rattle.std.specs.Prelude.{◌≡◌, ◌≢◌, ◌⊎◌, ℕ, ◌+◌, ◌-◌, ◌<◌, Bool, List, ◌∷◌, length, slice_index, slice_range, Option, IfSome}
 use Rattle.domain_record.specs.Entries.{QuestionFields}
 use Rattle.domain_message.specs.declared.section.Section.{Section}
 use Rattle.domain_message.specs.declared.section.Section.TheVariants.{Answer, Authority, Additional}
@@ -10,7 +10,7 @@ use Rattle.domain_message_builder.specs.declared.error.PushError.{PushError}
 use Rattle.domain_message_builder.specs.declared.error.PushError.TheVariants.{Append, Long, Count, Limit, Order}
 use Rattle.domain_header.specs.Headers.{question_count}
 use Rattle.domain_rdata.specs.ReadBack.{Exceeds}
-use Rattle.domain_make.specs.Drafts.{Draft, IsBlankDraft, IsAsked, IsRemark, LineSays, IsLine, LinesSay, IsDraft}
+use Rattle.domain_make.specs.Drafts.{Draft, IsBlankDraft, IsAsked, IsRemark, LineSays, IsLine, LinesSay, TextSays, IsDraft}
 use Rattle.domain_make.specs.Entries.{first_column, IsQuestionWords, IsRecordWords}
 use Rattle.domain_data_text.specs.Faults.{Tells, NoWords}
 use Rattle.domain_make.specs.Faults.{NoQuestion, NoRecord}
@@ -159,3 +159,19 @@ StopsFrom compresses text old e = (d : Draft) → IsBlankDraft d → IsDraft com
 -- Each entry that the lines of a text say, one after the other, has room.
 abbrev pub HasRoom : Bool → List ℕ → Type 0
 HasRoom compresses text = (n at end : ℕ) (said : Draft) (f : Fault) (c : ℕ) → LinesSay text n at said → IsLine text at end → HasNoRoom compresses (slice_range text at end) said f c → ⊥
+
+-- If all lines of the text say something, then an entry of them has no room.
+abbrev pub NotMade : Bool → List ℕ → Type 0
+NotMade compresses text = (said : Draft) → TextSays text said → HasRoom compresses text → ⊥
+
+-- A line of the text isn't taken after those before it, and why.
+abbrev pub StopsSomewhere : Bool → List ℕ → Type 0
+StopsSomewhere compresses text = (told : LineError) × StopsAt compresses text told
+
+-- The error tells which line of the given text isn't taken, and why, where it is known what is given.
+abbrev pub StopsAtGiven : Bool → Option (List ℕ) → LineError → Type 0
+StopsAtGiven compresses given told = IfSome given (λ text. StopsAt compresses text told)
+
+-- If all lines of the given text say something, then an entry of them has no room, where it is known what is given.
+abbrev pub GivenNotMade : Bool → Option (List ℕ) → Type 0
+GivenNotMade compresses given = IfSome given (NotMade compresses)

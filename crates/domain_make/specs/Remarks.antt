@@ -1,12 +1,18 @@
 -- Lines that begin with a semicolon, as `dig` and `dnswalk message` write them: of a header, headings, comments.
-use Rattle.std.specs.Prelude.{◌≡◌, ◌⊎◌, ℕ, ◌-◌, ◌<◌, ◌≤◌, Bool, false, cond, List, [], ◌∷◌, ◌++◌, length, take, slice_index, codes}
+use Rattle.std.specs.Prelude.{◌≡◌, ◌≢◌, ◌⊎◌, ℕ, ◌-◌, ◌<◌, ◌≤◌, Bool, false, cond, List, [], ◌∷◌, ◌++◌, length, take, slice_index, codes, Option, MatchOption}
+use denote.Bor.{Bor}
 use Rattle.domain_header.specs.Bits.{bit_of}
 use Rattle.domain_header.specs.Headers.{header_id, header_high, header_low, SetsHigh, SetsLow}
 use Rattle.domain_header.specs.Tables.{opcode_text, rcode_text}
+use Rattle.domain_header.specs.Values.{opcode_number, rcode_number}
 use Rattle.domain_header.specs.declared.flags.Header.{Header}
 use Rattle.domain_message.specs.declared.section.Section.TheVariants.{Answer, Authority, Additional}
+use Rattle.domain_data_text.specs.Faults.{Tells, Lacks}
 use Rattle.domain_data_text.specs.Parts.{IsNumber16}
 use Rattle.domain_data_text.specs.Words.{IsBlank}
+use Rattle.domain_data_text.specs.declared.error.Fault.{Fault}
+use Rattle.domain_data_text.specs.declared.error.Fault.TheVariants as fault
+use Rattle.domain_make.specs.declared.remark.CodesTold.{CodesTold}
 use Rattle.domain_make.specs.declared.remark.Flags.{Flags}
 use Rattle.domain_make.specs.declared.remark.Stage.{Stage}
 use Rattle.domain_make.specs.declared.remark.Stage.TheVariants.{Start, Codes, Told, Questions, Records}
@@ -18,6 +24,26 @@ pub record IsTrimmed (line text : List ℕ) : Type 0 where
   pub within : end ≤ length line
   pub blank : (k : ℕ) → end ≤ k → k < length line → IsBlank (slice_index line k)
   pub last : 0 < end → IsBlank (slice_index line (end - 1)) → ⊥
+
+-- The text is this beginning, and then the rest.
+abbrev pub IsAfter : List ℕ → List ℕ → List ℕ → Type 0
+IsAfter beginning text rest = text ≡ beginning ++ rest
+
+-- The text begins with this.
+abbrev pub BeginsWith : List ℕ → List ℕ → Type 0
+BeginsWith beginning text = (rest : List ℕ) × IsAfter beginning text rest
+
+-- The text doesn't begin with this.
+abbrev pub BeginsOtherwise : List ℕ → List ℕ → Type 0
+BeginsOtherwise beginning text = (rest : List ℕ) → IsAfter beginning text rest → ⊥
+
+-- What was found is the rest of which this is said; where nothing was found there is none.
+abbrev pub FindsRest : (List ℕ → Type 0) → Option (Bor (List ℕ)) → Type 0
+FindsRest IsRest found = MatchOption found ((rest : List ℕ) → IsRest rest → ⊥) (λ rest. IsRest rest.now)
+
+-- The text has no octet like this one.
+abbrev pub HasNoOctet : ℕ → List ℕ → Type 0
+HasNoOctet octet text = (k : ℕ) → k < length text → slice_index text k ≢ octet
 
 -- The first line of a header, and what it has after its beginning.
 abbrev pub IsCodesLine : List ℕ → List ℕ → Type 0
@@ -31,6 +57,26 @@ pub record AreCodes (text : List ℕ) (opcode rcode id : ℕ) : Type 0 where
   pub small_rcode : rcode < 16
   pub id_is : IsNumber16 digits id
 
+-- The text is that of the kind of query of this number.
+abbrev pub IsOpcodeText : List ℕ → ℕ → Type 0
+IsOpcodeText text n = (n < 16) × (text ≡ opcode_text n)
+
+-- The text is that of the response code of this number.
+abbrev pub IsRcodeText : List ℕ → ℕ → Type 0
+IsRcodeText text n = (n < 16) × (text ≡ rcode_text n)
+
+-- The text is what is told: a kind of query, a response code and an identifier.
+abbrev pub AreTold : List ℕ → CodesTold → Type 0
+AreTold text told = AreCodes text (opcode_number told.opcode) (rcode_number told.rcode) told.id
+
+-- A part of a line of a header isn't what stands there.
+abbrev pub LacksPart : {A : Type 0} → (A → Type 0) → Fault → ℕ → Type 0
+LacksPart Says f c = Lacks Says fault.Header 1 f c
+
+-- The text isn't such codes and an identifier.
+abbrev pub LacksCodes : List ℕ → Fault → ℕ → Type 0
+LacksCodes text f c = Tells fault.Header 1 f c × ((opcode rcode id : ℕ) → AreCodes text opcode rcode id → ⊥)
+
 -- Identifier, kind of query and response code were set, and nothing else.
 pub record SetsCodes (opcode rcode id : ℕ) (old new : Header) : Type 0 where
   pub first : Header
@@ -40,6 +86,10 @@ pub record SetsCodes (opcode rcode id : ℕ) (old new : Header) : Type 0 where
   pub low : header_low first ≡ header_low old
   pub opcode_set : SetsHigh 8 16 opcode first second
   pub rcode_set : SetsLow 1 16 rcode second new
+
+-- They were set as is told, and nothing else.
+abbrev pub SetsTold : CodesTold → Header → Header → Type 0
+SetsTold told old new = SetsCodes (opcode_number told.opcode) (rcode_number told.rcode) told.id old new
 
 -- each flag and its word, in the order in which they are written, and the bit Z, which must be zero
 abbrev pub flag_words : Flags → List (Bool × List ℕ)
@@ -91,6 +141,11 @@ EndsInSection text = (front : List ℕ) × IsWithColon (front ++ codes " SECTION
 -- The line begins as one of an OPT record.
 abbrev pub BeginsAsOpt : List ℕ → Type 0
 BeginsAsOpt text = (rest : List ℕ) × ((text ≡ codes "; EDNS:" ++ rest) ⊎ (text ≡ codes "; OPT=" ++ rest))
+
+-- The line is refused: it ends as a heading, and is none of a section; or else it begins as one of an OPT record.
+abbrev pub IsRefusedRemark : List ℕ → Fault → Type 0
+IsRefusedRemark text f =
+    (EndsInSection text × (f ≡ fault.Heading)) ⊎ ((EndsInSection text → ⊥) × BeginsAsOpt text × (f ≡ fault.Opt))
 
 -- The line is another one: a comment. It is none of a header, no heading, and none of an OPT record.
 pub record IsComment (text : List ℕ) : Type 0 where

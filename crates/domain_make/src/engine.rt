@@ -1,11 +1,9 @@
 //! The engine of `dnswalk make`, over any reader and writer.
-ghost use Rattle.std.specs.Prelude.{◌≡◌, ◌≤◌, ◌↔◌, Bool, true, map, Some, IfOk, IfErr, IfSome, IsNone, OnOk};
-ghost use Rattle.std.specs.Io.KnownBytes.{Appends, IsAtEnd};
+ghost use Rattle.std.specs.Prelude.{◌≡◌, ◌≤◌, ◌↔◌, Bool, true, Some, IfOk, IfErr, IfSome, IsNone, OnOk};
+ghost use Rattle.std.specs.Io.KnownBytes.{IsAtEnd};
 ghost use Rattle.domain_tool.specs.WireText.{octet_digits, hexadecimal};
-ghost use Rattle.domain_make.specs.Made.{IsMade, written_form, WritesMade, AsksToMake, IfLine};
-ghost use Rattle.domain_make.specs.Drafts.{Draft, TextSays};
-ghost use Rattle.domain_make.specs.Refusals.{StopsAt, HasRoom};
-ghost use Rattle.domain_make.specs.declared.error.LineError.{LineError};
+ghost use Rattle.domain_make.specs.Made.{IsMade, WritesOctets, MakesOf, texts, AsksToMake, MakesAsked, IfLine};
+ghost use Rattle.domain_make.specs.Refusals.{StopsAt, NotMade, StopsSomewhere, StopsAtGiven, GivenNotMade};
 
 use crate::error::MakeError;
 use crate::line::take_lines;
@@ -29,8 +27,7 @@ pub fn make_message<Target: Composer + Drop>(
 ) -> Result<Target, MakeError>
     ensures message { IfOk result (λ made. IsMade text.now (Target.octets made)) }
     ensures refused { IfErr result (λ e. IfLine e (StopsAt Target.compresses text.now)) }
-    ensures accepted { IfErr result (λ e. IfLine e (λ _. (said : Draft) →
-        TextSays text.now said → HasRoom Target.compresses text.now → ⊥)) }
+    ensures accepted { IfErr result (λ e. IfLine e (λ _. NotMade Target.compresses text.now)) }
 {
     let mut message = match MessageBuilder::from_target(target) {
         Ok(message) => message,
@@ -46,8 +43,7 @@ pub fn make_message<Target: Composer + Drop>(
 fn shorter_message(alloc: Global, text: &[u8]) -> Result<Vec<u8>, MakeError>
     ensures message { IfOk result (λ made. IsMade text.now made.items) }
     ensures refused { IfErr result (λ e. IfLine e (StopsAt true text.now)) }
-    ensures accepted { IfErr result (λ e. IfLine e (λ _. (said : Draft) →
-        TextSays text.now said → HasRoom true text.now → ⊥)) }
+    ensures accepted { IfErr result (λ e. IfLine e (λ _. NotMade true text.now)) }
 {
     let composer = CompressComposer::new(Vec::new(alloc));
     match make_message(alloc, text, composer) {
@@ -89,8 +85,7 @@ impl fmt::Display for Digits {
 
 /// Writes octets as they are, or in hexadecimal digits and with a newline.
 fn write_octets<W: Write>(octets: &[u8], hex: bool, output: &mut W) -> Result<(), WriteFault>
-    ensures { OnOk result
-        (Appends (W.contents output.old) (W.contents output.new) (written_form hex octets.now)) }
+    ensures { OnOk result (WritesOctets W.contents octets.now hex output.old output.new) }
 {
     if hex {
         return write_line(output, Hexadecimal { octets });
@@ -101,8 +96,7 @@ fn write_octets<W: Write>(octets: &[u8], hex: bool, output: &mut W) -> Result<()
 
 /// Writes octets as `write_octets` does, and flushes the output.
 fn send_octets<W: Write>(octets: &[u8], hex: bool, output: &mut W) -> Result<(), WriteFault>
-    ensures { OnOk result
-        (Appends (W.contents output.old) (W.contents output.new) (written_form hex octets.now)) }
+    ensures { OnOk result (WritesOctets W.contents octets.now hex output.old output.new) }
 {
     write_octets(octets, hex, output)?;
     match output.flush() {
@@ -123,12 +117,11 @@ pub fn make<R: Read, W: Write>(
     hex: bool,
 ) -> Result<(), MakeError>
     ensures whole { OnOk result (IsAtEnd (R.remaining input.new)) }
-    ensures written { OnOk result (IfSome (R.remaining input.old)
-        (λ text. WritesMade text hex (W.contents output.old) (W.contents output.new))) }
-    ensures refused { IfErr result (λ e. IfLine e (λ told. IfSome (R.remaining input.old)
-        (λ text. StopsAt true text told))) }
-    ensures accepted { IfErr result (λ e. IfLine e (λ _. IfSome (R.remaining input.old)
-        (λ text. (said : Draft) → TextSays text said → HasRoom true text → ⊥))) }
+    ensures written { OnOk result (MakesOf (R.remaining input.old) hex
+        W.contents output.old output.new) }
+    ensures refused { IfErr result (λ e. IfLine e (StopsAtGiven true (R.remaining input.old))) }
+    ensures accepted { IfErr result (λ e. IfLine e (λ _.
+        GivenNotMade true (R.remaining input.old))) }
     ensures nothing_written { IfErr result (λ e. IfLine e (λ _. output.new ≡ output.old)) }
 {
     let text = match read_all(alloc, input) {
@@ -150,10 +143,8 @@ const USAGE: &str = "usage: dnswalk make [--hex]";
 
 /// Whether the words ask for a message, and whether in hexadecimal digits.
 fn asked(words: &[&str]) -> Option<bool>
-    ensures some { IfSome result
-        (λ hex. AsksToMake (map (λ word. word.now) words.now) hex) }
-    ensures none { IsNone result → (hex : Bool) →
-        AsksToMake (map (λ word. word.now) words.now) hex → ⊥ }
+    ensures some { IfSome result (λ hex. AsksToMake (texts words.now) hex) }
+    ensures none { IsNone result → (hex : Bool) → AsksToMake (texts words.now) hex → ⊥ }
 {
     match words {
         ["make"] => Some(false),
@@ -173,17 +164,12 @@ pub fn run<R: Read, W: Write, E: Write>(
     errors: &mut E,
 ) -> u8
     ensures status { result ≤ 3 }
-    ensures done { result ≡ 0 →
-        (hex : Bool) × AsksToMake (map (λ word. word.now) words.now) hex
-        × IfSome (R.remaining input.old)
-        (λ text. WritesMade text hex (W.contents output.old) (W.contents output.new)) }
+    ensures done { result ≡ 0 → MakesAsked (texts words.now) (R.remaining input.old)
+        W.contents output.old output.new }
     ensures refused { result ≡ 1 → output.new ≡ output.old }
-    ensures line { result ≡ 1 → IfSome (R.remaining input.old)
-        (λ text. (told : LineError) × StopsAt true text told) }
-    ensures accepted { result ≡ 1 → IfSome (R.remaining input.old)
-        (λ text. (said : Draft) → TextSays text said → HasRoom true text → ⊥) }
-    ensures usage { result ≡ 2 ↔
-        ((hex : Bool) → AsksToMake (map (λ word. word.now) words.now) hex → ⊥) }
+    ensures line { result ≡ 1 → IfSome (R.remaining input.old) (StopsSomewhere true) }
+    ensures accepted { result ≡ 1 → GivenNotMade true (R.remaining input.old) }
+    ensures usage { result ≡ 2 ↔ ((hex : Bool) → AsksToMake (texts words.now) hex → ⊥) }
     ensures untouched { result ≡ 2 → (input.new ≡ input.old) × (output.new ≡ output.old) }
     ensures quiet { result ≡ 0 → errors.new ≡ errors.old }
 {

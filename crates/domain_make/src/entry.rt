@@ -1,18 +1,14 @@
 //! Questions and records that lines are.
-ghost use Rattle.std.specs.Prelude.{◌≡◌, ◌⊎◌, ℕ, List, OnOk, IfOk, IfErr};
+ghost use Rattle.std.specs.Prelude.{◌≡◌, OnOk, IfOk, IfErr};
 ghost use Rattle.domain_header.specs.Values.{class_number};
-ghost use Rattle.domain_record.specs.Entries.{QuestionFields};
-ghost use Rattle.domain_record.specs.RecordParts.{data_of as data_in};
-ghost use Rattle.domain_message_builder.specs.Contents.{RecordHead};
-ghost use Rattle.domain_message_builder.specs.Pushes.{asked, headed, PushesQuestion, PushesRecord};
-ghost use Rattle.domain_message_builder.specs.Views.{state_of};
+ghost use Rattle.domain_message_builder.specs.Pushes.{asked};
 ghost use Rattle.domain_name.specs.Names.{name_labels};
 ghost use Rattle.domain_rdata.specs.Rtypes.{rtype_number};
-ghost use Rattle.domain_rdata.specs.Unknown.{data_octets, data_type};
-ghost use Rattle.domain_make.specs.Entries.{IsClassWord, IsTypeWord, first_column, IsQuestionWords, IsRecordWords};
+ghost use Rattle.domain_make.specs.Entries.{IsClassWord, IsTypeWord, first_column, IsQuestionWords};
 ghost use Rattle.domain_data_text.specs.Faults.{IfRefused};
-ghost use Rattle.domain_make.specs.Faults.{NoClass, NoType, NoQuestion, NoRecord, LongRecord};
-ghost use Rattle.domain_make.specs.Refusals.{TellsPush, NoPushedQuestion, NoPushedRecord};
+ghost use Rattle.domain_make.specs.Faults.{NoClass, NoType, NoQuestion, NoFittingRecord};
+ghost use Rattle.domain_make.specs.Refusals.{TellsPush};
+ghost use Rattle.domain_make.specs.Taking.{AreWordsOf, AddsQuestionOf, NoQuestionAdded, AddsRecordOf, NoRecordAdded};
 ghost use Rattle.domain_data_text.specs.Words.{word_at, words_at};
 
 use domain_data_text::data::data_of;
@@ -53,8 +49,8 @@ fn rtype_of(word: &Word<'_>) -> Result<Rtype, Stop>
 
 /// The question that words are: a name, a class and a type.
 fn question_of(alloc: Global, words: &[Word<'_>]) -> Result<Question<OwnName>, Stop>
-    ensures ok { IfOk result (λ question.
-        IsQuestionWords (words_at words.now) (asked name_labels question)) }
+    ensures ok { IfOk result (λ it.
+        IsQuestionWords (words_at words.now) (asked name_labels it)) }
     ensures err { IfErr result (λ e. IfRefused e (NoQuestion (words_at words.now))) }
 {
     let [name, class, rtype] = words else {
@@ -71,10 +67,8 @@ fn record_of(
     alloc: Global,
     words: &[Word<'_>],
 ) -> Result<Record<OwnName, UnknownRecordData<Vec<u8>>>, Stop>
-    ensures ok { IfOk result (λ it. IsRecordWords (words_at words.now)
-        (headed name_labels data_type it) (data_octets (data_in it))) }
-    ensures err { IfErr result (λ e. IfRefused e (λ f c. NoRecord (words_at words.now) f c
-        ⊎ LongRecord (words_at words.now) f c)) }
+    ensures ok { IfOk result (λ it. AreWordsOf (words_at words.now) it) }
+    ensures err { IfErr result (λ e. IfRefused e (NoFittingRecord (words_at words.now))) }
 {
     let [owner, ttl, class, rtype, rest @ ..] = words else {
         return Err(Stop::Refused(Fault::Record, first_column(words)));
@@ -120,12 +114,8 @@ pub(crate) fn push_question<Target: Composer>(
     words: &[Word<'_>],
     message: &mut MessageBuilder<Target>,
 ) -> Result<(), Stop>
-    ensures ok { OnOk result ((q : QuestionFields) × IsQuestionWords (words_at words.now) q
-        × PushesQuestion Target.compresses q
-        (state_of Target.octets message.old) (state_of Target.octets message.new)) }
-    ensures err { IfErr result (λ e. IfRefused e
-        (NoPushedQuestion Target.compresses (words_at words.now)
-        (state_of Target.octets message.old))) }
+    ensures ok { OnOk result (AddsQuestionOf (words_at words.now) message.old message.new) }
+    ensures err { IfErr result (NoQuestionAdded (words_at words.now) message.old) }
 {
     let question = question_of(alloc, words)?;
     let Err(e) = message.push_question(&question) else {
@@ -141,13 +131,8 @@ pub(crate) fn push_record<Target: Composer>(
     words: &[Word<'_>],
     message: &mut MessageBuilder<Target>,
 ) -> Result<(), Stop>
-    ensures ok { OnOk result ((head : RecordHead) × (octets : List ℕ)
-        × IsRecordWords (words_at words.now) head octets
-        × PushesRecord Target.compresses section head (λ _ s. s ≡ octets)
-        (state_of Target.octets message.old) (state_of Target.octets message.new)) }
-    ensures err { IfErr result (λ e. IfRefused e
-        (NoPushedRecord Target.compresses section (words_at words.now)
-        (state_of Target.octets message.old))) }
+    ensures ok { OnOk result (AddsRecordOf section (words_at words.now) message.old message.new) }
+    ensures err { IfErr result (NoRecordAdded section (words_at words.now) message.old) }
 {
     let resource = record_of(alloc, words)?;
     let Err(e) = message.push(section, &resource) else {

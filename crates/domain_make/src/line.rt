@@ -1,10 +1,9 @@
 //! One line after the other.
 ghost use Rattle.std.specs.Prelude.{◌≡◌, ◌≢◌, ◌<◌, ◌≤◌, ◌↔◌, length, slice_index, IsTrue, OnOk, IfOk, IfErr};
-ghost use Rattle.domain_message_builder.specs.Views.{state_of};
-ghost use Rattle.domain_make.specs.Drafts.{IsAsked, IsRemark, IsLine, Takes, TakesAll};
-ghost use Rattle.domain_data_text.specs.Faults.{IfRefused};
+ghost use Rattle.domain_make.specs.Drafts.{IsAsked, IsRemark, IsLine};
 ghost use Rattle.domain_make.specs.Made.{IfLine};
-ghost use Rattle.domain_make.specs.Refusals.{IsOutside, Refuses, StopsFrom};
+ghost use Rattle.domain_make.specs.Refusals.{IsOutside};
+ghost use Rattle.domain_make.specs.Taking.{TakesLine, TakesEntry, LineNotTaken, TakesLines, LinesNotTaken};
 ghost use Rattle.domain_data_text.specs.Words.{AreWords, words_at};
 ghost use Rattle.domain_data_text.specs.declared.error.Stop.{Stop};
 ghost use Rattle.domain_make.specs.declared.remark.Stage.{Stage};
@@ -35,10 +34,8 @@ fn take_remark<Target: Composer>(
     message: &mut MessageBuilder<Target>,
 ) -> Result<Stage, Stop>
     requires { IsRemark line.now stage }
-    ensures ok { IfOk result (λ next. Takes Target.compresses line.now
-        stage (state_of Target.octets message.old) next (state_of Target.octets message.new)) }
-    ensures err { IfErr result (λ e. IfRefused e (Refuses Target.compresses line.now
-        stage (state_of Target.octets message.old))) }
+    ensures ok { IfOk result (λ next. TakesLine line.now stage message.old next message.new) }
+    ensures err { IfErr result (LineNotTaken line.now stage message.old) }
 {
     let header = message.header();
     match remark(alloc, trimmed(line), stage, header) {
@@ -57,11 +54,8 @@ fn take_asked<Target: Composer>(
     message: &mut MessageBuilder<Target>,
 ) -> Result<(), Stop>
     requires { IsAsked line.now }
-    ensures ok { OnOk result (Takes Target.compresses line.now
-        Stage.Questions (state_of Target.octets message.old)
-        Stage.Questions (state_of Target.octets message.new)) }
-    ensures err { IfErr result (λ e. IfRefused e (Refuses Target.compresses line.now
-        Stage.Questions (state_of Target.octets message.old))) }
+    ensures ok { OnOk result (TakesEntry line.now Stage.Questions message.old message.new) }
+    ensures err { IfErr result (LineNotTaken line.now Stage.Questions message.old) }
 {
     let words = words_of(alloc, line, 1)?;
     push_question(alloc, words.as_slice(), message)
@@ -77,11 +71,8 @@ fn take_question<Target: Composer>(
     requires begins { slice_index line.now 0 ≢ 59 }
     requires words { AreWords line.now 0 (words_at words.now) }
     requires some { 0 < length words.now }
-    ensures ok { OnOk result (Takes Target.compresses line.now
-        Stage.Questions (state_of Target.octets message.old)
-        Stage.Questions (state_of Target.octets message.new)) }
-    ensures err { IfErr result (λ e. IfRefused e (Refuses Target.compresses line.now
-        Stage.Questions (state_of Target.octets message.old))) }
+    ensures ok { OnOk result (TakesEntry line.now Stage.Questions message.old message.new) }
+    ensures err { IfErr result (LineNotTaken line.now Stage.Questions message.old) }
 {
     push_question(alloc, words, message)
 }
@@ -97,11 +88,9 @@ fn take_record<Target: Composer>(
     requires begins { slice_index line.now 0 ≢ 59 }
     requires words { AreWords line.now 0 (words_at words.now) }
     requires some { 0 < length words.now }
-    ensures ok { OnOk result (Takes Target.compresses line.now
-        (Stage.Records section) (state_of Target.octets message.old)
-        (Stage.Records section) (state_of Target.octets message.new)) }
-    ensures err { IfErr result (λ e. IfRefused e (Refuses Target.compresses line.now
-        (Stage.Records section) (state_of Target.octets message.old))) }
+    ensures ok { OnOk result (TakesEntry line.now (Stage.Records section)
+        message.old message.new) }
+    ensures err { IfErr result (LineNotTaken line.now (Stage.Records section) message.old) }
 {
     push_record(alloc, section, words, message)
 }
@@ -124,11 +113,8 @@ fn take_entry<Target: Composer>(
     message: &mut MessageBuilder<Target>,
 ) -> Result<(), Stop>
     requires { slice_index line.now 0 ≢ 59 }
-    ensures ok { OnOk result (Takes Target.compresses line.now
-        stage (state_of Target.octets message.old)
-        stage (state_of Target.octets message.new)) }
-    ensures err { IfErr result (λ e. IfRefused e (Refuses Target.compresses line.now
-        stage (state_of Target.octets message.old))) }
+    ensures ok { OnOk result (TakesEntry line.now stage message.old message.new) }
+    ensures err { IfErr result (LineNotTaken line.now stage message.old) }
 {
     let words = words_of(alloc, line, 0)?;
     let words = words.as_slice();
@@ -152,10 +138,8 @@ fn take_marked<Target: Composer>(
     message: &mut MessageBuilder<Target>,
 ) -> Result<Stage, Stop>
     requires { slice_index line.now 0 ≡ 59 }
-    ensures ok { IfOk result (λ next. Takes Target.compresses line.now
-        stage (state_of Target.octets message.old) next (state_of Target.octets message.new)) }
-    ensures err { IfErr result (λ e. IfRefused e (Refuses Target.compresses line.now
-        stage (state_of Target.octets message.old))) }
+    ensures ok { IfOk result (λ next. TakesLine line.now stage message.old next message.new) }
+    ensures err { IfErr result (LineNotTaken line.now stage message.old) }
 {
     if is_asked(line) {
         if let Stage::Questions = stage {
@@ -176,10 +160,8 @@ fn take_line<Target: Composer>(
     stage: Stage,
     message: &mut MessageBuilder<Target>,
 ) -> Result<Stage, Stop>
-    ensures ok { IfOk result (λ next. Takes Target.compresses line.now
-        stage (state_of Target.octets message.old) next (state_of Target.octets message.new)) }
-    ensures err { IfErr result (λ e. IfRefused e (Refuses Target.compresses line.now
-        stage (state_of Target.octets message.old))) }
+    ensures ok { IfOk result (λ next. TakesLine line.now stage message.old next message.new) }
+    ensures err { IfErr result (LineNotTaken line.now stage message.old) }
 {
     if line.len() > 0 && line[0] == b';' {
         return take_marked(alloc, line, stage, message);
@@ -225,10 +207,8 @@ pub(crate) fn take_lines<Target: Composer>(
     text: &[u8],
     message: &mut MessageBuilder<Target>,
 ) -> Result<(), MakeError>
-    ensures all { OnOk result (TakesAll Target.compresses text.now
-        (state_of Target.octets message.old) (state_of Target.octets message.new)) }
-    ensures refused { IfErr result (λ e. IfLine e
-        (StopsFrom Target.compresses text.now (state_of Target.octets message.old))) }
+    ensures all { OnOk result (TakesLines text.now message.old message.new) }
+    ensures refused { IfErr result (LinesNotTaken text.now message.old) }
 {
     let mut stage = Stage::Start;
     let mut at = 0;

@@ -1,12 +1,14 @@
 //! Lines that begin with a semicolon: those of a header, headings of sections, and comments.
-ghost use Rattle.std.specs.Prelude.{◌≡◌, ◌≢◌, ◌⊎◌, ◌++◌, ◌∷◌, [], ◌<◌, ℕ, List, MatchOption, IfOk, IfErr, IfSome, IsNone, IsTrue, ◌↔◌, codes, cond, false, length, slice_index};
+ghost use Rattle.std.specs.Prelude.{◌≡◌, ◌⊎◌, ◌++◌, ◌∷◌, [], ◌<◌, ℕ, List, IfOk, IfErr, IfSome, IsNone, IsTrue, ◌↔◌, codes, cond, false};
 ghost use Rattle.domain_header.specs.Headers.{SetsHigh, SetsLow};
 ghost use Rattle.domain_header.specs.Tables.{opcode_text, rcode_text};
 ghost use Rattle.domain_header.specs.Values.{opcode_number, rcode_number};
-ghost use Rattle.domain_data_text.specs.Faults.{IfRefused, Tells, Lacks};
+ghost use Rattle.domain_data_text.specs.Faults.{IfRefused};
 ghost use Rattle.domain_data_text.specs.Parts.{IsNumber16};
 ghost use Rattle.domain_make.specs.Refusals.{NoRemark};
-ghost use Rattle.domain_make.specs.Remarks.{IsTrimmed, IsCodesLine, AreCodes, SetsCodes, flag_words, words_before, BeginsWithFlags, SetsFlags, IsWithColon, IsHeading, EndsInSection, BeginsAsOpt, Remarks};
+ghost use Rattle.domain_make.specs.Remarks.{IsTrimmed, IsAfter, BeginsWith, BeginsOtherwise, FindsRest, HasNoOctet, IsCodesLine, IsOpcodeText, IsRcodeText};
+ghost use Rattle.domain_make.specs.Remarks.{AreTold, LacksPart, LacksCodes, SetsTold, flag_words, words_before, BeginsWithFlags, SetsFlags};
+ghost use Rattle.domain_make.specs.Remarks.{IsWithColon, IsHeading, EndsInSection, BeginsAsOpt, IsRefusedRemark, Remarks};
 ghost use Rattle.domain_data_text.specs.declared.error.Fault.{Fault};
 ghost use Rattle.domain_make.specs.declared.remark.Flags.{Flags};
 ghost use Rattle.domain_make.specs.declared.remark.Stage.{Stage};
@@ -21,8 +23,7 @@ use std::str::from_utf8;
 
 /// What a text has after this beginning.
 fn after<'a>(beginning: &[u8], text: &'a [u8]) -> Option<&'a [u8]>
-    ensures { MatchOption result ((rest : List ℕ) → text.now ≡ beginning.now ++ rest → ⊥)
-        (λ rest. text.now ≡ beginning.now ++ rest.now) }
+    ensures { FindsRest (IsAfter beginning.now text.now) result }
 {
     text.strip_prefix(beginning)
 }
@@ -44,10 +45,8 @@ pub(crate) fn trimmed(line: &[u8]) -> &[u8]
 /// What a text has before and after the first octet like this one.
 fn parted(text: &[u8], octet: u8) -> Option<(&[u8], &[u8])>
     ensures some { IfSome result (λ parts. text.now ≡ parts.0.now ++ (octet ∷ parts.1.now)) }
-    ensures first { IfSome result (λ parts. (k : ℕ) → k < length parts.0.now →
-        slice_index parts.0.now k ≢ octet) }
-    ensures none { IsNone result → (k : ℕ) → k < length text.now →
-        slice_index text.now k ≢ octet }
+    ensures first { IfSome result (λ parts. HasNoOctet octet parts.0.now) }
+    ensures none { IsNone result → HasNoOctet octet text.now }
 {
     for at in 0..text.len() {
         if text[at] == octet {
@@ -61,8 +60,7 @@ fn parted(text: &[u8], octet: u8) -> Option<(&[u8], &[u8])>
 fn opcode_of(alloc: Global, text: &[u8]) -> Result<Opcode, Stop>
     ensures text { IfOk result (λ code. text.now ≡ opcode_text (opcode_number code)) }
     ensures small { IfOk result (λ code. opcode_number code < 16) }
-    ensures err { IfErr result (λ e. IfRefused e
-        (Lacks (λ n. (n < 16) × (text.now ≡ opcode_text n)) Fault.Header 1)) }
+    ensures err { IfErr result (λ e. IfRefused e (LacksPart (IsOpcodeText text.now))) }
 {
     for number in 0..16_u8 {
         let opcode = Opcode::masked_from_int(number);
@@ -80,8 +78,7 @@ fn opcode_of(alloc: Global, text: &[u8]) -> Result<Opcode, Stop>
 fn rcode_of(alloc: Global, text: &[u8]) -> Result<Rcode, Stop>
     ensures text { IfOk result (λ code. text.now ≡ rcode_text (rcode_number code)) }
     ensures small { IfOk result (λ code. rcode_number code < 16) }
-    ensures err { IfErr result (λ e. IfRefused e
-        (Lacks (λ n. (n < 16) × (text.now ≡ rcode_text n)) Fault.Header 1)) }
+    ensures err { IfErr result (λ e. IfRefused e (LacksPart (IsRcodeText text.now))) }
 {
     for number in 0..16_u8 {
         let rcode = Rcode::masked_from_int(number);
@@ -98,8 +95,7 @@ fn rcode_of(alloc: Global, text: &[u8]) -> Result<Rcode, Stop>
 /// The identifier of this text.
 fn id_of(text: &[u8]) -> Result<u16, Stop>
     ensures ok { IfOk result (λ id. IsNumber16 text.now id) }
-    ensures err { IfErr result (λ e. IfRefused e
-        (Lacks (IsNumber16 text.now) Fault.Header 1)) }
+    ensures err { IfErr result (λ e. IfRefused e (LacksPart (IsNumber16 text.now))) }
 {
     let Ok(text) = from_utf8(text) else {
         return Err(Stop::Refused(Fault::Header, 1));
@@ -115,9 +111,8 @@ fn id_of(text: &[u8]) -> Result<u16, Stop>
 
 /// The text after this beginning, of a line of a header.
 fn header_part<'a>(beginning: &[u8], text: &'a [u8]) -> Result<&'a [u8], Stop>
-    ensures ok { IfOk result (λ rest. text.now ≡ beginning.now ++ rest.now) }
-    ensures err { IfErr result (λ e. IfRefused e
-        (Lacks (λ rest. text.now ≡ beginning.now ++ rest) Fault.Header 1)) }
+    ensures ok { IfOk result (λ rest. IsAfter beginning.now text.now rest.now) }
+    ensures err { IfErr result (λ e. IfRefused e (LacksPart (IsAfter beginning.now text.now))) }
 {
     let Some(rest) = after(beginning, text) else {
         return Err(Stop::Refused(Fault::Header, 1));
@@ -135,10 +130,8 @@ struct CodesTold {
 
 /// The codes and the identifier that a text tells, as `QUERY, status: NOERROR, id: 1`.
 fn codes_of(alloc: Global, text: &[u8]) -> Result<CodesTold, Stop>
-    ensures ok { IfOk result (λ told. AreCodes text.now
-        (opcode_number told.opcode) (rcode_number told.rcode) told.id) }
-    ensures err { IfErr result (λ e. IfRefused e (λ f c. Tells Fault.Header 1 f c
-        × ((opcode rcode id : ℕ) → AreCodes text.now opcode rcode id → ⊥))) }
+    ensures ok { IfOk result (λ told. AreTold text.now told) }
+    ensures err { IfErr result (λ e. IfRefused e (LacksCodes text.now)) }
 {
     let Some((opcode, rest)) = parted(text, b',') else {
         return Err(Stop::Refused(Fault::Header, 1));
@@ -156,8 +149,7 @@ fn codes_of(alloc: Global, text: &[u8]) -> Result<CodesTold, Stop>
 
 /// The header with these.
 fn with_codes(told: CodesTold, header: Header) -> Header
-    ensures { SetsCodes (opcode_number told.opcode) (rcode_number told.rcode) told.id
-        header result }
+    ensures { SetsTold told header result }
 {
     let mut header = header;
     header.set_id(told.id);
@@ -169,7 +161,7 @@ fn with_codes(told: CodesTold, header: Header) -> Header
 /// Whether a text begins with a word, and what follows it or the text.
 fn flag<'a>(word: &[u8], text: &'a [u8]) -> (bool, &'a [u8])
     ensures begins { text.now ≡ cond result.0 word.now [] ++ result.1.now }
-    ensures none { result.0 ≡ false → (rest : List ℕ) → text.now ≡ word.now ++ rest → ⊥ }
+    ensures none { result.0 ≡ false → BeginsOtherwise word.now text.now }
 {
     match after(word, text) {
         Some(rest) => (true, rest),
@@ -193,10 +185,8 @@ pub(crate) struct Flags {
 /// The flags that a text begins with, as ` qr rd; `, and what follows them.
 fn flags_before(text: &[u8]) -> (Flags, &[u8])
     ensures begins { text.now ≡ words_before (flag_words result.0) result.1.now }
-    ensures no_z { result.0.z ≡ false → (rest : List ℕ) →
-        result.1.now ≡ codes "; MBZ: 0x4" ++ rest → ⊥ }
-    ensures only { (flags : Flags) → BeginsWithFlags text.now flags →
-        (rest : List ℕ) × (result.1.now ≡ codes "; " ++ rest) }
+    ensures no_z { result.0.z ≡ false → BeginsOtherwise (codes "; MBZ: 0x4") result.1.now }
+    ensures only { (f : Flags) → BeginsWithFlags text.now f → BeginsWith (codes "; ") result.1.now }
 {
     let (qr, rest) = flag(b" qr", text);
     let (aa, rest) = flag(b" aa", rest);
@@ -222,8 +212,7 @@ fn flags_before(text: &[u8]) -> (Flags, &[u8])
 /// The flags that a text begins with, and a semicolon after them.
 fn flags_of(text: &[u8]) -> Result<Flags, Stop>
     ensures ok { IfOk result (λ flags. BeginsWithFlags text.now flags) }
-    ensures err { IfErr result (λ e. IfRefused e
-        (Lacks (BeginsWithFlags text.now) Fault.Header 1)) }
+    ensures err { IfErr result (λ e. IfRefused e (LacksPart (BeginsWithFlags text.now))) }
 {
     let (flags, rest) = flags_before(text);
     header_part(b"; ", rest)?;
@@ -336,8 +325,7 @@ fn is_of_opt(line: &[u8]) -> bool
 fn refused_remark(line: &[u8]) -> Option<Fault>
     ensures none { IsNone result →
         (EndsInSection line.now → ⊥) × (BeginsAsOpt line.now → ⊥) }
-    ensures some { IfSome result (λ f. (EndsInSection line.now × (f ≡ Fault.Heading))
-        ⊎ ((EndsInSection line.now → ⊥) × BeginsAsOpt line.now × (f ≡ Fault.Opt))) }
+    ensures some { IfSome result (λ f. IsRefusedRemark line.now f) }
 {
     if is_section(line) {
         return Some(Fault::Heading);
@@ -403,8 +391,7 @@ pub(crate) fn remark(
 
 /// What the first line of a header has after its beginning.
 fn codes_text(line: &[u8]) -> Option<&[u8]>
-    ensures { MatchOption result ((rest : List ℕ) → IsCodesLine line.now rest → ⊥)
-        (λ rest. IsCodesLine line.now rest.now) }
+    ensures { FindsRest (IsCodesLine line.now) result }
 {
     match after(b";; opcode: ", line) {
         Some(text) => Some(text),
