@@ -1,13 +1,25 @@
 -- What the words after the program's name ask for.
-use Rattle.std.specs.Prelude.{◌≡◌, ◌⊎◌, List, ℕ, [], ◌∷◌, Option, Bool, true, false, codes}
+use Rattle.std.specs.Prelude.{◌≡◌, ◌⊎◌, List, ℕ, [], ◌∷◌, Option, Bool, true, false, codes, map, IfSome}
+use denote.Bor.{Bor}
 use Rattle.std.specs.Io.KnownBytes.{Keeps}
 use Rattle.domain_tool.specs.Numerals.{IsOffsetWord}
+use Rattle.domain_tool.specs.declared.tool.ToolError.{ToolError}
+use Rattle.domain_tool.specs.declared.tool.ToolError.TheVariants as fault
 use Rattle.domain_walk.specs.Engines.{WritesFollowed}
 use Rattle.domain_walk.specs.Hexadecimal.{start, IsHexText, IsHexFault}
 use Rattle.domain_lines.specs.Messages.{WritesShown}
+use Rattle.domain_walk.specs.declared.hexadecimal.HexError.{HexError}
 use Rattle.domain_walk.specs.declared.hexadecimal.HexFault.{HexFault}
 use Rattle.domain_walk.specs.declared.engine.Asked.{Asked}
 use Rattle.domain_walk.specs.declared.engine.Asked.TheVariants.{Name, Message}
+
+-- the texts of the words
+abbrev pub texts : List (Bor (List ℕ)) → List (List ℕ)
+texts words = map (λ word. word.now) words
+
+-- Reading, writing or memory failed.
+abbrev pub IsOfStream : ToolError → Type 0
+IsOfStream e = (e ≡ fault.Read) ⊎ (e ≡ fault.Write) ⊎ (e ≡ fault.Memory)
 
 -- The word is this offset in decimal digits, or `message`.
 abbrev pub WordAsks : List ℕ → Asked → Type 0
@@ -45,3 +57,25 @@ NotInDigits hex given old new = (hex ≡ true) × ((fault : HexFault) × (line :
 abbrev pub IsAnswer : Asked → Bool → List ℕ → Bool → Option (List ℕ) → Option (List ℕ) → Type 0
 IsAnswer asked hex given true old new = WritesGiven asked hex given true old new
 IsAnswer asked hex given false old new = WritesGiven asked hex given false old new ⊎ NotInDigits hex given old new
+
+-- The words say that the message is in hexadecimal digits, and what is given isn't, and why.
+abbrev pub LacksDigits : Bool → List ℕ → HexError → Type 0
+LacksDigits hex given e = (hex ≡ true) × IsHexFault start given e.fault e.line e.column
+
+-- What was asked for was written of the message. `contents` tells what an output holds, where that is known.
+abbrev pub WritesOf : {W : Type 0} → (W → Option (List ℕ)) → Asked → List ℕ → W → W → Bool → Type 0
+WritesOf contents asked m old new found = WritesAsked asked m found (contents old) (contents new)
+
+-- The message was written to its end, or all before what can't be shown.
+abbrev pub ShowsOf : {W : Type 0} → (W → Option (List ℕ)) → List ℕ → W → W → Bool → Type 0
+ShowsOf contents m old new whole = WritesShown m whole (contents old) (contents new)
+
+-- What was asked for was written of the given message, where it is known what is given.
+abbrev pub Answers : {W : Type 0} → (W → Option (List ℕ)) → Asked → Bool → Option (List ℕ) → W → W → Bool → Type 0
+Answers contents asked hex given old new found =
+    IfSome given (λ given. IsAnswer asked hex given found (contents old) (contents new))
+
+-- The words ask for something, and that was written of the given message.
+abbrev pub AnswersWords : {W : Type 0} → List (List ℕ) → Option (List ℕ) → Bool → (W → Option (List ℕ)) → W → W → Type 0
+AnswersWords words given found contents old new =
+    (asked : Asked) × (hex : Bool) × AsksTo words asked hex × Answers contents asked hex given old new found

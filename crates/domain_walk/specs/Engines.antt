@@ -1,12 +1,12 @@
 -- What the program writes of a name that it follows.
-use Rattle.std.specs.Prelude.{◌≡◌, ℕ, ◌≤◌, List, [], ◌∷◌, ◌++◌, Option, Bool, true, false}
+use Rattle.std.specs.Prelude.{◌≡◌, ℕ, ◌≤◌, List, [], ◌∷◌, ◌++◌, Option, Bool, true, false, IfSome}
 use Rattle.std.specs.Io.KnownBytes.{Appends}
 use Rattle.domain_wire.specs.Refusals.{refusal_text}
 use Rattle.domain_label.specs.Text.{text_with_final_dot}
 use Rattle.domain_reading.specs.Grammar.{Names}
 use Rattle.domain_reading.specs.Faults.{NameFaultAt, error_of}
 use Rattle.domain_reading.specs.declared.fault.NameFault.{NameFault}
-use Rattle.domain_reading.specs.Limits.{max_pointers}
+use Rattle.domain_reading.specs.Limits.{max_pointers, max_heads}
 use Rattle.domain_walk.specs.Following.{FollowedThrough}
 pub use Rattle.domain_walk.specs.Lines.{count_text}
 
@@ -16,13 +16,27 @@ abbrev pub IsLastLine : List ℕ → ℕ → Bool → ℕ → List ℕ → Type 
 IsLastLine m p true count last = (ls : List (List ℕ)) × Names max_pointers m p ls × (last ≡ text_with_final_dot ls ++ count_text count)
 IsLastLine m p false count last = (f : NameFault) × NameFaultAt max_pointers m p f × (last ≡ refusal_text (error_of f) ++ count_text count)
 
--- A line was written for each label and pointer read from p on, at most 383, and a last line with the name or the
+-- A line was written for each label and pointer read from p on, at most `max_heads`, and a last line with the name or the
 -- reason why there is none.
 pub record WritesFollowed (m : List ℕ) (p : ℕ) (found : Bool) (old new : Option (List ℕ)) : Type 0 where
   pub lines : List ℕ
   pub last : List ℕ
   pub count : ℕ
-  pub few : count ≤ 383
+  pub few : count ≤ max_heads
   pub followed : FollowedThrough m p lines count
   pub ends : IsLastLine m p found count last
   pub appends : Appends old new (lines ++ (last ++ 10 ∷ []))
+
+-- The same of an output: `contents` tells what it holds, where that is known.
+abbrev pub Follows : {W : Type 0} → (W → Option (List ℕ)) → List ℕ → ℕ → W → W → Bool → Type 0
+Follows contents m p old new found = WritesFollowed m p found (contents old) (contents new)
+
+-- The same of the given message, where it is known what is given.
+abbrev pub FollowsGiven : {W : Type 0} → (W → Option (List ℕ)) → Option (List ℕ) → ℕ → W → W → Bool → Type 0
+FollowsGiven contents given p old new found =
+    IfSome given (λ m. WritesFollowed m p found (contents old) (contents new))
+
+-- A line was written for each label and pointer read from p on, and so many were read.
+abbrev pub StepLines : {W : Type 0} → (W → Option (List ℕ)) → List ℕ → ℕ → W → W → ℕ → Type 0
+StepLines contents m p old new count =
+    (lines : List ℕ) × FollowedThrough m p lines count × Appends (contents old) (contents new) lines

@@ -31,4 +31,4 @@ fault_line n m k fs r LongName x = long_line r x.0
 -- read, the last of them among them.
 pub data FollowedThrough (m : List ℕ) (p : ℕ) (lines : List ℕ) (count : ℕ) : Type 0 where
   to_root : {k r : ℕ} {fs : List (List ℕ)} (w : Followed max_pointers m p k fs r) → OctetAt m r 0 → lines ≡ walk_lines w ++ (root_line r ++ 10 ∷ []) → count ≡ length fs + k + 1 → FollowedThrough m p lines count
-  to_fault : {k r : ℕ} {fs : List (List ℕ)} (fault : NameFault) (w : Followed max_pointers m p k fs r) (x : StepFaultAt max_pointers m k fs r fault) → lines ≡ walk_lines w ++ (fault_line 255 m k fs r fault x ++ 10 ∷ []) → count ≡ length fs + k + 1 → FollowedThrough m p lines count
+  to_fault : {k r : ℕ} {fs : List (List ℕ)} (fault : NameFault) (w : Followed max_pointers m p k fs r) (x : StepFaultAt max_pointers m k fs r fault) → lines ≡ walk_lines w ++ (fault_line max_pointers m k fs r fault x ++ 10 ∷ []) → count ≡ length fs + k + 1 → FollowedThrough m p lines count

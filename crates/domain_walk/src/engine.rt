@@ -1,12 +1,11 @@
 //! The engine of the program `dnswalk`, over any reader and writer.
-ghost use Rattle.std.specs.Prelude.{◌≡◌, ◌≤◌, ◌↔◌, ◌⊎◌, map, true, false, Bool, Some, IfOk, IfErr, IfSome, IsNone, OnOk, OnErr};
+ghost use Rattle.std.specs.Prelude.{◌≡◌, ◌≤◌, ◌↔◌, true, false, Some, IfOk, IfErr, IfSome, IsNone, OnOk, OnErr};
 ghost use Rattle.std.specs.Bool.{OnTrue};
 ghost use Rattle.std.specs.Io.KnownBytes.{IsAtEnd};
-ghost use Rattle.domain_walk.specs.Asked.{AsksTo, AsksForSomething, WordAsks, WritesAsked, IsAnswer, IsMessage};
-ghost use Rattle.domain_tool.specs.declared.tool.ToolError.{ToolError};
-ghost use Rattle.domain_walk.specs.Engines.{WritesFollowed};
-ghost use Rattle.domain_walk.specs.Hexadecimal.{start, IsHexFault};
-ghost use Rattle.domain_lines.specs.Messages.{WritesShown};
+ghost use Rattle.domain_lines.specs.Streams.{EitherFailed};
+ghost use Rattle.domain_walk.specs.Asked.{texts, IsOfStream, AsksTo, AsksForSomething, WordAsks, IsMessage};
+ghost use Rattle.domain_walk.specs.Asked.{LacksDigits, WritesOf, ShowsOf, Answers, AnswersWords};
+ghost use Rattle.domain_walk.specs.Engines.{Follows, FollowsGiven};
 ghost use Rattle.domain_walk.specs.declared.engine.Asked.{Asked};
 
 use crate::follow::write_lines;
@@ -61,9 +60,7 @@ impl fmt::Display for RefusedLine {
 /// Writes a line for each label and pointer that reading the name at an offset of a message comes to, and a last line with
 /// the name or the reason why there is none. Returns whether there is a name.
 fn follow_in<W: Sink>(message: &[u8], output: &mut W, offset: u32) -> Result<bool, WriteFault>
-    ensures written { IfOk result
-        (λ found.
-        WritesFollowed message.now offset found (W.contents output.old) (W.contents output.new)) }
+    ensures written { IfOk result (Follows W.contents message.now offset output.old output.new) }
     ensures failed { OnErr result (W.failed output.new) }
 {
     let count = write_lines(message, offset as usize, output)?;
@@ -91,13 +88,11 @@ pub fn follow_name<R: Source, W: Sink>(
     offset: u32,
 ) -> Result<bool, ToolError>
     ensures whole { OnOk result (IsAtEnd (R.remaining input.new)) }
-    ensures written { IfOk result
-        (λ found. IfSome (R.remaining input.old)
-        (λ m. WritesFollowed m offset found (W.contents output.old) (W.contents output.new))) }
-    ensures err { IfErr result
-        (λ e. (e ≡ ToolError.Read) ⊎ (e ≡ ToolError.Write) ⊎ (e ≡ ToolError.Memory)) }
+    ensures written { IfOk result (FollowsGiven W.contents (R.remaining input.old) offset
+        output.old output.new) }
+    ensures err { IfErr result (λ e. IsOfStream e) }
     ensures failed { OnErr result
-        ((R.failed input.new × (output.new ≡ output.old)) ⊎ W.failed output.new) }
+        (EitherFailed R.failed input.new W.failed output.old output.new) }
 {
     let octets = match input.read_whole(alloc) {
         Ok(octets) => octets,
@@ -133,18 +128,14 @@ pub fn run<R: Source, W: Sink, E: Write>(
     errors: &mut E,
 ) -> u8
     ensures status { result ≤ 3 }
-    ensures done { result ≡ 0 →
-        (asked : Asked) × (hex : Bool) × AsksTo (map (λ word. word.now) words.now) asked hex
-        × IfSome (R.remaining input.old)
-        (λ given. IsAnswer asked hex given true (W.contents output.old) (W.contents output.new)) }
-    ensures none { result ≡ 1 →
-        (asked : Asked) × (hex : Bool) × AsksTo (map (λ word. word.now) words.now) asked hex
-        × IfSome (R.remaining input.old)
-        (λ given. IsAnswer asked hex given false (W.contents output.old) (W.contents output.new)) }
-    ensures usage { result ≡ 2 ↔ (AsksForSomething (map (λ word. word.now) words.now) → ⊥) }
+    ensures done { result ≡ 0 → AnswersWords (texts words.now) (R.remaining input.old) true
+        W.contents output.old output.new }
+    ensures none { result ≡ 1 → AnswersWords (texts words.now) (R.remaining input.old) false
+        W.contents output.old output.new }
+    ensures usage { result ≡ 2 ↔ (AsksForSomething (texts words.now) → ⊥) }
     ensures untouched { result ≡ 2 → (input.new ≡ input.old) × (output.new ≡ output.old) }
     ensures failed { result ≡ 3 →
-        ((R.failed input.new × (output.new ≡ output.old)) ⊎ W.failed output.new) }
+        EitherFailed R.failed input.new W.failed output.old output.new }
     ensures quiet { result ≡ 0 → errors.new ≡ errors.old }
 {
     let Some((asked, hex)) = asked_for(words) else {
@@ -171,11 +162,10 @@ fn carry_out<R: Source, W: Sink, E: Write>(
     output: &mut W,
     errors: &mut E,
 ) -> Result<bool, ToolError>
-    ensures done { IfOk result
-        (λ found. IfSome (R.remaining input.old)
-        (λ given. IsAnswer asked hex given found (W.contents output.old) (W.contents output.new))) }
+    ensures done { IfOk result (Answers W.contents asked hex (R.remaining input.old)
+        output.old output.new) }
     ensures failed { OnErr result
-        ((R.failed input.new × (output.new ≡ output.old)) ⊎ W.failed output.new) }
+        (EitherFailed R.failed input.new W.failed output.old output.new) }
     ensures quiet { IfOk result (λ found. OnTrue found (errors.new ≡ errors.old)) }
 {
     let mut octets = match input.read_whole(alloc) {
@@ -195,8 +185,7 @@ fn carry_out<R: Source, W: Sink, E: Write>(
 /// The octets of a message that is given as they are, or in hexadecimal digits.
 fn octets_of(hex: bool, given: &mut Vec<u8>) -> Result<&[u8], HexError>
     ensures ok { IfOk result (λ m. IsMessage hex given.old.items m.now) }
-    ensures err { IfErr result
-        (λ e. (hex ≡ true) × IsHexFault start given.old.items e.fault e.line e.column) }
+    ensures err { IfErr result (λ e. LacksDigits hex given.old.items e) }
 {
     if !hex {
         return Ok(given.as_slice());
@@ -213,9 +202,7 @@ fn answer<W: Sink, E: Write>(
     output: &mut W,
     errors: &mut E,
 ) -> Result<bool, ToolError>
-    ensures written { IfOk result
-        (λ found.
-        WritesAsked asked message.now found (W.contents output.old) (W.contents output.new)) }
+    ensures written { IfOk result (WritesOf W.contents asked message.now output.old output.new) }
     ensures failed { OnErr result (W.failed output.new) }
     ensures quiet { IfOk result (λ found. OnTrue found (errors.new ≡ errors.old)) }
 {
@@ -227,9 +214,7 @@ fn answer<W: Sink, E: Write>(
 
 /// Follows the name, and flushes the output.
 fn follow<W: Sink>(message: &[u8], output: &mut W, offset: u32) -> Result<bool, ToolError>
-    ensures written { IfOk result
-        (λ found.
-        WritesFollowed message.now offset found (W.contents output.old) (W.contents output.new)) }
+    ensures written { IfOk result (Follows W.contents message.now offset output.old output.new) }
     ensures failed { OnErr result (W.failed output.new) }
 {
     let found = follow_in(message, output, offset)?;
@@ -243,8 +228,7 @@ fn show<W: Sink, E: Write>(
     output: &mut W,
     errors: &mut E,
 ) -> Result<bool, ToolError>
-    ensures written { IfOk result
-        (λ whole. WritesShown message.now whole (W.contents output.old) (W.contents output.new)) }
+    ensures written { IfOk result (ShowsOf W.contents message.now output.old output.new) }
     ensures failed { OnErr result (W.failed output.new) }
     ensures quiet { IfOk result (λ whole. OnTrue whole (errors.new ≡ errors.old)) }
 {
@@ -267,8 +251,8 @@ fn show<W: Sink, E: Write>(
 /// What the words ask for, and whether the message is in hexadecimal digits.
 fn asked_for(words: &[&str]) -> Option<(Asked, bool)>
     ensures some { IfSome result
-        (λ asked. AsksTo (map (λ word. word.now) words.now) asked.0 asked.1) }
-    ensures none { IsNone result → AsksForSomething (map (λ word. word.now) words.now) → ⊥ }
+        (λ asked. AsksTo (texts words.now) asked.0 asked.1) }
+    ensures none { IsNone result → AsksForSomething (texts words.now) → ⊥ }
 {
     if let Some(asked) = asked_plainly(words) {
         return Some((asked, false));
@@ -281,9 +265,9 @@ fn asked_for(words: &[&str]) -> Option<(Asked, bool)>
 
 /// What one word alone asks for.
 fn asked_plainly(words: &[&str]) -> Option<Asked>
-    ensures some { IfSome result (λ asked. AsksTo (map (λ word. word.now) words.now) asked false) }
+    ensures some { IfSome result (λ asked. AsksTo (texts words.now) asked false) }
     ensures none { IsNone result → (asked : Asked) →
-        AsksTo (map (λ word. word.now) words.now) asked false → ⊥ }
+        AsksTo (texts words.now) asked false → ⊥ }
 {
     match words {
         [word] => asked_by(word),
@@ -293,9 +277,9 @@ fn asked_plainly(words: &[&str]) -> Option<Asked>
 
 /// What a word with `--hex` behind it asks for.
 fn asked_in_digits(words: &[&str]) -> Option<Asked>
-    ensures some { IfSome result (λ asked. AsksTo (map (λ word. word.now) words.now) asked true) }
+    ensures some { IfSome result (λ asked. AsksTo (texts words.now) asked true) }
     ensures none { IsNone result → (asked : Asked) →
-        AsksTo (map (λ word. word.now) words.now) asked true → ⊥ }
+        AsksTo (texts words.now) asked true → ⊥ }
 {
     match words {
         [word, "--hex"] => asked_by(word),

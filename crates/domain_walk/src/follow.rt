@@ -1,10 +1,11 @@
 //! Following a name: a line for each label and each pointer that reading it comes to.
 ghost use Rattle.std.specs.Prelude.{◌≡◌, ◌≤◌, ◌<◌, ◌+◌, ℕ, List, length, IfOk, OnErr};
-ghost use Rattle.std.specs.Io.KnownBytes.{Appends};
 ghost use Rattle.domain_label.specs.Labels.{label_octets};
 ghost use Rattle.domain_reading.specs.Grammar.{LabelAt};
 ghost use Rattle.domain_reading.specs.Heads.{BrokenAt};
-ghost use Rattle.domain_walk.specs.Following.{FollowedThrough, broken_line};
+ghost use Rattle.domain_reading.specs.Limits.{max_heads};
+ghost use Rattle.domain_walk.specs.Engines.{StepLines};
+ghost use Rattle.domain_walk.specs.Following.{broken_line};
 ghost use Rattle.domain_walk.specs.Lines.{step_line, refused_line};
 
 use crate::step::Step;
@@ -77,9 +78,8 @@ fn write_steps<W: Sink, L: Ledger>(
     heads: &mut Heads<L>,
 ) -> Result<u16, WriteFault>
     ensures followed { IfOk result
-        (λ count. (lines : List ℕ) × FollowedThrough message.now offset lines count
-        × Appends (W.contents output.old) (W.contents output.new) lines) }
-    ensures few { IfOk result (λ count. count ≤ 383) }
+        (StepLines W.contents message.now offset output.old output.new) }
+    ensures few { IfOk result (λ count. count ≤ max_heads) }
     ensures failed { OnErr result (W.failed output.new) }
 {
     let mut progress = Progress::new(offset);
@@ -127,9 +127,8 @@ fn write_counted<W: Sink, L: Ledger>(
     requires parts { blank.parts ≡ L.parts }
     requires some { 0 < blank.parts }
     ensures followed { IfOk result
-        (λ count. (lines : List ℕ) × FollowedThrough message.now offset lines count
-        × Appends (W.contents output.old) (W.contents output.new) lines) }
-    ensures few { IfOk result (λ count. count ≤ 383) }
+        (StepLines W.contents message.now offset output.old output.new) }
+    ensures few { IfOk result (λ count. count ≤ max_heads) }
     ensures failed { OnErr result (W.failed output.new) }
 {
     let mut table = [0; MAX_LABELS];
@@ -145,9 +144,8 @@ pub fn write_lines<W: Sink>(
     output: &mut W,
 ) -> Result<u16, WriteFault>
     ensures followed { IfOk result
-        (λ count. (lines : List ℕ) × FollowedThrough message.now offset lines count
-        × Appends (W.contents output.old) (W.contents output.new) lines) }
-    ensures few { IfOk result (λ count. count ≤ 383) }
+        (StepLines W.contents message.now offset output.old output.new) }
+    ensures few { IfOk result (λ count. count ≤ max_heads) }
     ensures failed { OnErr result (W.failed output.new) }
 {
     write_counted::<W, Brand>(message, offset, output, Blank::new(1))

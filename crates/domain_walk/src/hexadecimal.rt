@@ -1,6 +1,7 @@
 //! Octets that are written in hexadecimal digits.
 ghost use Rattle.std.specs.Prelude.{◌+◌, ◌<◌, ◌≤◌, ◌↔◌, length, take, drop, slice_index, Some, IfOk, IfErr, IfSome, IsNone, IsTrue, OnOk};
-ghost use Rattle.domain_walk.specs.Hexadecimal.{IsWhite, IsHexDigit, IsNoHexDigit, BeginsWithOctet, BeginsWithNone, IsHexText, start, IsHexFault, hex_error_text};
+ghost use Rattle.domain_walk.specs.Hexadecimal.{IsWhite, IsHexDigit, IsNoHexDigit, BeginsWithOctet, BeginsWithNone};
+ghost use Rattle.domain_walk.specs.Hexadecimal.{IsHexText, start, IsHexFault, hex_error_text};
 
 use std::error::Error;
 use std::fmt;
