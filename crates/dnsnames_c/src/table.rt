@@ -101,8 +101,8 @@ fn take_entry(
 fn fill(message: &[u8], limit: u8, rows: &mut [u32], names: &mut [u8]) -> Filled
     requires header { 12 ≤ length message.now }
     requires small { length message.now < 2 ^ 32 }
-    ensures holds { Holds limit message.now result.taken.count result.taken.offset result.taken.names
-        rows.old rows.new names.old names.new }
+    ensures holds { Holds limit message.now result.taken.count result.taken.offset
+        result.taken.names rows.old rows.new names.old names.new }
     ensures stops { Stops limit message.now result.taken.count result.taken.offset
         (length rows.old) result.taken.names (length names.old) result.status }
 {
