@@ -75,7 +75,7 @@ export interface Composer {
 }
 
 /** A message that is built: names in data are compressed where the record's type is one of RFC 1035. */
-export interface Builder {
+export interface MessageBuilder {
     question(name: Uint8Array, type: number, class_?: number): void;
     record(
         section: Section,
@@ -134,6 +134,6 @@ export class DnsNames {
     table(message: Uint8Array): NamedEntry[];
     mnemonic(kind: Kind, number: number): string;
     numberOf(kind: Kind, text: string): number;
-    builder(options?: { capacity?: number; id?: number; flags?: number }): Builder;
+    builder(options?: { capacity?: number; id?: number; flags?: number }): MessageBuilder;
     composer(capacity?: number): Composer;
 }

@@ -17,13 +17,13 @@ def _word(number: int, bits: int) -> int:
     return number
 
 
-class Builder:
+class MessageBuilder:
     """A message that is built (RFC 1035, 4.1): questions, and then records, section by section. Each is pushed whole, or
     not at all: after a refusal all is as it was. Names of questions and owners of records are compressed, and names in
     data of the types of RFC 1035.
 
     >>> from dnsnames import Flags, Message, Name, NoRoom, Type
-    >>> query = Builder(id=0x1234, flags=Flags.RD)
+    >>> query = MessageBuilder(id=0x1234, flags=Flags.RD)
     >>> query.question(Name("example.com"), Type.MX)
     >>> query.opt(size=1232)
     >>> Message(query.finish()).header
@@ -98,7 +98,7 @@ class Builder:
         Raises WrongOrder where a later section has a record, NoRoom, TooManyEntries, NoBuilder; ValueError for another
         section.
 
-        >>> answer = Builder(512)
+        >>> answer = MessageBuilder(512)
         >>> answer.record("answer", Name("a.example"), Type.MX, b"\\0\\x0a" + bytes(Name("b.example")), ttl=60)
         >>> answer.record("answer", Name("b.example"), Type.A, bytes([192, 0, 2, 1]), ttl=60)
         >>> for record in Message(answer.finish()).answers():
@@ -133,7 +133,7 @@ class Builder:
     def truncate(self) -> None:
         """Takes all records away again, and sets the flag TC (RFC 2181, 9). Raises NoBuilder.
 
-        >>> answer = Builder(64)
+        >>> answer = MessageBuilder(64)
         >>> answer.question(Name("a.example"), Type.TXT)
         >>> try:
         ...     answer.record("answer", Name("a.example"), Type.TXT, b"\\x32" + b"x" * 50)

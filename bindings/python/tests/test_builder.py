@@ -4,7 +4,7 @@ import io
 import struct
 import unittest
 
-from dnsnames import Builder, Message, Name, NoRoom, Type
+from dnsnames import Message, MessageBuilder, Name, NoRoom, Type
 
 from .test_texts import Words
 
@@ -40,7 +40,7 @@ class Compressed(unittest.TestCase):
     """The question is www.example.com, at 12; the record's owner is example.com, and its data begin at 45."""
 
     def data(self, type_: int, octets: bytes) -> bytes:
-        builder = Builder(512)
+        builder = MessageBuilder(512)
         builder.question(Name("www.example.com"), Type.A)
         builder.record("authority", Name("example.com"), type_, octets)
         message = builder.finish()
@@ -72,11 +72,11 @@ class Compressed(unittest.TestCase):
     def test_refusals(self):
         """At each limit that is too small nothing changes, and what has room is pushed as ever."""
         name, data = Name("example.net"), bytes(Name("ns.example.net"))
-        whole = Builder(512)
+        whole = MessageBuilder(512)
         whole.record("authority", name, Type.NS, data)
         size = len(whole)
         for limit in range(12, size):
-            builder = Builder(512)
+            builder = MessageBuilder(512)
             builder.limit = limit
             with self.subTest(limit=limit), self.assertRaises(NoRoom):
                 builder.record("authority", name, Type.NS, data)
@@ -103,7 +103,7 @@ class ReadByDnspython(unittest.TestCase):
         return records
 
     def built(self, asked, records: list) -> bytes:
-        builder = Builder(65535, id=7)
+        builder = MessageBuilder(65535, id=7)
         builder.question(Name.from_wire(asked.to_wire()), Type.A)
         for section, owner, type_, ttl, data in records:
             builder.record(section, Name.from_wire(owner.to_wire()), type_, data.to_wire(), ttl=ttl)

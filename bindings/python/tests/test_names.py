@@ -13,7 +13,7 @@ import sys
 import unittest
 
 import dnsnames
-from dnsnames import Builder, Composer, Message, Name, Type, read, skip
+from dnsnames import Composer, Message, MessageBuilder, Name, Type, read, skip
 from dnsnames import _library
 from dnsnames._message import Sections
 
@@ -334,7 +334,7 @@ class Messages(unittest.TestCase):
 
 def of_data(type_, data, class_=1, ttl=0, flags=0x8183):
     """A message of one record, of the root."""
-    builder = Builder(700, flags=flags)
+    builder = MessageBuilder(700, flags=flags)
     builder.record("answer", Name("."), type_, data, class_=class_, ttl=ttl)
     return next(Message(builder.finish()).records())
 
@@ -470,7 +470,7 @@ class Texts(unittest.TestCase):
 
 class Builders(unittest.TestCase):
     def test_a_message(self):
-        builder = Builder(512, id=0x1234, flags=0x8180)
+        builder = MessageBuilder(512, id=0x1234, flags=0x8180)
         www, host = Name("www.example.com"), Name("host.example.com")
         builder.question(www, Type.A)
         builder.record("answer", www, Type.CNAME, bytes(host), ttl=3600)
@@ -487,7 +487,7 @@ class Builders(unittest.TestCase):
                 call()
 
     def test_refusals(self):
-        builder, name = Builder(40), Name("a.example")
+        builder, name = MessageBuilder(40), Name("a.example")
         builder.question(name, Type.NS)
         size, builder.limit = len(builder), len(builder) + 3
         with self.assertRaises(dnsnames.NoRoom):
@@ -508,7 +508,7 @@ class Builders(unittest.TestCase):
         builder.truncate()
         self.assertEqual(Message(builder.finish()).header, (7, 0x8200, 1, 0, 0, 0))
         with self.assertRaises(dnsnames.NoRoom):
-            Builder(11)
+            MessageBuilder(11)
 
 
 @unittest.skipUnless(HEADER.exists(), "the header isn't beside this folder")

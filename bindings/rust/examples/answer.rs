@@ -2,7 +2,7 @@
 //!
 //! The zone's name is compressed where it is repeated, in the data too, since names in those of MX may be (RFC 1035).
 
-use dnsnames::{Builder, Class, Fault, Header, Message, Name, Row, Section, Type, MAX_LEN};
+use dnsnames::{Class, Fault, Header, Message, MessageBuilder, Name, Row, Section, Type, MAX_LEN};
 
 const MX: u16 = Type::MX.0;
 const IN: u16 = Class::IN.0;
@@ -10,7 +10,7 @@ const FLAGS: u16 = Header::QR | Header::RD | Header::RA;
 
 /// The response in the octets (RFC 1035, 4.1).
 fn response<'a>(octets: &'a mut [u8], zone: Name<'_>, ttl: u32, exchange: Name<'_>) -> Result<&'a [u8], Fault> {
-    let mut builder = Builder::new(octets, 0x1234, FLAGS)?;
+    let mut builder = MessageBuilder::new(octets, 0x1234, FLAGS)?;
     builder.question(zone, MX, IN)?;
     let data = [&[0, 10], exchange.as_slice()].concat();
     builder.record(Section::Answer, zone, MX, IN, ttl, &data)?;

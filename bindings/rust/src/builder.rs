@@ -12,10 +12,10 @@ use dnsnames_sys::*;
 /// compressed, and names in data of the types of RFC 1035.
 ///
 /// ```
-/// use dnsnames::{Builder, Message, Name, Section};
+/// use dnsnames::{Message, MessageBuilder, Name, Section};
 ///
 /// let mut octets = [0; 512];
-/// let mut builder = Builder::new(&mut octets, 0x1234, 0x8180)?;
+/// let mut builder = MessageBuilder::new(&mut octets, 0x1234, 0x8180)?;
 /// let name = Name::from_slice(b"\x01a\x07example\0")?;
 /// builder.question(name, 1, 1)?;
 /// builder.record(Section::Answer, name, 1, 1, 60, &[192, 0, 2, 1])?;
@@ -25,20 +25,20 @@ use dnsnames_sys::*;
 /// # Ok::<(), dnsnames::Fault>(())
 /// ```
 #[derive(Debug)]
-pub struct Builder<'a> {
+pub struct MessageBuilder<'a> {
     fields: dnsnames_builder,
     octets: PhantomData<&'a mut [u8]>,
 }
 
 // SAFETY: the octets that the pointer leads to are lent to the builder alone, as by a `&mut [u8]`.
-unsafe impl Send for Builder<'_> {}
+unsafe impl Send for MessageBuilder<'_> {}
 // SAFETY: no call reads or writes them through a shared reference.
-unsafe impl Sync for Builder<'_> {}
+unsafe impl Sync for MessageBuilder<'_> {}
 
-impl<'a> Builder<'a> {
+impl<'a> MessageBuilder<'a> {
     /// Begins a message of at most these octets, and 65,535, with an identifier and the header's sixteen bits of flags.
     /// `NoRoom` below the header's twelve octets.
-    pub fn new(octets: &'a mut [u8], id: u16, flags: u16) -> Result<Builder<'a>, Fault> {
+    pub fn new(octets: &'a mut [u8], id: u16, flags: u16) -> Result<MessageBuilder<'a>, Fault> {
         let state = dnsnames_builder_state {
             limit: 0,
             len: 0,
@@ -58,7 +58,7 @@ impl<'a> Builder<'a> {
         // SAFETY: as in `read`.
         let status = unsafe { dnsnames_builder_start(&mut fields, octets.as_mut_ptr(), octets.len(), id, flags) };
         Fault::check(status, Some(12))?;
-        Ok(Builder { fields, octets: PhantomData })
+        Ok(MessageBuilder { fields, octets: PhantomData })
     }
 
     /// Pushes a question. `WrongOrder` where a record was pushed, `NoRoom`, `TooManyEntries`.

@@ -27,7 +27,7 @@ mod name;
 mod name_buf;
 mod table;
 
-pub use builder::Builder;
+pub use builder::MessageBuilder;
 pub use fault::Fault;
 pub use message::{
     Composer, EdnsOption, Header, Message, Opt, Options, Question, Questions, Record, Records, Section, Strings,

@@ -307,7 +307,7 @@ fn names_of_numbers() {
 fn built() {
     let (mut octets, mut buffer, mut other) = ([0; 56], [0; MAX_LEN], [0; MAX_LEN]);
     let (owner, host) = (name("www.example.com", &mut buffer), name("host.example.com", &mut other));
-    let mut builder = Builder::new(&mut octets, 7, 0x0100).unwrap();
+    let mut builder = MessageBuilder::new(&mut octets, 7, 0x0100).unwrap();
     builder.question(owner, 1, 1).unwrap();
     builder.record(Section::Answer, owner, 5, 1, 60, b"").unwrap();
     assert_eq!(builder.question(owner, 1, 1), Err(Fault::WrongOrder));
@@ -322,7 +322,7 @@ fn built() {
     let header = Header { id: 9, flags: 0x8300, questions: 1, answers: 0, authority: 0, additional: 1 };
     assert_eq!((message.header(), message.as_slice().len()), (Ok(header), 44));
     assert_eq!(message.records().unwrap().next().unwrap().unwrap().ttl, 0x8000);
-    assert!(matches!(Builder::new(&mut [0; 11], 0, 0), Err(Fault::NoRoom(Some(12)))));
+    assert!(matches!(MessageBuilder::new(&mut [0; 11], 0, 0), Err(Fault::NoRoom(Some(12)))));
 }
 
 #[test]
@@ -330,7 +330,7 @@ fn built_data() {
     let data_of = |rtype: u16, data: &[u8]| {
         let (mut octets, mut buffer, mut other) = ([0; 512], [0; MAX_LEN], [0; MAX_LEN]);
         let (asked, owner) = (name("www.example.com", &mut buffer), name("example.com", &mut other));
-        let mut builder = Builder::new(&mut octets, 7, 0).unwrap();
+        let mut builder = MessageBuilder::new(&mut octets, 7, 0).unwrap();
         builder.question(asked, 1, 1).unwrap();
         builder.record(Section::Authority, owner, rtype, 1, 0, data).unwrap();
         builder.finish().unwrap()[45..].to_vec()
