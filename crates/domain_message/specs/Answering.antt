@@ -2,6 +2,8 @@
 use Rattle.std.specs.Prelude.{◌≡◌, ℕ, ◌==◌, Bool, IsTrue, List, length, slice_index}
 use Rattle.std.specs.Cmp.Lexicographic.{pointwise}
 use Rattle.std.specs.Ordering.{on, eq_of_both}
+use Rattle.octseq.specs.Parsing.{message, position}
+use Rattle.octseq.specs.declared.parse.Parser.{Parser}
 use Rattle.domain_list.specs.Order.{same_name}
 use Rattle.domain_header.specs.Bits.{bit}
 use Rattle.domain_header.specs.Numbers.{number16}
@@ -36,6 +38,17 @@ pub record SameNext (m : List ℕ) (p e : ℕ) (o : List ℕ) (q f : ℕ) : Type
 -- No equal questions are at p of m and at q of o.
 abbrev pub OtherNext : List ℕ → ℕ → List ℕ → ℕ → Type 0
 OtherNext m p o q = (e f : ℕ) → SameNext m p e o q f → ⊥
+
+-- Equal questions are at two parsers, ours and theirs, and end where these are afterwards.
+abbrev pub ReadsSame : Parser → Parser → Parser → Parser → Type 0
+ReadsSame ours our_end theirs their_end =
+    SameNext (message ours) (position ours) (position our_end) (message theirs) (position theirs)
+    (position their_end)
+
+-- No equal questions are at the two parsers.
+abbrev pub ReadsOther : Parser → Parser → Type 0
+ReadsOther ours theirs =
+    OtherNext (message ours) (position ours) (message theirs) (position theirs)
 
 -- The message m answers the message o: it is a response with the same identifier, and the questions are the same
 -- (RFC 1035, 4.1.1 and 7.3).

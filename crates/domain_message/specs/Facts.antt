@@ -1,5 +1,5 @@
 -- For callers: entries after others.
-use Rattle.std.proofs.Common.{◌≡◌, ℕ, List, [], ◌∷◌, ◌++◌, refl, subst}
+use Rattle.std.proofs.Common.{ℕ, List, [], ◌∷◌, ◌++◌, refl, subst}
 use Rattle.domain_message.specs.Sections.{Run}
 
 -- an entry after others

@@ -9,7 +9,10 @@ use Rattle.domain_parsed.specs.ParsedNames.{parsed_labels}
 use Rattle.domain_header.specs.Values.{class_number, ttl_seconds}
 use Rattle.domain_record.specs.Entries.{RecordFields, RecordAt, NoRecord}
 use Rattle.domain_record.specs.RecordParts.{owner_of, class_of, ttl_of, data_of}
+use Rattle.domain_record.specs.RecordModel.{record_fields}
+use Rattle.domain_message.specs.Members.{ParseMembers}
 use Rattle.domain_message.specs.Sections.{Run}
+use Rattle.domain_record.specs.declared.record.ParsedRecord.{ParsedRecord}
 use Rattle.domain_record.specs.declared.resource_record.Record.{Record}
 use Rattle.domain_message.specs.declared.kept.RecordIter.{RecordIter}
 
@@ -122,3 +125,37 @@ GivesKept {g = g} type_of seen reads_type Encodes Fails Becomes s r t =
     × TakesKept (keeps reads_type (kept_class s)) (IsMadeOf {g = g} type_of seen Encodes)
     (HasDataError Becomes Fails) Becomes (message (kept_parser s)) (position (kept_parser s))
     (kept_left s) r (position (kept_parser t)) (kept_left t)
+
+-- Where a record's data is read as values of `D`, `d` is `D.ParseRecordData`. The record's type has no such data.
+abbrev pub HasOtherType : {D : Type 0} → ParseMembers D → ParsedRecord → Type 0
+HasOtherType d it = d.reads_type (record_fields it).header.rtype ≡ false
+
+-- The record was made of the one that was read, and has its data.
+abbrev pub IsReadOf : {O D : Type 0} {g : Ghosts O} → ParseMembers D → ParsedRecord → Record (ParsedName O g) D → Type 0
+IsReadOf {g = g} d it made = IsMadeOf {g = g} d.type_number d.model d.encodes (record_fields it) made
+
+-- The data of the record that was read has an error, which is returned as e.
+abbrev pub DataFails : {D E : Type 0} → (ParseError → E → Type 0) → ParseMembers D → ParsedRecord → E → Type 0
+DataFails Becomes d it e = HasDataError Becomes d.fails_with (record_fields it) e
+
+-- The class of the record is asked for, and its type has such data.
+abbrev pub IsKept : {D : Type 0} → ParseMembers D → Bool → ParsedRecord → Type 0
+IsKept d only_in it = keeps d.reads_type only_in (record_fields it) ≡ true
+
+-- The class of the record isn't asked for, or its type has no such data.
+abbrev pub Skips : {D : Type 0} → ParseMembers D → Bool → ParsedRecord → Type 0
+Skips d only_in it = keeps d.reads_type only_in (record_fields it) ≡ false
+
+-- The record is kept, and the other was made of it.
+abbrev pub KeepsAs : {O D : Type 0} {g : Ghosts O} → ParseMembers D → Bool → ParsedRecord → Record (ParsedName O g) D → Type 0
+KeepsAs d only_in it made = IsKept d only_in it × IsReadOf d it made
+
+-- The record is kept, and its data has an error, which is returned as e.
+abbrev pub KeepsButFails : {D E : Type 0} → (ParseError → E → Type 0) → ParseMembers D → Bool → ParsedRecord → E → Type 0
+KeepsButFails Becomes d only_in it e = IsKept d only_in it × DataFails Becomes d it e
+
+-- A call at a parser, with n records left, took the next that is kept, as `TakesKept` says; then the parser is the other, and k are left.
+abbrev pub TakesNext : {O D E : Type 0} {g : Ghosts O} → (ParseError → E → Type 0) → ParseMembers D → Bool → Parser → ℕ → Option (Result (Record (ParsedName O g) D) E) → Parser → ℕ → Type 0
+TakesNext {g = g} Becomes d only_in from n r to k =
+    TakesKept (keeps d.reads_type only_in) (IsMadeOf {g = g} d.type_number d.model d.encodes)
+    (HasDataError Becomes d.fails_with) Becomes (message from) (position from) n r (position to) k

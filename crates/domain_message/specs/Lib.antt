@@ -5,6 +5,8 @@ pub mod Answering
 pub mod Facts
 pub mod Kept
 pub mod Laws
+pub mod Members
+pub mod MessageParts
 pub mod Messages
 pub mod Runs
 pub mod SectionOrder

@@ -10,6 +10,7 @@ use Rattle.domain_record.specs.RecordModel.{record_fields}
 use Rattle.domain_header.specs.Numbers.{number16}
 use Rattle.domain_record.specs.declared.question.Question.{Question}
 use Rattle.domain_record.specs.declared.record.ParsedRecord.{ParsedRecord}
+use Rattle.domain_message.specs.SectionOrder.{section_after}
 use Rattle.domain_message.specs.declared.section.QuestionSection.{QuestionSection}
 use Rattle.domain_message.specs.declared.section.RecordSection.{RecordSection}
 use Rattle.domain_message.specs.declared.section.Section.{Section}
@@ -114,6 +115,31 @@ pub data Misses {V : Type 0} (At : List ℕ → ℕ → V → ℕ → Type 0)
     (why : ParseError) : Type 0 where
   before : c ≡ Err why → Misses At Fails m p c why
   now : (n : ℕ) → c ≡ Ok n → Lacks At Fails m p n why → Misses At Fails m p c why
+
+-- The questions that were left are there, and the answer section begins after them.
+abbrev pub BeginsAfterQuestions : QuestionSection → RecordSection → Type 0
+BeginsAfterQuestions s it =
+    BeginsAfter QuestionAt (questions_message s) (questions_offset s) (questions_left s) Answer it
+
+-- A question that was left is missing, or was before, and why.
+abbrev pub MissesQuestion : QuestionSection → ParseError → Type 0
+MissesQuestion s why =
+    Misses QuestionAt NoQuestion (questions_message s) (questions_offset s) (questions_left s) why
+
+-- No section follows that of these records.
+abbrev pub IsLastSection : RecordSection → Type 0
+IsLastSection s = section_after (records_section s) ≡ None
+
+-- The records that were left are there, and the section that follows begins after them.
+abbrev pub BeginsAfterRecords : RecordSection → RecordSection → Type 0
+BeginsAfterRecords s it =
+    (next : Section) × (section_after (records_section s) ≡ Some next)
+    × BeginsAfter RecordAt (records_message s) (records_offset s) (records_left s) next it
+
+-- A record that was left is missing, or was before, and why.
+abbrev pub MissesRecord : RecordSection → ParseError → Type 0
+MissesRecord s why =
+    Misses RecordAt NoRecord (records_message s) (records_offset s) (records_left s) why
 
 -- All questions that the header counts are there, and end before e.
 abbrev pub QuestionsTo : List ℕ → ℕ → Type 0

@@ -1,13 +1,9 @@
 //! The canonical name of a question: the end of a chain of CNAME records.
-ghost use Rattle.std.specs.Prelude.{◌≡◌, ◌⊎◌, ℕ, List, IfSome, IsNone, Some, None};
+ghost use Rattle.std.specs.Prelude.{◌⊎◌, IfSome, IsNone, None};
 ghost use Rattle.domain_parsed.specs.ParsedNames.{parsed_labels};
-ghost use Rattle.domain_message.specs.Aliases.{IsAlias, IsCanonical, IsCanonicalWithin};
-ghost use Rattle.domain_message.specs.AliasParts.{GivesAlias, GivesCnames, EndsBefore, LeadsOn, Asked};
-ghost use Rattle.domain_message.specs.Messages.{message_octets};
-ghost use Rattle.domain_record.specs.RecordModel.{record_fields};
-ghost use Rattle.domain_message.specs.Sections.{NoQuestions};
-ghost use Rattle.domain_header.specs.Numbers.{number16};
-ghost use Rattle.domain_wire.specs.declared.error.ParseError.{ParseError};
+ghost use Rattle.domain_message.specs.AliasParts.{LeadsTo, LeadsNowhere, GivesAlias, FirstLeadsTo, GivesCnames, ChainEndsAt, LeadsOn, AskedIn};
+ghost use Rattle.domain_message.specs.AliasParts.{HasCanonicalName, HasNoCanonicalName, HasCanonicalNameWithin, HasNoCanonicalNameWithin};
+ghost use Rattle.domain_message.specs.MessageParts.{CountsNoQuestion, HasMissingQuestion};
 
 use crate::message::Message;
 use crate::section::RecordSection;
@@ -26,11 +22,8 @@ fn alias_of<'a>(
     found: &ParsedRecord<'a>,
     name: &ParsedName<&'a [u8]>,
 ) -> Option<ParsedName<&'a [u8]>>
-    ensures some { IfSome result
-        (λ target.
-        IsAlias (record_fields found.now) (parsed_labels name.now) (parsed_labels target)) }
-    ensures none { IsNone result → (target : List (List ℕ)) →
-        IsAlias (record_fields found.now) (parsed_labels name.now) target → ⊥ }
+    ensures some { IfSome result (LeadsTo found.now name.now) }
+    ensures none { IsNone result → LeadsNowhere found.now name.now }
 {
     if found.rtype().to_int() != CNAME {
         return None;
@@ -54,9 +47,7 @@ fn first_alias<'a>(
     records: RecordSection<'a>,
     name: &ParsedName<&'a [u8]>,
 ) -> Option<ParsedName<&'a [u8]>>
-    ensures some { IfSome result
-        (λ target.
-        GivesAlias records.entry (parsed_labels name.now) (Some (parsed_labels target))) }
+    ensures some { IfSome result (FirstLeadsTo records.entry name.now) }
     ensures none { IsNone result → GivesAlias records.entry (parsed_labels name.now) None }
 {
     for item in records {
@@ -76,9 +67,7 @@ fn first_alias_and_count<'a>(
     records: RecordSection<'a>,
     name: &ParsedName<&'a [u8]>,
 ) -> (Option<ParsedName<&'a [u8]>>, u16)
-    ensures some { IfSome result.0
-        (λ target.
-        GivesAlias records.entry (parsed_labels name.now) (Some (parsed_labels target))) }
+    ensures some { IfSome result.0 (FirstLeadsTo records.entry name.now) }
     ensures none { IsNone result.0 → GivesAlias records.entry (parsed_labels name.now) None }
     ensures count { GivesCnames records.entry result.1 }
 {
@@ -107,8 +96,7 @@ fn end_of_chain<'a>(
     from: ParsedName<&'a [u8]>,
     looks: u32,
 ) -> Option<ParsedName<&'a [u8]>>
-    ensures some { IfSome result
-        (λ end. EndsBefore answers.entry looks (parsed_labels from.entry) (parsed_labels end)) }
+    ensures some { IfSome result (ChainEndsAt answers.entry looks from.entry) }
     ensures none { IsNone result → LeadsOn answers.entry looks (parsed_labels from.entry) }
 {
     let mut name = from;
@@ -125,11 +113,8 @@ impl<Octs: Octets> Message<Octs> {
     /// Returns the answers and the name of the first question. `None` if there is no question, or one that the header counts
     /// is missing.
     fn asked(&self) -> Option<(RecordSection<'_>, ParsedName<&[u8]>)>
-        ensures some { IfSome result
-            (λ it. Asked (message_octets self.now) it.0 (parsed_labels it.1)) }
-        ensures none { IsNone result →
-            ((why : ParseError) × NoQuestions (message_octets self.now) why)
-            ⊎ (number16 (message_octets self.now) 4 ≡ 0) }
+        ensures some { IfSome result (λ it. AskedIn self.now it.0 it.1) }
+        ensures none { IsNone result → HasMissingQuestion self.now ⊎ CountsNoQuestion self.now }
     {
         let Ok(answers) = self.answer() else {
             return None;
@@ -155,12 +140,8 @@ impl<Octs: Octets> Message<Octs> {
     /// The answers are read at most once more often than there are CNAME records among them. In 65,535 octets that are made
     /// to be dear these are thousands of times: of messages that anyone may send take `canonical_name_with_limit`.
     pub fn canonical_name(&self) -> Option<ParsedName<&[u8]>>
-        ensures some { IfSome result
-            (λ name. IsCanonical (message_octets self.now) (Some (parsed_labels name))) }
-        ensures none { IsNone result →
-            ((why : ParseError) × NoQuestions (message_octets self.now) why)
-            ⊎ ((number16 (message_octets self.now) 4 ≡ 0)
-            ⊎ IsCanonical (message_octets self.now) None) }
+        ensures some { IfSome result (HasCanonicalName self.now) }
+        ensures none { IsNone result → HasNoCanonicalName self.now }
     {
         let Some((answers, name)) = self.asked() else {
             return None;
@@ -178,13 +159,8 @@ impl<Octs: Octets> Message<Octs> {
     ///
     /// The answers are read at most once more often than the limit says. Resolvers follow 11 to 16.
     pub fn canonical_name_with_limit(&self, limit: u16) -> Option<ParsedName<&[u8]>>
-        ensures some { IfSome result
-            (λ name.
-            IsCanonicalWithin (message_octets self.now) limit (Some (parsed_labels name))) }
-        ensures none { IsNone result →
-            ((why : ParseError) × NoQuestions (message_octets self.now) why)
-            ⊎ ((number16 (message_octets self.now) 4 ≡ 0)
-            ⊎ IsCanonicalWithin (message_octets self.now) limit None) }
+        ensures some { IfSome result (HasCanonicalNameWithin self.now limit) }
+        ensures none { IsNone result → HasNoCanonicalNameWithin self.now limit }
     {
         let Some((answers, name)) = self.asked() else {
             return None;

@@ -1,7 +1,7 @@
 //! Which messages answer a query.
 ghost use Rattle.std.specs.Prelude.{◌≡◌, ◌≤◌, ◌↔◌, length, IsTrue, false};
-ghost use Rattle.octseq.specs.Parsing.{message, position, MovesTo};
-ghost use Rattle.domain_message.specs.Answering.{IsAnswerTo, SameQuestions, SameNext, OtherNext};
+ghost use Rattle.octseq.specs.Parsing.{position, MovesTo};
+ghost use Rattle.domain_message.specs.Answering.{IsAnswerTo, SameQuestions, ReadsSame, ReadsOther};
 ghost use Rattle.domain_message.specs.Messages.{message_octets};
 
 use crate::message::Message;
@@ -11,12 +11,8 @@ use octseq::{Octets, Parser};
 
 /// Reads a question at each parser's position, and moves both parsers past them if the questions are equal.
 fn next_is_same<'a>(ours: &mut Parser<'a>, theirs: &mut Parser<'a>) -> bool
-    ensures same { IsTrue result →
-        SameNext (message ours.old) (position ours.old) (position ours.new) (message theirs.old)
-        (position theirs.old) (position theirs.new) }
-    ensures other { result ≡ false →
-        OtherNext (message ours.old) (position ours.old) (message theirs.old)
-        (position theirs.old) }
+    ensures same { IsTrue result → ReadsSame ours.old ours.new theirs.old theirs.new }
+    ensures other { result ≡ false → ReadsOther ours.old theirs.old }
     ensures ours { IsTrue result → MovesTo ours.old ours.new (position ours.new) }
     ensures theirs { IsTrue result → MovesTo theirs.old theirs.new (position theirs.new) }
 {

@@ -2,7 +2,8 @@
 ghost use Rattle.std.specs.Prelude.{◌≡◌, ◌↔◌, false, true, IfOk, IfErr, IfSome, IsNone, OnErr};
 ghost use Rattle.std.specs.Iterator.{at_most};
 ghost use Rattle.octseq.specs.Parsing.{message, position};
-ghost use Rattle.domain_message.specs.Kept.{IsMadeOf, HasDataError, keeps, TakesKept, GivesKept, kept_parser, kept_left, kept_class};
+ghost use Rattle.domain_message.specs.Kept.{HasOtherType, IsReadOf, DataFails, KeepsAs, Skips, KeepsButFails, TakesNext};
+ghost use Rattle.domain_message.specs.Kept.{GivesKept, kept_parser, kept_left, kept_class};
 ghost use Rattle.domain_record.specs.RecordModel.{record_fields};
 
 use crate::section::RecordSection;
@@ -34,13 +35,10 @@ pub struct RecordIter<'a, D, E = ParseError> {
 fn with_data<'a, D: ParseRecordData<'a>, E: From<ParseError>>(
     found: &ParsedRecord<'a>,
 ) -> Result<Option<Record<ParsedName<&'a [u8]>, D>>, E>
-    ensures some { IfOk result
-        (λ read. IfSome read
-        (λ made. IsMadeOf D.type_number D.model D.encodes (record_fields found.now) made)) }
+    ensures some { IfOk result (λ read. IfSome read (IsReadOf D.ParseRecordData found.now)) }
     ensures none { IfOk result
-        (λ read. IsNone read ↔ (D.reads_type (record_fields found.now).header.rtype ≡ false)) }
-    ensures err { IfErr result
-        (λ e. HasDataError E.from_gives D.fails_with (record_fields found.now) e) }
+        (λ read. IsNone read ↔ HasOtherType D.ParseRecordData found.now) }
+    ensures err { IfErr result (DataFails E.from_gives D.ParseRecordData found.now) }
     ensures err_type { OnErr result (D.reads_type (record_fields found.now).header.rtype ≡ true) }
 {
     let mut data = found.data();
@@ -57,14 +55,11 @@ fn kept<'a, D: ParseRecordData<'a>, E: From<ParseError>>(
     only_in: bool,
 ) -> Result<Option<Record<ParsedName<&'a [u8]>, D>>, E>
     ensures some { IfOk result
-        (λ read. IfSome read
-        (λ made. (keeps D.reads_type only_in (record_fields found.now) ≡ true)
-        × IsMadeOf D.type_number D.model D.encodes (record_fields found.now) made)) }
+        (λ read. IfSome read (KeepsAs D.ParseRecordData only_in found.now)) }
     ensures none { IfOk result
-        (λ read. IsNone read → keeps D.reads_type only_in (record_fields found.now) ≡ false) }
+        (λ read. IsNone read → Skips D.ParseRecordData only_in found.now) }
     ensures err { IfErr result
-        (λ e. (keeps D.reads_type only_in (record_fields found.now) ≡ true)
-        × HasDataError E.from_gives D.fails_with (record_fields found.now) e) }
+        (KeepsButFails E.from_gives D.ParseRecordData only_in found.now) }
 {
     if only_in && found.class().to_int() != IN {
         return Ok(None);
@@ -79,10 +74,8 @@ fn next_kept<'a, D: ParseRecordData<'a>, E: From<ParseError>>(
     only_in: bool,
 ) -> Option<Result<Record<ParsedName<&'a [u8]>, D>, E>>
     ensures message { message parser.new ≡ message parser.old }
-    ensures takes { TakesKept (keeps D.reads_type only_in)
-        (IsMadeOf D.type_number D.model D.encodes) (HasDataError E.from_gives D.fails_with)
-        E.from_gives (message parser.old) (position parser.old) left.old result
-        (position parser.new) left.new }
+    ensures takes { TakesNext E.from_gives D.ParseRecordData only_in parser.old left.old result
+        parser.new left.new }
 {
     while *left > 0 {
         let found = match ParsedRecord::parse(parser) {

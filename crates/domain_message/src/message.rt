@@ -1,5 +1,5 @@
 //! Messages.
-ghost use Rattle.std.specs.Prelude.{◌≡◌, ◌≤◌, ◌<◌, ◌↔◌, ◌⊎◌, ℕ, length, slice_index, IfOk, IfErr, IfSome, IsErr, IsNone, Ok};
+ghost use Rattle.std.specs.Prelude.{◌≡◌, ◌≤◌, ◌<◌, ◌↔◌, ◌⊎◌, length, slice_index, IfOk, IfErr, IfSome, IsErr, IsNone, Ok};
 
 use crate::section::{QuestionSection, RecordSection};
 use domain_header::{Header, HeaderCounts, ShortMessage};
@@ -37,12 +37,11 @@ impl<Octs: Octets> Message<Octs> {
     ghost use Rattle.domain_message.specs.Messages.{message_holder, message_octets};
     ghost use Rattle.domain_header.specs.Numbers.{number16};
     ghost use Rattle.domain_header.specs.Headers.{header_id, header_high, header_low, question_count, answer_count, authority_count, additional_count};
-    ghost use Rattle.domain_message.specs.Sections.{questions_message, questions_offset, questions_left, Begins, QuestionsTo, AnswersTo, AuthorityTo, NoQuestions, NoAnswers, NoAuthority};
-    ghost use Rattle.domain_message.specs.declared.section.Section.TheVariants.{Answer, Authority, Additional};
-    ghost use Rattle.domain_record.specs.Entries.{QuestionAt, NoQuestion};
-    ghost use Rattle.domain_record.specs.Models.{question_fields};
+    ghost use Rattle.domain_message.specs.Sections.{questions_message, questions_offset, questions_left, NoQuestions, NoAnswers, NoAuthority};
+    ghost use Rattle.domain_message.specs.MessageParts.{CountsNoQuestion, CountsOneQuestion, CountsQuestions, StandsFirst, LacksFirstQuestion};
+    ghost use Rattle.domain_message.specs.MessageParts.{IsAnswerSection, IsAuthoritySection, IsAdditionalSection};
+    ghost use Rattle.domain_record.specs.Entries.{NoQuestion};
     ghost use Rattle.domain_message.specs.Sole.{NoSoleQuestion};
-    ghost use Rattle.domain_wire.specs.declared.error.ParseError.{ParseError};
 
     /// The octets.
     pub fn as_octets(&self) -> &Octs
@@ -88,9 +87,7 @@ impl<Octs: Octets> Message<Octs> {
 
     /// Reads a question after the header, whatever the header counts.
     fn parse_question(&self) -> Result<Question<ParsedName<&[u8]>>, ParseError>
-        ensures ok { IfOk result
-            (λ question.
-            (e : ℕ) × QuestionAt (message_octets self.now) 12 (question_fields question) e) }
+        ensures ok { IfOk result (StandsFirst self.now) }
         ensures err { IfErr result (λ e. NoQuestion (message_octets self.now) 12 e) }
     {
         let mut parser = Parser::from_ref(self.octets.as_slice());
@@ -102,12 +99,8 @@ impl<Octs: Octets> Message<Octs> {
 
     /// Returns the first question. `None` exactly if the header counts none, or it is missing.
     pub fn first_question(&self) -> Option<Question<ParsedName<&[u8]>>>
-        ensures some { IfSome result
-            (λ question. (0 < number16 (message_octets self.now) 4)
-            × ((e : ℕ) × QuestionAt (message_octets self.now) 12 (question_fields question) e)) }
-        ensures none { IsNone result →
-            (number16 (message_octets self.now) 4 ≡ 0)
-            ⊎ ((why : ParseError) × NoQuestion (message_octets self.now) 12 why) }
+        ensures some { IfSome result (λ q. CountsQuestions self.now × StandsFirst self.now q) }
+        ensures none { IsNone result → CountsNoQuestion self.now ⊎ LacksFirstQuestion self.now }
     {
         if self.header_counts().qdcount() == 0 {
             return None;
@@ -121,9 +114,7 @@ impl<Octs: Octets> Message<Octs> {
     /// Returns the question if the header counts one; else the error is "no question" or "multiple questions", or says
     /// why the question is missing.
     pub fn sole_question(&self) -> Result<Question<ParsedName<&[u8]>>, ParseError>
-        ensures ok { IfOk result
-            (λ question. (number16 (message_octets self.now) 4 ≡ 1)
-            × ((e : ℕ) × QuestionAt (message_octets self.now) 12 (question_fields question) e)) }
+        ensures ok { IfOk result (λ q. CountsOneQuestion self.now × StandsFirst self.now q) }
         ensures err { IfErr result (λ e. NoSoleQuestion (message_octets self.now) e) }
     {
         let count = self.header_counts().qdcount();
@@ -141,9 +132,7 @@ impl<Octs: Octets> Message<Octs> {
 
     /// The records of the answer section, which follows the questions. The error says why a question is missing.
     pub fn answer(&self) -> Result<RecordSection<'_>, ParseError>
-        ensures ok { IfOk result
-            (λ it. (e : ℕ) × QuestionsTo (message_octets self.now) e
-            × Begins (message_octets self.now) Answer e it) }
+        ensures ok { IfOk result (IsAnswerSection self.now) }
         ensures err { IfErr result (λ e. NoQuestions (message_octets self.now) e) }
     {
         self.question().answer()
@@ -152,9 +141,7 @@ impl<Octs: Octets> Message<Octs> {
     /// The records of the authority section, which follows the answers. The error says why a question or a record before
     /// them is missing.
     pub fn authority(&self) -> Result<RecordSection<'_>, ParseError>
-        ensures ok { IfOk result
-            (λ it. (e : ℕ) × AnswersTo (message_octets self.now) e
-            × Begins (message_octets self.now) Authority e it) }
+        ensures ok { IfOk result (IsAuthoritySection self.now) }
         ensures err { IfErr result (λ e. NoAnswers (message_octets self.now) e) }
     {
         let answers = match self.answer() {
@@ -171,9 +158,7 @@ impl<Octs: Octets> Message<Octs> {
     /// The records of the additional section, which follows the authority section. The error says why a question or a
     /// record before them is missing.
     pub fn additional(&self) -> Result<RecordSection<'_>, ParseError>
-        ensures ok { IfOk result
-            (λ it. (e : ℕ) × AuthorityTo (message_octets self.now) e
-            × Begins (message_octets self.now) Additional e it) }
+        ensures ok { IfOk result (IsAdditionalSection self.now) }
         ensures err { IfErr result (λ e. NoAuthority (message_octets self.now) e) }
     {
         let authority = match self.authority() {

@@ -1,5 +1,5 @@
 //! The sections of a message, and iterating over them.
-ghost use Rattle.std.specs.Prelude.{◌≡◌, ◌≤◌, length, IfOk, IfErr, IfSome, IsNone, ◌↔◌, Ok, Some, None, IsOk};
+ghost use Rattle.std.specs.Prelude.{◌≡◌, ◌≤◌, length, IfOk, IfErr, IfSome, IsNone, ◌↔◌, Ok, IsOk};
 ghost use Rattle.std.specs.Iterator.{at_most};
 ghost use Rattle.octseq.specs.Parsing.{message, position};
 
@@ -56,10 +56,8 @@ pub struct QuestionSection<'a> {
 }
 
 impl<'a> QuestionSection<'a> {
-    ghost use Rattle.domain_message.specs.Sections.{questions_message, questions_offset, questions_left, BeginsAfter, Misses};
-    ghost use Rattle.domain_record.specs.Entries.{QuestionAt, NoQuestion};
+    ghost use Rattle.domain_message.specs.Sections.{questions_message, questions_offset, questions_left, BeginsAfterQuestions, MissesQuestion};
     ghost use Rattle.domain_header.specs.Numbers.{number16};
-    ghost use Rattle.domain_message.specs.declared.section.Section.TheVariants.{Answer};
 
     /// The questions of a message that has a header.
     pub(crate) fn of(octets: &'a [u8]) -> QuestionSection<'a>
@@ -87,12 +85,8 @@ impl<'a> QuestionSection<'a> {
 
     /// Skips the questions that are left, and returns the answer section. The error says why one of them is missing.
     pub fn answer(self) -> Result<RecordSection<'a>, ParseError>
-        ensures ok { IfOk result
-            (λ it. BeginsAfter QuestionAt (questions_message self.entry)
-            (questions_offset self.entry) (questions_left self.entry) Answer it) }
-        ensures err { IfErr result
-            (λ e. Misses QuestionAt NoQuestion (questions_message self.entry)
-            (questions_offset self.entry) (questions_left self.entry) e) }
+        ensures ok { IfOk result (BeginsAfterQuestions self.entry) }
+        ensures err { IfErr result (MissesQuestion self.entry) }
     {
         let count = match self.count {
             Ok(count) => count,
@@ -151,10 +145,8 @@ pub struct RecordSection<'a> {
 }
 
 impl<'a> RecordSection<'a> {
-    ghost use Rattle.domain_message.specs.Sections.{records_message, records_offset, records_left, records_section, entries_left, Begins, BeginsAfter, Misses};
-    ghost use Rattle.domain_record.specs.Entries.{RecordAt, NoRecord};
-    ghost use Rattle.domain_message.specs.SectionOrder.{section_after};
-    ghost use Rattle.domain_message.specs.declared.section.Section.{Section};
+    ghost use Rattle.domain_message.specs.Sections.{records_message, records_offset, records_left, records_section, entries_left, Begins};
+    ghost use Rattle.domain_message.specs.Sections.{IsLastSection, BeginsAfterRecords, MissesRecord};
 
     /// The records of a section that begins at the parser's position.
     fn at(parser: Parser<'a>, section: Section) -> RecordSection<'a>
@@ -203,17 +195,10 @@ impl<'a> RecordSection<'a> {
     /// Skips the records that are left, and returns the next section. After the last one it is `None`, and no record is
     /// looked at. The error says why one of them is missing.
     pub fn next_section(self) -> Result<Option<RecordSection<'a>>, ParseError>
-        ensures none { IfOk result
-            (λ read. IsNone read ↔ (section_after (records_section self.entry) ≡ None)) }
-        ensures ok { IfOk result
-            (λ read. IfSome read
-            (λ it. (s : Section) × (section_after (records_section self.entry) ≡ Some s)
-            × BeginsAfter RecordAt (records_message self.entry) (records_offset self.entry)
-            (records_left self.entry) s it)) }
-        ensures err { IfErr result
-            (λ e. Misses RecordAt NoRecord (records_message self.entry) (records_offset self.entry)
-            (records_left self.entry) e) }
-        ensures last { section_after (records_section self.entry) ≡ None → IsOk result }
+        ensures none { IfOk result (λ read. IsNone read ↔ IsLastSection self.entry) }
+        ensures ok { IfOk result (λ read. IfSome read (BeginsAfterRecords self.entry)) }
+        ensures err { IfErr result (MissesRecord self.entry) }
+        ensures last { IsLastSection self.entry → IsOk result }
     {
         let Some(section) = self.section.next_section() else {
             return Ok(None);

@@ -1,9 +1,10 @@
 -- What a target becomes where an entry is appended up to a limit. `g` is `Target.Composer`, `labels` tells the labels of a
 -- name, and `d` is `D.ComposeRecordData`.
-use Rattle.std.specs.Prelude.{◌≡◌, ℕ, List, length}
+use Rattle.std.specs.Prelude.{ℕ, List}
 use Rattle.domain_rdata.specs.ReadBack.{Appended}
 use Rattle.domain_rdata.specs.RecordData.{ComposeRefused}
 use Rattle.domain_record.specs.LeftToTarget.{WritesQuestion, WritesRecord}
+pub use Rattle.domain_record.specs.Targets.{RemembersAsBefore, TakesQuestion, Takes}
 use Rattle.domain_record.specs.declared.question.Question.{Question}
 use Rattle.domain_record.specs.declared.resource_record.Record.{Record}
 use Rattle.domain_message_builder.specs.Contents.{AsksIn, RecordsIn}
@@ -18,18 +19,10 @@ use Rattle.domain_message_builder.specs.declared.error.StartError.{StartError}
 abbrev pub NotBegunOn : {T E : Type 0} → ComposerMembers T → T → ℕ → StartError E → Type 0
 NotBegunOn g target limit e = NotBegun (g.octets target) (g.capacity target) limit e
 
--- Cut to the octets that were there before, the target remembers what it did then.
-abbrev pub RemembersAsBefore : {T : Type 0} → ComposerMembers T → T → T → Type 0
-RemembersAsBefore g old new = g.kept_within (length (g.octets old)) (g.memory new) ≡ g.memory old
-
 -- Octets that the question may be composed into were appended.
 abbrev pub AppendsQuestion : {T N : Type 0} → ComposerMembers T → (N → List (List ℕ)) → Question N → T → T → Type 0
 AppendsQuestion g labels q old new =
     Appended (AsksIn g.compresses (asked labels q) (g.octets old)) (g.octets old) (g.octets new)
-
--- The target became what it is by its own calls for the question's name, and for the octets after it.
-abbrev pub TakesQuestion : {T N : Type 0} → ComposerMembers T → (N → List (List ℕ)) → Question N → T → T → Type 0
-TakesQuestion g labels q old new = WritesQuestion labels g.extends g.appends q old new
 
 -- Why a message of at most `most` octets has no question more.
 abbrev pub LacksQuestion : {T E N : Type 0} → ComposerMembers T → (N → List (List ℕ)) → Question N → ℕ → T → PushError E → Type 0
@@ -47,12 +40,6 @@ abbrev pub AppendsRecord : {T N D : Type 0} → ComposerMembers T → (N → Lis
 AppendsRecord g labels d r old new =
     Appended (RecordsIn g.compresses (head_of labels d r) (data_octets_of d g.compresses r) (g.octets old))
     (g.octets old) (g.octets new)
-
--- The target became what it is by its own calls for the names of the record, and for the octets between them.
-abbrev pub Takes : {T N D : Type 0} → ComposerMembers T → (N → List (List ℕ)) → DataMembers D → Record N D → T → T → Type 0
-Takes {T = T} g labels d r old new =
-    WritesRecord labels d.type_number g.octets g.extends g.cuts g.appends
-    (λ x. d.written x T g.extends g.appends) r old new
 
 -- Why a message of at most `most` octets has no record more.
 abbrev pub LacksRecord : {T E N D : Type 0} → ComposerMembers T → (N → List (List ℕ)) → DataMembers D → Record N D → ℕ → T → PushError E → Type 0

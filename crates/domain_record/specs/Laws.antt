@@ -45,3 +45,8 @@ RecordReadsBack May compresses =
     × (lowercase_labels c ≡ lowercase_labels owner)
     × DataStands May (take (length t + length s) (t ++ s ++ u)) (length t + length done.named + 10)
     done.rdata
+
+-- So is each record with data of a type: `composed` tells the octets that its data may be composed into.
+abbrev pub RecordsReadBack : {D : Type 0} → (D → Bool → List ℕ → List ℕ → Type 0) → Type 0
+RecordsReadBack {D = D} composed =
+    (it : D) (compresses : Bool) → RecordReadsBack (composed it compresses) compresses

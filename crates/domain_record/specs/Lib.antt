@@ -6,12 +6,14 @@ pub mod HeaderLaws
 pub mod Laws
 pub mod LeftToTarget
 pub mod MayCompose
+pub mod Members
 pub mod Models
 pub mod Once
 pub mod Readings
 pub mod ReadsBack
 pub mod RecordModel
 pub mod RecordParts
+pub mod Targets
 pub mod TextViews
 pub mod Texts
 pub mod Views

@@ -1,7 +1,6 @@
 //! Laws of questions and records, for callers.
-ghost use Rattle.std.specs.Prelude.{Bool};
 ghost use Rattle.domain_record.specs.Entries.{QuestionAt, RecordAt};
-ghost use Rattle.domain_record.specs.Laws.{QuestionReadsBack, RecordReadsBack};
+ghost use Rattle.domain_record.specs.Laws.{QuestionReadsBack, RecordsReadBack};
 ghost use Rattle.domain_record.specs.Once.{IsOnce, IsDecided};
 
 use domain_rdata::ComposeRecordData;
@@ -17,6 +16,5 @@ pub fn entry_laws()
 /// What is composed for a question, or for a record with such data, is read back, whatever follows it.
 pub fn reads_back_laws<D: ComposeRecordData>()
     ensures question { QuestionReadsBack }
-    ensures record { (it : D) (compresses : Bool) →
-        RecordReadsBack (D.composed it compresses) compresses }
+    ensures record { RecordsReadBack D.composed }
 {}

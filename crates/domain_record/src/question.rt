@@ -1,14 +1,13 @@
 //! Questions.
-ghost use Rattle.std.specs.Prelude.{◌≡◌, ◌≤◌, Some, length, OnOk, OnErr};
+ghost use Rattle.std.specs.Prelude.{◌≡◌, ◌≤◌, Some, OnOk, OnErr};
 ghost use Rattle.domain_header.specs.Values.{class_number};
-ghost use Rattle.domain_rdata.specs.ReadBack.{Appended, Exceeds};
 ghost use Rattle.domain_rdata.specs.Rtypes.{rtype_number};
-ghost use Rattle.domain_record.specs.Composing.{BeginsWithName, type_and_class};
-ghost use Rattle.domain_record.specs.MayCompose.{after_qname, IsNameThen, MayComposeQuestion};
+ghost use Rattle.domain_record.specs.Composing.{type_and_class};
 ghost use Rattle.domain_record.specs.Entries.{QuestionFields, QuestionAt, NoQuestion};
 ghost use Rattle.domain_record.specs.Readings.{question_reading};
 ghost use Rattle.domain_record.specs.Texts.{question_text};
-ghost use Rattle.domain_record.specs.LeftToTarget.{WritesQuestion};
+ghost use Rattle.domain_record.specs.Targets.{RemembersAsBefore, SameMemory, ComposesQuestion, BeginsWithQname, TakesQuestion};
+ghost use Rattle.domain_record.specs.Targets.{QuestionExceeds, HasNoRoomFor};
 
 use crate::rtype_text::RtypeText;
 use domain_header::Class;
@@ -128,8 +127,6 @@ fn type_and_class_octets(rtype: Rtype, class: Class) -> [u8; 4]
 }
 
 impl<'a, N: AbsoluteLabels<'a>> Question<N> {
-    ghost use Rattle.domain_record.specs.Views.{question_name};
-
     /// Appends the question, or nothing: the name, which the target may compress, then the type and the class. Fails
     /// only if the question, with a name as the target may then write it, exceeds the spare capacity. The target's
     /// octets, and what it remembers, are then unchanged.
@@ -138,28 +135,19 @@ impl<'a, N: AbsoluteLabels<'a>> Question<N> {
         target: &mut Target,
     ) -> Result<(), Target::AppendError>
         ensures ok { OnOk result
-            (Appended
-            (MayComposeQuestion N.labels self.now Target.compresses (Target.octets target.old))
-            (Target.octets target.old) (Target.octets target.new)) }
+            (ComposesQuestion Target.Composer N.labels self.now target.old target.new) }
         ensures name { OnOk result
-            (Appended
-            (BeginsWithName (Target.may_append target.old (N.labels (question_name self.now)))
-            (after_qname self.now)) (Target.octets target.old) (Target.octets target.new)) }
+            (BeginsWithQname Target.Composer N.labels self.now target.old target.new) }
         ensures written { OnOk result
-            (WritesQuestion N.labels Target.extends Target.appends self.now target.old target.new) }
-        ensures memory { Target.kept_within (length (Target.octets target.old))
-            (Target.memory target.new) ≡ Target.memory target.old }
+            (TakesQuestion Target.Composer N.labels self.now target.old target.new) }
+        ensures memory { RemembersAsBefore Target.Composer target.old target.new }
         ensures unchanged { OnErr result (Target.octets target.new ≡ Target.octets target.old) }
         ensures memory_unchanged { OnErr result
-            (Target.memory target.new ≡ Target.memory target.old) }
+            (SameMemory Target.Composer target.old target.new) }
         ensures full { OnErr result
-            (Exceeds
-            (MayComposeQuestion N.labels self.now Target.compresses (Target.octets target.old))
-            (Target.octets target.old) (Target.capacity target.old)) }
+            (QuestionExceeds Target.Composer N.labels self.now target.old) }
         ensures tight { OnErr result
-            (Exceeds
-            (IsNameThen (Target.may_append target.old (N.labels (question_name self.now)))
-            (after_qname self.now)) (Target.octets target.old) (Target.capacity target.old)) }
+            (HasNoRoomFor Target.Composer N.labels self.now target.old) }
         ensures capacity { Target.capacity target.old ≤ Target.capacity target.new }
     {
         let start = target.as_slice().len();

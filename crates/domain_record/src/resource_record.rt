@@ -1,20 +1,16 @@
 //! Records of a name, a class, a TTL and data.
-ghost use Rattle.std.specs.Prelude.{◌≡◌, ◌≤◌, ◌==◌, ◌++◌, ◌⊎◌, Some, length, OnOk, OnErr, IfErr, true};
+ghost use Rattle.std.specs.Prelude.{◌≡◌, ◌≤◌, ◌==◌, ◌⊎◌, Some, OnOk, OnErr, IfErr, true};
 ghost use Rattle.std.specs.Cmp.{partial_equiv_from_equiv, nat_eq_equiv, nat_cmp_total, on_per, and_per, on_equiv, and_equiv, on_total, then_total};
 ghost use Rattle.std.specs.Ordering.{on, eq_of_both, then_cmp, nat_cmp};
 ghost use Rattle.std.specs.Fmt.{◌++?◌};
 ghost use Rattle.domain_parsed.specs.ParsedNames.{parsed_labels};
 ghost use Rattle.std.specs.Int.{to_be_bytes};
-ghost use Rattle.domain_rdata.specs.ReadBack.{Appended};
-ghost use Rattle.domain_rdata.specs.RecordData.{ComposeRefused};
 ghost use Rattle.domain_rdata.specs.Rtypes.{rtype_number};
 ghost use Rattle.domain_header.specs.Values.{class_number, ttl_seconds};
-ghost use Rattle.domain_rdata.specs.Canonical.{canonical_form, WithLengthAndForm};
-ghost use Rattle.domain_record.specs.CanonicalRecords.{canonical_head, CanonicalRecordRefused};
-ghost use Rattle.domain_record.specs.Composing.{BeginsWithName, before_length};
-ghost use Rattle.domain_record.specs.MayCompose.{after_owner, MayComposeRecord, MayRefuseRecord, RefusesRecord};
+ghost use Rattle.domain_record.specs.Composing.{before_length};
 ghost use Rattle.domain_record.specs.Texts.{text_before_data};
-ghost use Rattle.domain_record.specs.LeftToTarget.{WritesRecord};
+ghost use Rattle.domain_record.specs.Targets.{RemembersAsBefore, SameMemory, ComposesRecord, BeginsWithOwner, Takes};
+ghost use Rattle.domain_record.specs.Targets.{RecordNotComposed, TargetRefuses, ComposesForm, FormNotComposed};
 
 use crate::rtype_text::RtypeText;
 use domain_header::{Class, Ttl};
@@ -187,8 +183,6 @@ impl<Octs: Octets, D: RecordData + fmt::Display> fmt::Display for Record<ParsedN
 }
 
 impl<'a, N: AbsoluteLabels<'a>, D: ComposeRecordData> Record<N, D> {
-    ghost use Rattle.domain_record.specs.RecordParts.{owner_of, class_of, data_of};
-
     /// Appends the record, names as the target composes them: owner, type, class, TTL, the length of the data, the data.
     /// `Long` only if data that may be appended has more than 65,535 octets, `Append` only if the record exceeds the spare
     /// capacity, its owner's name as the target may then write it. The target's octets, and what it remembers, are then
@@ -198,32 +192,21 @@ impl<'a, N: AbsoluteLabels<'a>, D: ComposeRecordData> Record<N, D> {
         target: &mut Target,
     ) -> Result<(), ComposeRdataError<Target::AppendError>>
         ensures ok { OnOk result
-            (Appended
-            (MayComposeRecord N.labels D.type_number D.composed self.now Target.compresses
-            (Target.octets target.old)) (Target.octets target.old) (Target.octets target.new)) }
+            (ComposesRecord Target.Composer N.labels D.ComposeRecordData self.now target.old
+            target.new) }
         ensures name { OnOk result
-            (Appended
-            (BeginsWithName (Target.may_append target.old (N.labels (owner_of self.now)))
-            (after_owner D.type_number self.now)) (Target.octets target.old)
-            (Target.octets target.new)) }
-        ensures written { Target.compresses ≡ true →
-            OnOk result (WritesRecord N.labels D.type_number Target.octets Target.extends
-            Target.cuts Target.appends (λ d. D.written d Target Target.extends Target.appends)
-            self.now target.old target.new) }
-        ensures memory { Target.kept_within (length (Target.octets target.old))
-            (Target.memory target.new) ≡ Target.memory target.old }
+            (BeginsWithOwner Target.Composer N.labels D.ComposeRecordData self.now target.old
+            target.new) }
+        ensures written { Target.compresses ≡ true → OnOk result
+            (Takes Target.Composer N.labels D.ComposeRecordData self.now target.old target.new) }
+        ensures memory { RemembersAsBefore Target.Composer target.old target.new }
         ensures unchanged { OnErr result (Target.octets target.new ≡ Target.octets target.old) }
         ensures memory_unchanged { OnErr result
-            (Target.memory target.new ≡ Target.memory target.old) }
+            (SameMemory Target.Composer target.old target.new) }
         ensures why { IfErr result
-            (λ e. MayRefuseRecord N.labels D.type_number D.composed self.now Target.compresses
-            (Target.octets target.old) (Target.capacity target.old) e) }
+            (RecordNotComposed Target.Composer N.labels D.ComposeRecordData self.now target.old) }
         ensures tight { IfErr result
-            (RefusesRecord Target.octets (Target.may_append target.old (N.labels (owner_of self.now)))
-            (λ c d. Target.appends c (N.labels (owner_of self.now)) d)
-            (after_owner D.type_number self.now)
-            (λ t. ComposeRefused (D.composed (data_of self.now) Target.compresses) t) target.old
-            (Target.capacity target.old)) }
+            (TargetRefuses Target.Composer N.labels D.ComposeRecordData self.now target.old) }
         ensures capacity { Target.capacity target.old ≤ Target.capacity target.new }
     {
         let start = target.as_slice().len();
@@ -254,23 +237,16 @@ impl<'a, N: AbsoluteLabels<'a>, D: ComposeRecordData> Record<N, D> {
         original_ttl: Ttl,
         target: &mut Target,
     ) -> Result<(), CanonicalError<Target::AppendError>>
-        ensures ok { OnOk result (WithLengthAndForm
-            (canonical_form (D.type_number (data_of self.now)) (D.uncompressed (data_of self.now))
-            (D.lowercase (data_of self.now)))
-            (Target.octets target.old ++ canonical_head (N.labels (owner_of self.now))
-            (D.type_number (data_of self.now)) (class_number (class_of self.now))
-            (ttl_seconds original_ttl)) (Target.octets target.new)) }
-        ensures memory { Target.kept_within (length (Target.octets target.old))
-            (Target.memory target.new) ≡ Target.memory target.old }
+        ensures ok { OnOk result
+            (ComposesForm Target.Composer N.labels D.ComposeRecordData self.now original_ttl
+            target.old target.new) }
+        ensures memory { RemembersAsBefore Target.Composer target.old target.new }
         ensures unchanged { OnErr result (Target.octets target.new ≡ Target.octets target.old) }
         ensures memory_unchanged { OnErr result
-            (Target.memory target.new ≡ Target.memory target.old) }
-        ensures why { IfErr result (CanonicalRecordRefused
-            (canonical_form (D.type_number (data_of self.now)) (D.uncompressed (data_of self.now))
-            (D.lowercase (data_of self.now)))
-            (canonical_head (N.labels (owner_of self.now)) (D.type_number (data_of self.now))
-            (class_number (class_of self.now)) (ttl_seconds original_ttl))
-            (Target.octets target.old) (Target.capacity target.old)) }
+            (SameMemory Target.Composer target.old target.new) }
+        ensures why { IfErr result
+            (FormNotComposed Target.Composer N.labels D.ComposeRecordData self.now original_ttl
+            target.old) }
         ensures capacity { Target.capacity target.old ≤ Target.capacity target.new }
     {
         let start = target.as_slice().len();
