@@ -190,7 +190,9 @@ class Report:
             f"{datetime.date.today().isoformat()}, {platform.system()} {platform.machine()}. Nothing is said of a "
             "library but what that run saw of the version below. What hostile messages cost in each: "
             "[COST.md](COST.md). How 300 messages of dnspython and libknot come out when this project reads and writes "
-            "them: [CONFORMANCE.md](CONFORMANCE.md#messages-of-other-writers)."), "")
+            "them: [CONFORMANCE.md](CONFORMANCE.md#messages-of-other-writers). Whether the types, classes, codes and "
+            "options here have IANA's numbers and words: `evidence/compare/registries` compares each with the copy of "
+            "the registry that Net::DNS has, and prints what is later than that copy."), "")
 
     def differences(self):
         self.say("## Where this project differs", "")

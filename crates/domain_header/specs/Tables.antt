@@ -4,7 +4,8 @@ use Rattle.std.specs.Fmt.{decimal}
 use Rattle.domain_header.specs.Mnemonics.{Row, mnemonic, word_of}
 
 -- classes (RFC 1035, 3.2.4 and 3.2.5; `NONE` and `ANY` RFC 2136, 2.4). These rows, like those of the codes below, are
--- those of the program once more: no definition tells what IANA registered. The rows of `conformance_messages` do.
+-- those of the program once more: no definition tells what IANA registered. The rows of `conformance_messages` do, and
+-- `evidence/compare/registries` compares both with a copy of the registry.
 abbrev pub class_rows : List Row
 class_rows = mnemonic 1 (codes "IN") ∷ mnemonic 3 (codes "CH") ∷ mnemonic 4 (codes "HS") ∷ mnemonic 254 (codes "NONE") ∷ mnemonic 255 (codes "ANY") ∷ mnemonic 255 (codes "*") ∷ []
 

@@ -8,7 +8,8 @@ use crate::mnemonic::{Mnemonic, mnemonic_number, mnemonic_word};
 use crate::numbered::named_number;
 use std::fmt;
 
-// The classes of IANA's registry of DNS parameters, as far as they were known on 26 November 2026: it wasn't at hand then.
+// The classes of IANA's registry of DNS parameters of 6 December 2022: `evidence/compare/registries` compares them with a
+// copy of that day, and no later one is here.
 // The first row of a number is its text, and each of its words is read.
 const CLASSES: [Mnemonic; 6] = [
     Mnemonic {
