@@ -30,22 +30,19 @@ fn put_ipv4(out: &mut Answer, octets: [u8; 4]) {
     );
 }
 
-fn segment(high: u8, low: u8) -> u16 {
-    u16::from_be_bytes([high, low])
+/// The segments of an address, from its octets.
+fn segments_of(octets: [u8; 16]) -> [u16; 8] {
+    let mut segments = [0u16; 8];
+    let mut left = u128::from_be_bytes(octets);
+    for segment in &mut segments {
+        left = left.rotate_left(16);
+        *segment = (left % 0x1_0000) as u16;
+    }
+    segments
 }
 
 fn put_ipv6(out: &mut Answer, octets: [u8; 16]) {
-    let [a, b, c, d, e, f, g, h, i, j, k, l, m, n, o, p] = octets;
-    let segments = [
-        segment(a, b),
-        segment(c, d),
-        segment(e, f),
-        segment(g, h),
-        segment(i, j),
-        segment(k, l),
-        segment(m, n),
-        segment(o, p),
-    ];
+    let segments = segments_of(octets);
     out.put(b"v6 ");
     put_segments(out, segments);
     out.agree_all(
@@ -58,8 +55,7 @@ fn put_ipv6(out: &mut Answer, octets: [u8; 16]) {
 }
 
 fn put_segments(out: &mut Answer, segments: [u16; 8]) {
-    let [a, b, c, d, e, f, g, h] = segments;
-    let address = Ipv6Addr::new(a, b, c, d, e, f, g, h);
+    let address = of_segments(&segments);
     put_composed(out, &address, 16);
     out.agree_all(
         b"from;from",
@@ -68,4 +64,17 @@ fn put_segments(out: &mut Answer, segments: [u16; 8]) {
             IpAddr::from(segments) == IpAddr::V6(address),
         ],
     );
+}
+
+fn of_segments(segments: &[u16; 8]) -> Ipv6Addr {
+    Ipv6Addr::new(
+        segments[0],
+        segments[1],
+        segments[2],
+        segments[3],
+        segments[4],
+        segments[5],
+        segments[6],
+        segments[7],
+    )
 }

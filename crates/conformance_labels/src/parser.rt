@@ -12,8 +12,9 @@ pub fn parser_at(octets: &[u8], begin: usize, end: usize) -> Option<Parser<'_>> 
     Some(Parser::with_range(octets, begin..end))
 }
 
+/// A call that reads a number.
 #[derive(Clone, Copy)]
-enum Step {
+enum Number {
     U8,
     I8,
     U16,
@@ -22,75 +23,75 @@ enum Step {
     I32,
     U64,
     I64,
+}
+
+/// A call, all but those that read a number and `Rest` with a number of its own.
+#[derive(Clone, Copy)]
+enum Step {
+    Number(Number),
     Rest,
-    Peek(usize),
-    Octets(usize),
-    Buffer(usize),
-    Seek(usize),
-    Advance(usize),
-    Parser(usize),
+    Peek,
+    Octets,
+    Buffer,
+    Seek,
+    Advance,
+    Parser,
 }
 
-/// A call without a number.
-fn plain_call(word: &[u8]) -> Option<Step> {
-    if is(word, b"u8") {
-        return Some(Step::U8);
-    }
-    if is(word, b"i8") {
-        return Some(Step::I8);
-    }
-    if is(word, b"u16") {
-        return Some(Step::U16);
-    }
-    if is(word, b"i16") {
-        return Some(Step::I16);
-    }
-    if is(word, b"u32") {
-        return Some(Step::U32);
-    }
-    if is(word, b"i32") {
-        return Some(Step::I32);
-    }
-    if is(word, b"u64") {
-        return Some(Step::U64);
-    }
-    if is(word, b"i64") {
-        return Some(Step::I64);
-    }
-    if is(word, b"rest") {
-        return Some(Step::Rest);
+/// The word of a call.
+#[derive(Clone, Copy)]
+struct Word {
+    word: &'static str,
+    step: Step,
+}
+
+macro_rules! word {
+    ($word:literal, $step:expr) => {
+        Word {
+            word: $word,
+            step: $step,
+        }
+    };
+}
+
+/// The calls without a number.
+const PLAIN: [Word; 9] = [
+    word!("u8", Step::Number(Number::U8)),
+    word!("i8", Step::Number(Number::I8)),
+    word!("u16", Step::Number(Number::U16)),
+    word!("i16", Step::Number(Number::I16)),
+    word!("u32", Step::Number(Number::U32)),
+    word!("i32", Step::Number(Number::I32)),
+    word!("u64", Step::Number(Number::U64)),
+    word!("i64", Step::Number(Number::I64)),
+    word!("rest", Step::Rest),
+];
+
+/// The calls with a number.
+const NUMBERED: [Word; 6] = [
+    word!("peek", Step::Peek),
+    word!("octets", Step::Octets),
+    word!("buf", Step::Buffer),
+    word!("seek", Step::Seek),
+    word!("advance", Step::Advance),
+    word!("parser", Step::Parser),
+];
+
+fn step_of(words: &[Word], word: &[u8]) -> Option<Step> {
+    for known in words {
+        if is(word, known.word.as_bytes()) {
+            return Some(known.step);
+        }
     }
     None
 }
 
-/// A call with a number.
-fn numbered_call(word: &[u8], number: usize) -> Option<Step> {
-    if is(word, b"peek") {
-        return Some(Step::Peek(number));
-    }
-    if is(word, b"octets") {
-        return Some(Step::Octets(number));
-    }
-    if is(word, b"buf") {
-        return Some(Step::Buffer(number));
-    }
-    if is(word, b"seek") {
-        return Some(Step::Seek(number));
-    }
-    if is(word, b"advance") {
-        return Some(Step::Advance(number));
-    }
-    if is(word, b"parser") {
-        return Some(Step::Parser(number));
-    }
-    None
-}
-
-fn call_of(field: &[u8]) -> Option<Step> {
+/// A call and its number, 0 where it has none.
+fn call_of(field: &[u8]) -> Option<(Step, usize)> {
     let (word, number) = split_once(field, b':');
     match number {
-        None => plain_call(word),
-        Some(digits) => numbered_call(word, decimal(digits).ok()?),
+        None => Some((step_of(&PLAIN, word)?, 0)),
+        Some(digits) => Some((step_of(&NUMBERED, word)?, decimal(digits).ok()?)),
     }
 }
 
@@ -102,33 +103,39 @@ pub fn put_calls(out: &mut Answer, octets: &[u8], begin: usize, end: usize, call
     out.put_hex(parser.octets_ref());
     out.put_hex_after(b" ", parser.as_slice());
     for field in calls.split(|octet| *octet == b';') {
-        let Some(call) = call_of(field) else {
+        let Some((step, number)) = call_of(field) else {
             return out.fail(Fail::Bad);
         };
         out.put(b" ");
-        put_call(out, &mut parser, call);
+        put_call(out, &mut parser, step, number);
         out.put_number_after(b"@", parser.pos());
         out.agree(parser.remaining() == parser.peek_all().len(), b"remaining");
     }
 }
 
-fn put_call(out: &mut Answer, parser: &mut Parser<'_>, call: Step) {
-    match call {
-        Step::U8 => put_value(out, parser.parse_u8()),
-        Step::I8 => put_value(out, parser.parse_i8()),
-        Step::U16 => put_value(out, parser.parse_u16_be()),
-        Step::I16 => put_value(out, parser.parse_i16_be()),
-        Step::U32 => put_value(out, parser.parse_u32_be()),
-        Step::I32 => put_value(out, parser.parse_i32_be()),
-        Step::U64 => put_value(out, parser.parse_u64_be()),
-        Step::I64 => put_value(out, parser.parse_i64_be()),
+fn put_call(out: &mut Answer, parser: &mut Parser<'_>, step: Step, n: usize) {
+    match step {
+        Step::Number(number) => put_number(out, parser, number),
         Step::Rest => out.put_hex(parser.peek_all()),
-        Step::Peek(n) => put_octets(out, parser.peek(n)),
-        Step::Octets(n) => put_octets(out, parser.parse_octets(n)),
-        Step::Buffer(n) => put_buffer(out, parser, n),
-        Step::Seek(n) => put_done(out, parser.seek(n)),
-        Step::Advance(n) => put_done(out, parser.advance(n)),
-        Step::Parser(n) => put_parser(out, parser.parse_parser(n)),
+        Step::Peek => put_octets(out, parser.peek(n)),
+        Step::Octets => put_octets(out, parser.parse_octets(n)),
+        Step::Buffer => put_buffer(out, parser, n),
+        Step::Seek => put_done(out, parser.seek(n)),
+        Step::Advance => put_done(out, parser.advance(n)),
+        Step::Parser => put_parser(out, parser.parse_parser(n)),
+    }
+}
+
+fn put_number(out: &mut Answer, parser: &mut Parser<'_>, number: Number) {
+    match number {
+        Number::U8 => put_value(out, parser.parse_u8()),
+        Number::I8 => put_value(out, parser.parse_i8()),
+        Number::U16 => put_value(out, parser.parse_u16_be()),
+        Number::I16 => put_value(out, parser.parse_i16_be()),
+        Number::U32 => put_value(out, parser.parse_u32_be()),
+        Number::I32 => put_value(out, parser.parse_i32_be()),
+        Number::U64 => put_value(out, parser.parse_u64_be()),
+        Number::I64 => put_value(out, parser.parse_i64_be()),
     }
 }
 
