@@ -20,6 +20,27 @@ pub fn name_at(message: &[u8], offset: usize) -> Option<ParsedName<&[u8]>> {
     }
 }
 
+/// The same name as a `Name`. If memory is refused, that is noted, and there is none.
+///
+/// A call that is generic over names is dear to check, so it stands here once.
+pub fn flat_of(out: &mut Answer, name: ParsedName<&[u8]>) -> Option<Name<Vec<u8>>> {
+    match name.to_vec(out.alloc()) {
+        Ok(flat) => Some(flat),
+        Err(_) => {
+            out.fail(Fail::Memory);
+            None
+        }
+    }
+}
+
+/// A name and the offset behind it, or why there is none and where the parser stands.
+fn put_answer(out: &mut Answer, read: Result<ParsedName<&[u8]>, ParseError>, offset: usize) {
+    match read {
+        Ok(name) => put_read(out, name, offset),
+        Err(error) => put_refusal(out, offset, error),
+    }
+}
+
 fn put_refusal(out: &mut Answer, offset: usize, error: ParseError) {
     out.put_number_after(b"err ", offset);
     out.put_text_after(b" ", error);
@@ -32,12 +53,11 @@ pub fn put_parse(out: &mut Answer, message: &[u8], offset: usize, end: usize) {
     let mut twin = parser;
     let read = ParsedName::parse(&mut parser);
     let again = ParsedName::parse_ref(&mut twin);
-    out.agree(is_same_read(&again, &read), b"parse_ref");
-    out.agree(twin.pos() == parser.pos(), b"parse_ref");
-    match read {
-        Ok(name) => put_read(out, name, parser.pos()),
-        Err(error) => put_refusal(out, parser.pos(), error),
-    }
+    out.agree_all(
+        b"parse_ref;parse_ref",
+        &[is_same_read(&again, &read), twin.pos() == parser.pos()],
+    );
+    put_answer(out, read, parser.pos());
 }
 
 /// By `parse_with_limit`: as `put_parse`, with so many pointers at most.
@@ -53,13 +73,12 @@ pub fn put_limited(out: &mut Answer, message: &[u8], offset: usize, limit: usize
     if limit == 255 {
         // The limit of `parse`.
         let again = ParsedName::parse(&mut twin);
-        out.agree(is_same_read(&again, &read), b"parse");
-        out.agree(twin.pos() == parser.pos(), b"parse");
+        out.agree_all(
+            b"parse;parse",
+            &[is_same_read(&again, &read), twin.pos() == parser.pos()],
+        );
     }
-    match read {
-        Ok(name) => put_read(out, name, parser.pos()),
-        Err(error) => put_refusal(out, parser.pos(), error),
-    }
+    put_answer(out, read, parser.pos());
 }
 
 fn is_same_read(
@@ -79,8 +98,8 @@ fn is_same_name(a: &ParsedName<&[u8]>, b: &ParsedName<&[u8]>) -> bool {
 }
 
 fn put_read(out: &mut Answer, name: ParsedName<&[u8]>, offset: usize) {
-    let Ok(flat) = name.to_vec(out.alloc()) else {
-        return out.fail(Fail::Memory);
+    let Some(flat) = flat_of(out, name) else {
+        return;
     };
     out.put_hex_after(b"ok ", flat.as_slice());
     out.put(if name.is_compressed() { b" c " } else { b" f " });
@@ -93,28 +112,47 @@ fn put_read(out: &mut Answer, name: ParsedName<&[u8]>, offset: usize) {
 /// What a name in a message tells of its octets is what the same name as a `Name` tells.
 fn is_measured_as(out: &mut Answer, name: ParsedName<&[u8]>, flat: Name<&[u8]>) {
     let len = flat.len();
-    out.agree(name.compose_len() as usize == len, b"compose_len");
-    out.agree(name.is_root() == (len == 1), b"is_root");
-    out.agree(name.is_absolute(), b"is_absolute");
-    match name.as_flat_slice() {
-        Some(lent) => {
-            out.agree(!name.is_compressed(), b"as_flat_slice");
-            out.same(lent, flat.as_slice(), b"as_flat_slice");
-        }
-        None => out.agree(name.is_compressed(), b"as_flat_slice"),
+    let lent = name.as_flat_slice();
+    out.agree_all(
+        b"compose_len;is_root;is_absolute;as_flat_slice",
+        &[
+            name.compose_len() as usize == len,
+            name.is_root() == (len == 1),
+            name.is_absolute(),
+            name.is_compressed() == lent.is_none(),
+        ],
+    );
+    if let Some(lent) = lent {
+        out.same(lent, flat.as_slice(), b"as_flat_slice");
     }
 }
 
 /// The labels of a name in a message are those of the same name as a `Name`.
 fn has_parts_of(out: &mut Answer, name: ParsedName<&[u8]>, flat: Name<&[u8]>) {
-    out.agree(name.label_count() == flat.label_count(), b"label_count");
-    out.same(name.first().as_slice(), flat.first().as_slice(), b"first");
-    out.agree(name.last().is_root(), b"last");
-    out.agree(name.name_eq(&flat), b"name_eq");
+    out.agree_all(
+        b"label_count;first;last;name_eq",
+        &[
+            name.label_count() == flat.label_count(),
+            name.first().as_slice() == flat.first().as_slice(),
+            name.last().is_root(),
+            name.name_eq(&flat),
+        ],
+    );
+    is_made_of_others(out, name, flat);
+}
+
+/// The name is made of the `Name`, and of a name that lends its octets.
+fn is_made_of_others(out: &mut Answer, name: ParsedName<&[u8]>, flat: Name<&[u8]>) {
     let twin = ParsedName::from(flat);
-    out.agree(twin == name && !twin.is_compressed(), b"from");
     let lent = name.ref_octets();
-    out.agree(is_same_name(&lent.deref_octets(), &name), b"deref_octets");
+    out.agree_all(
+        b"from;from;deref_octets",
+        &[
+            twin == name,
+            !twin.is_compressed(),
+            is_same_name(&lent.deref_octets(), &name),
+        ],
+    );
 }
 
 /// A name in a message is flattened over a `Vec` and over an array of 255 octets.
@@ -183,17 +221,15 @@ fn put_walked(out: &mut Answer, name: ParsedName<&[u8]>) {
 
 /// The flag and the flat wire format of a name in a message.
 fn put_part_of(out: &mut Answer, name: ParsedName<&[u8]>) {
-    match name.to_vec(out.alloc()) {
-        Ok(flat) => {
-            out.put(if name.is_compressed() { b"c" } else { b"f" });
-            out.put_hex(flat.as_slice());
-            out.agree(
-                usize::from(name.compose_len()) == flat.len(),
-                b"compose_len",
-            );
-        }
-        Err(_) => out.fail(Fail::Memory),
-    }
+    let Some(flat) = flat_of(out, name) else {
+        return;
+    };
+    out.put(if name.is_compressed() { b"c" } else { b"f" });
+    out.put_hex(flat.as_slice());
+    out.agree(
+        usize::from(name.compose_len()) == flat.len(),
+        b"compose_len",
+    );
 }
 
 fn put_suffixes(out: &mut Answer, name: ParsedName<&[u8]>) {
@@ -305,8 +341,7 @@ pub fn put_mixture(out: &mut Answer, message: &[u8], offset: usize, labels: usiz
         return out.fail(Fail::Bad);
     };
     leave_out(&mut rest, labels);
-    match rest.to_vec(out.alloc()) {
-        Ok(flat) => put_mixed(out, rest.iter(), flat.iter(), calls),
-        Err(_) => out.fail(Fail::Memory),
+    if let Some(flat) = flat_of(out, rest) {
+        put_mixed(out, rest.iter(), flat.iter(), calls);
     }
 }

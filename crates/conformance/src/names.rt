@@ -1,6 +1,6 @@
 //! Names in messages beside other names, and what they are made into.
 
-use crate::message::{leave_out, name_at};
+use crate::message::{flat_of, leave_out, name_at};
 use arrayvec::ArrayVec;
 use conformance_answer::{Answer, Fail};
 use conformance_labels::{is_in_canonical_order, put_canonical_order};
@@ -72,9 +72,8 @@ pub fn put_room(out: &mut Answer, message: &[u8], offset: usize, room: usize) {
         return out.fail(Fail::Bad);
     }
     put_appended(out, &name, room);
-    match name.to_vec(out.alloc()) {
-        Ok(flat) => put_flat_room(out, flat.for_slice(), room),
-        Err(_) => out.fail(Fail::Memory),
+    if let Some(flat) = flat_of(out, name) {
+        put_flat_room(out, flat.for_slice(), room);
     }
 }
 
@@ -95,15 +94,24 @@ fn put_over<Octs: FromBuilder + Drop>(out: &mut Answer, name: ParsedName<&[u8]>)
 where
     Octs::Builder: EmptyBuilder + Drop,
 {
-    let made: Result<Name<Octs>, ShortBuf> = name.to_name(out.alloc());
-    put_made(out, made_octets(&made));
-    let tried: Result<Name<Octs>, ShortBuf> = name.try_to_name(out.alloc());
-    out.agree(made_octets(&tried) == made_octets(&made), b"try_to_name");
-    let flat: Result<Name<Octs>, ShortBuf> = name.flatten_into(out.alloc());
-    out.agree(made_octets(&flat) == made_octets(&made), b"flatten_into");
+    let alloc = out.alloc();
+    let made: Result<Name<Octs>, ShortBuf> = name.to_name(alloc);
+    let octets = made_octets(&made);
+    put_made(out, octets);
+    is_made_alike::<Octs>(out, name.try_to_name(alloc), octets, b"try_to_name");
+    is_made_alike::<Octs>(out, name.flatten_into(alloc), octets, b"flatten_into");
     out.put(b" ");
-    let lowered: Result<Name<Octs>, ShortBuf> = name.to_canonical_name(out.alloc());
+    let lowered: Result<Name<Octs>, ShortBuf> = name.to_canonical_name(alloc);
     put_made(out, made_octets(&lowered));
+}
+
+fn is_made_alike<Octs: Octets + Drop>(
+    out: &mut Answer,
+    made: Result<Name<Octs>, ShortBuf>,
+    wanted: Option<&[u8]>,
+    call: &[u8],
+) {
+    out.agree(made_octets(&made) == wanted, call);
 }
 
 fn made_octets<Octs: Octets>(made: &Result<Name<Octs>, ShortBuf>) -> Option<&[u8]> {
@@ -142,9 +150,8 @@ pub fn put_pcmp(out: &mut Answer, message: &[u8], left: usize, right: usize) {
 
 /// The left name beside the same name as a `Name` of the right one.
 fn put_beside_twin(out: &mut Answer, left: ParsedName<&[u8]>, right: ParsedName<&[u8]>) {
-    match right.to_vec(out.alloc()) {
-        Ok(owned) => put_beside_flat(out, left, owned.for_slice()),
-        Err(_) => out.fail(Fail::Memory),
+    if let Some(owned) = flat_of(out, right) {
+        put_beside_flat(out, left, owned.for_slice());
     }
 }
 
@@ -200,9 +207,8 @@ pub fn put_parsed_canonical(out: &mut Answer, message: &[u8], left: usize, right
 
 fn are_flat_in_order(out: &mut Answer, left: ParsedName<&[u8]>, right: ParsedName<&[u8]>) {
     let order = left.canonical_cmp(&right);
-    match (left.to_vec(out.alloc()), right.to_vec(out.alloc())) {
-        (Ok(a), Ok(b)) => is_in_canonical_order(out, &a, &b, order),
-        _ => out.fail(Fail::Memory),
+    if let (Some(a), Some(b)) = (flat_of(out, left), flat_of(out, right)) {
+        is_in_canonical_order(out, &a, &b, order);
     }
 }
 

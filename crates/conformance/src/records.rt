@@ -52,10 +52,13 @@ fn is_copied(out: &mut Answer, data: Data<'_>) {
     };
     out.same(held.data().as_slice(), *data.data(), b"try_octets_from");
     match held.clone(out.alloc()) {
-        Ok(copy) => {
-            out.same(copy.data().as_slice(), *data.data(), b"clone");
-            out.agree(copy.rtype() == data.rtype(), b"clone");
-        }
+        Ok(copy) => out.agree_all(
+            b"clone;clone",
+            &[
+                copy.data().as_slice() == *data.data(),
+                copy.rtype() == data.rtype(),
+            ],
+        ),
         Err(_) => out.fail(Fail::Memory),
     }
 }
@@ -68,10 +71,13 @@ fn is_copied_in_an_array(out: &mut Answer, data: Data<'_>) {
         return out.agree(data.data().len() > 255, b"try_octets_from");
     };
     match held.clone(out.alloc()) {
-        Ok(copy) => {
-            out.same(copy.data().as_slice(), *data.data(), b"clone");
-            out.agree(copy.rtype() == data.rtype(), b"clone");
-        }
+        Ok(copy) => out.agree_all(
+            b"clone;clone",
+            &[
+                copy.data().as_slice() == *data.data(),
+                copy.rtype() == data.rtype(),
+            ],
+        ),
         Err(_) => out.wrong(b"clone"),
     }
 }
@@ -132,18 +138,31 @@ fn is_composed_where_it_fits<B: EmptyBuilder + Composer + Drop>(
 
 /// Data of any type is all that is left of a message.
 fn is_read(out: &mut Answer, octets: &[u8]) {
+    let rtype = Rtype::from_int(1);
     let mut parser = Parser::from_ref(octets);
-    match Data::parse_any_rdata(Rtype::from_int(1), &mut parser) {
-        Ok(data) => out.same(*data.data(), octets, b"parse_any_rdata"),
-        Err(_) => out.wrong(b"parse_any_rdata"),
-    }
-    out.agree(parser.remaining() == 0, b"parse_any_rdata");
+    let read = Data::parse_any_rdata(rtype, &mut parser).ok();
+    is_all(out, read, parser, octets, b"parse_any_rdata");
     let mut parser = Parser::from_ref(octets);
-    match Data::parse_rdata(Rtype::from_int(1), &mut parser) {
-        Ok(Some(data)) => out.same(*data.data(), octets, b"parse_rdata"),
-        _ => out.wrong(b"parse_rdata"),
+    let read = match Data::parse_rdata(rtype, &mut parser) {
+        Ok(read) => read,
+        Err(_) => None,
+    };
+    is_all(out, read, parser, octets, b"parse_rdata");
+}
+
+/// What was read is all of the octets, and nothing is left in the parser.
+fn is_all(
+    out: &mut Answer,
+    read: Option<Data<'_>>,
+    parser: Parser<'_>,
+    octets: &[u8],
+    call: &[u8],
+) {
+    match read {
+        Some(data) => out.same(*data.data(), octets, call),
+        None => out.wrong(call),
     }
-    out.agree(parser.remaining() == 0, b"parse_rdata");
+    out.agree(parser.remaining() == 0, call);
 }
 
 /// `rdatacmp A B`: data of two types.
