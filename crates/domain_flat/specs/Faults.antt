@@ -12,6 +12,11 @@ use Rattle.domain_flat.specs.declared.error.NameErrorKind.TheVariants as absolut
 use Rattle.domain_flat.specs.declared.error.RelativeNameErrorKind.{RelativeNameErrorKind}
 use Rattle.domain_flat.specs.declared.error.RelativeNameErrorKind.TheVariants as relative
 
+-- After labels, none of them empty, the octets o go on, but with no whole label, and e says why.
+abbrev pub LacksLabel : List ℕ → SplitLabelError → Type 0
+LacksLabel o e =
+    (fs : List (List ℕ)) × (rest : List ℕ) × LabelsBefore o fs rest × SplitFault rest e × (rest ≢ [])
+
 -- After the labels fs no absolute name can go on with the octets rest.
 abbrev pub AbsoluteFaultAt : List (List ℕ) → List ℕ → NameErrorKind → Type 0
 AbsoluteFaultAt fs rest (absolute.BadLabel label_type) = SplitFault rest (BadType label_type)
@@ -49,3 +54,11 @@ StartFaultAt fs rest r =
 -- The octets o begin with no absolute name, whatever follows, and why.
 abbrev pub StartFault : List ℕ → Refusal → Type 0
 StartFault o r = (fs : List (List ℕ)) × (rest : List ℕ) × LabelsBefore o fs rest × StartFaultAt fs rest r
+
+-- All octets have at most one such fault.
+abbrev pub HaveOneFault : {K : Type 0} → (List ℕ → K → Type 0) → Type 0
+HaveOneFault {K} Fault = (o : List ℕ) (j k : K) → Fault o j → Fault o k → j ≡ k
+
+-- Octets that are such a name have no such fault.
+abbrev pub HaveNoFault : {K : Type 0} → (List ℕ → Type 0) → (List ℕ → K → Type 0) → Type 0
+HaveNoFault {K} IsSuch Fault = (o : List ℕ) (k : K) → IsSuch o → Fault o k → ⊥

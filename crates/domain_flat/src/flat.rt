@@ -1,11 +1,10 @@
 //! Tests of octets in wire format.
-ghost use Rattle.std.specs.Prelude.{◌≡◌, ◌≢◌, ◌<◌, ◌+◌, ◌∷◌, [], ◌++◌, ◌⊎◌, ℕ, List, length, IfOk, IfErr, IsOk, OnOk};
-ghost use Rattle.domain_label.specs.Splitting.{SplitFault};
+ghost use Rattle.std.specs.Prelude.{◌≡◌, ℕ, List, IfOk, IfErr, IsOk, OnOk};
 ghost use Rattle.domain_label.specs.Wire.{wire, IsAbsoluteName, IsRelativeName, IsAbsoluteWire, IsRelativeWire};
-ghost use Rattle.domain_flat.specs.Flat.{LabelsBefore};
-ghost use Rattle.domain_flat.specs.Faults.{AbsoluteFault, RelativeFault, StartFault};
 ghost use Rattle.domain_wire.specs.Refusals.{refusal};
-ghost use Rattle.domain_flat.specs.FlatLabels.{name_error_kind, relative_name_error_kind};
+ghost use Rattle.domain_flat.specs.Flat.{IsAfterLabels, BeginsWithNameOf, IfBeginsWithName};
+ghost use Rattle.domain_flat.specs.Faults.{StartFault, LacksLabel};
+ghost use Rattle.domain_flat.specs.FlatLabels.{TellsFault, TellsRelativeFault};
 
 use crate::error::{NameError, NameErrorKind, RelativeNameError, RelativeNameErrorKind};
 use domain_label::{Label, SplitLabelError};
@@ -19,12 +18,8 @@ const MAX_RELATIVE_LEN: usize = 254;
 
 /// The octets after the labels that aren't the root: none, or from the root on.
 fn pass_labels(octets: &[u8]) -> Result<&[u8], SplitLabelError>
-    ensures ok { IfOk result
-        (λ rest. ((fs : List (List ℕ)) × LabelsBefore octets.now fs rest.now)
-        × ((rest.now ≡ []) ⊎ ((more : List ℕ) × (rest.now ≡ 0 ∷ more)))) }
-    ensures err { IfErr result
-        (λ e. (fs : List (List ℕ)) × (rest : List ℕ) × LabelsBefore octets.now fs rest
-        × SplitFault rest e × (rest ≢ [])) }
+    ensures ok { IfOk result (λ rest. IsAfterLabels octets.now rest.now) }
+    ensures err { IfErr result (LacksLabel octets.now) }
 {
     let mut rest = octets;
     while !rest.is_empty() {
@@ -42,7 +37,7 @@ fn pass_labels(octets: &[u8]) -> Result<&[u8], SplitLabelError>
 /// `LongName` where they are more than 255; else the first error from the left.
 pub fn check_absolute(octets: &[u8]) -> Result<(), NameError>
     ensures ok { OnOk result (IsAbsoluteWire octets.now) }
-    ensures err { IfErr result (λ e. AbsoluteFault octets.now (name_error_kind e)) }
+    ensures err { IfErr result (TellsFault octets.now) }
     ensures exact { (ls : List (List ℕ)) → IsAbsoluteName ls → octets.now ≡ wire ls → IsOk result }
 {
     if octets.len() > MAX_NAME_LEN {
@@ -61,7 +56,7 @@ pub fn check_absolute(octets: &[u8]) -> Result<(), NameError>
 /// `LongName` where they are more than 254; else the first error from the left.
 pub fn check_relative(octets: &[u8]) -> Result<(), RelativeNameError>
     ensures ok { OnOk result (IsRelativeWire octets.now) }
-    ensures err { IfErr result (λ e. RelativeFault octets.now (relative_name_error_kind e)) }
+    ensures err { IfErr result (TellsRelativeFault octets.now) }
     ensures exact { (ls : List (List ℕ)) → IsRelativeName ls → octets.now ≡ wire ls → IsOk result }
 {
     if octets.len() > MAX_RELATIVE_LEN {
@@ -77,12 +72,9 @@ pub fn check_relative(octets: &[u8]) -> Result<(), RelativeNameError>
 ///
 /// The number is tested after the root, so that an error of the format comes first.
 pub fn name_len(octets: &[u8]) -> Result<usize, ParseError>
-    ensures ok { IfOk result
-        (λ len. (ls : List (List ℕ)) × (rest : List ℕ) × IsAbsoluteName ls
-        × (octets.now ≡ wire ls ++ rest) × (len ≡ length (wire ls))) }
+    ensures ok { IfOk result (BeginsWithNameOf octets.now) }
     ensures err { IfErr result (λ e. StartFault octets.now (refusal e)) }
-    ensures exact { (ls : List (List ℕ)) (rest : List ℕ) → IsAbsoluteName ls →
-        octets.now ≡ wire ls ++ rest → IsOk result }
+    ensures exact { IfBeginsWithName octets.now (IsOk result) }
 {
     let rest = pass_labels(octets)?;
     if rest.is_empty() {

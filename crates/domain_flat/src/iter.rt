@@ -1,9 +1,9 @@
 //! The labels of an uncompressed name, from either end.
-ghost use Rattle.std.specs.Prelude.{◌≡◌, ◌<◌, ◌≤◌, ◌+◌, [], length, take, drop, IfSome, IsTrue, MatchOption};
+ghost use Rattle.std.specs.Prelude.{◌≡◌, ◌<◌, ◌≤◌, ◌+◌, length, take, drop, IfSome, IsTrue};
 ghost use Rattle.domain_label.specs.Wire.{IsWire, wire, labels_in};
 ghost use Rattle.domain_label.proofs.WireLaws.{IsWire_prop};
-ghost use Rattle.domain_flat.specs.Flat.{HasFirst, HasLast};
-ghost use Rattle.domain_flat.specs.Starts.{label_starts};
+ghost use Rattle.domain_flat.specs.Flat.{IsFirstAndRest, IsFrontAndLast};
+ghost use Rattle.domain_flat.specs.Starts.{starts_in};
 
 use crate::flat::MAX_NAME_LEN;
 use domain_label::Label;
@@ -27,7 +27,7 @@ pub struct NameIter<'a> {
     count: u8,
     of: PhantomData<Label<'a>>,
     ghost few: { count ≤ 128 },
-    ghost table: { 0 < count → take count starts ≡ label_starts 0 (labels_in octets.now) },
+    ghost table: { 0 < count → take count starts ≡ starts_in octets.now },
     ghost wire: { IsWire octets.now } by { IsWire_prop octets.now },
 }
 
@@ -77,8 +77,7 @@ impl<'a> NameIter<'a> {
 #[inline(always)]
 pub fn first_label(octets: &[u8]) -> Option<(&[u8], &[u8])>
     requires { IsWire octets.now }
-    ensures { MatchOption result (octets.now ≡ [])
-        (λ parts. HasFirst octets.now parts.0.now parts.1.now) }
+    ensures { IsFirstAndRest octets.now result }
 {
     let [len, rest @ ..] = octets else {
         return None;
@@ -91,8 +90,7 @@ pub fn first_label(octets: &[u8]) -> Option<(&[u8], &[u8])>
 fn find_starts(octets: &[u8], starts: &mut [u8; MAX_LABELS]) -> Option<u8>
     requires { IsWire octets.now }
     ensures few { IfSome result (λ count. count ≤ 128) }
-    ensures table { IfSome result
-        (λ count. take count starts.new ≡ label_starts 0 (labels_in octets.now)) }
+    ensures table { IfSome result (λ count. take count starts.new ≡ starts_in octets.now) }
     ensures room { length starts.new ≡ 128 }
 {
     if octets.len() > MAX_NAME_LEN {
@@ -123,8 +121,7 @@ fn split_around(octets: &[u8], offset: usize) -> (&[u8], &[u8])
 /// The wire format before the last label of a wire format, and the octets of that label.
 pub fn last_label(octets: &[u8]) -> Option<(&[u8], &[u8])>
     requires { IsWire octets.now }
-    ensures { MatchOption result (octets.now ≡ [])
-        (λ parts. HasLast octets.now parts.0.now parts.1.now) }
+    ensures { IsFrontAndLast octets.now result }
 {
     if octets.is_empty() {
         return None;
