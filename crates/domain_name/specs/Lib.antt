@@ -1,4 +1,5 @@
 pub mod Names
 pub mod Suffixes
 pub mod Builders
+pub mod Texts
 pub mod Calls

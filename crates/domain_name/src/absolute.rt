@@ -1,15 +1,15 @@
 //! Absolute names.
-ghost use Rattle.std.specs.Prelude.{◌≡◌, ◌≤◌, ◌∷◌, [], ◌++◌, ◌↔◌, ℕ, List, Some, length, IsTrue, IsOk, IfOk, IfErr, IfSome, IsNone, OnErr};
-ghost use Rattle.octseq.specs.Parsing.{position, left, MovesOver};
+ghost use Rattle.std.specs.Prelude.{◌≡◌, ◌≤◌, [], ◌++◌, ◌↔◌, ℕ, List, length, IsTrue, IsOk, IfOk, IfErr, IfSome, IsNone, OnErr};
+ghost use Rattle.octseq.specs.Parsing.{left, MovesOver};
 ghost use Rattle.domain_wire.specs.Refusals.{refusal};
 ghost use Rattle.domain_label.specs.Wire.{wire, Root, IsAbsoluteName, IsAbsoluteWire};
 ghost use Rattle.domain_list.specs.FinalDot.{dotted_name};
 ghost use Rattle.domain_label.specs.Lowercase.{lowercase_labels};
 ghost use Rattle.domain_label.specs.Labels.{label_octets};
 ghost use Rattle.domain_label.proofs.WireLaws.{IsAbsoluteWire_prop};
-ghost use Rattle.domain_flat.specs.Faults.{AbsoluteFault, StartFault};
-ghost use Rattle.domain_flat.specs.Flat.{SplitsAt, IsLabelStart, IsPartOf, suffix_lists};
-ghost use Rattle.domain_flat.specs.FlatLabels.{name_error_kind, flat_labels_left};
+ghost use Rattle.domain_flat.specs.Faults.{StartFault};
+ghost use Rattle.domain_flat.specs.Flat.{IsLabelStart, IsPartOf, IsRestFrom, suffix_lists};
+ghost use Rattle.domain_flat.specs.FlatLabels.{flat_labels_left, TellsFault};
 ghost use Rattle.domain_list.specs.Ends.{StartsWith, EndsWith};
 
 use crate::relative::RelativeName;
@@ -54,7 +54,7 @@ impl<Octs: Octets + Copy> Clone for Name<Octs> {
 }
 
 impl<Octs: Octets + Drop> Name<Octs> {
-    ghost use Rattle.domain_name.specs.Names.{name_octets, name_labels, name_holder};
+    ghost use Rattle.domain_name.specs.Names.{name_octets, name_holder, ReadsAbsoluteWire};
 
     /// The name whose wire format the octets are.
     ///
@@ -65,10 +65,9 @@ impl<Octs: Octets + Drop> Name<Octs> {
     pub fn from_octets(octets: Octs) -> Result<Name<Octs>, NameError>
         ensures ok { IfOk result (λ name. name_octets name ≡ Octs.octets octets) }
         ensures holder { IfOk result (λ name. name_holder name ≡ octets) }
-        ensures list { (ls : List (List ℕ)) → IsAbsoluteName ls → Octs.octets octets ≡ wire ls →
-            IfOk result (λ name. name_labels name ≡ ls) }
+        ensures list { ReadsAbsoluteWire (Octs.octets octets) result }
         ensures accepts { IsOk result ↔ IsAbsoluteWire (Octs.octets octets) }
-        ensures err { IfErr result (λ e. AbsoluteFault (Octs.octets octets) (name_error_kind e)) }
+        ensures err { IfErr result (TellsFault (Octs.octets octets)) }
     {
         check_absolute(octets.as_slice())?;
         Ok(Name { octets })
@@ -76,7 +75,7 @@ impl<Octs: Octets + Drop> Name<Octs> {
 }
 
 impl<'a> Name<&'a [u8]> {
-    ghost use Rattle.domain_name.specs.Names.{name_octets, name_labels, NameAhead};
+    ghost use Rattle.domain_name.specs.Names.{name_octets, name_labels, ReadsAbsoluteWire, NameAhead, WasAhead, ReadsNameAhead, IsFirstAndParent};
 
     /// The name whose wire format the octets are, with the errors of `from_octets`.
     ///
@@ -92,10 +91,9 @@ impl<'a> Name<&'a [u8]> {
     /// ```
     pub fn from_slice(octets: &'a [u8]) -> Result<Name<&'a [u8]>, NameError>
         ensures ok { IfOk result (λ name. name_octets name ≡ octets.now) }
-        ensures list { (ls : List (List ℕ)) → IsAbsoluteName ls → octets.now ≡ wire ls →
-            IfOk result (λ name. name_labels name ≡ ls) }
+        ensures list { ReadsAbsoluteWire octets.now result }
         ensures accepts { IsOk result ↔ IsAbsoluteWire octets.now }
-        ensures err { IfErr result (λ e. AbsoluteFault octets.now (name_error_kind e)) }
+        ensures err { IfErr result (TellsFault octets.now) }
     {
         Name::from_octets(octets)
     }
@@ -106,12 +104,10 @@ impl<'a> Name<&'a [u8]> {
     /// pointer, "invalid label type" at another octet that begins no label. After the root, "long domain name" where
     /// the name has more than 255 octets. On an error the parser is unchanged.
     pub fn parse(parser: &mut Parser<'a>) -> Result<Name<&'a [u8]>, ParseError>
-        ensures ok { IfOk result
-            (λ name. NameAhead parser.old (name_labels name) (position parser.new)) }
+        ensures ok { IfOk result (WasAhead parser.old parser.new) }
         ensures moves { IfOk result
             (λ name. MovesOver parser.old parser.new (length (name_octets name))) }
-        ensures list { (ls : List (List ℕ)) (e : ℕ) → NameAhead parser.old ls e →
-            IfOk result (λ name. name_labels name ≡ ls) }
+        ensures list { ReadsNameAhead parser.old result }
         ensures accepts { (ls : List (List ℕ)) (e : ℕ) → NameAhead parser.old ls e → IsOk result }
         ensures err { IfErr result (λ e. StartFault (left parser.old) (refusal e)) }
         ensures unchanged { OnErr result (parser.new ≡ parser.old) }
@@ -123,8 +119,7 @@ impl<'a> Name<&'a [u8]> {
 
     /// The first label, and the name of the labels after it. `None` for the root.
     pub(crate) fn split_slice(self) -> Option<(Label<'a>, Name<&'a [u8]>)>
-        ensures some { IfSome result
-            (λ parts. name_labels self.entry ≡ label_octets parts.0 ∷ name_labels parts.1) }
+        ensures some { IfSome result (IsFirstAndParent self.entry) }
         ensures none { IsNone result ↔ (name_labels self.entry ≡ Root) }
     {
         if self.is_root() {
@@ -166,7 +161,7 @@ impl Name<&'static [u8]> {
 }
 
 impl<Octs: Octets> Name<Octs> {
-    ghost use Rattle.domain_name.specs.Names.{name_octets, name_labels, name_holder, relative_labels, IsFirstLabel, IsLastLabel, IsParent};
+    ghost use Rattle.domain_name.specs.Names.{name_octets, name_labels, name_holder, relative_labels, IsFirstLabel, IsLastLabel, IsParent, IsFirstAndParent};
     ghost use Rattle.domain_name.specs.Suffixes.{suffix_lists_left};
 
     /// The name whose wire format the octets are known to be. They aren't tested again.
@@ -341,8 +336,7 @@ impl<Octs: Octets> Name<Octs> {
     /// The labels from an offset of the wire format on, where `is_label_start` is true there.
     pub fn slice_from(&self, begin: usize) -> Name<&[u8]>
         requires { IsLabelStart (name_labels self.now) begin }
-        ensures { (before : List (List ℕ))
-            × SplitsAt (name_labels self.now) begin before (name_labels result) }
+        ensures { IsRestFrom (name_labels self.now) begin (name_labels result) }
     {
         let (_, after) = self.split(begin);
         after
@@ -351,16 +345,14 @@ impl<Octs: Octets> Name<Octs> {
     /// The same as `slice_from`.
     pub fn range_from(&self, begin: usize) -> Name<&[u8]>
         requires { IsLabelStart (name_labels self.now) begin }
-        ensures { (before : List (List ℕ))
-            × SplitsAt (name_labels self.now) begin before (name_labels result) }
+        ensures { IsRestFrom (name_labels self.now) begin (name_labels result) }
     {
         self.slice_from(begin)
     }
 
     /// The first label, and the name of the labels after it. `None` for the root.
     pub fn split_first(&self) -> Option<(Label<'_>, Name<&[u8]>)>
-        ensures some { IfSome result
-            (λ parts. name_labels self.now ≡ label_octets parts.0 ∷ name_labels parts.1) }
+        ensures some { IfSome result (IsFirstAndParent self.now) }
         ensures none { IsNone result ↔ (name_labels self.now ≡ Root) }
     {
         self.for_slice().split_slice()
@@ -384,12 +376,12 @@ impl<Octs: Octets> Name<Octs> {
 }
 
 impl<Octs: Truncate> Name<Octs> {
-    ghost use Rattle.domain_name.specs.Names.{name_labels, name_holder, relative_labels, relative_holder, IsStripped};
+    ghost use Rattle.domain_name.specs.Names.{name_labels, name_capacity, relative_labels, relative_capacity, IsFront, IsStripped};
 
     /// The name without its root label.
     pub fn into_relative(self) -> RelativeName<Octs>
         ensures labels { relative_labels result ++ Root ≡ name_labels self }
-        ensures capacity { Octs.capacity (relative_holder result) ≡ Octs.capacity (name_holder self) }
+        ensures capacity { relative_capacity result ≡ name_capacity self }
     {
         let len = self.len() - 1;
         self.truncate(len)
@@ -398,10 +390,9 @@ impl<Octs: Truncate> Name<Octs> {
     /// The labels before an offset of the wire format, where `is_label_start` is true there.
     pub fn truncate(self, len: usize) -> RelativeName<Octs>
         requires { IsLabelStart (name_labels self) len }
-        ensures parts { (after : List (List ℕ))
-            × (name_labels self ≡ relative_labels result ++ after) }
+        ensures parts { IsFront (name_labels self) (relative_labels result) }
         ensures offset { length (wire (relative_labels result)) ≡ len }
-        ensures capacity { Octs.capacity (relative_holder result) ≡ Octs.capacity (name_holder self) }
+        ensures capacity { relative_capacity result ≡ name_capacity self }
     {
         let mut octets = self.into_octets();
         octets.truncate(len);
@@ -418,8 +409,7 @@ impl<Octs: Truncate> Name<Octs> {
         ensures ok { IfOk result
             (λ rest. IsStripped (name_labels self) (N.labels base.now) (relative_labels rest)) }
         ensures err { IfErr result (λ name. name ≡ self) }
-        ensures capacity { IfOk result
-            (λ rest. Octs.capacity (relative_holder rest) ≡ Octs.capacity (name_holder self)) }
+        ensures capacity { IfOk result (λ rest. relative_capacity rest ≡ name_capacity self) }
     {
         match suffix_offset(self.octets.as_slice(), base) {
             Some(offset) => Ok(self.truncate(offset)),
@@ -429,13 +419,12 @@ impl<Octs: Truncate> Name<Octs> {
 }
 
 impl<Octs: OctetsMut> Name<Octs> {
-    ghost use Rattle.domain_name.specs.Names.{name_labels, name_holder};
+    ghost use Rattle.domain_name.specs.Names.{name_labels, name_capacity};
 
     /// Makes A to Z of each label a to z, its canonical form (RFC 4034, 6.2).
     pub fn make_canonical(&mut self)
         ensures labels { name_labels self.new ≡ lowercase_labels (name_labels self.old) }
-        ensures capacity { Octs.capacity (name_holder self.new)
-            ≡ Octs.capacity (name_holder self.old) }
+        ensures capacity { name_capacity self.new ≡ name_capacity self.old }
     {
         make_lowercase(&mut self.octets);
     }

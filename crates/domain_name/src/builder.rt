@@ -1,12 +1,10 @@
 //! Building names label by label, or symbol by symbol.
-ghost use Rattle.std.specs.Prelude.{◌≡◌, ◌++◌, ◌↔◌, ℕ, List, [], ◌∷◌, ◌≤◌, ◌<◌, ◌+◌, nat_lt, length, IsTrue, IsOk, IfOk, IfErr, OnOk, OnErr, IfSome, IsSome, None};
+ghost use Rattle.std.specs.Prelude.{◌≡◌, ◌++◌, ◌↔◌, [], ◌∷◌, ◌≤◌, ◌<◌, ◌+◌, nat_lt, length, IsTrue, IsOk, IfOk, IfErr, OnOk, OnErr, IfSome, IsSome, None};
 ghost use Rattle.std.specs.Fmt.{decimal};
-ghost use Rattle.domain_label.specs.Wire.{wire, Root, IsRelativeWire, labels_in};
-ghost use Rattle.domain_flat.specs.Faults.{RelativeFault};
-ghost use Rattle.domain_flat.specs.FlatLabels.{relative_name_error_kind};
+ghost use Rattle.domain_label.specs.Wire.{Root, IsRelativeWire, labels_in};
+ghost use Rattle.domain_flat.specs.FlatLabels.{TellsRelativeFault};
 ghost use Rattle.domain_builder.specs.BuilderState.{empty_state, finished, closed, pushed, ended, labelled, named, encoded, size};
 ghost use Rattle.domain_builder.specs.Inside.{room};
-ghost use Rattle.domain_builder.specs.Pushing.{LabelThenName, OpenLabelThenName, NameThenOpenLabel, NameAlone, RoomAlone, NameFits, OriginFits};
 ghost use Rattle.domain_builder.specs.Reverse.{hex_label};
 ghost use Rattle.domain_name.specs.Builders.{built, held};
 ghost use Rattle.domain_name.specs.Names.{name_labels, relative_labels};
@@ -139,8 +137,7 @@ impl<B: OctetsBuilder + OctetsMut + Drop> NameBuilder<B> {
         ensures ok { IfOk result (λ made. built made ≡ finished (labels_in (B.octets builder))) }
         ensures capacity { IfOk result (λ made. (held made).capacity ≡ B.capacity builder) }
         ensures accepts { IsOk result ↔ IsRelativeWire (B.octets builder) }
-        ensures err { IfErr result
-            (λ e. RelativeFault (B.octets builder) (relative_name_error_kind e)) }
+        ensures err { IfErr result (TellsRelativeFault (B.octets builder)) }
     {
         check_relative(builder.as_slice())?;
         Ok(NameBuilder {
@@ -150,6 +147,8 @@ impl<B: OctetsBuilder + OctetsMut + Drop> NameBuilder<B> {
 }
 
 impl<B: OctetsBuilder + OctetsMut> NameBuilder<B> {
+    ghost use Rattle.domain_name.specs.Builders.{AnswersPush, AnswersSlice, AnswersLabel, AnswersDigits, AnswersName};
+
     /// A builder of the labels whose wire format the octets are known to be.
     pub(crate) fn from_wire(builder: B) -> Self
         requires { IsRelativeWire (B.octets builder) }
@@ -205,8 +204,7 @@ impl<B: OctetsBuilder + OctetsMut> NameBuilder<B> {
     pub fn push(&mut self, ch: u8) -> Result<(), PushError>
         ensures made { OnOk result (built self.new ≡ pushed (built self.old) (ch ∷ [])) }
         ensures unchanged { OnErr result (built self.new ≡ built self.old) }
-        ensures answer { NameThenOpenLabel (pushed (built self.old) (ch ∷ []))
-            (room B.limit (held self.new)) result }
+        ensures answer { AnswersPush B.limit (ch ∷ []) self.old self.new result }
         ensures grows { (held self.old).capacity ≤ (held self.new).capacity }
     {
         self.labels.push(ch)
@@ -220,8 +218,7 @@ impl<B: OctetsBuilder + OctetsMut> NameBuilder<B> {
     pub fn append_slice(&mut self, slice: &[u8]) -> Result<(), PushError>
         ensures made { OnOk result (built self.new ≡ pushed (built self.old) slice.now) }
         ensures unchanged { OnErr result (built self.new ≡ built self.old) }
-        ensures answer { OpenLabelThenName (pushed (built self.old) slice.now)
-            (room B.limit (held self.new)) result }
+        ensures answer { AnswersSlice B.limit slice.now self.old self.new result }
         ensures grows { (held self.old).capacity ≤ (held self.new).capacity }
         ensures nothing { slice.now ≡ [] → IsOk result }
     {
@@ -245,8 +242,7 @@ impl<B: OctetsBuilder + OctetsMut> NameBuilder<B> {
     pub fn append_label(&mut self, label: &[u8]) -> Result<(), PushError>
         ensures made { OnOk result (built self.new ≡ labelled (built self.old) label.now) }
         ensures unchanged { OnErr result (built self.new ≡ built self.old) }
-        ensures answer { LabelThenName (length label.now)
-            (size (labelled (built self.old) label.now)) (room B.limit (held self.new)) result }
+        ensures answer { AnswersLabel B.limit label.now self.old self.new result }
         ensures grows { (held self.old).capacity ≤ (held self.new).capacity }
         ensures nothing { label.now ≡ [] → IsOk result }
     {
@@ -259,8 +255,7 @@ impl<B: OctetsBuilder + OctetsMut> NameBuilder<B> {
     pub fn append_dec_u8_label(&mut self, value: u8) -> Result<(), PushError>
         ensures made { OnOk result (built self.new ≡ labelled (built self.old) (decimal value)) }
         ensures unchanged { OnErr result (built self.new ≡ built self.old) }
-        ensures answer { NameAlone (size (labelled (built self.old) (decimal value)))
-            (room B.limit (held self.new)) result }
+        ensures answer { AnswersDigits B.limit (decimal value) self.old self.new result }
         ensures grows { (held self.old).capacity ≤ (held self.new).capacity }
     {
         self.labels.append_dec_u8_label(value)
@@ -273,8 +268,7 @@ impl<B: OctetsBuilder + OctetsMut> NameBuilder<B> {
     pub fn append_hex_digit_label(&mut self, nibble: u8) -> Result<(), PushError>
         ensures made { OnOk result (built self.new ≡ labelled (built self.old) (hex_label nibble)) }
         ensures unchanged { OnErr result (built self.new ≡ built self.old) }
-        ensures answer { NameAlone (size (labelled (built self.old) (hex_label nibble)))
-            (room B.limit (held self.new)) result }
+        ensures answer { AnswersDigits B.limit (hex_label nibble) self.old self.new result }
         ensures grows { (held self.old).capacity ≤ (held self.new).capacity }
     {
         self.labels.append_hex_digit_label(nibble)
@@ -289,8 +283,7 @@ impl<B: OctetsBuilder + OctetsMut> NameBuilder<B> {
     ) -> Result<(), PushNameError>
         ensures made { OnOk result (built self.new ≡ named (built self.old) (N.labels name.now)) }
         ensures unchanged { OnErr result (built self.new ≡ built self.old) }
-        ensures answer { NameFits (size (named (built self.old) (N.labels name.now)))
-            (room B.limit (held self.new)) result }
+        ensures answer { AnswersName B.limit (N.labels name.now) self.old self.new result }
         ensures grows { (held self.old).capacity ≤ (held self.new).capacity }
     {
         self.labels.append_name(name)
@@ -301,8 +294,7 @@ impl<B: OctetsBuilder + OctetsMut> NameBuilder<B> {
         ensures made { OnOk result
             (built self.new ≡ named (built self.old) (relative_labels name.entry)) }
         ensures unchanged { OnErr result (built self.new ≡ built self.old) }
-        ensures answer { NameFits (size (named (built self.old) (relative_labels name.entry)))
-            (room B.limit (held self.new)) result }
+        ensures answer { AnswersName B.limit (relative_labels name.entry) self.old self.new result }
         ensures grows { (held self.old).capacity ≤ (held self.new).capacity }
     {
         self.labels.append_wire(name.as_slice())
@@ -310,12 +302,9 @@ impl<B: OctetsBuilder + OctetsMut> NameBuilder<B> {
 }
 
 impl<B: OctetsBuilder + OctetsMut> NameBuilder<B> {
-    ghost use Rattle.std.specs.Iterator.{AlwaysYields, IsFinite};
+    ghost use Rattle.std.specs.Iterator.{IsFinite};
     ghost use Rattle.std.specs.Str.{chars};
-    ghost use Rattle.domain_label.specs.Spelling.{ReadsSymbols};
-    ghost use Rattle.domain_label.specs.declared.symbol.Symbol.{Symbol};
-    ghost use Rattle.domain_builder.specs.NameSymbols.{Items, name_symbols, symbol_in_name, symbols_in_name};
-    ghost use Rattle.domain_builder.specs.Pushing.{AddsSymbol, AddsSymbols};
+    ghost use Rattle.domain_name.specs.Builders.{PushesSymbol, PushesSymbols, PushesChars, PushesText};
 
     /// Adds what a symbol of a text stands for (RFC 1035, 5.1): a plain dot ends the open label, and any other
     /// symbol is pushed as its octet.
@@ -323,8 +312,7 @@ impl<B: OctetsBuilder + OctetsMut> NameBuilder<B> {
     /// `EmptyLabel` at a dot where no label is open, and a dot elsewhere never fails; `BinaryLabel` at `\[` where
     /// none is open; `BadSymbol` at a character that stands for no octet; else the errors of `push`.
     pub fn push_symbol(&mut self, symbol: Symbol) -> Result<(), FromStrError>
-        ensures takes { AddsSymbol B.limit (held self.old) (symbol_in_name symbol)
-            result (held self.new) }
+        ensures takes { PushesSymbol B.limit symbol self.old self.new result }
         ensures grows { (held self.old).capacity ≤ (held self.new).capacity }
     {
         self.labels.push_symbol(symbol)
@@ -339,8 +327,7 @@ impl<B: OctetsBuilder + OctetsMut> NameBuilder<B> {
     ) -> Result<(), FromStrError>
         requires can { I.can_next symbols }
         requires ends { IsFinite (I.remaining symbols) }
-        ensures takes { (ss : List Symbol) → AlwaysYields I.next_gives (λ x. x) symbols ss →
-            AddsSymbols B.limit (held self.old) (symbols_in_name ss) result (held self.new) }
+        ensures takes { PushesSymbols B.limit I.next_gives symbols self.old self.new result }
         ensures grows { (held self.old).capacity ≤ (held self.new).capacity }
     {
         self.labels.append_symbols(symbols)
@@ -356,9 +343,7 @@ impl<B: OctetsBuilder + OctetsMut> NameBuilder<B> {
     ) -> Result<(), FromStrError>
         requires can { I.can_next chars }
         requires ends { IsFinite (I.remaining chars) }
-        ensures takes { (cs : List ℕ) (items : Items) →
-            AlwaysYields I.next_gives (λ c. c) chars cs → ReadsSymbols cs items →
-            AddsSymbols B.limit (held self.old) (name_symbols items) result (held self.new) }
+        ensures takes { PushesChars B.limit I.next_gives chars self.old self.new result }
         ensures grows { (held self.old).capacity ≤ (held self.new).capacity }
     {
         self.labels.append_chars(chars)
@@ -366,8 +351,7 @@ impl<B: OctetsBuilder + OctetsMut> NameBuilder<B> {
 
     /// Pushes the symbols of a text in turn, as `append_chars` does those of its characters.
     pub(crate) fn append_str(&mut self, text: &str) -> Result<(), FromStrError>
-        ensures takes { (items : Items) → ReadsSymbols (chars text.now) items →
-            AddsSymbols B.limit (held self.old) (name_symbols items) result (held self.new) }
+        ensures takes { PushesText B.limit (chars text.now) self.old self.new result }
         ensures grows { (held self.old).capacity ≤ (held self.new).capacity }
     {
         self.labels.append_str(text)
@@ -378,6 +362,9 @@ impl<B: OctetsBuilder + OctetsMut + FreezeBuilder + Drop> NameBuilder<B>
 where
     B::Octets: Drop,
 {
+    ghost use Rattle.domain_builder.specs.Pushing.{RoomAlone};
+    ghost use Rattle.domain_name.specs.Builders.{AnswersOrigin};
+
     /// Finishes the open label and returns the labels as a relative name. It can't fail.
     #[inline(always)]
     pub fn finish(self) -> RelativeName<B::Octets>
@@ -416,8 +403,7 @@ where
     ) -> Result<Name<B::Octets>, PushNameError>
         ensures ok { IfOk result
             (λ name. name_labels name ≡ closed (built self) ++ N.labels origin.now) }
-        ensures answer { OriginFits (size (built self) + length (wire (N.labels origin.now)))
-            (room B.limit (held self)) result }
+        ensures answer { AnswersOrigin B.limit (N.labels origin.now) self result }
     {
         let NameBuilder { labels } = self;
         match labels.append_origin(origin) {

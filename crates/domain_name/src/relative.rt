@@ -1,12 +1,11 @@
 //! Relative names.
-ghost use Rattle.std.specs.Prelude.{◌≡◌, ◌≤◌, ◌<◌, ◌-◌, ◌∷◌, [], ◌++◌, ◌↔◌, ℕ, List, length, IsTrue, IsOk, IfOk, IfErr, IsErr, IfSome, IsNone, OnOk, OnErr};
+ghost use Rattle.std.specs.Prelude.{◌≡◌, ◌≤◌, ◌<◌, ◌-◌, [], ◌++◌, ◌↔◌, length, IsTrue, IsOk, IfOk, IfErr, IsErr, IfSome, IsNone, OnOk, OnErr};
 ghost use Rattle.domain_label.specs.Lowercase.{lowercase_labels};
 ghost use Rattle.domain_label.specs.Wire.{wire, Root, IsRelativeName, IsRelativeWire};
 ghost use Rattle.domain_label.specs.Labels.{label_octets};
 ghost use Rattle.domain_label.proofs.WireLaws.{IsRelativeWire_prop};
-ghost use Rattle.domain_flat.specs.Faults.{RelativeFault};
 ghost use Rattle.domain_flat.specs.Flat.{IsLabelEnd, IsPartOf};
-ghost use Rattle.domain_flat.specs.FlatLabels.{relative_name_error_kind, flat_labels_left};
+ghost use Rattle.domain_flat.specs.FlatLabels.{flat_labels_left, TellsRelativeFault};
 ghost use Rattle.domain_list.specs.ChainParts.{left_part, right_part};
 ghost use Rattle.domain_list.specs.Chains.{before_root};
 ghost use Rattle.domain_list.specs.Ends.{StartsWith, EndsWith};
@@ -48,7 +47,7 @@ impl<Octs: Octets + Copy> Clone for RelativeName<Octs> {
 }
 
 impl<Octs: Octets + Drop> RelativeName<Octs> {
-    ghost use Rattle.domain_name.specs.Names.{relative_octets, relative_labels, relative_holder, name_labels};
+    ghost use Rattle.domain_name.specs.Names.{relative_octets, relative_labels, relative_holder, name_labels, ReadsRelativeWire, IsChainOf};
 
     /// The name whose wire format the octets are.
     ///
@@ -58,11 +57,9 @@ impl<Octs: Octets + Drop> RelativeName<Octs> {
     pub fn from_octets(octets: Octs) -> Result<RelativeName<Octs>, RelativeNameError>
         ensures ok { IfOk result (λ name. relative_octets name ≡ Octs.octets octets) }
         ensures holder { IfOk result (λ name. relative_holder name ≡ octets) }
-        ensures list { (ls : List (List ℕ)) → IsRelativeName ls → Octs.octets octets ≡ wire ls →
-            IfOk result (λ name. relative_labels name ≡ ls) }
+        ensures list { ReadsRelativeWire (Octs.octets octets) result }
         ensures accepts { IsOk result ↔ IsRelativeWire (Octs.octets octets) }
-        ensures err { IfErr result
-            (λ e. RelativeFault (Octs.octets octets) (relative_name_error_kind e)) }
+        ensures err { IfErr result (TellsRelativeFault (Octs.octets octets)) }
     {
         check_relative(octets.as_slice())?;
         Ok(RelativeName { octets })
@@ -75,8 +72,7 @@ impl<Octs: Octets + Drop> RelativeName<Octs> {
         self,
         other: N,
     ) -> Result<Chain<RelativeName<Octs>, N>, LongChainError>
-        ensures parts { IfOk result
-            (λ chain. (left_part chain ≡ self) × (right_part chain ≡ other)) }
+        ensures parts { IfOk result (IsChainOf self other) }
         ensures long { IsErr result ↔ (254 < before_root (relative_labels self ++ N.labels other)) }
     {
         Chain::new(self, other)
@@ -95,23 +91,21 @@ impl<Octs: Octets + Drop> RelativeName<Octs> {
 }
 
 impl<'a> RelativeName<&'a [u8]> {
-    ghost use Rattle.domain_name.specs.Names.{relative_octets, relative_labels};
+    ghost use Rattle.domain_name.specs.Names.{relative_octets, relative_labels, ReadsRelativeWire, IsFirstAndRelativeParent};
 
     /// The name whose wire format the octets are, with the errors of `from_octets`.
     pub fn from_slice(octets: &'a [u8]) -> Result<RelativeName<&'a [u8]>, RelativeNameError>
         ensures ok { IfOk result (λ name. relative_octets name ≡ octets.now) }
-        ensures list { (ls : List (List ℕ)) → IsRelativeName ls → octets.now ≡ wire ls →
-            IfOk result (λ name. relative_labels name ≡ ls) }
+        ensures list { ReadsRelativeWire octets.now result }
         ensures accepts { IsOk result ↔ IsRelativeWire octets.now }
-        ensures err { IfErr result (λ e. RelativeFault octets.now (relative_name_error_kind e)) }
+        ensures err { IfErr result (TellsRelativeFault octets.now) }
     {
         RelativeName::from_octets(octets)
     }
 
     /// The first label, and the name of the labels after it. `None` where there is no label.
     pub(crate) fn split_slice(self) -> Option<(Label<'a>, RelativeName<&'a [u8]>)>
-        ensures some { IfSome result
-            (λ parts. relative_labels self.entry ≡ label_octets parts.0 ∷ relative_labels parts.1) }
+        ensures some { IfSome result (IsFirstAndRelativeParent self.entry) }
         ensures none { IsNone result ↔ (relative_labels self.entry ≡ []) }
     {
         let mut labels = NameIter::new(self.octets);
@@ -126,7 +120,7 @@ impl<'a> RelativeName<&'a [u8]> {
 }
 
 impl RelativeName<&'static [u8]> {
-    ghost use Rattle.domain_name.specs.Names.{relative_labels};
+    ghost use Rattle.domain_name.specs.Names.{relative_labels, Wildcard};
 
     /// The name without labels.
     pub fn empty_ref() -> RelativeName<&'static [u8]>
@@ -144,14 +138,14 @@ impl RelativeName<&'static [u8]> {
 
     /// The name of one label, an asterisk (RFC 4592, 2.1.1).
     pub fn wildcard_ref() -> RelativeName<&'static [u8]>
-        ensures { relative_labels result ≡ (42 ∷ []) ∷ [] }
+        ensures { relative_labels result ≡ Wildcard }
     {
         RelativeName { octets: b"\x01*" }
     }
 
     /// The name of one label, an asterisk (RFC 4592, 2.1.1).
     pub fn wildcard_slice() -> RelativeName<&'static [u8]>
-        ensures { relative_labels result ≡ (42 ∷ []) ∷ [] }
+        ensures { relative_labels result ≡ Wildcard }
     {
         Self::wildcard_ref()
     }
@@ -328,12 +322,11 @@ impl<Octs: Octets> RelativeName<Octs> {
 }
 
 impl<Octs: Octets> RelativeName<Octs> {
-    ghost use Rattle.domain_name.specs.Names.{relative_labels, IsParent};
+    ghost use Rattle.domain_name.specs.Names.{relative_labels, IsParent, IsFirstAndRelativeParent};
 
     /// The first label, and the name of the labels after it. `None` where there is no label.
     pub fn split_first(&self) -> Option<(Label<'_>, RelativeName<&[u8]>)>
-        ensures some { IfSome result
-            (λ parts. relative_labels self.now ≡ label_octets parts.0 ∷ relative_labels parts.1) }
+        ensures some { IfSome result (IsFirstAndRelativeParent self.now) }
         ensures none { IsNone result ↔ (relative_labels self.now ≡ []) }
     {
         self.for_slice().split_slice()
@@ -351,16 +344,14 @@ impl<Octs: Octets> RelativeName<Octs> {
 }
 
 impl<Octs: Truncate> RelativeName<Octs> {
-    ghost use Rattle.domain_name.specs.Names.{relative_labels, relative_holder, IsStripped};
+    ghost use Rattle.domain_name.specs.Names.{relative_labels, relative_capacity, IsFront, IsStripped};
 
     /// Keeps the labels before an offset of the wire format where `is_label_start` is true.
     pub fn truncate(&mut self, len: usize)
         requires { IsLabelEnd (relative_labels self.old) len }
-        ensures parts { (after : List (List ℕ))
-            × (relative_labels self.old ≡ relative_labels self.new ++ after) }
+        ensures parts { IsFront (relative_labels self.old) (relative_labels self.new) }
         ensures offset { length (wire (relative_labels self.new)) ≡ len }
-        ensures capacity { Octs.capacity (relative_holder self.new)
-            ≡ Octs.capacity (relative_holder self.old) }
+        ensures capacity { relative_capacity self.new ≡ relative_capacity self.old }
     {
         self.octets.truncate(len);
     }
@@ -376,8 +367,7 @@ impl<Octs: Truncate> RelativeName<Octs> {
         ensures ok { OnOk result
             (IsStripped (relative_labels self.old) (N.labels base.now) (relative_labels self.new)) }
         ensures unchanged { OnErr result (self.new ≡ self.old) }
-        ensures capacity { Octs.capacity (relative_holder self.new)
-            ≡ Octs.capacity (relative_holder self.old) }
+        ensures capacity { relative_capacity self.new ≡ relative_capacity self.old }
     {
         let Some(offset) = suffix_offset(self.octets.as_slice(), base) else {
             return Err(StripSuffixError);
@@ -388,13 +378,12 @@ impl<Octs: Truncate> RelativeName<Octs> {
 }
 
 impl<Octs: OctetsMut> RelativeName<Octs> {
-    ghost use Rattle.domain_name.specs.Names.{relative_labels, relative_holder};
+    ghost use Rattle.domain_name.specs.Names.{relative_labels, relative_capacity};
 
     /// Makes A to Z of each label a to z, its canonical form (RFC 4034, 6.2).
     pub fn make_canonical(&mut self)
         ensures labels { relative_labels self.new ≡ lowercase_labels (relative_labels self.old) }
-        ensures capacity { Octs.capacity (relative_holder self.new)
-            ≡ Octs.capacity (relative_holder self.old) }
+        ensures capacity { relative_capacity self.new ≡ relative_capacity self.old }
     {
         make_lowercase(&mut self.octets);
     }
@@ -419,7 +408,7 @@ impl<Src: Octets, Octs: SameOctets<Src>> OctetsFrom<RelativeName<Src>> for Relat
 }
 
 impl<Octs: SameOctets<&'static [u8]>> RelativeName<Octs> {
-    ghost use Rattle.domain_name.specs.Names.{relative_labels, MayRefuse};
+    ghost use Rattle.domain_name.specs.Names.{relative_labels, Wildcard, MayRefuse};
 
     /// The name without labels.
     ///
@@ -438,9 +427,9 @@ impl<Octs: SameOctets<&'static [u8]>> RelativeName<Octs> {
     ///
     /// `ShortBuf` only where a value can't be made of these two octets.
     pub fn wildcard(alloc: Global) -> Result<RelativeName<Octs>, ShortBuf>
-        ensures ok { IfOk result (λ name. relative_labels name ≡ (42 ∷ []) ∷ []) }
+        ensures ok { IfOk result (λ name. relative_labels name ≡ Wildcard) }
         ensures err { OnErr result
-            (MayRefuse Octs.may_refuse (λ source. source.now) (wire ((42 ∷ []) ∷ []))) }
+            (MayRefuse Octs.may_refuse (λ source. source.now) (wire Wildcard)) }
     {
         match RelativeName::try_octets_from(alloc, RelativeName::wildcard_ref()) {
             Ok(name) => Ok(name),
@@ -450,7 +439,7 @@ impl<Octs: SameOctets<&'static [u8]>> RelativeName<Octs> {
 }
 
 impl RelativeName<Vec<u8>> {
-    ghost use Rattle.domain_name.specs.Names.{relative_octets, relative_labels};
+    ghost use Rattle.domain_name.specs.Names.{relative_octets, relative_labels, Wildcard};
 
     /// The name without labels, which allocates nothing and never fails.
     pub fn empty_vec(alloc: Global) -> Result<RelativeName<Vec<u8>>, ShortBuf>
@@ -462,7 +451,7 @@ impl RelativeName<Vec<u8>> {
 
     /// The name of one label, an asterisk. `ShortBuf` only where an allocation failed.
     pub fn wildcard_vec(alloc: Global) -> Result<RelativeName<Vec<u8>>, ShortBuf>
-        ensures { IfOk result (λ name. relative_labels name ≡ (42 ∷ []) ∷ []) }
+        ensures { IfOk result (λ name. relative_labels name ≡ Wildcard) }
     {
         RelativeName::wildcard(alloc)
     }

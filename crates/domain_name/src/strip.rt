@@ -1,6 +1,7 @@
 //! Removing the last labels of uncompressed names.
 ghost use Rattle.std.specs.Prelude.{◌≡◌, ◌+◌, Some, length, IfSome, IsSome, ◌↔◌, codes};
-ghost use Rattle.domain_label.specs.Wire.{IsWire, labels_in, wire};
+ghost use Rattle.domain_label.specs.Wire.{IsWire, labels_in};
+ghost use Rattle.domain_flat.specs.Flat.{wire_len};
 ghost use Rattle.domain_list.specs.Ends.{EndsWith};
 
 use domain_flat::is_label_end;
@@ -51,7 +52,7 @@ pub(crate) fn suffix_offset<'a, N: ToLabelIter<'a>>(octets: &[u8], base: &'a N) 
     requires { IsWire octets.now }
     ensures exact { IsSome result ↔ EndsWith (labels_in octets.now) (N.labels base.now) }
     ensures offset { IfSome result
-        (λ offset. offset + length (wire (N.labels base.now)) ≡ length octets.now) }
+        (λ offset. offset + wire_len (N.labels base.now) ≡ length octets.now) }
 {
     if let Some(suffix) = base.as_flat_slice() {
         return offset_of_suffix(octets, suffix);

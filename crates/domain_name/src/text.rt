@@ -1,15 +1,11 @@
 //! Names from text (RFC 1035, 5.1), from addresses, and back to builders.
-ghost use Rattle.std.specs.Prelude.{◌≡◌, ◌++◌, ◌<◌, ◌≤◌, ◌+◌, ℕ, List, Option, Some, None, length, IfOk, IfErr, IfSome, OnErr, MatchResult};
-ghost use Rattle.std.specs.Iterator.{AlwaysYields, IsFinite};
+ghost use Rattle.std.specs.Prelude.{◌≡◌, ◌++◌, ◌<◌, ◌≤◌, ◌+◌, Some, None, IfOk, IfErr, IfSome, OnErr};
+ghost use Rattle.std.specs.Iterator.{IsFinite};
 ghost use Rattle.std.specs.Str.{chars};
-ghost use Rattle.domain_label.specs.Wire.{wire, Root};
-ghost use Rattle.domain_label.specs.declared.symbol.Symbol.{Symbol};
-ghost use Rattle.domain_builder.specs.NameSymbols.{symbols_in_name};
-ghost use Rattle.domain_builder.specs.TextGrammar.{IsTextOfName, IsTextOfNoName, IsTextOfRelative, IsTextOfNoRelative};
-ghost use Rattle.domain_builder.specs.TextErrors.{MakesName, NoNameRead, NoRelativeRead, LacksCapacity, RelativeLacksCapacity, IsErrorOfText, IsErrorOfRelativeText, ReadsNameText, ReadsRelativeText};
-ghost use Rattle.domain_builder.specs.declared.name_symbol.TextFault.{TextFault};
+ghost use Rattle.domain_label.specs.Wire.{Root};
+ghost use Rattle.domain_builder.specs.TextErrors.{ReadsNameText, ReadsRelativeText};
 ghost use Rattle.domain_builder.specs.declared.push_error.PushError.TheVariants.{ShortBuf};
-ghost use Rattle.domain_name.specs.Names.{name_labels, relative_holder, relative_labels};
+ghost use Rattle.domain_name.specs.Names.{name_labels, relative_labels, relative_capacity};
 
 use crate::absolute::Name;
 use crate::builder::NameBuilder;
@@ -30,6 +26,8 @@ impl<Octs: FromBuilder + Drop> Name<Octs>
 where
     Octs::Builder: EmptyBuilder + Drop,
 {
+    ghost use Rattle.domain_name.specs.Texts.{ReadsChars, TellsCharsFault, AcceptsChars, RefusesChars, MakesNameOf};
+
     /// Reads an absolute name from text, as `www.example.com` with or without a dot at the end
     /// (RFC 1035, 5.1).
     ///
@@ -45,17 +43,10 @@ where
     ) -> Result<Self, FromStrError>
         requires can { I.can_next chars }
         requires ends { IsFinite (I.remaining chars) }
-        ensures ok { (cs : List ℕ) → AlwaysYields I.next_gives (λ c. c) chars cs →
-            IfOk result (λ name. IsTextOfName cs (name_labels name)) }
-        ensures err { (cs : List ℕ) → AlwaysYields I.next_gives (λ c. c) chars cs →
-            IfErr result (NoNameRead Octs.Builder.ROOM cs) }
-        ensures accepts { (cs : List ℕ) (ls : List (List ℕ)) →
-            AlwaysYields I.next_gives (λ c. c) chars cs → IsTextOfName cs ls →
-            MatchResult result (λ name. name_labels name ≡ ls)
-            (LacksCapacity Octs.Builder.ROOM ls) }
-        ensures exact { (cs : List ℕ) (f : TextFault) →
-            AlwaysYields I.next_gives (λ c. c) chars cs → IsTextOfNoName cs f →
-            MatchResult result (λ _. ⊥) (IsErrorOfText f) }
+        ensures ok { ReadsChars I.next_gives chars result }
+        ensures err { TellsCharsFault I.next_gives chars Octs.Builder.ROOM result }
+        ensures accepts { AcceptsChars I.next_gives chars Octs.Builder.ROOM result }
+        ensures exact { RefusesChars I.next_gives chars result }
     {
         match absolute_from_chars(alloc, chars) {
             Ok(octets) => Ok(Name::from_wire(octets)),
@@ -71,8 +62,7 @@ where
     ) -> Result<Self, FromStrError>
         requires can { I.can_next symbols }
         requires ends { IsFinite (I.remaining symbols) }
-        ensures { (ss : List Symbol) → AlwaysYields I.next_gives (λ x. x) symbols ss →
-            MakesName name_labels Octs.Builder.ROOM (symbols_in_name ss) result }
+        ensures { MakesNameOf I.next_gives symbols Octs.Builder.ROOM result }
     {
         match absolute_from_symbols(alloc, symbols) {
             Ok(octets) => Ok(Name::from_wire(octets)),
@@ -85,8 +75,8 @@ impl<Octs: FromBuilder + Drop> Name<Octs>
 where
     Octs::Builder: EmptyBuilder + Drop,
 {
-    ghost use Rattle.octseq.specs.Capacity.{MayExceedCapacity};
     ghost use Rattle.domain_builder.specs.Reverse.{reverse_name};
+    ghost use Rattle.domain_name.specs.Names.{WireMayExceed};
 
     /// The name under which an address is looked up: for IPv4 its octets in decimal, the last first, under
     /// `in-addr.arpa` (RFC 1035, 3.5); for IPv6 each four bits as an upper case digit, the last first,
@@ -96,7 +86,7 @@ where
     pub fn reverse_from_addr(alloc: Global, addr: IpAddr) -> Result<Self, PushError>
         ensures ok { IfOk result (λ name. name_labels name ≡ reverse_name addr) }
         ensures err { IfErr result (λ e. (e ≡ ShortBuf)
-            × MayExceedCapacity Octs.Builder.ROOM (length (wire (reverse_name addr)))) }
+            × WireMayExceed Octs.Builder.ROOM (reverse_name addr)) }
     {
         match reverse_octets(alloc, addr) {
             Ok(octets) => Ok(Name::from_wire(octets)),
@@ -139,6 +129,8 @@ impl<Octs: FromBuilder + Drop> RelativeName<Octs>
 where
     Octs::Builder: EmptyBuilder + Drop,
 {
+    ghost use Rattle.domain_name.specs.Texts.{ReadsRelativeChars, TellsRelativeCharsFault, AcceptsRelativeChars, RefusesRelativeChars};
+
     /// Reads a relative name from text, as `www.example` (RFC 1035, 5.1).
     ///
     /// The empty text is the empty name. The error of a symbol that can't be added comes first, as for
@@ -152,17 +144,10 @@ where
     ) -> Result<Self, RelativeFromStrError>
         requires can { I.can_next chars }
         requires ends { IsFinite (I.remaining chars) }
-        ensures ok { (cs : List ℕ) → AlwaysYields I.next_gives (λ c. c) chars cs →
-            IfOk result (λ name. IsTextOfRelative cs (relative_labels name)) }
-        ensures err { (cs : List ℕ) → AlwaysYields I.next_gives (λ c. c) chars cs →
-            IfErr result (NoRelativeRead Octs.Builder.ROOM cs) }
-        ensures accepts { (cs : List ℕ) (ls : List (List ℕ)) →
-            AlwaysYields I.next_gives (λ c. c) chars cs → IsTextOfRelative cs ls →
-            MatchResult result (λ name. relative_labels name ≡ ls)
-            (RelativeLacksCapacity Octs.Builder.ROOM ls) }
-        ensures exact { (cs : List ℕ) (why : Option TextFault) →
-            AlwaysYields I.next_gives (λ c. c) chars cs → IsTextOfNoRelative cs why →
-            MatchResult result (λ _. ⊥) (IsErrorOfRelativeText why) }
+        ensures ok { ReadsRelativeChars I.next_gives chars result }
+        ensures err { TellsRelativeCharsFault I.next_gives chars Octs.Builder.ROOM result }
+        ensures accepts { AcceptsRelativeChars I.next_gives chars Octs.Builder.ROOM result }
+        ensures exact { RefusesRelativeChars I.next_gives chars result }
     {
         match relative_from_chars(alloc, chars) {
             Ok(octets) => Ok(RelativeName::from_wire(octets)),
@@ -212,8 +197,7 @@ where
     /// A builder with the name's labels, none of which is open, and with at least the capacity of the name's octets.
     pub fn into_builder(self) -> NameBuilder<Octs::Builder>
         ensures built { built result ≡ finished (relative_labels self) }
-        ensures room { Octs.capacity (relative_holder self)
-            ≤ room Octs.Builder.limit (held result) }
+        ensures room { relative_capacity self ≤ room Octs.Builder.limit (held result) }
     {
         NameBuilder::from_wire(self.into_octets().into_builder())
     }
@@ -223,6 +207,8 @@ impl<Octs: IntoBuilder + Drop> RelativeName<Octs>
 where
     Octs::Builder: OctetsMut + FreezeBuilder<Octets = Octs> + Drop,
 {
+    ghost use Rattle.domain_flat.specs.Flat.{wire_len};
+
     /// The absolute name of the name's labels and the root.
     ///
     /// `ShortBuf` only where the root exceeds the spare capacity of the name's octets, so never where it fits. Where
@@ -232,9 +218,9 @@ where
         ensures ok { IfOk result (λ name. name_labels name ≡ relative_labels self ++ Root) }
         ensures err { IfErr result (λ e. e ≡ ShortBuf) }
         ensures spare { OnErr result
-            (Octs.capacity (relative_holder self) < length (wire (relative_labels self)) + 1) }
+            (relative_capacity self < wire_len (relative_labels self) + 1) }
         ensures full { IfSome Octs.Builder.limit
-            (λ n. OnErr result (n < length (wire (relative_labels self)) + 1)) }
+            (λ n. OnErr result (n < wire_len (relative_labels self) + 1)) }
     {
         self.into_builder().into_name()
     }
