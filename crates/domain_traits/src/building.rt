@@ -3,7 +3,7 @@
 ghost use Rattle.std.specs.Prelude.{◌≡◌, ◌<◌, ℕ, List, length, IfOk, IsOkAnd, OnErr};
 ghost use Rattle.std.specs.Cow.{cow_slice_items, IsBorrowedSlice};
 ghost use Rattle.domain_label.specs.Wire.{wire, IsAbsoluteName, IsRelativeName};
-ghost use Rattle.domain_name.specs.Names.{name_labels, name_holder, relative_labels, relative_holder};
+ghost use Rattle.domain_name.specs.Names.{name_holder, relative_holder, IsNameOf, IsRelativeNameOf};
 
 use domain_list::ToLabelIter;
 use domain_list::composing::compose_name;
@@ -39,8 +39,7 @@ pub(crate) fn lend_or_build<'a, N: ToLabelIter<'a>>(
 #[inline(always)]
 pub(crate) fn name_of<Octs: Octets + Drop>(octets: Octs) -> Name<Octs>
     requires { (ls : List (List ℕ)) × IsAbsoluteName ls × (Octs.octets octets ≡ wire ls) }
-    ensures list { (ls : List (List ℕ)) → IsAbsoluteName ls → Octs.octets octets ≡ wire ls →
-        name_labels result ≡ ls }
+    ensures list { IsNameOf (Octs.octets octets) result }
     ensures holder { name_holder result ≡ octets }
 {
     Name::from_wire(octets)
@@ -50,8 +49,7 @@ pub(crate) fn name_of<Octs: Octets + Drop>(octets: Octs) -> Name<Octs>
 #[inline(always)]
 pub(crate) fn relative_name_of<Octs: Octets + Drop>(octets: Octs) -> RelativeName<Octs>
     requires { (ls : List (List ℕ)) × IsRelativeName ls × (Octs.octets octets ≡ wire ls) }
-    ensures list { (ls : List (List ℕ)) → IsRelativeName ls → Octs.octets octets ≡ wire ls →
-        relative_labels result ≡ ls }
+    ensures list { IsRelativeNameOf (Octs.octets octets) result }
     ensures holder { relative_holder result ≡ octets }
 {
     RelativeName::from_wire(octets)

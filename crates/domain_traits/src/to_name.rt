@@ -1,13 +1,12 @@
 //! The calls of absolute names.
-ghost use Rattle.std.specs.Prelude.{◌≡◌, ◌<◌, ◌≤◌, ◌+◌, ◌++◌, [], ◌↔◌, length, IsTrue, IfOk, IfSome, IsOkAnd, OnOk, OnErr};
-ghost use Rattle.std.specs.Cow.{IsBorrowedSlice};
-ghost use Rattle.domain_label.specs.Lowercase.{lowercase_labels};
+ghost use Rattle.std.specs.Prelude.{◌≡◌, ◌≤◌, [], ◌↔◌, length, IsTrue, IfOk, IfSome, IsOkAnd, OnOk, OnErr};
 ghost use Rattle.domain_label.specs.Wire.{wire};
 ghost use Rattle.domain_list.specs.Count.{rrsig_labels};
 ghost use Rattle.domain_list.specs.FinalDot.{dotted_name};
 ghost use Rattle.domain_list.specs.Order.{canonical_order, composed_order, lowercase_composed_order};
-ghost use Rattle.domain_name.specs.Names.{name_labels, name_holder};
-ghost use Rattle.octseq.specs.Capacity.{MayExceedCapacity};
+ghost use Rattle.domain_name.specs.Names.{name_labels, WireMayExceed};
+ghost use Rattle.domain_traits.specs.Composing.{canonical_wire, Adds, AddsForm, WireExceeds, FormExceeds};
+ghost use Rattle.domain_traits.specs.Copies.{IsCanonicalOf, BorrowsOctets, EqualIgnoringCase};
 
 use crate::building::{lend_or_build, name_of};
 use domain_list::comparing::{
@@ -39,7 +38,7 @@ pub trait ToName<'a>: AbsoluteLabels<'a> {
         Octs::Builder: EmptyBuilder + Drop,
         ensures ok { IfOk result (λ name. name_labels name ≡ Self.labels self.now) }
         ensures err { OnErr result
-            (MayExceedCapacity Octs.Builder.ROOM (length (wire (Self.labels self.now)))) }
+            (WireMayExceed Octs.Builder.ROOM (Self.labels self.now)) }
     {
         self.to_name(alloc)
     }
@@ -66,7 +65,7 @@ pub trait ToName<'a>: AbsoluteLabels<'a> {
         Octs::Builder: EmptyBuilder + Drop,
         ensures ok { IfOk result (λ name. name_labels name ≡ Self.labels self.now) }
         ensures err { OnErr result
-            (MayExceedCapacity Octs.Builder.ROOM (length (wire (Self.labels self.now)))) }
+            (WireMayExceed Octs.Builder.ROOM (Self.labels self.now)) }
     {
         // The body is here and not in the call above: a result that is passed on is copied once more.
         let mut target = Octs::Builder::with_capacity(alloc, self.compose_len() as usize)?;
@@ -86,10 +85,9 @@ pub trait ToName<'a>: AbsoluteLabels<'a> {
     ) -> Result<Name<Octs>, ShortBuf>
     where
         Octs::Builder: EmptyBuilder + Drop,
-        ensures ok { IfOk result
-            (λ name. name_labels name ≡ lowercase_labels (Self.labels self.now)) }
+        ensures ok { IfOk result (IsCanonicalOf (Self.labels self.now)) }
         ensures err { OnErr result
-            (MayExceedCapacity Octs.Builder.ROOM (length (wire (Self.labels self.now)))) }
+            (WireMayExceed Octs.Builder.ROOM (Self.labels self.now)) }
     {
         self.to_canonical_name(alloc)
     }
@@ -101,10 +99,9 @@ pub trait ToName<'a>: AbsoluteLabels<'a> {
     ) -> Result<Name<Octs>, ShortBuf>
     where
         Octs::Builder: EmptyBuilder + Drop,
-        ensures ok { IfOk result
-            (λ name. name_labels name ≡ lowercase_labels (Self.labels self.now)) }
+        ensures ok { IfOk result (IsCanonicalOf (Self.labels self.now)) }
         ensures err { OnErr result
-            (MayExceedCapacity Octs.Builder.ROOM (length (wire (Self.labels self.now)))) }
+            (WireMayExceed Octs.Builder.ROOM (Self.labels self.now)) }
     {
         // The body is here and not in the call above: a result that is passed on is copied once more.
         let mut target = Octs::Builder::with_capacity(alloc, self.compose_len() as usize)?;
@@ -128,7 +125,7 @@ pub trait ToName<'a>: AbsoluteLabels<'a> {
     final fn to_cow(&'a self, alloc: Global) -> Result<Name<CowSlice<'a, u8>>, ShortBuf>
         ensures ok { IfOk result (λ name. name_labels name ≡ Self.labels self.now) }
         ensures flat { Self.lies_flat self.now →
-            IsOkAnd result (λ name. IsBorrowedSlice (name_holder name)) }
+            IsOkAnd result BorrowsOctets }
     {
         Ok(name_of(lend_or_build(self, alloc)?))
     }
@@ -158,15 +155,12 @@ pub trait ToName<'a>: AbsoluteLabels<'a> {
         &'a self,
         target: &mut Target,
     ) -> Result<(), Target::AppendError>
-        ensures ok { OnOk result
-            (Target.octets target.new ≡ Target.octets target.old ++ wire (Self.labels self.now)) }
+        ensures ok { OnOk result (Adds Target.Octets Self.labels self.now target.old target.new) }
         ensures extends { OnOk result
             (Target.extends target.old (wire (Self.labels self.now)) target.new) }
         ensures unchanged { OnErr result (Target.octets target.new ≡ Target.octets target.old) }
         ensures nothing { OnErr result (Target.extends target.old [] target.new) }
-        ensures full { OnErr result
-            (Target.capacity target.old
-            < length (Target.octets target.old) + length (wire (Self.labels self.now))) }
+        ensures full { OnErr result (WireExceeds Target.Octets Self.labels self.now target.old) }
         ensures capacity { Target.capacity target.old ≤ Target.capacity target.new }
         ensures within { IfSome Target.limit (λ n. length (Target.octets target.new) ≤ n) }
         ensures fixed { IfSome Target.limit (λ n. Target.capacity target.old ≡ n) }
@@ -181,17 +175,11 @@ pub trait ToName<'a>: AbsoluteLabels<'a> {
         &'a self,
         target: &mut Target,
     ) -> Result<(), Target::AppendError>
-        ensures ok { OnOk result
-            (Target.octets target.new
-            ≡ Target.octets target.old ++ wire (lowercase_labels (Self.labels self.now))) }
-        ensures extends { OnOk result (Target.extends target.old
-            (wire (lowercase_labels (Self.labels self.now))) target.new) }
+        ensures ok { OnOk result (AddsForm Target.Octets Self.labels self.now target.old target.new) }
+        ensures extends { OnOk result (Target.extends target.old (canonical_wire (Self.labels self.now)) target.new) }
         ensures unchanged { OnErr result (Target.octets target.new ≡ Target.octets target.old) }
         ensures nothing { OnErr result (Target.extends target.old [] target.new) }
-        ensures full { OnErr result
-            (Target.capacity target.old
-            < length (Target.octets target.old)
-            + length (wire (lowercase_labels (Self.labels self.now)))) }
+        ensures full { OnErr result (FormExceeds Target.Octets Self.labels self.now target.old) }
         ensures capacity { Target.capacity target.old ≤ Target.capacity target.new }
         ensures within { IfSome Target.limit (λ n. length (Target.octets target.new) ≤ n) }
         ensures fixed { IfSome Target.limit (λ n. Target.capacity target.old ≡ n) }
@@ -212,8 +200,7 @@ pub trait ToName<'a>: AbsoluteLabels<'a> {
     /// }
     /// ```
     final fn name_eq<N: AbsoluteLabels<'a>>(&'a self, other: &'a N) -> bool
-        ensures { IsTrue result
-            ↔ (lowercase_labels (Self.labels self.now) ≡ lowercase_labels (N.labels other.now)) }
+        ensures { IsTrue result ↔ EqualIgnoringCase (Self.labels self.now) (N.labels other.now) }
     {
         eq_names(self, other)
     }

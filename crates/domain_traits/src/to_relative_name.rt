@@ -1,13 +1,12 @@
 //! The calls of relative names.
-ghost use Rattle.std.specs.Prelude.{◌≡◌, [], ◌<◌, ◌≤◌, ◌+◌, ◌++◌, ◌↔◌, length, IsTrue, IsErr, IfOk, IfSome, IsOkAnd, OnOk, OnErr};
-ghost use Rattle.std.specs.Cow.{IsBorrowedSlice};
-ghost use Rattle.domain_label.specs.Lowercase.{lowercase_labels};
+ghost use Rattle.std.specs.Prelude.{◌≡◌, [], ◌<◌, ◌≤◌, ◌++◌, ◌↔◌, length, IsTrue, IsErr, IfOk, IfSome, IsOkAnd, OnOk, OnErr};
 ghost use Rattle.domain_label.specs.Wire.{wire, Root};
 ghost use Rattle.domain_list.specs.ChainParts.{left_part, right_part};
 ghost use Rattle.domain_list.specs.Chains.{before_root};
 ghost use Rattle.domain_list.specs.Order.{canonical_order};
-ghost use Rattle.domain_name.specs.Names.{name_labels, relative_labels, relative_holder};
-ghost use Rattle.octseq.specs.Capacity.{MayExceedCapacity};
+ghost use Rattle.domain_name.specs.Names.{name_labels, relative_labels, WireMayExceed, IsChainOf};
+ghost use Rattle.domain_traits.specs.Composing.{canonical_wire, Adds, AddsForm, WireExceeds, FormExceeds};
+ghost use Rattle.domain_traits.specs.Copies.{IsRelativeCanonicalOf, BorrowsRelativeOctets, EqualIgnoringCase};
 
 use crate::building::{lend_or_build, relative_name_of};
 use domain_list::comparing::{eq_names, order_names};
@@ -36,7 +35,7 @@ pub trait ToRelativeName<'a>: RelativeLabels<'a> {
         Octs::Builder: EmptyBuilder + Drop,
         ensures ok { IfOk result (λ name. relative_labels name ≡ Self.labels self.now) }
         ensures err { OnErr result
-            (MayExceedCapacity Octs.Builder.ROOM (length (wire (Self.labels self.now)))) }
+            (WireMayExceed Octs.Builder.ROOM (Self.labels self.now)) }
     {
         self.to_relative_name(alloc)
     }
@@ -50,7 +49,7 @@ pub trait ToRelativeName<'a>: RelativeLabels<'a> {
         Octs::Builder: EmptyBuilder + Drop,
         ensures ok { IfOk result (λ name. relative_labels name ≡ Self.labels self.now) }
         ensures err { OnErr result
-            (MayExceedCapacity Octs.Builder.ROOM (length (wire (Self.labels self.now)))) }
+            (WireMayExceed Octs.Builder.ROOM (Self.labels self.now)) }
     {
         // The body is here and not in the call above: a result that is passed on is copied once more.
         let mut target = Octs::Builder::with_capacity(alloc, self.compose_len() as usize)?;
@@ -69,10 +68,9 @@ pub trait ToRelativeName<'a>: RelativeLabels<'a> {
     ) -> Result<RelativeName<Octs>, ShortBuf>
     where
         Octs::Builder: EmptyBuilder + Drop,
-        ensures ok { IfOk result
-            (λ name. relative_labels name ≡ lowercase_labels (Self.labels self.now)) }
+        ensures ok { IfOk result (IsRelativeCanonicalOf (Self.labels self.now)) }
         ensures err { OnErr result
-            (MayExceedCapacity Octs.Builder.ROOM (length (wire (Self.labels self.now)))) }
+            (WireMayExceed Octs.Builder.ROOM (Self.labels self.now)) }
     {
         self.to_canonical_relative_name(alloc)
     }
@@ -84,10 +82,9 @@ pub trait ToRelativeName<'a>: RelativeLabels<'a> {
     ) -> Result<RelativeName<Octs>, ShortBuf>
     where
         Octs::Builder: EmptyBuilder + Drop,
-        ensures ok { IfOk result
-            (λ name. relative_labels name ≡ lowercase_labels (Self.labels self.now)) }
+        ensures ok { IfOk result (IsRelativeCanonicalOf (Self.labels self.now)) }
         ensures err { OnErr result
-            (MayExceedCapacity Octs.Builder.ROOM (length (wire (Self.labels self.now)))) }
+            (WireMayExceed Octs.Builder.ROOM (Self.labels self.now)) }
     {
         // The body is here and not in the call above: a result that is passed on is copied once more.
         let mut target = Octs::Builder::with_capacity(alloc, self.compose_len() as usize)?;
@@ -113,7 +110,7 @@ pub trait ToRelativeName<'a>: RelativeLabels<'a> {
     final fn to_cow(&'a self, alloc: Global) -> Result<RelativeName<CowSlice<'a, u8>>, ShortBuf>
         ensures ok { IfOk result (λ name. relative_labels name ≡ Self.labels self.now) }
         ensures flat { Self.lies_flat self.now →
-            IsOkAnd result (λ name. IsBorrowedSlice (relative_holder name)) }
+            IsOkAnd result BorrowsRelativeOctets }
         ensures err { OnErr result (0 < length (wire (Self.labels self.now))) }
     {
         Ok(relative_name_of(lend_or_build(self, alloc)?))
@@ -127,15 +124,12 @@ pub trait ToRelativeName<'a>: RelativeLabels<'a> {
         &'a self,
         target: &mut Target,
     ) -> Result<(), Target::AppendError>
-        ensures ok { OnOk result
-            (Target.octets target.new ≡ Target.octets target.old ++ wire (Self.labels self.now)) }
+        ensures ok { OnOk result (Adds Target.Octets Self.labels self.now target.old target.new) }
         ensures extends { OnOk result
             (Target.extends target.old (wire (Self.labels self.now)) target.new) }
         ensures unchanged { OnErr result (Target.octets target.new ≡ Target.octets target.old) }
         ensures nothing { OnErr result (Target.extends target.old [] target.new) }
-        ensures full { OnErr result
-            (Target.capacity target.old
-            < length (Target.octets target.old) + length (wire (Self.labels self.now))) }
+        ensures full { OnErr result (WireExceeds Target.Octets Self.labels self.now target.old) }
         ensures capacity { Target.capacity target.old ≤ Target.capacity target.new }
         ensures within { IfSome Target.limit (λ n. length (Target.octets target.new) ≤ n) }
         ensures fixed { IfSome Target.limit (λ n. Target.capacity target.old ≡ n) }
@@ -150,17 +144,11 @@ pub trait ToRelativeName<'a>: RelativeLabels<'a> {
         &'a self,
         target: &mut Target,
     ) -> Result<(), Target::AppendError>
-        ensures ok { OnOk result
-            (Target.octets target.new
-            ≡ Target.octets target.old ++ wire (lowercase_labels (Self.labels self.now))) }
-        ensures extends { OnOk result (Target.extends target.old
-            (wire (lowercase_labels (Self.labels self.now))) target.new) }
+        ensures ok { OnOk result (AddsForm Target.Octets Self.labels self.now target.old target.new) }
+        ensures extends { OnOk result (Target.extends target.old (canonical_wire (Self.labels self.now)) target.new) }
         ensures unchanged { OnErr result (Target.octets target.new ≡ Target.octets target.old) }
         ensures nothing { OnErr result (Target.extends target.old [] target.new) }
-        ensures full { OnErr result
-            (Target.capacity target.old
-            < length (Target.octets target.old)
-            + length (wire (lowercase_labels (Self.labels self.now)))) }
+        ensures full { OnErr result (FormExceeds Target.Octets Self.labels self.now target.old) }
         ensures capacity { Target.capacity target.old ≤ Target.capacity target.new }
         ensures within { IfSome Target.limit (λ n. length (Target.octets target.new) ≤ n) }
         ensures fixed { IfSome Target.limit (λ n. Target.capacity target.old ≡ n) }
@@ -182,8 +170,7 @@ pub trait ToRelativeName<'a>: RelativeLabels<'a> {
     final fn chain<N: NameLabels + Drop>(self, other: N) -> Result<Chain<Self, N>, LongChainError>
     where
         Self: Sized + Drop,
-        ensures parts { IfOk result
-            (λ chain. (left_part chain ≡ self) × (right_part chain ≡ other)) }
+        ensures parts { IfOk result (IsChainOf self other) }
         ensures long { IsErr result ↔ (254 < before_root (Self.labels self ++ N.labels other)) }
     {
         Chain::new(self, other)
@@ -205,8 +192,7 @@ pub trait ToRelativeName<'a>: RelativeLabels<'a> {
 
     /// Whether the labels are the same ignoring ASCII case (RFC 4343).
     final fn name_eq<N: RelativeLabels<'a>>(&'a self, other: &'a N) -> bool
-        ensures { IsTrue result
-            ↔ (lowercase_labels (Self.labels self.now) ≡ lowercase_labels (N.labels other.now)) }
+        ensures { IsTrue result ↔ EqualIgnoringCase (Self.labels self.now) (N.labels other.now) }
     {
         eq_names(self, other)
     }
