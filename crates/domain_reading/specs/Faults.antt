@@ -47,6 +47,10 @@ pub record NameFaultAt (n : ℕ) (m : List ℕ) (p : ℕ) (fault : NameFault) : 
 abbrev pub AreSameFault : {n : ℕ} {m : List ℕ} {p : ℕ} {d e : NameFault} → NameFaultAt n m p d → NameFaultAt n m p e → Type 0
 AreSameFault {d = d} {e} f g = (d ≡ e) × (f.pointers ≡ g.pointers) × (f.passed ≡ g.passed)
 
+-- There is at most one, after one list of labels and one number of pointers.
+abbrev pub HasOneFault : ℕ → List ℕ → ℕ → Type 0
+HasOneFault n m p = (d e : NameFault) (f : NameFaultAt n m p d) (g : NameFaultAt n m p e) → AreSameFault f g
+
 -- There is an error for the name at p.
 abbrev pub HasFault : ℕ → List ℕ → ℕ → Type 0
 HasFault n m p = (e : NameFault) × NameFaultAt n m p e
@@ -81,3 +85,7 @@ pub record SkipFault (m : List ℕ) (p : ℕ) (fault : NameFault) : Type 0 where
   pub run : LabelRun m p passed stopped
   pub short : length (wire passed) ≤ max_name
   pub at : SkipFaultAt m passed stopped fault
+
+-- There is an error for skipping one at p.
+abbrev pub HasSkipFault : List ℕ → ℕ → Type 0
+HasSkipFault m p = (d : NameFault) × SkipFault m p d

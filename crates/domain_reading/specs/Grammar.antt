@@ -1,5 +1,5 @@
 -- Names in a message, with compression pointers (RFC 1035, 4.1.4). `m` is the message: the list of its octets.
-use Rattle.std.specs.Prelude.{◌≡◌, ℕ, suc, ◌+◌, ◌*◌, ◌≤◌, ◌<◌, List, [], ◌∷◌, length, slice_index, slice_range}
+use Rattle.std.specs.Prelude.{◌≡◌, ℕ, suc, ◌+◌, ◌*◌, ◌≤◌, ◌<◌, List, [], ◌∷◌, ◌++◌, length, slice_index, slice_range}
 use Rattle.domain_label.specs.Wire.{wire, Root}
 use Rattle.domain_reading.specs.Limits.{max_name}
 
@@ -59,6 +59,17 @@ pub record Encoding (m : List ℕ) (p : ℕ) (fs : List (List ℕ)) (c : Stop) (
   pub stop : ℕ
   pub run : LabelRun m p fs stop
   pub ends : StopAt m stop c e
+
+-- At most one encoding is at p.
+abbrev pub HasOneEncoding : List ℕ → ℕ → Type 0
+HasOneEncoding m p =
+    (xs ys : List (List ℕ)) (c d : Stop) (e f : ℕ) → Encoding m p xs c e → Encoding m p ys d f
+    → (xs ≡ ys) × (c ≡ d) × (e ≡ f)
+
+-- Between the octets t and u the octets s are an encoding that ends in the root.
+abbrev pub IsPlainEncoding : List ℕ → List ℕ → List ℕ → Type 0
+IsPlainEncoding t s u =
+    (fs : List (List ℕ)) × Encoding (t ++ s ++ u) (length t) fs root (length t + length s)
 
 -- The encoding of the name at p ends before e.
 abbrev pub EncodingEnds : List ℕ → ℕ → ℕ → Type 0

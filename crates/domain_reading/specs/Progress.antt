@@ -1,7 +1,9 @@
 -- The steps of reading a name.
-use Rattle.std.specs.Prelude.{◌≡◌, ℕ, ◌+◌, ◌≤◌, ◌<◌, ◌⊎◌, ◌==◌, if◌then◌else◌, List, Some, None, unwrap_or, true, false, set}
+use Rattle.std.specs.Prelude.{◌≡◌, ℕ, ◌+◌, ◌≤◌, ◌<◌, ◌⊎◌, ◌==◌, if◌then◌else◌, List, Some, None, unwrap_or, true, false, set, Result, MatchResult}
 use Rattle.domain_reading.specs.Limits.{max_before_root}
 use Rattle.domain_reading.specs.Offsets.{table_labels}
+use Rattle.domain_reading.specs.declared.fault.NameFault.{NameFault}
+use Rattle.domain_reading.specs.declared.fault.NameFault.TheVariants as fault
 use Rattle.domain_reading.specs.declared.progress.Progress.{Progress}
 
 -- At the first label or pointer of a name at p, where the table has no entry yet.
@@ -25,6 +27,12 @@ noted w = record w { count = w.count + 1 }
 abbrev pub label_passed : Progress → ℕ → Progress
 label_passed w n = record w { at = w.at + 1 + n; len = w.len + 1 + n; count = w.count + 1 }
 
+-- A label of n octets was read, and its entry added to the table; or, with an error, nothing changed.
+abbrev pub PassesLabel : ℕ → Progress → List ℕ → Result (Unit {0}) NameFault → Progress → List ℕ → Type 0
+PassesLabel n old before r new now =
+    MatchResult r (λ _. (new ≡ label_passed old n) × (now ≡ table_noted old before))
+    (λ _. (new ≡ old) × (now ≡ before))
+
 -- With one of n octets more, the labels and the root have at most 255 octets.
 abbrev pub HasRoom : Progress → ℕ → Type 0
 HasRoom w n = w.len + 1 + n ≤ max_before_root
@@ -33,6 +41,10 @@ HasRoom w n = w.len + 1 + n ≤ max_before_root
 abbrev pub LacksRoom : Progress → ℕ → Type 0
 LacksRoom w n = max_before_root < w.len + 1 + n
 
+-- The result tells which: `LongName` that they have more.
+abbrev pub TellsRoom : ℕ → Progress → Result (Unit {0}) NameFault → Type 0
+TellsRoom n w r = MatchResult r (λ _. HasRoom w n) (λ e. (e ≡ fault.LongName) × LacksRoom w n)
+
 -- A pointer to q leads to an offset before its own, and is one of at most n.
 abbrev pub MayFollow : ℕ → Progress → ℕ → Type 0
 MayFollow n w q = (q < w.at) × (w.pointers < n)
@@ -40,6 +52,10 @@ MayFollow n w q = (q < w.at) × (w.pointers < n)
 -- It doesn't lead there, or n were followed.
 abbrev pub MayNotFollow : ℕ → Progress → ℕ → Type 0
 MayNotFollow n w q = (w.at ≤ q) ⊎ (w.pointers ≡ n)
+
+-- The result tells which: `TooManyPointers` that it isn't to be followed.
+abbrev pub TellsPointer : ℕ → ℕ → Progress → Result (Unit {0}) NameFault → Type 0
+TellsPointer n q w r = MatchResult r (λ _. MayFollow n w q) (λ e. (e ≡ fault.TooManyPointers) × MayNotFollow n w q)
 
 -- A pointer to q was followed.
 abbrev pub pointer_followed : Progress → ℕ → Progress
@@ -52,6 +68,10 @@ pointer_followed w q = record {
   end = Some (unwrap_or w.end (w.at + 2));
   count = w.count;
 }
+
+-- A pointer to q was followed; or, with an error, nothing changed.
+abbrev pub FollowsPointer : ℕ → Progress → Result (Unit {0}) NameFault → Progress → Type 0
+FollowsPointer q old r new = MatchResult r (λ _. new ≡ pointer_followed old q) (λ _. new ≡ old)
 
 -- The offset after the encoding of the name that was read up to its root: after its first pointer, or after the root.
 abbrev pub end_offset : Progress → ℕ

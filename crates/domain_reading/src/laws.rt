@@ -1,12 +1,12 @@
 //! Facts on the definitions of names in messages.
-ghost use Rattle.std.specs.Prelude.{◌≡◌, ℕ, ◌+◌, ◌<◌, ◌≤◌, ◌⊎◌, List, ◌++◌, length, drop};
+ghost use Rattle.std.specs.Prelude.{◌≡◌, ◌<◌, ◌≤◌, ◌⊎◌, ◌++◌, length};
 ghost use Rattle.domain_label.specs.Wire.{wire, IsAbsoluteName};
 ghost use Rattle.domain_reading.specs.Limits.{max_pointers};
-ghost use Rattle.domain_reading.specs.Grammar.{PointerAt, Reads, Names, HasName, LabelRun, Encoding, EncodingEnds, Stop, root, FirstLabelAt};
-ghost use Rattle.domain_reading.specs.Faults.{NameFaultAt, HasFault, AreSameFault, Skips, HasSkip, SkipFault};
+ghost use Rattle.domain_reading.specs.Grammar.{PointerAt, Reads, Names, HasName, LabelRun, FirstLabelAt};
+ghost use Rattle.domain_reading.specs.Grammar.{EncodingEnds, HasOneEncoding, IsPlainEncoding};
+ghost use Rattle.domain_reading.specs.Faults.{NameFaultAt, HasFault, HasOneFault, Skips, HasSkip, SkipFault, HasSkipFault};
 ghost use Rattle.domain_reading.specs.Labels.{labels_at};
-ghost use Rattle.domain_reading.specs.Touched.{Touches, IsKept, ReadsFrom};
-ghost use Rattle.domain_reading.specs.declared.fault.NameFault.{NameFault};
+ghost use Rattle.domain_reading.specs.Touched.{Touches, KeepsTouched, IsSameFrom, ReadsFrom};
 
 /// Facts on names in messages. The call does nothing: its contract is the facts.
 ///
@@ -16,37 +16,22 @@ ghost use Rattle.domain_reading.specs.declared.fault.NameFault.{NameFault};
 /// name are read as that name. At each offset there is an encoding to skip or an error, never both; where a name is
 /// read, its encoding can be skipped, and ends at the same offset.
 pub fn reads_laws()
-    ensures once { (m : List ℕ) (p j k : ℕ) (xs ys : List (List ℕ))
-        → Reads m p j xs → Reads m p k ys → (j ≡ k) × (xs ≡ ys) }
-    ensures more { (m u : List ℕ) (p k : ℕ) (ls : List (List ℕ))
-        → Reads m p k ls → Reads (m ++ u) p k ls }
-    ensures absolute { (n : ℕ) (m : List ℕ) (p : ℕ) (ls : List (List ℕ))
-        → Names n m p ls → IsAbsoluteName ls }
-    ensures labels { (m : List ℕ) (p : ℕ) (ls : List (List ℕ))
-        → Names max_pointers m p ls → labels_at m p ≡ ls }
-    ensures some { (n : ℕ) (m : List ℕ) (p : ℕ) → HasName n m p ⊎ HasFault n m p }
-    ensures not_both { (n : ℕ) (m : List ℕ) (p : ℕ) (ls : List (List ℕ)) (e : NameFault)
-        → Names n m p ls → NameFaultAt n m p e → ⊥ }
-    ensures one_fault { (n : ℕ) (m : List ℕ) (p : ℕ) (d e : NameFault)
-        (f : NameFaultAt n m p d) (g : NameFaultAt n m p e) → AreSameFault f g }
-    ensures one_front { (m : List ℕ) (p : ℕ) (xs ys : List (List ℕ)) (c d : Stop) (e f : ℕ)
-        → Encoding m p xs c e → Encoding m p ys d f → (xs ≡ ys) × (c ≡ d) × (e ≡ f) }
-    ensures one_base { (m : List ℕ) (p b c : ℕ)
-        → FirstLabelAt m p b → FirstLabelAt m p c → b ≡ c }
-    ensures plain { (t u : List ℕ) (ls : List (List ℕ))
-        → IsAbsoluteName ls → Names 0 (t ++ wire ls ++ u) (length t) ls }
-    ensures plain_front { (t u : List ℕ) (ls : List (List ℕ)) → IsAbsoluteName ls
-        → (fs : List (List ℕ))
-        × Encoding (t ++ wire ls ++ u) (length t) fs root (length t + length (wire ls)) }
-    ensures skips { (n : ℕ) (m : List ℕ) (p : ℕ) (ls : List (List ℕ))
-        → Names n m p ls → HasSkip m p }
-    ensures same_end { (m : List ℕ) (p e f : ℕ) → EncodingEnds m p e → Skips m p f → e ≡ f }
-    ensures skips_or_not { (m : List ℕ) (p : ℕ)
-        → HasSkip m p ⊎ ((d : NameFault) × SkipFault m p d) }
-    ensures skips_not_both { (m : List ℕ) (p e : ℕ) (d : NameFault)
-        → Skips m p e → SkipFault m p d → ⊥ }
-    ensures one_skip_fault { (m : List ℕ) (p : ℕ) (d e : NameFault)
-        → SkipFault m p d → SkipFault m p e → d ≡ e }
+    ensures once { (m p j k xs ys : _) → Reads m p j xs → Reads m p k ys → (j ≡ k) × (xs ≡ ys) }
+    ensures more { (m u p k ls : _) → Reads m p k ls → Reads (m ++ u) p k ls }
+    ensures absolute { (n m p ls : _) → Names n m p ls → IsAbsoluteName ls }
+    ensures labels { (m p ls : _) → Names max_pointers m p ls → labels_at m p ≡ ls }
+    ensures some { (n m p : _) → HasName n m p ⊎ HasFault n m p }
+    ensures not_both { (n m p ls e : _) → Names n m p ls → NameFaultAt n m p e → ⊥ }
+    ensures one_fault { (n m p : _) → HasOneFault n m p }
+    ensures one_front { (m p : _) → HasOneEncoding m p }
+    ensures one_base { (m p b c : _) → FirstLabelAt m p b → FirstLabelAt m p c → b ≡ c }
+    ensures plain { (t u ls : _) → IsAbsoluteName ls → Names 0 (t ++ wire ls ++ u) (length t) ls }
+    ensures plain_front { (t u ls : _) → IsAbsoluteName ls → IsPlainEncoding t (wire ls) u }
+    ensures skips { (n m p ls : _) → Names n m p ls → HasSkip m p }
+    ensures same_end { (m p e f : _) → EncodingEnds m p e → Skips m p f → e ≡ f }
+    ensures skips_or_not { (m p : _) → HasSkip m p ⊎ HasSkipFault m p }
+    ensures skips_not_both { (m p e d : _) → Skips m p e → SkipFault m p d → ⊥ }
+    ensures one_skip_fault { (m p d e : _) → SkipFault m p d → SkipFault m p e → d ≡ e }
 {}
 
 /// Facts on names in a message whose octets are overwritten. The call does nothing: its contract is the facts.
@@ -57,19 +42,15 @@ pub fn reads_laws()
 /// one whose labels and pointer are at n or after it, from octets at n and after it, where what the pointer leads to
 /// is.
 pub fn overwriting_laws()
-    ensures kept { (m w : List ℕ) (p k : ℕ) (ls : List (List ℕ)) (r : Reads m p k ls)
-        → ((i : ℕ) → Touches r i → IsKept m w i) → Reads w p k ls }
-    ensures inside { (m : List ℕ) (p k : ℕ) (ls : List (List ℕ)) (r : Reads m p k ls) (i : ℕ)
-        → Touches r i → i < length m }
-    ensures after { (n : ℕ) (m w : List ℕ) (p : ℕ) (ls : List (List ℕ))
-        → ReadsFrom n m p ls → drop n w ≡ drop n m → ReadsFrom n w p ls }
-    ensures more { (n : ℕ) (m u : List ℕ) (p : ℕ) (ls : List (List ℕ))
-        → ReadsFrom n m p ls → ReadsFrom n (m ++ u) p ls }
-    ensures name { (n k : ℕ) (m w : List ℕ) (p : ℕ) (xs ls : List (List ℕ))
-        → ReadsFrom n m p xs → drop n w ≡ drop n m → Names k m p ls → Names k w p ls }
-    ensures flat { (m : List ℕ) (p : ℕ) (ls : List (List ℕ)) → Names 0 m p ls → ReadsFrom p m p ls }
-    ensures labels { (n : ℕ) (m : List ℕ) (p r : ℕ) (fs ls : List (List ℕ)) → n ≤ p
-        → LabelRun m p fs r → ReadsFrom n m r ls → ReadsFrom n m p (fs ++ ls) }
-    ensures pointer { (n : ℕ) (m : List ℕ) (p q : ℕ) (ls : List (List ℕ)) → n ≤ p
-        → PointerAt m p q → q < p → ReadsFrom n m q ls → ReadsFrom n m p ls }
+    ensures kept { (m w p k ls : _) (r : Reads m p k ls) → KeepsTouched r w → Reads w p k ls }
+    ensures inside { (m p k ls : _) (r : Reads m p k ls) (i : _) → Touches r i → i < length m }
+    ensures after { (n m w p ls : _) → ReadsFrom n m p ls → IsSameFrom n m w → ReadsFrom n w p ls }
+    ensures more { (n m u p ls : _) → ReadsFrom n m p ls → ReadsFrom n (m ++ u) p ls }
+    ensures name { (n k m w p xs ls : _) → ReadsFrom n m p xs → IsSameFrom n m w →
+        Names k m p ls → Names k w p ls }
+    ensures flat { (m p ls : _) → Names 0 m p ls → ReadsFrom p m p ls }
+    ensures labels { (n m p r fs ls : _) → n ≤ p → LabelRun m p fs r → ReadsFrom n m r ls →
+        ReadsFrom n m p (fs ++ ls) }
+    ensures pointer { (n m p q ls : _) → n ≤ p → PointerAt m p q → q < p → ReadsFrom n m q ls →
+        ReadsFrom n m p ls }
 {}

@@ -1,5 +1,5 @@
 //! How far a name was read.
-ghost use Rattle.std.specs.Prelude.{◌≡◌, ◌+◌, ◌≤◌, ◌<◌, ◌^◌, MatchResult, true};
+ghost use Rattle.std.specs.Prelude.{◌≡◌, ◌+◌, ◌≤◌, ◌<◌, ◌^◌, true};
 ghost use Rattle.domain_reading.specs.Limits.{max_labels, max_before_root};
 
 use crate::fault::NameFault;
@@ -26,8 +26,8 @@ pub struct Progress {
 }
 
 impl Progress {
-    ghost use Rattle.domain_reading.specs.Progress.{beginning, noted, table_noted, label_passed, pointer_followed};
-    ghost use Rattle.domain_reading.specs.Progress.{HasRoom, LacksRoom, MayFollow, MayNotFollow, end_offset};
+    ghost use Rattle.domain_reading.specs.Progress.{beginning, noted, table_noted, end_offset};
+    ghost use Rattle.domain_reading.specs.Progress.{PassesLabel, TellsRoom, FollowsPointer, TellsPointer};
 
     /// The most octets that the labels of a name have before its root.
     const MAX_BEFORE_ROOT: u16 = 254;
@@ -77,12 +77,8 @@ impl Progress {
         requires short { self.old.len ≤ max_before_root }
         requires few { self.old.count < max_labels }
         requires low { self.old.compressed ≡ true → self.old.at < 2 ^ 15 }
-        ensures moved { MatchResult result
-            (λ _. (self.new ≡ label_passed self.old octets)
-            × (entries.new ≡ table_noted self.old entries.old))
-            (λ _. (self.new ≡ self.old) × (entries.new ≡ entries.old)) }
-        ensures long { MatchResult result (λ _. HasRoom self.old octets)
-            (λ fault. (fault ≡ NameFault.LongName) × LacksRoom self.old octets) }
+        ensures moved { PassesLabel octets self.old entries.old result self.new entries.new }
+        ensures long { TellsRoom octets self.old result }
     {
         let len = self.len + 1 + u16::from(octets);
         if len > Progress::MAX_BEFORE_ROOT {
@@ -100,10 +96,8 @@ impl Progress {
     pub fn follow(&mut self, target: usize, limit: u8) -> Result<(), NameFault>
         requires room { self.old.at + 2 < 2 ^ 64 }
         requires few { self.old.pointers ≤ limit }
-        ensures moved { MatchResult result
-            (λ _. self.new ≡ pointer_followed self.old target) (λ _. self.new ≡ self.old) }
-        ensures err { MatchResult result (λ _. MayFollow limit self.old target)
-            (λ fault. (fault ≡ NameFault.TooManyPointers) × MayNotFollow limit self.old target) }
+        ensures moved { FollowsPointer target self.old result self.new }
+        ensures err { TellsPointer limit target self.old result }
     {
         if target >= self.at || self.pointers >= limit {
             return Err(NameFault::TooManyPointers);
