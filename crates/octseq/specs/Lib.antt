@@ -1,3 +1,4 @@
+pub mod Appending
 pub mod Octets
 pub mod Parsing
 pub mod Capacity
