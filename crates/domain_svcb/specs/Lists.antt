@@ -1,5 +1,6 @@
 -- Values that are lists, as text (RFC 9460, 7, 8 and A.1).
-use Rattle.std.specs.Prelude.{ℕ, zero, suc, ◌+◌, ◌*◌, ◌/◌, ◌%◌, cond, nat_lt, nat_le, nat_eq, Bool, true, false, ◌==◌, ◌||◌, ◌&&◌, List, [], ◌∷◌, ◌++◌, length, drop, take, codes}
+use denote.Bor.{Bor}
+use Rattle.std.specs.Prelude.{◌≡◌, ℕ, zero, suc, ◌+◌, ◌*◌, ◌/◌, ◌%◌, cond, nat_lt, nat_le, nat_eq, Bool, true, false, ◌==◌, ◌||◌, ◌&&◌, List, [], ◌∷◌, ◌++◌, length, drop, take, codes, Option, MatchOption}
 use Rattle.std.specs.Fmt.{decimal}
 use Rattle.std.specs.List.{flat_map}
 use Rattle.std.specs.Net.Addr.{segments_of}
@@ -53,6 +54,10 @@ item_texts Keys o = key_texts o
 item_texts Protocols o = protocol_texts (length o) o
 item_texts Ipv4Hints o = address_texts 4 ipv4_text (length o) o
 item_texts Ipv6Hints o = address_texts 16 ipv6_octets_text (length o) o
+
+-- What octets are as items of a list, whose texts `texts` tells: none, or a first one and the octets after it.
+abbrev pub TakesFirst : {A : Type 0} → (List ℕ → List (List ℕ)) → (A → List ℕ) → List ℕ → Option (A × Bor (List ℕ)) → Type 0
+TakesFirst texts text o taken = MatchOption taken (texts o ≡ []) (λ it. texts o ≡ text it.0 ∷ texts it.1.now)
 
 -- a comma, and an item
 abbrev pub after_comma : List ℕ → List ℕ

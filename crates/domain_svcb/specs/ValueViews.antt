@@ -1,5 +1,5 @@
 -- What contracts see of a value as its key wants it: its text.
-use Rattle.std.specs.Prelude.{ℕ, List, []}
+use Rattle.std.specs.Prelude.{◌≡◌, ℕ, List, [], Option, Some, None, MatchOption}
 use Rattle.std.specs.Fmt.{decimal}
 use Rattle.base64.specs.Engines.{standard}
 use Rattle.base64.specs.GeneralPurpose.{encode_of}
@@ -15,3 +15,7 @@ known_text (Number n) = given (decimal n)
 known_text (Items list) = given (with_commas (item_texts list.kind list.octets.now))
 known_text (Base64 octets) = given (encode_of standard octets.now)
 known_text (Plain value) = octets_value value.octets.now
+
+-- The value is known and has this text; or there is neither.
+abbrev pub HasText : Option (List ℕ) → Option KnownValue → Type 0
+HasText text value = MatchOption value (text ≡ None) (λ it. text ≡ Some (known_text it))

@@ -1,8 +1,8 @@
 //! Values that are lists, as text (RFC 9460, 7, 8 and A.1).
-ghost use Rattle.std.specs.Prelude.{◌≡◌, ◌∷◌, [], length, MatchOption, Some};
+ghost use Rattle.std.specs.Prelude.{◌≡◌, length, Some};
 ghost use Rattle.std.specs.List.{flat_map};
-ghost use Rattle.domain_svcb.specs.Lists.{key_text, key_texts, item_octet, item_texts, is_list, keys_ascend, protocols_fit, with_commas};
-ghost use Rattle.domain_svcb.specs.ListViews.{item_text};
+ghost use Rattle.domain_svcb.specs.Lists.{key_text, key_texts, item_octet, item_texts, TakesFirst, is_list, keys_ascend, protocols_fit, with_commas};
+ghost use Rattle.domain_svcb.specs.ListViews.{item_text, protocol_text};
 
 use std::fmt;
 use std::net::{Ipv4Addr, Ipv6Addr};
@@ -106,8 +106,7 @@ impl<'a> fmt::Display for Item<'a> {
 
 /// Takes off the first key. `None` where there are fewer than two octets.
 fn next_key(octets: &[u8]) -> Option<(u16, &[u8])>
-    ensures { MatchOption result (key_texts octets.now ≡ [])
-        (λ it. key_texts octets.now ≡ key_text it.0 ∷ key_texts it.1.now) }
+    ensures { TakesFirst key_texts key_text octets.now result }
 {
     let [high, low, rest @ ..] = octets else {
         return None;
@@ -117,9 +116,7 @@ fn next_key(octets: &[u8]) -> Option<(u16, &[u8])>
 
 /// Takes off the first protocol. `None` where none is whole.
 fn next_protocol(octets: &[u8]) -> Option<(&[u8], &[u8])>
-    ensures { MatchOption result (item_texts ListKind.Protocols octets.now ≡ [])
-        (λ it. item_texts ListKind.Protocols octets.now
-        ≡ flat_map item_octet it.0.now ∷ item_texts ListKind.Protocols it.1.now) }
+    ensures { TakesFirst (item_texts ListKind.Protocols) protocol_text octets.now result }
 {
     let [len, rest @ ..] = octets else {
         return None;
@@ -133,8 +130,7 @@ fn next_protocol(octets: &[u8]) -> Option<(&[u8], &[u8])>
 
 /// Takes off the first item. `None` where none is whole.
 fn next_item<'a>(kind: ListKind, octets: &'a [u8]) -> Option<(Item<'a>, &'a [u8])>
-    ensures { MatchOption result (item_texts kind octets.now ≡ [])
-        (λ it. item_texts kind octets.now ≡ item_text it.0 ∷ item_texts kind it.1.now) }
+    ensures { TakesFirst (item_texts kind) item_text octets.now result }
 {
     match kind {
         ListKind::Keys => {

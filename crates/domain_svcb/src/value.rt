@@ -1,7 +1,7 @@
 //! Values as text (RFC 9460, 2.1, 7 and 8).
-ghost use Rattle.std.specs.Prelude.{◌≡◌, ◌≤◌, length, MatchOption, None, Some};
+ghost use Rattle.std.specs.Prelude.{◌≤◌, length, Some};
 ghost use Rattle.domain_svcb.specs.Values.{list_value, no_value, number_value, base64_value, plain_value, value_of_key};
-ghost use Rattle.domain_svcb.specs.ValueViews.{known_text};
+ghost use Rattle.domain_svcb.specs.ValueViews.{known_text, HasText};
 
 use crate::list::{ListKind, ValueList};
 use crate::octets_value::OctetsValue;
@@ -38,8 +38,7 @@ impl<'a> fmt::Display for KnownValue<'a> {
 
 /// The value as a list. `None` where it isn't one.
 fn items(kind: ListKind, octets: &[u8]) -> Option<KnownValue<'_>>
-    ensures { MatchOption result (list_value kind octets.now ≡ None)
-        (λ it. list_value kind octets.now ≡ Some (known_text it)) }
+    ensures { HasText (list_value kind octets.now) result }
 {
     let list = ValueList { kind, octets };
     if !list.is_list() {
@@ -50,8 +49,7 @@ fn items(kind: ListKind, octets: &[u8]) -> Option<KnownValue<'_>>
 
 /// The value that is none. `None` where there is one.
 fn nothing<'a>(octets: &[u8]) -> Option<KnownValue<'a>>
-    ensures { MatchOption result (no_value octets.now ≡ None)
-        (λ it. no_value octets.now ≡ Some (known_text it)) }
+    ensures { HasText (no_value octets.now) result }
 {
     match octets {
         [] => Some(KnownValue::Nothing),
@@ -61,8 +59,7 @@ fn nothing<'a>(octets: &[u8]) -> Option<KnownValue<'a>>
 
 /// The value as a number of 16 bits. `None` where it isn't two octets.
 fn number<'a>(octets: &[u8]) -> Option<KnownValue<'a>>
-    ensures { MatchOption result (number_value octets.now ≡ None)
-        (λ it. number_value octets.now ≡ Some (known_text it)) }
+    ensures { HasText (number_value octets.now) result }
 {
     let [high, low] = octets else {
         return None;
@@ -72,8 +69,7 @@ fn number<'a>(octets: &[u8]) -> Option<KnownValue<'a>>
 
 /// The value in base64. `None` where it has no octet.
 fn base64(octets: &[u8]) -> Option<KnownValue<'_>>
-    ensures { MatchOption result (base64_value octets.now ≡ None)
-        (λ it. base64_value octets.now ≡ Some (known_text it)) }
+    ensures { HasText (base64_value octets.now) result }
 {
     if octets.is_empty() {
         return None;
@@ -84,8 +80,7 @@ fn base64(octets: &[u8]) -> Option<KnownValue<'_>>
 /// The value as its octets. `None` where it has none.
 fn plain(octets: &[u8]) -> Option<KnownValue<'_>>
     requires { length octets.now ≤ 65535 }
-    ensures { MatchOption result (plain_value octets.now ≡ None)
-        (λ it. plain_value octets.now ≡ Some (known_text it)) }
+    ensures { HasText (plain_value octets.now) result }
 {
     if octets.is_empty() {
         return None;
@@ -96,8 +91,7 @@ fn plain(octets: &[u8]) -> Option<KnownValue<'_>>
 /// The value as its key wants it. `None` where it isn't so, and where the key is another.
 pub(crate) fn known_value(key: u16, octets: &[u8]) -> Option<KnownValue<'_>>
     requires { length octets.now ≤ 65535 }
-    ensures { MatchOption result (value_of_key key octets.now ≡ None)
-        (λ it. value_of_key key octets.now ≡ Some (known_text it)) }
+    ensures { HasText (value_of_key key octets.now) result }
 {
     match key {
         0 => items(ListKind::Keys, octets),
