@@ -1,4 +1,5 @@
 pub mod KnownOptions
+pub mod KnownViews
 pub mod OptRecords
 pub mod Options
 pub mod Readings

@@ -1,8 +1,9 @@
 //! What options say whose codes are known.
 ghost use Rattle.std.specs.Prelude.{◌≡◌, ◌↔◌, ◌<◌, ◌-◌, ◌^◌, IfOk, IfErr, OnOk, IsTrue, Some, length};
 ghost use Rattle.domain_wire.specs.Refusals.{refusal};
-ghost use Rattle.domain_wire.specs.Refusals.Refusal.{short_input};
-ghost use Rattle.domain_edns.specs.KnownOptions.{OfCode, FaultOf, IsExtendedError, IsCookie, IsCookieFault, family_bits, octets_of_prefix, IsPrefix, IsPrefixFault, IsAddress, IsAddressFault, EndsInZeros, IsClientSubnet, IsSubnetFault, octet_digits, nsid_text};
+ghost use Rattle.domain_edns.specs.KnownOptions.{IsCookieFault, family_bits, octets_of_prefix, IsPrefix, IsPrefixFault, IsAddress};
+ghost use Rattle.domain_edns.specs.KnownOptions.{IsAddressFault, EndsInZeros, IsSubnetFault, octet_digits, nsid_text};
+ghost use Rattle.domain_edns.specs.KnownViews.{ReadAs, NotReadAs, SayNsid, SayError, IsErrorFault, SayCookies, SaySubnet};
 
 use crate::options::EdnsOption;
 use domain_header::numbers::number_of_16_bits;
@@ -30,8 +31,7 @@ pub struct Nsid<'a> {
 impl<'a> Nsid<'a> {
     /// The identifier that an option is, which is all of its octets. `None` exactly where its code isn't 3.
     pub fn from_option(option: EdnsOption<'a>) -> Option<Nsid<'a>>
-        ensures { OfCode 3 option.entry.code
-            (λ it. it.identifier.now ≡ option.entry.«data».now) result }
+        ensures { ReadAs 3 SayNsid option.entry result }
     {
         if option.code != NAME_SERVER_IDENTIFIER {
             return None;
@@ -81,10 +81,8 @@ impl<'a> ExtendedError<'a> {
     ///
     /// `ShortInput` exactly where it is, and the option has fewer than two octets.
     pub fn from_option(option: EdnsOption<'a>) -> Result<Option<ExtendedError<'a>>, ParseError>
-        ensures ok { IfOk result (OfCode 15 option.entry.code
-            (λ it. IsExtendedError option.entry.«data».now it.info_code it.text.now)) }
-        ensures err { IfErr result (FaultOf 15 option.entry.code
-            (λ why. (length option.entry.«data».now < 2) × (why ≡ short_input))) }
+        ensures ok { IfOk result (ReadAs 15 SayError option.entry) }
+        ensures err { IfErr result (NotReadAs 15 IsErrorFault option.entry) }
     {
         let octets = option.data;
         if option.code != EXTENDED_ERROR {
@@ -115,11 +113,8 @@ impl<'a> Cookie<'a> {
     /// Where it is: `ShortInput` exactly where the option has fewer than 8 octets, an error of form exactly where it has
     /// 9 to 15 or more than 40. A server answers either by FORMERR (RFC 7873, 5.2.2).
     pub fn from_option(option: EdnsOption<'a>) -> Result<Option<Cookie<'a>>, ParseError>
-        ensures ok { IfOk result (OfCode 10 option.entry.code
-            (λ it. IsCookie (λ server. server.now) option.entry.«data».now
-            it.client.now it.server)) }
-        ensures err { IfErr result (FaultOf 10 option.entry.code
-            (IsCookieFault (length option.entry.«data».now))) }
+        ensures ok { IfOk result (ReadAs 10 SayCookies option.entry) }
+        ensures err { IfErr result (NotReadAs 10 (λ o. IsCookieFault (length o)) option.entry) }
     {
         let octets = option.data;
         if option.code != COOKIE {
@@ -240,11 +235,8 @@ impl<'a> ClientSubnet<'a> {
     /// bits take, and an error of form where it has more, or a bit after them isn't zero. A server answers what is wrong
     /// with the octets by FORMERR (RFC 7871, 6).
     pub fn from_option(option: EdnsOption<'a>) -> Result<Option<ClientSubnet<'a>>, ParseError>
-        ensures ok { IfOk result (OfCode 8 option.entry.code
-            (λ it. IsClientSubnet option.entry.«data».now it.family it.source_prefix_len
-            it.scope_prefix_len it.address.now)) }
-        ensures err { IfErr result (FaultOf 8 option.entry.code
-            (IsSubnetFault option.entry.«data».now)) }
+        ensures ok { IfOk result (ReadAs 8 SaySubnet option.entry) }
+        ensures err { IfErr result (NotReadAs 8 IsSubnetFault option.entry) }
     {
         let octets = option.data;
         if option.code != CLIENT_SUBNET {
