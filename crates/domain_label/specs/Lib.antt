@@ -10,4 +10,5 @@ pub mod Labels
 pub mod Lending
 pub mod Spelling
 pub mod Scanning
+pub mod Yielding
 pub mod LabelText

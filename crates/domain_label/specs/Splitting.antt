@@ -1,6 +1,9 @@
 -- What octets begin with (RFC 1035, 3.1 and 4.1.4).
 use Rattle.std.specs.Prelude.{◌≡◌, ℕ, ◌+◌, ◌*◌, ◌<◌, ◌≤◌, ◌⊎◌, List, [], ◌∷◌, ◌++◌, length}
+use denote.Bor.{Bor}
+use Rattle.domain_label.specs.Labels.{label_octets}
 use Rattle.domain_label.specs.Wire.{IsLabel}
+use Rattle.domain_label.specs.declared.label.Label.{Label}
 use Rattle.domain_label.specs.declared.split_error.SplitLabelError.{SplitLabelError}
 use Rattle.domain_label.specs.declared.split_error.SplitLabelError.TheVariants.{Pointer, BadType, ShortInput}
 use Rattle.domain_label.specs.declared.split_error.LabelTypeError.TheVariants.{Undefined, Extended}
@@ -8,6 +11,14 @@ use Rattle.domain_label.specs.declared.split_error.LabelTypeError.TheVariants.{U
 -- The octets o begin with the label l, and rest is after it.
 abbrev pub BeginsWithLabel : List ℕ → List ℕ → List ℕ → Type 0
 BeginsWithLabel o l rest = IsLabel l × (o ≡ length l ∷ (l ++ rest))
+
+-- They begin with a label.
+abbrev pub HasFirstLabel : List ℕ → Type 0
+HasFirstLabel o = (l : List ℕ) × (rest : List ℕ) × BeginsWithLabel o l rest
+
+-- These are the label that they begin with, and the octets after it.
+abbrev pub SplitsInto : List ℕ → Label × Bor (List ℕ) → Type 0
+SplitsInto o parts = BeginsWithLabel o (label_octets parts.0) parts.1.now
 
 -- No label begins with this first octet and the octets after it, and why: octets are missing, the first octet is that
 -- of another type of label, or it begins a pointer. Its low 14 bits are an offset.

@@ -1,9 +1,9 @@
 //! Reading one escape.
-ghost use Rattle.std.specs.Prelude.{◌≡◌, ℕ, ◌≤◌, ◌∷◌, List, IfOk, OnOk};
+ghost use Rattle.std.specs.Prelude.{◌≡◌, ◌≤◌, [], ◌∷◌, IfOk, OnOk};
 ghost use Rattle.std.specs.Bool.{MatchBool};
-ghost use Rattle.std.specs.Iterator.{AlwaysYields, IsFinite, size};
+ghost use Rattle.std.specs.Iterator.{IsFinite, size};
 ghost use Rattle.domain_label.specs.Spelling.{IsDigit, IsPrintable, IsNotPrintable, number};
-ghost use Rattle.domain_label.specs.Scanning.{GivesEscape, GivesDigit};
+ghost use Rattle.domain_label.specs.Scanning.{ReadsEscape, ReadsDigit};
 
 use crate::symbol::{Symbol, SymbolCharsError};
 
@@ -12,8 +12,7 @@ use crate::symbol::{Symbol, SymbolCharsError};
 pub(crate) fn escape<I: Iterator<Item = char>>(chars: &mut I) -> Result<Symbol, SymbolCharsError>
     requires can { I.can_next chars.old }
     requires ends { IsFinite (I.remaining chars.old) }
-    ensures escape { (cs : List ℕ) → AlwaysYields I.next_gives (λ c. c) chars.old cs →
-        GivesEscape I.next_gives cs result chars.new }
+    ensures escape { ReadsEscape I.next_gives [] chars.old result chars.new }
     ensures can { OnOk result (I.can_next chars.new) }
     ensures ends { IsFinite (I.remaining chars.new) }
     ensures fewer { OnOk result (size (I.remaining chars.new) ≤ size (I.remaining chars.old)) }
@@ -32,8 +31,7 @@ pub(crate) fn escape_at<I: Iterator<Item = char>>(
 ) -> Result<Symbol, SymbolCharsError>
     requires can { I.can_next chars.old }
     requires ends { IsFinite (I.remaining chars.old) }
-    ensures escape { (cs : List ℕ) → AlwaysYields I.next_gives (λ c. c) chars.old cs →
-        GivesEscape I.next_gives (first ∷ cs) result chars.new }
+    ensures escape { ReadsEscape I.next_gives (first ∷ []) chars.old result chars.new }
     ensures can { OnOk result (I.can_next chars.new) }
     ensures ends { IsFinite (I.remaining chars.new) }
     ensures fewer { OnOk result (size (I.remaining chars.new) ≤ size (I.remaining chars.old)) }
@@ -67,8 +65,7 @@ fn next_digit<I: Iterator<Item = char>>(chars: &mut I) -> Result<char, SymbolCha
     requires can { I.can_next chars.old }
     requires ends { IsFinite (I.remaining chars.old) }
     ensures value { IfOk result (λ d. IsDigit d) }
-    ensures digit { (cs : List ℕ) → AlwaysYields I.next_gives (λ c. c) chars.old cs →
-        GivesDigit I.next_gives cs result chars.new }
+    ensures digit { ReadsDigit I.next_gives chars.old result chars.new }
     ensures can { OnOk result (I.can_next chars.new) }
     ensures ends { IsFinite (I.remaining chars.new) }
     ensures fewer { OnOk result (size (I.remaining chars.new) ≤ size (I.remaining chars.old)) }

@@ -1,5 +1,5 @@
 //! A label: a list of at most 63 octets.
-ghost use Rattle.std.specs.Prelude.{◌≡◌, ◌≤◌, ◌<◌, ◌+◌, [], Some, length, codes, IsTrue, ◌↔◌, IsErr, IsOk, ℕ, List, IfOk, IfErr};
+ghost use Rattle.std.specs.Prelude.{◌≡◌, ◌≤◌, ◌<◌, ◌+◌, [], Some, length, codes, IsTrue, ◌↔◌, IsErr, IsOk, IfOk, IfErr};
 ghost use Rattle.std.specs.Iterator.Adapters.{copied_source};
 ghost use Rattle.std.specs.Slice.Iter.{iter_rest};
 ghost use Rattle.domain_label.specs.Wire.{IsLabel};
@@ -40,7 +40,7 @@ pub struct Label<'a> {
 }
 
 impl<'a> Label<'a> {
-    ghost use Rattle.domain_label.specs.Splitting.{BeginsWithLabel, SplitFault};
+    ghost use Rattle.domain_label.specs.Splitting.{HasFirstLabel, SplitsInto, SplitFault};
     ghost use Rattle.domain_label.specs.Labels.{label_octets};
 
     /// The most octets that a label has.
@@ -87,10 +87,8 @@ impl<'a> Label<'a> {
     /// is a `BadType`. `ShortInput` where the first octet, an octet of the label or the second octet of the pointer
     /// is missing.
     pub fn split_from(octets: &'a [u8]) -> Result<(Label<'a>, &'a [u8]), SplitLabelError>
-        ensures exact { IsOk result
-            ↔ ((l : List ℕ) × (rest : List ℕ) × BeginsWithLabel octets.now l rest) }
-        ensures ok { IfOk result
-            (λ parts. BeginsWithLabel octets.now (label_octets parts.0) parts.1.now) }
+        ensures exact { IsOk result ↔ HasFirstLabel octets.now }
+        ensures ok { IfOk result (λ parts. SplitsInto octets.now parts) }
         ensures err { IfErr result (λ e. SplitFault octets.now e) }
     {
         let [head, rest @ ..] = octets else {

@@ -1,9 +1,9 @@
 //! Labels from text.
-ghost use Rattle.std.specs.Prelude.{◌≡◌, ℕ, ◌≤◌, ◌∷◌, List, Some, OnOk};
-ghost use Rattle.std.specs.Iterator.{AlwaysYields, IsFinite, size};
+ghost use Rattle.std.specs.Prelude.{◌≡◌, ◌≤◌, Some, OnOk};
+ghost use Rattle.std.specs.Iterator.{IsFinite, size};
 ghost use Rattle.domain_label.specs.ErrorText.{label_from_str_text};
 ghost use Rattle.domain_label.specs.LabelText.{label_error_kind, label_octet};
-ghost use Rattle.domain_label.specs.Scanning.{GivesLabelEscape, GivesOctet};
+ghost use Rattle.domain_label.specs.Scanning.{ReadsLabelEscape, ReadsOctet};
 
 use crate::escape::escape_at;
 use crate::symbol::{BadSymbol, Symbol, SymbolCharsError};
@@ -89,8 +89,7 @@ pub(crate) fn next_octet<I: Iterator<Item = char>>(
 ) -> Result<u8, LabelFromStrErrorKind>
     requires can { I.can_next chars.old }
     requires ends { IsFinite (I.remaining chars.old) }
-    ensures octet { (cs : List ℕ) → AlwaysYields I.next_gives (λ c. c) chars.old cs →
-        GivesOctet I.next_gives start (c ∷ cs) result chars.new }
+    ensures octet { ReadsOctet I.next_gives start c chars.old result chars.new }
     ensures can { OnOk result (I.can_next chars.new) }
     ensures ends { IsFinite (I.remaining chars.new) }
     ensures fewer { OnOk result (size (I.remaining chars.new) ≤ size (I.remaining chars.old)) }
@@ -108,8 +107,7 @@ pub(crate) fn next_octet<I: Iterator<Item = char>>(
 fn label_escape<I: Iterator<Item = char>>(chars: &mut I) -> Result<Symbol, SymbolCharsError>
     requires can { I.can_next chars.old }
     requires ends { IsFinite (I.remaining chars.old) }
-    ensures escape { (cs : List ℕ) → AlwaysYields I.next_gives (λ c. c) chars.old cs →
-        GivesLabelEscape I.next_gives cs result chars.new }
+    ensures escape { ReadsLabelEscape I.next_gives chars.old result chars.new }
     ensures can { OnOk result (I.can_next chars.new) }
     ensures ends { IsFinite (I.remaining chars.new) }
     ensures fewer { OnOk result (size (I.remaining chars.new) ≤ size (I.remaining chars.old)) }

@@ -6,9 +6,6 @@ ghost use Rattle.domain_label.specs.Spelling.{IsReadOnce};
 ghost use Rattle.domain_label.specs.Splitting.{BeginsWithLabel, SplitFault};
 ghost use Rattle.domain_label.specs.Labels.{owned_octets};
 ghost use Rattle.domain_label.specs.Wire.{wire, labels_in, IsAbsolute, IsRelative};
-ghost use Rattle.domain_label.specs.declared.split_error.SplitLabelError.{SplitLabelError};
-
-use crate::owned::OwnedLabel;
 
 /// What the definitions of wire formats say together: octets encode the list that they are the wire format of, so
 /// they are the wire format of one list only; and no list is absolute and relative.
@@ -21,19 +18,17 @@ pub fn wire_laws()
 /// What `with_octets` says of a label whose octets were borrowed: those that were written, of which there are as
 /// many, are its octets.
 pub fn lent_laws()
-    ensures { (l : OwnedLabel) (ws : List ℕ) → length ws ≡ length (owned_octets l) →
+    ensures { (l ws : _) → length ws ≡ length (owned_octets l) →
         owned_octets (with_octets l ws) ≡ ws }
 {}
 
 /// Octets begin with one label, or with none for one reason, and never both. That always one of the two holds is the
 /// contract of `Label::split_from`.
 pub fn split_laws()
-    ensures one_label { (o a b r s : List ℕ) → BeginsWithLabel o a r → BeginsWithLabel o b s →
+    ensures one_label { (o a b r s : _) → BeginsWithLabel o a r → BeginsWithLabel o b s →
         (a ≡ b) × (r ≡ s) }
-    ensures one_fault { (o : List ℕ) (d e : SplitLabelError) → SplitFault o d → SplitFault o e →
-        d ≡ e }
-    ensures not_both { (o l rest : List ℕ) (e : SplitLabelError) → BeginsWithLabel o l rest →
-        SplitFault o e → ⊥ }
+    ensures one_fault { (o d e : _) → SplitFault o d → SplitFault o e → d ≡ e }
+    ensures not_both { (o l rest e : _) → BeginsWithLabel o l rest → SplitFault o e → ⊥ }
 {}
 
 /// Each text is read in exactly one way, as symbols and at most a broken escape after them; and it is the text of

@@ -1,13 +1,14 @@
 //! A label that owns its octets.
-ghost use Rattle.std.specs.Prelude.{◌≡◌, ◌≤◌, ℕ, List, Some, take, drop};
+ghost use Rattle.std.specs.Prelude.{◌≡◌, ◌≤◌, Some, take, drop};
 ghost use Rattle.std.specs.Borrow.{sem};
 ghost use Rattle.std.specs.Cmp.{partial_order_from_own_ties};
 ghost use Rattle.std.specs.Cmp.Rules.{comparing};
-ghost use Rattle.std.specs.Iterator.{AlwaysYields, IsFinite};
+ghost use Rattle.std.specs.Iterator.{IsFinite};
 ghost use Rattle.std.specs.Ordering.{on, as_partial_cmp};
 ghost use Rattle.std.specs.Str.{chars};
 ghost use Rattle.std.proofs.Common.{rules};
 ghost use Rattle.domain_label.specs.LabelText.{ReadsLabel};
+ghost use Rattle.domain_label.specs.Yielding.{IfYields};
 ghost use Rattle.domain_label.specs.Labels.{label_octets, label_mut_octets, owned_octets};
 ghost use Rattle.domain_label.specs.SameHash.{same_label_hash_input};
 ghost use Rattle.domain_label.specs.Lowercase.{lowercase, eq_ignoring_case, cmp_ignoring_case, label_hash_input};
@@ -60,8 +61,7 @@ impl OwnedLabel {
     ) -> Result<OwnedLabel, LabelFromStrError>
         requires can { I.can_next chars }
         requires ends { IsFinite (I.remaining chars) }
-        ensures { (cs : List ℕ) → AlwaysYields I.next_gives (λ c. c) chars cs →
-            ReadsLabel cs result }
+        ensures { IfYields I.next_gives chars (λ cs. ReadsLabel cs result) }
     {
         let mut chars = chars;
         let mut octets = ArrayVec::<u8, 63>::new();

@@ -2,7 +2,7 @@
 ghost use Rattle.std.specs.Prelude.{◌≡◌, ℕ, length, drop, IfOk, IfErr};
 ghost use Rattle.std.specs.Iterator.{YieldsFirstBy, item_count};
 ghost use Rattle.domain_label.specs.SliceWalk.{slice_walk, WalkEnds};
-ghost use Rattle.domain_label.specs.Splitting.{BeginsWithLabel, SplitFault};
+ghost use Rattle.domain_label.specs.Splitting.{SplitsInto, SplitFault};
 ghost use Rattle.domain_label.specs.Labels.{label_octets, walk_left};
 
 use crate::label::Label;
@@ -78,8 +78,7 @@ impl<'a> Iterator for SliceLabelsIter<'a> {
 
 /// The label at an offset, and the octets after it. `ShortInput` where the offset is at or after the end.
 fn split_at_offset(octets: &[u8], offset: usize) -> Result<(Label<'_>, &[u8]), SplitLabelError>
-    ensures ok { IfOk result
-        (λ parts. BeginsWithLabel (drop offset octets.now) (label_octets parts.0) parts.1.now) }
+    ensures ok { IfOk result (λ parts. SplitsInto (drop offset octets.now) parts) }
     ensures err { IfErr result (λ e. SplitFault (drop offset octets.now) e) }
 {
     if offset >= octets.len() {

@@ -1,10 +1,6 @@
 //! An iterator over the symbols of a text.
-ghost use Rattle.std.specs.Prelude.{ℕ, List, Result, false};
-ghost use Rattle.std.specs.Iterator.{AlwaysYields, IsFinite, count_unless};
-ghost use Rattle.domain_label.specs.declared.symbol.Symbol.{Symbol};
-ghost use Rattle.domain_label.specs.declared.symbol.SymbolCharsError.{SymbolCharsError};
-ghost use Rattle.domain_label.specs.Spelling.{ReadsSymbols};
-ghost use Rattle.domain_label.specs.Scanning.{SymbolSteps, CanScan, is_done, chars_of};
+ghost use Rattle.std.specs.Iterator.{IsFinite};
+ghost use Rattle.domain_label.specs.Scanning.{YieldsSymbols, SymbolSteps, CanScan, calls_left};
 
 use crate::escape::escape;
 use crate::symbol::{Symbol, SymbolCharsError};
@@ -24,13 +20,10 @@ impl<I: Iterator<Item = char> + Drop> Symbols<I> {
     /// The symbols that the characters spell. Nothing is read yet.
     #[inline(always)]
     pub fn new(chars: I) -> Self
-        ensures items { (cs : List ℕ) (items : List (Result Symbol SymbolCharsError)) →
-            AlwaysYields I.next_gives (λ c. c) chars cs → ReadsSymbols cs items →
-            AlwaysYields (SymbolSteps I.next_gives) (λ x. x) result items }
+        ensures items { YieldsSymbols I.next_gives chars result }
         ensures can { I.can_next chars → IsFinite (I.remaining chars) →
             CanScan I.can_next I.remaining result }
-        ensures ends { IsFinite (I.remaining chars) →
-            IsFinite (count_unless (is_done result) (I.remaining (chars_of result))) }
+        ensures ends { IsFinite (I.remaining chars) → IsFinite (calls_left I.remaining result) }
     {
         Symbols { chars, done: false }
     }
@@ -43,7 +36,7 @@ impl<I: Iterator<Item = char> + Drop> Iterator for Symbols<I> {
 
     ghost next_gives = { SymbolSteps I.next_gives };
 
-    ghost remaining = { λ s. count_unless (is_done s) (I.remaining (chars_of s)) };
+    ghost remaining = { λ s. calls_left I.remaining s };
 
     #[inline(always)]
     fn next(&mut self) -> Option<Result<Symbol, SymbolCharsError>> {
