@@ -1,6 +1,6 @@
 -- What a name builder has built, and what parts of a text make of it.
 use Rattle.std.specs.Prelude.{◌≡◌, ◌≢◌, ℕ, ◌<◌, nat_lt, List, [], ◌∷◌, ◌++◌, length, Option, None, Some, Result, MatchResult, if◌then◌else◌}
-use Rattle.domain_label.specs.Wire.{wire}
+use Rattle.domain_label.specs.Wire.{wire, Root}
 use Rattle.domain_text.specs.declared.name_symbol.TextFault.{TextFault}
 use Rattle.domain_text.specs.declared.name_symbol.TextFault.TheVariants.{BinaryLabel, LongLabel, EmptyLabel, LongName}
 use Rattle.domain_text.specs.declared.name_symbol.NameSymbol.{NameSymbol}
@@ -28,6 +28,10 @@ closed_with ls (c ∷ o) = ls ++ (c ∷ o) ∷ []
 abbrev pub closed : BuilderState → List (List ℕ)
 closed b = closed_with b.labels b.open_label
 
+-- The same, and the root.
+abbrev pub rooted : BuilderState → List (List ℕ)
+rooted b = closed b ++ Root
+
 -- How many octets they have with all length octets.
 abbrev pub size : BuilderState → ℕ
 size b = length (wire (closed b))
@@ -39,6 +43,10 @@ ended b = record { labels = closed b; open_label = [] }
 -- More octets in the open label.
 abbrev pub pushed : BuilderState → List ℕ → BuilderState
 pushed b s = record { labels = b.labels; open_label = b.open_label ++ s }
+
+-- One more octet there.
+abbrev pub with_octet : BuilderState → ℕ → BuilderState
+with_octet b c = pushed b (c ∷ [])
 
 -- The open label finished, and one more label, if it has octets.
 abbrev pub labelled : BuilderState → List ℕ → BuilderState
@@ -69,15 +77,15 @@ unless_open (c ∷ o) x y = y
 -- Why a part of a text can't follow what is built, if it can't.
 abbrev pub symbol_fault : BuilderState → NameSymbol → Option TextFault
 symbol_fault b Dot = unless_open b.open_label (Some EmptyLabel) None
-symbol_fault b (Octet c) = too_long (pushed b (c ∷ []))
-symbol_fault b Bracket = unless_open b.open_label (Some BinaryLabel) (too_long (pushed b (91 ∷ [])))
+symbol_fault b (Octet c) = too_long (with_octet b c)
+symbol_fault b Bracket = unless_open b.open_label (Some BinaryLabel) (too_long (with_octet b 91))
 symbol_fault b (Nothing f) = Some f
 
 -- What it makes where it can: a dot ends the open label.
 abbrev pub after : BuilderState → NameSymbol → BuilderState
 after b Dot = ended b
-after b (Octet c) = pushed b (c ∷ [])
-after b Bracket = pushed b (91 ∷ [])
+after b (Octet c) = with_octet b c
+after b Bracket = with_octet b 91
 after b (Nothing f) = b
 
 -- Parts in turn, none of them refused.

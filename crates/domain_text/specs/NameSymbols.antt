@@ -1,6 +1,7 @@
 -- What the symbols of a text are in a name.
-use Rattle.std.specs.Prelude.{◌≡◌, ◌≢◌, ℕ, ◌==◌, Bool, true, false, List, map, Result, Ok, Err, if◌then◌else◌}
-use Rattle.domain_label.specs.Spelling.{octet_of}
+use Rattle.std.specs.Prelude.{◌≡◌, ◌≢◌, ℕ, ◌==◌, Bool, true, false, List, map, Option, Result, Ok, Err, if◌then◌else◌}
+use Rattle.std.specs.Iterator.{AlwaysYields}
+use Rattle.domain_label.specs.Spelling.{octet_of, ReadsSymbols}
 use Rattle.domain_label.specs.declared.symbol.BadSymbol.{BadSymbol as NoOctet}
 use Rattle.domain_label.specs.declared.symbol.Symbol.{Symbol}
 use Rattle.domain_label.specs.declared.symbol.Symbol.TheVariants.{Char, SimpleEscape, DecimalEscape}
@@ -39,6 +40,15 @@ name_symbol (Err e) = broken_symbol e
 -- The same of each item of a text.
 abbrev pub name_symbols : Items → List NameSymbol
 name_symbols = map name_symbol
+
+-- P holds of the parts that the characters cs are read as.
+abbrev pub IfParts : List ℕ → (List NameSymbol → Type 0) → Type 0
+IfParts cs P = (all : Items) → ReadsSymbols cs all → P (name_symbols all)
+
+-- P holds of the parts that the items are which an iterator yields, if it ends.
+abbrev pub IfYieldsParts : {I : Type 0}
+    → (I → Option (Result Symbol SymbolCharsError) → I → Type 0) → I → (List NameSymbol → Type 0) → Type 0
+IfYieldsParts steps items P = (all : Items) → AlwaysYields steps (λ x. x) items all → P (name_symbols all)
 
 -- The part is a dot, or it isn't.
 abbrev pub IsDot : NameSymbol → Bool → Type 0

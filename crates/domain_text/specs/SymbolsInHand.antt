@@ -1,5 +1,6 @@
 -- What an iterator over symbols that were read already gives.
-use Rattle.std.specs.Prelude.{Option, Some, None, Result, Ok, Err}
+use Rattle.std.specs.Prelude.{List, map, Option, Some, None, Result, Ok, Err}
+use Rattle.std.specs.Iterator.{AlwaysYields}
 use Rattle.domain_label.specs.declared.symbol.Symbol.{Symbol}
 use Rattle.domain_label.specs.declared.symbol.SymbolCharsError.{SymbolCharsError}
 use Rattle.domain_text.specs.declared.whole.WholeSymbols.{WholeSymbols}
@@ -13,3 +14,8 @@ abbrev pub WholeSteps : {I : Type 0} → (I → Option Symbol → I → Type 0) 
 WholeSteps steps s None t = steps s.symbols None t.symbols
 WholeSteps steps s (Some (Ok x)) t = steps s.symbols (Some x) t.symbols
 WholeSteps steps s (Some (Err e)) t = ⊥
+
+-- Whatever symbols the source yields, those are what is read.
+abbrev pub YieldsWhole : {I : Type 0} → (I → Option Symbol → I → Type 0) → I → WholeSymbols I → Type 0
+YieldsWhole steps symbols s =
+    (ss : List Symbol) → AlwaysYields steps (λ x. x) symbols ss → AlwaysYields (WholeSteps steps) (λ x. x) s (map Ok ss)

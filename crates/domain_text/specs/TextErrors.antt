@@ -1,8 +1,9 @@
 -- What errors of text tell.
 use Rattle.std.specs.Prelude.{Result, IfOk, IfErr, MatchResult, ◌≡◌, ℕ, List, length, Option, None, Some}
 use Rattle.octseq.specs.Capacity.{MayExceedCapacity}
-use Rattle.domain_label.specs.Wire.{wire}
-use Rattle.domain_text.specs.TextGrammar.{IsNameText, NotANameText, IsRelativeText, NoRelative, IsTextOfName, IsTextOfNoName, IsTextOfRelative, IsTextOfNoRelative}
+use Rattle.domain_label.specs.Wire.{wire, labels_in}
+use Rattle.domain_text.specs.BuilderState.{BuilderState}
+use Rattle.domain_text.specs.TextGrammar.{ReadsName, ReadsRelative, IsNameText, NotANameText, IsRelativeText, NoRelative, IsTextOfName, IsTextOfNoName, IsTextOfRelative, IsTextOfNoRelative}
 use Rattle.domain_text.specs.declared.name_symbol.NameSymbol.{NameSymbol}
 use Rattle.domain_label.specs.declared.symbol.SymbolCharsError.{SymbolCharsError}
 use Rattle.domain_label.specs.declared.symbol.SymbolCharsError.TheVariants as broken
@@ -19,6 +20,10 @@ use Rattle.domain_text.specs.declared.error.FromStrError.{FromStrError}
 use Rattle.domain_text.specs.declared.error.FromStrError.TheVariants.{Presentation, ShortBuf}
 use Rattle.domain_text.specs.declared.error.RelativeFromStrError.{RelativeFromStrError}
 use Rattle.domain_text.specs.declared.error.RelativeFromStrError.TheVariants.{FromStr, AbsoluteName}
+
+-- the labels that octets are the wire format of, by what a type says that its octets are
+abbrev pub labels_of : {O : Type 0} → (O → List ℕ) → O → List (List ℕ)
+labels_of octets o = labels_in (octets o)
 
 -- which fault an error of a text names
 abbrev pub presentation_error_kind : PresentationError → PresentationErrorKind
@@ -72,6 +77,16 @@ MakesName labels room ps r = MatchResult r (λ n. IsNameText ps (labels n)) (NoN
 -- The same of relative names.
 abbrev pub MakesRelative : {N : Type 0} → (N → List (List ℕ)) → Option ℕ → List NameSymbol → Result N RelativeFromStrError → Type 0
 MakesRelative labels room ps r = MatchResult r (λ n. IsRelativeText ps (labels n)) (NoRelativeMade room ps)
+
+-- The same where the parts, whatever they were, were read so: of what is built and the root.
+abbrev pub MakesRooted : {N : Type 0} → (N → List (List ℕ)) → Option ℕ → BuilderState → Result (Unit {0}) TextFault → Result N FromStrError → Type 0
+MakesRooted labels room built read r =
+    (ps : List NameSymbol) → ReadsName ps built read → MakesName labels room ps r
+
+-- The same of relative names, which have no root.
+abbrev pub MakesRootless : {N : Type 0} → (N → List (List ℕ)) → Option ℕ → BuilderState → Result (Unit {0}) (Option TextFault) → Result N RelativeFromStrError → Type 0
+MakesRootless labels room built read r =
+    (ps : List NameSymbol) → ReadsRelative ps built read → MakesRelative labels room ps r
 
 -- Why no name was read of the characters cs: a fault of theirs, or else the octets of the name that they
 -- are the text of lack room.

@@ -4,7 +4,7 @@ use Rattle.domain_label.specs.Wire.{wire, IsLabel, Root}
 use Rattle.domain_label.specs.declared.symbol.Symbol.{Symbol}
 use Rattle.domain_label.specs.declared.symbol.SymbolCharsError.{SymbolCharsError}
 use Rattle.domain_label.specs.Spelling.{ReadsSymbols}
-use Rattle.domain_text.specs.BuilderState.{BuilderState, closed, size, symbol_fault}
+use Rattle.domain_text.specs.BuilderState.{BuilderState, closed, rooted, size, symbol_fault}
 use Rattle.domain_text.specs.NameSymbols.{name_symbols}
 use Rattle.domain_text.specs.declared.name_symbol.TextFault.{TextFault}
 use Rattle.domain_text.specs.declared.name_symbol.TextFault.TheVariants.{ShortInput}
@@ -115,7 +115,7 @@ IsTextOfNoRelative cs why = (items : List (Result Symbol SymbolCharsError)) × R
 -- What reading an absolute name gives: all that is built, and the root, is the name whose text the parts are, or
 -- they have the fault.
 abbrev pub ReadsName : List NameSymbol → BuilderState → Result (Unit {0}) TextFault → Type 0
-ReadsName ps built r = MatchResult r (λ _. IsNameText ps (closed built ++ Root)) (NotANameText ps)
+ReadsName ps built r = MatchResult r (λ _. IsNameText ps (rooted built)) (NotANameText ps)
 
 -- The same of a relative name, which has no root.
 abbrev pub ReadsRelative : List NameSymbol → BuilderState → Result (Unit {0}) (Option TextFault) → Type 0

@@ -1,12 +1,12 @@
 //! A buffer in which a name is put together.
-ghost use Rattle.std.specs.Prelude.{◌≡◌, ◌++◌, ◌+◌, ◌<◌, ◌≤◌, nat_lt, [], ◌∷◌, length, take, drop, Some, None, IfOk, IfErr, OnOk, OnErr};
-ghost use Rattle.std.specs.Iterator.{AlwaysYields, IsFinite};
-ghost use Rattle.domain_label.specs.Spelling.{ReadsSymbols};
-ghost use Rattle.domain_label.specs.Wire.{wire, Root, IsAbsoluteName, IsRelativeName};
+ghost use Rattle.std.specs.Prelude.{◌≡◌, ◌++◌, ◌+◌, ◌<◌, ◌≤◌, nat_lt, length, take, drop, Some, None, IfOk, IfErr, OnOk, OnErr};
+ghost use Rattle.std.specs.Iterator.{IsFinite};
+ghost use Rattle.domain_label.specs.Wire.{wire, IsAbsoluteName, IsRelativeName};
 ghost use Rattle.domain_text.specs.Plain.{IsPlainText};
-ghost use Rattle.domain_text.specs.BuilderState.{empty_state, closed, size, pushed, ended, too_long, symbol_fault, after, TakesParts, ReadsParts};
+ghost use Rattle.domain_text.specs.BuilderState.{empty_state, closed, rooted, size, with_octet, ended, too_long, symbol_fault, after};
+ghost use Rattle.domain_text.specs.BuilderState.{TakesParts, ReadsParts};
 ghost use Rattle.domain_text.specs.Buffer.{held, IsHeld};
-ghost use Rattle.domain_text.specs.NameSymbols.{Items, name_symbols};
+ghost use Rattle.domain_text.specs.NameSymbols.{IfParts, IfYieldsParts};
 
 use crate::name_symbol::{NameSymbol, TextFault, name_symbol_of};
 use domain_label::scan::{Symbol, SymbolCharsError};
@@ -47,11 +47,11 @@ impl Model for NameBuffer {
 fn push(octets: &mut [u8; 255], ends: &mut Ends, c: u8) -> Result<(), TextFault>
     requires inside { IsHeld octets.old ends.old }
     ensures inside { IsHeld octets.new ends.new }
-    ensures taken { OnOk result (too_long (pushed (held octets.old ends.old) (c ∷ [])) ≡ None) }
+    ensures taken { OnOk result (too_long (with_octet (held octets.old ends.old) c) ≡ None) }
     ensures made { OnOk result
-        (held octets.new ends.new ≡ pushed (held octets.old ends.old) (c ∷ [])) }
+        (held octets.new ends.new ≡ with_octet (held octets.old ends.old) c) }
     ensures err { IfErr result
-        (λ f. too_long (pushed (held octets.old ends.old) (c ∷ [])) ≡ Some f) }
+        (λ f. too_long (with_octet (held octets.old ends.old) c) ≡ Some f) }
     ensures unchanged { OnErr result (held octets.new ends.new ≡ held octets.old ends.old) }
 {
     if ends.head + ends.open_len > 252 {
@@ -115,8 +115,7 @@ fn end_plain(octets: &mut [u8; 255], text: &[u8]) -> Result<Ends, TextFault>
     requires plain { IsPlainText text.now }
     requires there { take (length text.now) (drop 1 octets.old) ≡ text.now }
     ensures inside { IfOk result (IsHeld octets.new) }
-    ensures read { (all : Items) → ReadsSymbols text.now all →
-        ReadsParts (held octets.new) (name_symbols all) result }
+    ensures read { IfParts text.now (λ ps. ReadsParts (held octets.new) ps result) }
 {
     let mut head = 0;
     for i in 0..text.len() {
@@ -149,8 +148,8 @@ fn add_symbols<I: Iterator<Item = Result<Symbol, SymbolCharsError>> + Drop>(
     requires can { I.can_next items }
     requires ends { IsFinite (I.remaining items) }
     ensures inside { IsHeld octets.new ends.new }
-    ensures read { (all : Items) → AlwaysYields I.next_gives (λ x. x) items all →
-        TakesParts (held octets.old ends.old) (name_symbols all) result (held octets.new ends.new) }
+    ensures read { IfYieldsParts I.next_gives items
+        (λ ps. TakesParts (held octets.old ends.old) ps result (held octets.new ends.new)) }
 {
     for item in items {
         add_symbol(octets, ends, name_symbol_of(item))?;
@@ -215,8 +214,8 @@ impl NameBuffer {
     ) -> Result<(), TextFault>
         requires can { I.can_next items }
         requires ends { IsFinite (I.remaining items) }
-        ensures { (all : Items) → AlwaysYields I.next_gives (λ x. x) items all →
-            TakesParts self.old (name_symbols all) result self.new }
+        ensures { IfYieldsParts I.next_gives items
+            (λ ps. TakesParts self.old ps result self.new) }
     {
         let mut ends = self.ends;
         let read = add_symbols(&mut self.octets, &mut ends, items);
@@ -228,8 +227,7 @@ impl NameBuffer {
     #[inline(always)]
     pub(crate) fn read_plain(&mut self, text: &[u8]) -> Result<(), TextFault>
         requires plain { IsPlainText text.now }
-        ensures { (all : Items) → ReadsSymbols text.now all →
-            ReadsParts (λ _. self.new) (name_symbols all) result }
+        ensures { IfParts text.now (λ ps. ReadsParts (λ _. self.new) ps result) }
     {
         self.ends = Ends {
             head: 0,
@@ -259,9 +257,9 @@ impl NameBuffer {
         &mut self,
         target: &mut B,
     ) -> Result<(), B::AppendError>
-        ensures name { IsAbsoluteName (closed self.old ++ Root) }
+        ensures name { IsAbsoluteName (rooted self.old) }
         ensures ok { OnOk result
-            (B.octets target.new ≡ B.octets target.old ++ wire (closed self.old ++ Root)) }
+            (B.octets target.new ≡ B.octets target.old ++ wire (rooted self.old)) }
         ensures full { OnErr result
             (B.capacity target.old < length (B.octets target.old) + (size self.old + 1)) }
     {

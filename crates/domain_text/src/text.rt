@@ -1,15 +1,13 @@
 //! The octets of names that texts spell (RFC 1035, 5.1).
-ghost use Rattle.std.specs.Prelude.{◌≡◌, ℕ, List, [], Some, IfOk, OnOk};
-ghost use Rattle.std.specs.Iterator.{AlwaysYields, IsFinite};
+ghost use Rattle.std.specs.Prelude.{◌≡◌, [], Some, IfOk, OnOk};
+ghost use Rattle.std.specs.Iterator.{IsFinite};
 ghost use Rattle.std.specs.Str.{chars};
-ghost use Rattle.domain_label.specs.Spelling.{ReadsSymbols};
 ghost use Rattle.domain_label.specs.Wire.{IsAbsoluteWire, IsRelativeWire, labels_in};
-ghost use Rattle.domain_label.specs.declared.symbol.Symbol.{Symbol};
+ghost use Rattle.domain_label.specs.Yielding.{IfYields};
 ghost use Rattle.domain_text.specs.BuilderState.{empty_state, ReadsParts};
-ghost use Rattle.domain_text.specs.NameSymbols.{Items, name_symbols, symbols_in_name, IsDot};
+ghost use Rattle.domain_text.specs.NameSymbols.{IfParts, IfYieldsParts, symbols_in_name, IsDot};
 ghost use Rattle.domain_text.specs.TextGrammar.{ReadsName, ReadsRelative};
-ghost use Rattle.domain_text.specs.TextErrors.{MakesName, MakesRelative, ReadsNameText, ReadsRelativeText};
-ghost use Rattle.domain_text.specs.declared.name_symbol.NameSymbol.{NameSymbol};
+ghost use Rattle.domain_text.specs.TextErrors.{labels_of, MakesName, MakesRooted, MakesRootless, ReadsNameText, ReadsRelativeText};
 
 use crate::buffer::NameBuffer;
 use crate::error::{FromStrError, RelativeFromStrError};
@@ -33,8 +31,7 @@ fn read_name_text<I: Iterator<Item = Result<Symbol, SymbolCharsError>> + Drop>(
     requires empty { buffer.old ≡ empty_state }
     requires can { I.can_next items }
     requires ends { IsFinite (I.remaining items) }
-    ensures { (all : Items) → AlwaysYields I.next_gives (λ x. x) items all →
-        ReadsName (name_symbols all) buffer.new result }
+    ensures { IfYieldsParts I.next_gives items (λ ps. ReadsName ps buffer.new result) }
 {
     let first = match items.next() {
         None => return Err(TextFault::ShortInput),
@@ -68,8 +65,7 @@ fn refuse_final_dot(
     buffer: &NameBuffer,
     read: Result<(), TextFault>,
 ) -> Result<(), Option<TextFault>>
-    ensures { (ps : List NameSymbol) → ReadsParts (λ _. buffer.now) ps read →
-        ReadsRelative ps buffer.now result }
+    ensures { (ps : _) → ReadsParts (λ _. buffer.now) ps read → ReadsRelative ps buffer.now result }
 {
     match read {
         Ok(()) => {}
@@ -93,8 +89,7 @@ fn read_relative_text<I: Iterator<Item = Result<Symbol, SymbolCharsError>> + Dro
     requires empty { buffer.old ≡ empty_state }
     requires can { I.can_next items }
     requires ends { IsFinite (I.remaining items) }
-    ensures { (all : Items) → AlwaysYields I.next_gives (λ x. x) items all →
-        ReadsRelative (name_symbols all) buffer.new result }
+    ensures { IfYieldsParts I.next_gives items (λ ps. ReadsRelative ps buffer.new result) }
 {
     let read = buffer.push_name_symbols(items);
     refuse_final_dot(buffer, read)
@@ -104,8 +99,7 @@ fn read_relative_text<I: Iterator<Item = Result<Symbol, SymbolCharsError>> + Dro
 #[inline(always)]
 fn read_name_str(buffer: &mut NameBuffer, text: &str) -> Result<(), TextFault>
     requires empty { buffer.old ≡ empty_state }
-    ensures { (all : Items) → ReadsSymbols (chars text.now) all →
-        ReadsName (name_symbols all) buffer.new result }
+    ensures { IfParts (chars text.now) (λ ps. ReadsName ps buffer.new result) }
 {
     if is_plain(text.as_bytes()) {
         return buffer.read_plain(text.as_bytes());
@@ -117,8 +111,7 @@ fn read_name_str(buffer: &mut NameBuffer, text: &str) -> Result<(), TextFault>
 #[inline(always)]
 fn read_relative_str(buffer: &mut NameBuffer, text: &str) -> Result<(), Option<TextFault>>
     requires empty { buffer.old ≡ empty_state }
-    ensures { (all : Items) → ReadsSymbols (chars text.now) all →
-        ReadsRelative (name_symbols all) buffer.new result }
+    ensures { IfParts (chars text.now) (λ ps. ReadsRelative ps buffer.new result) }
 {
     if is_plain(text.as_bytes()) {
         let read = buffer.read_plain(text.as_bytes());
@@ -139,8 +132,7 @@ fn absolute_octets<Octs: FromBuilder + Drop>(
 where
     Octs::Builder: EmptyBuilder + Drop,
     ensures wire { IfOk result (λ octets. IsAbsoluteWire (Octs.octets octets)) }
-    ensures text { (ps : List NameSymbol) → ReadsName ps buffer.old read →
-        MakesName (λ octets. labels_in (Octs.octets octets)) Octs.Builder.ROOM ps result }
+    ensures text { MakesRooted (labels_of Octs.octets) Octs.Builder.ROOM buffer.old read result }
 {
     read?;
     let mut target = Octs::Builder::with_capacity(alloc, buffer.len() + 1)?;
@@ -163,8 +155,7 @@ fn relative_octets<Octs: FromBuilder + Drop>(
 where
     Octs::Builder: EmptyBuilder + Drop,
     ensures wire { IfOk result (λ octets. IsRelativeWire (Octs.octets octets)) }
-    ensures text { (ps : List NameSymbol) → ReadsRelative ps buffer.old read →
-        MakesRelative (λ octets. labels_in (Octs.octets octets)) Octs.Builder.ROOM ps result }
+    ensures text { MakesRootless (labels_of Octs.octets) Octs.Builder.ROOM buffer.old read result }
 {
     match read {
         Ok(()) => {}
@@ -195,9 +186,8 @@ where
     requires can { I.can_next items }
     requires ends { IsFinite (I.remaining items) }
     ensures wire { IfOk result (λ octets. IsAbsoluteWire (Octs.octets octets)) }
-    ensures text { (all : Items) → AlwaysYields I.next_gives (λ x. x) items all →
-        MakesName (λ octets. labels_in (Octs.octets octets)) Octs.Builder.ROOM
-        (name_symbols all) result }
+    ensures text { IfYieldsParts I.next_gives items
+        (λ ps. MakesName (labels_of Octs.octets) Octs.Builder.ROOM ps result) }
 {
     let mut buffer = NameBuffer::new();
     let read = read_name_text(&mut buffer, items);
@@ -215,8 +205,8 @@ where
     requires can { I.can_next chars }
     requires ends { IsFinite (I.remaining chars) }
     ensures wire { IfOk result (λ octets. IsAbsoluteWire (Octs.octets octets)) }
-    ensures text { (cs : List ℕ) → AlwaysYields I.next_gives (λ c. c) chars cs →
-        ReadsNameText (λ octets. labels_in (Octs.octets octets)) Octs.Builder.ROOM cs result }
+    ensures text { IfYields I.next_gives chars
+        (λ cs. ReadsNameText (labels_of Octs.octets) Octs.Builder.ROOM cs result) }
 {
     absolute_from_items(alloc, Symbols::new(chars))
 }
@@ -232,8 +222,8 @@ where
     requires can { I.can_next chars }
     requires ends { IsFinite (I.remaining chars) }
     ensures wire { IfOk result (λ octets. IsRelativeWire (Octs.octets octets)) }
-    ensures text { (cs : List ℕ) → AlwaysYields I.next_gives (λ c. c) chars cs →
-        ReadsRelativeText (λ octets. labels_in (Octs.octets octets)) Octs.Builder.ROOM cs result }
+    ensures text { IfYields I.next_gives chars
+        (λ cs. ReadsRelativeText (labels_of Octs.octets) Octs.Builder.ROOM cs result) }
 {
     let mut buffer = NameBuffer::new();
     let read = read_relative_text(&mut buffer, Symbols::new(chars));
@@ -251,9 +241,8 @@ where
     requires can { I.can_next symbols }
     requires ends { IsFinite (I.remaining symbols) }
     ensures wire { IfOk result (λ octets. IsAbsoluteWire (Octs.octets octets)) }
-    ensures text { (ss : List Symbol) → AlwaysYields I.next_gives (λ x. x) symbols ss →
-        MakesName (λ octets. labels_in (Octs.octets octets)) Octs.Builder.ROOM
-        (symbols_in_name ss) result }
+    ensures text { IfYields I.next_gives symbols
+        (λ ss. MakesName (labels_of Octs.octets) Octs.Builder.ROOM (symbols_in_name ss) result) }
 {
     absolute_from_items(alloc, WholeSymbols::new(symbols))
 }
@@ -267,8 +256,7 @@ pub fn absolute_from_str<Octs: FromBuilder + Drop>(
 where
     Octs::Builder: EmptyBuilder + Drop,
     ensures wire { IfOk result (λ octets. IsAbsoluteWire (Octs.octets octets)) }
-    ensures text { ReadsNameText (λ octets. labels_in (Octs.octets octets)) Octs.Builder.ROOM
-        (chars text.now) result }
+    ensures text { ReadsNameText (labels_of Octs.octets) Octs.Builder.ROOM (chars text.now) result }
 {
     let mut buffer = NameBuffer::new();
     let read = read_name_str(&mut buffer, text);
@@ -284,8 +272,8 @@ pub fn relative_from_str<Octs: FromBuilder + Drop>(
 where
     Octs::Builder: EmptyBuilder + Drop,
     ensures wire { IfOk result (λ octets. IsRelativeWire (Octs.octets octets)) }
-    ensures text { ReadsRelativeText (λ octets. labels_in (Octs.octets octets)) Octs.Builder.ROOM
-        (chars text.now) result }
+    ensures text { ReadsRelativeText (labels_of Octs.octets) Octs.Builder.ROOM (chars text.now)
+        result }
 {
     let mut buffer = NameBuffer::new();
     let read = read_relative_str(&mut buffer, text);
@@ -303,8 +291,7 @@ fn absolute_array<const N: usize>(
 ) -> Result<(), FromStrError>
     requires empty { octets.old.items ≡ [] }
     ensures wire { OnOk result (IsAbsoluteWire octets.new.items) }
-    ensures text { (ps : List NameSymbol) → ReadsName ps buffer.old read →
-        MakesName (λ _. labels_in octets.new.items) (Some N) ps result }
+    ensures text { MakesRooted (λ _. labels_in octets.new.items) (Some N) buffer.old read result }
 {
     read?;
     Ok(buffer.append_name(octets)?)
@@ -319,8 +306,7 @@ fn relative_array<const N: usize>(
 ) -> Result<(), RelativeFromStrError>
     requires empty { octets.old.items ≡ [] }
     ensures wire { OnOk result (IsRelativeWire octets.new.items) }
-    ensures text { (ps : List NameSymbol) → ReadsRelative ps buffer.old read →
-        MakesRelative (λ _. labels_in octets.new.items) (Some N) ps result }
+    ensures text { MakesRootless (λ _. labels_in octets.new.items) (Some N) buffer.old read result }
 {
     match read {
         Ok(()) => {}

@@ -1,8 +1,6 @@
 //! Symbols that were read already, as the symbols of a text.
-ghost use Rattle.std.specs.Prelude.{◌≡◌, List, map, Ok};
-ghost use Rattle.std.specs.Iterator.{AlwaysYields};
-ghost use Rattle.domain_label.specs.declared.symbol.Symbol.{Symbol};
-ghost use Rattle.domain_text.specs.SymbolsInHand.{WholeSteps, symbols_of};
+ghost use Rattle.std.specs.Prelude.{◌≡◌};
+ghost use Rattle.domain_text.specs.SymbolsInHand.{WholeSteps, YieldsWhole, symbols_of};
 
 use domain_label::scan::{Symbol, SymbolCharsError};
 
@@ -16,8 +14,7 @@ impl<I: Iterator<Item = Symbol> + Drop> WholeSymbols<I> {
     /// The symbols.
     #[inline(always)]
     pub fn new(symbols: I) -> Self
-        ensures items { (ss : List Symbol) → AlwaysYields I.next_gives (λ x. x) symbols ss →
-            AlwaysYields (WholeSteps I.next_gives) (λ x. x) result (map Ok ss) }
+        ensures items { YieldsWhole I.next_gives symbols result }
         ensures symbols { symbols_of result ≡ symbols }
     {
         WholeSymbols { symbols }
