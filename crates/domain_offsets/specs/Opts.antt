@@ -1,6 +1,7 @@
 -- Options in the data of OPT records, one after another (RFC 6891, 6.1.2).
-use Rattle.std.specs.Prelude.{◌≡◌, ◌⊎◌, ℕ, ◌+◌, ◌≤◌, ◌<◌, List, length, take, drop}
+use Rattle.std.specs.Prelude.{◌≡◌, ◌⊎◌, ℕ, ◌+◌, ◌≤◌, ◌<◌, List, length, take, drop, Option, MatchOption}
 use Rattle.domain_edns.specs.Options.{BeginsWithOption, EndsInOption}
+use Rattle.domain_edns.specs.declared.options.EdnsOption.{EdnsOption}
 use Rattle.domain_offsets.specs.declared.fault.DataFault.{DataFault}
 use Rattle.domain_offsets.specs.declared.fault.DataFault.TheVariants.{NoField, ShortInput, TrailingData, Name}
 
@@ -22,6 +23,12 @@ pub record HasOption (message : List ℕ) (p len rtype passed code : ℕ) (octet
   pub rest : List ℕ
   pub option : BeginsWithOption (left_of message p len passed) code octets rest
   pub ends : passed + 4 + length octets ≤ len
+
+-- An option was found that comes so, or none, since all of the octets were passed.
+abbrev pub FindsOption : List ℕ → ℕ → ℕ → ℕ → ℕ → Option EdnsOption → Type 0
+FindsOption message p len rtype passed found =
+    MatchOption found (NoOptionLeft message p len rtype passed)
+    (λ it. HasOption message p len rtype passed it.code it.«data».now)
 
 -- No option comes, and why: the type is another, the data end past the message, or in the option.
 abbrev pub LacksOption : List ℕ → ℕ → ℕ → ℕ → ℕ → DataFault → Type 0

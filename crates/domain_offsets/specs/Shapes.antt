@@ -3,6 +3,7 @@
 use Rattle.std.specs.Prelude.{◌≡◌, ◌⊎◌, ℕ, zero, suc, ◌+◌, ◌*◌, ◌≤◌, ◌<◌, List, [], ◌∷◌, length, take, Option, Some, None, nat_eq, if◌then◌else◌}
 use Rattle.std.specs.List.{list_any}
 use Rattle.domain_reading.specs.Faults.{Skips, SkipFault}
+use Rattle.domain_reading.specs.declared.fault.NameFault.{NameFault}
 use Rattle.domain_offsets.specs.declared.fault.DataFault.{DataFault}
 use Rattle.domain_offsets.specs.declared.fault.DataFault.TheVariants.{NoField, ShortInput, TrailingData, Name}
 use Rattle.domain_offsets.specs.declared.shape.Shape.{Shape}
@@ -40,13 +41,17 @@ NameBegins m p (suc i) q = (e : ℕ) × NameBegins m p i e × Skips m e q
 abbrev pub NamesEnd : List ℕ → ℕ → Shape → ℕ → Type 0
 NamesEnd m p s e = NameBegins m (p + 2 * s.shorts) s.names e
 
+-- One of the first n names at p can't be skipped, and why.
+abbrev pub NameUnskipped : List ℕ → ℕ → ℕ → NameFault → Type 0
+NameUnskipped m p n f = (i : ℕ) × (q : ℕ) × (i < n) × NameBegins m p i q × SkipFault m q f
+
 -- m doesn't end where data of this shape do that begin at p, and why: a name can't be skipped, or the numbers after the
 -- names end past m or before its end.
 abbrev pub BreaksShape : List ℕ → ℕ → Shape → DataFault → Type 0
 BreaksShape m p s NoField = ⊥
 BreaksShape m p s ShortInput = (e : ℕ) × NamesEnd m p s e × (length m < e + 4 * s.longs)
 BreaksShape m p s TrailingData = (e : ℕ) × NamesEnd m p s e × (e + 4 * s.longs < length m)
-BreaksShape m p s (Name f) = (i : ℕ) × (q : ℕ) × (i < s.names) × NameBegins m (p + 2 * s.shorts) i q × SkipFault m q f
+BreaksShape m p s (Name f) = NameUnskipped m (p + 2 * s.shorts) s.names f
 
 -- The octets of the message from p on, so many, are data of this shape, whose names end before e.
 pub record FitsShape (message : List ℕ) (p len : ℕ) (s : Shape) (e : ℕ) : Type 0 where

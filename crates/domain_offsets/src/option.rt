@@ -1,6 +1,6 @@
 //! Options in the data of OPT records (RFC 6891, 6.1.2).
-ghost use Rattle.std.specs.Prelude.{IfOk, IfErr, MatchOption};
-ghost use Rattle.domain_offsets.specs.Opts.{NoOptionLeft, HasOption, LacksOption};
+ghost use Rattle.std.specs.Prelude.{IfOk, IfErr};
+ghost use Rattle.domain_offsets.specs.Opts.{FindsOption, LacksOption};
 
 use crate::fault::DataFault;
 use domain_edns::EdnsOption;
@@ -17,9 +17,7 @@ pub fn option_in<'a>(
     rtype: u16,
     passed: usize,
 ) -> Result<Option<EdnsOption<'a>>, DataFault>
-    ensures ok { IfOk result
-        (λ found. MatchOption found (NoOptionLeft message.now data_at data_len rtype passed)
-        (λ it. HasOption message.now data_at data_len rtype passed it.code it.«data».now)) }
+    ensures ok { IfOk result (FindsOption message.now data_at data_len rtype passed) }
     ensures err { IfErr result (LacksOption message.now data_at data_len rtype passed) }
 {
     if rtype != 41 {

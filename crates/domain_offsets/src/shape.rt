@@ -1,7 +1,6 @@
 //! Numbers and names in record data, type by type (RFC 1035, 3.3).
-ghost use Rattle.std.specs.Prelude.{◌≡◌, ◌<◌, ◌≤◌, ◌+◌, ◌*◌, ℕ, length, IfOk, IfErr, IfSome};
-ghost use Rattle.domain_reading.specs.Faults.{SkipFault};
-ghost use Rattle.domain_offsets.specs.Shapes.{shape, IsSmall, NameBegins, NamesEnd, BreaksShape, FitsShape, Unreadable};
+ghost use Rattle.std.specs.Prelude.{◌≡◌, ◌<◌, ◌≤◌, ◌+◌, ◌*◌, length, IfOk, IfErr, IfSome};
+ghost use Rattle.domain_offsets.specs.Shapes.{shape, IsSmall, NameBegins, NameUnskipped, NamesEnd, BreaksShape, FitsShape, Unreadable};
 
 use crate::fault::DataFault;
 use domain_reading::fault::NameFault;
@@ -44,9 +43,7 @@ pub fn shape_of(rtype: u16) -> Option<Shape>
 pub(crate) fn name_begin(octets: &[u8], start: usize, index: usize) -> Result<usize, NameFault>
     ensures begins { IfOk result (λ q. NameBegins octets.now start index q) }
     ensures inside { 0 < index → IfOk result (λ q. q ≤ length octets.now) }
-    ensures fault { IfErr result
-        (λ f. (i : ℕ) × (q : ℕ) × (i < index) × NameBegins octets.now start i q
-        × SkipFault octets.now q f) }
+    ensures fault { IfErr result (NameUnskipped octets.now start index) }
 {
     let mut begin = start;
     for passed in 0..index {

@@ -1,8 +1,6 @@
 //! Character strings in record data (RFC 1035, 3.3).
-ghost use Rattle.std.specs.Prelude.{◌↔◌, ◌+◌, ◌≤◌, length, IsTrue, IfOk, IfErr, MatchOption};
-ghost use Rattle.domain_wire.specs.declared.error.ParseError.TheVariants.{ShortInput};
-ghost use Rattle.domain_strings.specs.CharStrings.{CharStringAt, NoCharString};
-ghost use Rattle.domain_offsets.specs.Texts.{IsOfStrings, NoStringLeft, HasString, LacksString};
+ghost use Rattle.std.specs.Prelude.{◌↔◌, ◌≤◌, length, IsTrue, IfOk, IfErr};
+ghost use Rattle.domain_offsets.specs.Texts.{IsOfStrings, FindsCharString, FindsString, LacksString};
 
 use crate::fault::DataFault;
 
@@ -16,9 +14,7 @@ fn is_of_strings(rtype: u16) -> bool
 /// The character string that octets begin with at an offset.
 fn string_at(octets: &[u8], offset: usize) -> Option<&[u8]>
     requires { offset ≤ length octets.now }
-    ensures { MatchOption result (NoCharString octets.now offset ShortInput)
-        (λ s. CharStringAt octets.now offset s.now (offset + 1 + length s.now)
-        × (offset + 1 + length s.now ≤ length octets.now)) }
+    ensures { FindsCharString octets.now offset result }
 {
     let [len, rest @ ..] = &octets[offset..] else {
         return None;
@@ -44,9 +40,7 @@ pub fn string_in<'a>(
     rtype: u16,
     passed: usize,
 ) -> Result<Option<&'a [u8]>, DataFault>
-    ensures ok { IfOk result
-        (λ found. MatchOption found (NoStringLeft message.now data_at data_len rtype passed)
-        (λ s. HasString message.now data_at data_len rtype passed s.now)) }
+    ensures ok { IfOk result (FindsString message.now data_at data_len rtype passed) }
     ensures err { IfErr result (LacksString message.now data_at data_len rtype passed) }
 {
     if !is_of_strings(rtype) {
