@@ -1,5 +1,7 @@
 -- What contracts see of an address: its octets, in the order in which they are sent.
 use Rattle.std.specs.Prelude.{◌≡◌, ℕ, ◌++◌, List, length, take, replicate}
+use Rattle.std.specs.Int.{w16, to_be_bytes}
+use Rattle.std.specs.List.{flat_map}
 use Rattle.std.proofs.Common.{arith}
 use Rattle.std.proofs.lemmas.Grind.{common_steps}
 use Rattle.domain_wire.specs.declared.net.Ipv4Addr.{Ipv4Addr}
@@ -30,3 +32,7 @@ ipv6_octets addr = exactly 16 addr.octets
 -- the address of sixteen octets
 abbrev pub ipv6_of : List ℕ → Ipv6Addr
 ipv6_of octets = record { octets = octets }
+
+-- the address of eight segments of 16 bits
+abbrev pub ipv6_of_segments : List ℕ → Ipv6Addr
+ipv6_of_segments segments = ipv6_of (flat_map (to_be_bytes w16) segments)

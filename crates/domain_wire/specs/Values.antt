@@ -1,5 +1,7 @@
 -- What octets of a message are read as. Offsets count from the start of the octets.
 use Rattle.std.specs.Prelude.{◌≡◌, ℕ, ◌+◌, ◌<◌, ◌≤◌, List, length, slice_range}
+use Rattle.octseq.specs.declared.parse.Parser.{Parser}
+use Rattle.octseq.specs.Parsing.{message, position}
 use Rattle.domain_wire.specs.declared.error.ParseError.{ParseError}
 use Rattle.domain_wire.specs.declared.error.ParseError.TheVariants.{ShortInput}
 use Rattle.domain_wire.specs.Refusals.{refusal}
@@ -15,6 +17,10 @@ pub record IsReading {Seen : Type 0} (encodes : List ℕ → ℕ → Seen → �
   pub not_both : (m : List ℕ) (p : ℕ) (model : Seen) (e : ℕ) (why : ParseError) → encodes m p model e → fails_with m p why → ⊥
   -- there is one error
   pub one_fault : (m : List ℕ) (p : ℕ) (why other : ParseError) → fails_with m p why → fails_with m p other → refusal why ≡ refusal other
+
+-- The parser was moved over a value that is seen so.
+abbrev pub Passes : {Seen : Type 0} → (List ℕ → ℕ → Seen → ℕ → Type 0) → Parser → Seen → Parser → Type 0
+Passes encodes old model new = encodes (message old) (position old) model (position new)
 
 -- a value that has this number of octets, whatever it is, and is what they are
 pub record FixedAt {Seen : Type 0} (len : ℕ) (value_of : List ℕ → Seen) (m : List ℕ) (p : ℕ) (model : Seen) (e : ℕ) : Type 0 where

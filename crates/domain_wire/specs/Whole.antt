@@ -1,5 +1,6 @@
--- Reading a value that has all of the octets.
-use Rattle.std.specs.Prelude.{◌≡◌, ℕ, List, [], ◌∷◌, codes, Result, Ok, Err}
+-- Reading a value that has all of the octets, and composing octets that are all of a vector's.
+use Rattle.std.specs.Prelude.{◌≡◌, ℕ, List, [], ◌∷◌, codes, Result, Ok, Err, MatchResult, Vec}
+use Rattle.std.specs.declared.alloc.Global.{Global}
 use Rattle.octseq.specs.declared.parse.Parser.{Parser}
 use Rattle.octseq.specs.Parsing.{slice_of, message, position, left}
 use Rattle.domain_wire.specs.declared.error.FormError.{FormError}
@@ -22,3 +23,19 @@ OnlyWhole becomes value (octet ∷ octets) (Err e) = (trailing : FormError) × (
 abbrev pub IsResultOfAll : {T E : Type 0} → (FormError → E → Type 0) → Result T E → Parser → Result T E → Type 0
 IsResultOfAll becomes (Err e) end result = result ≡ Err e
 IsResultOfAll becomes (Ok value) end result = OnlyWhole becomes value (left end) result
+
+-- A call, of which `returns` says what it may return and leave, was given a parser at the start of the octets, and the
+-- result is that of reading all of them.
+abbrev pub ReadsWhole : {T E : Type 0}
+    → (Parser → Result T E → Parser → Type 0) → (FormError → E → Type 0) → List ℕ → Result T E → Type 0
+ReadsWhole {T} {E} returns becomes octets result =
+    (start : Parser) × (told : Result T E) × (end : Parser)
+    × BeginsAt start octets × returns start told end × IsResultOfAll becomes told end result
+
+-- A call was given a vector without octets, and the result is what it left there, or its error.
+abbrev pub ComposesWhole : {E : Type 0}
+    → (Vec ℕ Global → Result (Unit {0}) E → Vec ℕ Global → Type 0) → Result (Vec ℕ Global) E → Type 0
+ComposesWhole {E} returns result =
+    (start : Vec ℕ Global) × (told : Result (Unit {0}) E) × (end : Vec ℕ Global)
+    × (start.items ≡ []) × returns start told end
+    × MatchResult told (λ _. result ≡ Ok end) (λ e. result ≡ Err e)

@@ -1,7 +1,9 @@
 //! Values of fixed length, and how they are written on the wire.
-ghost use Rattle.std.specs.Prelude.{◌≡◌, ℕ, ◌++◌, ◌+◌, ◌<◌, ◌≤◌, List, [], length, OnOk, OnErr, IfSome, MatchResult, [], Ok, Err, refl};
+ghost use Rattle.std.specs.Prelude.{◌≡◌, ℕ, ◌≤◌, List, [], length, OnOk, OnErr, IfSome, refl};
 ghost use Rattle.std.specs.Int.{w8, w16, w32, w64, w128, to_be_bytes, cast_unsigned};
+ghost use Rattle.octseq.specs.Appending.{GrowsBy, TooFull};
 ghost use Rattle.domain_wire.specs.Addresses.{ipv4_octets, ipv6_octets, exactly_len};
+ghost use Rattle.domain_wire.specs.Whole.{ComposesWhole};
 ghost use Rattle.std.specs.Fn.{FnOnceReturnsAtMut};
 
 use crate::net::{Ipv4Addr, Ipv6Addr};
@@ -25,14 +27,13 @@ pub trait Compose {
     /// the octets of the target are as before.
     fn compose<Target: OctetsBuilder>(&self, target: &mut Target) -> Result<(), Target::AppendError>
         ensures ok { OnOk result
-            (Target.octets target.new ≡ Target.octets target.old ++ composed_octets self.now) }
+            (GrowsBy Target.Octets target.old (composed_octets self.now) target.new) }
         ensures extends { OnOk result
             (Target.extends target.old (composed_octets self.now) target.new) }
         ensures unchanged { OnErr result (Target.octets target.new ≡ Target.octets target.old) }
         ensures nothing { OnErr result (Target.extends target.old [] target.new) }
         ensures full { OnErr result
-            (Target.capacity target.old
-            < length (Target.octets target.old) + length (composed_octets self.now)) }
+            (TooFull Target.Octets target.old (composed_octets self.now)) }
         ensures capacity { Target.capacity target.old ≤ Target.capacity target.new }
         ensures within { IfSome Target.limit (λ n. length (Target.octets target.new) ≤ n) };
 }
@@ -323,10 +324,7 @@ pub fn compose_vec<F: FnOnce(&mut Vec<u8>) -> Result<(), ShortBuf>>(
     op: F,
 ) -> Result<Vec<u8>, ShortBuf>
     requires { F.IsAlwaysCallable op }
-    ensures { (start : _) × (told : _) × (end : _)
-        × (start.items ≡ [])
-        × FnOnceReturnsAtMut F.FnOnce op start told end
-        × MatchResult told (λ _. result ≡ Ok end) (λ e. result ≡ Err e) }
+    ensures { ComposesWhole (FnOnceReturnsAtMut F.FnOnce op) result }
 {
     let mut octets = Vec::new(alloc);
     op(&mut octets)?;

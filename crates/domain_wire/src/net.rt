@@ -1,8 +1,6 @@
 //! Addresses of hosts.
 ghost use Rattle.std.specs.Prelude.{◌≡◌, [], ◌∷◌};
-ghost use Rattle.std.specs.Int.{w16, to_be_bytes};
-ghost use Rattle.std.specs.List.{flat_map};
-ghost use Rattle.domain_wire.specs.Addresses.{ipv4_octets, ipv6_octets, ipv4_of, ipv6_of};
+ghost use Rattle.domain_wire.specs.Addresses.{ipv4_octets, ipv6_octets, ipv4_of, ipv6_of, ipv6_of_segments};
 ghost use Rattle.domain_wire.specs.declared.net.IpAddr.TheVariants.{V4, V6};
 
 /// An IPv4 address: 32 bits (RFC 1035, 3.4.1).
@@ -46,8 +44,7 @@ pub struct Ipv6Addr {
 impl Ipv6Addr {
     /// The address that is written `a:b:c:d:e:f:g:h`: eight segments of 16 bits.
     pub fn new(a: u16, b: u16, c: u16, d: u16, e: u16, f: u16, g: u16, h: u16) -> Ipv6Addr
-        ensures { result
-            ≡ ipv6_of (flat_map (to_be_bytes w16) (a ∷ b ∷ c ∷ d ∷ e ∷ f ∷ g ∷ h ∷ [])) }
+        ensures { result ≡ ipv6_of_segments (a ∷ b ∷ c ∷ d ∷ e ∷ f ∷ g ∷ h ∷ []) }
     {
         let [a_high, a_low] = a.to_be_bytes();
         let [b_high, b_low] = b.to_be_bytes();
@@ -83,7 +80,7 @@ impl From<[u8; 16]> for Ipv6Addr {
 
 /// The address of these eight segments of 16 bits.
 impl From<[u16; 8]> for Ipv6Addr {
-    ghost from_gives = { λ segments addr. addr ≡ ipv6_of (flat_map (to_be_bytes w16) segments) };
+    ghost from_gives = { λ segments addr. addr ≡ ipv6_of_segments segments };
 
     fn from(segments: [u16; 8]) -> Ipv6Addr {
         let [a, b, c, d, e, f, g, h] = segments;
@@ -118,8 +115,7 @@ impl From<[u8; 16]> for IpAddr {
 
 /// The IPv6 address of these eight segments of 16 bits.
 impl From<[u16; 8]> for IpAddr {
-    ghost from_gives = { λ segments addr.
-        addr ≡ V6 (ipv6_of (flat_map (to_be_bytes w16) segments)) };
+    ghost from_gives = { λ segments addr. addr ≡ V6 (ipv6_of_segments segments) };
 
     fn from(segments: [u16; 8]) -> IpAddr {
         IpAddr::V6(Ipv6Addr::from(segments))

@@ -3,13 +3,12 @@ ghost use Rattle.std.specs.Prelude.{◌≡◌, ℕ, ℤ, List, IfOk, IfErr, OnOk
 ghost use Rattle.std.specs.Int.{w8, w16, w32, w64, from_be_bytes, cast_signed};
 ghost use Rattle.octseq.specs.Parsing.{message, position, MovesTo};
 ghost use Rattle.domain_wire.specs.FixedLength.{fixed_reading};
-ghost use Rattle.domain_wire.specs.Values.{IsReading, FixedAt, ShortAt};
+ghost use Rattle.domain_wire.specs.Values.{IsReading, Passes, FixedAt, ShortAt};
 ghost use Rattle.domain_wire.specs.declared.error.ParseError.{ParseError};
 ghost use Rattle.domain_wire.specs.declared.net.Ipv4Addr.{Ipv4Addr};
 ghost use Rattle.domain_wire.specs.declared.net.Ipv6Addr.{Ipv6Addr};
 ghost use Rattle.domain_wire.specs.Addresses.{ipv4_of, ipv6_of};
-ghost use Rattle.domain_wire.specs.Whole.{BeginsAt, IsResultOfAll};
-ghost use Rattle.octseq.specs.declared.parse.Parser.{Parser};
+ghost use Rattle.domain_wire.specs.Whole.{ReadsWhole};
 ghost use Rattle.std.specs.Fn.{FnOnceReturnsAtMut};
 
 use crate::error::{FormError, ParseError};
@@ -42,9 +41,7 @@ pub trait Parse<'a>: Sized {
     ///
     /// An error leaves the parser as it was.
     fn parse(parser: &mut Parser<'a>) -> Result<Self, ParseError>
-        ensures ok { IfOk result
-            (λ value. encodes (message parser.old) (position parser.old) (model value)
-            (position parser.new)) }
+        ensures ok { IfOk result (λ value. Passes encodes parser.old (model value) parser.new) }
         ensures moves { OnOk result (MovesTo parser.old parser.new (position parser.new)) }
         ensures err { IfErr result (λ e. fails_with (message parser.old) (position parser.old) e) }
         ensures unchanged { OnErr result (parser.new ≡ parser.old) };
@@ -240,10 +237,7 @@ pub fn parse_slice<'a, T: Drop, E: From<FormError>, F: FnOnce(&mut Parser<'a>) -
     op: F,
 ) -> Result<T, E>
     requires { F.IsAlwaysCallable op }
-    ensures { (start : Parser) × (told : _) × (end : Parser)
-        × BeginsAt start octets.now
-        × FnOnceReturnsAtMut F.FnOnce op start told end
-        × IsResultOfAll E.from_gives told end result }
+    ensures { ReadsWhole (FnOnceReturnsAtMut F.FnOnce op) E.from_gives octets.now result }
 {
     let mut parser = Parser::from_ref(octets);
     let value = op(&mut parser)?;
