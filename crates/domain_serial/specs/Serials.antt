@@ -1,9 +1,15 @@
 -- Serial numbers: 32 bits that count on from 2^32 - 1 to 0 (RFC 1982, 3).
-use Rattle.std.specs.Prelude.{◌≡◌, ℕ, ◌+◌, ◌-◌, ◌%◌, ◌^◌, ◌<◌, ◌≤◌, ◌↔◌, Option, Some, None}
+use Rattle.std.specs.Prelude.{◌≡◌, ℕ, ◌+◌, ◌-◌, ◌%◌, ◌^◌, ◌<◌, ◌≤◌, ◌↔◌, List, Option, Some, None}
+use Rattle.std.specs.Int.{w32, from_be_bytes}
 use Rattle.std.specs.Option.{option_map}
 use Rattle.std.specs.Ordering.{ordering_reverse}
 use Rattle.std.specs.declared.cmp.Ordering.{Ordering}
+use Rattle.domain_wire.specs.Values.{FixedAt}
 use Rattle.std.specs.declared.cmp.Ordering.TheVariants.{Less, Equal, Greater}
+
+-- A number of 32 bits is at the first offset, the high octet first, and the second is the offset after it.
+abbrev pub NumberAt : List ℕ → ℕ → ℕ → ℕ → Type 0
+NumberAt = FixedAt 4 (from_be_bytes w32)
 
 -- how far the second number is ahead of the first
 abbrev pub distance : ℕ → ℕ → ℕ

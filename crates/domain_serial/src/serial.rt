@@ -1,6 +1,6 @@
 //! Serial numbers.
 ghost use Rattle.std.specs.Int.{int_rem_euclid};
-ghost use Rattle.std.specs.Prelude.{pos, int_div, ◌≡◌, ◌+◌, ◌++◌, ◌≤◌, ◌<◌, ◌%◌, ◌^◌, length, IfOk, IfErr, OnOk, OnErr, IfSome, Some, codes};
+ghost use Rattle.std.specs.Prelude.{pos, int_div, ◌≡◌, ◌+◌, ◌≤◌, ◌<◌, ◌%◌, ◌^◌, length, IfOk, IfErr, OnOk, OnErr, IfSome, Some, codes};
 ghost use Rattle.std.specs.Int.{w32, to_be_bytes, from_be_bytes};
 ghost use Rattle.std.specs.Fmt.{decimal};
 ghost use Rattle.std.specs.Result.{result_map_both};
@@ -9,8 +9,9 @@ ghost use Rattle.std.specs.Cmp.Rules.{comparing};
 ghost use Rattle.std.proofs.Common.{rules};
 ghost use Rattle.std.specs.Ordering.{nat_cmp, on};
 ghost use Rattle.octseq.specs.Parsing.{message, position, MovesTo};
-ghost use Rattle.domain_serial.specs.Serials.{distance, IsSerialOrder};
-ghost use Rattle.domain_wire.specs.Values.{FixedAt, ShortAt};
+ghost use Rattle.octseq.specs.Appending.{GrowsBy, LacksSpare};
+ghost use Rattle.domain_serial.specs.Serials.{NumberAt, distance, IsSerialOrder};
+ghost use Rattle.domain_wire.specs.Values.{Passes, ShortAt};
 
 use domain_wire::{CanonicalOrd, Compose, Parse, ParseError};
 use jiff::Timestamp;
@@ -77,9 +78,7 @@ impl Serial {
     ///
     /// `ShortInput` where fewer than four octets are left. The parser is unchanged then.
     pub fn parse(parser: &mut Parser<'_>) -> Result<Serial, ParseError>
-        ensures ok { IfOk result
-            (λ serial. FixedAt 4 (from_be_bytes w32) (message parser.old) (position parser.old)
-            serial.0 (position parser.new)) }
+        ensures ok { IfOk result (λ serial. Passes NumberAt parser.old serial.0 parser.new) }
         ensures moves { OnOk result (MovesTo parser.old parser.new (position parser.new)) }
         ensures err { IfErr result (λ e. ShortAt 4 (message parser.old) (position parser.old) e) }
         ensures unchanged { OnErr result (parser.new ≡ parser.old) }
@@ -95,10 +94,9 @@ impl Serial {
         target: &mut Target,
     ) -> Result<(), Target::AppendError>
         ensures ok { OnOk result
-            (Target.octets target.new ≡ Target.octets target.old ++ to_be_bytes w32 self.now.0) }
+            (GrowsBy Target.Octets target.old (to_be_bytes w32 self.now.0) target.new) }
         ensures unchanged { OnErr result (Target.octets target.new ≡ Target.octets target.old) }
-        ensures full { OnErr result
-            (Target.capacity target.old < length (Target.octets target.old) + 4) }
+        ensures full { OnErr result (LacksSpare Target.Octets target.old 4) }
         ensures capacity { Target.capacity target.old ≤ Target.capacity target.new }
         ensures within { IfSome Target.limit (λ n. length (Target.octets target.new) ≤ n) }
     {
