@@ -11,3 +11,4 @@ pub mod Joined
 pub mod EqualSuffixes
 pub mod Moving
 pub mod Dotted
+pub mod Targets

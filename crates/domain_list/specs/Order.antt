@@ -1,10 +1,10 @@
 -- The orders of names.
-use Rattle.std.specs.Prelude.{ℕ, Bool, List, Option, None, Some, reverse}
+use Rattle.std.specs.Prelude.{◌≡◌, ◌≢◌, ℕ, Bool, List, Option, None, Some, reverse, MatchBool}
 use Rattle.std.specs.Cmp.Lexicographic.{slice_cmp}
 use Rattle.std.specs.Ordering.{on, nat_cmp, eq_by_cmp}
 use Rattle.std.specs.declared.cmp.Ordering.{Ordering}
 use Rattle.std.specs.declared.cmp.Ordering.TheVariants.{Less, Equal, Greater}
-use Rattle.domain_label.specs.Lowercase.{lowercase_labels, cmp_ignoring_case}
+use Rattle.domain_label.specs.Lowercase.{lowercase, lowercase_labels, cmp_ignoring_case}
 use Rattle.domain_label.specs.Labels.{label_octets}
 use Rattle.domain_label.specs.declared.label.Label.{Label}
 use Rattle.domain_label.specs.Wire.{wire}
@@ -36,3 +36,11 @@ lowercase_composed_order = on lowercase_labels composed_order
 -- The names that the order finds equal: those whose labels are the same ignoring case.
 abbrev pub same_name : List (List ℕ) → List (List ℕ) → Bool
 same_name = on from_right (eq_by_cmp (slice_cmp (slice_cmp nat_cmp)))
+
+-- The labels are the same ignoring case.
+abbrev pub SameLabels : List (List ℕ) → List (List ℕ) → Type 0
+SameLabels xs ys = lowercase_labels xs ≡ lowercase_labels ys
+
+-- It is told whether the octets differ, ignoring case.
+abbrev pub TellsDifference : Bool → List ℕ → List ℕ → Type 0
+TellsDifference told x y = MatchBool told (lowercase x ≢ lowercase y) (lowercase x ≡ lowercase y)

@@ -1,11 +1,12 @@
 //! Comparing names. The methods of names call these functions; each is the one body for absolute and relative names
 //! of every kind. Where both names are in contiguous octets, these are compared directly.
-ghost use Rattle.std.specs.Prelude.{◌≡◌, ◌≢◌, ◌<◌, ◌∷◌, IsTrue, ◌↔◌, length, MatchBool};
-ghost use Rattle.domain_label.specs.Lowercase.{lowercase, lowercase_labels};
+ghost use Rattle.std.specs.Prelude.{◌≡◌, ◌<◌, ◌∷◌, IsTrue, ◌↔◌, length};
+ghost use Rattle.domain_label.specs.Lowercase.{lowercase};
 ghost use Rattle.domain_label.specs.Labels.{label_octets};
 ghost use Rattle.domain_label.specs.Wire.{wire, AreLabels};
 ghost use Rattle.domain_list.specs.EqualSuffixes.{SuffixesEqual};
 ghost use Rattle.domain_list.specs.Order.{canonical_order, last_order, same_name, composed_order, lowercase_composed_order};
+ghost use Rattle.domain_list.specs.Order.{SameLabels, TellsDifference};
 
 use crate::flat::known_equal_suffix_len;
 use crate::labels::{LabelIterator, ToLabelIter};
@@ -16,7 +17,7 @@ use std::cmp::Ordering;
 
 /// Whether the labels that are left are the same ignoring ASCII case (RFC 4343).
 pub(crate) fn eq_labels<'a, A: LabelIterator<'a>, B: LabelIterator<'a>>(a: A, b: B) -> bool
-    ensures { IsTrue result ↔ (lowercase_labels (A.left a) ≡ lowercase_labels (B.left b)) }
+    ensures { IsTrue result ↔ SameLabels (A.left a) (B.left b) }
 {
     let mut a = a;
     let mut b = b;
@@ -63,8 +64,7 @@ fn eq_flat<'a, I: LabelIterator<'a>>(labels: I, len: u16, flat: &[u8]) -> bool
 
 /// Whether the labels of two names are the same ignoring ASCII case (RFC 4343).
 pub fn eq_names<'a, A: ToLabelIter<'a>, B: ToLabelIter<'a>>(a: &'a A, b: &'a B) -> bool
-    ensures { IsTrue result
-        ↔ (lowercase_labels (A.labels a.now) ≡ lowercase_labels (B.labels b.now)) }
+    ensures { IsTrue result ↔ SameLabels (A.labels a.now) (B.labels b.now) }
 {
     match (a.as_flat_slice(), b.as_flat_slice()) {
         (Some(a), Some(b)) => return same_octets(a, b),
@@ -106,8 +106,7 @@ pub(crate) fn next_label<'a, I: LabelIterator<'a>>(labels: &mut I) -> Label<'a>
 
 /// Whether two labels differ, apart from ASCII case.
 fn differ(x: &Label<'_>, y: &Label<'_>) -> bool
-    ensures { MatchBool result (lowercase (label_octets x.now) ≢ lowercase (label_octets y.now))
-        (lowercase (label_octets x.now) ≡ lowercase (label_octets y.now)) }
+    ensures { TellsDifference result (label_octets x.now) (label_octets y.now) }
 {
     x != y
 }

@@ -1,8 +1,9 @@
 //! Writing names in wire format, without compression (RFC 1035, 3.1).
-ghost use Rattle.std.specs.Prelude.{◌≡◌, ◌≤◌, ◌<◌, ◌+◌, ◌++◌, [], length, take, IfSome, OnOk, OnErr};
+ghost use Rattle.std.specs.Prelude.{◌≡◌, ◌≤◌, ◌+◌, ◌++◌, [], length, take, IfSome, OnOk, OnErr};
 ghost use Rattle.domain_label.specs.Lowercase.{lowercase, lowercase_labels};
 ghost use Rattle.domain_label.specs.Labels.{label_octets};
 ghost use Rattle.domain_label.specs.Wire.{wire, wire_label};
+ghost use Rattle.domain_list.specs.Targets.{AppendsName, NameExceeds, AppendsLowercase, LowercaseExceeds};
 
 use crate::labels::{LabelIterator, ToLabelIter};
 use domain_label::Label;
@@ -133,14 +134,13 @@ pub fn compose_name<'a, N: ToLabelIter<'a>, Target: OctetsBuilder>(
     target: &mut Target,
 ) -> Result<(), Target::AppendError>
     ensures ok { OnOk result
-        (Target.octets target.new ≡ Target.octets target.old ++ wire (N.labels name.now)) }
+        (AppendsName Target.Octets (N.labels name.now) target.old target.new) }
     ensures extends { OnOk result
         (Target.extends target.old (wire (N.labels name.now)) target.new) }
     ensures unchanged { OnErr result (Target.octets target.new ≡ Target.octets target.old) }
     ensures nothing { OnErr result (Target.extends target.old [] target.new) }
     ensures full { OnErr result
-        (Target.capacity target.old
-        < length (Target.octets target.old) + length (wire (N.labels name.now))) }
+        (NameExceeds Target.Octets (N.labels name.now) target.old) }
     ensures capacity { Target.capacity target.old ≤ Target.capacity target.new }
     ensures within { IfSome Target.limit (λ n. length (Target.octets target.new) ≤ n) }
     ensures fixed { IfSome Target.limit (λ n. Target.capacity target.old ≡ n) }
@@ -163,16 +163,13 @@ pub fn compose_canonical_name<'a, N: ToLabelIter<'a>, Target: OctetsBuilder>(
     target: &mut Target,
 ) -> Result<(), Target::AppendError>
     ensures ok { OnOk result
-        (Target.octets target.new
-        ≡ Target.octets target.old ++ wire (lowercase_labels (N.labels name.now))) }
+        (AppendsLowercase Target.Octets (N.labels name.now) target.old target.new) }
     ensures extends { OnOk result
         (Target.extends target.old (wire (lowercase_labels (N.labels name.now))) target.new) }
     ensures unchanged { OnErr result (Target.octets target.new ≡ Target.octets target.old) }
     ensures nothing { OnErr result (Target.extends target.old [] target.new) }
     ensures full { OnErr result
-        (Target.capacity target.old
-        < length (Target.octets target.old)
-        + length (wire (lowercase_labels (N.labels name.now)))) }
+        (LowercaseExceeds Target.Octets (N.labels name.now) target.old) }
     ensures capacity { Target.capacity target.old ≤ Target.capacity target.new }
     ensures within { IfSome Target.limit (λ n. length (Target.octets target.new) ≤ n) }
     ensures fixed { IfSome Target.limit (λ n. Target.capacity target.old ≡ n) }

@@ -1,8 +1,9 @@
 //! How names begin and end.
 ghost use Rattle.std.specs.Prelude.{◌≡◌, IsTrue, ◌↔◌, ◌++◌, ℕ, List, length, take};
-ghost use Rattle.domain_label.specs.Lowercase.{lowercase, lowercase_labels};
+ghost use Rattle.domain_label.specs.Lowercase.{lowercase};
 ghost use Rattle.domain_label.specs.Wire.{wire};
 ghost use Rattle.domain_list.specs.Ends.{StartsWith, EndsWith};
+ghost use Rattle.domain_list.specs.Order.{SameLabels};
 
 use crate::comparing::{eq_labels, next_label};
 use crate::labels::{LabelIterator, ToLabelIter};
@@ -56,8 +57,7 @@ fn is_end<'a, A: ToLabelIter<'a>, B: ToLabelIter<'a>>(
 ) -> bool
     requires part { (front : List (List ℕ)) × (A.labels a.now ≡ front ++ A.LabelIter.left rest) }
     requires sized { length (wire (A.LabelIter.left rest)) ≡ length (wire (B.labels b.now)) }
-    ensures { IsTrue result
-        ↔ (lowercase_labels (A.LabelIter.left rest) ≡ lowercase_labels (B.labels b.now)) }
+    ensures { IsTrue result ↔ SameLabels (A.LabelIter.left rest) (B.labels b.now) }
 {
     match (a.as_flat_slice(), b.as_flat_slice()) {
         (Some(a), Some(b)) => return same_octets(&a[a.len() - b.len()..], b),
