@@ -1,5 +1,5 @@
 -- What reading a name promises.
-use Rattle.std.specs.Prelude.{◌≡◌, ℕ, ◌+◌, ◌↔◌, List, length, false, Result, IsOk, IfOk, IfErr, OnOk, OnErr, MatchResult}
+use Rattle.std.specs.Prelude.{◌≡◌, ℕ, ◌+◌, ◌↔◌, List, length, false, Option, Result, IsOk, IfOk, IfErr, OnOk, OnErr, MatchOption, MatchResult}
 use Rattle.octseq.specs.declared.octets.Octets.{Ghosts}
 use Rattle.octseq.specs.declared.parse.Parser.{Parser}
 use Rattle.octseq.specs.Parsing.{slice_of, message, position}
@@ -10,6 +10,14 @@ use Rattle.domain_reading.specs.Grammar.{Names, HasName, IsContiguous}
 use Rattle.domain_reading.specs.ParseResult.{MovesPastName, IsErrorOfName, StandsUncompressed, CountsName, CountsFault}
 use Rattle.domain_parsed.specs.declared.parsed.ParsedName.{ParsedName}
 use Rattle.domain_parsed.specs.ParsedNames.{parsed_octets, parsed_labels, may_be_compressed}
+
+-- A name of at most so many pointers is at the parser's position.
+abbrev pub HasNameHere : (limit : ℕ) → Parser → Type 0
+HasNameHere limit parser = HasName limit (message parser) (position parser)
+
+-- It is this name.
+abbrev pub IsNameHere : {O : Type 0} {g : Ghosts O} → (limit : ℕ) → Parser → ParsedName O g → Type 0
+IsNameHere limit parser name = Names limit (message parser) (position parser) (parsed_labels name)
 
 -- The name isn't said to be compressed exactly where the name at the parser's position is contiguous, from its first label on.
 abbrev pub TellsCompression : {O : Type 0} {g : Ghosts O} → Parser → ParsedName O g → Type 0
@@ -22,6 +30,15 @@ IsUncompressed old new ls name = (parsed_labels name ≡ ls) × (may_be_compress
 -- The result is the uncompressed name ls, and no error.
 abbrev pub GivesUncompressed : {O E : Type 0} {g : Ghosts O} → Parser → Parser → Result (ParsedName O g) E → List (List ℕ) → Type 0
 GivesUncompressed old new result ls = MatchResult result (IsUncompressed old new ls) (λ _. ⊥)
+
+-- An uncompressed name that is at the parser's position is the result.
+abbrev pub TakesUncompressed : {O E : Type 0} {g : Ghosts O} → Parser → Parser → Result (ParsedName O g) E → Type 0
+TakesUncompressed old new result =
+    (ls : List (List ℕ)) → StandsUncompressed old ls → GivesUncompressed old new result ls
+
+-- One was counted for a label, and nothing for none.
+abbrev pub CountsLabel : {L : Type 0} → Option L → ℕ → ℕ → Type 0
+CountsLabel label before now = MatchOption label (now ≡ before) (λ _. now ≡ before + 1)
 
 -- One was counted for each label and each pointer of the name at the parser's position; where an error is the result,
 -- for each that was read before it, and for the one that can't be read.

@@ -1,5 +1,5 @@
 //! The labels of a name in a message, from either end.
-ghost use Rattle.std.specs.Prelude.{◌≡◌, ◌+◌, ◌<◌, MatchOption};
+ghost use Rattle.std.specs.Prelude.{◌≡◌, ◌<◌};
 ghost use Rattle.domain_reading.specs.Offsets.{AreLabelOffsets, labels_at_entries};
 
 use domain_label::Label;
@@ -25,6 +25,7 @@ impl<'a> ParsedNameIter<'a> {
     ghost use Rattle.std.specs.Iterator.{YieldsFirstBy, YieldsLastBy};
     ghost use Rattle.domain_label.specs.Labels.{label_octets};
     ghost use Rattle.domain_parsed.specs.ParsedNames.{labels_left};
+    ghost use Rattle.domain_parsed.specs.Parses.{CountsLabel};
 
     /// The labels at the offsets that a table has.
     #[inline(always)]
@@ -44,8 +45,7 @@ impl<'a> ParsedNameIter<'a> {
     #[inline(always)]
     pub fn next_counted<L: Ledger>(&mut self, heads: &mut Heads<L>) -> Option<Label<'a>>
         ensures first { YieldsFirstBy label_octets labels_left self.old result self.new }
-        ensures counted { MatchOption result
-            (heads.new ≡ heads.old) (λ _. heads.new ≡ heads.old + 1) }
+        ensures counted { CountsLabel result heads.old heads.new }
     {
         let (first, rest) = self.entries.split_first()?;
         let offset = entry_offset(self.base, *first);
@@ -58,8 +58,7 @@ impl<'a> ParsedNameIter<'a> {
     #[inline(always)]
     pub fn next_back_counted<L: Ledger>(&mut self, heads: &mut Heads<L>) -> Option<Label<'a>>
         ensures last { YieldsLastBy label_octets labels_left self.old result self.new }
-        ensures counted { MatchOption result
-            (heads.new ≡ heads.old) (λ _. heads.new ≡ heads.old + 1) }
+        ensures counted { CountsLabel result heads.old heads.new }
     {
         let (last, front) = self.entries.split_last()?;
         let offset = entry_offset(self.base, *last);

@@ -1,10 +1,9 @@
 //! A name in a message.
-ghost use Rattle.std.specs.Prelude.{◌≡◌, ◌≤◌, ◌<◌, ◌+◌, ◌^◌, ◌∷◌, ◌++◌, ◌↔◌, ℕ, List, [], length, slice_range, take, true, false, ⊤};
-ghost use Rattle.std.specs.Prelude.{IfOk, IfErr, IfSome, IsSome, IsNone, OnOk, OnErr, IsOk, IsTrue, MatchBool};
+ghost use Rattle.std.specs.Prelude.{◌≡◌, ◌≤◌, ◌<◌, ◌+◌, ◌^◌, ◌∷◌, ◌++◌, ◌↔◌, ℕ, List, [], length, slice_range, take, true, false};
+ghost use Rattle.std.specs.Prelude.{IfOk, IfErr, IfSome, IsSome, IsNone, OnOk, OnErr, IsOk, IsTrue};
 ghost use Rattle.domain_label.specs.Wire.{wire, Root, IsAbsoluteName};
 ghost use Rattle.domain_label.proofs.WireLaws.{IsAbsoluteName_prop};
 ghost use Rattle.domain_reading.specs.Limits.{max_name, max_labels, max_pointers};
-ghost use Rattle.domain_reading.specs.Grammar.{Names, HasName};
 ghost use Rattle.domain_label.specs.Labels.{label_octets};
 ghost use Rattle.domain_reading.specs.Offsets.{table_labels, TableHasLabels, AreContiguous};
 ghost use Rattle.domain_reading.specs.Progress.{end_offset, labels_found};
@@ -90,10 +89,10 @@ impl<Octs: Octets + Copy> Clone for ParsedName<Octs> {
 
 impl<'a> ParsedName<&'a [u8]> {
     ghost use Rattle.domain_parsed.specs.ParsedNames.{parsed_octets, parsed_labels, may_be_compressed};
-    ghost use Rattle.domain_parsed.specs.Parses.{GivesName, ParsesName, TellsCompression, GivesUncompressed, CountsHeads};
+    ghost use Rattle.domain_parsed.specs.Parses.{HasNameHere, IsNameHere, GivesName, ParsesName, TellsCompression, TakesUncompressed, CountsHeads};
     ghost use Rattle.octseq.specs.Parsing.{slice_of, message, position, MovesTo};
     ghost use Rattle.domain_reading.specs.Faults.{NameFaultAt, HasSkip};
-    ghost use Rattle.domain_reading.specs.ParseResult.{Holds, MovesPastName, IsErrorOfName, SkipsName, IsErrorOfSkip, StandsUncompressed};
+    ghost use Rattle.domain_reading.specs.ParseResult.{Holds, MovesPastName, IsErrorOfName, SkipsName, IsErrorOfSkip};
 
     /// Reads the name at the parser's position, and moves the parser after the name's root or first pointer.
     ///
@@ -131,15 +130,12 @@ impl<'a> ParsedName<&'a [u8]> {
     /// ```
     #[inline(always)]
     pub fn parse(parser: &mut Parser<'a>) -> Result<ParsedName<&'a [u8]>, ParseError>
-        ensures exact { IsOk result
-            ↔ HasName max_pointers (message parser.old) (position parser.old) }
-        ensures labels { IfOk result (λ name.
-            Names max_pointers (message parser.old) (position parser.old) (parsed_labels name)) }
+        ensures exact { IsOk result ↔ HasNameHere max_pointers parser.old }
+        ensures labels { IfOk result (IsNameHere max_pointers parser.old) }
         ensures octets { IfOk result (λ name. parsed_octets name ≡ slice_of parser.old) }
         ensures is_compressed { IfOk result (TellsCompression parser.old) }
         ensures moves { OnOk result (MovesPastName parser.old parser.new) }
-        ensures uncompressed { (ls : List (List ℕ)) → StandsUncompressed parser.old ls
-            → GivesUncompressed parser.old parser.new result ls }
+        ensures uncompressed { TakesUncompressed parser.old parser.new result }
         ensures err { IfErr result (IsErrorOfName max_pointers parser.old) }
         ensures unchanged { OnErr result (parser.new ≡ parser.old) }
     {
@@ -189,14 +185,12 @@ impl<'a> ParsedName<&'a [u8]> {
         limit: u8,
         heads: &mut Heads<L>,
     ) -> Result<ParsedName<&'a [u8]>, ParseError>
-        ensures exact { IsOk result ↔ HasName limit (message parser.old) (position parser.old) }
-        ensures labels { IfOk result (λ name.
-            Names limit (message parser.old) (position parser.old) (parsed_labels name)) }
+        ensures exact { IsOk result ↔ HasNameHere limit parser.old }
+        ensures labels { IfOk result (IsNameHere limit parser.old) }
         ensures octets { IfOk result (λ name. parsed_octets name ≡ slice_of parser.old) }
         ensures is_compressed { IfOk result (TellsCompression parser.old) }
         ensures moves { OnOk result (MovesPastName parser.old parser.new) }
-        ensures uncompressed { (ls : List (List ℕ)) → StandsUncompressed parser.old ls
-            → GivesUncompressed parser.old parser.new result ls }
+        ensures uncompressed { TakesUncompressed parser.old parser.new result }
         ensures err { IfErr result (IsErrorOfName limit parser.old) }
         ensures unchanged { OnErr result (parser.new ≡ parser.old) }
         ensures counted { CountsHeads limit parser.old heads.old heads.new result }
@@ -293,11 +287,10 @@ impl<'a> ParsedName<&'a [u8]> {
 impl<Octs: Octets> ParsedName<Octs> {
     ghost use Rattle.domain_list.specs.Ends.{StartsWith, EndsWith};
     ghost use Rattle.domain_parsed.specs.ParsedNames.{parsed_octets, parsed_labels, may_be_compressed, labels_left, suffixes_of, suffixes_left};
-    ghost use Rattle.domain_parsed.specs.Splitting.{IsParent, IsFirstLabel, SplitsFirst, DropsFirst};
+    ghost use Rattle.domain_parsed.specs.Splitting.{TellsParent, IsFirstLabel, SplitsFirst, DropsFirst, BecomesAfter};
     ghost use Rattle.domain_reading.specs.ParseResult.{Holds};
     ghost use Rattle.domain_parsed.specs.contracts.parsed.ParsedName.{the_row};
-    ghost use Rattle.std.specs.Borrow.{follows_so, sem};
-    ghost use mathlib.Core.Option.{none};
+    ghost use Rattle.std.specs.Borrow.{sem};
 
     /// The name whose labels were found in these octets.
     #[inline(always)]
@@ -460,8 +453,7 @@ impl<Octs: Octets> ParsedName<Octs> {
     /// False for the root, which is unchanged. `is_compressed` returns what it did before.
     #[inline(always)]
     pub fn parent(&mut self) -> bool
-        ensures labels { MatchBool result (IsParent self.old self.new)
-            ((self.new ≡ self.old) × (parsed_labels self.old ≡ Root)) }
+        ensures labels { TellsParent result self.old self.new }
         ensures more { IsTrue result → 1 < length (parsed_labels self.old) }
         ensures octets { parsed_octets self.new ≡ parsed_octets self.old }
         ensures is_compressed { may_be_compressed self.new ≡ may_be_compressed self.old }
@@ -476,9 +468,8 @@ impl<Octs: Octets> ParsedName<Octs> {
     pub fn split_first(&mut self) -> Option<RelativeName<&[u8]>>
         ensures none { IsNone result ↔ (parsed_labels self.old ≡ Root) }
         ensures some { IfSome result (IsFirstLabel self.old) }
-        ensures* after { sem 𝓛 (follows_so
-            (the_row Octs.row Octs.Octets) (the_row Octs.row Octs.Octets) self.entry.ghost_name
-            none (λ _ _. ⊤) (λ new. SplitsFirst self.old result new)) }
+        ensures* after { sem 𝓛
+            (BecomesAfter (the_row Octs.row Octs.Octets) self.entry (SplitsFirst self.old result)) }
     {
         let Range { start, end } = self.drop_first_label()?;
         let Ok(first) = RelativeName::from_slice(&self.octets.as_slice()[start..end]) else {
