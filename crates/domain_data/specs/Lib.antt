@@ -4,5 +4,6 @@ pub use Rattle.domain_fields.specs.Reading
 pub use Rattle.domain_fields.specs.Sequences
 pub mod HostFields
 pub mod OctetShapes
+pub mod Parsed
 pub mod Shapes
 pub mod Views

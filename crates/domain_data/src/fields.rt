@@ -1,8 +1,8 @@
 //! Record data that is one field after another.
 ghost use Rattle.std.specs.Prelude.{◌≡◌, ◌↔◌, nat_eq, false, true, IfOk, IfErr, OnOk, OnErr, IfSome, IsNone, Some};
-ghost use Rattle.octseq.specs.Parsing.{message, position, MovesTo};
+ghost use Rattle.octseq.specs.Parsing.{position, MovesTo};
 ghost use Rattle.domain_rdata.specs.Rtypes.{rtype_number};
-ghost use Rattle.domain_fields.specs.Data.{AllAt, NotAll, is_known};
+ghost use Rattle.domain_fields.specs.Data.{is_known};
 
 use domain_fields::{DataField, FieldError, ReadField, read_all};
 use domain_rdata::{CanonicalError, ComposeRecordData, Composer, RecordData, Rtype};
@@ -17,6 +17,7 @@ pub struct FieldsData<const TYPE: u16, F> {
 
 impl<const TYPE: u16, F> FieldsData<TYPE, F> {
     ghost use Rattle.domain_data.specs.Views.{fields_of};
+    ghost use Rattle.domain_data.specs.Parsed.{HasAll, LacksAll};
 
     /// Reads the fields, which have to be all that is left: `parse_rdata` of each type, and of one with fields of
     /// its own.
@@ -31,16 +32,13 @@ impl<const TYPE: u16, F> FieldsData<TYPE, F> {
         F: ReadField<'a, E> + Drop,
         ensures ok { IfOk result
             (λ read. IfSome read
-            (λ it. AllAt F.encodes (message parser.old) (position parser.old)
-            (F.model (fields_of it)) (position parser.new))) }
+            (λ it. HasAll F.encodes parser.old (F.model (fields_of it)) parser.new)) }
         ensures of_type { IfOk result (λ read. IfSome read (λ _. TYPE ≡ rtype_number rtype)) }
         ensures none { IfOk result
             (λ read. IsNone read ↔ (nat_eq (rtype_number rtype) TYPE ≡ false)) }
         ensures passed { IfOk result (λ read. IsNone read → parser.new ≡ parser.old) }
         ensures moves { OnOk result (MovesTo parser.old parser.new (position parser.new)) }
-        ensures err { IfErr result
-            (λ e.
-            NotAll E.said F.encodes F.fails_with (message parser.old) (position parser.old) e) }
+        ensures err { IfErr result (LacksAll E.said F.encodes F.fails_with parser.old) }
         ensures err_type { OnErr result (nat_eq (rtype_number rtype) TYPE ≡ true) }
         ensures unchanged { OnErr result (parser.new ≡ parser.old) }
     {

@@ -10,7 +10,6 @@ ghost use Rattle.domain_parsed.specs.ParsedNames.{parsed_labels};
 ghost use Rattle.domain_fields.specs.Data.{AllAt, NotAll};
 ghost use Rattle.domain_fields.specs.Names.{NameFieldAt, NoNameField};
 ghost use Rattle.domain_data.specs.Views.{fields_of};
-ghost use Rattle.domain_data.specs.Shapes.{NumberNameAt, NoNumberName, NumbersNameAt, NoNumbersName, NamesNumbersAt, NoNamesNumbers, name_data, number_name_data, numbers_name_data, names_numbers_data, NamesAt, NoNames, names_data, NumberNamesAt, NoNumberNames, number_names_data, ipv4_data, ipv6_data};
 
 use crate::fields::FieldsData;
 use domain_fields::{NameField, Sequence, UncompressedNameField};
@@ -23,6 +22,8 @@ use octseq::Parser;
 /// A name: CNAME, NS, PTR, MB, MD, MF, MG and MR. Octets left after it are a form error "trailing data".
 impl<'a, const TYPE: u16> ParseRecordData<'a>
     for FieldsData<TYPE, NameField<ParsedName<&'a [u8]>>> {
+    ghost use Rattle.domain_data.specs.Shapes.{name_data};
+
     ghost View = { List (List ℕ) };
 
     ghost model = { λ it. parsed_labels (fields_of it).name };
@@ -43,6 +44,8 @@ impl<'a, const TYPE: u16> ParseRecordData<'a>
 /// A name that is never compressed: DNAME. Octets left after it are a form error "trailing data".
 impl<'a, const TYPE: u16> ParseRecordData<'a>
     for FieldsData<TYPE, UncompressedNameField<ParsedName<&'a [u8]>>> {
+    ghost use Rattle.domain_data.specs.Shapes.{name_data};
+
     ghost View = { List (List ℕ) };
 
     ghost model = { λ it. parsed_labels (fields_of it).name };
@@ -63,6 +66,8 @@ impl<'a, const TYPE: u16> ParseRecordData<'a>
 /// A number of 16 bits and a name: MX. Octets left after it are a form error "trailing data".
 impl<'a, const TYPE: u16> ParseRecordData<'a>
     for FieldsData<TYPE, Sequence<u16, NameField<ParsedName<&'a [u8]>>>> {
+    ghost use Rattle.domain_data.specs.Shapes.{NumberNameAt, NoNumberName, number_name_data};
+
     ghost View = { ℕ × (List (List ℕ)) };
 
     ghost model = { λ it. ((fields_of it).first, parsed_labels (fields_of it).rest.name) };
@@ -84,6 +89,8 @@ impl<'a, const TYPE: u16> ParseRecordData<'a>
 /// after it are a form error "trailing data".
 impl<'a, const TYPE: u16> ParseRecordData<'a>
     for FieldsData<TYPE, Sequence<u16, UncompressedNameField<ParsedName<&'a [u8]>>>> {
+    ghost use Rattle.domain_data.specs.Shapes.{NumberNameAt, NoNumberName, number_name_data};
+
     ghost View = { ℕ × (List (List ℕ)) };
 
     ghost model = { λ it. ((fields_of it).first, parsed_labels (fields_of it).rest.name) };
@@ -107,6 +114,8 @@ impl<'a, const TYPE: u16> ParseRecordData<'a>
         TYPE,
         Sequence<u16, Sequence<u16, Sequence<u16, UncompressedNameField<ParsedName<&'a [u8]>>>>>,
     > {
+    ghost use Rattle.domain_data.specs.Shapes.{NumbersNameAt, NoNumbersName, numbers_name_data};
+
     ghost View = { ℕ × (ℕ × (ℕ × (List (List ℕ)))) };
 
     ghost model = { λ it. (
@@ -142,6 +151,8 @@ impl<'a, const TYPE: u16> ParseRecordData<'a>
             >,
         >,
     > {
+    ghost use Rattle.domain_data.specs.Shapes.{NamesNumbersAt, NoNamesNumbers, names_numbers_data};
+
     ghost View = { (List (List ℕ)) × ((List (List ℕ)) × (ℕ × (ℕ × (ℕ × (ℕ × ℕ))))) };
 
     ghost model = { λ it. (
@@ -184,6 +195,8 @@ impl<'a, const TYPE: u16> ParseRecordData<'a>
         TYPE,
         Sequence<NameField<ParsedName<&'a [u8]>>, NameField<ParsedName<&'a [u8]>>>,
     > {
+    ghost use Rattle.domain_data.specs.Shapes.{NamesAt, NoNames, names_data};
+
     ghost View = { (List (List ℕ)) × (List (List ℕ)) };
 
     ghost model = { λ it.
@@ -212,6 +225,8 @@ impl<'a, const TYPE: u16> ParseRecordData<'a>
             UncompressedNameField<ParsedName<&'a [u8]>>,
         >,
     > {
+    ghost use Rattle.domain_data.specs.Shapes.{NamesAt, NoNames, names_data};
+
     ghost View = { (List (List ℕ)) × (List (List ℕ)) };
 
     ghost model = { λ it.
@@ -243,6 +258,8 @@ impl<'a, const TYPE: u16> ParseRecordData<'a>
             >,
         >,
     > {
+    ghost use Rattle.domain_data.specs.Shapes.{NumberNamesAt, NoNumberNames, number_names_data};
+
     ghost View = { ℕ × ((List (List ℕ)) × (List (List ℕ))) };
 
     ghost model = { λ it. (
@@ -269,6 +286,8 @@ impl<'a, const TYPE: u16> ParseRecordData<'a>
 
 /// An IPv4 address: A. Octets left after it are a form error "trailing data".
 impl<'a, const TYPE: u16> ParseRecordData<'a> for FieldsData<TYPE, Ipv4Addr> {
+    ghost use Rattle.domain_data.specs.Shapes.{ipv4_data};
+
     ghost View = { Ipv4Addr };
 
     ghost model = { λ it. (fields_of it) };
@@ -288,6 +307,8 @@ impl<'a, const TYPE: u16> ParseRecordData<'a> for FieldsData<TYPE, Ipv4Addr> {
 
 /// An IPv6 address: AAAA. Octets left after it are a form error "trailing data".
 impl<'a, const TYPE: u16> ParseRecordData<'a> for FieldsData<TYPE, Ipv6Addr> {
+    ghost use Rattle.domain_data.specs.Shapes.{ipv6_data};
+
     ghost View = { Ipv6Addr };
 
     ghost model = { λ it. (fields_of it) };

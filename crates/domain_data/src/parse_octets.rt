@@ -5,7 +5,6 @@ ghost use Rattle.domain_parsed.specs.ParsedNames.{parsed_labels};
 ghost use Rattle.domain_fields.specs.Data.{AllAt, NotAll};
 ghost use Rattle.domain_strings.specs.TagViews.{tag_octets};
 ghost use Rattle.domain_strings.specs.Views.{char_octets, last_octets};
-ghost use Rattle.domain_data.specs.OctetShapes.{StringsAt, NoStrings, strings_data, RuleAt, NoRule, rule_data, FingerprintAt, NoFingerprint, fingerprint_data, KeyAt, NoKey, key_data, AssociationAt, NoAssociation, association_data, PropertyAt, NoProperty, property_data, SignatureAt, NoSignature, signature_data, DenialAt, NoDenial, denial_data};
 ghost use Rattle.domain_dnssec.specs.BitmapViews.{bitmaps_blocks};
 ghost use Rattle.domain_data.specs.Views.{fields_of};
 ghost use Rattle.domain_rdata.specs.Rtypes.{rtype_number};
@@ -22,6 +21,8 @@ use octseq::Parser;
 /// Two strings: HINFO. Octets left after them are a form error "trailing data".
 impl<'a, const TYPE: u16> ParseRecordData<'a>
     for FieldsData<TYPE, Sequence<CharString<&'a [u8]>, CharString<&'a [u8]>>> {
+    ghost use Rattle.domain_data.specs.OctetShapes.{StringsAt, NoStrings, strings_data};
+
     ghost View = { List ℕ × List ℕ };
 
     ghost model = { λ it. (char_octets (fields_of it).first, char_octets (fields_of it).rest) };
@@ -58,6 +59,8 @@ impl<'a, const TYPE: u16> ParseRecordData<'a>
             >,
         >,
     > {
+    ghost use Rattle.domain_data.specs.OctetShapes.{RuleAt, NoRule, rule_data};
+
     ghost View = { ℕ × (ℕ × (List ℕ × (List ℕ × (List ℕ × List (List ℕ))))) };
 
     ghost model = { λ it. (
@@ -93,6 +96,8 @@ impl<'a, const TYPE: u16> ParseRecordData<'a>
 /// Two numbers of 8 bits and octets: SSHFP. More than 65,535 octets are a form error "record data too long".
 impl<'a, const TYPE: u16, const TEXT: u8> ParseRecordData<'a>
     for FieldsData<TYPE, Sequence<u8, Sequence<u8, LastOctets<TEXT, &'a [u8]>>>> {
+    ghost use Rattle.domain_data.specs.OctetShapes.{FingerprintAt, NoFingerprint, fingerprint_data};
+
     ghost View = { ℕ × (ℕ × List ℕ) };
 
     ghost model = { λ it. (
@@ -117,6 +122,8 @@ impl<'a, const TYPE: u16, const TEXT: u8> ParseRecordData<'a>
 /// too long".
 impl<'a, const TYPE: u16, const TEXT: u8> ParseRecordData<'a>
     for FieldsData<TYPE, Sequence<u16, Sequence<u8, Sequence<u8, LastOctets<TEXT, &'a [u8]>>>>> {
+    ghost use Rattle.domain_data.specs.OctetShapes.{KeyAt, NoKey, key_data};
+
     ghost View = { ℕ × (ℕ × (ℕ × List ℕ)) };
 
     ghost model = { λ it. (
@@ -143,6 +150,8 @@ impl<'a, const TYPE: u16, const TEXT: u8> ParseRecordData<'a>
 /// Three numbers of 8 bits and octets: TLSA. More than 65,535 octets are a form error "record data too long".
 impl<'a, const TYPE: u16, const TEXT: u8> ParseRecordData<'a>
     for FieldsData<TYPE, Sequence<u8, Sequence<u8, Sequence<u8, LastOctets<TEXT, &'a [u8]>>>>> {
+    ghost use Rattle.domain_data.specs.OctetShapes.{AssociationAt, NoAssociation, association_data};
+
     ghost View = { ℕ × (ℕ × (ℕ × List ℕ)) };
 
     ghost model = { λ it. (
@@ -170,6 +179,8 @@ impl<'a, const TYPE: u16, const TEXT: u8> ParseRecordData<'a>
 /// digits, and "record data too long" of more than 65,535 octets after it.
 impl<'a, const TYPE: u16, const TEXT: u8> ParseRecordData<'a>
     for FieldsData<TYPE, Sequence<u8, Sequence<Tag<&'a [u8]>, LastOctets<TEXT, &'a [u8]>>>> {
+    ghost use Rattle.domain_data.specs.OctetShapes.{PropertyAt, NoProperty, property_data};
+
     ghost View = { ℕ × (List ℕ × List ℕ) };
 
     ghost model = { λ it. (
@@ -221,6 +232,8 @@ impl<'a, const TYPE: u16, const TEXT: u8> ParseRecordData<'a>
             >,
         >,
     > {
+    ghost use Rattle.domain_data.specs.OctetShapes.{SignatureAt, NoSignature, signature_data};
+
     ghost View = { ℕ × (ℕ × (ℕ × (ℕ × (ℕ × (ℕ × (ℕ × (List (List ℕ) × List ℕ))))))) };
 
     ghost model = { λ it. (
@@ -269,6 +282,8 @@ impl<'a, const TYPE: u16> ParseRecordData<'a>
         TYPE,
         Sequence<UncompressedNameField<ParsedName<&'a [u8]>>, TypeBitmaps<&'a [u8]>>,
     > {
+    ghost use Rattle.domain_data.specs.OctetShapes.{DenialAt, NoDenial, denial_data};
+
     ghost View = { List (List ℕ) × List (ℕ × List ℕ) };
 
     ghost model = { λ it.
