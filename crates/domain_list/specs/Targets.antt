@@ -5,17 +5,17 @@ use Rattle.domain_label.specs.Lowercase.{lowercase_labels}
 use Rattle.domain_label.specs.Wire.{wire}
 
 -- The wire format of the name was appended.
-abbrev pub AppendsName : {T : Type 0} → Ghosts T → List (List ℕ) → T → T → Type 0
-AppendsName g labels old new = g.octets new ≡ g.octets old ++ wire labels
+abbrev pub NameFollows : {T : Type 0} → Ghosts T → List (List ℕ) → T → T → Type 0
+NameFollows g labels old new = g.octets new ≡ g.octets old ++ wire labels
 
 -- The name exceeds the spare capacity.
-abbrev pub NameExceeds : {T : Type 0} → Ghosts T → List (List ℕ) → T → Type 0
-NameExceeds g labels old = g.capacity old < length (g.octets old) + length (wire labels)
+abbrev pub NameLacksRoom : {T : Type 0} → Ghosts T → List (List ℕ) → T → Type 0
+NameLacksRoom g labels old = g.capacity old < length (g.octets old) + length (wire labels)
 
 -- The wire format of the name in lower case was appended.
-abbrev pub AppendsLowercase : {T : Type 0} → Ghosts T → List (List ℕ) → T → T → Type 0
-AppendsLowercase g labels = AppendsName g (lowercase_labels labels)
+abbrev pub LowercaseFollows : {T : Type 0} → Ghosts T → List (List ℕ) → T → T → Type 0
+LowercaseFollows g labels = NameFollows g (lowercase_labels labels)
 
 -- The name in lower case exceeds the spare capacity.
-abbrev pub LowercaseExceeds : {T : Type 0} → Ghosts T → List (List ℕ) → T → Type 0
-LowercaseExceeds g labels = NameExceeds g (lowercase_labels labels)
+abbrev pub LowercaseLacksRoom : {T : Type 0} → Ghosts T → List (List ℕ) → T → Type 0
+LowercaseLacksRoom g labels = NameLacksRoom g (lowercase_labels labels)

@@ -3,7 +3,7 @@ ghost use Rattle.std.specs.Prelude.{◌≡◌, ◌≤◌, ◌+◌, ◌++◌, [],
 ghost use Rattle.domain_label.specs.Lowercase.{lowercase, lowercase_labels};
 ghost use Rattle.domain_label.specs.Labels.{label_octets};
 ghost use Rattle.domain_label.specs.Wire.{wire, wire_label};
-ghost use Rattle.domain_list.specs.Targets.{AppendsName, NameExceeds, AppendsLowercase, LowercaseExceeds};
+ghost use Rattle.domain_list.specs.Targets.{NameFollows, NameLacksRoom, LowercaseFollows, LowercaseLacksRoom};
 
 use crate::labels::{LabelIterator, ToLabelIter};
 use domain_label::Label;
@@ -133,14 +133,12 @@ pub fn compose_name<'a, N: ToLabelIter<'a>, Target: OctetsBuilder>(
     name: &'a N,
     target: &mut Target,
 ) -> Result<(), Target::AppendError>
-    ensures ok { OnOk result
-        (AppendsName Target.Octets (N.labels name.now) target.old target.new) }
+    ensures ok { OnOk result (NameFollows Target.Octets (N.labels name.now) target.old target.new) }
     ensures extends { OnOk result
         (Target.extends target.old (wire (N.labels name.now)) target.new) }
     ensures unchanged { OnErr result (Target.octets target.new ≡ Target.octets target.old) }
     ensures nothing { OnErr result (Target.extends target.old [] target.new) }
-    ensures full { OnErr result
-        (NameExceeds Target.Octets (N.labels name.now) target.old) }
+    ensures full { OnErr result (NameLacksRoom Target.Octets (N.labels name.now) target.old) }
     ensures capacity { Target.capacity target.old ≤ Target.capacity target.new }
     ensures within { IfSome Target.limit (λ n. length (Target.octets target.new) ≤ n) }
     ensures fixed { IfSome Target.limit (λ n. Target.capacity target.old ≡ n) }
@@ -163,13 +161,12 @@ pub fn compose_canonical_name<'a, N: ToLabelIter<'a>, Target: OctetsBuilder>(
     target: &mut Target,
 ) -> Result<(), Target::AppendError>
     ensures ok { OnOk result
-        (AppendsLowercase Target.Octets (N.labels name.now) target.old target.new) }
+        (LowercaseFollows Target.Octets (N.labels name.now) target.old target.new) }
     ensures extends { OnOk result
         (Target.extends target.old (wire (lowercase_labels (N.labels name.now))) target.new) }
     ensures unchanged { OnErr result (Target.octets target.new ≡ Target.octets target.old) }
     ensures nothing { OnErr result (Target.extends target.old [] target.new) }
-    ensures full { OnErr result
-        (LowercaseExceeds Target.Octets (N.labels name.now) target.old) }
+    ensures full { OnErr result (LowercaseLacksRoom Target.Octets (N.labels name.now) target.old) }
     ensures capacity { Target.capacity target.old ≤ Target.capacity target.new }
     ensures within { IfSome Target.limit (λ n. length (Target.octets target.new) ≤ n) }
     ensures fixed { IfSome Target.limit (λ n. Target.capacity target.old ≡ n) }
