@@ -1,5 +1,6 @@
 pub mod Inside
 pub mod Pushing
+pub mod Calls
 pub mod Reverse
 pub use Rattle.domain_text.specs.BuilderState
 pub use Rattle.domain_text.specs.NameSymbols

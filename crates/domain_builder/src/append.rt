@@ -1,11 +1,10 @@
 //! Building by the symbols of a text.
-ghost use Rattle.std.specs.Prelude.{ℕ, ◌≤◌, List};
-ghost use Rattle.std.specs.Iterator.{AlwaysYields, IsFinite};
+ghost use Rattle.std.specs.Prelude.{◌≤◌};
+ghost use Rattle.std.specs.Iterator.{IsFinite};
 ghost use Rattle.std.specs.Str.{chars};
-ghost use Rattle.domain_label.specs.declared.symbol.Symbol.{Symbol};
-ghost use Rattle.domain_label.specs.Spelling.{ReadsSymbols};
-ghost use Rattle.domain_text.specs.NameSymbols.{Items, name_symbols, symbol_in_name, symbols_in_name};
-ghost use Rattle.domain_builder.specs.Pushing.{AddsSymbol, AddsSymbols};
+ghost use Rattle.domain_text.specs.NameSymbols.{symbol_in_name};
+ghost use Rattle.domain_builder.specs.Calls.{AddsText, AddsItems, AddsChars, AddsEach};
+ghost use Rattle.domain_builder.specs.Pushing.{AddsSymbol};
 
 use crate::labels::LabelsBuilder;
 use domain_label::scan::{Symbol, SymbolCharsError, Symbols};
@@ -56,8 +55,7 @@ impl<B: OctetsBuilder + OctetsMut> LabelsBuilder<B> {
     ) -> Result<(), FromStrError>
         requires can { I.can_next items }
         requires ends { IsFinite (I.remaining items) }
-        ensures takes { (all : Items) → AlwaysYields I.next_gives (λ x. x) items all →
-            AddsSymbols B.limit self.old (name_symbols all) result self.new }
+        ensures takes { AddsItems B.limit I.next_gives items self.old result self.new }
         ensures capacity { self.old.capacity ≤ self.new.capacity }
     {
         for item in items {
@@ -76,9 +74,7 @@ impl<B: OctetsBuilder + OctetsMut> LabelsBuilder<B> {
     ) -> Result<(), FromStrError>
         requires can { I.can_next chars }
         requires ends { IsFinite (I.remaining chars) }
-        ensures takes { (cs : List ℕ) (items : Items) →
-            AlwaysYields I.next_gives (λ c. c) chars cs → ReadsSymbols cs items →
-            AddsSymbols B.limit self.old (name_symbols items) result self.new }
+        ensures takes { AddsChars B.limit I.next_gives chars self.old result self.new }
         ensures capacity { self.old.capacity ≤ self.new.capacity }
     {
         self.append_items(Symbols::new(chars))
@@ -91,8 +87,7 @@ impl<B: OctetsBuilder + OctetsMut> LabelsBuilder<B> {
     ) -> Result<(), FromStrError>
         requires can { I.can_next symbols }
         requires ends { IsFinite (I.remaining symbols) }
-        ensures takes { (ss : List Symbol) → AlwaysYields I.next_gives (λ x. x) symbols ss →
-            AddsSymbols B.limit self.old (symbols_in_name ss) result self.new }
+        ensures takes { AddsEach B.limit I.next_gives symbols self.old result self.new }
         ensures capacity { self.old.capacity ≤ self.new.capacity }
     {
         self.append_items(WholeSymbols::new(symbols))
@@ -100,8 +95,7 @@ impl<B: OctetsBuilder + OctetsMut> LabelsBuilder<B> {
 
     /// Pushes the symbols of a text in turn, as `append_chars` does those of its characters.
     pub fn append_str(&mut self, text: &str) -> Result<(), FromStrError>
-        ensures takes { (items : Items) → ReadsSymbols (chars text.now) items →
-            AddsSymbols B.limit self.old (name_symbols items) result self.new }
+        ensures takes { AddsText B.limit (chars text.now) self.old result self.new }
         ensures capacity { self.old.capacity ≤ self.new.capacity }
     {
         self.append_chars(text.chars())

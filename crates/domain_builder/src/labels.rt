@@ -1,10 +1,12 @@
 //! Labels put together in the octets of a builder. A builder of names is made of one.
-ghost use Rattle.std.specs.Prelude.{◌≡◌, ◌++◌, ℕ, List, [], ◌∷◌, ◌≤◌, ◌<◌, ◌^◌, ◌+◌, ◌%◌, nat_lt, length, true, Some, None, IfOk, OnOk, OnErr, IfSome, IsSome, IsOk};
+ghost use Rattle.std.specs.Prelude.{◌≡◌, ◌++◌, ℕ, List, [], ◌∷◌, ◌≤◌, ◌<◌, ◌^◌, ◌+◌, ◌%◌, nat_lt, length, true, None};
+ghost use Rattle.std.specs.Prelude.{IfOk, OnOk, OnErr, IfSome, IsSome, IsOk};
 ghost use Rattle.std.specs.Fmt.{decimal, digit_glyph};
 ghost use Rattle.domain_label.specs.Wire.{wire, IsAbsoluteWire, IsRelativeName, IsRelativeWire, labels_in};
 ghost use Rattle.domain_text.specs.BuilderState.{empty_state, finished, closed, pushed, ended, labelled, named, encoded, size};
 ghost use Rattle.domain_builder.specs.Inside.{closed_at, room};
-ghost use Rattle.domain_builder.specs.Pushing.{LabelThenName, OpenLabelThenName, NameThenOpenLabel, NameAlone, RoomAlone, NameFits, OriginFits};
+ghost use Rattle.domain_builder.specs.Calls.{AnswersOctet, AnswersOctets, AnswersLabel, AnswersShortLabel, AnswersName, AnswersOrigin, LacksOnlyRoom};
+ghost use Rattle.domain_builder.specs.Calls.{GivesAbsolute, Joins, ExceedsCapacity, AddsLabels};
 ghost use Rattle.domain_builder.specs.Reverse.{hex_label};
 
 use crate::push_error::{PushError, PushNameError};
@@ -150,8 +152,7 @@ impl<B: OctetsBuilder + OctetsMut> LabelsBuilder<B> {
         requires name { size (pushed self.old.built slice.now) ≤ 254 }
         ensures made { OnOk result (self.new.built ≡ pushed self.old.built slice.now) }
         ensures unchanged { OnErr result (self.new.built ≡ self.old.built) }
-        ensures err { RoomAlone (size (pushed self.old.built slice.now))
-            (room B.limit self.new) result }
+        ensures err { LacksOnlyRoom B.limit (pushed self.old.built slice.now) self.new result }
         ensures capacity { self.old.capacity ≤ self.new.capacity }
     {
         if self.head.is_some() {
@@ -174,8 +175,7 @@ impl<B: OctetsBuilder + OctetsMut> LabelsBuilder<B> {
     pub fn push(&mut self, ch: u8) -> Result<(), PushError>
         ensures made { OnOk result (self.new.built ≡ pushed self.old.built (ch ∷ [])) }
         ensures unchanged { OnErr result (self.new.built ≡ self.old.built) }
-        ensures answer { NameThenOpenLabel (pushed self.old.built (ch ∷ []))
-            (room B.limit self.new) result }
+        ensures answer { AnswersOctet B.limit ch self.old result self.new }
         ensures capacity { self.old.capacity ≤ self.new.capacity }
     {
         if self.len_with(1) > 254 {
@@ -193,8 +193,7 @@ impl<B: OctetsBuilder + OctetsMut> LabelsBuilder<B> {
     pub fn append_slice(&mut self, slice: &[u8]) -> Result<(), PushError>
         ensures made { OnOk result (self.new.built ≡ pushed self.old.built slice.now) }
         ensures unchanged { OnErr result (self.new.built ≡ self.old.built) }
-        ensures answer { OpenLabelThenName (pushed self.old.built slice.now)
-            (room B.limit self.new) result }
+        ensures answer { AnswersOctets B.limit slice.now self.old result self.new }
         ensures nothing { slice.now ≡ [] → IsOk result }
         ensures capacity { self.old.capacity ≤ self.new.capacity }
     {
@@ -229,8 +228,7 @@ impl<B: OctetsBuilder + OctetsMut> LabelsBuilder<B> {
     pub fn append_label(&mut self, slice: &[u8]) -> Result<(), PushError>
         ensures made { OnOk result (self.new.built ≡ labelled self.old.built slice.now) }
         ensures unchanged { OnErr result (self.new.built ≡ self.old.built) }
-        ensures answer { LabelThenName (length slice.now) (size (labelled self.old.built slice.now))
-            (room B.limit self.new) result }
+        ensures answer { AnswersLabel B.limit slice.now self.old result self.new }
         ensures nothing { slice.now ≡ [] → IsOk result }
         ensures capacity { self.old.capacity ≤ self.new.capacity }
     {
@@ -257,8 +255,7 @@ impl<B: OctetsBuilder + OctetsMut> LabelsBuilder<B> {
         requires name { size (labelled self.old.built slice.now) ≤ 254 }
         ensures made { OnOk result (self.new.built ≡ labelled self.old.built slice.now) }
         ensures unchanged { OnErr result (self.new.built ≡ self.old.built) }
-        ensures err { RoomAlone (size (labelled self.old.built slice.now))
-            (room B.limit self.new) result }
+        ensures err { LacksOnlyRoom B.limit (labelled self.old.built slice.now) self.new result }
         ensures capacity { self.old.capacity ≤ self.new.capacity }
     {
         let end = self.builder.as_slice().len();
@@ -275,8 +272,7 @@ impl<B: OctetsBuilder + OctetsMut> LabelsBuilder<B> {
     pub fn append_dec_u8_label(&mut self, value: u8) -> Result<(), PushError>
         ensures made { OnOk result (self.new.built ≡ labelled self.old.built (decimal value)) }
         ensures unchanged { OnErr result (self.new.built ≡ self.old.built) }
-        ensures answer { NameAlone (size (labelled self.old.built (decimal value)))
-            (room B.limit self.new) result }
+        ensures answer { AnswersShortLabel B.limit (decimal value) self.old result self.new }
         ensures capacity { self.old.capacity ≤ self.new.capacity }
     {
         let (high, middle, low) = (
@@ -297,8 +293,7 @@ impl<B: OctetsBuilder + OctetsMut> LabelsBuilder<B> {
     pub fn append_hex_digit_label(&mut self, nibble: u8) -> Result<(), PushError>
         ensures made { OnOk result (self.new.built ≡ labelled self.old.built (hex_label nibble)) }
         ensures unchanged { OnErr result (self.new.built ≡ self.old.built) }
-        ensures answer { NameAlone (size (labelled self.old.built (hex_label nibble)))
-            (room B.limit self.new) result }
+        ensures answer { AnswersShortLabel B.limit (hex_label nibble) self.old result self.new }
         ensures capacity { self.old.capacity ≤ self.new.capacity }
     {
         self.append_label(&[hex_character(nibble)])
@@ -313,8 +308,7 @@ impl<B: OctetsBuilder + OctetsMut> LabelsBuilder<B> {
     ) -> Result<(), PushNameError>
         ensures made { OnOk result (self.new.built ≡ named self.old.built (N.labels name.now)) }
         ensures unchanged { OnErr result (self.new.built ≡ self.old.built) }
-        ensures answer { NameFits (size (named self.old.built (N.labels name.now)))
-            (room B.limit self.new) result }
+        ensures answer { AnswersName B.limit (N.labels name.now) self.old result self.new }
         ensures capacity { self.old.capacity ≤ self.new.capacity }
     {
         if let Some(flat) = name.as_flat_slice() {
@@ -331,8 +325,7 @@ impl<B: OctetsBuilder + OctetsMut> LabelsBuilder<B> {
         requires labels { IsRelativeWire slice.now }
         ensures made { OnOk result (self.new.built ≡ named self.old.built (labels_in slice.now)) }
         ensures unchanged { OnErr result (self.new.built ≡ self.old.built) }
-        ensures answer { NameFits (size (named self.old.built (labels_in slice.now)))
-            (room B.limit self.new) result }
+        ensures answer { AnswersName B.limit (labels_in slice.now) self.old result self.new }
         ensures capacity { self.old.capacity ≤ self.new.capacity }
     {
         if self.len() + slice.len() > 254 {
@@ -397,11 +390,8 @@ where
     pub fn finish_with(self, origin: &[u8]) -> Result<B::Octets, ShortBuf>
         requires origin { IsAbsoluteWire origin.now }
         requires short { size self.built + length origin.now ≤ 255 }
-        ensures wire { IfOk result (λ octets.
-            IsAbsoluteWire (⟦<B::Octets as Octets>⟧.octets octets)) }
-        ensures labels { IfOk result (λ octets.
-            labels_in (⟦<B::Octets as Octets>⟧.octets octets)
-            ≡ closed self.built ++ labels_in origin.now) }
+        ensures wire { GivesAbsolute ⟦<B::Octets as Octets>⟧ result }
+        ensures labels { Joins ⟦<B::Octets as Octets>⟧ self.built (labels_in origin.now) result }
         ensures full { OnErr result (room B.limit self < size self.built + length origin.now) }
     {
         let mut builder = self.into_builder();
@@ -415,13 +405,9 @@ where
         self,
         origin: &'a N,
     ) -> Result<B::Octets, PushNameError>
-        ensures wire { IfOk result (λ octets.
-            IsAbsoluteWire (⟦<B::Octets as Octets>⟧.octets octets)) }
-        ensures labels { IfOk result (λ octets.
-            labels_in (⟦<B::Octets as Octets>⟧.octets octets)
-            ≡ closed self.built ++ N.labels origin.now) }
-        ensures answer { OriginFits (size self.built + length (wire (N.labels origin.now)))
-            (room B.limit self) result }
+        ensures wire { GivesAbsolute ⟦<B::Octets as Octets>⟧ result }
+        ensures labels { Joins ⟦<B::Octets as Octets>⟧ self.built (N.labels origin.now) result }
+        ensures answer { AnswersOrigin B.limit (length (wire (N.labels origin.now))) self result }
     {
         if let Some(flat) = origin.as_flat_slice() {
             return self.append_origin_wire(flat);
@@ -436,13 +422,9 @@ where
     #[inline(always)]
     fn append_origin_wire(self, origin: &[u8]) -> Result<B::Octets, PushNameError>
         requires origin { IsAbsoluteWire origin.now }
-        ensures wire { IfOk result (λ octets.
-            IsAbsoluteWire (⟦<B::Octets as Octets>⟧.octets octets)) }
-        ensures labels { IfOk result (λ octets.
-            labels_in (⟦<B::Octets as Octets>⟧.octets octets)
-            ≡ closed self.built ++ labels_in origin.now) }
-        ensures answer { OriginFits (size self.built + length origin.now)
-            (room B.limit self) result }
+        ensures wire { GivesAbsolute ⟦<B::Octets as Octets>⟧ result }
+        ensures labels { Joins ⟦<B::Octets as Octets>⟧ self.built (labels_in origin.now) result }
+        ensures answer { AnswersOrigin B.limit (length origin.now) self result }
     {
         if self.len() + origin.len() > 255 {
             return Err(PushNameError::LongName);
@@ -513,7 +495,7 @@ fn append_headed<B: OctetsBuilder + OctetsMut>(
     ensures ok { OnOk result (B.octets builder.new ≡ B.octets builder.old ++ head ∷ slice.now) }
     ensures unchanged { OnErr result (B.octets builder.new ≡ B.octets builder.old) }
     ensures full { OnErr result
-        (B.capacity builder.new < length (B.octets builder.old) + length (head ∷ slice.now)) }
+        (ExceedsCapacity B.Octets (head ∷ slice.now) builder.old builder.new) }
     ensures capacity { B.capacity builder.old ≤ B.capacity builder.new }
 {
     if let [octet] = slice {
@@ -548,8 +530,7 @@ pub fn append_absolute<B: OctetsBuilder>(builder: &mut B, origin: &[u8]) -> Resu
     requires origin { IsAbsoluteWire origin.now }
     requires short { length (B.octets builder.old) + length origin.now ≤ 255 }
     ensures wire { OnOk result (IsAbsoluteWire (B.octets builder.new)) }
-    ensures labels { OnOk result (labels_in (B.octets builder.new)
-        ≡ labels_in (B.octets builder.old) ++ labels_in origin.now) }
+    ensures labels { OnOk result (AddsLabels B.Octets origin.now builder.old builder.new) }
     ensures unchanged { OnErr result (B.octets builder.new ≡ B.octets builder.old) }
     ensures full { OnErr result
         (B.capacity builder.old < length (B.octets builder.old) + length origin.now) }
