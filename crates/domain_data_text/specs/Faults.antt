@@ -89,6 +89,14 @@ abbrev pub FirstNone : (List ℕ → List ℕ → Type 0) → (WordAt → Fault 
 FirstNone IsPart NoPart [] f c = ⊥
 FirstNone IsPart NoPart (w ∷ ws) f c = NoPart w f c ⊎ ((octets : List ℕ) × IsPart w.octets octets × FirstNone IsPart NoPart ws f c)
 
+-- The first word that is no character string has this fault.
+abbrev pub FirstNoString : List WordAt → Fault → ℕ → Type 0
+FirstNoString words f c = FirstNone (IsField part.Text) NoString words f c
+
+-- The first word that is no octets in digits has this fault.
+abbrev pub FirstNoDigits : List WordAt → Fault → ℕ → Type 0
+FirstNoDigits words f c = FirstNone IsDigitsWord NoDigits words f c
+
 -- The words aren't these parts, one each. Another number of words is told where the type is, in this column.
 pub data NoFields (parts : List Field) (column : ℕ) (words : List WordAt) (f : Fault) (c : ℕ) : Type 0 where
   number : length words ≢ length parts → Tells fault.Words column f c → NoFields parts column words f c
@@ -98,14 +106,14 @@ pub data NoFields (parts : List Field) (column : ℕ) (words : List WordAt) (f :
 pub data NoGeneric (column : ℕ) (words : List WordAt) (f : Fault) (c : ℕ) : Type 0 where
   none : words ≡ [] → Tells fault.Words column f c → NoGeneric column words f c
   number : (w : WordAt) (ws : List WordAt) → words ≡ w ∷ ws → NoNumber16 w f c → NoGeneric column words f c
-  digits : (w : WordAt) (ws : List WordAt) (n : ℕ) → words ≡ w ∷ ws → IsNumber16 w.octets n → FirstNone IsDigitsWord NoDigits ws f c → NoGeneric column words f c
+  digits : (w : WordAt) (ws : List WordAt) (n : ℕ) → words ≡ w ∷ ws → IsNumber16 w.octets n → FirstNoDigits ws f c → NoGeneric column words f c
   other : (w : WordAt) (ws : List WordAt) (n : ℕ) (octets : List ℕ) → words ≡ w ∷ ws → IsNumber16 w.octets n → AreDigits ws octets → length octets ≢ n
       → Tells fault.Octets w.column f c → NoGeneric column words f c
 
 -- The words aren't data of the type in the form of this type, whose word is in this column.
 pub data NoTyped (rtype column : ℕ) (words : List WordAt) (f : Fault) (c : ℕ) : Type 0 where
   no_strings : IsOfStrings rtype → words ≡ [] → Tells fault.Words column f c → NoTyped rtype column words f c
-  strings : IsOfStrings rtype → FirstNone (IsField part.Text) NoString words f c → NoTyped rtype column words f c
+  strings : IsOfStrings rtype → FirstNoString words f c → NoTyped rtype column words f c
   unread : (IsOfStrings rtype → ⊥) → fields_of_type rtype ≡ None → Tells fault.UnreadType column f c → NoTyped rtype column words f c
   fields : (parts : List Field) → (IsOfStrings rtype → ⊥) → fields_of_type rtype ≡ Some parts → NoFields parts column words f c → NoTyped rtype column words f c
 

@@ -1,5 +1,6 @@
 pub mod Steps
 pub mod Words
+pub mod Pushing
 pub mod Parts
 pub mod Strings
 pub mod Fields

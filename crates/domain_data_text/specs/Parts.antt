@@ -8,6 +8,10 @@ use Rattle.domain_tool.specs.Numerals.{IsOffsetWord}
 use Rattle.domain_data_text.specs.Steps.{Reaches}
 use Rattle.domain_data_text.specs.Words.{EndsInDot}
 
+-- The characters are the text of no name.
+abbrev pub SpellsNoName : List ℕ → Type 0
+SpellsNoName cs = (labels : List (List ℕ)) → IsTextOfName cs labels → ⊥
+
 -- The word is the absolute name of these labels, with its final dot (RFC 1035, 5.1).
 pub record IsNameWord (word : List ℕ) (labels : List (List ℕ)) : Type 0 where
   pub absolute : EndsInDot word

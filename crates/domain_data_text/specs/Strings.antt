@@ -30,9 +30,13 @@ SpelledTo text octets at = Reaches (SpellStep text) ([], 0) (octets, at)
 abbrev pub IsSpelled : List ℕ → List ℕ → Type 0
 IsSpelled text octets = SpelledTo text octets (length text)
 
+-- The text is another one between quotes.
+abbrev pub InQuotes : List ℕ → List ℕ → Type 0
+InQuotes text inner = text ≡ 34 ∷ (inner ++ 34 ∷ [])
+
 -- The word is a character string of these octets, at most 255, between quotes or without.
 pub record IsStringText (word octets : List ℕ) : Type 0 where
   pub text : List ℕ
-  pub quotes : (text ≡ word) ⊎ (word ≡ 34 ∷ (text ++ 34 ∷ []))
+  pub quotes : (text ≡ word) ⊎ InQuotes word text
   pub spelled : IsSpelled text octets
   pub short : length octets ≤ 255

@@ -1,11 +1,9 @@
 //! The data of a record.
-ghost use Rattle.std.specs.Prelude.{◌≡◌, ◌⊎◌, ◌↔◌, ◌++◌, ℕ, List, IsTrue, OnOk, IfOk, IfErr};
+ghost use Rattle.std.specs.Prelude.{◌≡◌, ◌⊎◌, ◌↔◌, IsTrue, OnOk, IfOk, IfErr};
 ghost use Rattle.domain_data_text.specs.Data.{IsOfStrings, AreStrings, AreDigits, IsGeneric, IsTyped, IsData};
-ghost use Rattle.domain_data_text.specs.Faults.{IfRefused, FirstNone, NoString, NoDigits, NoGeneric, NoTyped, NoData};
-ghost use Rattle.domain_data_text.specs.Fields.{IsField};
-ghost use Rattle.domain_data_text.specs.Parts.{IsDigitsWord};
+ghost use Rattle.domain_data_text.specs.Faults.{IfRefused, FirstNoString, FirstNoDigits, NoGeneric, NoTyped, NoData};
+ghost use Rattle.domain_data_text.specs.Pushing.{PushesSome};
 ghost use Rattle.domain_data_text.specs.Words.{words_at};
-ghost use Rattle.domain_data_text.specs.declared.fields.Field.{Field};
 
 use crate::error::{Fault, Stop};
 use crate::fields::{fields_of, push_fields};
@@ -16,10 +14,8 @@ use std::alloc::Global;
 
 /// Appends the character strings that words are.
 fn push_strings(alloc: Global, words: &[Word<'_>], data: &mut Vec<u8>) -> Result<(), Stop>
-    ensures ok { OnOk result ((octets : List ℕ) × AreStrings (words_at words.now) octets
-        × (data.new.items ≡ data.old.items ++ octets)) }
-    ensures err { IfErr result (λ e. IfRefused e
-        (FirstNone (IsField Field.Text) NoString (words_at words.now))) }
+    ensures ok { OnOk result (PushesSome (AreStrings (words_at words.now)) data.old data.new) }
+    ensures err { IfErr result (λ e. IfRefused e (FirstNoString (words_at words.now))) }
 {
     for word in words {
         push_string(alloc, word, data)?;
@@ -29,10 +25,8 @@ fn push_strings(alloc: Global, words: &[Word<'_>], data: &mut Vec<u8>) -> Result
 
 /// Appends the octets that words are in hexadecimal digits.
 fn push_all_digits(words: &[Word<'_>], data: &mut Vec<u8>) -> Result<(), Stop>
-    ensures ok { OnOk result ((octets : List ℕ) × AreDigits (words_at words.now) octets
-        × (data.new.items ≡ data.old.items ++ octets)) }
-    ensures err { IfErr result (λ e. IfRefused e
-        (FirstNone IsDigitsWord NoDigits (words_at words.now))) }
+    ensures ok { OnOk result (PushesSome (AreDigits (words_at words.now)) data.old data.new) }
+    ensures err { IfErr result (λ e. IfRefused e (FirstNoDigits (words_at words.now))) }
 {
     for word in words {
         push_digits(word, data)?;
@@ -67,8 +61,7 @@ fn is_of_strings(rtype: u16) -> bool
 /// The data of a type in the form of this type.
 fn typed_data(alloc: Global, rtype: u16, column: usize, words: &[Word<'_>]) -> Result<Vec<u8>, Stop>
     ensures ok { IfOk result (λ made. IsTyped rtype (words_at words.now) made.items) }
-    ensures err { IfErr result (λ e. IfRefused e
-        (NoTyped rtype column (words_at words.now))) }
+    ensures err { IfErr result (λ e. IfRefused e (NoTyped rtype column (words_at words.now))) }
 {
     let mut data = Vec::new(alloc);
     if is_of_strings(rtype) {
@@ -107,8 +100,7 @@ pub fn data_of(
     words: &[Word<'_>],
 ) -> Result<Vec<u8>, Stop>
     ensures ok { IfOk result (λ made. IsData rtype class (words_at words.now) made.items) }
-    ensures err { IfErr result (λ e. IfRefused e
-        (NoData rtype class column (words_at words.now))) }
+    ensures err { IfErr result (λ e. IfRefused e (NoData rtype class column (words_at words.now))) }
 {
     let Some((first, rest)) = words.split_first() else {
         if may_lack(class) {

@@ -1,7 +1,8 @@
 //! What the data of a type is made of.
-ghost use Rattle.std.specs.Prelude.{◌≡◌, ◌++◌, ℕ, List, OnOk, IfErr, option_map};
+ghost use Rattle.std.specs.Prelude.{◌≡◌, ◌++◌, OnOk, IfErr, option_map};
 ghost use Rattle.domain_data_text.specs.Faults.{IfRefused, NoField, NoFields};
 ghost use Rattle.domain_data_text.specs.Fields.{name_types, two_name_types, exchange_types, is_among, fields_of_type, AreFields, IsField};
+ghost use Rattle.domain_data_text.specs.Pushing.{PushesSome};
 ghost use Rattle.domain_data_text.specs.Words.{word_at, words_at};
 
 use crate::error::{Fault, Stop};
@@ -131,8 +132,7 @@ fn append(octets: &[u8], data: &mut Vec<u8>) -> Result<(), Stop>
 
 /// Appends the part of the data that a word is.
 fn push_field(alloc: Global, field: Field, word: &Word<'_>, data: &mut Vec<u8>) -> Result<(), Stop>
-    ensures ok { OnOk result ((octets : List ℕ) × IsField field word.now.octets.now octets
-        × (data.new.items ≡ data.old.items ++ octets)) }
+    ensures ok { OnOk result (PushesSome (IsField field word.now.octets.now) data.old data.new) }
     ensures err { IfErr result (λ e. IfRefused e (NoField field (word_at word.now))) }
 {
     match field {
@@ -168,10 +168,9 @@ pub(crate) fn push_fields(
     words: &[Word<'_>],
     data: &mut Vec<u8>,
 ) -> Result<(), Stop>
-    ensures ok { OnOk result ((octets : List ℕ) × AreFields fields.now (words_at words.now) octets
-        × (data.new.items ≡ data.old.items ++ octets)) }
-    ensures err { IfErr result (λ e. IfRefused e
-        (NoFields fields.now column (words_at words.now))) }
+    ensures ok { OnOk result (PushesSome (AreFields fields.now (words_at words.now)) data.old data.new) }
+    ensures err { IfErr result
+        (λ e. IfRefused e (NoFields fields.now column (words_at words.now))) }
 {
     if words.len() != fields.len() {
         return Err(Stop::Refused(Fault::Words, column));

@@ -1,12 +1,13 @@
 //! Numbers, names and addresses that a word is (RFC 1035, 5.1).
-ghost use Rattle.std.specs.Prelude.{◌≡◌, ◌<◌, ◌≤◌, ◌++◌, ◌+◌, ℕ, List, length, slice_index, ◌↔◌, IsTrue, IsNone, IfOk, IfErr, IfSome, OnOk};
+ghost use Rattle.std.specs.Prelude.{◌≡◌, ◌<◌, ◌≤◌, ◌+◌, ℕ, length, ◌↔◌, IsTrue, IsNone, IfOk, IfErr, IfSome, OnOk};
 ghost use Rattle.std.specs.Str.{chars, IsUtf8};
 ghost use Rattle.domain_builder.specs.TextGrammar.{IsTextOfName};
 ghost use Rattle.domain_name.specs.Names.{name_labels};
 ghost use Rattle.domain_data_text.specs.Faults.{IfRefused, Tells, NoName, NoNumber16, NoNumber32, NoIpv4, NoIpv6, NoDigits};
 ghost use Rattle.domain_data_text.specs.Words.{EndsInDot, word_at};
 ghost use Rattle.domain_data_text.specs.declared.error.Fault.{Fault};
-ghost use Rattle.domain_data_text.specs.Parts.{IsNameWord, IsNumber16, IsNumber32, IsIpv4Word, IsIpv6Word, IsHexDigit, AreDigitsAt, IsDigitsWord};
+ghost use Rattle.domain_data_text.specs.Parts.{IsNameWord, IsNumber16, IsNumber32, IsIpv4Word, IsIpv6Word, IsHexDigit, AreDigitsAt, IsDigitsWord, SpellsNoName};
+ghost use Rattle.domain_data_text.specs.Pushing.{PushesSome};
 
 use crate::error::{Fault, Stop};
 use crate::words::Word;
@@ -25,8 +26,8 @@ pub type OwnName = Name<ArrayVec<u8, 255>>;
 ///
 /// `Refused` where it is none, with the fault that is given, in the column of the word.
 pub fn text_of<'a>(word: &Word<'a>, fault: Fault) -> Result<&'a str, Stop>
-    ensures ok { IfOk result (λ text. (text.now ≡ word.now.octets.now)
-        × IsUtf8 word.now.octets.now) }
+    ensures ok { IfOk result
+        (λ text. (text.now ≡ word.now.octets.now) × IsUtf8 word.now.octets.now) }
     ensures err { IfErr result (λ e. IfRefused e (Tells fault word.now.column)) }
     ensures no_text { IfErr result (λ _. IsUtf8 word.now.octets.now → ⊥) }
 {
@@ -64,8 +65,7 @@ fn ends_in_dot(text: &[u8]) -> bool
 /// The name that a text is. Each name fits.
 fn name_from_text(alloc: Global, text: &str) -> Result<OwnName, FromStrError>
     ensures ok { IfOk result (λ name. IsTextOfName (chars text.now) (name_labels name)) }
-    ensures err { IfErr result (λ e. (labels : List (List ℕ)) →
-        IsTextOfName (chars text.now) labels → ⊥) }
+    ensures err { IfErr result (λ _. SpellsNoName (chars text.now)) }
 {
     Name::from_chars(alloc, text.chars())
 }
@@ -187,8 +187,7 @@ fn digits_at(text: &[u8], at: usize) -> Option<u8>
 
 /// Appends the octets that a word is in hexadecimal digits, two for each.
 pub(crate) fn push_digits(word: &Word<'_>, data: &mut Vec<u8>) -> Result<(), Stop>
-    ensures ok { OnOk result ((octets : List ℕ) × IsDigitsWord word.now.octets.now octets
-        × (data.new.items ≡ data.old.items ++ octets)) }
+    ensures ok { OnOk result (PushesSome (IsDigitsWord word.now.octets.now) data.old data.new) }
     ensures err { IfErr result (λ e. IfRefused e (NoDigits (word_at word.now))) }
 {
     let text = word.octets;

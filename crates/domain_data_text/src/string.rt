@@ -1,11 +1,12 @@
 //! Character strings (RFC 1035, 3.3 and 5.1).
-ghost use Rattle.std.specs.Prelude.{◌≡◌, ◌⊎◌, ◌<◌, ◌≤◌, ◌++◌, ◌∷◌, ◌↔◌, [], ℕ, List, length, slice_index, false, IsTrue, IsNone, IfOk, IfErr, IfSome, OnOk};
+ghost use Rattle.std.specs.Prelude.{◌≡◌, ◌⊎◌, ◌<◌, ◌≤◌, ◌↔◌, ℕ, List, length, slice_index, false, IsTrue, IsNone, IfOk, IfErr, IfSome, OnOk};
 ghost use Rattle.domain_data_text.specs.Faults.{IfRefused, Lacks, NoString};
 ghost use Rattle.domain_data_text.specs.Fields.{IsField};
 ghost use Rattle.domain_data_text.specs.Words.{word_at};
 ghost use Rattle.domain_data_text.specs.declared.error.Fault.{Fault};
 ghost use Rattle.domain_label.specs.Spelling.{IsDigit, IsNoDigit};
-ghost use Rattle.domain_data_text.specs.Strings.{IsPlain, SpellsAt, IsSpelled};
+ghost use Rattle.domain_data_text.specs.Strings.{IsPlain, SpellsAt, IsSpelled, InQuotes};
+ghost use Rattle.domain_data_text.specs.Pushing.{PushesSome};
 ghost use Rattle.domain_data_text.specs.declared.fields.Field.{Field};
 
 use crate::error::{Fault, Stop};
@@ -83,12 +84,10 @@ fn octet_at(text: &[u8], at: usize) -> Option<(u8, usize)>
 /// What a word has between its quotes, or the word if it has none around it. `None` for one that begins with a quote
 /// and doesn't end with another.
 fn without_quotes(text: &[u8]) -> Option<&[u8]>
-    ensures some { IfSome result (λ inner. (inner.now ≡ text.now)
-        ⊎ (text.now ≡ 34 ∷ (inner.now ++ 34 ∷ []))) }
-    ensures quoted { IfSome result (λ inner. slice_index text.now 0 ≡ 34 →
-        text.now ≡ 34 ∷ (inner.now ++ 34 ∷ [])) }
+    ensures some { IfSome result (λ inner. (inner.now ≡ text.now) ⊎ InQuotes text.now inner.now) }
+    ensures quoted { IfSome result (λ inner. slice_index text.now 0 ≡ 34 → InQuotes text.now inner.now) }
     ensures quote { IsNone result → slice_index text.now 0 ≡ 34 }
-    ensures none { IsNone result → (inner : List ℕ) → text.now ≡ 34 ∷ (inner ++ 34 ∷ []) → ⊥ }
+    ensures none { IsNone result → (inner : List ℕ) → InQuotes text.now inner → ⊥ }
 {
     if text.len() == 0 || text[0] != b'"' {
         return Some(text);
@@ -102,8 +101,7 @@ fn without_quotes(text: &[u8]) -> Option<&[u8]>
 /// The octets that are spelled. The text is in a word at this column.
 fn spelled(alloc: Global, text: &[u8], column: usize) -> Result<Vec<u8>, Stop>
     ensures ok { IfOk result (λ octets. IsSpelled text.now octets.items) }
-    ensures err { IfErr result (λ e. IfRefused e
-        (Lacks (IsSpelled text.now) Fault.Text column)) }
+    ensures err { IfErr result (λ e. IfRefused e (Lacks (IsSpelled text.now) Fault.Text column)) }
 {
     let mut octets = Vec::new(alloc);
     let mut at = 0;
@@ -121,8 +119,7 @@ fn spelled(alloc: Global, text: &[u8], column: usize) -> Result<Vec<u8>, Stop>
 
 /// Appends the character string that a word is: one octet that tells its length, and its octets.
 pub(crate) fn push_string(alloc: Global, word: &Word<'_>, data: &mut Vec<u8>) -> Result<(), Stop>
-    ensures ok { OnOk result ((octets : List ℕ) × IsField Field.Text word.now.octets.now octets
-        × (data.new.items ≡ data.old.items ++ octets)) }
+    ensures ok { OnOk result (PushesSome (IsField Field.Text word.now.octets.now) data.old data.new) }
     ensures err { IfErr result (λ e. IfRefused e (NoString (word_at word.now))) }
 {
     let column = word.column;
