@@ -8,7 +8,7 @@ use Rattle.domain_message_builder.specs.Contents.{Content, RecordHead, no_conten
 use Rattle.domain_message_builder.specs.Pushes.{with_header, record_added, IsBegun, PushesQuestion, PushesRecord}
 use Rattle.domain_message_builder.specs.Reading.{IsMessageOf}
 use Rattle.domain_message_builder.specs.State.{State}
-use Rattle.domain_make.specs.Drafts.{Draft, IsBlankDraft, IsAsked, IsRemark, IsLine, LinesSay, TextSays, IsDraft, Takes, TakesAll}
+use Rattle.domain_make.specs.Drafts.{Draft, IsBlankDraft, IsAsked, IsRemark, IsLine, LinesSay, TextSays, IsDraft, DraftsLine, DraftsLines}
 use Rattle.domain_make.specs.Drafts.LineSays.{empty, remark, asked, question, entry}
 use Rattle.domain_make.specs.Drafts.LinesSay.{none, line}
 use Rattle.domain_make.specs.Entries.{IsQuestionWords, IsRecordWords}
@@ -33,12 +33,12 @@ on_ok P Q (Ok x) follows h = follows h
 on_ok P Q (Err e) follows h = tt
 
 -- A line says nothing.
-pub takes_nothing : (c : Bool) (l : List ℕ) (stage : Stage) (s : State) (words : List Word) → slice_index l 0 ≢ 59 → length words ≡ 0 → AreWords l 0 (words_at words) → Takes c l stage s stage s
+pub takes_nothing : (c : Bool) (l : List ℕ) (stage : Stage) (s : State) (words : List Word) → slice_index l 0 ≢ 59 → length words ≡ 0 → AreWords l 0 (words_at words) → DraftsLine c l stage s stage s
 takes_nothing c l stage s [] plain no_words are = λ d is. (d, empty plain are refl, is)
 takes_nothing c l stage s (w ∷ words) plain no_words are = absurd (omega arith)
 
 -- A remark leads to another stage or header.
-pub takes_remark : (c : Bool) (l text : List ℕ) (stage next : Stage) (old new : State) (h : Header) → IsRemark l stage → IsTrimmed l text → Remarks text stage old.header next h → new ≡ with_header h old → Takes c l stage old next new
+pub takes_remark : (c : Bool) (l text : List ℕ) (stage next : Stage) (old new : State) (h : Header) → IsRemark l stage → IsTrimmed l text → Remarks text stage old.header next h → new ≡ with_header h old → DraftsLine c l stage old next new
 takes_remark c l text stage next old new h marked trimmed says same = λ d is.
     let at_place : Remarks text d.stage old.header next h = subst (λ p. Remarks text p old.header next h) (sym is.stage_is) says in
     let at_header : Remarks text d.stage d.header next h = subst (λ k. Remarks text d.stage k next h) (sym is.header_is) at_place in (
@@ -63,15 +63,15 @@ after_question c q old new d pushed is = record {
   holds = pushed.holds d.content is.holds;
 }
 
-pub takes_question : (c : Bool) (l : List ℕ) (old new : State) (words : List WordAt) (q : QuestionFields) → slice_index l 0 ≢ 59 → AreWords l 0 words → IsQuestionWords words q → PushesQuestion c q old new → Takes c l Questions old Questions new
+pub takes_question : (c : Bool) (l : List ℕ) (old new : State) (words : List WordAt) (q : QuestionFields) → slice_index l 0 ≢ 59 → AreWords l 0 words → IsQuestionWords words q → PushesQuestion c q old new → DraftsLine c l Questions old Questions new
 takes_question c l old new words q plain are says pushed = λ d is. (record d { content = question_added d.content q }, question words q is.stage_is plain are says refl, after_question c q old new d pushed is)
 
-pub takes_asked : (c : Bool) (l : List ℕ) (old new : State) (words : List WordAt) (q : QuestionFields) → IsAsked l → AreWords l 1 words → IsQuestionWords words q → PushesQuestion c q old new → Takes c l Questions old Questions new
+pub takes_asked : (c : Bool) (l : List ℕ) (old new : State) (words : List WordAt) (q : QuestionFields) → IsAsked l → AreWords l 1 words → IsQuestionWords words q → PushesQuestion c q old new → DraftsLine c l Questions old Questions new
 takes_asked c l old new words q begins are says pushed = λ d is. (record d { content = question_added d.content q }, asked words q is.stage_is begins are says refl, after_question c q old new d pushed is)
 
 -- A record was pushed.
 pub takes_record : (c : Bool) (l : List ℕ) (section : Section) (old new : State) (words : List WordAt) (head : RecordHead) (octets : List ℕ) → slice_index l 0 ≢ 59 → AreWords l 0 words → IsRecordWords words head octets
-    → PushesRecord c section head (λ _ s. s ≡ octets) old new → Takes c l (Records section) old (Records section) new
+    → PushesRecord c section head (λ _ s. s ≡ octets) old new → DraftsLine c l (Records section) old (Records section) new
 takes_record c l section old new words head octets plain are says pushed = λ d is.
     let it : List ℕ → Content = λ o. record_added section d.content (record { head = head; rdata = o }) in (
       record d { content = it octets },
@@ -92,13 +92,13 @@ Taken c text n at stage old now = (d : Draft) → IsBlankDraft d → IsDraft c S
 pub taken_none : (c : Bool) (text : List ℕ) (s : State) → Taken c text 0 0 Start s s
 taken_none c text s = λ d fresh is. (d, none fresh, is)
 
-pub taken_more : (c : Bool) (text : List ℕ) (n at end : ℕ) (stage next : Stage) (old now new : State) → Taken c text n at stage old now → IsLine text at end → Takes c (slice_range text at end) stage now next new → Taken c text (n + 1) (end + 1) next old new
+pub taken_more : (c : Bool) (text : List ℕ) (n at end : ℕ) (stage next : Stage) (old now new : State) → Taken c text n at stage old now → IsLine text at end → DraftsLine c (slice_range text at end) stage now next new → Taken c text (n + 1) (end + 1) next old new
 taken_more c text n at end stage next old now new before is_line takes = λ d fresh is.
     let said = before d fresh is in
     let more = takes said.0 said.2 in
     (more.0, subst (λ k. LinesSay text k (end + 1) more.0) (sym (add-one n)) (line more.0 said.1 is_line more.1), more.2)
 
-pub taken_all : (c : Bool) (text : List ℕ) (n at : ℕ) (stage : Stage) (old now : State) → Taken c text n at stage old now → length text ≤ at → TakesAll c text old now
+pub taken_all : (c : Bool) (text : List ℕ) (n at : ℕ) (stage : Stage) (old now : State) → Taken c text n at stage old now → length text ≤ at → DraftsLines c text old now
 taken_all c text n at stage old now before whole = λ d fresh is.
     let said = before d fresh is in
     (said.0, record { lines = n; at = at; to = said.1; whole = whole }, record { stage_is = refl; header_is = said.2.header_is; limit_is = said.2.limit_is; reserved_is = said.2.reserved_is; holds = said.2.holds })
@@ -114,7 +114,7 @@ blank_held : (c : Bool) (s : State) → IsBegun c 65535 s → IsDraft c Start s 
 blank_held c s is = record { stage_is = refl; header_is = refl; limit_is = is.limit_is; reserved_is = is.reserved; holds = is.holds }
 
 -- The message was made.
-pub made : (c : Bool) (text m : List ℕ) (begun s : State) → IsBegun c 65535 begun → TakesAll c text begun s → ((it : Content) → Holds c s it → IsMessageOf s.header it m) → IsMade text m
+pub made : (c : Bool) (text m : List ℕ) (begun s : State) → IsBegun c 65535 begun → DraftsLines c text begun s → ((it : Content) → Holds c s it → IsMessageOf s.header it m) → IsMade text m
 made c text m begun s is takes message =
     let said = takes (blank begun) (blank_is c begun is) (blank_held c begun is) in
     record { said = said.0; says = said.1; message = subst (λ h. IsMessageOf h said.0.content m) (sym said.2.header_is) (message said.0.content said.2.holds) }

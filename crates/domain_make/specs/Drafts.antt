@@ -78,9 +78,9 @@ pub record IsDraft (compresses : Bool) (stage : Stage) (s : State) (d : Draft) :
   pub holds : Holds compresses s d.content
 
 -- The line says something that this builder holds after what was said before, if that one does.
-abbrev pub Takes : Bool → List ℕ → Stage → State → Stage → State → Type 0
-Takes compresses text stage old next new = (d : Draft) → IsDraft compresses stage old d → (e : Draft) × LineSays text d e × IsDraft compresses next new e
+abbrev pub DraftsLine : Bool → List ℕ → Stage → State → Stage → State → Type 0
+DraftsLine compresses text stage old next new = (d : Draft) → IsDraft compresses stage old d → (e : Draft) × LineSays text d e × IsDraft compresses next new e
 
 -- A builder that holds nothing then holds what the lines of a text say.
-abbrev pub TakesAll : Bool → List ℕ → State → State → Type 0
-TakesAll compresses text old new = (d : Draft) → IsBlankDraft d → IsDraft compresses Start old d → (e : Draft) × TextSays text e × IsDraft compresses e.stage new e
+abbrev pub DraftsLines : Bool → List ℕ → State → State → Type 0
+DraftsLines compresses text old new = (d : Draft) → IsBlankDraft d → IsDraft compresses Start old d → (e : Draft) × TextSays text e × IsDraft compresses e.stage new e

@@ -17,7 +17,7 @@ use Rattle.domain_message_builder.specs.declared.builder.MessageBuilder.{Message
 use Rattle.domain_data_text.specs.Faults.{IfRefused}
 use Rattle.domain_data_text.specs.Words.{WordAt}
 use Rattle.domain_data_text.specs.declared.error.Stop.{Stop}
-use Rattle.domain_make.specs.Drafts.{Takes, TakesAll}
+use Rattle.domain_make.specs.Drafts.{DraftsLine, DraftsLines}
 use Rattle.domain_make.specs.Entries.{IsQuestionWords, IsRecordWords}
 use Rattle.domain_make.specs.Made.{IfLine}
 use Rattle.domain_make.specs.Refusals.{NoPushedQuestion, NoPushedRecord, Refuses, StopsFrom}
@@ -54,7 +54,7 @@ NoRecordAdded {g = g} section words b e = IfRefused e (NoPushedRecord g.compress
 -- The line says something that the builder holds then after what was said before, if it held that.
 abbrev pub TakesLine : {T E : Type 0} {g : _} {h : _} {i : _} {j : _} {k : _} {l : _}
     → List ℕ → Stage → MessageBuilder T E g h i j k l → Stage → MessageBuilder T E g h i j k l → Type 0
-TakesLine {g = g} line stage old next new = Takes g.compresses line stage (state old) next (state new)
+TakesLine {g = g} line stage old next new = DraftsLine g.compresses line stage (state old) next (state new)
 
 -- The same of a line that leaves the stage as it is.
 abbrev pub TakesEntry : {T E : Type 0} {g : _} {h : _} {i : _} {j : _} {k : _} {l : _}
@@ -69,7 +69,7 @@ LineNotTaken {g = g} line stage b e = IfRefused e (Refuses g.compresses line sta
 -- A builder that held nothing holds what the lines of a text say.
 abbrev pub TakesLines : {T E : Type 0} {g : _} {h : _} {i : _} {j : _} {k : _} {l : _}
     → List ℕ → MessageBuilder T E g h i j k l → MessageBuilder T E g h i j k l → Type 0
-TakesLines {g = g} text old new = TakesAll g.compresses text (state old) (state new)
+TakesLines {g = g} text old new = DraftsLines g.compresses text (state old) (state new)
 
 -- Which line of a text isn't taken by a builder that holds nothing, and why, if the error is of a line.
 abbrev pub LinesNotTaken : {T E : Type 0} {g : _} {h : _} {i : _} {j : _} {k : _} {l : _}

@@ -1,6 +1,5 @@
 //! Lines that begin with a semicolon: those of a header, headings of sections, and comments.
 ghost use Rattle.std.specs.Prelude.{◌≡◌, ◌⊎◌, ◌++◌, ◌∷◌, [], ◌<◌, ℕ, List, IfOk, IfErr, IfSome, IsNone, IsTrue, ◌↔◌, codes, cond, false};
-ghost use Rattle.domain_header.specs.Headers.{SetsHigh, SetsLow};
 ghost use Rattle.domain_header.specs.Tables.{opcode_text, rcode_text};
 ghost use Rattle.domain_header.specs.Values.{opcode_number, rcode_number};
 ghost use Rattle.domain_data_text.specs.Faults.{IfRefused};
