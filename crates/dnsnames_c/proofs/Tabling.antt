@@ -9,7 +9,7 @@ use Rattle.domain_reading.proofs.OneEncoding.{front_once, names_skips}
 use Rattle.domain_buffer.specs.Puts.{PutsAt}
 use Rattle.domain_header.specs.Numbers.{number16}
 use Rattle.domain_offsets.specs.Entries.{HasParts, LacksParts}
-use Rattle.dnsnames_c.specs.Tables.{entry_count, row, PartsAt, NoPartsAt, Tabled, Takes, Holds}
+use Rattle.dnsnames_c.specs.Tables.{entry_count, row, PartsAt, NoPartsAt, Tabled, Adds, Holds}
 use Rattle.dnsnames_c.specs.Tables.Tabled.{header, entry}
 use Rattle.domain_offsets.specs.declared.entry.Parts.{Parts}
 use Rattle.dnsnames_c.specs.declared.table.Taken.{Taken}
@@ -48,7 +48,7 @@ pub holds_none : (k : ℕ) (m r n : List ℕ) → 12 ≤ length m → Holds k m 
 holds_none k m r n whole = record { numbers = []; octets = []; tabled = header whole; size = refl; rows_put = refl; names_put = refl }
 
 -- One more entry was put.
-pub holds_one_more : {k : ℕ} {m : List ℕ} {old new : Taken} {r0 r r' n0 n n' : List ℕ} → old.count < entry_count m → length r ≡ length r0 → length n ≡ length n0 → Holds k m old.count old.offset old.names r0 r n0 n → Takes k m old r r' n n' new → Holds k m new.count new.offset new.names r0 r' n0 n'
+pub holds_one_more : {k : ℕ} {m : List ℕ} {old new : Taken} {r0 r r' n0 n n' : List ℕ} → old.count < entry_count m → length r ≡ length r0 → length n ≡ length n0 → Holds k m old.count old.offset old.names r0 r n0 n → Adds k m old r r' n n' new → Holds k m new.count new.offset new.names r0 r' n0 n'
 holds_one_more {k} {m} {old} {new} {r0} {r} {r'} {n0} {n} {n'} few same_rows same_names h t =
     let many = tabled_size h.tabled in
     let name = wire t.labels in
@@ -65,7 +65,7 @@ holds_one_more {k} {m} {old} {new} {r0} {r} {r'} {n0} {n} {n'} few same_rows sam
     }
 
 -- Rows and names keep their sizes.
-pub takes_sizes : {k : ℕ} {m : List ℕ} {old new : Taken} {r r' n n' : List ℕ} → Takes k m old r r' n n' new → (length r' ≡ length r) × (length n' ≡ length n)
+pub takes_sizes : {k : ℕ} {m : List ℕ} {old new : Taken} {r r' n n' : List ℕ} → Adds k m old r r' n n' new → (length r' ≡ length r) × (length n' ≡ length n)
 takes_sizes {k} {m} {old} {new} {r} {r'} {n} {n'} t = (
   puts_size (8 * old.count) (row old.names (length (wire t.labels)) t.parts) r r' t.row_fits t.row_put,
   puts_size old.names (wire t.labels) n n' t.name_fits t.name_put,

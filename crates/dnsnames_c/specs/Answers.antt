@@ -1,7 +1,7 @@
 -- What the calls return, and what they leave in the caller's buffers.
-use Rattle.std.specs.Prelude.{◌≡◌, ◌⊎◌, ℕ, zero, suc, ◌≤◌, ◌<◌, List, length}
+use Rattle.std.specs.Prelude.{◌≡◌, ◌≢◌, ◌⊎◌, ℕ, zero, suc, ◌≤◌, ◌<◌, List, length}
 use Rattle.std.specs.Str.{chars, IsUtf8}
-use Rattle.domain_label.specs.Wire.{wire, IsAbsoluteWire, IsRelativeWire}
+use Rattle.domain_label.specs.Wire.{wire, labels_in, IsAbsolute, IsAbsoluteWire, IsRelativeWire}
 use Rattle.domain_label.specs.Text.{text_with_final_dot, displayed}
 use Rattle.domain_builder.specs.TextGrammar.{IsTextOfName, IsTextOfNoName}
 use Rattle.domain_builder.specs.declared.name_symbol.TextFault.{TextFault}
@@ -13,6 +13,10 @@ use Rattle.domain_reading.specs.Faults.{NameFaultAt, Skips, SkipFault}
 use Rattle.domain_reading.specs.declared.fault.NameFault.{NameFault}
 use Rattle.domain_buffer.specs.Puts.{PutsAt}
 use Rattle.dnsnames_c.specs.Status.{fault_number, absolute_number, relative_number, text_number}
+
+-- The output became this number (0), or it stays as it was.
+abbrev pub Sets : ℕ → ℕ → ℕ → ℕ → Type 0
+Sets status n old new = (status ≡ 0 → new ≡ n) × (status ≢ 0 → new ≡ old)
 
 -- The number of octets was given. They were put into the buffer (0), or they don't fit and it is unchanged (8).
 abbrev pub Gives : List ℕ → ℕ → List ℕ → List ℕ → ℕ → Type 0
@@ -53,6 +57,10 @@ ReturnsEnd m p status old new =
     ((status ≡ 0) × Skips m p new)
     ⊎ ((f : NameFault) × SkipFault m p f × (status ≡ fault_number f) × (new ≡ old))
 
+-- The characters are the text of no name, and this is the number of why.
+abbrev pub HasFaultNumber : List ℕ → ℕ → Type 0
+HasFaultNumber cs status = (f : TextFault) × IsTextOfNoName cs f × (status ≡ text_number f)
+
 -- The wire format of the name that the text t spells was given (RFC 1035, 5.1); or the number is that of the text's fault,
 -- and nothing changed. A text that isn't UTF-8 has the number of a character that is no octet (12).
 abbrev pub ReadsText : List ℕ → ℕ → List ℕ → List ℕ → ℕ → ℕ → Type 0
@@ -73,3 +81,13 @@ GivesOf o octets status old new old_len len =
 abbrev pub name_text : ℕ → List (List ℕ) → List ℕ
 name_text zero ls = displayed ls
 name_text (suc n) ls = text_with_final_dot ls
+
+-- That text of the name o was given; or o is no absolute name (9), and nothing changed.
+abbrev pub GivesNameText : List ℕ → ℕ → ℕ → List ℕ → List ℕ → ℕ → ℕ → Type 0
+GivesNameText o final_dot status old new old_len len =
+    GivesOf o (name_text final_dot (labels_in o)) status old new old_len len
+
+-- Of the text of a name with its final dot, that without it is left.
+abbrev pub DropsFinalDot : List ℕ → List ℕ → Type 0
+DropsFinalDot text left =
+    (ls : List (List ℕ)) → IsAbsolute ls → text ≡ text_with_final_dot ls → left ≡ displayed ls

@@ -11,10 +11,11 @@ use Rattle.domain_message_builder.specs.Opt.{Opt, opt_head}
 use Rattle.domain_message_builder.specs.Pushes.{record_count, section_count, later_count, PushesQuestion}
 use Rattle.domain_message_builder.specs.Reading.{IsMessageOf}
 use Rattle.domain_buffer.specs.Puts.{PutsAt}
-use Rattle.domain_buffer.specs.Builders.{header_of, counts_of, state, IsUsable, Enters, TooBig, asked, PushesData}
+use Rattle.domain_buffer.specs.Builders.{header_of, counts_of, state, IsUsable, Enters, TooBig, headed, asked, PushesData}
 use Rattle.domain_buffer.specs.Data.{Fields, whole, IsNamed}
 use Rattle.domain_buffer.specs.Named.{NamedTooBig, PushesNamed}
 use Rattle.domain_buffer.specs.declared.builder.Builder.{Builder}
+use Rattle.domain_buffer.specs.declared.builder.Head.{Head}
 
 -- A message was begun with this identifier and these flags, and nothing in it; it has as many octets as the buffer at most, and
 -- 65,535 (0). Or the buffer has no room for a header (8), and nothing changed.
@@ -38,8 +39,8 @@ RefusesQuestion o b name status =
     × (b.questions < 65535) × TooBig o b name 4)
 
 -- The question was pushed (0); or it wasn't, and nothing changed.
-abbrev pub GivesQuestion : List ℕ → ℕ → ℕ → ℕ → List ℕ → Builder → List ℕ → Builder → Type 0
-GivesQuestion name rtype class status o b o' b' =
+abbrev pub AsksFor : List ℕ → ℕ → ℕ → ℕ → List ℕ → Builder → List ℕ → Builder → Type 0
+AsksFor name rtype class status o b o' b' =
     ((status ≡ 0) × IsUsable o b × IsAbsoluteWire name
     × Enters o b name (type_and_class rtype class) o' b'
     × PushesQuestion true (asked name rtype class) (state o b) (state o' b') × IsUsable o' b')
@@ -51,37 +52,28 @@ section_of n =
     if nat_eq n 1 then Some Answer else if nat_eq n 2 then Some Authority else if nat_eq n 3
     then Some Additional else None
 
--- Why it isn't: a later section has a record (24), this one has 65,535 (25), or it doesn't fit (8).
-abbrev pub RefusesData : Section → List ℕ → List ℕ → List ℕ → Builder → ℕ → Type 0
-RefusesData section owner rdata o b status =
+-- Why a record isn't pushed into it: a later section has a record (24), this one has 65,535 (25), or it doesn't fit (8), as is said.
+abbrev pub RefusesPush : Section → Builder → Type 0 → ℕ → Type 0
+RefusesPush section b DoesNotFit status =
     ((status ≡ 24) × (0 < later_count section (counts_of b)))
     ⊎ ((status ≡ 25) × (later_count section (counts_of b) ≡ 0)
     × (section_count section (counts_of b) ≡ 65535))
     ⊎ ((status ≡ 8) × (later_count section (counts_of b) ≡ 0)
-    × (section_count section (counts_of b) < 65535) × TooBig o b owner (10 + length rdata))
+    × (section_count section (counts_of b) < 65535) × DoesNotFit)
 
 -- The record was pushed (0); or it wasn't, and nothing changed.
 abbrev pub GivesData : Section → List ℕ → RecordHead → List ℕ → ℕ → List ℕ → Builder → List ℕ
     → Builder → Type 0
 GivesData section owner head rdata status o b o' b' =
     ((status ≡ 0) × PushesData section owner head rdata o b o' b')
-    ⊎ (RefusesData section owner rdata o b status × (o' ≡ o) × (b' ≡ b))
+    ⊎ (RefusesPush section b (TooBig o b owner (10 + length rdata)) status × (o' ≡ o) × (b' ≡ b))
 
--- Why a record isn't pushed whose data have names: the same of what is to be written for these.
-abbrev pub RefusesNamed : Section → List ℕ → Fields → List ℕ → Builder → ℕ → Type 0
-RefusesNamed section owner f o b status =
-    ((status ≡ 24) × (0 < later_count section (counts_of b)))
-    ⊎ ((status ≡ 25) × (later_count section (counts_of b) ≡ 0)
-    × (section_count section (counts_of b) ≡ 65535))
-    ⊎ ((status ≡ 8) × (later_count section (counts_of b) ≡ 0)
-    × (section_count section (counts_of b) < 65535) × NamedTooBig o b owner f)
-
--- It was pushed (0), its names with compression; or it wasn't, and nothing changed.
+-- So was a record with names in its data, these with compression; or it wasn't, and nothing changed.
 abbrev pub GivesNamed : Section → List ℕ → RecordHead → Fields → ℕ → List ℕ → Builder → List ℕ
     → Builder → Type 0
 GivesNamed section owner head f status o b o' b' =
     ((status ≡ 0) × PushesNamed section owner head f o b o' b')
-    ⊎ (RefusesNamed section owner f o b status × (o' ≡ o) × (b' ≡ b))
+    ⊎ (RefusesPush section b (NamedTooBig o b owner f) status × (o' ≡ o) × (b' ≡ b))
 
 -- These are the fields of data of a type in which names may be compressed, and so they are written; or data are no such fields,
 -- and are written as they are.
@@ -95,9 +87,9 @@ GivesEither section owner head rdata status o b o' b' =
 
 -- The same of a section by its number; or the builder isn't usable (23), there is no such section (26), or the owner's name
 -- is no absolute name (9).
-abbrev pub GivesRecord : ℕ → List ℕ → RecordHead → List ℕ → ℕ → List ℕ → Builder → List ℕ → Builder
+abbrev pub GivesInSection : ℕ → List ℕ → RecordHead → List ℕ → ℕ → List ℕ → Builder → List ℕ → Builder
     → Type 0
-GivesRecord number owner head rdata status o b o' b' =
+GivesInSection number owner head rdata status o b o' b' =
     (IsUsable o b × (section : Section) × (section_of number ≡ Some section) × IsAbsoluteWire owner
     × GivesEither section owner head rdata status o b o' b')
     ⊎ ((status ≡ 23) × (IsUsable o b → ⊥) × (o' ≡ o) × (b' ≡ b))
@@ -105,10 +97,25 @@ GivesRecord number owner head rdata status o b o' b' =
     ⊎ ((status ≡ 9) × IsUsable o b × IsSome (section_of number) × (IsAbsoluteWire owner → ⊥)
     × (o' ≡ o) × (b' ≡ b))
 
+-- what a record says before its data, by the owner's octets and the numbers after them
+abbrev pub headed_by : List ℕ → Head → RecordHead
+headed_by owner head = headed owner head.rtype head.class head.ttl
+
 -- a number that isn't 0
 abbrev pub is_set : ℕ → Bool
 is_set zero = false
 is_set (suc n) = true
+
+-- an OPT record with these numbers and options
+abbrev pub opt_with : ℕ → ℕ → ℕ → ℕ → List ℕ → Opt
+opt_with size rcode_ext version dnssec_ok options =
+    record {
+      udp_payload_size = size;
+      rcode_ext = rcode_ext;
+      version = version;
+      dnssec_ok = is_set dnssec_ok;
+      options = options;
+    }
 
 -- The OPT record was pushed into the additional section (RFC 6891, 6.1), or it wasn't.
 abbrev pub GivesOpt : Opt → ℕ → List ℕ → Builder → List ℕ → Builder → Type 0

@@ -1,5 +1,5 @@
 -- Questions and records in a message (RFC 1035, 4.1). `m` is the message: the list of its octets.
-use Rattle.std.specs.Prelude.{◌≡◌, ◌⊎◌, ℕ, Bool, true, false, List}
+use Rattle.std.specs.Prelude.{◌≡◌, ◌⊎◌, ℕ, ◌≤◌, ◌<◌, Bool, true, false, List, length}
 use Rattle.domain_reading.specs.Faults.{Skips, SkipFault}
 use Rattle.domain_reading.specs.declared.fault.NameFault.{NameFault}
 use Rattle.dnsnames_c.specs.Status.{fault_number}
@@ -23,11 +23,10 @@ abbrev pub question_parts : ℕ → ℕ → ℕ → Parts
 question_parts rtype class e =
     record { rtype = rtype; class = class; ttl = 0; data_at = e; data_len = 0; end = e }
 
--- The question at p was given (0); or there is none, and nothing changed.
-abbrev pub GivesQuestionParts : List ℕ → ℕ → ℕ → ℕ → ℕ → ℕ → ℕ → ℕ → ℕ → Type 0
-GivesQuestionParts m p status old_rtype rtype old_class class old_end end =
-    ((status ≡ 0) × EntryAt m true p (question_parts rtype class end))
-    ⊎ (NoEntryAt m true p status × (rtype ≡ old_rtype) × (class ≡ old_class) × (end ≡ old_end))
+-- The question at p was given (0); or there is none.
+abbrev pub GivesQuestionParts : List ℕ → ℕ → ℕ → ℕ → ℕ → ℕ → Type 0
+GivesQuestionParts m p status rtype class end =
+    ((status ≡ 0) × EntryAt m true p (question_parts rtype class end)) ⊎ NoEntryAt m true p status
 
 -- what follows the name of a record that ends at e
 abbrev pub record_parts : ℕ → ℕ → ℕ → ℕ → ℕ → ℕ → Parts
@@ -41,10 +40,12 @@ record_parts rtype class ttl data_at data_len e =
       end = e;
     }
 
--- The record at p was given (0); or there is none, and nothing changed.
-abbrev pub GivesRecordParts : List ℕ → ℕ → ℕ → ℕ → ℕ → ℕ → ℕ → ℕ → ℕ → ℕ → ℕ → ℕ → ℕ → ℕ → ℕ
-    → Type 0
-GivesRecordParts m p status old_rtype rtype old_class class old_ttl ttl old_data data_at old_len data_len old_end end =
+-- The record at p was given (0); or there is none.
+abbrev pub GivesRecordParts : List ℕ → ℕ → ℕ → ℕ → ℕ → ℕ → ℕ → ℕ → ℕ → Type 0
+GivesRecordParts m p status rtype class ttl data_at data_len end =
     ((status ≡ 0) × EntryAt m false p (record_parts rtype class ttl data_at data_len end))
-    ⊎ (NoEntryAt m false p status × (rtype ≡ old_rtype) × (class ≡ old_class) × (ttl ≡ old_ttl)
-    × (data_at ≡ old_data) × (data_len ≡ old_len) × (end ≡ old_end))
+    ⊎ NoEntryAt m false p status
+
+-- The message has a header (0), or not (1).
+abbrev pub TellsHeader : List ℕ → ℕ → Type 0
+TellsHeader m status = ((status ≡ 0) × (12 ≤ length m)) ⊎ ((status ≡ 1) × (length m < 12))

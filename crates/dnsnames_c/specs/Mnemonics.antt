@@ -4,6 +4,7 @@ use Rattle.std.specs.Str.{IsUtf8}
 use Rattle.domain_header.specs.Mnemonics.{Row, mnemonic}
 use Rattle.domain_header.specs.Numbered.{Named}
 use Rattle.domain_header.specs.Tables.{rcode_rows, text_of}
+use Rattle.dnsnames_c.specs.Answers.{Gives}
 
 -- Response codes, those past four bits too (RFC 6891, 6.1.3; `BADVERS` section 9, `BADCOOKIE` RFC 7873, 8).
 abbrev pub response_rows : List Row
@@ -12,6 +13,10 @@ response_rows = rcode_rows ++ mnemonic 16 (codes "BADVERS") ∷ mnemonic 23 (cod
 -- The mnemonic of a response code, or `RCODE` and the number where there is none.
 abbrev pub response_text : ℕ → List ℕ
 response_text n = text_of response_rows (codes "RCODE") n
+
+-- The text of a number was given: its mnemonic in the rows, or the word and the number.
+abbrev pub GivesTextOf : List Row → List ℕ → ℕ → ℕ → List ℕ → List ℕ → ℕ → Type 0
+GivesTextOf rows word n status old new len = Gives (text_of rows word n) status old new len
 
 -- The number below the bound was given that the text t names, by a row or by the word and its digits (0). Or it names none
 -- below it, or isn't UTF-8 (22), and nothing changed.

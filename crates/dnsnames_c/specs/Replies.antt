@@ -13,8 +13,8 @@ HasNoEnd m limit =
     ((why : ParseError) × NoQuestions m why) ⊎ ((number16 m 4 ≡ 0) ⊎ IsCanonicalWithin m limit None)
 
 -- The name was given; or there is no header (1) or no such name (30), and nothing changed.
-abbrev pub GivesCanonicalName : List ℕ → ℕ → ℕ → List ℕ → List ℕ → ℕ → ℕ → Type 0
-GivesCanonicalName m limit status old new old_len len =
+abbrev pub GivesCanonical : List ℕ → ℕ → ℕ → List ℕ → List ℕ → ℕ → ℕ → Type 0
+GivesCanonical m limit status old new old_len len =
     ((length m < 12) × (status ≡ 1) × (new ≡ old) × (len ≡ old_len))
     ⊎ ((ls : List (List ℕ)) × IsCanonicalWithin m limit (Some ls)
     × Gives (wire ls) status old new len)

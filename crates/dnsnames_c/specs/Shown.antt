@@ -34,8 +34,8 @@ GivesMessageText m status old new old_len len =
     ⊎ ((status ≡ 29) × (len ≡ old_len))
 
 -- The line of the record at p was given; or there is none, and nothing changed; or it wasn't made (29).
-abbrev pub GivesRecordText : List ℕ → ℕ → ℕ → List ℕ → List ℕ → ℕ → ℕ → Type 0
-GivesRecordText m p status old new old_len len =
+abbrev pub GivesLine : List ℕ → ℕ → ℕ → List ℕ → List ℕ → ℕ → ℕ → Type 0
+GivesLine m p status old new old_len len =
     ((it : RecordFields) × (end : ℕ) × (line : List ℕ) × RecordAt m p it end × IsRecordLine it line
     × GivesText (line ++ 10 ∷ []) None status old new len)
     ⊎ ((why : ParseError) × NoRecord m p why × (status ≡ error_number why) × (new ≡ old)

@@ -10,6 +10,7 @@ use Rattle.domain_header.specs.Numbers.{number16}
 use Rattle.dnsnames_c.specs.Messages.{EntryAt, NoEntryAt}
 use Rattle.dnsnames_c.specs.Status.{fault_number}
 use Rattle.domain_offsets.specs.declared.entry.Parts.{Parts}
+use Rattle.dnsnames_c.specs.declared.table.Filled.{Filled}
 use Rattle.dnsnames_c.specs.declared.table.Taken.{Taken}
 
 -- how many questions and records the header counts, in all sections
@@ -52,8 +53,13 @@ pub data NotTaken (k : ℕ) (m : List ℕ) (n p rows_room names_len names_room s
       → (rows_room < 8 * n + 8) ⊎ (names_room < names_len + length (wire ls)) → status ≡ 8
       → NotTaken k m n p rows_room names_len names_room status
 
--- The next entry was put after those that were taken.
-pub record Takes (k : ℕ) (m : List ℕ) (old : Taken) (old_rows rows old_names names : List ℕ)
+-- The next entry can't be put after those that were taken, into these rows and names.
+abbrev pub NotTakenAfter : ℕ → List ℕ → Taken → List ℕ → List ℕ → ℕ → Type 0
+NotTakenAfter k m taken rows names status =
+    NotTaken k m taken.count taken.offset (length rows) taken.names (length names) status
+
+-- The next entry was put into the table, after those that were taken.
+pub record Adds (k : ℕ) (m : List ℕ) (old : Taken) (old_rows rows old_names names : List ℕ)
     (new : Taken) : Type 0 where
   pub labels : List (List ℕ)
   pub parts : Parts
@@ -77,11 +83,22 @@ pub record Holds (k : ℕ) (m : List ℕ) (n p len : ℕ)
   pub rows_put : PutsAt 0 numbers old_rows rows
   pub names_put : PutsAt 0 octets old_names names
 
+-- So were the entries that were taken.
+abbrev pub HoldsAll : ℕ → List ℕ → Taken → List ℕ → List ℕ → List ℕ → List ℕ → Type 0
+HoldsAll k m taken old_rows rows old_names names =
+    Holds k m taken.count taken.offset taken.names old_rows rows old_names names
+
 -- After n entries all are there that the header counts (0), or the next one can't be put after them.
 abbrev pub Stops : ℕ → List ℕ → ℕ → ℕ → ℕ → ℕ → ℕ → ℕ → Type 0
 Stops k m n p rows_room names_len names_room status =
     ((n ≡ entry_count m) × (status ≡ 0))
     ⊎ ((n < entry_count m) × NotTaken k m n p rows_room names_len names_room status)
+
+-- After those that were taken all are there, or the next one can't be put after them, into these rows and names.
+abbrev pub StopsAfter : ℕ → List ℕ → List ℕ → List ℕ → Filled → Type 0
+StopsAfter k m rows names filled =
+    Stops k m filled.taken.count filled.taken.offset (length rows) filled.taken.names (length names)
+    filled.status
 
 -- The table of the message was written, as far as its entries are there and fit.
 pub data Tables (k : ℕ) (m : List ℕ) (status : ℕ) (old_rows rows old_names names : List ℕ)

@@ -1,7 +1,7 @@
 //! Whether a message answers a query, and the name that CNAME records of its answers lead to.
 ghost use Rattle.std.specs.Prelude.{◌≡◌, ◌≢◌, ◌≤◌, ◌↔◌, length};
 ghost use Rattle.domain_message.specs.Answering.{IsAnswerTo};
-ghost use Rattle.dnsnames_c.specs.Replies.{GivesCanonicalName};
+ghost use Rattle.dnsnames_c.specs.Replies.{GivesCanonical};
 
 use crate::put::give;
 use domain_list::composing::put_name;
@@ -44,8 +44,7 @@ pub extern "C" fn dnsnames_canonical_name(
     buffer: &mut [u8],
     length: &mut usize,
 ) -> u32
-    ensures { GivesCanonicalName message.now limit result buffer.old buffer.new length.old
-        length.new }
+    ensures { GivesCanonical message.now limit result buffer.old buffer.new length.old length.new }
 {
     let Ok(message) = Message::from_octets(message) else {
         return 1;

@@ -3,7 +3,7 @@ ghost use Rattle.std.specs.Prelude.{◌≡◌, ◌≤◌, length};
 ghost use Rattle.domain_label.specs.Wire.{IsAbsoluteWire};
 ghost use Rattle.domain_buffer.specs.Builders.{headed, IsUsable};
 ghost use Rattle.domain_buffer.specs.Data.{fields_of, IsNamed};
-ghost use Rattle.dnsnames_c.specs.Builders.{section_of, is_set, Begins, GivesQuestion, GivesData, GivesNamed, GivesRecord, GivesOpt, Cuts, Finishes};
+ghost use Rattle.dnsnames_c.specs.Builders.{section_of, headed_by, opt_with, Begins, AsksFor, GivesData, GivesNamed, GivesInSection, GivesOpt, Cuts, Finishes};
 
 use domain_buffer::builder::{
     BLANK, Builder, Head, count_of, count_question, count_record, enter, has_later, head_octets,
@@ -63,8 +63,7 @@ pub extern "C" fn dnsnames_builder_question(
     rtype: u16,
     class: u16,
 ) -> u32
-    ensures { GivesQuestion name.now rtype class result octets.old builder.old octets.new
-        builder.new }
+    ensures { AsksFor name.now rtype class result octets.old builder.old octets.new builder.new }
 {
     if !is_usable(octets, builder) {
         return 23;
@@ -109,8 +108,8 @@ fn push_record(
 ) -> u32
     requires usable { IsUsable octets.old builder.old }
     requires owner { IsAbsoluteWire owner.now }
-    ensures { GivesData section owner.now (headed owner.now head.rtype head.class head.ttl) data.now
-        result octets.old builder.old octets.new builder.new }
+    ensures { GivesData section owner.now (headed_by owner.now head) data.now result octets.old
+        builder.old octets.new builder.new }
 {
     if has_later(section, builder) {
         return 24;
@@ -142,8 +141,8 @@ fn push_named(
     requires named { IsNamed head.rtype (fields_of fields) }
     requires before { length fields.before.now ≤ 6 }
     requires after { length fields.after.now ≤ 20 }
-    ensures { GivesNamed section owner.now (headed owner.now head.rtype head.class head.ttl)
-        (fields_of fields.entry) result octets.old builder.old octets.new builder.new }
+    ensures { GivesNamed section owner.now (headed_by owner.now head) (fields_of fields.entry) result
+        octets.old builder.old octets.new builder.new }
 {
     if has_later(section, builder) {
         return 24;
@@ -177,7 +176,7 @@ pub extern "C" fn dnsnames_builder_record(
     ttl: u32,
     data: &[u8],
 ) -> u32
-    ensures { GivesRecord section owner.now (headed owner.now rtype class ttl) data.now result
+    ensures { GivesInSection section owner.now (headed owner.now rtype class ttl) data.now result
         octets.old builder.old octets.new builder.new }
 {
     if !is_usable(octets, builder) {
@@ -211,15 +210,8 @@ pub extern "C" fn dnsnames_builder_opt(
     dnssec_ok: u32,
     options: &[u8],
 ) -> u32
-    ensures { GivesOpt
-        (record {
-          udp_payload_size = size;
-          rcode_ext = rcode_ext;
-          version = version;
-          dnssec_ok = is_set dnssec_ok;
-          options = options.now;
-        })
-        result octets.old builder.old octets.new builder.new }
+    ensures { GivesOpt (opt_with size rcode_ext version dnssec_ok options.now) result octets.old
+        builder.old octets.new builder.new }
 {
     if !is_usable(octets, builder) {
         return 23;

@@ -1,11 +1,8 @@
 //! Comparing names.
 ghost use Rattle.std.specs.Prelude.{◌≡◌, ◌≢◌, ◌≤◌, length, IsSome, IfSome, ◌↔◌};
-ghost use Rattle.domain_label.specs.Lowercase.{lowercase_labels};
-ghost use Rattle.domain_label.specs.Wire.{wire, labels_in, IsAbsoluteWire};
-ghost use Rattle.domain_list.specs.Ends.{EndsWith};
-ghost use Rattle.domain_list.specs.Order.{canonical_order};
+ghost use Rattle.domain_label.specs.Wire.{IsAbsoluteWire};
 ghost use Rattle.domain_siphash.specs.SipHash.{siphash};
-ghost use Rattle.dnsnames_c.specs.Answers.{GivesOf};
+ghost use Rattle.dnsnames_c.specs.Comparing.{EqualNames, name_order, EndsInName, canonical_wire, GivesCanonicalForm};
 ghost use Rattle.dnsnames_c.specs.Status.{order_number};
 
 use crate::put::give;
@@ -31,9 +28,7 @@ fn number_of_order(order: Ordering) -> i32
 #[unsafe(no_mangle)]
 pub extern "C" fn dnsnames_eq(left: &[u8], right: &[u8], equal: &mut u32) -> u32
     ensures named { (result ≡ 0) ↔ (IsAbsoluteWire left.now × IsAbsoluteWire right.now) }
-    ensures equal { result ≡ 0 →
-        (equal.new ≡ 1)
-        ↔ (lowercase_labels (labels_in left.now) ≡ lowercase_labels (labels_in right.now)) }
+    ensures equal { result ≡ 0 → (equal.new ≡ 1) ↔ EqualNames left.now right.now }
     ensures bit { result ≡ 0 → equal.new ≤ 1 }
     ensures err { result ≢ 0 → (result ≡ 9) × (equal.new ≡ equal.old) }
 {
@@ -48,8 +43,7 @@ pub extern "C" fn dnsnames_eq(left: &[u8], right: &[u8], equal: &mut u32) -> u32
 #[unsafe(no_mangle)]
 pub extern "C" fn dnsnames_compare(left: &[u8], right: &[u8], answer: &mut i32) -> u32
     ensures named { (result ≡ 0) ↔ (IsAbsoluteWire left.now × IsAbsoluteWire right.now) }
-    ensures order { result ≡ 0 →
-        answer.new ≡ order_number (canonical_order (labels_in left.now) (labels_in right.now)) }
+    ensures order { result ≡ 0 → answer.new ≡ order_number (name_order left.now right.now) }
     ensures err { result ≢ 0 → (result ≡ 9) × (answer.new ≡ answer.old) }
 {
     let (Ok(left), Ok(right)) = (Name::from_slice(left), Name::from_slice(right)) else {
@@ -64,8 +58,7 @@ pub extern "C" fn dnsnames_compare(left: &[u8], right: &[u8], answer: &mut i32) 
 #[unsafe(no_mangle)]
 pub extern "C" fn dnsnames_ends_with(name: &[u8], suffix: &[u8], ends: &mut u32) -> u32
     ensures named { (result ≡ 0) ↔ (IsAbsoluteWire name.now × IsAbsoluteWire suffix.now) }
-    ensures ends { result ≡ 0 →
-        (ends.new ≡ 1) ↔ EndsWith (labels_in name.now) (labels_in suffix.now) }
+    ensures ends { result ≡ 0 → (ends.new ≡ 1) ↔ EndsInName name.now suffix.now }
     ensures bit { result ≡ 0 → ends.new ≤ 1 }
     ensures err { result ≢ 0 → (result ≡ 9) × (ends.new ≡ ends.old) }
 {
@@ -79,8 +72,7 @@ pub extern "C" fn dnsnames_ends_with(name: &[u8], suffix: &[u8], ends: &mut u32)
 /// The canonical form of a name, A to Z as a to z (RFC 4034, 6.2). `None` where the octets are no name.
 fn canonical_form(octets: &[u8]) -> Option<ArrayVec<u8, 255>>
     ensures named { IsSome result ↔ IsAbsoluteWire octets.now }
-    ensures some { IfSome result
-        (λ form. form.items ≡ wire (lowercase_labels (labels_in octets.now))) }
+    ensures some { IfSome result (λ form. form.items ≡ canonical_wire octets.now) }
 {
     let Ok(name) = Name::from_slice(octets) else {
         return None;
@@ -97,8 +89,7 @@ fn canonical_form(octets: &[u8]) -> Option<ArrayVec<u8, 255>>
 #[unsafe(no_mangle)]
 pub extern "C" fn dnsnames_hash(key: &[u8; 16], name: &[u8], hash: &mut u64) -> u32
     ensures named { (result ≡ 0) ↔ IsAbsoluteWire name.now }
-    ensures hash { result ≡ 0 →
-        hash.new ≡ siphash key.now (wire (lowercase_labels (labels_in name.now))) }
+    ensures hash { result ≡ 0 → hash.new ≡ siphash key.now (canonical_wire name.now) }
     ensures err { result ≢ 0 → (result ≡ 9) × (hash.new ≡ hash.old) }
 {
     let Some(form) = canonical_form(name) else {
@@ -112,8 +103,7 @@ pub extern "C" fn dnsnames_hash(key: &[u8; 16], name: &[u8], hash: &mut u64) -> 
 /// where it doesn't fit, 9 where it is no name.
 #[unsafe(no_mangle)]
 pub extern "C" fn dnsnames_lower(name: &[u8], buffer: &mut [u8], length: &mut usize) -> u32
-    ensures { GivesOf name.now (wire (lowercase_labels (labels_in name.now))) result buffer.old
-        buffer.new length.old length.new }
+    ensures { GivesCanonicalForm name.now result buffer.old buffer.new length.old length.new }
 {
     let Some(form) = canonical_form(name) else {
         return 9;

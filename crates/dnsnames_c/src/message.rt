@@ -1,7 +1,8 @@
 //! The header of a message, its questions and its records (RFC 1035, 4.1).
-ghost use Rattle.std.specs.Prelude.{◌≡◌, ◌≢◌, ◌<◌, ◌≤◌, ◌⊎◌, length};
+ghost use Rattle.std.specs.Prelude.{◌≡◌, ◌≢◌};
 ghost use Rattle.domain_header.specs.Numbers.{number16};
-ghost use Rattle.dnsnames_c.specs.Messages.{GivesQuestionParts, GivesRecordParts};
+ghost use Rattle.dnsnames_c.specs.Answers.{Sets};
+ghost use Rattle.dnsnames_c.specs.Messages.{TellsHeader, GivesQuestionParts, GivesRecordParts};
 
 use crate::read::number_of;
 use domain_header::numbers::number_of_16_bits;
@@ -20,18 +21,13 @@ pub extern "C" fn dnsnames_header(
     authority: &mut u16,
     additional: &mut u16,
 ) -> u32
-    ensures status { ((result ≡ 0) × (12 ≤ length message.now))
-        ⊎ ((result ≡ 1) × (length message.now < 12)) }
-    ensures id { result ≡ 0 → id.new ≡ number16 message.now 0 }
-    ensures flags { result ≡ 0 → flags.new ≡ number16 message.now 2 }
-    ensures questions { result ≡ 0 → questions.new ≡ number16 message.now 4 }
-    ensures answers { result ≡ 0 → answers.new ≡ number16 message.now 6 }
-    ensures authority { result ≡ 0 → authority.new ≡ number16 message.now 8 }
-    ensures additional { result ≡ 0 → additional.new ≡ number16 message.now 10 }
-    ensures err { result ≢ 0 →
-        (id.new ≡ id.old) × (flags.new ≡ flags.old) × (questions.new ≡ questions.old)
-        × (answers.new ≡ answers.old) × (authority.new ≡ authority.old)
-        × (additional.new ≡ additional.old) }
+    ensures status { TellsHeader message.now result }
+    ensures id { Sets result (number16 message.now 0) id.old id.new }
+    ensures flags { Sets result (number16 message.now 2) flags.old flags.new }
+    ensures questions { Sets result (number16 message.now 4) questions.old questions.new }
+    ensures answers { Sets result (number16 message.now 6) answers.old answers.new }
+    ensures authority { Sets result (number16 message.now 8) authority.old authority.new }
+    ensures additional { Sets result (number16 message.now 10) additional.old additional.new }
 {
     if message.len() < 12 {
         return 1;
@@ -57,8 +53,10 @@ pub extern "C" fn dnsnames_question(
     class: &mut u16,
     end: &mut usize,
 ) -> u32
-    ensures { GivesQuestionParts message.now offset result rtype.old rtype.new class.old class.new
-        end.old end.new }
+    ensures parts { GivesQuestionParts message.now offset result rtype.new class.new end.new }
+    ensures rtype { result ≢ 0 → rtype.new ≡ rtype.old }
+    ensures class { result ≢ 0 → class.new ≡ class.old }
+    ensures end { result ≢ 0 → end.new ≡ end.old }
 {
     let after = match encoding_end(message, offset) {
         Ok(after) => after,
@@ -90,8 +88,14 @@ pub extern "C" fn dnsnames_record(
     data_len: &mut usize,
     end: &mut usize,
 ) -> u32
-    ensures { GivesRecordParts message.now offset result rtype.old rtype.new class.old class.new
-        ttl.old ttl.new data_at.old data_at.new data_len.old data_len.new end.old end.new }
+    ensures parts { GivesRecordParts message.now offset result rtype.new class.new ttl.new
+        data_at.new data_len.new end.new }
+    ensures rtype { result ≢ 0 → rtype.new ≡ rtype.old }
+    ensures class { result ≢ 0 → class.new ≡ class.old }
+    ensures ttl { result ≢ 0 → ttl.new ≡ ttl.old }
+    ensures data_at { result ≢ 0 → data_at.new ≡ data_at.old }
+    ensures data_len { result ≢ 0 → data_len.new ≡ data_len.old }
+    ensures end { result ≢ 0 → end.new ≡ end.old }
 {
     let after = match encoding_end(message, offset) {
         Ok(after) => after,

@@ -2,9 +2,9 @@
 ghost use Rattle.std.specs.Prelude.{◌≡◌, ◌≤◌, length, codes};
 ghost use Rattle.domain_header.specs.Mnemonics.{rows_of};
 ghost use Rattle.domain_header.specs.Rtypes.{rtype_rows, rtype_text};
-ghost use Rattle.domain_header.specs.Tables.{class_rows, class_text, opcode_rows, opcode_text, text_of};
+ghost use Rattle.domain_header.specs.Tables.{class_rows, class_text, opcode_rows, opcode_text};
 ghost use Rattle.dnsnames_c.specs.Answers.{Gives};
-ghost use Rattle.dnsnames_c.specs.Mnemonics.{response_rows, response_text, GivesNumber};
+ghost use Rattle.dnsnames_c.specs.Mnemonics.{response_rows, response_text, GivesTextOf, GivesNumber};
 
 use crate::put::give;
 use arrayvec::ArrayVec;
@@ -152,8 +152,7 @@ fn responses() -> &'static [Mnemonic]
 /// Gives the text of a number: its mnemonic in the table, or the word and the number in decimal digits.
 fn give_text(table: &[Mnemonic], word: &str, number: u16, buffer: &mut [u8], len: &mut usize) -> u32
     requires { length word.now ≤ 6 }
-    ensures { Gives (text_of (rows_of table.now) word.now number) result buffer.old buffer.new
-        len.new }
+    ensures { GivesTextOf (rows_of table.now) word.now number result buffer.old buffer.new len.new }
 {
     if let Some(mnemonic) = mnemonic_word(table, number) {
         return give(mnemonic.as_bytes(), buffer, len);

@@ -1,5 +1,8 @@
 //! OPT records (RFC 6891, 6.1).
-ghost use Rattle.dnsnames_c.specs.Opts.{GivesOptParts, GivesDataOption};
+ghost use Rattle.std.specs.Prelude.{◌≡◌, ◌≢◌};
+ghost use Rattle.domain_edns.specs.OptRecords.{taken_size, edns_version, dnssec_ok_bit};
+ghost use Rattle.dnsnames_c.specs.Answers.{Sets};
+ghost use Rattle.dnsnames_c.specs.Opts.{TellsOptType, extended_code, GivesDataOption};
 
 use crate::data::number_of_data;
 use domain_offsets::option_in;
@@ -19,8 +22,11 @@ pub extern "C" fn dnsnames_opt(
     version: &mut u8,
     dnssec_ok: &mut u32,
 ) -> u32
-    ensures { GivesOptParts rtype class ttl flags result size.old size.new rcode.old rcode.new
-        version.old version.new dnssec_ok.old dnssec_ok.new }
+    ensures status { TellsOptType rtype result }
+    ensures size { Sets result (taken_size class) size.old size.new }
+    ensures rcode { Sets result (extended_code ttl flags) rcode.old rcode.new }
+    ensures version { Sets result (edns_version ttl) version.old version.new }
+    ensures dnssec_ok { Sets result (dnssec_ok_bit ttl) dnssec_ok.old dnssec_ok.new }
 {
     if rtype != 41 {
         return 21;
@@ -49,8 +55,11 @@ pub extern "C" fn dnsnames_data_option(
     option: &mut usize,
     option_len: &mut usize,
 ) -> u32
-    ensures { GivesDataOption message.now data_at data_len rtype result passed.old passed.new
-        code.old code.new option.old option.new option_len.old option_len.new }
+    ensures given { GivesDataOption message.now data_at data_len rtype result passed.old passed.new
+        code.new option.new option_len.new }
+    ensures code { result ≢ 0 → code.new ≡ code.old }
+    ensures option { result ≢ 0 → option.new ≡ option.old }
+    ensures option_len { result ≢ 0 → option_len.new ≡ option_len.old }
 {
     match option_in(message, data_at, data_len, rtype, *passed) {
         Ok(Some(found)) => {

@@ -1,9 +1,8 @@
 //! Names in messages.
-ghost use Rattle.std.specs.Prelude.{◌≡◌, ◌≤◌, ◌↔◌, ℕ, List, length, take, IfOk, IfErr, false};
-ghost use Rattle.domain_label.specs.Wire.{wire};
-ghost use Rattle.domain_reading.specs.Grammar.{Names, EncodingEnds, IsContiguous};
+ghost use Rattle.std.specs.Prelude.{◌≡◌, ◌≤◌, IfOk, IfErr};
 ghost use Rattle.domain_reading.specs.Faults.{NameFaultAt};
 ghost use Rattle.dnsnames_c.specs.Answers.{ReadsName, ReturnsEnd};
+ghost use Rattle.dnsnames_c.specs.Reading.{ReadsInto, TellsCompressed};
 ghost use Rattle.dnsnames_c.specs.Status.{fault_number, bit_number};
 
 use crate::put::give;
@@ -47,11 +46,8 @@ pub(crate) fn read_into(
     limit: u8,
     octets: &mut [u8; 255],
 ) -> Result<Found, NameFault>
-    ensures name { IfOk result
-        (λ found. (ls : List (List ℕ)) × Names limit message.now offset ls
-        × EncodingEnds message.now offset found.end × (take found.len octets.new ≡ wire ls)) }
-    ensures compressed { IfOk result
-        (λ found. (found.compressed ≡ false) ↔ IsContiguous message.now offset) }
+    ensures name { IfOk result (λ found. ReadsInto limit message.now offset found octets.new) }
+    ensures compressed { IfOk result (TellsCompressed message.now offset) }
     ensures fits { IfOk result (λ found. found.len ≤ 255) }
     ensures fault { IfErr result (λ fault. NameFaultAt limit message.now offset fault) }
 {

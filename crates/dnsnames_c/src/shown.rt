@@ -1,7 +1,7 @@
 //! Messages and records as text, as `dig` shows them.
-ghost use Rattle.std.specs.Prelude.{◌≡◌, ℕ, Option};
+ghost use Rattle.std.specs.Prelude.{◌≡◌};
 ghost use Rattle.domain_wire.specs.declared.error.ParseError.{ParseError};
-ghost use Rattle.dnsnames_c.specs.Shown.{error_number, end_number, text_number, GivesMessageText, GivesRecordText};
+ghost use Rattle.dnsnames_c.specs.Shown.{error_number, text_number, GivesMessageText, GivesLine};
 
 use domain_lines::{PutText, put_message, put_record};
 use domain_wire::ParseError;
@@ -65,8 +65,7 @@ pub extern "C" fn dnsnames_record_text(
     buffer: &mut [u8],
     length: &mut usize,
 ) -> u32
-    ensures { GivesRecordText message.now offset result buffer.old buffer.new length.old
-        length.new }
+    ensures { GivesLine message.now offset result buffer.old buffer.new length.old length.new }
 {
     let capacity = buffer.len();
     let Some(put) = put_record(message, offset, buffer) else {

@@ -2,7 +2,7 @@
 ghost use Rattle.std.specs.Prelude.{◌≡◌, ◌≤◌, ◌<◌, ◌+◌, ◌*◌, ◌^◌, ◌↔◌, length, IsTrue, IfOk, IfErr, OnErr};
 ghost use Rattle.domain_header.specs.Numbers.{number16};
 ghost use Rattle.domain_buffer.specs.Puts.{PutsAt};
-ghost use Rattle.dnsnames_c.specs.Tables.{row, Takes, NotTaken, Holds, Stops, Tables};
+ghost use Rattle.dnsnames_c.specs.Tables.{row, Adds, NotTakenAfter, HoldsAll, StopsAfter, Tables};
 
 use crate::read::{number_of, read_into};
 use domain_buffer::put::place;
@@ -69,11 +69,9 @@ fn take_entry(
     requires short { taken.names ≤ 255 * taken.count }
     requires rows { 8 * taken.count ≤ length rows.old }
     requires names { taken.names ≤ length names.old }
-    ensures ok { IfOk result
-        (Takes limit message.now taken rows.old rows.new names.old names.new) }
+    ensures ok { IfOk result (Adds limit message.now taken rows.old rows.new names.old names.new) }
     ensures short { IfOk result (λ next. next.names ≤ taken.names + 255) }
-    ensures err { IfErr result (NotTaken limit message.now taken.count taken.offset
-        (length rows.old) taken.names (length names.old)) }
+    ensures err { IfErr result (NotTakenAfter limit message.now taken rows.old names.old) }
     ensures unchanged { OnErr result ((rows.new ≡ rows.old) × (names.new ≡ names.old)) }
 {
     let mut octets = [0; 255];
@@ -101,10 +99,8 @@ fn take_entry(
 fn fill(message: &[u8], limit: u8, rows: &mut [u32], names: &mut [u8]) -> Filled
     requires header { 12 ≤ length message.now }
     requires small { length message.now < 2 ^ 32 }
-    ensures holds { Holds limit message.now result.taken.count result.taken.offset
-        result.taken.names rows.old rows.new names.old names.new }
-    ensures stops { Stops limit message.now result.taken.count result.taken.offset
-        (length rows.old) result.taken.names (length names.old) result.status }
+    ensures holds { HoldsAll limit message.now result.taken rows.old rows.new names.old names.new }
+    ensures stops { StopsAfter limit message.now rows.old names.old result }
 {
     let questions = usize::from(number_of_16_bits(message, 4));
     let answers = usize::from(number_of_16_bits(message, 6));

@@ -1,13 +1,10 @@
 //! Names as text.
-ghost use Rattle.std.specs.Prelude.{◌≡◌, IfOk, IfErr, ℕ, List};
+ghost use Rattle.std.specs.Prelude.{◌≡◌, IfOk, IfErr};
 ghost use Rattle.std.specs.Str.{chars};
 ghost use Rattle.domain_builder.specs.TextErrors.{label_fault, presentation_fault};
-ghost use Rattle.domain_builder.specs.declared.name_symbol.TextFault.{TextFault};
-ghost use Rattle.domain_builder.specs.TextGrammar.{IsTextOfName, IsTextOfNoName};
-ghost use Rattle.domain_label.specs.Text.{text_with_final_dot, displayed};
-ghost use Rattle.domain_label.specs.Wire.{labels_in, IsAbsolute};
+ghost use Rattle.domain_builder.specs.TextGrammar.{IsTextOfName};
 ghost use Rattle.domain_name.specs.Names.{name_labels};
-ghost use Rattle.dnsnames_c.specs.Answers.{ReadsText, GivesOf, name_text};
+ghost use Rattle.dnsnames_c.specs.Answers.{HasFaultNumber, ReadsText, GivesNameText, DropsFinalDot};
 ghost use Rattle.dnsnames_c.specs.Status.{text_number};
 
 use crate::put::give;
@@ -46,8 +43,7 @@ fn number_of(kind: PresentationErrorKind) -> u32
 /// The name that a text spells, or the number of its fault.
 fn name_of(text: &str) -> Result<Name<ArrayVec<u8, 255>>, u32>
     ensures name { IfOk result (λ name. IsTextOfName (chars text.now) (name_labels name)) }
-    ensures fault { IfErr result
-        (λ number. (f : TextFault) × IsTextOfNoName (chars text.now) f × (number ≡ text_number f)) }
+    ensures fault { IfErr result (λ number. HasFaultNumber (chars text.now) number) }
 {
     match text.parse::<Name<ArrayVec<u8, 255>>>() {
         Ok(name) => Ok(name),
@@ -77,8 +73,7 @@ pub extern "C" fn dnsnames_from_text(text: &[u8], buffer: &mut [u8], length: &mu
 
 /// The text of an absolute name without its final dot, which the root keeps.
 fn without_final_dot<'a>(text: &'a [u8]) -> &'a [u8]
-    ensures { (ls : List (List ℕ)) → IsAbsolute ls → text.now ≡ text_with_final_dot ls →
-        result.now ≡ displayed ls }
+    ensures { DropsFinalDot text.now result.now }
 {
     if text.len() > 1 {
         &text[..text.len() - 1]
@@ -97,8 +92,7 @@ pub extern "C" fn dnsnames_to_text(
     buffer: &mut [u8],
     length: &mut usize,
 ) -> u32
-    ensures { GivesOf name.now (name_text final_dot (labels_in name.now)) result buffer.old
-        buffer.new length.old length.new }
+    ensures { GivesNameText name.now final_dot result buffer.old buffer.new length.old length.new }
 {
     let Ok(name) = Name::from_slice(name) else {
         return 9;
