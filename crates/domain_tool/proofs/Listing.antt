@@ -2,11 +2,7 @@
 use Rattle.std.proofs.Common.{◌≡◌, ℕ, zero, suc, ◌+◌, ◌-◌, ◌<◌, ◌≤◌, List, length, [], ◌∷◌, ◌++◌, Option, Some, None, refl, sym, ap, subst, ◌∙◌, arith, replicate}
 use Rattle.std.proofs.lemmas.List.{append_assoc, append-nil}
 use Rattle.std.proofs.lemmas.Grind.{replicate_next}
-use Rattle.std.specs.Io.KnownBytes.{Appends, Keeps}
-use Rattle.std.specs.Prelude.{Err}
-use Rattle.domain_tool.specs.Engines.{IfRefused}
-use Rattle.domain_tool.specs.declared.tool.ToolError.{ToolError}
-use Rattle.domain_tool.specs.declared.tool.ToolError.TheVariants.{Parse, Text, Read, Write, Memory}
+use Rattle.std.specs.Io.KnownBytes.{Appends}
 use Rattle.domain_wire.specs.declared.error.ParseError.{ParseError}
 use Rattle.domain_tool.specs.declared.entry_kind.EntryKind.{EntryKind}
 use Rattle.domain_tool.specs.Lines.{Lists, NoEntry, StopsListing, counted_entries}
@@ -79,24 +75,7 @@ stops m done after s n p old mid new why all before up header =
       part.2,
     )
 
--- what was written stays where nothing more is
-pub writes_kept : (m : List ℕ) (ss : List EntryKind) (p e : ℕ) (old mid new : Option (List ℕ)) → WritesEntries m ss p e old mid → Keeps mid new → WritesEntries m ss p e old new
-writes_kept m ss p e None mid new (text, listed, written) kept = (text, listed, tt)
-writes_kept m ss p e (Some x) None new (text, listed, written) kept = absurd written
-writes_kept m ss p e (Some x) (Some y) None (text, listed, written) kept = absurd kept
-writes_kept m ss p e (Some x) (Some y) (Some z) (text, listed, written) kept = (text, listed, kept ∙ written)
-
 -- an entry that isn't there, after so many that were written
-pub writes_up_to : (m seen : List ℕ) (s : EntryKind) (b n p q : ℕ) (old mid new : Option (List ℕ)) (e : ToolError) → WritesEntries m (replicate b s) p q old mid → b < n → seen ≡ m
-    → IfRefused (Err e) (λ why. NoEntry seen s q why) → IfRefused (Err e) (λ _. Keeps mid new) → IfRefused (Err e) (λ why. WritesUpTo m s n p old new why)
-writes_up_to m seen s b n p q old mid new (Parse why) written few same missing kept = record {
-  before = b;
-  few = few;
-  offset = q;
-  written = writes_kept m (replicate b s) p q old mid new written kept;
-  missing = subst (λ o. NoEntry o s q why) same missing;
-}
-writes_up_to m seen s b n p q old mid new (Text e) written few same missing kept = absurd missing
-writes_up_to m seen s b n p q old mid new Read written few same missing kept = tt
-writes_up_to m seen s b n p q old mid new Write written few same missing kept = tt
-writes_up_to m seen s b n p q old mid new Memory written few same missing kept = tt
+pub writes_up_to : (m seen : List ℕ) (s : EntryKind) (b n p q : ℕ) (old new : Option (List ℕ)) (why : ParseError) → WritesEntries m (replicate b s) p q old new → b < n → seen ≡ m → NoEntry seen s q why → WritesUpTo m s n p old new why
+writes_up_to m seen s b n p q old new why written few same missing =
+    record { before = b; few = few; offset = q; written = written; missing = subst (λ o. NoEntry o s q why) same missing }

@@ -1,17 +1,20 @@
 -- What contracts see of an entry that was read: the line that it is shown as.
 use Rattle.std.specs.Prelude.{◌≡◌, ◌+◌, ◌≤◌, ℕ, List, length, ◌++◌, ◌∷◌}
 use Rattle.std.specs.Fmt.{decimal}
+use Rattle.octseq.specs.Parsing.{message, position}
+use Rattle.octseq.specs.declared.parse.Parser.{Parser}
 use Rattle.domain_label.specs.Text.{text_with_final_dot}
 use Rattle.domain_parsed.specs.ParsedNames.{parsed_labels}
 use Rattle.domain_rdata.specs.AnyData.{unknown_text}
 use Rattle.domain_rdata.specs.Rtypes.{rtype_number}
 use Rattle.domain_rdata.specs.Unknown.{data_octets}
-use Rattle.domain_tool.specs.Lines.{NameTo, number_in_16_bits, number_in_32_bits, kind_word}
+use Rattle.domain_tool.specs.Lines.{NameTo, number_in_16_bits, number_in_32_bits, kind_word, IsQuestion, IsRecord, IsLineOf}
 use Rattle.domain_tool.specs.declared.entry.Question.{Question}
 use Rattle.domain_tool.specs.declared.entry.RecordHeader.{RecordHeader}
 use Rattle.domain_tool.specs.declared.entry.Record.{Record}
 use Rattle.domain_tool.specs.declared.entry.Entry.{Entry}
 use Rattle.domain_tool.specs.declared.entry.Entry.TheVariants.{Question as AsQuestion, Record as AsRecord}
+use Rattle.domain_tool.specs.declared.entry_kind.EntryKind.{EntryKind}
 use Rattle.domain_tool.specs.declared.entry_kind.EntryKind.TheVariants.{Question as Questions}
 
 -- the line of a question without its first word: name, type and class (RFC 1035, 4.1.2)
@@ -38,3 +41,21 @@ record_line it = 32 ∷ text_with_final_dot (parsed_labels it.head.name) ++ 32 �
 abbrev pub entry_line : Entry → List ℕ
 entry_line (AsQuestion it) = kind_word Questions ++ question_line it
 entry_line (AsRecord kind it) = kind_word kind ++ record_line it
+
+-- The question that was read is where the parser was, and ends where it is then.
+abbrev pub ReadsQuestion : Parser → Parser → Question → Type 0
+ReadsQuestion old new it =
+    IsQuestion (message old) (position old) (question_line it) (position new)
+
+-- So does what is before the data of a record.
+abbrev pub ReadsRecordHeader : Parser → Parser → RecordHeader → Type 0
+ReadsRecordHeader old new it = IsRecordHeader (message old) (position old) it (position new)
+
+-- So does a record.
+abbrev pub ReadsRecord : Parser → Parser → Record → Type 0
+ReadsRecord old new it = IsRecord (message old) (position old) (record_line it) (position new)
+
+-- So does an entry of this kind.
+abbrev pub ReadsEntry : EntryKind → Parser → Parser → Entry → Type 0
+ReadsEntry kind old new it =
+    IsLineOf (message old) kind (position old) (entry_line it) (position new)

@@ -1,7 +1,9 @@
+pub mod Outputs
 pub mod Engines
 pub mod Lines
 pub mod NameFaults
 pub mod Entries
+pub mod Here
 pub mod Written
 pub mod Counted
 pub mod WireText

@@ -1,6 +1,11 @@
--- Words that ask for the name at an offset.
-use Rattle.std.specs.Prelude.{◌≡◌, ℕ, List, [], ◌∷◌, codes}
+-- The words after a program's name, and those that ask for the name at an offset.
+use Rattle.std.specs.Prelude.{◌≡◌, ℕ, List, [], ◌∷◌, codes, map}
+use denote.Bor.{Bor}
 use Rattle.domain_tool.specs.Numerals.{IsOffsetWord, IsLimitWord}
+
+-- the texts of the words
+abbrev pub texts : List (Bor (List ℕ)) → List (List ℕ)
+texts words = map (λ word. word.now) words
 
 -- The words are `at` and an offset, for a name through at most 255 pointers.
 pub record AsksAt (words : List (List ℕ)) (offset pointers : ℕ) : Type 0 where
@@ -16,3 +21,7 @@ pub record AsksWithin (words : List (List ℕ)) (offset pointers : ℕ) : Type 0
   pub four : words ≡ codes "at" ∷ word ∷ codes "--pointers" ∷ limit ∷ []
   pub tells : IsOffsetWord word offset
   pub limits : IsLimitWord limit pointers
+
+-- They aren't.
+abbrev pub LimitsNoPointers : List (List ℕ) → Type 0
+LimitsNoPointers words = (offset : ℕ) → (pointers : ℕ) → AsksWithin words offset pointers → ⊥

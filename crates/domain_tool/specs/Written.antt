@@ -1,9 +1,15 @@
--- What was written of a message's lines.
-use Rattle.std.specs.Prelude.{ℕ, ◌<◌, List, [], ◌∷◌, ◌++◌, replicate, Option}
+-- What was written of a message's lines: `contents` tells what an output holds, where that is known.
+use Rattle.std.specs.Prelude.{ℕ, ◌<◌, List, [], ◌∷◌, ◌++◌, replicate, Option, IfSome}
+use Rattle.std.specs.Global.{Vec}
 use Rattle.std.specs.Io.KnownBytes.{Appends}
+use Rattle.octseq.specs.Parsing.{message, position}
+use Rattle.octseq.specs.declared.parse.Parser.{Parser}
 use Rattle.domain_wire.specs.declared.error.ParseError.{ParseError}
 use Rattle.domain_tool.specs.declared.entry_kind.EntryKind.{EntryKind}
-use Rattle.domain_tool.specs.Lines.{IsLineOf, Lists, NoEntry}
+use Rattle.domain_tool.specs.Lines.{IsLineOf, Lists, NoEntry, IsListing, StopsListing}
+use Rattle.std.specs.declared.io.traits.Read.{Ghosts as ReadMembers}
+use Rattle.std.specs.declared.io.traits.Write.{Ghosts as WriteMembers}
+use Rattle.domain_tool.specs.Outputs.{with_lines}
 
 -- The entry of this kind that is at p and ends before e was written as its line.
 abbrev pub WritesEntry : List ℕ → EntryKind → ℕ → ℕ → Option (List ℕ) → Option (List ℕ) → Type 0
@@ -20,3 +26,40 @@ pub record WritesUpTo (m : List ℕ) (s : EntryKind) (n p : ℕ) (old new : Opti
   pub offset : ℕ
   pub written : WritesEntries m (replicate before s) p offset old new
   pub missing : NoEntry m s offset why
+
+-- The lines of so many entries of a kind, from where the parser was to where it is then, were put behind those that aren't written
+-- yet, or written after these.
+abbrev pub BuffersEntries : {W : Type 0} → EntryKind → ℕ → Parser → Parser → (W → Option (List ℕ)) → W → Vec ℕ → W → Vec ℕ → Type 0
+BuffersEntries kind count at after contents old old_lines new new_lines =
+    WritesEntries (message at) (replicate count kind) (position at) (position after)
+    (with_lines contents old old_lines) (with_lines contents new new_lines)
+
+-- So were those of the first of so many entries of a kind, and then one isn't there.
+abbrev pub BuffersUpTo : {W : Type 0} → EntryKind → ℕ → Parser → (W → Option (List ℕ)) → W → Vec ℕ → W → Vec ℕ → ParseError → Type 0
+BuffersUpTo kind count at contents old old_lines new new_lines why =
+    WritesUpTo (message at) kind count (position at) (with_lines contents old old_lines)
+    (with_lines contents new new_lines) why
+
+-- So were those of the message.
+abbrev pub BuffersListing : {W : Type 0} → List ℕ → (W → Option (List ℕ)) → W → Vec ℕ → W → Vec ℕ → Type 0
+BuffersListing m contents old old_lines new new_lines =
+    (text : List ℕ) × IsListing m text
+    × Appends (with_lines contents old old_lines) (with_lines contents new new_lines) text
+
+-- So were those before what isn't there of the message.
+abbrev pub BuffersPart : {W : Type 0} → List ℕ → (W → Option (List ℕ)) → W → Vec ℕ → W → Vec ℕ → ParseError → Type 0
+BuffersPart m contents old old_lines new new_lines why =
+    (text : List ℕ) × StopsListing m text why
+    × Appends (with_lines contents old old_lines) (with_lines contents new new_lines) text
+
+-- The lines of the message that there is to read were written, and nothing else. `r` is `R.Read`, and `g` is `W.Write`.
+abbrev pub ListsGiven : {R W : Type 0} → ReadMembers R → R → WriteMembers W → W → W → Type 0
+ListsGiven r input g old new =
+    IfSome (r.remaining input)
+    (λ m. (text : List ℕ) × IsListing m text × Appends (g.contents old) (g.contents new) text)
+
+-- The same of those before what isn't there of it.
+abbrev pub ListsPart : {R W : Type 0} → ReadMembers R → R → WriteMembers W → W → W → ParseError → Type 0
+ListsPart r input g old new why =
+    IfSome (r.remaining input)
+    (λ m. (text : List ℕ) × StopsListing m text why × Appends (g.contents old) (g.contents new) text)

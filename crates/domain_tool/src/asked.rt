@@ -1,6 +1,6 @@
 //! What the words after the program's name ask for.
-ghost use Rattle.std.specs.Prelude.{◌≡◌, ℕ, map, slice_index, ◌↔◌, IsTrue, IsNone, IfSome};
-ghost use Rattle.domain_tool.specs.WordParts.{AsksWithin};
+ghost use Rattle.std.specs.Prelude.{◌≡◌, ℕ, slice_index, ◌↔◌, IsTrue, IsNone, IfSome};
+ghost use Rattle.domain_tool.specs.WordParts.{texts, AsksWithin, LimitsNoPointers};
 ghost use Rattle.domain_tool.specs.Numerals.{IsOffsetWord, IsLimitWord};
 
 /// What words ask for.
@@ -20,8 +20,8 @@ impl<'a> Asked<'a> {
 
     /// What the words ask for, if it is one of these.
     pub(crate) fn by(words: &[&'a str]) -> Option<Asked<'a>>
-        ensures some { IfSome result (λ asked. Asks (map (λ word. word.now) words.now) asked) }
-        ensures none { IsNone result → AsksSomething (map (λ word. word.now) words.now) → ⊥ }
+        ensures some { IfSome result (λ asked. Asks (texts words.now) asked) }
+        ensures none { IsNone result → AsksSomething (texts words.now) → ⊥ }
     {
         match limited(words) {
             Some((offset, pointers)) => Some(Asked::At(offset, pointers)),
@@ -31,10 +31,8 @@ impl<'a> Asked<'a> {
 
     /// The same of words that limit no pointers.
     fn plainly(words: &[&'a str]) -> Option<Asked<'a>>
-        ensures some { IfSome result
-            (λ asked. AsksPlainly (map (λ word. word.now) words.now) asked) }
-        ensures none { IsNone result → (asked : Asked) →
-            AsksPlainly (map (λ word. word.now) words.now) asked → ⊥ }
+        ensures some { IfSome result (λ asked. AsksPlainly (texts words.now) asked) }
+        ensures none { IsNone result → (asked : Asked) → AsksPlainly (texts words.now) asked → ⊥ }
     {
         match words {
             ["at", word] => match offset_of_word(word) {
@@ -51,10 +49,8 @@ impl<'a> Asked<'a> {
 /// The offset of the name that words ask for, and how many pointers it may have at most, where they say
 /// both.
 fn limited(words: &[&str]) -> Option<(u32, u8)>
-    ensures some { IfSome result
-        (λ asked. AsksWithin (map (λ word. word.now) words.now) asked.0 asked.1) }
-    ensures none { IsNone result → (offset : ℕ) → (pointers : ℕ) →
-        AsksWithin (map (λ word. word.now) words.now) offset pointers → ⊥ }
+    ensures some { IfSome result (λ asked. AsksWithin (texts words.now) asked.0 asked.1) }
+    ensures none { IsNone result → LimitsNoPointers (texts words.now) }
 {
     match words {
         ["at", word, "--pointers", limit] => match offset_of_word(word) {

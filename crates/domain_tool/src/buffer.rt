@@ -1,6 +1,6 @@
 //! Lines that are put together and written many at once.
-ghost use Rattle.std.specs.Prelude.{◌≡◌, ◌∷◌, ◌++◌, [], OnOk, IfSome};
-ghost use Rattle.std.specs.Io.KnownBytes.{Appends, append_known};
+ghost use Rattle.std.specs.Prelude.{◌≡◌, [], OnOk};
+ghost use Rattle.domain_tool.specs.Outputs.{BuffersLine, AppendsLines};
 
 use crate::tool::WriteFault;
 use std::fmt::Display;
@@ -16,9 +16,7 @@ pub(crate) fn put_line<D: Display + Drop, W: Write>(
     text: D,
 ) -> Result<(), WriteFault>
     ensures { OnOk result
-        (IfSome (D.output text)
-        (λ shown. Appends (append_known (W.contents output.old) lines.old.items)
-        (append_known (W.contents output.new) lines.new.items) (shown ++ 10 ∷ []))) }
+        (BuffersLine W.contents (D.output text) output.old lines.old output.new lines.new) }
 {
     if writeln!(lines, "{text}").is_err() {
         return Err(WriteFault::Memory);
@@ -32,8 +30,7 @@ pub(crate) fn put_line<D: Display + Drop, W: Write>(
 /// Writes the lines that aren't written yet, and leaves none of them.
 pub(crate) fn write_lines<W: Write>(lines: &mut Vec<u8>, output: &mut W) -> Result<(), WriteFault>
     ensures none_left { OnOk result (lines.new.items ≡ []) }
-    ensures written { OnOk result
-        (Appends (W.contents output.old) (W.contents output.new) lines.old.items) }
+    ensures written { OnOk result (AppendsLines W.contents output.old lines.old output.new) }
 {
     output.write_all(lines.as_slice())?;
     lines.clear();

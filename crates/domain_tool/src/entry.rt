@@ -1,6 +1,6 @@
 //! Entries of a message (RFC 1035, 4.1).
 ghost use Rattle.std.specs.Prelude.{Some, IfOk, IfErr, OnOk};
-ghost use Rattle.octseq.specs.Parsing.{message, position, MovesTo};
+ghost use Rattle.octseq.specs.Parsing.{position, MovesTo};
 
 use crate::entry_kind::EntryKind;
 use domain_list::dotted::DisplayWithDot;
@@ -19,17 +19,14 @@ pub(crate) struct Question<'a> {
 }
 
 impl<'a> Question<'a> {
-    ghost use Rattle.domain_tool.specs.Entries.{question_line};
-    ghost use Rattle.domain_tool.specs.Lines.{IsQuestion, NoQuestionLine};
+    ghost use Rattle.domain_tool.specs.Entries.{ReadsQuestion};
+    ghost use Rattle.domain_tool.specs.Here.{NoQuestionHere};
 
     /// Reads a question, and moves the parser past it.
     pub(crate) fn parse(parser: &mut Parser<'a>) -> Result<Question<'a>, ParseError>
-        ensures ok { IfOk result
-            (λ it. IsQuestion (message parser.old) (position parser.old) (question_line it)
-            (position parser.new)) }
+        ensures ok { IfOk result (λ it. ReadsQuestion parser.old parser.new it) }
         ensures moves { OnOk result (MovesTo parser.old parser.new (position parser.new)) }
-        ensures err { IfErr result
-            (λ e. NoQuestionLine (message parser.old) (position parser.old) e) }
+        ensures err { IfErr result (λ e. NoQuestionHere parser.old e) }
     {
         let name = match ParsedName::parse(parser) {
             Ok(name) => name,
@@ -76,17 +73,14 @@ struct RecordHeader<'a> {
 }
 
 impl<'a> RecordHeader<'a> {
-    ghost use Rattle.domain_tool.specs.Entries.{IsRecordHeader};
-    ghost use Rattle.domain_tool.specs.Lines.{NoRecordLine};
+    ghost use Rattle.domain_tool.specs.Entries.{ReadsRecordHeader};
+    ghost use Rattle.domain_tool.specs.Here.{NoRecordHere};
 
     /// Reads what comes before the data, and moves the parser to the data.
     fn parse(parser: &mut Parser<'a>) -> Result<RecordHeader<'a>, ParseError>
-        ensures ok { IfOk result
-            (λ it.
-            IsRecordHeader (message parser.old) (position parser.old) it (position parser.new)) }
+        ensures ok { IfOk result (λ it. ReadsRecordHeader parser.old parser.new it) }
         ensures moves { OnOk result (MovesTo parser.old parser.new (position parser.new)) }
-        ensures err { IfErr result
-            (λ e. NoRecordLine (message parser.old) (position parser.old) e) }
+        ensures err { IfErr result (λ e. NoRecordHere parser.old e) }
     {
         let name = match ParsedName::parse(parser) {
             Ok(name) => name,
@@ -126,17 +120,14 @@ pub(crate) struct Record<'a> {
 }
 
 impl<'a> Record<'a> {
-    ghost use Rattle.domain_tool.specs.Entries.{record_line};
-    ghost use Rattle.domain_tool.specs.Lines.{IsRecord, NoRecordLine};
+    ghost use Rattle.domain_tool.specs.Entries.{ReadsRecord};
+    ghost use Rattle.domain_tool.specs.Here.{NoRecordHere};
 
     /// Reads a record, and moves the parser past it.
     pub(crate) fn parse(parser: &mut Parser<'a>) -> Result<Record<'a>, ParseError>
-        ensures ok { IfOk result
-            (λ it. IsRecord (message parser.old) (position parser.old) (record_line it)
-            (position parser.new)) }
+        ensures ok { IfOk result (λ it. ReadsRecord parser.old parser.new it) }
         ensures moves { OnOk result (MovesTo parser.old parser.new (position parser.new)) }
-        ensures err { IfErr result
-            (λ e. NoRecordLine (message parser.old) (position parser.old) e) }
+        ensures err { IfErr result (λ e. NoRecordHere parser.old e) }
     {
         let head = match RecordHeader::parse(parser) {
             Ok(head) => head,
@@ -176,17 +167,14 @@ pub(crate) enum Entry<'a> {
 }
 
 impl<'a> Entry<'a> {
-    ghost use Rattle.domain_tool.specs.Entries.{entry_line};
-    ghost use Rattle.domain_tool.specs.Lines.{IsLineOf, NoEntry};
+    ghost use Rattle.domain_tool.specs.Entries.{ReadsEntry};
+    ghost use Rattle.domain_tool.specs.Here.{NoEntryHere};
 
     /// Reads an entry of this kind, and moves the parser past it.
     pub(crate) fn parse(kind: EntryKind, parser: &mut Parser<'a>) -> Result<Entry<'a>, ParseError>
-        ensures ok { IfOk result
-            (λ it. IsLineOf (message parser.old) kind (position parser.old) (entry_line it)
-            (position parser.new)) }
+        ensures ok { IfOk result (λ it. ReadsEntry kind parser.old parser.new it) }
         ensures moves { OnOk result (MovesTo parser.old parser.new (position parser.new)) }
-        ensures err { IfErr result
-            (λ e. NoEntry (message parser.old) kind (position parser.old) e) }
+        ensures err { IfErr result (λ e. NoEntryHere kind parser.old e) }
     {
         match kind {
             EntryKind::Question => match Question::parse(parser) {

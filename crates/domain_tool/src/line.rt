@@ -1,5 +1,6 @@
 //! Lines put together on the stack.
-ghost use Rattle.std.specs.Prelude.{◌≡◌, ◌++◌, ◌∷◌, [], IfSome};
+ghost use Rattle.std.specs.Prelude.{IfSome};
+ghost use Rattle.domain_tool.specs.Outputs.{IsTextLine};
 
 use arrayvec::ArrayVec;
 use std::fmt::Display;
@@ -11,8 +12,7 @@ const LINE_LEN: usize = 1024;
 
 /// A text and a newline, where they fit into a line.
 pub(crate) fn line_of<D: Display>(text: &D) -> Option<ArrayVec<u8, LINE_LEN>>
-    ensures { IfSome result
-        (λ line. IfSome (D.output text.now) (λ shown. line.items ≡ shown ++ 10 ∷ [])) }
+    ensures { IfSome result (λ line. IsTextLine (D.output text.now) line.items) }
 {
     let mut line = ArrayVec::new();
     match writeln!(line, "{text}") {

@@ -1,11 +1,10 @@
 //! The engine that lists what a message holds.
-ghost use Rattle.std.specs.Prelude.{◌≡◌, ◌<◌, ℕ, List, length, replicate, OnOk, OnErr, IfOk, IfErr, IfSome};
-ghost use Rattle.std.specs.Io.KnownBytes.{Appends, Keeps, IsAtEnd, append_known};
+ghost use Rattle.std.specs.Prelude.{◌≡◌, ◌<◌, length, OnOk, OnErr, IfOk, IfErr};
+ghost use Rattle.std.specs.Io.KnownBytes.{IsAtEnd};
 ghost use Rattle.octseq.specs.Parsing.{message, position, MovesTo};
 ghost use Rattle.domain_tool.specs.Counted.{IsCounted};
-ghost use Rattle.domain_tool.specs.Engines.{IfRefused, OnAnswer};
-ghost use Rattle.domain_tool.specs.Lines.{IsListing, NoEntry, StopsListing};
-ghost use Rattle.domain_tool.specs.Written.{WritesEntry, WritesEntries, WritesUpTo};
+ghost use Rattle.domain_tool.specs.Engines.{IfRefused, OnAnswer, StaysUnread};
+ghost use Rattle.domain_tool.specs.Written.{BuffersEntries, BuffersUpTo, BuffersListing, BuffersPart, ListsGiven, ListsPart};
 
 use crate::buffer::{put_line, write_lines};
 use crate::entry::Entry;
@@ -17,35 +16,8 @@ use octseq::{Parser, ShortInput};
 use std::alloc::Global;
 use std::io::{Read, Write};
 
-/// Writes the line of the entry at the parser's position after the lines that aren't written yet, and moves
-/// the parser after it.
-fn write_entry<W: Write>(
-    kind: EntryKind,
-    parser: &mut Parser<'_>,
-    lines: &mut Vec<u8>,
-    output: &mut W,
-) -> Result<(), ToolError>
-    ensures written { OnOk result
-        (WritesEntry (message parser.old) kind (position parser.old) (position parser.new)
-        (append_known (W.contents output.old) lines.old.items)
-        (append_known (W.contents output.new) lines.new.items)) }
-    ensures moves { OnOk result (MovesTo parser.old parser.new (position parser.new)) }
-    ensures refused { IfRefused result
-        (λ e. NoEntry (message parser.old) kind (position parser.old) e) }
-    ensures nothing_written { IfRefused result
-        (λ _. Keeps (append_known (W.contents output.old) lines.old.items)
-        (append_known (W.contents output.new) lines.new.items)) }
-    ensures err { IfErr result (λ e. (e ≡ ToolError.Read) → ⊥) }
-{
-    let entry = match Entry::parse(kind, parser) {
-        Ok(entry) => entry,
-        Err(e) => return Err(ToolError::Parse(e)),
-    };
-    put_line(lines, output, entry)?;
-    Ok(())
-}
-
-/// Writes the lines of this many entries of this kind, and moves the parser past them.
+/// Writes the lines of this many entries of this kind after the lines that aren't written yet, and moves the parser past
+/// the entries.
 fn write_entries<W: Write>(
     kind: EntryKind,
     count: u16,
@@ -54,20 +26,19 @@ fn write_entries<W: Write>(
     output: &mut W,
 ) -> Result<(), ToolError>
     ensures written { OnOk result
-        (WritesEntries (message parser.old) (replicate count kind) (position parser.old)
-        (position parser.new) (append_known (W.contents output.old) lines.old.items)
-        (append_known (W.contents output.new) lines.new.items)) }
+        (BuffersEntries kind count parser.old parser.new W.contents output.old lines.old
+        output.new lines.new) }
     ensures moves { OnOk result (MovesTo parser.old parser.new (position parser.new)) }
     ensures refused { IfRefused result
-        (λ e. WritesUpTo (message parser.old) kind count (position parser.old)
-        (append_known (W.contents output.old) lines.old.items)
-        (append_known (W.contents output.new) lines.new.items) e) }
+        (BuffersUpTo kind count parser.old W.contents output.old lines.old output.new lines.new) }
     ensures err { IfErr result (λ e. (e ≡ ToolError.Read) → ⊥) }
 {
     for _entry in 0..count {
-        if let Err(e) = write_entry(kind, parser, lines, output) {
-            return Err(e);
-        }
+        let entry = match Entry::parse(kind, parser) {
+            Ok(entry) => entry,
+            Err(e) => return Err(ToolError::Parse(e)),
+        };
+        put_line(lines, output, entry)?;
     }
     Ok(())
 }
@@ -91,13 +62,9 @@ fn list_message<W: Write>(
     output: &mut W,
 ) -> Result<(), ToolError>
     ensures written { OnOk result
-        ((text : List ℕ) × IsListing message.now text
-        × Appends (append_known (W.contents output.old) lines.old.items)
-        (append_known (W.contents output.new) lines.new.items) text) }
+        (BuffersListing message.now W.contents output.old lines.old output.new lines.new) }
     ensures refused { IfRefused result
-        (λ e. (text : List ℕ) × StopsListing message.now text e
-        × Appends (append_known (W.contents output.old) lines.old.items)
-        (append_known (W.contents output.new) lines.new.items) text) }
+        (BuffersPart message.now W.contents output.old lines.old output.new lines.new) }
     ensures err { IfErr result (λ e. (e ≡ ToolError.Read) → ⊥) }
 {
     let mut parser = Parser::from_ref(message);
@@ -141,16 +108,9 @@ pub fn list<R: Read, W: Write>(
     output: &mut W,
 ) -> Result<(), ToolError>
     ensures whole { OnAnswer result (IsAtEnd (R.remaining input.new)) }
-    ensures written { OnOk result
-        (IfSome (R.remaining input.old)
-        (λ m. (text : List ℕ) × IsListing m text
-        × Appends (W.contents output.old) (W.contents output.new) text)) }
-    ensures refused { IfRefused result
-        (λ e. IfSome (R.remaining input.old)
-        (λ m. (text : List ℕ) × StopsListing m text e
-        × Appends (W.contents output.old) (W.contents output.new) text)) }
-    ensures nothing_written { IfErr result
-        (λ e. (e ≡ ToolError.Read) → Keeps (W.contents output.old) (W.contents output.new)) }
+    ensures written { OnOk result (ListsGiven R.Read input.old W.Write output.old output.new) }
+    ensures refused { IfRefused result (ListsPart R.Read input.old W.Write output.old output.new) }
+    ensures nothing_written { IfErr result (StaysUnread W.contents output.old output.new) }
 {
     let octets = read_all(alloc, input)?;
     let mut lines = Vec::new(alloc);

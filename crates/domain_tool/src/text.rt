@@ -1,12 +1,11 @@
 //! The engine that shows the wire format of a name in text.
-ghost use Rattle.std.specs.Prelude.{Some, OnOk, IfOk, IfErr, MatchResult};
-ghost use Rattle.std.specs.Io.KnownBytes.{Keeps};
+ghost use Rattle.std.specs.Prelude.{Some, OnOk, IfOk, IfErr};
 ghost use Rattle.std.specs.Str.{chars};
-ghost use Rattle.domain_builder.specs.TextGrammar.{IsTextOfName, IsTextOfNoName};
-ghost use Rattle.domain_builder.specs.TextErrors.{IsErrorOfText};
-ghost use Rattle.domain_builder.specs.declared.name_symbol.TextFault.{TextFault};
+ghost use Rattle.domain_builder.specs.TextGrammar.{IsTextOfName};
 ghost use Rattle.domain_name.specs.Names.{name_labels};
-ghost use Rattle.domain_tool.specs.WireText.{octet_digits, hexadecimal, HasTextFault, IfTextRefused, RefusesText, WritesWireOf};
+ghost use Rattle.domain_tool.specs.Outputs.{Stays};
+ghost use Rattle.domain_tool.specs.WireText.{octet_digits, hexadecimal, ShowsWireOf};
+ghost use Rattle.domain_tool.specs.WireText.{HasTextFault, TellsFault, IfTextRefused, RefusesFault};
 
 use crate::tool::{ToolError, write_line};
 use arrayvec::ArrayVec;
@@ -21,8 +20,7 @@ use std::io::Write;
 fn name_from_text(alloc: Global, text: &str) -> Result<Name<ArrayVec<u8, 255>>, FromStrError>
     ensures ok { IfOk result (λ name. IsTextOfName (chars text.now) (name_labels name)) }
     ensures err { IfErr result (HasTextFault (chars text.now)) }
-    ensures exact { (f : TextFault) → IsTextOfNoName (chars text.now) f →
-        MatchResult result (λ _. ⊥) (IsErrorOfText f) }
+    ensures exact { TellsFault (chars text.now) result }
 {
     Name::from_chars(alloc, text.chars())
 }
@@ -34,13 +32,10 @@ fn name_from_text(alloc: Global, text: &str) -> Result<Name<ArrayVec<u8, 255>>, 
 /// first error; nothing is written then. Else the only error is `Write`, where the output couldn't be
 /// written: no memory is needed.
 pub fn name_text<W: Write>(alloc: Global, text: &str, output: &mut W) -> Result<(), ToolError>
-    ensures written { OnOk result
-        (WritesWireOf (chars text.now) (W.contents output.old) (W.contents output.new)) }
+    ensures written { OnOk result (ShowsWireOf W.contents (chars text.now) output.old output.new) }
     ensures err { IfTextRefused result (HasTextFault (chars text.now)) }
-    ensures exact { (f : TextFault) → IsTextOfNoName (chars text.now) f →
-        RefusesText result (IsErrorOfText f) }
-    ensures nothing_written { IfTextRefused result
-        (λ _. Keeps (W.contents output.old) (W.contents output.new)) }
+    ensures exact { RefusesFault (chars text.now) result }
+    ensures nothing_written { IfTextRefused result (λ _. Stays W.contents output.old output.new) }
 {
     let name = match name_from_text(alloc, text) {
         Ok(name) => name,

@@ -1,11 +1,11 @@
 //! The engines of the program `dnsnames`, over any reader and writer.
-ghost use Rattle.std.specs.Prelude.{◌≡◌, ◌≤◌, ◌∷◌, ◌++◌, ◌↔◌, [], map, ◌⊎◌, OnOk, IfOk, IfErr, IfSome};
-ghost use Rattle.std.specs.Io.KnownBytes.{Appends, Keeps, IsAtEnd};
+ghost use Rattle.std.specs.Prelude.{◌≡◌, ◌≤◌, ◌↔◌, ◌⊎◌, OnOk, IfOk, IfErr};
+ghost use Rattle.std.specs.Io.KnownBytes.{IsAtEnd};
 ghost use Rattle.domain_reading.specs.Grammar.{Names};
 ghost use Rattle.domain_parsed.specs.ParsedNames.{parsed_labels};
-ghost use Rattle.domain_tool.specs.Engines.{IfRefused, NoNameAt, NoNameWithin, OnAnswer, OnNoWork, WritesNameAt, WritesNameWithin};
-ghost use Rattle.domain_tool.specs.Words.{Asks, AsksSomething, Fails, OnFailure, OnRefusal, Refuses, Writes};
-ghost use Rattle.domain_tool.specs.declared.asked.Asked.{Asked};
+ghost use Rattle.domain_tool.specs.Engines.{AreAllOf, GivenNoName, NoNameWithin, ShowsAt, ShowsWithin, IfRefused, OnAnswer, OnNoWork};
+ghost use Rattle.domain_tool.specs.Outputs.{AppendsLine, Stays};
+ghost use Rattle.domain_tool.specs.Words.{texts, AsksSomething, Writes, Denies, FailsOn, DoesAsked, LacksAsked, FailsAsked};
 ghost use Rattle.domain_tool.specs.declared.tool.ToolError.{ToolError};
 
 use crate::asked::Asked;
@@ -58,8 +58,7 @@ impl Error for ToolError {}
 
 /// Reads the input to its end.
 pub fn read_all<R: Read>(alloc: Global, input: &mut R) -> Result<Vec<u8>, ToolError>
-    ensures octets { IfOk result
-        (λ octets. IfSome (R.remaining input.old) (λ m. octets.items ≡ m)) }
+    ensures octets { IfOk result (λ octets. AreAllOf (R.remaining input.old) octets.items) }
     ensures whole { OnOk result (IsAtEnd (R.remaining input.new)) }
     ensures err { IfErr result (λ e. (e ≡ ToolError.Read) ⊎ (e ≡ ToolError.Memory)) }
 {
@@ -119,9 +118,7 @@ pub fn write_line<D: fmt::Display + Drop, W: Write>(
     output: &mut W,
     text: D,
 ) -> Result<(), WriteFault>
-    ensures { OnOk result
-        (IfSome (D.output text)
-        (λ shown. Appends (W.contents output.old) (W.contents output.new) (shown ++ 10 ∷ []))) }
+    ensures { OnOk result (AppendsLine W.contents (D.output text) output.old output.new) }
 {
     match line_of(&text) {
         Some(line) => output.write_all(line.as_slice())?,
@@ -142,13 +139,9 @@ pub fn name_at<R: Read, W: Write>(
     offset: u32,
 ) -> Result<(), ToolError>
     ensures whole { OnAnswer result (IsAtEnd (R.remaining input.new)) }
-    ensures written { OnOk result
-        (IfSome (R.remaining input.old)
-        (λ m. WritesNameAt m offset (W.contents output.old) (W.contents output.new))) }
-    ensures err { IfRefused result
-        (λ e. IfSome (R.remaining input.old) (λ m. NoNameAt m offset e)) }
-    ensures nothing_written { OnNoWork result
-        (Keeps (W.contents output.old) (W.contents output.new)) }
+    ensures written { OnOk result (ShowsAt offset R.Read input.old W.Write output.old output.new) }
+    ensures err { IfRefused result (GivenNoName 255 offset (R.remaining input.old)) }
+    ensures nothing_written { OnNoWork result (Stays W.contents output.old output.new) }
 {
     name_at_with_limit(alloc, input, output, offset, u8::MAX)
 }
@@ -164,12 +157,9 @@ pub fn name_at_with_limit<R: Read, W: Write>(
 ) -> Result<(), ToolError>
     ensures whole { OnAnswer result (IsAtEnd (R.remaining input.new)) }
     ensures written { OnOk result
-        (IfSome (R.remaining input.old)
-        (λ m. WritesNameWithin limit m offset (W.contents output.old) (W.contents output.new))) }
-    ensures err { IfRefused result
-        (λ e. IfSome (R.remaining input.old) (λ m. NoNameWithin limit m offset e)) }
-    ensures nothing_written { OnNoWork result
-        (Keeps (W.contents output.old) (W.contents output.new)) }
+        (ShowsWithin limit offset R.Read input.old W.Write output.old output.new) }
+    ensures err { IfRefused result (GivenNoName limit offset (R.remaining input.old)) }
+    ensures nothing_written { OnNoWork result (Stays W.contents output.old output.new) }
 {
     let octets = read_all(alloc, input)?;
     let name = match parse_at(octets.as_slice(), offset, limit) {
@@ -189,15 +179,9 @@ fn carry_out<R: Read, W: Write>(
     input: &mut R,
     output: &mut W,
 ) -> Result<(), ToolError>
-    ensures done { OnOk result
-        (Writes asked.entry (R.remaining input.old) (W.contents output.old)
-        (W.contents output.new)) }
-    ensures err { IfErr result
-        (λ e. OnRefusal e
-        (Refuses asked.entry (R.remaining input.old) (W.contents output.old)
-        (W.contents output.new))) }
-    ensures failed { IfErr result
-        (λ e. OnFailure e (Fails asked.entry e (W.contents output.old) (W.contents output.new))) }
+    ensures done { OnOk result (Writes asked.entry R.Read input.old W.Write output.old output.new) }
+    ensures err { IfErr result (Denies asked.entry R.Read input.old W.Write output.old output.new) }
+    ensures failed { IfErr result (FailsOn asked.entry W.contents output.old output.new) }
 {
     let answer = match asked {
         Asked::At(offset, limit) => name_at_with_limit(alloc, input, output, offset, limit),
@@ -225,16 +209,10 @@ pub fn run<R: Read, W: Write, E: Write>(
     errors: &mut E,
 ) -> u8
     ensures status { result ≤ 3 }
-    ensures done { result ≡ 0 →
-        (asked : Asked) × Asks (map (λ word. word.now) words.now) asked
-        × Writes asked (R.remaining input.old) (W.contents output.old) (W.contents output.new) }
-    ensures err { result ≡ 1 →
-        (asked : Asked) × Asks (map (λ word. word.now) words.now) asked
-        × Refuses asked (R.remaining input.old) (W.contents output.old) (W.contents output.new) }
-    ensures failed { result ≡ 3 →
-        (asked : Asked) × Asks (map (λ word. word.now) words.now) asked × (e : ToolError)
-        × Fails asked e (W.contents output.old) (W.contents output.new) }
-    ensures usage { result ≡ 2 ↔ (AsksSomething (map (λ word. word.now) words.now) → ⊥) }
+    ensures done { result ≡ 0 → DoesAsked words.now R.Read input.old W.Write output.old output.new }
+    ensures err { result ≡ 1 → LacksAsked words.now R.Read input.old W.Write output.old output.new }
+    ensures failed { result ≡ 3 → FailsAsked words.now W.contents output.old output.new }
+    ensures usage { result ≡ 2 ↔ (AsksSomething (texts words.now) → ⊥) }
     ensures untouched { result ≡ 2 → (input.new ≡ input.old) × (output.new ≡ output.old) }
     ensures quiet { result ≡ 0 → errors.new ≡ errors.old }
 {

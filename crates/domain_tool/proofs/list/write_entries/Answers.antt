@@ -1,7 +1,7 @@
 use Rattle.std.proofs.Common.{rules, subst}
-use Rattle.std.specs.Io.KnownBytes.{append_known}
 use Rattle.octseq.specs.Parsing.{position}
-use Rattle.domain_tool.specs.Written.{WritesEntry}
+use Rattle.domain_tool.specs.Entries.{entry_line}
+use Rattle.domain_tool.specs.Lines.{IsLineOf}
 use Rattle.domain_tool.proofs.Entries.{same_message, moves_on}
 use Rattle.domain_tool.proofs.Listing.{writes_none, writes_next, writes_up_to}
 use Rattle.domain_tool.proofs.list.write_entries.Goals as goal
@@ -13,9 +13,10 @@ pub loop-entry-preserved : goal.loop-entry-preserved
 loop-entry-preserved g c =
     let before = c.loop-entry.invariant in
     let same = same_message _ _ _ before.1 in
-    let one = c.in_default.ensures.written in
-    (writes_next _ _ c.loop-entry._entry _ _ _ _ _ _ before.0 (subst (λ m. WritesEntry m c.args.kind (position c.loop-entry.parser) (position c.write_entry.new.parser) (append_known (g.W.Write.contents c.loop-entry.output) c.loop-entry.lines.items) (append_known (g.W.Write.contents c.write_entry.new.output) c.write_entry.new.lines.items)) same one), moves_on _ _ _ _ _ before.1 c.in_default.ensures.moves)
+    let line = entry_line c.in-Ok.entry in
+    let one = subst (λ m. IsLineOf m c.args.kind (position c.loop-entry.parser) line (position c.parse.new.parser)) same c.in-Ok.ensures.ok in
+    (writes_next _ _ c.loop-entry._entry _ _ _ _ _ _ before.0 (line, one, c.in_ok-put_line.ensures), moves_on _ _ _ _ _ before.1 c.in-Ok.ensures.moves)
 
 pub returns-in-Err-clause-refused : goal.returns-in-Err-clause-refused
 returns-in-Err-clause-refused g c =
-    writes_up_to _ _ _ _ _ _ _ _ _ _ c.in-Err.e c.loop-entry.invariant.0 c.loop-entry-test.true (same_message _ _ _ c.loop-entry.invariant.1) c.in-Err.ensures.refused c.in-Err.ensures.nothing_written
+    writes_up_to _ _ _ _ _ _ _ _ _ c.in-Err.e c.loop-entry.invariant.0 c.loop-entry-test.true (same_message _ _ _ c.loop-entry.invariant.1) c.in-Err.ensures.err
