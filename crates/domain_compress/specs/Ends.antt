@@ -1,6 +1,7 @@
 -- The suffixes of a name by their first labels.
-use Rattle.std.specs.Prelude.{◌≡◌, ℕ, ◌+◌, ◌*◌, ◌/◌, ◌%◌, ◌^◌, ◌<◌, List, [], ◌∷◌, ◌++◌, fold, length, slice_index}
+use Rattle.std.specs.Prelude.{◌≡◌, ℕ, ◌+◌, ◌*◌, ◌/◌, ◌%◌, ◌^◌, ◌<◌, List, [], ◌∷◌, ◌++◌, fold, length, slice_index, Bool, IsTrue}
 use Rattle.domain_label.specs.Wire.{labels_in}
+use Rattle.domain_rdata.specs.ReadBack.{StandsAt}
 
 -- The first label; none where there is no label.
 abbrev pub first_label : List (List ℕ) → List ℕ
@@ -28,3 +29,8 @@ IsMarked marks ls = slice_index marks (slot_of (first_hash ls)) ≡ 1
 -- So is that of each suffix of the name but the root.
 abbrev pub AreMarked : List ℕ → List ℕ → Type 0
 AreMarked marks name = (xs ys : List (List ℕ)) → labels_in name ≡ xs ++ ys → 1 < length ys → IsMarked marks ys
+
+-- b is true where a name stands at p whose first label isn't the root and has a marked hash.
+abbrev pub LetsMarkedPass : List ℕ → List ℕ → ℕ → Bool → Type 0
+LetsMarkedPass marks t p b =
+    (ls : List (List ℕ)) → 0 < length (first_label ls) → IsMarked marks ls → StandsAt t p ls → IsTrue b

@@ -28,6 +28,14 @@ EndsAfter n w = n < w.end
 abbrev pub entries_within : ℕ → ArrayVec Written → ArrayVec Written
 entries_within n v = record v { items = filter (λ w. nat_le w.end n) v.items }
 
+-- The first k entries are those that a cut to n octets leaves.
+abbrev pub LeavesFirst : ℕ → List Written → ℕ → Type 0
+LeavesFirst n ws k = (k ≤ length ws) × (remembered_within n (all_remembered ws) ≡ all_remembered (take k ws))
+
+-- The entries become those that a cut to n octets leaves.
+abbrev pub AreLeft : ℕ → List Written → List Written → Type 0
+AreLeft n old new = all_remembered new ≡ remembered_within n (all_remembered old)
+
 le_of : (a n : ℕ) → nat_le a n ≡ true → a ≤ n
 le_of a n h = leb-true a n h
 

@@ -1,5 +1,5 @@
 -- What is remembered of the label at an offset.
-use Rattle.std.specs.Prelude.{◌≡◌, ℕ, ◌+◌, ◌<◌, ◌≤◌, List, length, slice_index, slice_range, Bool, true}
+use Rattle.std.specs.Prelude.{◌≡◌, ℕ, ◌+◌, ◌<◌, ◌≤◌, List, length, slice_index, slice_range, take, Bool, true}
 use Rattle.std.specs.List.{All}
 use Rattle.domain_compress.specs.declared.written.Written.{Written}
 use Rattle.domain_compress.specs.Ends.{label_hash}
@@ -12,9 +12,26 @@ hash_at t p = label_hash (slice_range t (p + 1) (p + 1 + slice_index t p))
 abbrev pub HasHash : List ℕ → ℕ → ℕ → ℕ → Type 0
 HasHash t p e h = (slice_index t p < 64) × ((p + 1 + slice_index t p ≤ e) × (e ≤ length t)) × (h ≡ hash_at t p)
 
+-- The label at a remembered offset has that hash, and ends where its name does at the latest.
+abbrev pub IsHashOf : List ℕ → Written → ℕ → Type 0
+IsHashOf t w h = HasHash t w.offset w.end h
+
+-- It has the hash that is kept.
 abbrev pub IsHashed : List ℕ → Written → Type 0
-IsHashed t w = HasHash t w.offset w.end w.hash
+IsHashed t w = IsHashOf t w w.hash
+
+-- It has, where the hashes count.
+abbrev pub IsHashedIf : Bool → List ℕ → Written → Type 0
+IsHashedIf hashed t w = hashed ≡ true → IsHashed t w
 
 -- Where the hashes count, they are those of the labels at the offsets.
 abbrev pub IsKnown : Bool → List ℕ → List Written → Type 0
 IsKnown hashed t ws = hashed ≡ true → All (IsHashed t) ws
+
+-- If they count and are those of the old entries, then, where `holds` is true, those of the new ones are, too;
+abbrev pub StayKnown : List ℕ → Bool → Bool → List Written → List Written → Type 0
+StayKnown t hashed holds old new = IsKnown hashed t old → IsKnown holds t new
+
+-- or those of the entries that a cut to n octets leaves.
+abbrev pub KnownWithin : ℕ → List ℕ → Bool → Bool → List Written → List Written → Type 0
+KnownWithin n t hashed holds old new = IsKnown hashed t old → IsKnown holds (take n t) new

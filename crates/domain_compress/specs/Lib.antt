@@ -9,3 +9,4 @@ pub mod MayWrite
 pub mod Standing
 pub mod Planned
 pub mod Forgetting
+pub mod Laws

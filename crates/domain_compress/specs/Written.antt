@@ -8,7 +8,7 @@ use Rattle.domain_rdata.specs.ReadBack.{StandsAt}
 use Rattle.domain_compress.specs.declared.written.Written.{Written}
 use Rattle.domain_compress.specs.declared.written.WrittenSuffix.{WrittenSuffix}
 use Rattle.domain_compress.specs.declared.written.Place.{Place}
-use Rattle.domain_compress.specs.Compressing.{RememberedLabel, NoneRemembered, NoSuffix, FirstRemembered, LongestSuffix}
+use Rattle.domain_compress.specs.Compressing.{RememberedLabel, NoneRemembered, NoSuffix, FirstRemembered, LongestSuffix, remembered_too}
 
 -- the offset at which a label was written, and the end of its name
 abbrev pub remembered : Written → RememberedLabel
@@ -18,12 +18,21 @@ remembered w = record { at = w.offset; end = w.end }
 abbrev pub all_remembered : List Written → List RememberedLabel
 all_remembered = map remembered
 
+-- The labels were written from start on, for a name that ends at end, and the entries have their offsets, too.
+abbrev pub RemembersToo : List ℕ → ℕ → ℕ → List Written → List Written → Type 0
+RemembersToo labels start end old new =
+    all_remembered new ≡ remembered_too (all_remembered old) start end (labels_in labels)
+
 -- The name that is read at the offset p of t equals ls without case, and k pointers lead along it.
 pub record StandsThrough (t : List ℕ) (p : ℕ) (ls : List (List ℕ)) (k : ℕ) : Type 0 where
   pub labels : List (List ℕ)
   pub reads : Reads t p k labels
   pub same : lowercase_labels labels ≡ lowercase_labels ls
   pub few : k ≤ max_pointers
+
+-- Each name that stands at p has so many octets uncompressed.
+abbrev pub HasWireLength : List ℕ → ℕ → ℕ → Type 0
+HasWireLength t p n = (ls : List (List ℕ)) → StandsAt t p ls → length (wire ls) ≡ n
 
 -- The suffix of the name that begins at the offset at of its wire format, before upto, stands at p.
 pub record SuffixAt (t : List ℕ) (p : ℕ) (name : List ℕ) (upto at k : ℕ) : Type 0 where
@@ -66,6 +75,18 @@ pub record SuffixFound (t : List ℕ) (ws : List RememberedLabel) (name : List �
 abbrev pub Longest : List ℕ → List RememberedLabel → List ℕ → Option WrittenSuffix → Type 0
 Longest t ws name None = NoSuffix t ws (labels_in name)
 Longest t ws name (Some end) = SuffixFound t ws name end
+
+-- The same by the entries: no suffix but the root stands at any of their offsets;
+abbrev pub NoSuffixWritten : List ℕ → List Written → List ℕ → Type 0
+NoSuffixWritten t ws name = NoSuffix t (all_remembered ws) (labels_in name)
+
+-- or the one that was found is the longest that stands at any, and stands there first;
+abbrev pub SuffixWritten : List ℕ → List Written → List ℕ → WrittenSuffix → Type 0
+SuffixWritten t ws name found = SuffixFound t (all_remembered ws) name found
+
+-- or that is the whole name, spelled out.
+abbrev pub NameSpelledOut : List ℕ → List Written → List ℕ → WrittenSuffix → Type 0
+NameSpelledOut t ws name found = SuffixWritten t ws name found × ((found.begin ≡ 0) × (found.pointers ≡ 0))
 
 -- Where that begins in the wire format of the name; else the length of this.
 abbrev pub begin_or_length : Option WrittenSuffix → List ℕ → ℕ

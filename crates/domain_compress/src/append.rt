@@ -1,11 +1,10 @@
 //! Writing the labels before a suffix of a name, and a pointer to where that stands.
-ghost use Rattle.std.specs.Prelude.{◌≡◌, ◌≤◌, ◌<◌, ◌+◌, ◌++◌, length, take, OnOk, OnErr, IfOk};
-ghost use Rattle.domain_label.specs.Wire.{labels_in, IsAbsoluteWire};
-ghost use Rattle.domain_compress.specs.Beginnings.{BeginningWritten, PointerWritten};
+ghost use Rattle.std.specs.Prelude.{◌≡◌, ◌≤◌, ◌<◌, ◌+◌, ◌++◌, length, OnOk, OnErr, IfOk};
+ghost use Rattle.domain_label.specs.Wire.{IsAbsoluteWire};
+ghost use Rattle.domain_compress.specs.Beginnings.{LacksRoom, pointed, Repeats, Begins, NoRoomFor};
 ghost use Rattle.domain_compress.specs.Compressing.{pointer_to};
 ghost use Rattle.domain_compress.specs.Hashes.{IsKnown};
-ghost use Rattle.domain_compress.specs.MayWrite.{NameExceeds};
-ghost use Rattle.domain_compress.specs.Written.{all_remembered, SuffixFound};
+ghost use Rattle.domain_compress.specs.Written.{SuffixWritten};
 
 use crate::plan::{find_beginning, pointer, put_pointed};
 use crate::written::{Written, WrittenSuffix};
@@ -21,8 +20,8 @@ fn append_pointer<Target: OctetsBuilder>(
     ensures ok { OnOk result
         (Target.octets target.new ≡ Target.octets target.old ++ pointer_to offset) }
     ensures unchanged { OnErr result (Target.octets target.new ≡ Target.octets target.old) }
-    ensures full { OnErr result (Target.capacity target.old
-        < length (Target.octets target.old) + length (pointer_to offset)) }
+    ensures full { OnErr result
+        (LacksRoom Target.OctetsBuilder (pointer_to offset) target.old) }
     ensures capacity { Target.capacity target.old ≤ Target.capacity target.new }
 {
     target.append_slice(&pointer(offset))
@@ -41,11 +40,11 @@ fn append_pointed<Target: OctetsBuilder>(
     requires low { offset < 16384 }
     requires inside { begin + 2 ≤ length name.now }
     requires short { length name.now ≤ 255 }
-    ensures ok { OnOk result (Target.octets target.new
-        ≡ Target.octets target.old ++ (take begin name.now ++ pointer_to offset)) }
+    ensures ok { OnOk result
+        (Target.octets target.new ≡ Target.octets target.old ++ pointed name.now begin offset) }
     ensures unchanged { OnErr result (Target.octets target.new ≡ Target.octets target.old) }
-    ensures full { OnErr result (Target.capacity target.old
-        < length (Target.octets target.old) + length (take begin name.now ++ pointer_to offset)) }
+    ensures full { OnErr result
+        (LacksRoom Target.OctetsBuilder (pointed name.now begin offset) target.old) }
     ensures capacity { Target.capacity target.old ≤ Target.capacity target.new }
 {
     let mut octets = [0; 255];
@@ -64,11 +63,11 @@ fn append_begun<Target: OctetsBuilder>(
     requires low { offset < 16384 }
     requires inside { begin + 2 ≤ length name.now }
     requires short { length name.now ≤ 255 }
-    ensures ok { OnOk result (Target.octets target.new
-        ≡ Target.octets target.old ++ (take begin name.now ++ pointer_to offset)) }
+    ensures ok { OnOk result
+        (Target.octets target.new ≡ Target.octets target.old ++ pointed name.now begin offset) }
     ensures unchanged { OnErr result (Target.octets target.new ≡ Target.octets target.old) }
-    ensures full { OnErr result (Target.capacity target.old
-        < length (Target.octets target.old) + length (take begin name.now ++ pointer_to offset)) }
+    ensures full { OnErr result
+        (LacksRoom Target.OctetsBuilder (pointed name.now begin offset) target.old) }
     ensures capacity { Target.capacity target.old ≤ Target.capacity target.new }
 {
     if begin == 0 {
@@ -86,17 +85,14 @@ pub(crate) fn append_again<Target: OctetsBuilder>(
     found: WrittenSuffix,
 ) -> Result<(), Target::AppendError>
     requires wire { IsAbsoluteWire name.now }
-    requires found { SuffixFound (Target.octets target.now) (all_remembered written.now)
-        name.now found }
+    requires found { SuffixWritten (Target.octets target.now) written.now name.now found }
     requires whole { found.begin ≡ 0 }
     requires plain { found.pointers ≡ 0 }
-    ensures ok { OnOk result (PointerWritten
-        (Target.octets target.old) (all_remembered written.now) name.now 0
-        (Target.octets target.new)) }
+    ensures ok { OnOk result
+        (Repeats Target.OctetsBuilder written.now name.now target.old target.new) }
     ensures unchanged { OnErr result (Target.octets target.new ≡ Target.octets target.old) }
-    ensures full { OnErr result (NameExceeds
-        (Target.octets target.old) (all_remembered written.now) (labels_in name.now)
-        (Target.capacity target.old)) }
+    ensures full { OnErr result
+        (NoRoomFor Target.OctetsBuilder written.now name.now target.old) }
     ensures capacity { Target.capacity target.old ≤ Target.capacity target.new }
 {
     match append_pointer(target, found.offset) {
@@ -116,12 +112,10 @@ pub(crate) fn append_beginning<Target: OctetsBuilder>(
     requires wire { IsAbsoluteWire name.now }
     requires known { IsKnown hashed (Target.octets target.now) written.now }
     ensures ok { IfOk result
-        (λ begun. BeginningWritten begun (Target.octets target.old) (all_remembered written.now)
-        name.now (Target.octets target.new)) }
+        (Begins Target.OctetsBuilder written.now name.now target.old target.new) }
     ensures unchanged { OnErr result (Target.octets target.new ≡ Target.octets target.old) }
-    ensures full { OnErr result (NameExceeds
-        (Target.octets target.old) (all_remembered written.now) (labels_in name.now)
-        (Target.capacity target.old)) }
+    ensures full { OnErr result
+        (NoRoomFor Target.OctetsBuilder written.now name.now target.old) }
     ensures capacity { Target.capacity target.old ≤ Target.capacity target.new }
 {
     let Some(beginning) = find_beginning(target.as_slice(), written, name, hashed) else {

@@ -3,11 +3,11 @@ ghost use Rattle.std.specs.Prelude.{◌≡◌, ◌≤◌, ◌<◌, ◌+◌, ◌+
 ghost use Rattle.std.proofs.lemmas.Bool.{true≢false, false≢true};
 ghost use Rattle.std.proofs.Props.{props};
 ghost use Rattle.octseq.specs.Octets.{appended_twice};
-ghost use Rattle.domain_label.specs.Wire.{labels_in, IsAbsoluteWire};
+ghost use Rattle.domain_label.specs.Wire.{IsAbsoluteWire};
 ghost use Rattle.domain_compress.specs.Compressing.{Adds, RememberedLabel, remembered_within};
 ghost use Rattle.domain_compress.specs.Forgetting.{AllWithin, entries_within, entries_inside, few_entries, all_within, all_left, within_twice, name_cut, few_remembered, remembered_still, may_write_so};
 ghost use Rattle.domain_compress.specs.Hashes.{IsKnown};
-ghost use Rattle.domain_compress.specs.MayWrite.{MayWrite, NameAppended, NameExceeds, adds_appended};
+ghost use Rattle.domain_compress.specs.MayWrite.{MayWrite, adds_appended};
 ghost use Rattle.domain_compress.specs.Written.{all_remembered};
 
 use crate::append::{append_again, append_beginning};
@@ -66,25 +66,18 @@ impl<T: Composer> CompressComposer<T> {
 }
 
 impl<T: Composer> CompressComposer<T> {
-    ghost use Rattle.domain_compress.specs.Composers.{remembered_labels};
+    ghost use Rattle.domain_compress.specs.Composers.{octets_of, room_of, RemembersSame, WritesName, AppendsName, ExceedsRoom};
 
     /// Appends a name that isn't the one that was written first, or is written otherwise.
     #[inline(never)]
     fn append_searched(&mut self, name: &[u8]) -> Result<(), T::AppendError>
         requires { IsAbsoluteWire name.now }
-        ensures appends { OnOk result (Adds
-            (T.octets self.old.target) (remembered_labels self.old) (labels_in name.now)
-            (T.octets self.new.target) (remembered_labels self.new)) }
-        ensures ok { OnOk result (NameAppended
-            (T.octets self.old.target) (remembered_labels self.old) (labels_in name.now)
-            (T.octets self.new.target)) }
-        ensures unchanged { OnErr result (T.octets self.new.target ≡ T.octets self.old.target) }
-        ensures memory_unchanged { OnErr result
-            (remembered_labels self.new ≡ remembered_labels self.old) }
-        ensures full { OnErr result (NameExceeds
-            (T.octets self.old.target) (remembered_labels self.old) (labels_in name.now)
-            (T.capacity self.old.target)) }
-        ensures capacity { T.capacity self.old.target ≤ T.capacity self.new.target }
+        ensures appends { OnOk result (WritesName name.now self.old self.new) }
+        ensures ok { OnOk result (AppendsName name.now self.old self.new) }
+        ensures unchanged { OnErr result (octets_of self.new ≡ octets_of self.old) }
+        ensures memory_unchanged { OnErr result (RemembersSame self.old self.new) }
+        ensures full { OnErr result (ExceedsRoom name.now self.old) }
+        ensures capacity { room_of self.old ≤ room_of self.new }
     {
         let start = self.target.as_slice().len();
         let begun = match append_beginning(
@@ -154,7 +147,7 @@ impl<T: Composer> OctetsMut for CompressComposer<T> {
 }
 
 impl<T: Composer> Truncate for CompressComposer<T> {
-    ghost use Rattle.domain_compress.specs.Composers.{remembered_labels};
+    ghost use Rattle.domain_compress.specs.Composers.{remembered_labels, octets_of, room_of};
 
     ghost cuts = { λ c n d. (T.octets d.target ≡ take n (T.octets c.target))
         × (remembered_labels d ≡ remembered_within n (remembered_labels c)) };
@@ -162,8 +155,8 @@ impl<T: Composer> Truncate for CompressComposer<T> {
     /// Keeps the first `len` octets, all where `len` is larger, and forgets the offsets of names that ended past
     /// them.
     fn truncate(&mut self, len: usize)
-        ensures octets { T.octets self.new.target ≡ take len (T.octets self.old.target) }
-        ensures capacity { T.capacity self.new.target ≡ T.capacity self.old.target }
+        ensures octets { octets_of self.new ≡ take len (octets_of self.old) }
+        ensures capacity { room_of self.new ≡ room_of self.old }
         ensures offsets { remembered_labels self.new
             ≡ remembered_within len (remembered_labels self.old) }
     {
@@ -179,7 +172,7 @@ impl<T: Composer> Truncate for CompressComposer<T> {
 }
 
 impl<T: Composer> OctetsBuilder for CompressComposer<T> {
-    ghost use Rattle.domain_compress.specs.Composers.{remembered_labels};
+    ghost use Rattle.domain_compress.specs.Composers.{remembered_labels, octets_of, room_of, RemembersSame};
 
     type AppendError = T::AppendError;
 
@@ -188,14 +181,13 @@ impl<T: Composer> OctetsBuilder for CompressComposer<T> {
 
     /// Appends all of the octets, or none, as the target does. The offsets stay.
     fn append_slice(&mut self, slice: &[u8]) -> Result<(), T::AppendError>
-        ensures ok { OnOk result
-            (T.octets self.new.target ≡ T.octets self.old.target ++ slice.now) }
-        ensures unchanged { OnErr result (T.octets self.new.target ≡ T.octets self.old.target) }
+        ensures ok { OnOk result (octets_of self.new ≡ octets_of self.old ++ slice.now) }
+        ensures unchanged { OnErr result (octets_of self.new ≡ octets_of self.old) }
         ensures full { OnErr result
-            (T.capacity self.new.target < length (T.octets self.old.target) + length slice.now) }
-        ensures capacity { T.capacity self.old.target ≤ T.capacity self.new.target }
-        ensures within { IfSome T.limit (λ n. length (T.octets self.new.target) ≤ n) }
-        ensures offsets { remembered_labels self.new ≡ remembered_labels self.old }
+            (room_of self.new < length (octets_of self.old) + length slice.now) }
+        ensures capacity { room_of self.old ≤ room_of self.new }
+        ensures within { IfSome T.limit (λ n. length (octets_of self.new) ≤ n) }
+        ensures offsets { RemembersSame self.old self.new }
     {
         self.target.append_slice(slice)
     }
@@ -213,7 +205,8 @@ impl<T: Composer> OctetsBuilder for CompressComposer<T> {
 }
 
 impl<T: Composer> Composer for CompressComposer<T> {
-    ghost use Rattle.domain_compress.specs.Composers.{remembered_labels};
+    ghost use Rattle.domain_compress.specs.Composers.{remembered_labels, octets_of, room_of, RemembersSame};
+    ghost use Rattle.domain_compress.specs.Composers.{WritesName, AppendsName, ExceedsRoom};
     ghost use Rattle.domain_compress.specs.Pointed.{compressed_reads_back};
 
     ghost may_append = { λ c ls s.
@@ -238,19 +231,12 @@ impl<T: Composer> Composer for CompressComposer<T> {
     /// then as before.
     fn append_flat_name(&mut self, name: &[u8]) -> Result<(), T::AppendError>
         requires { IsAbsoluteWire name.now }
-        ensures appends { OnOk result (Adds
-            (T.octets self.old.target) (remembered_labels self.old) (labels_in name.now)
-            (T.octets self.new.target) (remembered_labels self.new)) }
-        ensures ok { OnOk result (NameAppended
-            (T.octets self.old.target) (remembered_labels self.old) (labels_in name.now)
-            (T.octets self.new.target)) }
-        ensures unchanged { OnErr result (T.octets self.new.target ≡ T.octets self.old.target) }
-        ensures memory_unchanged { OnErr result
-            (remembered_labels self.new ≡ remembered_labels self.old) }
-        ensures full { OnErr result (NameExceeds
-            (T.octets self.old.target) (remembered_labels self.old) (labels_in name.now)
-            (T.capacity self.old.target)) }
-        ensures capacity { T.capacity self.old.target ≤ T.capacity self.new.target }
+        ensures appends { OnOk result (WritesName name.now self.old self.new) }
+        ensures ok { OnOk result (AppendsName name.now self.old self.new) }
+        ensures unchanged { OnErr result (octets_of self.new ≡ octets_of self.old) }
+        ensures memory_unchanged { OnErr result (RemembersSame self.old self.new) }
+        ensures full { OnErr result (ExceedsRoom name.now self.old) }
+        ensures capacity { room_of self.old ≤ room_of self.new }
     {
         if let Some(found) = first_again(self.target.as_slice(), self.written.as_slice(), name) {
             match append_again(&mut self.target, self.written.as_slice(), name, found) {

@@ -1,9 +1,8 @@
 //! Passing over offsets where no suffix of a name can stand, by a hash of the first label there.
-ghost use Rattle.std.specs.Prelude.{◌≡◌, ◌<◌, ℕ, List, length, slice_index, nat_eq, IsTrue, true, MatchResult};
+ghost use Rattle.std.specs.Prelude.{◌≡◌, ◌<◌, slice_index, nat_eq, true, MatchResult};
 ghost use Rattle.domain_label.specs.Wire.{IsAbsoluteWire};
-ghost use Rattle.domain_rdata.specs.ReadBack.{StandsAt};
-ghost use Rattle.domain_compress.specs.Ends.{first_label, label_hash, slot_of, IsMarked, AreMarked};
-ghost use Rattle.domain_compress.specs.Hashes.{HasHash, IsHashed};
+ghost use Rattle.domain_compress.specs.Ends.{label_hash, slot_of, AreMarked, LetsMarkedPass};
+ghost use Rattle.domain_compress.specs.Hashes.{HasHash, IsHashOf, IsHashedIf};
 ghost use Rattle.domain_reading.specs.Heads.{IsHeadAt, BrokenAt};
 
 use crate::written::Written;
@@ -92,8 +91,8 @@ pub(crate) fn hash_there(octets: &[u8], offset: usize, last: usize) -> (bool, u1
 
 /// The same of a remembered offset, by the hash that was kept where the hashes count.
 pub(crate) fn hash_kept(octets: &[u8], written: Written, hashed: bool) -> (bool, u16)
-    ensures { (hashed ≡ true → IsHashed octets.now written) → result.0 ≡ true
-        → HasHash octets.now written.offset written.end result.1 }
+    ensures { IsHashedIf hashed octets.now written → result.0 ≡ true
+        → IsHashOf octets.now written result.1 }
 {
     if hashed {
         return (true, written.hash);
@@ -105,8 +104,7 @@ pub(crate) fn hash_kept(octets: &[u8], written: Written, hashed: bool) -> (bool,
 /// Whether a name whose first label has a marked hash may stand at the offset. Where a pointer stands it may.
 fn may_stand(octets: &[u8], offset: usize, marks: &[u8; 256]) -> bool
     requires { offset < 16384 }
-    ensures { (ls : List (List ℕ)) → 0 < length (first_label ls)
-        → IsMarked marks.now ls → StandsAt octets.now offset ls → IsTrue result }
+    ensures { LetsMarkedPass marks.now octets.now offset result }
 {
     let Ok(head) = head_at(octets, offset) else {
         return false;
@@ -128,9 +126,8 @@ pub(crate) fn may_stand_there(
     marks: &[u8; 256],
     hashed: bool,
 ) -> bool
-    requires { hashed ≡ true → IsHashed octets.now written }
-    ensures { (ls : List (List ℕ)) → 0 < length (first_label ls)
-        → IsMarked marks.now ls → StandsAt octets.now written.offset ls → IsTrue result }
+    requires { IsHashedIf hashed octets.now written }
+    ensures { LetsMarkedPass marks.now octets.now written.offset result }
 {
     if hashed {
         return is_marked(marks, written.hash);

@@ -1,9 +1,9 @@
 //! Remembering where labels were written.
-ghost use Rattle.std.specs.Prelude.{◌≡◌, ◌+◌, ◌≤◌, length, take, IfSome};
-ghost use Rattle.domain_label.specs.Wire.{labels_in, IsWire};
-ghost use Rattle.domain_compress.specs.Compressing.{remembered_too, remembered_within};
-ghost use Rattle.domain_compress.specs.Hashes.{IsKnown};
-ghost use Rattle.domain_compress.specs.Written.{all_remembered};
+ghost use Rattle.std.specs.Prelude.{◌+◌, ◌≤◌, length, IfSome};
+ghost use Rattle.domain_label.specs.Wire.{IsWire};
+ghost use Rattle.domain_compress.specs.Forgetting.{LeavesFirst, AreLeft};
+ghost use Rattle.domain_compress.specs.Hashes.{StayKnown, KnownWithin};
+ghost use Rattle.domain_compress.specs.Written.{RemembersToo};
 
 use crate::marks::{hash_kept, hash_there};
 use crate::written::Written;
@@ -24,10 +24,8 @@ fn remember_each(
 ) -> bool
     requires labels { IsWire labels.now }
     requires end { end ≤ start + 255 }
-    ensures known { IsKnown hashed octets.now written.old.items
-        → IsKnown result octets.now written.new.items }
-    ensures offsets { all_remembered written.new.items
-        ≡ remembered_too (all_remembered written.old.items) start end (labels_in labels.now) }
+    ensures known { StayKnown octets.now hashed result written.old.items written.new.items }
+    ensures offsets { RemembersToo labels.now start end written.old.items written.new.items }
 {
     if written.remaining_capacity() == 0 {
         return hashed;
@@ -74,10 +72,8 @@ pub(crate) fn remember(
 ) -> bool
     requires labels { IsWire labels.now }
     requires end { end ≤ start + 255 }
-    ensures known { IsKnown hashed octets.now written.old.items
-        → IsKnown result octets.now written.new.items }
-    ensures offsets { all_remembered written.new.items
-        ≡ remembered_too (all_remembered written.old.items) start end (labels_in labels.now) }
+    ensures known { StayKnown octets.now hashed result written.old.items written.new.items }
+    ensures offsets { RemembersToo labels.now start end written.old.items written.new.items }
 {
     if written.remaining_capacity() == 0 {
         return hashed;
@@ -90,9 +86,7 @@ pub(crate) fn remember(
 
 /// How many of the entries are left by a cut to `len` octets, where these are the first ones.
 fn first_left(written: &[Written], len: usize) -> Option<usize>
-    ensures some { IfSome result (λ n. (n ≤ length written.now)
-        × (remembered_within len (all_remembered written.now)
-        ≡ all_remembered (take n written.now))) }
+    ensures some { IfSome result (LeavesFirst len written.now) }
 {
     let mut left = 0;
     let mut is_cut = false;
@@ -118,10 +112,9 @@ fn forget_each(
     len: usize,
     hashed: bool,
 ) -> bool
-    ensures known { IsKnown hashed octets.now written.old.items
-        → IsKnown result (take len octets.now) written.new.items }
-    ensures offsets { all_remembered written.new.items
-        ≡ remembered_within len (all_remembered written.old.items) }
+    ensures known { KnownWithin len octets.now hashed result written.old.items
+        written.new.items }
+    ensures offsets { AreLeft len written.old.items written.new.items }
     ensures few { length written.new.items ≤ length written.old.items }
 {
     let _room = written.remaining_capacity();
@@ -155,10 +148,9 @@ pub(crate) fn forget(
     len: usize,
     hashed: bool,
 ) -> bool
-    ensures known { IsKnown hashed octets.now written.old.items
-        → IsKnown result (take len octets.now) written.new.items }
-    ensures offsets { all_remembered written.new.items
-        ≡ remembered_within len (all_remembered written.old.items) }
+    ensures known { KnownWithin len octets.now hashed result written.old.items
+        written.new.items }
+    ensures offsets { AreLeft len written.old.items written.new.items }
     ensures few { length written.new.items ≤ length written.old.items }
 {
     if hashed {

@@ -1,11 +1,11 @@
 //! Finding the longest suffix of a name that was written before.
-ghost use Rattle.std.specs.Prelude.{◌≡◌, ◌<◌, ℕ, List, length, slice_index, IfSome, IsNone, true};
+ghost use Rattle.std.specs.Prelude.{◌≡◌, ◌<◌, ℕ, List, slice_index, IfSome, IsNone, true};
 ghost use Rattle.std.specs.List.{All};
-ghost use Rattle.domain_label.specs.Wire.{wire, labels_in, IsAbsoluteWire};
+ghost use Rattle.domain_label.specs.Wire.{labels_in, IsAbsoluteWire};
 ghost use Rattle.domain_rdata.specs.ReadBack.{StandsAt};
-ghost use Rattle.domain_compress.specs.Compressing.{NoSuffix};
 ghost use Rattle.domain_compress.specs.Hashes.{IsHashed, IsKnown};
-ghost use Rattle.domain_compress.specs.Written.{all_remembered, StandsThrough, SuffixAt, NoSuffixAt, SuffixFound, FirstPlace, Longest, Improves, begin_or_length};
+ghost use Rattle.domain_compress.specs.Written.{all_remembered, StandsThrough, SuffixAt, NoSuffixAt, FirstPlace, Longest, Improves, begin_or_length};
+ghost use Rattle.domain_compress.specs.Written.{HasWireLength, NoSuffixWritten, SuffixWritten, NameSpelledOut};
 
 use crate::marks::{hash, mark_firsts, may_stand_there};
 use crate::written::{Place, Written, WrittenSuffix};
@@ -125,8 +125,7 @@ fn pointers_there(octets: &[u8], written: Written, name: &[u8]) -> Option<u8>
 fn wire_len_at(octets: &[u8], offset: usize) -> Option<usize>
     ensures none { IsNone result
         → (ls : List (List ℕ)) → StandsAt octets.now offset ls → ⊥ }
-    ensures some { IfSome result (λ n. (ls : List (List ℕ)) → StandsAt octets.now offset ls
-        → length (wire ls) ≡ n) }
+    ensures some { IfSome result (HasWireLength octets.now offset) }
 {
     wire_len_at_with::<Brand>(octets, offset, Blank::new(1))
 }
@@ -138,8 +137,7 @@ fn wire_len_at_with<L: Ledger>(octets: &[u8], offset: usize, blank: Blank) -> Op
     requires some { 0 < blank.parts }
     ensures none { IsNone result
         → (ls : List (List ℕ)) → StandsAt octets.now offset ls → ⊥ }
-    ensures some { IfSome result (λ n. (ls : List (List ℕ)) → StandsAt octets.now offset ls
-        → length (wire ls) ≡ n) }
+    ensures some { IfSome result (HasWireLength octets.now offset) }
 {
     let mut heads = Heads::<L>::new(blank);
     let mut at = offset;
@@ -245,9 +243,8 @@ fn suffix_by_marks(
 ) -> Option<WrittenSuffix>
     requires wire { IsAbsoluteWire name.now }
     requires known { IsKnown hashed octets.now written.now }
-    ensures none { IsNone result →
-        NoSuffix octets.now (all_remembered written.now) (labels_in name.now) }
-    ensures some { IfSome result (SuffixFound octets.now (all_remembered written.now) name.now) }
+    ensures none { IsNone result → NoSuffixWritten octets.now written.now name.now }
+    ensures some { IfSome result (SuffixWritten octets.now written.now name.now) }
 {
     let mut marks = [0u8; 256];
     mark_firsts(&mut marks, name);
@@ -337,9 +334,7 @@ fn suffix_by_hashes(
 #[inline(always)]
 pub(crate) fn first_again(octets: &[u8], written: &[Written], name: &[u8]) -> Option<WrittenSuffix>
     requires wire { IsAbsoluteWire name.now }
-    ensures { IfSome result (λ found.
-        (SuffixFound octets.now (all_remembered written.now) name.now found)
-        × ((found.begin ≡ 0) × (found.pointers ≡ 0))) }
+    ensures { IfSome result (NameSpelledOut octets.now written.now name.now) }
 {
     let Some((first, _)) = written.split_first() else {
         return None;
@@ -367,9 +362,8 @@ pub(crate) fn longest_suffix(
 ) -> Option<WrittenSuffix>
     requires wire { IsAbsoluteWire name.now }
     requires known { IsKnown hashed octets.now written.now }
-    ensures none { IsNone result →
-        NoSuffix octets.now (all_remembered written.now) (labels_in name.now) }
-    ensures some { IfSome result (SuffixFound octets.now (all_remembered written.now) name.now) }
+    ensures none { IsNone result → NoSuffixWritten octets.now written.now name.now }
+    ensures some { IfSome result (SuffixWritten octets.now written.now name.now) }
 {
     if written.len() == 0 {
         return None;
