@@ -9,6 +9,7 @@ use Rattle.domain_message.specs.Sections.{QuestionsTo, AnswersTo, AuthorityTo, R
 use Rattle.domain_message.specs.declared.section.Section.TheVariants.{Additional}
 use Rattle.domain_rdata.specs.RecordData.{NameOctets}
 use Rattle.domain_message_builder.specs.Contents.{blank_header, PushedRecord, Content}
+use Rattle.domain_message_builder.specs.Members.{ReadBackMembers}
 use Rattle.domain_message_builder.specs.Reading.{IsMessageOf}
 
 -- As many of the one as of the other, and each is like the one with the same number.
@@ -65,3 +66,7 @@ NamesUnderAnyHeader = (h b s : List ℕ) (ls : List (List ℕ)) (compresses : Bo
 -- the data where they stand in the message. `May compresses t s`: it may be composed into s after t.
 abbrev pub IsSeenUnderAnyHeader : {Seen : Type 0} → (Bool → List ℕ → List ℕ → Type 0) → (List ℕ → ℕ → Seen → ℕ → Type 0) → (Seen → Type 0) → Type 0
 IsSeenUnderAnyHeader May At Alike = (compresses : Bool) (header b s : List ℕ) → length header ≡ 12 → May compresses (blank_header ++ b) s → IsSeenAfter At Alike (header ++ b) s
+
+-- So is this data: `d` is `D.ReadBackData`.
+abbrev pub IsReadUnderAnyHeader : {D : Type 0} → ReadBackMembers D → D → Type 0
+IsReadUnderAnyHeader d rdata = IsSeenUnderAnyHeader (d.composed rdata) (d.seen_at (d.type_number rdata)) (d.like rdata)

@@ -1,10 +1,24 @@
 -- What contracts have as the members of a trait and of those above it, as one record, and what a record says by them.
-use Rattle.std.specs.Prelude.{ℕ, Bool, List}
+use Rattle.std.specs.Prelude.{ℕ, Bool, List, Option}
 pub use Rattle.domain_record.specs.Members.{ComposerMembers, DataMembers}
 use Rattle.domain_record.specs.RecordParts.{data_of}
 use Rattle.domain_record.specs.declared.resource_record.Record.{Record}
 use Rattle.domain_message_builder.specs.Contents.{RecordHead}
 use Rattle.domain_message_builder.specs.Pushes.{headed}
+
+-- what a clause has as `D.ReadBackData`
+abbrev pub ReadBackMembers : Type 0 → Type 1
+ReadBackMembers D = record {
+  type_number : D → ℕ;
+  composed : D → Bool → List ℕ → List ℕ → Type 0;
+  written : D → (T : Type 0) → (T → List ℕ → T → Type 0) → (T → List (List ℕ) → T → Type 0) → T → T → Type 0;
+  uncompressed : D → List ℕ;
+  lowercase : D → Option (List ℕ);
+  knows_len : D → Bool → Bool;
+  Seen : Type 0;
+  seen_at : ℕ → List ℕ → ℕ → Seen → ℕ → Type 0;
+  like : D → Seen → Type 0;
+}
 
 -- what a record says before the length of its data
 abbrev pub head_of : {N D : Type 0} → (N → List (List ℕ)) → DataMembers D → Record N D → RecordHead

@@ -1,5 +1,5 @@
 -- OPT records (RFC 6891).
-use Rattle.std.specs.Prelude.{ℕ, ◌+◌, ◌*◌, ◌<◌, ◌≤◌, Bool, false, List, ◌++◌, length}
+use Rattle.std.specs.Prelude.{◌≡◌, ℕ, ◌+◌, ◌*◌, ◌<◌, ◌≤◌, Bool, false, List, ◌++◌, length}
 use Rattle.std.specs.Int.{w16, to_be_bytes}
 use Rattle.domain_header.specs.Bits.{bit_of}
 use Rattle.domain_label.specs.Wire.{Root}
@@ -55,6 +55,14 @@ option_octets code data_octets = to_be_bytes w16 code ++ (to_be_bytes w16 (lengt
 -- with this option after the others
 abbrev pub with_option : ℕ → List ℕ → Opt → Opt
 with_option code data_octets o = with_options (o.options ++ option_octets code data_octets) o
+
+-- The option was appended to the others. `octets` tells the octets of options.
+abbrev pub AppendsOption : {O : Type 0} → (O → List ℕ) → ℕ → List ℕ → O → O → Type 0
+AppendsOption octets code data_octets old new = octets new ≡ octets old ++ option_octets code data_octets
+
+-- They have no room for it. `room` tells how many octets of options there is room for in all.
+abbrev pub OptionsAreFull : {O : Type 0} → (O → ℕ) → (O → List ℕ) → List ℕ → O → Type 0
+OptionsAreFull room octets data_octets old = room old < length (octets old) + 4 + length data_octets
 
 -- Why an option wasn't pushed: the options would be too long; or they wouldn't, and have no room.
 abbrev pub OptionRefused : {E : Type 0} → List ℕ → List ℕ → ℕ → ComposeRdataError E → Type 0

@@ -1,6 +1,6 @@
 //! OPT records (RFC 6891).
 ghost use Rattle.std.specs.Prelude.{◌≡◌, ◌≤◌, ◌<◌, ◌+◌, ◌↔◌, ◌++◌, length, IfOk, IfErr, IsErr, OnOk, OnErr};
-ghost use Rattle.domain_message_builder.specs.Opt.{opt_ttl, option_octets};
+ghost use Rattle.domain_message_builder.specs.Opt.{opt_ttl, AppendsOption, OptionsAreFull};
 
 use domain_header::{Class, Ttl};
 use domain_name::Name;
@@ -115,11 +115,10 @@ fn append_option<Octs: OctetsBuilder>(
     octets: &[u8],
 ) -> Result<(), Octs::AppendError>
     requires { length octets.now ≤ 65535 }
-    ensures ok { OnOk result
-        (Octs.octets options.new ≡ Octs.octets options.old ++ option_octets code octets.now) }
+    ensures ok { OnOk result (AppendsOption Octs.octets code octets.now options.old options.new) }
     ensures unchanged { OnErr result (Octs.octets options.new ≡ Octs.octets options.old) }
     ensures full { OnErr result
-        (Octs.capacity options.old < length (Octs.octets options.old) + 4 + length octets.now) }
+        (OptionsAreFull Octs.capacity Octs.octets octets.now options.old) }
 {
     let start = options.as_slice().len();
     let [a, b] = code.to_be_bytes();

@@ -1,8 +1,8 @@
 //! Messages in a stream (RFC 1035, 4.2.2).
-ghost use Rattle.std.specs.Prelude.{◌≡◌, ◌≤◌, ◌<◌, ◌+◌, ◌++◌, length, IfOk, OnOk, OnErr};
+ghost use Rattle.std.specs.Prelude.{◌≡◌, ◌≤◌, ◌<◌, ◌+◌, length, IfOk, OnOk, OnErr};
 ghost use Rattle.domain_message_builder.specs.Builders.{state, message_len, FinishesAs};
 ghost use Rattle.domain_message_builder.specs.Finished.{finished_octets};
-ghost use Rattle.domain_message_builder.specs.Streams.{in_stream};
+ghost use Rattle.domain_message_builder.specs.Streams.{Streams, StreamsFrom, StreamFull};
 
 use crate::builder::MessageBuilder;
 use domain_rdata::Composer;
@@ -14,11 +14,10 @@ fn append_message<Stream: OctetsBuilder>(
     stream: &mut Stream,
 ) -> Result<(), Stream::AppendError>
     requires { length message.now ≤ 65535 }
-    ensures ok { OnOk result
-        (Stream.octets stream.new ≡ Stream.octets stream.old ++ in_stream message.now) }
+    ensures ok { OnOk result (Streams Stream.octets message.now stream.old stream.new) }
     ensures unchanged { OnErr result (Stream.octets stream.new ≡ Stream.octets stream.old) }
     ensures full { OnErr result
-        (Stream.capacity stream.old < length (Stream.octets stream.old) + 2 + length message.now) }
+        (StreamFull Stream.capacity Stream.octets message.now stream.old) }
     ensures capacity { Stream.capacity stream.old ≤ Stream.capacity stream.new }
 {
     let start = stream.as_slice().len();
@@ -44,8 +43,8 @@ impl<Target: Composer + Drop> MessageBuilder<Target> {
         self,
         stream: &mut Stream,
     ) -> Result<Target, Stream::AppendError>
-        ensures ok { IfOk result (λ made. Stream.octets stream.new
-            ≡ Stream.octets stream.old ++ in_stream (Target.octets made)) }
+        ensures ok { IfOk result
+            (StreamsFrom Stream.octets Target.octets stream.old stream.new) }
         ensures message { IfOk result (λ made. FinishesAs self (Target.octets made)) }
         ensures octets { IfOk result (λ made. Target.octets made ≡ finished_octets (state self)) }
         ensures within { IfOk result (λ made. length (Target.octets made) ≤ (state self).limit) }
