@@ -1,17 +1,18 @@
 -- Writing a name by a pointer or flat.
-use Rattle.std.proofs.Common.{◌≡◌, ℕ, ◌+◌, ◌≤◌, ◌<◌, List, ◌++◌, length, take, sym, ap, subst, ◌∙◌, arith, length-append}
+use Rattle.std.proofs.Common.{◌≡◌, ℕ, ◌+◌, ◌≤◌, ◌<◌, List, [], ◌++◌, length, take, refl, sym, ap, subst, ◌∙◌, arith, append-nil, length-append}
 use Rattle.std.proofs.lemmas.Grind.{common_steps}
 use Rattle.domain_label.specs.Wire.{wire, labels_in, IsWire, IsAbsolute, IsRelative, IsAbsoluteWire}
 use Rattle.domain_label.proofs.WireLaws.{labels_in_wire, relative_labels}
 use Rattle.domain_flat.proofs.LabelBounds.{IsWire_wire}
 use Rattle.domain_rdata.specs.ReadBack.{Exceeds}
 use Rattle.domain_compress.specs.Compressing.{RememberedLabel, pointer_to, Compresses, IsRead, remembered_from, Adds}
-use Rattle.domain_compress.specs.Compressing.Compresses.{pointer, unread}
+use Rattle.domain_compress.specs.Compressing.Compresses.{pointer, flat, unread}
 use Rattle.domain_compress.specs.declared.written.WrittenSuffix.{WrittenSuffix}
 use Rattle.domain_compress.specs.Written.{SuffixFound}
 use Rattle.domain_compress.specs.MayWrite.{MayWrite}
 use Rattle.domain_compress.specs.Planned.{WritesPointer}
 use Rattle.domain_compress.specs.Beginnings.{PointerWritten}
+use Rattle.domain_compress.specs.Hashes.{StandFrom}
 use Rattle.domain_compress.specs.Pointed.{begins_relative}
 use Rattle.domain_compress.proofs.Pointing.{pointed_read, pointed_unread}
 
@@ -83,3 +84,32 @@ adds_flat t ws ws' name t' w x all e =
       all = whole;
       offsets = e ∙ ap (λ n. take 128 (ws ++ remembered_from (length t) n (labels_in name))) (ap length whole ∙ length-append t (wire (labels_in name)));
     }
+
+-- The labels that are spelled out are the first octets that are written.
+spelled_first : {t : List ℕ} {ws : List RememberedLabel} {ls labels : List (List ℕ)} {s : List ℕ} → Compresses t ws ls labels s → (r : List ℕ) × (s ≡ wire labels ++ r)
+spelled_first (pointer {a} {b} {p} found read) = (pointer_to p, refl)
+spelled_first {ls = ls} (flat none) = ([], sym (append-nil (wire ls)))
+spelled_first {ls = ls} (unread found unreadable) = ([], sym (append-nil (wire ls)))
+
+stand_so : (t t' labels r o u : List ℕ) → t' ≡ t ++ (labels ++ r) → o ≡ t → u ≡ t' → StandFrom t' labels (length o) (length u)
+stand_so t t' labels r o u whole start end = record {
+  before = t;
+  after = r;
+  whole = whole;
+  starts = ap length start;
+  within = omega (arith, ap length start, ap length end, ap length whole, length-append t (labels ++ r), length-append labels r);
+  inside = omega (arith, ap length end);
+}
+
+-- So they stand where they were written before a pointer,
+pub stands_begun : (t : List ℕ) (ws : List RememberedLabel) (name : List ℕ) (at : ℕ) (t' o u : List ℕ) → PointerWritten t ws name at t' → o ≡ t → u ≡ t' → StandFrom t' (take at name) (length o) (length u)
+stands_begun t ws name at t' o u x start end =
+    let first = spelled_first x.compresses in
+    let spelled : wire x.labels ≡ take at name = ap wire (sym x.spelled) ∙ x.wire_form.0 in
+    let whole : t' ≡ t ++ (take at name ++ first.0) = x.all ∙ (ap (λ s. t ++ s) first.1 ∙ ap (λ l. t ++ (l ++ first.0)) spelled) in
+    stand_so t t' (take at name) first.0 o u whole start end
+
+-- and so does a name that was written uncompressed.
+pub stands_flat : (t t' name o u : List ℕ) → t' ≡ t ++ name → o ≡ t → u ≡ t' → StandFrom t' name (length o) (length u)
+stands_flat t t' name o u all start end =
+    stand_so t t' name [] o u (all ∙ ap (λ l. t ++ l) (sym (append-nil name))) start end

@@ -1,5 +1,6 @@
 -- The hashes of the labels at the offsets.
-use Rattle.std.proofs.Common.{◌≡◌, ℕ, suc, ◌+◌, ◌≤◌, ◌<◌, nat_le, length, List, [], ◌∷◌, ◌++◌, take, drop, ◌-◌, Bool, true, false, ◌&&◌, refl, sym, ap, subst, ◌∙◌, arith, slice_index, slice_range, length-append}
+use Rattle.std.proofs.Common.{◌≡◌, ℕ, suc, ◌+◌, ◌≤◌, ◌<◌, nat_le, length, List, [], ◌∷◌, ◌++◌, take, drop, ◌-◌, Bool, true, false, ◌&&◌, refl, sym, ap, subst, ◌∙◌, arith, slice_index, slice_range, length-append, get_or-append-add}
+use Rattle.std.proofs.Math.Seq.{drop-append-add}
 use Rattle.std.proofs.lemmas.Grind.{common_steps}
 use Rattle.std.proofs.lemmas.List.{get_or_append_left, drop-take, take-take}
 use Rattle.std.proofs.lemmas.Bool.{false≢true, leb-true}
@@ -11,7 +12,8 @@ use Rattle.domain_compress.specs.Compressing.{RememberedLabel, remembered_within
 use Rattle.domain_compress.specs.Forgetting.{EndsWithin}
 use Rattle.domain_compress.specs.Written.{remembered, all_remembered}
 use Rattle.domain_compress.specs.Ends.{label_hash}
-use Rattle.domain_compress.specs.Hashes.{hash_at, HasHash, IsHashed, IsKnown}
+use Rattle.domain_flat.proofs.LabelBounds.{Meets, meets_length, meets_next, read_at}
+use Rattle.domain_compress.specs.Hashes.{hash_at, HasHash, IsHashed, IsKnown, StandFrom, StayKnown}
 
 slice_more : (t u : List ℕ) (a b : ℕ) → b ≤ length t → slice_range (t ++ u) a b ≡ slice_range t a b
 slice_more t u a b h = grind (arith, common_steps)
@@ -51,11 +53,41 @@ both_true : (a b : Bool) → (a && b) ≡ true → (a ≡ true) × (b ≡ true)
 both_true true b e = (refl, e)
 both_true false b e = absurd (false≢true e)
 
+-- A label that is met is short, and inside.
+pub label_short : (labels : List ℕ) (at : ℕ) (before after : List (List ℕ)) → Meets labels at before after → at < length labels → (slice_index labels at < 64) × (at + 1 + slice_index labels at ≤ length labels)
+label_short labels at before [] m lt = absurd (omega (arith, lt, meets_length labels at before [] m))
+label_short labels at before (y ∷ ys) m lt =
+    let size : slice_index labels at ≡ length y = read_at labels at before y ys m in
+    (omega (arith, size, m.back.0), omega (arith, size, meets_length labels _ _ _ (meets_next labels at before y ys m)))
+
+slice_after : (b u : List ℕ) (i j : ℕ) → slice_range (b ++ u) (length b + i) (length b + j) ≡ slice_range u i j
+slice_after b u i j =
+    let size : length b + j - (length b + i) ≡ j - i = omega arith in
+    ap (λ k. take k (drop (length b + i) (b ++ u))) size ∙ ap (take (j - i)) (drop-append-add b u i)
+
+index_there : (t labels : List ℕ) (start end at : ℕ) → StandFrom t labels start end → at < length labels → slice_index t (start + at) ≡ slice_index labels at
+index_there t labels start end at s lt =
+    let u = labels ++ s.after in
+    ap (λ x. slice_index x (start + at)) s.whole ∙ (ap (λ k. slice_index (s.before ++ u) (k + at)) s.starts ∙ (get_or-append-add s.before u at 0 ∙ get_or_append_left labels s.after 0 at lt))
+
+slice_there : (t labels : List ℕ) (start end at n : ℕ) → StandFrom t labels start end → at + 1 + n ≤ length labels → slice_range t (start + at + 1) (start + at + 1 + n) ≡ slice_range labels (at + 1) (at + 1 + n)
+slice_there t labels start end at n s fits =
+    let u = labels ++ s.after in
+    let from : start + at + 1 ≡ length s.before + (at + 1) = omega (arith, s.starts) in
+    let to : start + at + 1 + n ≡ length s.before + (at + 1 + n) = omega (arith, s.starts) in
+    ap (λ x. slice_range x (start + at + 1) (start + at + 1 + n)) s.whole ∙ (ap (λ i. slice_range (s.before ++ u) i (start + at + 1 + n)) from ∙ (ap (λ j. slice_range (s.before ++ u) (length s.before + (at + 1)) j) to ∙ (slice_after s.before u (at + 1) (at + 1 + n) ∙ slice_more labels s.after (at + 1) (at + 1 + n) fits)))
+
+-- The hash of a label is that of the label where it stands.
+pub written_hash : (t labels : List ℕ) (start end at n h : ℕ) (before after : List (List ℕ)) → Meets labels at before after → at < length labels → n ≡ slice_index labels at → h ≡ label_hash (slice_range labels (at + 1) (at + 1 + n)) → StandFrom t labels start end → HasHash t (start + at) end h
+written_hash t labels start end at n h before after m lt size hashed s =
+    let short = label_short labels at before after m lt in
+    let head : slice_index t (start + at) ≡ n = index_there t labels start end at s lt ∙ sym size in
+    let label = slice_there t labels start end at n s (omega (arith, size, short.1)) in
+    (omega (arith, head, size, short.0), (omega (arith, head, size, short.1, s.within), s.inside), hashed ∙ (ap label_hash (sym label) ∙ ap (λ k. label_hash (slice_range t (start + at + 1) (start + at + 1 + k))) (sym head)))
+
 -- One offset more is remembered.
-pub known_push : (t : List ℕ) (hashed stands : Bool) (new old : List Written) (w : Written) → IsKnown hashed t old → (stands ≡ true → IsHashed t w) → new ≡ old ++ w ∷ [] → IsKnown (hashed && stands) t new
-known_push t hashed stands new old w known here e both =
-    let b = both_true hashed stands both in
-    subst (λ ws. All (IsHashed t) ws) (sym e) (All-push (IsHashed t) old w (known b.0) (here b.1))
+pub known_push : (t : List ℕ) (new old : List Written) (w : Written) → All (IsHashed t) old → IsHashed t w → new ≡ old ++ w ∷ [] → All (IsHashed t) new
+known_push t new old w known here e = subst (All (IsHashed t)) (sym e) (All-push (IsHashed t) old w known here)
 
 -- An offset of those that are left is remembered.
 pub known_kept : (t : List ℕ) (n : ℕ) (stands holds : Bool) (new kept : List Written) (w : Written) → IsKnown holds (take n t) kept → (stands ≡ true → IsHashed t w) → w.end ≤ n → new ≡ kept ++ w ∷ [] → IsKnown (stands && holds) (take n t) new
@@ -78,10 +110,9 @@ known_first hashed t ws more w e known counts = subst (λ vs. All (IsHashed t) v
 pub known_rest : (hashed : Bool) (t : List ℕ) (ws more : List Written) (w : Written) → ws ≡ w ∷ more → IsKnown hashed t ws → IsKnown hashed t more
 known_rest hashed t ws more w e known = λ counts i d lt. subst (λ vs. All (IsHashed t) vs) e (known counts) (suc i) d (omega (arith, lt))
 
-pub known_still : (before after : Bool) (t t' o s : List ℕ) (ws vs : List Written) → t' ≡ t ++ s → o ≡ t' → IsKnown before t ws → (IsKnown before o ws → IsKnown after o vs) → IsKnown after t' vs
-known_still before after t t' o s ws vs all read known kept =
-    let whole : t ++ s ≡ o = sym all ∙ sym read in
-    subst (λ m. IsKnown after m vs) read (kept (subst (λ m. IsKnown before m ws) whole (known_more before t s ws known)))
+pub known_still : (hashed : Bool) (t t' s labels : List ℕ) (start end : ℕ) (ws vs : List Written) → t' ≡ t ++ s → IsKnown hashed t ws → StayKnown labels start end ws vs → StandFrom t' labels start end → IsKnown hashed t' vs
+known_still hashed t t' s labels start end ws vs all known kept there =
+    λ counts. kept t' there (subst (λ m. IsKnown hashed m ws) (sym all) (known_more hashed t s ws known) counts)
 
 all_left : (t : List ℕ) (n : ℕ) (ws : List Written) → All (IsHashed t) ws → All (EndsWithin n) (all_remembered ws) → All (IsHashed (take n t)) ws
 all_left t n [] known inside = All-nil (IsHashed (take n t))

@@ -1,5 +1,5 @@
 -- What is remembered of the label at an offset.
-use Rattle.std.specs.Prelude.{◌≡◌, ℕ, ◌+◌, ◌<◌, ◌≤◌, List, length, slice_index, slice_range, take, Bool, true}
+use Rattle.std.specs.Prelude.{◌≡◌, ℕ, ◌+◌, ◌<◌, ◌≤◌, List, ◌++◌, length, slice_index, slice_range, take, Bool, true}
 use Rattle.std.specs.List.{All}
 use Rattle.domain_compress.specs.declared.written.Written.{Written}
 use Rattle.domain_compress.specs.Ends.{label_hash}
@@ -28,10 +28,21 @@ IsHashedIf hashed t w = hashed ≡ true → IsHashed t w
 abbrev pub IsKnown : Bool → List ℕ → List Written → Type 0
 IsKnown hashed t ws = hashed ≡ true → All (IsHashed t) ws
 
--- If they count and are those of the old entries, then, where `holds` is true, those of the new ones are, too;
-abbrev pub StayKnown : List ℕ → Bool → Bool → List Written → List Written → Type 0
-StayKnown t hashed holds old new = IsKnown hashed t old → IsKnown holds t new
+-- The labels stand in t from start on, and end at end at the latest, with what else was written for their name.
+pub record StandFrom (t labels : List ℕ) (start end : ℕ) : Type 0 where
+  pub before : List ℕ
+  pub after : List ℕ
+  pub whole : t ≡ before ++ (labels ++ after)
+  pub starts : start ≡ length before
+  pub within : start + length labels ≤ end
+  pub inside : end ≤ length t
 
--- or those of the entries that a cut to n octets leaves.
+-- In octets in which the labels stand so, the new entries have the hashes of their labels if the old ones do.
+abbrev pub StayKnown : List ℕ → ℕ → ℕ → List Written → List Written → Type 0
+StayKnown labels start end old new =
+    (t : List ℕ) → StandFrom t labels start end → All (IsHashed t) old → All (IsHashed t) new
+
+-- If the hashes count and are those of the old entries, then, where `holds` is true, those of the entries that a cut to n
+-- octets leaves are, too.
 abbrev pub KnownWithin : ℕ → List ℕ → Bool → Bool → List Written → List Written → Type 0
 KnownWithin n t hashed holds old new = IsKnown hashed t old → IsKnown holds (take n t) new

@@ -90,24 +90,15 @@ impl<T: Composer> CompressComposer<T> {
             Err(e) => return Err(e),
         };
         if let Some(at) = begun {
-            let octets = self.target.as_slice();
-            let end = octets.len();
-            self.hashed = remember(
-                &mut self.written,
-                self.hashed,
-                octets,
-                &name[..at],
-                start,
-                end,
-            );
+            let end = self.target.as_slice().len();
+            remember(&mut self.written, &name[..at], start, end);
             return Ok(());
         }
         if let Err(e) = self.target.append_slice(name) {
             return Err(e);
         }
-        let octets = self.target.as_slice();
-        let end = octets.len();
-        self.hashed = remember(&mut self.written, self.hashed, octets, name, start, end);
+        let end = self.target.as_slice().len();
+        remember(&mut self.written, name, start, end);
         Ok(())
     }
 }

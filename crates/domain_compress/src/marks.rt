@@ -74,7 +74,7 @@ fn head_at_with<L: Ledger>(octets: &[u8], offset: usize, blank: Blank) -> Result
 }
 
 /// The hash of the label at the offset, and whether a label stands there at all that ends at `last` at the latest.
-pub(crate) fn hash_there(octets: &[u8], offset: usize, last: usize) -> (bool, u16)
+fn hash_there(octets: &[u8], offset: usize, last: usize) -> (bool, u16)
     requires { offset < 16384 }
     ensures { result.0 ≡ true → HasHash octets.now offset last result.1 }
 {

@@ -133,6 +133,6 @@ pub fn more_offsets(table: &[u16], labels: &[u8], start: usize) -> ArrayVec<u16,
         ≡ take 128 (table.now ++ offsets (remembered_from start start (labels_in labels.now))) }
 {
     let mut written = written_at(table);
-    remember(&mut written, false, &[], labels, start, start);
+    remember(&mut written, labels, start, start);
     offsets_of(written.as_slice())
 }

@@ -5,7 +5,7 @@ ghost use Rattle.domain_compress.specs.Forgetting.{LeavesFirst, AreLeft};
 ghost use Rattle.domain_compress.specs.Hashes.{StayKnown, KnownWithin};
 ghost use Rattle.domain_compress.specs.Written.{RemembersToo};
 
-use crate::marks::{hash_kept, hash_there};
+use crate::marks::{hash, hash_kept};
 use crate::written::Written;
 use arrayvec::ArrayVec;
 
@@ -14,74 +14,62 @@ const OFFSETS_END: usize = 16384;
 
 /// Remembers labels one by one.
 #[inline(never)]
-fn remember_each(
-    written: &mut ArrayVec<Written, 128>,
-    hashed: bool,
-    octets: &[u8],
-    labels: &[u8],
-    start: usize,
-    end: usize,
-) -> bool
+fn remember_each(written: &mut ArrayVec<Written, 128>, labels: &[u8], start: usize, end: usize)
     requires labels { IsWire labels.now }
     requires end { end ≤ start + 255 }
-    ensures known { StayKnown octets.now hashed result written.old.items written.new.items }
+    ensures known { StayKnown labels.now start end written.old.items written.new.items }
     ensures offsets { RemembersToo labels.now start end written.old.items written.new.items }
 {
     if written.remaining_capacity() == 0 {
-        return hashed;
+        return;
     }
     let mut at = 0;
-    let mut holds = hashed;
     'labels: while at < labels.len() {
         let len = usize::from(labels[at]);
         if len == 0 {
-            return holds;
+            return;
         }
         // Past the end none of the label's offsets counts, and the sum below can't wrap before it.
         if start >= OFFSETS_END {
-            return holds;
+            return;
         }
         if start + at >= OFFSETS_END {
-            return holds;
+            return;
         }
         if written.remaining_capacity() == 0 {
-            return holds;
+            return;
         }
-        let (stands, hash) = hash_there(octets, start + at, end);
+        let label = &labels[at + 1..at + 1 + len];
         written.push(Written {
             offset: (start + at) as u16,
             end: end as u16,
-            hash,
+            hash: hash(label),
         });
-        holds = holds & stands;
         at = at + 1 + len;
     }
-    holds
 }
 
 /// Remembers where these labels stand, but for the root, that were written from `start` on for a name that ends
-/// at `end`. Tells whether all hashes are still those of the labels in the octets.
+/// at `end`, each with its hash.
 #[inline(always)]
 pub(crate) fn remember(
     written: &mut ArrayVec<Written, 128>,
-    hashed: bool,
-    octets: &[u8],
     labels: &[u8],
     start: usize,
     end: usize,
-) -> bool
+)
     requires labels { IsWire labels.now }
     requires end { end ≤ start + 255 }
-    ensures known { StayKnown octets.now hashed result written.old.items written.new.items }
+    ensures known { StayKnown labels.now start end written.old.items written.new.items }
     ensures offsets { RemembersToo labels.now start end written.old.items written.new.items }
 {
     if written.remaining_capacity() == 0 {
-        return hashed;
+        return;
     }
     if labels.len() == 0 {
-        return hashed;
+        return;
     }
-    remember_each(written, hashed, octets, labels, start, end)
+    remember_each(written, labels, start, end)
 }
 
 /// How many of the entries are left by a cut to `len` octets, where these are the first ones.

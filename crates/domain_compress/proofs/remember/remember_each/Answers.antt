@@ -2,13 +2,17 @@ use Rattle.std.proofs.Common.{List, ◌≡◌, subst, sym, ◌+◌, ◌∙◌, a
 use Rattle.domain_compress.specs.Compressing.{RememberedLabel}
 use Rattle.domain_compress.specs.Written.{all_remembered}
 use Rattle.domain_compress.proofs.Remembering.{Remembered, remember_start, remember_next, remember_full, remember_root, remember_far, remember_all, remembered_size, remembered_push}
-use Rattle.domain_compress.proofs.LabelHashes.{known_push}
+use Rattle.domain_compress.proofs.LabelHashes.{known_push, label_short, written_hash}
 use Rattle.domain_compress.proofs.remember.remember_each.Goals as goal
+
+pub slice_bounds-label-end : goal.slice_bounds-label-end
+slice_bounds-label-end c =
+    omega (arith, (label_short _ _ _ _ c.labels.invariant.done.meets c.labels-test.true).1, c.from-len.ensures)
 
 pub labels-init : goal.labels-init
 labels-init c = record {
   done = remember_start _ _ _ _ c.requires.labels;
-  known = λ old. old;
+  known = λ t there old. old;
   grown = omega arith;
   few = omega (arith, remembered_size c.args.written.now.items, c.remaining_capacity.ensures);
 }
@@ -36,7 +40,9 @@ labels-preserved c =
     let size : length c.push.new.self.items ≡ length c.labels.written.items + 1 = c.push.ensures.len in
     record {
       done = subst P (sym (remembered_push _ _ _ c.push.ensures.items)) (remember_next _ _ _ _ _ _ _ c.labels.invariant.done c.labels-test.true (sym c.from-len.ensures) (omega arith) (omega arith));
-      known = λ old. known_push _ _ _ _ _ _ (c.labels.invariant.known old) c.hash_there-stands.ensures c.push.ensures.items;
+      known = λ t there old.
+          let here = written_hash t _ _ _ _ _ _ _ _ c.labels.invariant.done.meets c.labels-test.true c.from-len.ensures c.hash.ensures there in
+          known_push t _ _ _ (c.labels.invariant.known t there old) here c.push.ensures.items;
       grown = omega (arith, c.labels.invariant.grown, size);
       few = omega (arith, remembered_size c.push.new.self.items, size, c.remaining_capacity-in-labels.ensures);
     }
