@@ -1,5 +1,5 @@
 //! OPT records (RFC 6891).
-ghost use Rattle.std.specs.Prelude.{◌≡◌, ◌≤◌, ◌<◌, ◌+◌, ◌↔◌, ◌++◌, length, IfOk, IfErr, IsErr, OnOk, OnErr};
+ghost use Rattle.std.specs.Prelude.{◌≡◌, ◌≤◌, ◌<◌, ◌+◌, ◌↔◌, length, IfOk, IfErr, IsErr, OnOk, OnErr};
 ghost use Rattle.domain_message_builder.specs.Opt.{opt_ttl, AppendsOption, OptionsAreFull};
 
 use domain_header::{Class, Ttl};
