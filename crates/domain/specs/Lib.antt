@@ -41,6 +41,9 @@ pub use Rattle.domain_rdata.specs.Canonical
 pub use Rattle.domain_rdata.specs.RecordData
 pub use Rattle.domain_rdata.specs.ReadBack
 pub use Rattle.domain_rdata.specs.LeavingNames
+pub use Rattle.domain_rdata.specs.Members
+pub use Rattle.domain_rdata.specs.Parsers as DataParsers
+pub use Rattle.domain_rdata.specs.Targets as DataTargets
 pub use Rattle.domain_rdata.specs.AnyData
 pub use Rattle.domain_rdata.specs.Rtypes
 pub use Rattle.domain_rdata.specs.Unknown

@@ -2,12 +2,13 @@
 -- are as in `Builders`.
 use Rattle.std.specs.Prelude.{ℕ, ◌-◌, List}
 use Rattle.domain_message.specs.declared.section.Section.{Section}
+use Rattle.domain_rdata.specs.Members.{DataMembers}
 use Rattle.domain_record.specs.LeftToTarget.{WritesQuestion, WritesRecord}
 use Rattle.domain_record.specs.declared.question.Question.{Question}
 use Rattle.domain_record.specs.declared.resource_record.Record.{Record}
 use Rattle.domain_rdata.specs.RecordData.{ComposeRefused}
 use Rattle.domain_message_builder.specs.Builders.{state, target_room}
-use Rattle.domain_message_builder.specs.Members.{DataMembers, head_of, data_octets_of}
+use Rattle.domain_message_builder.specs.Members.{head_of, data_octets_of}
 use Rattle.domain_message_builder.specs.Pushes.{asked, with_reserved, PushesQuestion, PushesRecord}
 use Rattle.domain_message_builder.specs.Refusals.{QuestionRefused, RecordRefused}
 use Rattle.domain_message_builder.specs.Tight.{Surpasses, RefusedAsWritten, HasNoRoom, RefusesEntry}

@@ -1,6 +1,6 @@
 -- What contracts have as the members of a trait and of those above it, as one record, and what a record says by them.
 use Rattle.std.specs.Prelude.{ℕ, Bool, List, Option}
-pub use Rattle.domain_record.specs.Members.{ComposerMembers, DataMembers}
+use Rattle.domain_rdata.specs.Members.{DataMembers, Writing}
 use Rattle.domain_record.specs.RecordParts.{data_of}
 use Rattle.domain_record.specs.declared.resource_record.Record.{Record}
 use Rattle.domain_message_builder.specs.Contents.{RecordHead}
@@ -11,7 +11,7 @@ abbrev pub ReadBackMembers : Type 0 → Type 1
 ReadBackMembers D = record {
   type_number : D → ℕ;
   composed : D → Bool → List ℕ → List ℕ → Type 0;
-  written : D → (T : Type 0) → (T → List ℕ → T → Type 0) → (T → List (List ℕ) → T → Type 0) → T → T → Type 0;
+  written : D → Writing;
   uncompressed : D → List ℕ;
   lowercase : D → Option (List ℕ);
   knows_len : D → Bool → Bool;

@@ -1,14 +1,15 @@
 -- What a target becomes where an entry is appended up to a limit. `g` is `Target.Composer`, `labels` tells the labels of a
 -- name, and `d` is `D.ComposeRecordData`.
 use Rattle.std.specs.Prelude.{ℕ, List}
+use Rattle.domain_rdata.specs.Members.{ComposerMembers, DataMembers}
 use Rattle.domain_rdata.specs.ReadBack.{Appended}
 use Rattle.domain_rdata.specs.RecordData.{ComposeRefused}
 use Rattle.domain_record.specs.LeftToTarget.{WritesQuestion, WritesRecord}
-pub use Rattle.domain_record.specs.Targets.{RemembersAsBefore, TakesQuestion, Takes}
+pub use Rattle.domain_record.specs.Targets.{TakesQuestion, Takes}
 use Rattle.domain_record.specs.declared.question.Question.{Question}
 use Rattle.domain_record.specs.declared.resource_record.Record.{Record}
 use Rattle.domain_message_builder.specs.Contents.{AsksIn, RecordsIn}
-use Rattle.domain_message_builder.specs.Members.{ComposerMembers, DataMembers, head_of, data_octets_of}
+use Rattle.domain_message_builder.specs.Members.{head_of, data_octets_of}
 use Rattle.domain_message_builder.specs.Pushes.{asked}
 use Rattle.domain_message_builder.specs.Refusals.{NotBegun, QuestionNotAppended, RecordNotAppended}
 use Rattle.domain_message_builder.specs.Tight.{Surpasses, RefusedAsWritten, HasNoRoom, RefusesEntry}

@@ -1,6 +1,7 @@
 //! Appending entries up to a limit.
 ghost use Rattle.std.specs.Prelude.{◌≡◌, ◌≤◌, length, OnOk, OnErr, IfErr, true};
-ghost use Rattle.domain_message_builder.specs.Targets.{RemembersAsBefore, AsksFor, TakesQuestion, CannotAsk, Overflows};
+ghost use Rattle.domain_rdata.specs.Targets.{RemembersAsBefore};
+ghost use Rattle.domain_message_builder.specs.Targets.{AppendsQuestion, TakesQuestion, LacksQuestion, QuestionIsTooLong};
 ghost use Rattle.domain_message_builder.specs.Targets.{AppendsRecord, Takes, LacksRecord, Overfills};
 
 use crate::error::PushError;
@@ -16,16 +17,16 @@ pub(crate) fn append_question<'a, N: AbsoluteLabels<'a>, Target: Composer>(
     most: u16,
 ) -> Result<(), PushError<Target::AppendError>>
     ensures ok { OnOk result
-        (AsksFor Target.Composer N.labels question.now target.old target.new) }
+        (AppendsQuestion Target.Composer N.labels question.now target.old target.new) }
     ensures written { OnOk result
         (TakesQuestion Target.Composer N.labels question.now target.old target.new) }
     ensures within { OnOk result (length (Target.octets target.new) ≤ most) }
     ensures memory { RemembersAsBefore Target.Composer target.old target.new }
     ensures unchanged { OnErr result (Target.octets target.new ≡ Target.octets target.old) }
     ensures why { IfErr result
-        (CannotAsk Target.Composer N.labels question.now most target.old) }
+        (LacksQuestion Target.Composer N.labels question.now most target.old) }
     ensures tight { IfErr result
-        (Overflows Target.Composer N.labels question.now most target.old) }
+        (QuestionIsTooLong Target.Composer N.labels question.now most target.old) }
     ensures capacity { Target.capacity target.old ≤ Target.capacity target.new }
 {
     let before = target.as_slice().len();

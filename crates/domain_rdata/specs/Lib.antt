@@ -1,9 +1,12 @@
 pub mod AnyData
 pub mod Canonical
 pub mod FlatNames
+pub mod Members
+pub mod Parsers
 pub mod ReadBack
 pub mod RecordData
 pub mod Rtypes
+pub mod Targets
 pub mod Unknown
 pub mod UnknownReading
 pub mod LeavingNames

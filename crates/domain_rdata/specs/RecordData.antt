@@ -1,5 +1,5 @@
 -- What composing record data may append.
-use Rattle.std.specs.Prelude.{◌≡◌, ℕ, ◌+◌, ◌<◌, ◌≤◌, Bool, false, List, ◌++◌, length, codes}
+use Rattle.std.specs.Prelude.{◌≡◌, ℕ, ◌+◌, ◌<◌, ◌≤◌, Bool, false, List, ◌++◌, length, take, drop, codes}
 use Rattle.std.specs.Int.{w16, to_be_bytes}
 use Rattle.domain_rdata.specs.declared.record_data.ComposeRdataError.{ComposeRdataError}
 use Rattle.domain_rdata.specs.declared.record_data.ComposeRdataError.TheVariants.{Append, Long}
@@ -11,6 +11,10 @@ use Rattle.domain_rdata.specs.ReadBack.{ReadsBack}
 pub record NameOctets (ls : List (List ℕ)) (compresses : Bool) (t s : List ℕ) : Type 0 where
   pub read : ReadsBack t ls s
   pub flat : compresses ≡ false → s ≡ wire ls
+
+-- the octets, with a length in two octets written over those at an offset
+abbrev pub with_length_at : ℕ → ℕ → List ℕ → List ℕ
+with_length_at offset len octets = take offset octets ++ (to_be_bytes w16 len ++ drop (offset + 2) octets)
 
 -- This length in two octets and then n octets of data were appended, which may be composed after the length.
 pub record DataAfterLength (May : List ℕ → List ℕ → Type 0) (old : List ℕ) (len n : ℕ) (new : List ℕ) : Type 0 where

@@ -1,8 +1,9 @@
 //! What messages are composed into.
-ghost use Rattle.std.specs.Prelude.{◌≡◌, ℕ, ◌++◌, ◌+◌, ◌<◌, ◌≤◌, List, length, OnOk, OnErr, Bool, false, refl};
+ghost use Rattle.std.specs.Prelude.{◌≡◌, ℕ, ◌++◌, ◌+◌, ◌≤◌, List, length, OnOk, OnErr, Bool, false, refl};
 ghost use Rattle.domain_label.specs.Wire.{wire, labels_in, IsAbsoluteName, IsAbsoluteWire};
-ghost use Rattle.domain_rdata.specs.ReadBack.{ReadsBack, Appended, Exceeds};
+ghost use Rattle.domain_rdata.specs.ReadBack.{ReadsBack, Appended};
 ghost use Rattle.domain_rdata.specs.FlatNames.{flat_appended, flat_reads_back};
+ghost use Rattle.domain_rdata.specs.Targets.{AddsName, NameOverflows};
 
 use arrayvec::ArrayVec;
 use domain_list::AbsoluteLabels;
@@ -38,15 +39,11 @@ pub trait Composer: OctetsBuilder + OctetsMut {
     /// remembered, are then as before.
     fn append_flat_name(&mut self, name: &[u8]) -> Result<(), Self::AppendError>
         requires { IsAbsoluteWire name.now }
-        ensures ok { OnOk result
-            (Appended (may_append self.old (labels_in name.now)) (Self.octets self.old)
-            (Self.octets self.new)) }
+        ensures ok { OnOk result (AddsName Self.Composer labels_in name.now self.old self.new) }
         ensures appends { OnOk result (appends self.old (labels_in name.now) self.new) }
         ensures unchanged { OnErr result (Self.octets self.new ≡ Self.octets self.old) }
         ensures memory_unchanged { OnErr result (memory self.new ≡ memory self.old) }
-        ensures full { OnErr result
-            (Exceeds (may_append self.old (labels_in name.now)) (Self.octets self.old)
-            (Self.capacity self.old)) }
+        ensures full { OnErr result (NameOverflows Self.Composer labels_in name.now self.old) }
         ensures capacity { Self.capacity self.old ≤ Self.capacity self.new };
 
     /// Whether names may be written shorter than their wire format.
@@ -61,15 +58,11 @@ pub trait Composer: OctetsBuilder + OctetsMut {
         &mut self,
         name: &'a N,
     ) -> Result<(), Self::AppendError>
-        ensures ok { OnOk result
-            (Appended (may_append self.old (N.labels name.now)) (Self.octets self.old)
-            (Self.octets self.new)) }
+        ensures ok { OnOk result (AddsName Self.Composer N.labels name.now self.old self.new) }
         ensures appends { OnOk result (appends self.old (N.labels name.now) self.new) }
         ensures unchanged { OnErr result (Self.octets self.new ≡ Self.octets self.old) }
         ensures memory_unchanged { OnErr result (memory self.new ≡ memory self.old) }
-        ensures full { OnErr result
-            (Exceeds (may_append self.old (N.labels name.now)) (Self.octets self.old)
-            (Self.capacity self.old)) }
+        ensures full { OnErr result (NameOverflows Self.Composer N.labels name.now self.old) }
         ensures capacity { Self.capacity self.old ≤ Self.capacity self.new }
     {
         if let Some(octets) = name.as_flat_slice() {

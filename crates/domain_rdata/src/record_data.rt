@@ -1,14 +1,16 @@
 //! What record data is read and composed by (RFC 1035, 3.2.1).
-ghost use Rattle.std.specs.Prelude.{◌≡◌, ℕ, ◌++◌, ◌+◌, ◌<◌, ◌≤◌, List, length, take, drop, ◌↔◌, OnOk, OnErr, IfSome, IfOk, IfErr, IsNone, Bool, false, true, Option, Some};
+ghost use Rattle.std.specs.Prelude.{◌≡◌, ◌↔◌, ℕ, ◌+◌, ◌≤◌, Bool, false, true, List, length, Option, Some};
+ghost use Rattle.std.specs.Prelude.{IfOk, OnOk, IfErr, OnErr, IfSome, IsNone};
 ghost use Rattle.octseq.specs.Parsing.{message, position, MovesTo};
 ghost use Rattle.domain_wire.specs.Values.{IsReading};
 ghost use Rattle.domain_wire.specs.declared.error.ParseError.{ParseError};
-ghost use Rattle.std.specs.Int.{w16, to_be_bytes};
-ghost use Rattle.domain_rdata.specs.ReadBack.{Appended, Exceeds};
-ghost use Rattle.domain_rdata.specs.RecordData.{DataAfterLength, LengthAndData, ExceedsWithLength, ComposeRefused};
-ghost use Rattle.domain_rdata.specs.Canonical.{canonical_form, WithForm, WithLengthAndForm, FormRefused, CanonicalRefused};
+ghost use Rattle.domain_rdata.specs.RecordData.{with_length_at};
 ghost use Rattle.domain_rdata.specs.Rtypes.{rtype_number};
-ghost use Rattle.domain_rdata.specs.LeavingNames.{WrittenBehind, LeavesNames};
+ghost use Rattle.domain_rdata.specs.Members.{Writing};
+ghost use Rattle.domain_rdata.specs.Parsers.{IsOfType, ReadsData, ReadsIfSome, HasNoData};
+ghost use Rattle.domain_rdata.specs.Targets.{RemembersAsBefore, Grows, Overflows, LeftTo, FollowsOwn, NotComposed, LeavesTo};
+ghost use Rattle.domain_rdata.specs.Targets.{Follows, FollowsLeft, OverflowsWithLength, AllHaveLength, TellsFormLength};
+ghost use Rattle.domain_rdata.specs.Targets.{GrowsByForm, GrowsByLengthAndForm, NoForm, NoLengthAndForm};
 
 use crate::composer::Composer;
 use crate::long::LongRecordData;
@@ -77,8 +79,7 @@ const MOST_OCTETS: usize = 65535;
 /// Writes a length over the two octets at an offset.
 fn write_length(octets: &mut [u8], offset: usize, len: u16)
     requires { offset + 2 ≤ length octets.old }
-    ensures { octets.new
-        ≡ take offset octets.old ++ (to_be_bytes w16 len ++ drop (offset + 2) octets.old) }
+    ensures { octets.new ≡ with_length_at offset len octets.old }
 {
     octets[offset..offset + 2].copy_from_slice(&len.to_be_bytes());
 }
@@ -106,8 +107,7 @@ pub trait ComposeRecordData: RecordData {
     /// ([`OctetsBuilder::extends`]) and where a name was, as the target may write it ([`Composer::appends`]).
     ///
     /// So a name that may be compressed is left to the target.
-    ghost written: { Self → (T : Type 0) → (T → List ℕ → T → Type 0) →
-        (T → List (List ℕ) → T → Type 0) → T → T → Type 0 };
+    ghost written: { Self → Writing };
 
     /// The octets with no name compressed: all that a target takes that doesn't write names shorter.
     ghost uncompressed: { Self → List ℕ };
@@ -125,13 +125,8 @@ pub trait ComposeRecordData: RecordData {
     /// writes names shorter, if `compress`; else to one that doesn't, and those of the canonical form.
     fn rdlen(&self, compress: bool) -> Option<u16>
         ensures known { IsNone result ↔ (knows_len self.now compress ≡ false) }
-        ensures composed { IfSome result
-            (λ n. (t s : List ℕ) → composed self.now compress t s → length s ≡ n) }
-        ensures canonical { compress ≡ false →
-            IfSome result
-            (λ n. IfSome
-            (canonical_form (Self.type_number self.now) (uncompressed self.now)
-            (lowercase self.now)) (λ octets. length octets ≡ n)) };
+        ensures composed { IfSome result (AllHaveLength (composed self.now compress)) }
+        ensures canonical { TellsFormLength Self.ComposeRecordData self.now compress result };
 
     /// Appends the data, or nothing.
     ///
@@ -141,17 +136,12 @@ pub trait ComposeRecordData: RecordData {
         &self,
         target: &mut Target,
     ) -> Result<(), Target::AppendError>
-        ensures ok { OnOk result
-            (Appended (composed self.now Target.compresses (Target.octets target.old))
-            (Target.octets target.old) (Target.octets target.new)) }
+        ensures ok { OnOk result (Grows Target.Composer (composed self.now) target.old target.new) }
         ensures names { OnOk result
-            (written self.now Target Target.extends Target.appends target.old target.new) }
-        ensures memory { Target.kept_within (length (Target.octets target.old))
-            (Target.memory target.new) ≡ Target.memory target.old }
+            (LeftTo Target.Composer (written self.now) target.old target.new) }
+        ensures memory { RemembersAsBefore Target.Composer target.old target.new }
         ensures unchanged { OnErr result (Target.octets target.new ≡ Target.octets target.old) }
-        ensures full { OnErr result
-            (Exceeds (composed self.now Target.compresses (Target.octets target.old))
-            (Target.octets target.old) (Target.capacity target.old)) }
+        ensures full { OnErr result (Overflows Target.Composer (composed self.now) target.old) }
         ensures capacity { Target.capacity target.old ≤ Target.capacity target.new };
 
     /// Appends the canonical form of the data, or nothing (RFC 4034, 6.2): no name is compressed, and names are in lowercase
@@ -164,16 +154,11 @@ pub trait ComposeRecordData: RecordData {
         target: &mut Target,
     ) -> Result<(), CanonicalError<Target::AppendError>>
         ensures ok { OnOk result
-            (WithForm
-            (canonical_form (Self.type_number self.now) (uncompressed self.now)
-            (lowercase self.now)) (Target.octets target.old) (Target.octets target.new)) }
-        ensures memory { Target.kept_within (length (Target.octets target.old))
-            (Target.memory target.new) ≡ Target.memory target.old }
+            (GrowsByForm Target.Composer Self.ComposeRecordData self.now target.old target.new) }
+        ensures memory { RemembersAsBefore Target.Composer target.old target.new }
         ensures unchanged { OnErr result (Target.octets target.new ≡ Target.octets target.old) }
         ensures why { IfErr result
-            (λ e. FormRefused
-            (canonical_form (Self.type_number self.now) (uncompressed self.now)
-            (lowercase self.now)) (Target.octets target.old) (Target.capacity target.old) e) }
+            (NoForm Target.Composer Self.ComposeRecordData self.now target.old) }
         ensures capacity { Target.capacity target.old ≤ Target.capacity target.new };
 
     /// Appends the length of the data in two octets, and the data, or nothing.
@@ -186,17 +171,11 @@ pub trait ComposeRecordData: RecordData {
         target: &mut Target,
     ) -> Result<(), ComposeRdataError<Target::AppendError>>
         ensures ok { OnOk result
-            (LengthAndData (composed self.now Target.compresses) (Target.octets target.old)
-            (Target.octets target.new)) }
-        ensures names { Target.compresses ≡ true →
-            OnOk result (LeavesNames Target.octets Target.extends Target.cuts
-            (written self.now Target Target.extends Target.appends) target.old target.new) }
-        ensures memory { Target.kept_within (length (Target.octets target.old))
-            (Target.memory target.new) ≡ Target.memory target.old }
+            (FollowsOwn Target.Composer (composed self.now) target.old target.new) }
+        ensures names { LeavesTo Target.Composer (written self.now) target.old target.new result }
+        ensures memory { RemembersAsBefore Target.Composer target.old target.new }
         ensures unchanged { OnErr result (Target.octets target.new ≡ Target.octets target.old) }
-        ensures why { IfErr result
-            (λ e. ComposeRefused (composed self.now Target.compresses) (Target.octets target.old)
-            (Target.capacity target.old) e) }
+        ensures why { IfErr result (NotComposed Target.Composer (composed self.now) target.old) }
         ensures capacity { Target.capacity target.old ≤ Target.capacity target.new }
     {
         let Some(len) = self.rdlen(target.can_compress()) else {
@@ -218,16 +197,11 @@ pub trait ComposeRecordData: RecordData {
         target: &mut Target,
     ) -> Result<(), CanonicalError<Target::AppendError>>
         ensures ok { OnOk result
-            (WithLengthAndForm
-            (canonical_form (Self.type_number self.now) (uncompressed self.now)
-            (lowercase self.now)) (Target.octets target.old) (Target.octets target.new)) }
-        ensures memory { Target.kept_within (length (Target.octets target.old))
-            (Target.memory target.new) ≡ Target.memory target.old }
+            (GrowsByLengthAndForm Target.Composer Self.ComposeRecordData self.now target.old target.new) }
+        ensures memory { RemembersAsBefore Target.Composer target.old target.new }
         ensures unchanged { OnErr result (Target.octets target.new ≡ Target.octets target.old) }
         ensures why { IfErr result
-            (λ e. CanonicalRefused
-            (canonical_form (Self.type_number self.now) (uncompressed self.now)
-            (lowercase self.now)) (Target.octets target.old) (Target.capacity target.old) e) }
+            (NoLengthAndForm Target.Composer Self.ComposeRecordData self.now target.old) }
         ensures capacity { Target.capacity target.old ≤ Target.capacity target.new }
     {
         let start = target.as_slice().len();
@@ -267,24 +241,19 @@ pub trait ComposeRecordData: RecordData {
 }
 
 /// Appends a length, and after it the data, or nothing; and tells how many octets the data has.
-fn compose_after<Data: ComposeRecordData, Target: Composer>(
-    rdata: &Data,
-    target: &mut Target,
+fn compose_after<D: ComposeRecordData, T: Composer>(
+    rdata: &D,
+    target: &mut T,
     len: u16,
-) -> Result<usize, Target::AppendError>
-    ensures ok { IfOk result
-        (λ n. DataAfterLength (Data.composed rdata.now Target.compresses) (Target.octets target.old)
-        len n (Target.octets target.new)) }
+) -> Result<usize, T::AppendError>
+    ensures ok { IfOk result (Follows T.Composer (D.composed rdata.now) len target.old target.new) }
     ensures names { IfOk result
-        (λ n. WrittenBehind Target.octets Target.extends
-        (Data.written rdata.now Target Target.extends Target.appends) target.old len n target.new) }
-    ensures memory { Target.kept_within (length (Target.octets target.old))
-        (Target.memory target.new) ≡ Target.memory target.old }
-    ensures unchanged { OnErr result (Target.octets target.new ≡ Target.octets target.old) }
+        (FollowsLeft T.Composer (D.written rdata.now) len target.old target.new) }
+    ensures memory { RemembersAsBefore T.Composer target.old target.new }
+    ensures unchanged { OnErr result (T.octets target.new ≡ T.octets target.old) }
     ensures full { OnErr result
-        (ExceedsWithLength (Data.composed rdata.now Target.compresses) (Target.octets target.old)
-        (Target.capacity target.old)) }
-    ensures capacity { Target.capacity target.old ≤ Target.capacity target.new }
+        (OverflowsWithLength T.Composer (D.composed rdata.now) target.old) }
+    ensures capacity { T.capacity target.old ≤ T.capacity target.new }
 {
     let start = target.as_slice().len();
     if let Err(e) = target.append_slice(&len.to_be_bytes()) {
@@ -302,23 +271,17 @@ fn compose_after<Data: ComposeRecordData, Target: Composer>(
 /// A target that writes names shorter may lead to any octets that stand before, the length too. So the
 /// data is composed once to be measured, and again after its length. What it has then may be another
 /// number of octets, where the target was written over so that names are read through the length.
-fn compose_measured<Data: ComposeRecordData, Target: Composer>(
-    rdata: &Data,
-    target: &mut Target,
-) -> Result<(), ComposeRdataError<Target::AppendError>>
+fn compose_measured<D: ComposeRecordData, T: Composer>(
+    rdata: &D,
+    target: &mut T,
+) -> Result<(), ComposeRdataError<T::AppendError>>
     ensures ok { OnOk result
-        (LengthAndData (Data.composed rdata.now Target.compresses) (Target.octets target.old)
-        (Target.octets target.new)) }
-    ensures names { Target.compresses ≡ true →
-        OnOk result (LeavesNames Target.octets Target.extends Target.cuts
-        (Data.written rdata.now Target Target.extends Target.appends) target.old target.new) }
-    ensures memory { Target.kept_within (length (Target.octets target.old))
-        (Target.memory target.new) ≡ Target.memory target.old }
-    ensures unchanged { OnErr result (Target.octets target.new ≡ Target.octets target.old) }
-    ensures why { IfErr result
-        (λ e. ComposeRefused (Data.composed rdata.now Target.compresses) (Target.octets target.old)
-        (Target.capacity target.old) e) }
-    ensures capacity { Target.capacity target.old ≤ Target.capacity target.new }
+        (FollowsOwn T.Composer (D.composed rdata.now) target.old target.new) }
+    ensures names { LeavesTo T.Composer (D.written rdata.now) target.old target.new result }
+    ensures memory { RemembersAsBefore T.Composer target.old target.new }
+    ensures unchanged { OnErr result (T.octets target.new ≡ T.octets target.old) }
+    ensures why { IfErr result (NotComposed T.Composer (D.composed rdata.now) target.old) }
+    ensures capacity { T.capacity target.old ≤ T.capacity target.new }
 {
     let start = target.as_slice().len();
     let len = match compose_after(rdata, target, 0) {
@@ -348,20 +311,16 @@ fn compose_measured<Data: ComposeRecordData, Target: Composer>(
 /// Appends the data with its length in front and with no name shorter, or nothing.
 #[cold]
 #[inline(never)]
-fn compose_flat<Data: ComposeRecordData, Target: Composer>(
-    rdata: &Data,
-    target: &mut Target,
-) -> Result<(), ComposeRdataError<Target::AppendError>>
+fn compose_flat<D: ComposeRecordData, T: Composer>(
+    rdata: &D,
+    target: &mut T,
+) -> Result<(), ComposeRdataError<T::AppendError>>
     ensures ok { OnOk result
-        (LengthAndData (Data.composed rdata.now Target.compresses) (Target.octets target.old)
-        (Target.octets target.new)) }
-    ensures memory { Target.kept_within (length (Target.octets target.old))
-        (Target.memory target.new) ≡ Target.memory target.old }
-    ensures unchanged { OnErr result (Target.octets target.new ≡ Target.octets target.old) }
-    ensures why { IfErr result
-        (λ e. ComposeRefused (Data.composed rdata.now Target.compresses) (Target.octets target.old)
-        (Target.capacity target.old) e) }
-    ensures capacity { Target.capacity target.old ≤ Target.capacity target.new }
+        (FollowsOwn T.Composer (D.composed rdata.now) target.old target.new) }
+    ensures memory { RemembersAsBefore T.Composer target.old target.new }
+    ensures unchanged { OnErr result (T.octets target.new ≡ T.octets target.old) }
+    ensures why { IfErr result (NotComposed T.Composer (D.composed rdata.now) target.old) }
+    ensures capacity { T.capacity target.old ≤ T.capacity target.new }
 {
     let mut octets = ArrayVec::<u8, MOST_OCTETS>::new();
     let Ok(()) = rdata.compose_rdata(&mut octets) else {
@@ -445,18 +404,14 @@ pub trait ParseRecordData<'a>: RecordData + Sized {
     /// `None` exactly where records of this type have other data, so an error comes of a type that has such data alone.
     /// `None` and a refusal leave the parser where it stood.
     fn parse_rdata(rtype: Rtype, parser: &mut Parser<'a>) -> Result<Option<Self>, ParseError>
-        ensures ok { IfOk result
-            (λ read. IfSome read
-            (λ it. encodes (rtype_number rtype) (message parser.old) (position parser.old)
-            (model it) (position parser.new))) }
+        ensures ok { IfOk result (ReadsIfSome encodes rtype model parser.old parser.new) }
         ensures of_type { IfOk result
-            (λ read. IfSome read (λ it. Self.type_number it ≡ rtype_number rtype)) }
+            (λ read. IfSome read (IsOfType Self.type_number rtype)) }
         ensures none { IfOk result
             (λ read. IsNone read ↔ (reads_type (rtype_number rtype) ≡ false)) }
         ensures passed { IfOk result (λ read. IsNone read → parser.new ≡ parser.old) }
         ensures moves { OnOk result (MovesTo parser.old parser.new (position parser.new)) }
-        ensures err { IfErr result
-            (λ e. fails_with (rtype_number rtype) (message parser.old) (position parser.old) e) }
+        ensures err { IfErr result (HasNoData fails_with rtype parser.old) }
         ensures err_type { OnErr result (reads_type (rtype_number rtype) ≡ true) }
         ensures unchanged { OnErr result (parser.new ≡ parser.old) };
 
@@ -484,13 +439,10 @@ pub trait ParseAnyRecordData<'a>: RecordData + Sized {
     ///
     /// A refusal leaves the parser where it stood.
     fn parse_any_rdata(rtype: Rtype, parser: &mut Parser<'a>) -> Result<Self, ParseError>
-        ensures ok { IfOk result
-            (λ it. encodes (rtype_number rtype) (message parser.old) (position parser.old)
-            (model it) (position parser.new)) }
-        ensures of_type { IfOk result (λ it. Self.type_number it ≡ rtype_number rtype) }
+        ensures ok { IfOk result (ReadsData encodes rtype model parser.old parser.new) }
+        ensures of_type { IfOk result (IsOfType Self.type_number rtype) }
         ensures moves { OnOk result (MovesTo parser.old parser.new (position parser.new)) }
-        ensures err { IfErr result
-            (λ e. fails_with (rtype_number rtype) (message parser.old) (position parser.old) e) }
+        ensures err { IfErr result (HasNoData fails_with rtype parser.old) }
         ensures unchanged { OnErr result (parser.new ≡ parser.old) };
 
     /// At each offset there is one value or one error, and never both.

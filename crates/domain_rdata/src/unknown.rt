@@ -1,5 +1,6 @@
 //! Record data of any type.
-ghost use Rattle.std.specs.Prelude.{◌≡◌, ◌==◌, ◌<◌, ◌≤◌, ◌↔◌, ◌++◌, ℕ, List, length, codes, IfOk, IfErr, IsErr, IsOk, OnOk, OnErr, None, Some, true, refl};
+ghost use Rattle.std.specs.Prelude.{◌≡◌, ◌==◌, ◌<◌, ◌≤◌, ◌↔◌, ◌++◌, ℕ, List, length, codes, None, Some, true, refl};
+ghost use Rattle.std.specs.Prelude.{IfOk, IfErr, IsErr, IsOk, OnOk, OnErr};
 ghost use Rattle.std.proofs.Common.{rules};
 ghost use Rattle.std.specs.Cmp.Lexicographic.{pointwise, slice_cmp};
 ghost use Rattle.std.specs.Cmp.Rules.{comparing};

@@ -6,7 +6,6 @@ pub mod HeaderLaws
 pub mod Laws
 pub mod LeftToTarget
 pub mod MayCompose
-pub mod Members
 pub mod Models
 pub mod Once
 pub mod Readings

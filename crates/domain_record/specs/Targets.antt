@@ -1,9 +1,10 @@
 -- What a target becomes where a question or a record is composed into it, and why none is. `g` is `Target.Composer`,
 -- `labels` tells the labels of a name, and `d` is `D.ComposeRecordData`.
-use Rattle.std.specs.Prelude.{◌≡◌, ℕ, List, ◌++◌, length, Option}
+use Rattle.std.specs.Prelude.{◌≡◌, ℕ, List, ◌++◌, Option}
 use Rattle.domain_header.specs.Values.{class_number, ttl_seconds}
 use Rattle.domain_header.specs.declared.ttl.Ttl.{Ttl}
 use Rattle.domain_rdata.specs.Canonical.{canonical_form, WithLengthAndForm}
+use Rattle.domain_rdata.specs.Members.{ComposerMembers, DataMembers}
 use Rattle.domain_rdata.specs.ReadBack.{Appended, Exceeds}
 use Rattle.domain_rdata.specs.RecordData.{ComposeRefused}
 use Rattle.domain_rdata.specs.declared.record_data.CanonicalError.{CanonicalError}
@@ -12,15 +13,10 @@ use Rattle.domain_record.specs.CanonicalRecords.{canonical_head, CanonicalRecord
 use Rattle.domain_record.specs.Composing.{BeginsWithName}
 use Rattle.domain_record.specs.LeftToTarget.{WritesQuestion, WritesRecord}
 use Rattle.domain_record.specs.MayCompose.{after_qname, after_owner, IsNameThen, RefusesRecord, MayComposeQuestion, MayComposeRecord, MayRefuseRecord}
-use Rattle.domain_record.specs.Members.{ComposerMembers, DataMembers}
 use Rattle.domain_record.specs.RecordParts.{owner_of, class_of, data_of}
 use Rattle.domain_record.specs.Views.{question_name}
 use Rattle.domain_record.specs.declared.question.Question.{Question}
 use Rattle.domain_record.specs.declared.resource_record.Record.{Record}
-
--- Cut to the octets that were there before, the target remembers what it did then.
-abbrev pub RemembersAsBefore : {T : Type 0} → ComposerMembers T → T → T → Type 0
-RemembersAsBefore g old new = g.kept_within (length (g.octets old)) (g.memory new) ≡ g.memory old
 
 -- The target remembers what it did before.
 abbrev pub SameMemory : {T : Type 0} → ComposerMembers T → T → T → Type 0

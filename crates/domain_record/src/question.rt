@@ -2,11 +2,12 @@
 ghost use Rattle.std.specs.Prelude.{◌≡◌, ◌≤◌, Some, OnOk, OnErr};
 ghost use Rattle.domain_header.specs.Values.{class_number};
 ghost use Rattle.domain_rdata.specs.Rtypes.{rtype_number};
+ghost use Rattle.domain_rdata.specs.Targets.{RemembersAsBefore};
 ghost use Rattle.domain_record.specs.Composing.{type_and_class};
 ghost use Rattle.domain_record.specs.Entries.{QuestionFields, QuestionAt, NoQuestion};
 ghost use Rattle.domain_record.specs.Readings.{question_reading};
 ghost use Rattle.domain_record.specs.Texts.{question_text};
-ghost use Rattle.domain_record.specs.Targets.{RemembersAsBefore, SameMemory, ComposesQuestion, BeginsWithQname, TakesQuestion};
+ghost use Rattle.domain_record.specs.Targets.{SameMemory, ComposesQuestion, BeginsWithQname, TakesQuestion};
 ghost use Rattle.domain_record.specs.Targets.{QuestionExceeds, HasNoRoomFor};
 
 use crate::rtype_text::RtypeText;

@@ -6,10 +6,11 @@ ghost use Rattle.std.specs.Fmt.{◌++?◌};
 ghost use Rattle.domain_parsed.specs.ParsedNames.{parsed_labels};
 ghost use Rattle.std.specs.Int.{to_be_bytes};
 ghost use Rattle.domain_rdata.specs.Rtypes.{rtype_number};
+ghost use Rattle.domain_rdata.specs.Targets.{RemembersAsBefore};
 ghost use Rattle.domain_header.specs.Values.{class_number, ttl_seconds};
 ghost use Rattle.domain_record.specs.Composing.{before_length};
 ghost use Rattle.domain_record.specs.Texts.{text_before_data};
-ghost use Rattle.domain_record.specs.Targets.{RemembersAsBefore, SameMemory, ComposesRecord, BeginsWithOwner, Takes};
+ghost use Rattle.domain_record.specs.Targets.{SameMemory, ComposesRecord, BeginsWithOwner, Takes};
 ghost use Rattle.domain_record.specs.Targets.{RecordNotComposed, TargetRefuses, ComposesForm, FormNotComposed};
 
 use crate::rtype_text::RtypeText;

@@ -2,10 +2,10 @@
 -- section, and of its errors.
 use Rattle.std.specs.Prelude.{◌≡◌, ℕ, List}
 use Rattle.octseq.specs.declared.octets.Octets.{Ghosts}
+use Rattle.domain_rdata.specs.Members.{DataMembers}
 use Rattle.domain_record.specs.declared.resource_record.Record.{Record}
 use Rattle.domain_message_builder.specs.BuilderAnswers as answers
 use Rattle.domain_message_builder.specs.BuilderEntries as builder
-use Rattle.domain_message_builder.specs.Members.{DataMembers}
 use Rattle.domain_message_builder.specs.declared.opt.OptBuilder.{OptBuilder}
 use Rattle.domain_sections.specs.Errors.{push_error}
 use Rattle.domain_sections.specs.Views.{record_builder}

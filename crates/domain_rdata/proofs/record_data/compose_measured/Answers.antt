@@ -5,15 +5,15 @@ use Rattle.domain_rdata.proofs.record_data.compose_measured.Goals as goal
 
 pub returns-in-Err-compose_after-clause-why : goal.returns-in-Err-compose_after-clause-why
 returns-in-Err-compose_after-clause-why g c =
-    let same : g.Target.Octets.octets c.truncate-2.new.self ≡ g.Target.Octets.octets c.args.target.now = cut_back _ _ _ _ _ _ _ c.in-Ok.ensures.ok c.as_slice-start.ensures.octets c.truncate-2.ensures.octets in
-    let room : g.Target.Octets.capacity c.args.target.now ≤ g.Target.Octets.capacity c.truncate-2.new.self = omega (arith, c.compose_after.ensures.capacity, c.truncate-2.ensures.capacity) in
+    let same : g.T.Octets.octets c.truncate-2.new.self ≡ g.T.Octets.octets c.args.target.now = cut_back _ _ _ _ _ _ _ c.in-Ok.ensures.ok c.as_slice-start.ensures.octets c.truncate-2.ensures.octets in
+    let room : g.T.Octets.capacity c.args.target.now ≤ g.T.Octets.capacity c.truncate-2.new.self = omega (arith, c.compose_after.ensures.capacity, c.truncate-2.ensures.capacity) in
     exceeds_less _ _ _ _ _ same room c.in-Err-compose_after.ensures.full
 
 pub returns-clause-why : goal.returns-clause-why
 returns-clause-why g c =
-    let same : g.Target.Octets.octets c.truncate-2.new.self ≡ g.Target.Octets.octets c.args.target.now = cut_back _ _ _ _ _ _ _ c.in-Ok.ensures.ok c.as_slice-start.ensures.octets c.truncate-2.ensures.octets in
-    let again : g.Target.Octets.octets c.truncate-3.new.self ≡ g.Target.Octets.octets c.truncate-2.new.self = cut_back _ _ _ _ _ _ _ c.in-Ok-compose_after.ensures.ok (c.as_slice-start.ensures.octets ∙ sym same) c.truncate-3.ensures.octets in
-    let room : g.Target.Octets.capacity c.args.target.now ≤ g.Target.Octets.capacity c.truncate-3.new.self = omega (arith, c.compose_after.ensures.capacity, c.truncate-2.ensures.capacity, c.compose_after-2.ensures.capacity, c.truncate-3.ensures.capacity) in
+    let same : g.T.Octets.octets c.truncate-2.new.self ≡ g.T.Octets.octets c.args.target.now = cut_back _ _ _ _ _ _ _ c.in-Ok.ensures.ok c.as_slice-start.ensures.octets c.truncate-2.ensures.octets in
+    let again : g.T.Octets.octets c.truncate-3.new.self ≡ g.T.Octets.octets c.truncate-2.new.self = cut_back _ _ _ _ _ _ _ c.in-Ok-compose_after.ensures.ok (c.as_slice-start.ensures.octets ∙ sym same) c.truncate-3.ensures.octets in
+    let room : g.T.Octets.capacity c.args.target.now ≤ g.T.Octets.capacity c.truncate-3.new.self = omega (arith, c.compose_after.ensures.capacity, c.truncate-2.ensures.capacity, c.compose_after-2.ensures.capacity, c.truncate-3.ensures.capacity) in
     refused_less_so _ _ _ _ _ _ (again ∙ same) room c.compose_flat.ensures.why
 
 pub returns-then-again-len-clause-names : goal.returns-then-again-len-clause-names

@@ -1,6 +1,10 @@
 -- What contracts have as the members of a trait and of those above it, as one record.
 use Rattle.std.specs.Prelude.{ℕ, Bool, List, Option}
 
+-- What becomes of any target by its own calls: what it becomes where octets were appended, and where a name was, tells it.
+abbrev pub Writing : Type 1
+Writing = (T : Type 0) → (T → List ℕ → T → Type 0) → (T → List (List ℕ) → T → Type 0) → T → T → Type 0
+
 -- what a clause has as `Target.Composer`
 abbrev pub ComposerMembers : Type 0 → Type 1
 ComposerMembers T = record {
@@ -23,7 +27,7 @@ abbrev pub DataMembers : Type 0 → Type 1
 DataMembers D = record {
   type_number : D → ℕ;
   composed : D → Bool → List ℕ → List ℕ → Type 0;
-  written : D → (T : Type 0) → (T → List ℕ → T → Type 0) → (T → List (List ℕ) → T → Type 0) → T → T → Type 0;
+  written : D → Writing;
   uncompressed : D → List ℕ;
   lowercase : D → Option (List ℕ);
   knows_len : D → Bool → Bool;
