@@ -2,8 +2,11 @@ pub mod Cases
 pub mod Data
 pub mod FieldLaws
 pub mod Names
+pub mod Orders
+pub mod Parsers
 pub mod Parts
 pub mod ReadBack
 pub mod Reading
 pub mod Sequences
+pub mod Targets
 pub mod Moves

@@ -8,6 +8,7 @@ use Rattle.domain_reading.proofs.Encodings.{ends_more}
 use Rattle.domain_reading.proofs.Reading.{names_more}
 use Rattle.domain_rdata.specs.AnyData.{IsAllThatIsLeft}
 use Rattle.domain_rdata.specs.FlatNames.{wire_reads_back}
+use Rattle.domain_rdata.specs.Members.{DataMembers}
 use Rattle.domain_rdata.specs.RecordData.{NameOctets}
 use Rattle.domain_wire.specs.Values.{FixedAt}
 use Rattle.domain_fields.specs.Data.{AllAt}
@@ -21,6 +22,10 @@ IsReadBack {Seen} May At Alike = (compresses : Bool) (t s u : List ℕ) → May 
 -- The same where it is all that is left.
 abbrev pub IsReadBackWhole : {Seen : Type 0} → (Bool → List ℕ → List ℕ → Type 0) → (List ℕ → ℕ → Seen → ℕ → Type 0) → (Seen → Type 0) → Type 0
 IsReadBackWhole {Seen} May At Alike = (compresses : Bool) (t s : List ℕ) → May compresses t s → (it : Seen) × At (t ++ s) (length t) it (length t + length s) × Alike it
+
+-- So it is with data, of which `at` tells where data of a type is. `d` is `D.ComposeRecordData`.
+abbrev pub IsDataReadBack : {D Seen : Type 0} → DataMembers D → (ℕ → List ℕ → ℕ → Seen → ℕ → Type 0) → (D → Seen → Type 0) → D → Type 0
+IsDataReadBack d at like it = IsReadBackWhole (d.composed it) (at (d.type_number it)) (like it)
 
 -- a name, compressed or not: an equal one, ignoring ASCII case
 pub name_read_back : (ls : List (List ℕ)) → IsReadBack (NameOctets ls) NameFieldAt (λ it. lowercase_labels it ≡ lowercase_labels ls)

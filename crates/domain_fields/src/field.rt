@@ -1,9 +1,11 @@
 //! Fields of record data.
-ghost use Rattle.std.specs.Prelude.{◌≡◌, ℕ, ◌++◌, ◌∷◌, [], ◌+◌, ◌<◌, ◌≤◌, List, length, OnOk, OnErr, Bool, false, Option, Some, refl};
-ghost use Rattle.domain_rdata.specs.ReadBack.{Appended, Exceeds};
+ghost use Rattle.std.specs.Prelude.{◌≡◌, ℕ, ◌∷◌, [], ◌≤◌, List, length, OnOk, OnErr, Bool, false, Option, Some, refl};
+ghost use Rattle.domain_rdata.specs.Members.{Writing};
+ghost use Rattle.domain_rdata.specs.Targets.{RemembersAsBefore, Grows, Overflows, LeftTo};
 ghost use Rattle.domain_fields.specs.FieldLaws.{fixed_size};
 ghost use Rattle.domain_fields.specs.Moves.{NamesMove};
 ghost use Rattle.domain_fields.specs.Parts.{Part, no_name, parts_octets, one_part};
+ghost use Rattle.domain_fields.specs.Targets.{GrowsBy, Exceed};
 
 use domain_rdata::Composer;
 use domain_wire::FixedLen;
@@ -26,8 +28,7 @@ pub trait DataField {
 
     /// What a target becomes where the field was appended, by what it becomes where octets were appended
     /// ([`OctetsBuilder::extends`](octseq::OctetsBuilder)) and where a name was, as the target may write it ([`Composer::appends`]).
-    ghost written: { Self → (T : Type 0) → (T → List ℕ → T → Type 0) →
-        (T → List (List ℕ) → T → Type 0) → T → T → Type 0 };
+    ghost written: { Self → Writing };
 
     /// How many octets the field has, where that is known before it is composed.
     ghost known_len: { Self → Bool → Option ℕ };
@@ -42,43 +43,31 @@ pub trait DataField {
     ///
     /// Fails only where octets that may be appended exceed the spare capacity of the target,
     /// and leaves its octets then.
-    fn compose_field<Target: Composer>(
-        &self,
-        target: &mut Target,
-    ) -> Result<(), Target::AppendError>
-        ensures ok { OnOk result
-            (Appended (composed self.now Target.compresses (Target.octets target.old))
-            (Target.octets target.old) (Target.octets target.new)) }
-        ensures names { OnOk result
-            (written self.now Target Target.extends Target.appends target.old target.new) }
-        ensures memory { Target.kept_within (length (Target.octets target.old))
-            (Target.memory target.new) ≡ Target.memory target.old }
-        ensures unchanged { OnErr result (Target.octets target.new ≡ Target.octets target.old) }
-        ensures full { OnErr result
-            (Exceeds (composed self.now Target.compresses (Target.octets target.old))
-            (Target.octets target.old) (Target.capacity target.old)) }
-        ensures capacity { Target.capacity target.old ≤ Target.capacity target.new };
+    fn compose_field<T: Composer>(&self, target: &mut T) -> Result<(), T::AppendError>
+        ensures ok { OnOk result (Grows T.Composer (composed self.now) target.old target.new) }
+        ensures names { OnOk result (LeftTo T.Composer (written self.now) target.old target.new) }
+        ensures memory { RemembersAsBefore T.Composer target.old target.new }
+        ensures unchanged { OnErr result (T.octets target.new ≡ T.octets target.old) }
+        ensures full { OnErr result (Overflows T.Composer (composed self.now) target.old) }
+        ensures capacity { T.capacity target.old ≤ T.capacity target.new };
 
     /// Appends the canonical form of the field, or nothing (RFC 4034, 6.2): no name is compressed, and names are in lowercase
     /// if `lowercase`, which the type of the record tells.
     ///
     /// Fails only where its octets exceed the spare capacity of the target, and leaves its
     /// octets then.
-    fn compose_canonical_field<Target: Composer>(
+    fn compose_canonical_field<T: Composer>(
         &self,
         lowercase: bool,
-        target: &mut Target,
-    ) -> Result<(), Target::AppendError>
+        target: &mut T,
+    ) -> Result<(), T::AppendError>
         ensures ok { OnOk result
-            (Target.octets target.new
-            ≡ Target.octets target.old ++ uncompressed self.now lowercase) }
-        ensures memory { Target.kept_within (length (Target.octets target.old))
-            (Target.memory target.new) ≡ Target.memory target.old }
-        ensures unchanged { OnErr result (Target.octets target.new ≡ Target.octets target.old) }
+            (GrowsBy T.Composer (uncompressed self.now lowercase) target.old target.new) }
+        ensures memory { RemembersAsBefore T.Composer target.old target.new }
+        ensures unchanged { OnErr result (T.octets target.new ≡ T.octets target.old) }
         ensures full { OnErr result
-            (Target.capacity target.old
-            < length (Target.octets target.old) + length (uncompressed self.now lowercase)) }
-        ensures capacity { Target.capacity target.old ≤ Target.capacity target.new };
+            (Exceed T.Composer (uncompressed self.now lowercase) target.old) }
+        ensures capacity { T.capacity target.old ≤ T.capacity target.new };
 
     /// In both forms the octets are those of the parts: names in lowercase, or with their case, and other octets as they are.
     ghost forms: { (it : Self) (lowercase : Bool) →

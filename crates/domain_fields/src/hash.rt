@@ -1,6 +1,6 @@
 //! What fields of record data write to a hasher.
-ghost use Rattle.std.specs.Prelude.{◌≡◌, fold, true};
-ghost use Rattle.domain_label.specs.Lowercase.{as_writes};
+ghost use Rattle.std.specs.Prelude.{◌≡◌, true};
+ghost use Rattle.domain_fields.specs.Orders.{hashed};
 
 use crate::field::DataField;
 use crate::name_field::{DataName, NameField, UncompressedNameField};
@@ -10,7 +10,7 @@ use std::hash::Hasher;
 
 /// Writes octets to the hasher, each as one `u8`.
 pub fn hash_octets<H: Hasher>(octets: &[u8], state: &mut H)
-    ensures { state.new ≡ fold H.write state.old (as_writes octets.now) }
+    ensures { state.new ≡ hashed H.write octets.now state.old }
 {
     for octet in octets {
         state.write_u8(*octet);
@@ -22,8 +22,7 @@ pub fn hash_octets<H: Hasher>(octets: &[u8], state: &mut H)
 pub trait HashedField: DataField {
     /// Writes these octets to the hasher, each as one `u8`.
     fn hash_field<H: Hasher>(&self, state: &mut H)
-        ensures { state.new
-            ≡ fold H.write state.old (as_writes (Self.uncompressed self.now true)) };
+        ensures { state.new ≡ hashed H.write (Self.uncompressed self.now true) state.old };
 }
 
 impl HashedField for u8 {

@@ -1,17 +1,19 @@
 //! Names in record data.
-ghost use Rattle.std.specs.Prelude.{◌≡◌, ◌++◌, ◌∷◌, [], ◌+◌, ◌<◌, ◌≤◌, ℕ, List, length, fold, OnOk, OnErr, None, Some, if◌then◌else◌, refl};
-ghost use Rattle.domain_label.specs.Lowercase.{lowercase_labels, as_writes};
+ghost use Rattle.std.specs.Prelude.{◌≡◌, ◌∷◌, [], ◌≤◌, ℕ, List, length, OnOk, OnErr, None, Some, if◌then◌else◌, refl};
+ghost use Rattle.std.specs.Ordering.{on};
 ghost use Rattle.domain_label.specs.Wire.{wire};
 ghost use Rattle.domain_list.specs.Order.{composed_order, lowercase_composed_order};
 ghost use Rattle.domain_parsed.specs.ParsedNames.{parsed_labels};
-ghost use Rattle.domain_rdata.specs.ReadBack.{Appended, Exceeds};
 ghost use Rattle.domain_rdata.specs.RecordData.{NameOctets};
-ghost use Rattle.domain_fields.specs.Cases.{cased_labels};
+ghost use Rattle.domain_rdata.specs.Targets.{RemembersAsBefore, AddsName, NameOverflows};
+ghost use Rattle.domain_fields.specs.Cases.{cased_labels, lowercase_wire};
 ghost use Rattle.domain_fields.specs.FieldLaws.{fixed_size, cased_size, name_size, wire_octets};
 ghost use Rattle.domain_fields.specs.Moves.{name_moves};
 ghost use Rattle.domain_fields.specs.Names.{NameFieldAt, NoNameField, name_reading};
+ghost use Rattle.domain_fields.specs.Orders.{cased_order, hashed};
 ghost use Rattle.domain_fields.specs.Parts.{a_name, one_part};
 ghost use Rattle.domain_fields.specs.Reading.{any_reading};
+ghost use Rattle.domain_fields.specs.Targets.{AddsWire, WireOverflows, AddsLower, LowerOverflows, AddsCased, CasedOverflows};
 
 use crate::field::DataField;
 use crate::read::ReadField;
@@ -29,53 +31,31 @@ use std::hash::Hasher;
 /// An absolute name that record data may have.
 pub trait DataName: Absolute {
     /// Appends octets that the target may write for the name, or nothing, as `append_compressed_name`.
-    fn append_name<Target: Composer>(&self, target: &mut Target) -> Result<(), Target::AppendError>
-        ensures ok { OnOk result
-            (Appended (Target.may_append target.old (Self.labels self.now))
-            (Target.octets target.old) (Target.octets target.new)) }
-        ensures appends { OnOk result
-            (Target.appends target.old (Self.labels self.now) target.new) }
-        ensures memory { Target.kept_within (length (Target.octets target.old))
-            (Target.memory target.new) ≡ Target.memory target.old }
-        ensures unchanged { OnErr result (Target.octets target.new ≡ Target.octets target.old) }
-        ensures full { OnErr result
-            (Exceeds (Target.may_append target.old (Self.labels self.now))
-            (Target.octets target.old) (Target.capacity target.old)) }
-        ensures capacity { Target.capacity target.old ≤ Target.capacity target.new };
+    fn append_name<T: Composer>(&self, target: &mut T) -> Result<(), T::AppendError>
+        ensures ok { OnOk result (AddsName T.Composer Self.labels self.now target.old target.new) }
+        ensures appends { OnOk result (T.appends target.old (Self.labels self.now) target.new) }
+        ensures memory { RemembersAsBefore T.Composer target.old target.new }
+        ensures unchanged { OnErr result (T.octets target.new ≡ T.octets target.old) }
+        ensures full { OnErr result (NameOverflows T.Composer Self.labels self.now target.old) }
+        ensures capacity { T.capacity target.old ≤ T.capacity target.new };
 
     /// Appends the name with no pointer (RFC 1035, 3.1), or nothing.
-    fn append_uncompressed<Target: Composer>(
-        &self,
-        target: &mut Target,
-    ) -> Result<(), Target::AppendError>
-        ensures ok { OnOk result
-            (Target.octets target.new ≡ Target.octets target.old ++ wire (Self.labels self.now)) }
+    fn append_uncompressed<T: Composer>(&self, target: &mut T) -> Result<(), T::AppendError>
+        ensures ok { OnOk result (AddsWire T.Composer Self.labels self.now target.old target.new) }
         ensures extends { OnOk result
-            (Target.extends target.old (wire (Self.labels self.now)) target.new) }
-        ensures memory { Target.kept_within (length (Target.octets target.old))
-            (Target.memory target.new) ≡ Target.memory target.old }
-        ensures unchanged { OnErr result (Target.octets target.new ≡ Target.octets target.old) }
-        ensures full { OnErr result
-            (Target.capacity target.old
-            < length (Target.octets target.old) + length (wire (Self.labels self.now))) }
-        ensures capacity { Target.capacity target.old ≤ Target.capacity target.new };
+            (T.extends target.old (wire (Self.labels self.now)) target.new) }
+        ensures memory { RemembersAsBefore T.Composer target.old target.new }
+        ensures unchanged { OnErr result (T.octets target.new ≡ T.octets target.old) }
+        ensures full { OnErr result (WireOverflows T.Composer Self.labels self.now target.old) }
+        ensures capacity { T.capacity target.old ≤ T.capacity target.new };
 
     /// Appends the name in lowercase with no pointer (RFC 4034, 6.2), or nothing.
-    fn append_lowercase<Target: Composer>(
-        &self,
-        target: &mut Target,
-    ) -> Result<(), Target::AppendError>
-        ensures ok { OnOk result
-            (Target.octets target.new
-            ≡ Target.octets target.old ++ wire (lowercase_labels (Self.labels self.now))) }
-        ensures memory { Target.kept_within (length (Target.octets target.old))
-            (Target.memory target.new) ≡ Target.memory target.old }
-        ensures unchanged { OnErr result (Target.octets target.new ≡ Target.octets target.old) }
-        ensures full { OnErr result
-            (Target.capacity target.old
-            < length (Target.octets target.old)
-            + length (wire (lowercase_labels (Self.labels self.now)))) }
-        ensures capacity { Target.capacity target.old ≤ Target.capacity target.new };
+    fn append_lowercase<T: Composer>(&self, target: &mut T) -> Result<(), T::AppendError>
+        ensures ok { OnOk result (AddsLower T.Composer Self.labels self.now target.old target.new) }
+        ensures memory { RemembersAsBefore T.Composer target.old target.new }
+        ensures unchanged { OnErr result (T.octets target.new ≡ T.octets target.old) }
+        ensures full { OnErr result (LowerOverflows T.Composer Self.labels self.now target.old) }
+        ensures capacity { T.capacity target.old ≤ T.capacity target.new };
 
     /// The order of the octets of the two names with no pointer.
     fn uncompressed_cmp(&self, other: &Self) -> Ordering
@@ -83,31 +63,25 @@ pub trait DataName: Absolute {
 
     /// The order of the octets of the two names in lowercase with no pointer.
     fn lowercase_cmp(&self, other: &Self) -> Ordering
-        ensures { result
-            ≡ lowercase_composed_order (Self.labels self.now) (Self.labels other.now) };
+        ensures { result ≡ on Self.labels lowercase_composed_order self.now other.now };
 
     /// Writes the octets of the name in lowercase with no pointer to the hasher, each as one `u8`.
     fn hash_lowercase<H: Hasher>(&self, state: &mut H)
-        ensures { state.new
-            ≡ fold H.write state.old (as_writes (wire (lowercase_labels (Self.labels self.now)))) };
+        ensures { state.new ≡ hashed H.write (lowercase_wire (Self.labels self.now)) state.old };
 
     /// Appends the name with no pointer, in lowercase if so, or nothing.
-    final fn append_cased<Target: Composer>(
+    final fn append_cased<T: Composer>(
         &self,
         lowercase: bool,
-        target: &mut Target,
-    ) -> Result<(), Target::AppendError>
+        target: &mut T,
+    ) -> Result<(), T::AppendError>
         ensures ok { OnOk result
-            (Target.octets target.new
-            ≡ Target.octets target.old ++ wire (cased_labels lowercase (Self.labels self.now))) }
-        ensures memory { Target.kept_within (length (Target.octets target.old))
-            (Target.memory target.new) ≡ Target.memory target.old }
-        ensures unchanged { OnErr result (Target.octets target.new ≡ Target.octets target.old) }
+            (AddsCased T.Composer lowercase Self.labels self.now target.old target.new) }
+        ensures memory { RemembersAsBefore T.Composer target.old target.new }
+        ensures unchanged { OnErr result (T.octets target.new ≡ T.octets target.old) }
         ensures full { OnErr result
-            (Target.capacity target.old
-            < length (Target.octets target.old)
-            + length (wire (cased_labels lowercase (Self.labels self.now)))) }
-        ensures capacity { Target.capacity target.old ≤ Target.capacity target.new }
+            (CasedOverflows T.Composer lowercase Self.labels self.now target.old) }
+        ensures capacity { T.capacity target.old ≤ T.capacity target.new }
     {
         match lowercase {
             true => self.append_lowercase(target),
@@ -117,9 +91,7 @@ pub trait DataName: Absolute {
 
     /// The order of the octets of the two names with no pointer, in lowercase if so.
     final fn cased_cmp(&self, other: &Self, lowercase: bool) -> Ordering
-        ensures { result
-            ≡ composed_order (cased_labels lowercase (Self.labels self.now))
-            (cased_labels lowercase (Self.labels other.now)) }
+        ensures { result ≡ cased_order lowercase (Self.labels self.now) (Self.labels other.now) }
     {
         match lowercase {
             true => self.lowercase_cmp(other),

@@ -1,7 +1,6 @@
 //! The canonical order of record data (RFC 4034, 6.3).
-ghost use Rattle.std.specs.Prelude.{◌≡◌, ◌++◌, ℕ, List};
-ghost use Rattle.std.specs.Cmp.Lexicographic.{slice_cmp};
-ghost use Rattle.std.specs.Ordering.{nat_cmp, ordering_then};
+ghost use Rattle.std.specs.Prelude.{◌≡◌};
+ghost use Rattle.domain_fields.specs.Orders.{octets_order, DecidesFirst};
 
 use crate::field::DataField;
 use crate::name_field::{DataName, NameField, UncompressedNameField};
@@ -17,14 +16,9 @@ pub trait OrderedField: DataField {
     ///
     /// Names are in lowercase there if `lowercase`, which the type of the record tells.
     fn canonical_field_cmp(&self, other: &Self, lowercase: bool) -> Ordering
-        ensures order { result
-            ≡ slice_cmp nat_cmp (Self.uncompressed self.now lowercase)
-            (Self.uncompressed other.now lowercase) }
+        ensures order { result ≡ octets_order Self.uncompressed lowercase self.now other.now }
         // With other fields after them, these are looked at only where the two are the same.
-        ensures followed { (s t : List ℕ) →
-            slice_cmp nat_cmp (Self.uncompressed self.now lowercase ++ s)
-            (Self.uncompressed other.now lowercase ++ t)
-            ≡ ordering_then result (slice_cmp nat_cmp s t) };
+        ensures followed { DecidesFirst Self.uncompressed lowercase self.now other.now result };
 }
 
 /// A field that is ordered where it is the last one: nothing follows it.
@@ -35,9 +29,7 @@ pub trait OrderedLast: DataField {
     ///
     /// Names are in lowercase there if `lowercase`, which the type of the record tells.
     fn canonical_last_cmp(&self, other: &Self, lowercase: bool) -> Ordering
-        ensures { result
-            ≡ slice_cmp nat_cmp (Self.uncompressed self.now lowercase)
-            (Self.uncompressed other.now lowercase) };
+        ensures { result ≡ octets_order Self.uncompressed lowercase self.now other.now };
 }
 
 impl OrderedField for u8 {

@@ -1,8 +1,6 @@
 //! Record data by its octets: order and hash (RFC 4034, 6.3).
-ghost use Rattle.std.specs.Prelude.{◌≡◌, fold, false, true, List, ℕ, Bool, refl};
-ghost use Rattle.std.specs.Cmp.Lexicographic.{slice_cmp};
-ghost use Rattle.std.specs.Ordering.{nat_cmp};
-ghost use Rattle.domain_label.specs.Lowercase.{as_writes};
+ghost use Rattle.std.specs.Prelude.{◌≡◌, false, true, List, ℕ, Bool, refl};
+ghost use Rattle.domain_fields.specs.Orders.{octets_order, hashed};
 
 use crate::hash::hash_octets;
 use domain_rdata::{ComposeRecordData, UnknownRecordData};
@@ -17,14 +15,13 @@ pub trait OrderedData: ComposeRecordData {
 
     /// The order of these octets from the left; what begins another comes first (RFC 4034, 6.3).
     fn cased_data_cmp(&self, other: &Self, lowercase: bool) -> Ordering
-        ensures { result
-            ≡ slice_cmp nat_cmp (cased self.now lowercase) (cased other.now lowercase) };
+        ensures { result ≡ octets_order cased lowercase self.now other.now };
 
     /// Writes these octets, names in lowercase, to the hasher, each as one `u8`.
     fn hash_data<H: Hasher>(&self, state: &mut H)
-        ensures { state.new ≡ fold H.write state.old (as_writes (cased self.now true)) };
+        ensures { state.new ≡ hashed H.write (cased self.now true) state.old };
 
-    // With their case they are the octets that are composed where nothing is compressed.
+    /// With their case they are the octets that are composed where nothing is compressed.
     ghost keeps_case: { (it : Self) → cased it false ≡ Self.uncompressed it };
 }
 

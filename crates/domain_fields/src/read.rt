@@ -9,7 +9,7 @@ ghost use Rattle.domain_wire.specs.Values.{FixedAt, ShortAt};
 ghost use Rattle.domain_wire.specs.declared.net.Ipv4Addr.{Ipv4Addr};
 ghost use Rattle.domain_wire.specs.declared.net.Ipv6Addr.{Ipv6Addr};
 ghost use Rattle.domain_fields.specs.Reading.{IsReadingOf, any_reading};
-ghost use Rattle.domain_fields.specs.Data.{AllAt, NotAll};
+ghost use Rattle.domain_fields.specs.Parsers.{Reads, ReadsAll, NoneHasAll};
 
 use domain_wire::net::{Ipv4Addr, Ipv6Addr};
 use domain_wire::{Parse, ParseError};
@@ -49,9 +49,7 @@ pub trait ReadField<'a, E: FieldError>: Sized {
 
     /// Reads a value at the parser's position, and moves the parser to its end. An error leaves the parser.
     fn read_field(parser: &mut Parser<'a>) -> Result<Self, E>
-        ensures ok { IfOk result
-            (λ value. encodes (message parser.old) (position parser.old) (model value)
-            (position parser.new)) }
+        ensures ok { IfOk result (Reads encodes model parser.old parser.new) }
         ensures moves { OnOk result (MovesTo parser.old parser.new (position parser.new)) }
         ensures err { IfErr result (λ e. fails_with (message parser.old) (position parser.old) e) }
         ensures unchanged { OnErr result (parser.new ≡ parser.old) };
@@ -66,12 +64,9 @@ pub trait ReadField<'a, E: FieldError>: Sized {
 pub fn read_all<'a, E: FieldError, F: ReadField<'a, E> + Drop>(
     parser: &mut Parser<'a>,
 ) -> Result<F, E>
-    ensures ok { IfOk result
-        (λ it. AllAt F.encodes (message parser.old) (position parser.old) (F.model it)
-        (position parser.new)) }
+    ensures ok { IfOk result (ReadsAll F.encodes F.model parser.old parser.new) }
     ensures moves { OnOk result (MovesTo parser.old parser.new (position parser.new)) }
-    ensures err { IfErr result
-        (λ e. NotAll E.said F.encodes F.fails_with (message parser.old) (position parser.old) e) }
+    ensures err { IfErr result (NoneHasAll E.said F.encodes F.fails_with parser.old) }
     ensures unchanged { OnErr result (parser.new ≡ parser.old) }
 {
     let mut ahead = *parser;

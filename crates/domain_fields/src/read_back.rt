@@ -9,7 +9,7 @@ ghost use Rattle.domain_wire.specs.declared.net.Ipv4Addr.{Ipv4Addr};
 ghost use Rattle.domain_wire.specs.declared.net.Ipv6Addr.{Ipv6Addr};
 ghost use Rattle.domain_fields.specs.Names.{NameFieldAt};
 ghost use Rattle.domain_fields.specs.Moves.{NamesMove};
-ghost use Rattle.domain_fields.specs.ReadBack.{IsReadBack, IsReadBackWhole};
+ghost use Rattle.domain_fields.specs.ReadBack.{IsReadBack, IsReadBackWhole, IsDataReadBack};
 ghost use Rattle.domain_fields.specs.Sequences.{BothAt};
 
 use crate::field::DataField;
@@ -244,8 +244,7 @@ pub trait ReadBackData: ComposeRecordData {
 
     /// The law, for this data. It does nothing.
     fn reads_back(&self)
-        ensures { IsReadBackWhole (Self.composed self.now) (seen_at (Self.type_number self.now))
-            (like self.now) };
+        ensures { IsDataReadBack Self.ComposeRecordData seen_at like self.now };
 
     /// Of the octets before it the data asks for its names alone, as a field does ([`DataField`]).
     ghost moves: { (it : Self) (compresses : Bool) (t u s : List ℕ) → NamesMove compresses t u →
