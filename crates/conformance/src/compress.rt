@@ -5,6 +5,7 @@ ghost use Rattle.domain_label.specs.Wire.{wire};
 ghost use Rattle.domain_name.proofs.NameFields.{flat_absolute};
 ghost use Rattle.domain_name.specs.Names.{name_labels};
 ghost use Rattle.domain_rdata.specs.FlatNames.{wire_reads_back};
+ghost use Rattle.domain_rdata.specs.OctetsAlone.{name_written};
 ghost use Rattle.domain_rdata.specs.RecordData.{NameOctets};
 
 use arrayvec::ArrayVec;
@@ -194,6 +195,8 @@ impl<'a> ComposeRecordData for NameData<'a> {
     ghost plain = { λ it c t. record { read = wire_reads_back t (name_labels it.name) (flat_absolute it.name); flat = λ _. refl } };
 
     ghost flat = { λ it t s octets. octets.flat refl };
+
+    ghost writes_composed = { λ it. name_written (name_labels it.name) };
 }
 
 /// Appends data with its length in front, and tells whether it was taken.

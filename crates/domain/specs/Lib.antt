@@ -42,6 +42,7 @@ pub use Rattle.domain_rdata.specs.RecordData
 pub use Rattle.domain_rdata.specs.ReadBack
 pub use Rattle.domain_rdata.specs.LeavingNames
 pub use Rattle.domain_rdata.specs.Members
+pub use Rattle.domain_rdata.specs.OctetsAlone
 pub use Rattle.domain_rdata.specs.Parsers as DataParsers
 pub use Rattle.domain_rdata.specs.Targets as DataTargets
 pub use Rattle.domain_rdata.specs.AnyData

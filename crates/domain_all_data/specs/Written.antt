@@ -74,3 +74,9 @@ octets_and_name name = both one_of_octets (a_name name)
 -- two names and five fields of octets
 pub names_and_octets : {ls ms : List (List ℕ)} {a b c d e : List ℕ} → IsAbsoluteName ls → IsAbsoluteName ms → IsWritten (λ k. BothComposed (NameOctets ls k) (BothComposed (NameOctets ms k) (Fields a (b ∷ c ∷ d ∷ e ∷ [])))) (wire ls ++ (wire ms ++ all_fields a (b ∷ c ∷ d ∷ e ∷ [])))
 names_and_octets {ls} {ms} {a} {b} {c} {d} {e} first second = both (a_name first) (both (a_name second) (fields a (b ∷ c ∷ d ∷ e ∷ [])))
+
+-- Two names and fields of octets come to such as may stand for the names, and to these octets.
+pub names_and_octets_written : (ls ms : List (List ℕ)) (a : List ℕ) (more : List (List ℕ)) → WritesComposed (λ T extends named. BothWritten (λ old new. named old ls new) (BothWritten (λ old new. named old ms new) (FieldsWritten a more T extends named))) (λ c. BothComposed (NameOctets ls c) (BothComposed (NameOctets ms c) (Fields a more)))
+names_and_octets_written ls ms a more =
+    both_written (λ _ _ named old new. named old ls new) (λ T extends named. BothWritten (λ old new. named old ms new) (FieldsWritten a more T extends named)) (NameOctets ls) (λ c. BothComposed (NameOctets ms c) (Fields a more)) (name_written ls)
+    (both_written (λ _ _ named old new. named old ms new) (FieldsWritten a more) (NameOctets ms) (λ _. Fields a more) (name_written ms) (fields_written a more))

@@ -154,6 +154,9 @@ impl<'a> ComposeRecordData for AllRecordData<&'a [u8], ParsedName<&'a [u8]>> {
     ghost use Rattle.domain_parsed.proofs.ParsedFields.{parsed_absolute};
     ghost use Rattle.domain_data.specs.Views.{fields_of};
     ghost use Rattle.domain_all_data.specs.Written.{one_of_octets, two_of_octets, three_of_octets, four_of_octets, six_of_octets, nine_of_octets, a_name, two_names, octets_and_name, names_and_octets};
+    ghost use Rattle.std.specs.Prelude.{◌∷◌, []};
+    ghost use Rattle.domain_rdata.specs.OctetsAlone.{octets_written, name_written};
+    ghost use Rattle.domain_all_data.specs.Written.{fields_written, names_written, octets_and_name_written, names_and_octets_written};
     ghost use Rattle.domain_all_data.specs.declared.all.AllRecordData.TheVariants.{A, Aaaa, Ns, Cname, Ptr, Dname, Mx, Soa, Srv, Mb, Md, Mf, Mg, Mr, Minfo, Rp, Afsdb, Rt, Px, Kx, Hinfo, Naptr, Ds, Sshfp, Rrsig, Nsec, Dnskey, Tlsa, Caa, Svcb, Https, Txt, Unknown};
 
     ghost composed = { elim [
@@ -428,6 +431,42 @@ impl<'a> ComposeRecordData for AllRecordData<&'a [u8], ParsedName<&'a [u8]>> {
       | Https it ↦ three_of_octets.flat
       | Txt it ↦ one_of_octets.flat
       | Unknown it ↦ one_of_octets.flat
+    ] };
+
+    ghost writes_composed = { elim [
+      | A it ↦ octets_written _
+      | Aaaa it ↦ octets_written _
+      | Ns it ↦ name_written _
+      | Cname it ↦ name_written _
+      | Ptr it ↦ name_written _
+      | Dname it ↦ octets_written _
+      | Mx it ↦ octets_and_name_written _ _
+      | Soa it ↦ names_and_octets_written _ _ _ (_ ∷ _ ∷ _ ∷ _ ∷ [])
+      | Srv it ↦ fields_written _ (_ ∷ _ ∷ _ ∷ [])
+      | Mb it ↦ name_written _
+      | Md it ↦ name_written _
+      | Mf it ↦ name_written _
+      | Mg it ↦ name_written _
+      | Mr it ↦ name_written _
+      | Minfo it ↦ names_written _ _
+      | Rp it ↦ fields_written _ (_ ∷ [])
+      | Afsdb it ↦ fields_written _ (_ ∷ [])
+      | Rt it ↦ fields_written _ (_ ∷ [])
+      | Px it ↦ fields_written _ (_ ∷ _ ∷ [])
+      | Kx it ↦ fields_written _ (_ ∷ [])
+      | Hinfo it ↦ fields_written _ (_ ∷ [])
+      | Naptr it ↦ fields_written _ (_ ∷ _ ∷ _ ∷ _ ∷ _ ∷ [])
+      | Ds it ↦ fields_written _ (_ ∷ _ ∷ _ ∷ [])
+      | Sshfp it ↦ fields_written _ (_ ∷ _ ∷ [])
+      | Rrsig it ↦ fields_written _ (_ ∷ _ ∷ _ ∷ _ ∷ _ ∷ _ ∷ _ ∷ _ ∷ [])
+      | Nsec it ↦ fields_written _ (_ ∷ [])
+      | Dnskey it ↦ fields_written _ (_ ∷ _ ∷ _ ∷ [])
+      | Tlsa it ↦ fields_written _ (_ ∷ _ ∷ _ ∷ [])
+      | Caa it ↦ fields_written _ (_ ∷ _ ∷ [])
+      | Svcb it ↦ fields_written _ (_ ∷ _ ∷ [])
+      | Https it ↦ fields_written _ (_ ∷ _ ∷ [])
+      | Txt it ↦ octets_written _
+      | Unknown it ↦ octets_written _
     ] };
 }
 

@@ -43,4 +43,6 @@ impl<const TYPE: u16, F: OrderedLast + HashedField> OrderedData for FieldsData<T
     }
 
     ghost keeps_case = { λ _. refl };
+
+    ghost lowers_case = { λ _. refl };
 }

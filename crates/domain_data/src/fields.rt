@@ -100,4 +100,6 @@ impl<const TYPE: u16, F: DataField> ComposeRecordData for FieldsData<TYPE, F> {
     ghost plain = { λ it. F.plain (fields_of it) };
 
     ghost flat = { λ it. F.flat (fields_of it) };
+
+    ghost writes_composed = { λ it. F.writes_composed (fields_of it) };
 }

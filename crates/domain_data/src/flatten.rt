@@ -1,12 +1,12 @@
 //! Record data made over names that own their octets.
 use crate::fields::FieldsData;
-use domain_fields::FlattenField;
+use domain_fields::{DataField, FlattenField};
 use domain_traits::FlattenInto;
 use octseq::ShortBuf;
 use std::alloc::Global;
 
 /// Names are converted, and numbers stay.
-impl<const TYPE: u16, F: FlattenField<Made>, Made> FlattenInto<FieldsData<TYPE, Made>>
+impl<const TYPE: u16, F: FlattenField<Made>, Made: DataField> FlattenInto<FieldsData<TYPE, Made>>
     for FieldsData<TYPE, F> {
     ghost same = { λ it made. F.same it.fields made.fields };
 

@@ -95,6 +95,8 @@ impl ReadBackField for RtypeField {
 }
 
 impl FlattenField<RtypeField> for RtypeField {
+    ghost use Rattle.std.proofs.Common.{ap};
+
     ghost same = { λ it made. made ≡ it };
 
     ghost may_refuse = { λ _. ⊥ };
@@ -102,6 +104,8 @@ impl FlattenField<RtypeField> for RtypeField {
     fn flatten_field(self, _alloc: Global) -> Result<RtypeField, ShortBuf> {
         Ok(self)
     }
+
+    ghost same_octets = { λ _ _ _ same. ap (λ it. to_be_bytes w16 (rtype_number it.rtype)) same };
 }
 
 /// The mnemonic, or `TYPE` and the number where there is none (RFC 3597, 5).

@@ -111,6 +111,8 @@ impl ReadBackField for TimeField {
 }
 
 impl FlattenField<TimeField> for TimeField {
+    ghost use Rattle.std.proofs.Common.{ap};
+
     ghost same = { λ it made. made ≡ it };
 
     ghost may_refuse = { λ _. ⊥ };
@@ -118,6 +120,8 @@ impl FlattenField<TimeField> for TimeField {
     fn flatten_field(self, _alloc: Global) -> Result<TimeField, ShortBuf> {
         Ok(self)
     }
+
+    ghost same_octets = { λ _ _ _ same. ap (λ it. to_be_bytes w32 it.seconds) same };
 }
 
 /// `YYYYMMDDHHmmSS` (RFC 4034, 3.2).

@@ -183,6 +183,7 @@ impl<'a> ReadField<'a, ParseError> for TypeBitmaps<&'a [u8]> {
 
 /// The octets as they are, in each form.
 impl<Octs: Octets> DataField for TypeBitmaps<Octs> {
+    ghost use Rattle.domain_rdata.specs.OctetsAlone.{octets_written};
     ghost use Rattle.domain_dnssec.specs.BitmapViews.{bitmaps_octets};
 
     ghost parts = { λ it. no_name (bitmaps_octets it) ∷ [] };
@@ -221,6 +222,8 @@ impl<Octs: Octets> DataField for TypeBitmaps<Octs> {
     ghost plain = { λ _ _ _. refl };
 
     ghost flat = { λ _ _ _ same. same };
+
+    ghost writes_composed = { λ it. octets_written (bitmaps_octets it) };
 
     ghost sized = { λ it _ n t s known is.
         fixed_size (bitmaps_octets it) s (length (bitmaps_octets it)) n refl known is };
@@ -272,6 +275,8 @@ impl<Octs: Octets, Target: SameOctets<Octs>> FlattenField<TypeBitmaps<Target>>
             Err(e) => Err(e.into()),
         }
     }
+
+    ghost same_octets = { λ _ _ _ same. same };
 }
 
 impl<Octs: Octets> PartialEq for TypeBitmaps<Octs> {

@@ -1,7 +1,9 @@
 -- One field of record data after another.
 use Rattle.std.specs.Prelude.{◌≡◌, ℕ, ◌+◌, ◌≤◌, Bool, true, false, nat_le, if◌then◌else◌, List, ◌++◌, length, Option, None, Some, refl}
-use Rattle.std.proofs.Common.{ap, subst, ◌∙◌, arith, length-append}
+use Rattle.std.proofs.Common.{ap, subst, ◌∙◌, arith, length-append, append_assoc}
 use Rattle.domain_wire.specs.Refusals.{Refusal}
+use Rattle.domain_rdata.specs.Members.{Writing}
+use Rattle.domain_rdata.specs.OctetsAlone.{WritesComposed}
 use Rattle.domain_rdata.specs.ReadBack.{Appended, Exceeds}
 use Rattle.domain_fields.specs.FieldLaws.{known_once, none_known}
 use Rattle.domain_fields.specs.Reading.{IsReadingOf}
@@ -75,6 +77,16 @@ pub both_flat : (First Rest : List ℕ → List ℕ → Type 0) (a b t s : List 
 both_flat First Rest a b t s first rest both =
     both.all ∙ (ap (λ x. x ++ both.rest) (first t both.first both.first_allowed) ∙ ap (λ x. a ++ x) (rest (t ++ both.first) both.rest both.rest_allowed))
 
+pub both_written : (WriteFirst WriteRest : Writing) (First Rest : Bool → List ℕ → List ℕ → Type 0) → WritesComposed WriteFirst First → WritesComposed WriteRest Rest → WritesComposed (λ T extends named. BothWritten (WriteFirst T extends named) (WriteRest T extends named)) (λ c. BothComposed (First c) (Rest c))
+both_written WriteFirst WriteRest First Rest first rest compresses t u both =
+    let one = first compresses t both.middle both.first in
+    let two = rest compresses both.middle u both.rest in
+    record {
+      octets = one.octets ++ two.octets;
+      allowed = both_plain (First compresses) (Rest compresses) t one.octets two.octets one.allowed (subst (λ m. Rest compresses m two.octets) one.all two.allowed);
+      all = two.all ∙ (ap (λ m. m ++ two.octets) one.all ∙ append_assoc t one.octets two.octets);
+    }
+
 sum_known : (a b : ℕ) (c : Bool) (n : ℕ) → (if c then Some (a + b) else None) ≡ Some n → a + b ≡ n
 sum_known a b true n told = known_once told
 sum_known a b false n told = none_known told
@@ -96,6 +108,10 @@ both_sized First Rest x y n t s first rest told both =
 
 pub both_canonical : (a b : List ℕ) (x y : Option ℕ) (n : ℕ) → ((k : ℕ) → x ≡ Some k → length a ≡ k) → ((k : ℕ) → y ≡ Some k → length b ≡ k) → both_len x y ≡ Some n → length (a ++ b) ≡ n
 both_canonical a b x y n first rest told = length-append a b ∙ both_known x y n (length a) (length b) first rest told
+
+-- octets of both that are the same
+pub both_same : {a b c d : List ℕ} → a ≡ b → c ≡ d → a ++ c ≡ b ++ d
+both_same {b = b} {c = c} first rest = ap (λ x. x ++ c) first ∙ ap (λ y. b ++ y) rest
 
 -- what is full, and what is appended
 pub first_exceeds : (First Rest : List ℕ → List ℕ → Type 0) (w t : List ℕ) (capacity : ℕ) → ((u : List ℕ) → Rest u w) → Exceeds (First t) t capacity → Exceeds (BothComposed First Rest t) t capacity

@@ -1,6 +1,7 @@
 //! Fields of record data.
 ghost use Rattle.std.specs.Prelude.{◌≡◌, ℕ, ◌∷◌, [], ◌≤◌, List, length, OnOk, OnErr, Bool, false, Option, Some, refl};
 ghost use Rattle.domain_rdata.specs.Members.{Writing};
+ghost use Rattle.domain_rdata.specs.OctetsAlone.{WritesComposed, octets_written};
 ghost use Rattle.domain_rdata.specs.Targets.{RemembersAsBefore, Grows, Overflows, LeftTo};
 ghost use Rattle.domain_fields.specs.FieldLaws.{fixed_size};
 ghost use Rattle.domain_fields.specs.Moves.{NamesMove};
@@ -85,6 +86,9 @@ pub trait DataField {
     /// A target that writes no name shorter takes nothing else.
     ghost flat: { (it : Self) (t s : List ℕ) → composed it false t s → s ≡ uncompressed it false };
 
+    /// What is written to a target that is its octets alone is what may be composed.
+    ghost writes_composed: { (it : Self) → WritesComposed (written it) (composed it) };
+
     /// A length that is known is that of all octets that may be appended.
     ghost sized: { (it : Self) (compresses : Bool) (n : ℕ) (t s : List ℕ) →
         known_len it compresses ≡ Some n → composed it compresses t s → length s ≡ n };
@@ -132,6 +136,8 @@ impl<T: FixedLen> DataField for T {
     ghost plain = { λ _ _ _. refl };
 
     ghost flat = { λ _ _ _ h. h };
+
+    ghost writes_composed = { λ it. octets_written (T.composed_octets it) };
 
     ghost sized = { λ it _ n t s known is.
         fixed_size (T.composed_octets it) s T.LEN n (T.fixed it) known is };

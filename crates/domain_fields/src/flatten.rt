@@ -1,15 +1,21 @@
 //! Fields over names that own their octets.
-ghost use Rattle.std.specs.Prelude.{◌≡◌, ◌⊎◌, IfOk, OnErr};
+ghost use Rattle.std.specs.Prelude.{◌≡◌, ◌⊎◌, Bool, IfOk, OnErr};
+ghost use Rattle.std.specs.Int.{w8, w16, w32, to_be_bytes};
+ghost use Rattle.std.proofs.Common.{ap};
+ghost use Rattle.domain_label.specs.Wire.{wire};
+ghost use Rattle.domain_fields.specs.Cases.{cased_labels};
+ghost use Rattle.domain_fields.specs.Sequences.{both_same};
 
-use crate::name_field::{NameField, UncompressedNameField};
+use crate::field::DataField;
+use crate::name_field::{DataName, NameField, UncompressedNameField};
 use crate::sequence::Sequence;
-use domain_traits::FlattenInto;
+use domain_traits::{FlattenInto, FlattenName};
 use octseq::ShortBuf;
 use std::alloc::Global;
 
 /// A field that can be converted to one with uncompressed names, over octets of its own or of another kind, and is
 /// consumed by this. Names are converted as [`FlattenInto`] converts them, and numbers stay.
-pub trait FlattenField<Target>: Sized {
+pub trait FlattenField<Target: DataField>: DataField + Sized {
     /// What the new field and the old one have in common.
     ghost same: { Self → Target → Type 0 };
 
@@ -22,6 +28,10 @@ pub trait FlattenField<Target>: Sized {
     fn flatten_field(self, alloc: Global) -> Result<Target, ShortBuf>
         ensures ok { IfOk result (λ made. same self made) }
         ensures err { OnErr result (may_refuse self) };
+
+    /// In common are the octets with no name compressed, with the case of names and in lowercase.
+    ghost same_octets: { (it : Self) (made : Target) (lowercase : Bool) → same it made →
+        Target.uncompressed made lowercase ≡ Self.uncompressed it lowercase };
 }
 
 impl FlattenField<u8> for u8 {
@@ -32,6 +42,8 @@ impl FlattenField<u8> for u8 {
     fn flatten_field(self, _alloc: Global) -> Result<u8, ShortBuf> {
         Ok(self)
     }
+
+    ghost same_octets = { λ _ _ _ same. ap (to_be_bytes w8) same };
 }
 
 impl FlattenField<u16> for u16 {
@@ -42,6 +54,8 @@ impl FlattenField<u16> for u16 {
     fn flatten_field(self, _alloc: Global) -> Result<u16, ShortBuf> {
         Ok(self)
     }
+
+    ghost same_octets = { λ _ _ _ same. ap (to_be_bytes w16) same };
 }
 
 impl FlattenField<u32> for u32 {
@@ -52,10 +66,13 @@ impl FlattenField<u32> for u32 {
     fn flatten_field(self, _alloc: Global) -> Result<u32, ShortBuf> {
         Ok(self)
     }
+
+    ghost same_octets = { λ _ _ _ same. ap (to_be_bytes w32) same };
 }
 
 /// The name is converted.
-impl<N: FlattenInto<Target>, Target> FlattenField<NameField<Target>> for NameField<N> {
+impl<N: DataName + FlattenName<Target>, Target: DataName> FlattenField<NameField<Target>>
+    for NameField<N> {
     ghost same = { λ it made. N.same it.name made.name };
 
     ghost may_refuse = { λ it. N.may_refuse it.name };
@@ -65,11 +82,15 @@ impl<N: FlattenInto<Target>, Target> FlattenField<NameField<Target>> for NameFie
         let name = name.try_flatten_into(alloc)?;
         Ok(NameField { name })
     }
+
+    ghost same_octets = { λ it made lowercase same.
+        ap (λ ls. wire (cased_labels lowercase ls)) (N.same_labels it.name made.name same) };
 }
 
 /// The name is converted.
-impl<N: FlattenInto<Target>, Target> FlattenField<UncompressedNameField<Target>>
-    for UncompressedNameField<N> {
+impl<N: DataName + FlattenName<Target>, Target: DataName> FlattenField<
+    UncompressedNameField<Target>,
+> for UncompressedNameField<N> {
     ghost same = { λ it made. N.same it.name made.name };
 
     ghost may_refuse = { λ it. N.may_refuse it.name };
@@ -79,12 +100,18 @@ impl<N: FlattenInto<Target>, Target> FlattenField<UncompressedNameField<Target>>
         let name = name.try_flatten_into(alloc)?;
         Ok(UncompressedNameField { name })
     }
+
+    ghost same_octets = { λ it made lowercase same.
+        ap (λ ls. wire (cased_labels lowercase ls)) (N.same_labels it.name made.name same) };
 }
 
 /// The first field is converted, and then the rest.
-impl<A: FlattenField<First>, B: FlattenField<Rest> + Drop, First: Drop, Rest> FlattenField<
-    Sequence<First, Rest>,
-> for Sequence<A, B> {
+impl<
+    A: FlattenField<First>,
+    B: FlattenField<Rest> + Drop,
+    First: DataField + Drop,
+    Rest: DataField,
+> FlattenField<Sequence<First, Rest>> for Sequence<A, B> {
     ghost same = { λ it made. A.same it.first made.first × B.same it.rest made.rest };
 
     ghost may_refuse = { λ it. A.may_refuse it.first ⊎ B.may_refuse it.rest };
@@ -95,4 +122,8 @@ impl<A: FlattenField<First>, B: FlattenField<Rest> + Drop, First: Drop, Rest> Fl
         let rest = rest.flatten_field(alloc)?;
         Ok(Sequence { first, rest })
     }
+
+    ghost same_octets = { λ it made lowercase same. both_same
+        (A.same_octets it.first made.first lowercase same.0)
+        (B.same_octets it.rest made.rest lowercase same.1) };
 }

@@ -4,6 +4,7 @@ ghost use Rattle.std.specs.Ordering.{on};
 ghost use Rattle.domain_label.specs.Wire.{wire};
 ghost use Rattle.domain_list.specs.Order.{composed_order, lowercase_composed_order};
 ghost use Rattle.domain_parsed.specs.ParsedNames.{parsed_labels};
+ghost use Rattle.domain_rdata.specs.OctetsAlone.{name_written, octets_written};
 ghost use Rattle.domain_rdata.specs.RecordData.{NameOctets};
 ghost use Rattle.domain_rdata.specs.Targets.{RemembersAsBefore, AddsName, NameOverflows};
 ghost use Rattle.domain_fields.specs.Cases.{cased_labels, lowercase_wire};
@@ -237,6 +238,8 @@ impl<N: DataName> DataField for NameField<N> {
 
     ghost flat = { λ it t s name. name.flat refl };
 
+    ghost writes_composed = { λ it. name_written (N.labels it.name) };
+
     ghost sized = { λ it c n t s known name. name_size (N.labels it.name) c n t s known name };
 
     ghost canonical_sized = { λ it lowercase n known.
@@ -311,6 +314,8 @@ impl<N: DataName> DataField for UncompressedNameField<N> {
     ghost plain = { λ _ _ _. refl };
 
     ghost flat = { λ _ _ _ same. same };
+
+    ghost writes_composed = { λ it. octets_written (wire (N.labels it.name)) };
 
     ghost sized = { λ it _ n t s known is.
         fixed_size (wire (N.labels it.name)) s (length (wire (N.labels it.name))) n refl known is };

@@ -1,5 +1,6 @@
 //! Record data by its octets: order and hash (RFC 4034, 6.3).
 ghost use Rattle.std.specs.Prelude.{◌≡◌, false, true, List, ℕ, Bool, refl};
+ghost use Rattle.domain_fields.specs.Cases.{lowercase_where_known};
 ghost use Rattle.domain_fields.specs.Orders.{octets_order, hashed};
 
 use crate::hash::hash_octets;
@@ -23,6 +24,10 @@ pub trait OrderedData: ComposeRecordData {
 
     /// With their case they are the octets that are composed where nothing is compressed.
     ghost keeps_case: { (it : Self) → cased it false ≡ Self.uncompressed it };
+
+    /// In lowercase they are those of the data in lowercase, or, where the names aren't known, the same as with their case.
+    ghost lowers_case: { (it : Self) →
+        cased it true ≡ lowercase_where_known (Self.lowercase it) (Self.uncompressed it) };
 }
 
 /// No name is seen in octets of a type that isn't known.
@@ -40,4 +45,6 @@ impl<Octs: Octets> OrderedData for UnknownRecordData<Octs> {
     }
 
     ghost keeps_case = { λ _. refl };
+
+    ghost lowers_case = { λ _. refl };
 }

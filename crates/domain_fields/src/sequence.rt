@@ -2,7 +2,8 @@
 ghost use Rattle.std.specs.Prelude.{◌++◌, false};
 ghost use Rattle.domain_fields.specs.Moves.{both_moves};
 ghost use Rattle.domain_fields.specs.Parts.{both_parts};
-ghost use Rattle.domain_fields.specs.Sequences.{BothComposed, BothWritten, BothAt, NotBoth, both_reading, both_len, both_plain, both_flat, both_sized, both_canonical};
+ghost use Rattle.domain_fields.specs.Sequences.{BothComposed, BothWritten, BothAt, NotBoth, both_reading, both_len, both_plain, both_flat};
+ghost use Rattle.domain_fields.specs.Sequences.{both_written, both_sized, both_canonical};
 
 use crate::field::DataField;
 use crate::read::{FieldError, ReadField};
@@ -117,6 +118,10 @@ impl<A: DataField, B: DataField> DataField for Sequence<A, B> {
     ghost flat = { λ it t s both. both_flat (A.composed it.first false) (B.composed it.rest false)
         (A.uncompressed it.first false) (B.uncompressed it.rest false) t s (A.flat it.first)
         (B.flat it.rest) both };
+
+    ghost writes_composed = { λ it. both_written (A.written it.first) (B.written it.rest)
+        (A.composed it.first) (B.composed it.rest) (A.writes_composed it.first)
+        (B.writes_composed it.rest) };
 
     ghost sized = { λ it c n t s known both. both_sized (A.composed it.first c)
         (B.composed it.rest c) (A.known_len it.first c) (B.known_len it.rest c) n t s

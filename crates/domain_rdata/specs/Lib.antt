@@ -2,6 +2,7 @@ pub mod AnyData
 pub mod Canonical
 pub mod FlatNames
 pub mod Members
+pub mod OctetsAlone
 pub mod Parsers
 pub mod ReadBack
 pub mod RecordData

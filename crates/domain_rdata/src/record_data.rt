@@ -7,6 +7,7 @@ ghost use Rattle.domain_wire.specs.declared.error.ParseError.{ParseError};
 ghost use Rattle.domain_rdata.specs.RecordData.{with_length_at};
 ghost use Rattle.domain_rdata.specs.Rtypes.{rtype_number};
 ghost use Rattle.domain_rdata.specs.Members.{Writing};
+ghost use Rattle.domain_rdata.specs.OctetsAlone.{WritesComposed};
 ghost use Rattle.domain_rdata.specs.Parsers.{IsOfType, ReadsData, ReadsIfSome, HasNoData};
 ghost use Rattle.domain_rdata.specs.Targets.{RemembersAsBefore, Grows, Overflows, LeftTo, FollowsOwn, NotComposed, LeavesTo};
 ghost use Rattle.domain_rdata.specs.Targets.{Follows, FollowsLeft, OverflowsWithLength, AllHaveLength, TellsFormLength};
@@ -238,6 +239,9 @@ pub trait ComposeRecordData: RecordData {
 
     /// and a target that doesn't write names shorter takes nothing else.
     ghost flat: { (it : Self) (t s : List ℕ) → composed it false t s → s ≡ uncompressed it };
+
+    /// What is written to a target that is its octets alone is what may be composed.
+    ghost writes_composed: { (it : Self) → WritesComposed (written it) (composed it) };
 }
 
 /// Appends a length, and after it the data, or nothing; and tells how many octets the data has.
@@ -378,6 +382,8 @@ impl<T: ComposeRecordData> ComposeRecordData for &T {
     ghost plain = { λ it. T.plain it.now };
 
     ghost flat = { λ it. T.flat it.now };
+
+    ghost writes_composed = { λ it. T.writes_composed it.now };
 }
 
 /// Record data that is read from a message, of the types that it is made for.

@@ -155,6 +155,7 @@ impl<Octs: Octets> RecordData for UnknownRecordData<Octs> {
 /// of that message (RFC 3597, 4). They are octets like others here, and lead elsewhere in another message: read data
 /// of these types by their fields.
 impl<Octs: Octets> ComposeRecordData for UnknownRecordData<Octs> {
+    ghost use Rattle.domain_rdata.specs.OctetsAlone.{octets_written};
     ghost use Rattle.domain_rdata.specs.Unknown.{data_octets};
 
     ghost composed = { λ it _ _ s. s ≡ data_octets it };
@@ -194,6 +195,8 @@ impl<Octs: Octets> ComposeRecordData for UnknownRecordData<Octs> {
     ghost plain = { λ _ _ _. refl };
 
     ghost flat = { λ _ _ _ h. h };
+
+    ghost writes_composed = { λ it. octets_written (data_octets it) };
 }
 
 impl<'a> UnknownRecordData<&'a [u8]> {

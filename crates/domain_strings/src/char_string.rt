@@ -118,6 +118,7 @@ impl<'a> ReadField<'a, ParseError> for CharString<&'a [u8]> {
 
 /// The octets as they are, in each form.
 impl<Octs: Octets> DataField for CharString<Octs> {
+    ghost use Rattle.domain_rdata.specs.OctetsAlone.{octets_written};
     ghost use Rattle.domain_strings.specs.Views.{char_octets};
 
     ghost parts = { λ it. no_name (counted (char_octets it)) ∷ [] };
@@ -165,6 +166,8 @@ impl<Octs: Octets> DataField for CharString<Octs> {
     ghost plain = { λ _ _ _. refl };
 
     ghost flat = { λ _ _ _ same. same };
+
+    ghost writes_composed = { λ it. octets_written (counted (char_octets it)) };
 
     ghost sized = { λ it _ n t s known is.
         fixed_size (counted (char_octets it)) s (length (counted (char_octets it))) n refl known
@@ -231,6 +234,7 @@ impl<Octs: Octets> ReadBackLast for CharString<Octs> {
 
 /// The octets are made over as [`OctetsFrom`](octseq::OctetsFrom) makes them.
 impl<Octs: Octets, Target: SameOctets<Octs>> FlattenField<CharString<Target>> for CharString<Octs> {
+    ghost use Rattle.std.proofs.Common.{ap};
     ghost use Rattle.domain_strings.specs.Views.{char_octets, char_holder};
 
     ghost same = { λ it made. char_octets made ≡ char_octets it };
@@ -244,6 +248,8 @@ impl<Octs: Octets, Target: SameOctets<Octs>> FlattenField<CharString<Target>> fo
             Err(e) => Err(e.into()),
         }
     }
+
+    ghost same_octets = { λ _ _ _ same. ap counted same };
 }
 
 impl<Octs: Octets> PartialEq for CharString<Octs> {

@@ -109,6 +109,7 @@ impl<'a, const TEXT: u8> ReadField<'a, ParseError> for LastOctets<TEXT, &'a [u8]
 
 /// The octets as they are, in each form.
 impl<const TEXT: u8, Octs: Octets> DataField for LastOctets<TEXT, Octs> {
+    ghost use Rattle.domain_rdata.specs.OctetsAlone.{octets_written};
     ghost use Rattle.domain_strings.specs.Views.{last_octets};
 
     ghost parts = { λ it. no_name (last_octets it) ∷ [] };
@@ -147,6 +148,8 @@ impl<const TEXT: u8, Octs: Octets> DataField for LastOctets<TEXT, Octs> {
     ghost plain = { λ _ _ _. refl };
 
     ghost flat = { λ _ _ _ same. same };
+
+    ghost writes_composed = { λ it. octets_written (last_octets it) };
 
     ghost sized = { λ it _ n t s known is.
         fixed_size (last_octets it) s (length (last_octets it)) n refl known is };
@@ -197,6 +200,8 @@ impl<const TEXT: u8, Octs: Octets, Target: SameOctets<Octs>> FlattenField<LastOc
             Err(e) => Err(e.into()),
         }
     }
+
+    ghost same_octets = { λ _ _ _ same. same };
 }
 
 impl<const TEXT: u8, Octs: Octets> PartialEq for LastOctets<TEXT, Octs> {

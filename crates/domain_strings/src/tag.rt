@@ -130,6 +130,7 @@ impl<'a> ReadField<'a, ParseError> for Tag<&'a [u8]> {
 
 /// The octets as they are, in each form.
 impl<Octs: Octets> DataField for Tag<Octs> {
+    ghost use Rattle.domain_rdata.specs.OctetsAlone.{octets_written};
     ghost use Rattle.domain_strings.specs.TagViews.{tag_octets};
 
     ghost parts = { λ it. no_name (counted (tag_octets it)) ∷ [] };
@@ -169,6 +170,8 @@ impl<Octs: Octets> DataField for Tag<Octs> {
 
     ghost flat = { λ _ _ _ same. same };
 
+    ghost writes_composed = { λ it. octets_written (counted (tag_octets it)) };
+
     ghost sized = { λ it _ n t s known is.
         fixed_size (counted (tag_octets it)) s (length (counted (tag_octets it))) n refl known is };
 
@@ -205,6 +208,7 @@ impl<Octs: Octets> ReadBackField for Tag<Octs> {
 
 /// The octets are made over as [`OctetsFrom`](octseq::OctetsFrom) makes them.
 impl<Octs: Octets, Target: SameOctets<Octs>> FlattenField<Tag<Target>> for Tag<Octs> {
+    ghost use Rattle.std.proofs.Common.{ap};
     ghost use Rattle.domain_strings.specs.TagViews.{tag_octets, tag_holder};
 
     ghost same = { λ it made. tag_octets made ≡ tag_octets it };
@@ -218,6 +222,8 @@ impl<Octs: Octets, Target: SameOctets<Octs>> FlattenField<Tag<Target>> for Tag<O
             Err(e) => Err(e),
         }
     }
+
+    ghost same_octets = { λ _ _ _ same. ap counted same };
 }
 
 impl<Octs: Octets> PartialEq for Tag<Octs> {

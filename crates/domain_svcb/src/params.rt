@@ -191,6 +191,7 @@ impl<'a> ReadField<'a, ParseError> for SvcParams<&'a [u8]> {
 
 /// The octets as they are, in each form.
 impl<Octs: Octets> DataField for SvcParams<Octs> {
+    ghost use Rattle.domain_rdata.specs.OctetsAlone.{octets_written};
     ghost use Rattle.domain_svcb.specs.ParamsViews.{params_held};
 
     ghost parts = { λ it. no_name (params_held it) ∷ [] };
@@ -229,6 +230,8 @@ impl<Octs: Octets> DataField for SvcParams<Octs> {
     ghost plain = { λ _ _ _. refl };
 
     ghost flat = { λ _ _ _ same. same };
+
+    ghost writes_composed = { λ it. octets_written (params_held it) };
 
     ghost sized = { λ it _ n t s known is.
         fixed_size (params_held it) s (length (params_held it)) n refl known is };
@@ -278,6 +281,8 @@ impl<Octs: Octets, Target: SameOctets<Octs>> FlattenField<SvcParams<Target>> for
             Err(e) => Err(e.into()),
         }
     }
+
+    ghost same_octets = { λ _ _ _ same. same };
 }
 
 impl<Octs: Octets> PartialEq for SvcParams<Octs> {

@@ -172,6 +172,8 @@ impl<const TYPE: u16, F: DataField> ComposeRecordData for ServiceData<TYPE, F> {
     ghost plain = { λ it. F.plain (service_fields it) };
 
     ghost flat = { λ it. F.flat (service_fields it) };
+
+    ghost writes_composed = { λ it. F.writes_composed (service_fields it) };
 }
 
 /// The order of the octets of the canonical forms from the left; a missing octet comes before any (RFC 4034, 6.3).
@@ -202,6 +204,8 @@ impl<const TYPE: u16, F: OrderedLast + HashedField> OrderedData for ServiceData<
     }
 
     ghost keeps_case = { λ _. refl };
+
+    ghost lowers_case = { λ _. refl };
 }
 
 /// Each field: the same numbers and parameters, and names that are equal ignoring ASCII case.
@@ -220,7 +224,7 @@ impl<const TYPE: u16, F: ReadBackLast> ReadBackData for ServiceData<TYPE, F> {
 }
 
 /// The name and the octets of the parameters are converted, and the priority stays.
-impl<const TYPE: u16, F: FlattenField<Made>, Made> FlattenInto<ServiceData<TYPE, Made>>
+impl<const TYPE: u16, F: FlattenField<Made>, Made: DataField> FlattenInto<ServiceData<TYPE, Made>>
     for ServiceData<TYPE, F> {
     ghost same = { λ it made. F.same it.fields made.fields };
 

@@ -36,6 +36,8 @@ impl<'a> RecordData for Unmeasured<'a> {
 }
 
 impl<'a> ComposeRecordData for Unmeasured<'a> {
+    ghost use Rattle.domain_rdata.specs.OctetsAlone.{octets_written};
+
     ghost composed = { λ it _ _ s. s ≡ it.octets.now };
 
     ghost written = { λ it _ extends _ old new. extends old it.octets.now new };
@@ -70,6 +72,8 @@ impl<'a> ComposeRecordData for Unmeasured<'a> {
     ghost plain = { λ _ _ _. refl };
 
     ghost flat = { λ _ _ _ all. all };
+
+    ghost writes_composed = { λ it. octets_written it.octets.now };
 }
 
 /// So many octets that are zero.

@@ -224,6 +224,7 @@ impl<Octs: Octets> RecordData for Txt<Octs> {
 
 /// The octets as they are, in the canonical form too (RFC 4034, 6.2): there is no name in them.
 impl<Octs: Octets> ComposeRecordData for Txt<Octs> {
+    ghost use Rattle.domain_rdata.specs.OctetsAlone.{octets_written};
     ghost use Rattle.domain_txt.specs.Txts.{txt_octets};
 
     ghost composed = { λ it _ _ s. s ≡ txt_octets it };
@@ -260,6 +261,8 @@ impl<Octs: Octets> ComposeRecordData for Txt<Octs> {
     ghost plain = { λ _ _ _. refl };
 
     ghost flat = { λ _ _ _ h. h };
+
+    ghost writes_composed = { λ it. octets_written (txt_octets it) };
 }
 
 /// One character string or more, which are all that is left.
@@ -428,4 +431,6 @@ impl<Octs: Octets> OrderedData for Txt<Octs> {
     }
 
     ghost keeps_case = { λ _. refl };
+
+    ghost lowers_case = { λ _. refl };
 }

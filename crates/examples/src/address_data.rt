@@ -5,6 +5,7 @@ ghost use Rattle.domain_wire.specs.Addresses.{ipv4_octets, ipv4_of};
 ghost use Rattle.domain_wire.specs.FixedLength.{fixed_reading};
 ghost use Rattle.domain_wire.specs.Values.{FixedAt, ShortAt};
 ghost use Rattle.domain_wire.specs.declared.net.Ipv4Addr.{Ipv4Addr};
+ghost use Rattle.domain_rdata.specs.OctetsAlone.{octets_written};
 ghost use Rattle.domain_rdata.specs.Rtypes.{rtype_number};
 
 use domain::base::net::Ipv4Addr;
@@ -65,6 +66,8 @@ impl ComposeRecordData for AddressData {
     ghost plain = { λ _ _ _. refl };
 
     ghost flat = { λ _ _ _ same. same };
+
+    ghost writes_composed = { λ it. octets_written (ipv4_octets it.address) };
 }
 
 /// Reads four octets, of records of its type alone.
