@@ -1,6 +1,7 @@
 -- Messages that are built in the caller's buffer (RFC 1035, 4.1). `o` is the list of its octets, `b` the builder beside it.
-use Rattle.std.specs.Prelude.{◌≡◌, ℕ, ◌+◌, ◌/◌, ◌%◌, ◌≤◌, ◌<◌, true, List, ◌++◌, length, take}
+use Rattle.std.specs.Prelude.{◌≡◌, ℕ, ◌+◌, ◌/◌, ◌%◌, ◌≤◌, ◌<◌, Bool, true, List, ◌++◌, length, take, MatchBool}
 use Rattle.std.specs.Int.{w16, to_be_bytes}
+use Rattle.domain_header.specs.Headers.{header_octets, counts_octets}
 use Rattle.domain_header.specs.declared.counts.HeaderCounts.{HeaderCounts}
 use Rattle.domain_header.specs.declared.flags.Header.{Header}
 use Rattle.domain_label.specs.Wire.{labels_in}
@@ -26,6 +27,10 @@ header_of b = record { id = b.id; high = b.flags / 256; low = b.flags % 256 }
 -- how many entries each section has
 abbrev pub counts_of : Builder → HeaderCounts
 counts_of b = record { qdcount = b.questions; ancount = b.answers; nscount = b.authority; arcount = b.additional }
+
+-- the twelve octets of the header
+abbrev pub all_header_octets : Builder → List ℕ
+all_header_octets b = header_octets (header_of b) ++ counts_octets (counts_of b)
 
 -- where the sections of records begin
 abbrev pub starts_of : Builder → SectionStarts
@@ -73,6 +78,12 @@ pub record TooBig (o : List ℕ) (b : Builder) (name : List ℕ) (n : ℕ) : Typ
 -- an entry more in the builder: how many octets it has, and the offsets that it remembers
 abbrev pub entered : Builder → Builder → Builder
 entered b b' = record b { len = b'.len; table_len = b'.table_len; table = b'.table }
+
+-- The name, the head and the data were written as an entry, or exceed the limit, and nothing is changed.
+abbrev pub EntersIfRoom : (told : Bool) → List ℕ → Builder → (name head rdata : List ℕ) → List ℕ → Builder → Type 0
+EntersIfRoom told o b name head rdata o' b' =
+    MatchBool told (Enters o b name (head ++ rdata) o' b' × (b' ≡ entered b b'))
+    (TooBig o b name (length head + length rdata) × (o' ≡ o) × (b' ≡ b))
 
 -- a question more, which ends where the message does
 abbrev pub questioned : Builder → Builder

@@ -1,5 +1,5 @@
 -- Data of records that have names which may be compressed (RFC 1035, 3.3 and 4.1.4).
-use Rattle.std.specs.Prelude.{◌≡◌, ◌≢◌, ◌⊎◌, ℕ, ◌*◌, ◌≤◌, List, [], ◌++◌, length, take, Option, Some, None, nat_le, if◌then◌else◌}
+use Rattle.std.specs.Prelude.{◌≡◌, ◌≢◌, ◌⊎◌, ℕ, ◌*◌, ◌≤◌, List, [], ◌++◌, length, take, Option, Some, None, nat_le, if◌then◌else◌, MatchOption}
 use Rattle.domain_label.specs.Wire.{IsAbsoluteWire}
 use Rattle.domain_offsets.specs.Shapes.{shape}
 use Rattle.domain_offsets.specs.declared.shape.Shape.{Shape}
@@ -63,3 +63,12 @@ IsSecondFront names octets n =
 -- There is neither one name, nor a second one that the octets begin with.
 abbrev pub HasNoSecondFront : ℕ → List ℕ → Type 0
 HasNoSecondFront names octets = (names ≢ 1) × ((names ≡ 2) → HasNoNameFront octets)
+
+-- So many octets are the second name, or nothing; or there is neither.
+abbrev pub FindsSecondFront : (found : Option ℕ) → ℕ → List ℕ → Type 0
+FindsSecondFront found names octets =
+    MatchOption found (HasNoSecondFront names octets) (IsSecondFront names octets)
+
+-- The octets are data of this type with these fields.
+abbrev pub AreDataOf : ℕ → List ℕ → NamedData → Type 0
+AreDataOf rtype octets d = IsNamed rtype (fields_of d) × (whole (fields_of d) ≡ octets)

@@ -1,6 +1,6 @@
 -- Records whose data have names, which are written with compression (RFC 1035, 4.1.4). `o` is the list of the octets, `b`
 -- the builder beside it, `f` the fields of the data.
-use Rattle.std.specs.Prelude.{◌≡◌, ◌⊎◌, ℕ, ◌+◌, ◌≤◌, ◌<◌, true, List, [], ◌++◌, length, take}
+use Rattle.std.specs.Prelude.{◌≡◌, ◌⊎◌, ℕ, ◌+◌, ◌≤◌, ◌<◌, Bool, true, List, [], ◌++◌, length, take, MatchBool}
 use Rattle.std.specs.Int.{w16, to_be_bytes}
 use Rattle.domain_label.specs.Wire.{labels_in, IsAbsoluteWire}
 use Rattle.domain_message.specs.declared.section.Section.{Section}
@@ -8,12 +8,16 @@ use Rattle.domain_message_builder.specs.Contents.{blank_header, RecordHead}
 use Rattle.domain_message_builder.specs.Pushes.{PushesRecord}
 use Rattle.domain_rdata.specs.ReadBack.{StandsAt}
 use Rattle.domain_rdata.specs.RecordData.{NameOctets}
+use Rattle.domain_record.specs.Composing.{before_length}
 use Rattle.domain_reading.specs.Grammar.{EncodingEnds}
 use Rattle.domain_buffer.specs.Puts.{PutsAt}
 use Rattle.domain_buffer.specs.Plans.{Spells, more_of_table}
-use Rattle.domain_buffer.specs.Data.{Fields}
-use Rattle.domain_buffer.specs.Builders.{state, table_of, after_owner, IsUsable}
+use Rattle.domain_buffer.specs.Data.{Fields, fields_of}
+use Rattle.domain_buffer.specs.Builders.{state, table_of, headed, entered, after_owner, IsUsable}
 use Rattle.domain_buffer.specs.declared.builder.Builder.{Builder}
+use Rattle.domain_buffer.specs.declared.builder.Head.{Head}
+use Rattle.domain_buffer.specs.declared.data.NamedData.{NamedData}
+use Rattle.domain_buffer.specs.declared.named.RecordEnd.{RecordEnd}
 
 -- what is written for the names of data: how many octets of each, and all that stand for it
 pub record SpelledNames : Type 0 where
@@ -36,6 +40,16 @@ pub record SpellsNames (t table : List ℕ) (f : Fields) (s : SpelledNames) : Ty
 -- the data as they are written: the numbers as they are, and for each name what is written for it
 abbrev pub data_octets : Fields → SpelledNames → List ℕ
 data_octets f s = f.before ++ (s.first ++ (s.second ++ f.after))
+
+-- how many octets a head and the data have, where this is written for the names
+abbrev pub len_after_owner : (head : List ℕ) → NamedData → (first second : List ℕ) → ℕ
+len_after_owner head d first second =
+    length head + (length d.before.now + (length first + (length second + length d.after.now)))
+
+-- A head and the data were put into the buffer from p on, where this is written for the names.
+abbrev pub PutsData : ℕ → (head : List ℕ) → NamedData → (first second : List ℕ) → List ℕ → List ℕ → Type 0
+PutsData p head d first second old new =
+    PutsAt p (head ++ (d.before.now ++ (first ++ (second ++ d.after.now)))) old new
 
 -- the table, and the offsets of the labels that are written of the names, in data that begin at p
 abbrev pub names_remembered : List ℕ → Fields → SpelledNames → ℕ → List ℕ
@@ -98,6 +112,23 @@ pub record HasNoRoomAfterOwner (o : List ℕ) (start limit : ℕ) (table : List 
   pub names : SpelledNames
   pub spells : SpellsNames (take start o) table f names
   pub long : limit < start + 10 + length (data_octets f names)
+
+-- What follows the owner's name was written so.
+abbrev pub EndsRecord : List ℕ → (start limit : ℕ) → (table : List ℕ) → Head → NamedData → List ℕ → List ℕ → RecordEnd → Type 0
+EndsRecord o start limit table head d o' table' e =
+    WritesAfterOwner o start limit table (before_length head.rtype head.class head.ttl) (fields_of d) e.end e.count o' table'
+
+-- It exceeds the limit, and nothing is changed.
+abbrev pub EndExceedsLimit : List ℕ → (start limit : ℕ) → (table : List ℕ) → NamedData → List ℕ → Type 0
+EndExceedsLimit o start limit table d o' =
+    HasNoRoomAfterOwner o start limit table (fields_of d) × (o' ≡ o)
+
+-- The record was written, or exceeds the limit, and nothing is changed.
+abbrev pub EntersNamedIfRoom : (told : Bool) → List ℕ → Builder → (owner : List ℕ) → Head → NamedData → List ℕ → Builder → Type 0
+EntersNamedIfRoom told o b owner head d o' b' =
+    MatchBool told
+    (EntersNamed o b owner (headed owner head.rtype head.class head.ttl) (fields_of d) o' b' × (b' ≡ entered b b'))
+    (NamedTooBig o b owner (fields_of d) × (o' ≡ o) × (b' ≡ b))
 
 -- These octets of data, after those before: the numbers as they are, and for each name some that are read as an equal one.
 pub record SameNames (f : Fields) (before octets : List ℕ) : Type 0 where

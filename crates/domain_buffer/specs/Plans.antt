@@ -5,6 +5,7 @@ use Rattle.domain_label.specs.Wire.{labels_in, IsWire}
 use Rattle.domain_compress.specs.Compressing.{Compresses, remembered_from}
 use Rattle.domain_compress.specs.Planned.{remembered_in_table, offsets}
 use Rattle.domain_buffer.specs.Puts.{PutsAt}
+use Rattle.domain_buffer.specs.declared.plan.Written.{Written}
 
 -- At most 128 offsets to which a pointer can lead.
 abbrev pub IsTable : List ℕ → Type 0
@@ -42,3 +43,16 @@ pub record HasNoRoom (o : List ℕ) (start : ℕ) (table name : List ℕ) : Type
 abbrev pub more_of_table : ℕ → List ℕ → ℕ → List (List ℕ) → List ℕ
 more_of_table room table start labels =
     take room (take 128 (table ++ offsets (remembered_from start start labels)))
+
+-- The name was written so.
+abbrev pub WritesAs : (o : List ℕ) → (start : ℕ) → (table name o' : List ℕ) → Written → Type 0
+WritesAs o start table name o' w = WritesName o start table name w.begin w.end o'
+
+-- It ends past the octets, and these are unchanged.
+abbrev pub NameExceedsRoom : (o : List ℕ) → (start : ℕ) → (table name o' : List ℕ) → Type 0
+NameExceedsRoom o start table name o' = HasNoRoom o start table name × (o' ≡ o)
+
+-- The offsets of these labels, written from start on, came after the first count ones of the table, and so many are there.
+abbrev pub AddsOffsets : (count : ℕ) → (table : List ℕ) → (start : ℕ) → (labels : List ℕ) → (told : ℕ) → (table' : List ℕ) → Type 0
+AddsOffsets count table start labels told table' =
+    take told table' ≡ more_of_table (length table) (take count table) start (labels_in labels)

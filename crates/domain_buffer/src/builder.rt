@@ -1,13 +1,12 @@
 //! Messages that are built in the caller's buffer (RFC 1035, 4.1).
-ghost use Rattle.std.specs.Prelude.{◌≡◌, ◌<◌, ◌≤◌, ◌+◌, ◌^◌, ◌++◌, ◌↔◌, length, IsTrue, MatchBool};
+ghost use Rattle.std.specs.Prelude.{◌≡◌, ◌<◌, ◌≤◌, ◌+◌, ◌^◌, ◌++◌, ◌↔◌, length, IsTrue};
 ghost use Rattle.std.specs.Int.{w16, to_be_bytes};
 ghost use Rattle.domain_label.specs.Wire.{IsAbsoluteWire};
 ghost use Rattle.domain_record.specs.Composing.{type_and_class, before_length};
 ghost use Rattle.domain_message_builder.specs.Pushes.{later_count, section_count};
 ghost use Rattle.domain_message_builder.specs.SectionStarts.{IsInOrder};
-ghost use Rattle.domain_header.specs.Headers.{header_octets, counts_octets};
 ghost use Rattle.domain_buffer.specs.Puts.{PutsAt};
-ghost use Rattle.domain_buffer.specs.Builders.{header_of, starts_of, counts_of, questioned, counted, entered, IsUsable, Enters, TooBig};
+ghost use Rattle.domain_buffer.specs.Builders.{all_header_octets, starts_of, counts_of, questioned, counted, IsUsable, EntersIfRoom};
 
 use crate::plan::{add_offsets, is_table, spell};
 use crate::put::place;
@@ -68,8 +67,7 @@ pub fn is_usable(octets: &[u8], builder: &Builder) -> bool
 
 /// Puts the name, the head and the data of an entry into the buffer, one after the other, from an offset on.
 pub fn place_entry(name: &[u8], head: &[u8], data: &[u8], buffer: &mut [u8], offset: usize)
-    requires { offset + length name.now + (length head.now + length data.now)
-        ≤ length buffer.old }
+    requires { offset + length name.now + (length head.now + length data.now) ≤ length buffer.old }
     ensures { PutsAt offset (name.now ++ (head.now ++ data.now)) buffer.old buffer.new }
 {
     let after_name = offset + name.len();
@@ -91,11 +89,8 @@ pub fn enter(
     requires usable { IsUsable octets.old builder.old }
     requires name { IsAbsoluteWire name.now }
     requires head { length head.now ≤ 10 }
-    ensures { MatchBool result
-        (Enters octets.old builder.old name.now (head.now ++ data.now) octets.new builder.new
-        × (builder.new ≡ entered builder.old builder.new))
-        (TooBig octets.old builder.old name.now (length head.now + length data.now)
-        × (octets.new ≡ octets.old) × (builder.new ≡ builder.old)) }
+    ensures { EntersIfRoom result octets.old builder.old name.now head.now data.now octets.new
+        builder.new }
 {
     let start = builder.len;
     let mut text = [0; 255];
@@ -202,8 +197,7 @@ pub fn head_octets(head: Head, len: u16) -> [u8; 10]
 
 /// The twelve octets of the header.
 pub fn header_octets_of(builder: &Builder) -> [u8; 12]
-    ensures octets { result
-        ≡ header_octets (header_of builder.now) ++ counts_octets (counts_of builder.now) }
+    ensures octets { result ≡ all_header_octets builder.now }
     ensures id { builder.now.id < 2 ^ 16 }
     ensures questions { builder.now.questions < 2 ^ 16 }
     ensures answers { builder.now.answers < 2 ^ 16 }

@@ -1,7 +1,7 @@
 //! Data of records that have names which may be compressed (RFC 1035, 3.3 and 4.1.4).
-ghost use Rattle.std.specs.Prelude.{◌≡◌, ◌≤◌, ℕ, length, IfSome, IsNone, MatchOption};
+ghost use Rattle.std.specs.Prelude.{◌≡◌, ◌≤◌, length, IfSome, IsNone, MatchOption};
 ghost use Rattle.domain_offsets.specs.Shapes.{IsSmall};
-ghost use Rattle.domain_buffer.specs.Data.{Fields, fields_of, whole, compressed_shape, IsNameFront, HasNoNameFront, IsSecondFront, HasNoSecondFront, IsNamed};
+ghost use Rattle.domain_buffer.specs.Data.{Fields, whole, compressed_shape, IsNameFront, HasNoNameFront, FindsSecondFront, IsNamed, AreDataOf};
 
 use domain_flat::name_len;
 use domain_offsets::{Shape, shape_of};
@@ -43,8 +43,7 @@ fn front_len(octets: &[u8]) -> Option<usize>
 
 /// The same of the second name of data that have so many names, or of nothing where they have one.
 fn second_len(octets: &[u8], names: usize) -> Option<usize>
-    ensures { MatchOption result (HasNoSecondFront names octets.now)
-        (IsSecondFront names octets.now) }
+    ensures { FindsSecondFront result names octets.now }
 {
     match names {
         1 => Some(0),
@@ -56,12 +55,9 @@ fn second_len(octets: &[u8], names: usize) -> Option<usize>
 /// The fields of data of this type, where they are exactly those of a type of RFC 1035 that has names, and no name has a
 /// pointer. `None` of all other data: no name in them may be compressed.
 pub fn named_data<'a>(rtype: u16, octets: &'a [u8]) -> Option<NamedData<'a>>
-    ensures some { IfSome result
-        (λ d. IsNamed rtype (fields_of d) × (whole (fields_of d) ≡ octets.now)) }
-    ensures short { IfSome result
-        (λ d. (length d.before.now ≤ 6) × (length d.after.now ≤ 20)) }
-    ensures none { IsNone result →
-        (f : Fields) → IsNamed rtype f → whole f ≡ octets.now → ⊥ }
+    ensures some { IfSome result (AreDataOf rtype octets.now) }
+    ensures short { IfSome result (λ d. (length d.before.now ≤ 6) × (length d.after.now ≤ 20)) }
+    ensures none { IsNone result → (f : Fields) → IsNamed rtype f → whole f ≡ octets.now → ⊥ }
 {
     let Some(shape) = compressed_shape_of(rtype) else {
         return None;

@@ -1,12 +1,10 @@
 //! Records whose data have names, which are written with compression (RFC 1035, 4.1.4).
-ghost use Rattle.std.specs.Prelude.{◌≡◌, ◌⊎◌, ◌<◌, ◌≤◌, ◌+◌, ◌^◌, ◌++◌, [], length, take, IsTrue, MatchBool, IfSome, IsSome, IsNone};
+ghost use Rattle.std.specs.Prelude.{◌≡◌, ◌⊎◌, ◌<◌, ◌≤◌, ◌+◌, ◌^◌, [], length, take, IsTrue, IfSome, IsSome, IsNone};
 ghost use Rattle.domain_label.specs.Wire.{IsAbsoluteWire};
-ghost use Rattle.domain_record.specs.Composing.{before_length};
-ghost use Rattle.domain_buffer.specs.Puts.{PutsAt};
 ghost use Rattle.domain_buffer.specs.Plans.{IsTable};
-ghost use Rattle.domain_buffer.specs.Builders.{headed, entered, IsUsable};
+ghost use Rattle.domain_buffer.specs.Builders.{IsUsable};
 ghost use Rattle.domain_buffer.specs.Data.{fields_of, IsNamed};
-ghost use Rattle.domain_buffer.specs.Named.{SpellsAny, WritesAfterOwner, HasNoRoomAfterOwner, EntersNamed, NamedTooBig, NamesReadBack};
+ghost use Rattle.domain_buffer.specs.Named.{SpellsAny, len_after_owner, PutsData, EndsRecord, EndExceedsLimit, EntersNamedIfRoom, NamesReadBack};
 
 use crate::builder::{Builder, Head, head_octets, place_entry};
 use crate::data::NamedData;
@@ -37,14 +35,8 @@ fn place_data(
     buffer: &mut [u8],
     offset: usize,
 )
-    requires { offset
-        + (length head.now + (length fields.before.now
-        + (length first.now + (length second.now + length fields.after.now))))
-        ≤ length buffer.old }
-    ensures { PutsAt offset
-        (head.now ++ (fields.entry.before.now
-        ++ (first.now ++ (second.now ++ fields.entry.after.now))))
-        buffer.old buffer.new }
+    requires { offset + len_after_owner head.now fields first.now second.now ≤ length buffer.old }
+    ensures { PutsData offset head.now fields.entry first.now second.now buffer.old buffer.new }
 {
     let second_at = offset + head.len() + fields.before.len() + first.len();
     place_entry(head, fields.before, first, buffer, offset);
@@ -80,12 +72,10 @@ fn write_after_owner(
     requires before { length fields.before.now ≤ 6 }
     requires after { length fields.after.now ≤ 20 }
     ensures some { IfSome result
-        (λ e. WritesAfterOwner octets.old start limit (take count table.old)
-        (before_length head.rtype head.class head.ttl) (fields_of fields.entry) e.end e.count
-        octets.new table.new) }
+        (EndsRecord octets.old start limit (take count table.old) head fields.entry octets.new
+        table.new) }
     ensures none { IsNone result →
-        HasNoRoomAfterOwner octets.old start limit (take count table.old) (fields_of fields.entry)
-        × (octets.new ≡ octets.old) }
+        EndExceedsLimit octets.old start limit (take count table.old) fields.entry octets.new }
     ensures rtype { IsSome result → head.rtype < 2 ^ 16 }
     ensures class { IsSome result → head.class < 2 ^ 16 }
     ensures ttl { IsSome result → head.ttl < 2 ^ 32 }
@@ -133,12 +123,8 @@ pub fn enter_named(
     requires named { IsNamed head.rtype (fields_of fields) }
     requires before { length fields.before.now ≤ 6 }
     requires after { length fields.after.now ≤ 20 }
-    ensures done { MatchBool result
-        (EntersNamed octets.old builder.old owner.now
-        (headed owner.now head.rtype head.class head.ttl) (fields_of fields.entry) octets.new
-        builder.new × (builder.new ≡ entered builder.old builder.new))
-        (NamedTooBig octets.old builder.old owner.now (fields_of fields.entry)
-        × (octets.new ≡ octets.old) × (builder.new ≡ builder.old)) }
+    ensures done { EntersNamedIfRoom result octets.old builder.old owner.now head fields.entry
+        octets.new builder.new }
     ensures rtype { IsTrue result → head.rtype < 2 ^ 16 }
     ensures class { IsTrue result → head.class < 2 ^ 16 }
     ensures ttl { IsTrue result → head.ttl < 2 ^ 32 }

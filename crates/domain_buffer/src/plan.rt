@@ -1,7 +1,7 @@
 //! Writing names with compression, over a table of offsets (RFC 1035, 4.1.4).
-ghost use Rattle.std.specs.Prelude.{◌≡◌, ◌<◌, ◌≤◌, ◌+◌, length, take, drop, IsTrue, ◌↔◌, IfSome, IsNone};
-ghost use Rattle.domain_label.specs.Wire.{labels_in, IsWire, IsAbsoluteWire};
-ghost use Rattle.domain_buffer.specs.Plans.{IsTable, Spells, WritesName, HasNoRoom, more_of_table};
+ghost use Rattle.std.specs.Prelude.{◌≡◌, ◌≤◌, length, take, drop, IsTrue, ◌↔◌, IfSome, IsNone};
+ghost use Rattle.domain_label.specs.Wire.{IsWire, IsAbsoluteWire};
+ghost use Rattle.domain_buffer.specs.Plans.{IsTable, Spells, WritesAs, NameExceedsRoom, AddsOffsets};
 
 use crate::put::put;
 use domain_compress::plan::{more_offsets, plan, put_pointed};
@@ -63,10 +63,8 @@ pub fn write_name(octets: &mut [u8], start: usize, table: &[u16], name: &[u8]) -
     requires start { start ≤ length octets.old }
     requires table { IsTable table.now }
     requires wire { IsAbsoluteWire name.now }
-    ensures some { IfSome result
-        (λ w. WritesName octets.old start table.now name.now w.begin w.end octets.new) }
-    ensures none { IsNone result →
-        HasNoRoom octets.old start table.now name.now × (octets.new ≡ octets.old) }
+    ensures some { IfSome result (WritesAs octets.old start table.now name.now octets.new) }
+    ensures none { IsNone result → NameExceedsRoom octets.old start table.now name.now octets.new }
 {
     let mut text = [0; 255];
     let spelled = spell(&octets[..start], table, name, &mut text);
@@ -86,8 +84,7 @@ pub fn add_offsets(table: &mut [u16], count: usize, labels: &[u8], start: usize)
     requires few { IsTable (take count table.old) }
     requires labels { IsWire labels.now }
     ensures fits { result ≤ length table.new }
-    ensures table { take result table.new
-        ≡ more_of_table (length table.old) (take count table.old) start (labels_in labels.now) }
+    ensures table { AddsOffsets count table.old start labels.now result table.new }
     ensures rest { drop result table.new ≡ drop result table.old }
 {
     let more = more_offsets(&table[..count], labels, start);

@@ -1,6 +1,6 @@
 //! Writing octets into a caller's buffer.
-ghost use Rattle.std.specs.Prelude.{◌≡◌, ◌<◌, ◌≤◌, ◌+◌, length, MatchBool};
-ghost use Rattle.domain_buffer.specs.Puts.{PutsAt};
+ghost use Rattle.std.specs.Prelude.{◌≤◌, ◌+◌, length};
+ghost use Rattle.domain_buffer.specs.Puts.{PutsAt, PutsIfRoom};
 
 /// Puts the octets into the buffer from an offset on.
 pub fn place(octets: &[u8], buffer: &mut [u8], offset: usize)
@@ -13,10 +13,7 @@ pub fn place(octets: &[u8], buffer: &mut [u8], offset: usize)
 /// Puts the octets into the buffer from an offset on, or nothing where they don't fit.
 pub fn put(octets: &[u8], buffer: &mut [u8], offset: usize) -> bool
     requires { offset ≤ length buffer.old }
-    ensures { MatchBool result
-        ((offset + length octets.now ≤ length buffer.old)
-        × PutsAt offset octets.now buffer.old buffer.new)
-        ((length buffer.old < offset + length octets.now) × (buffer.new ≡ buffer.old)) }
+    ensures { PutsIfRoom result offset octets.now buffer.old buffer.new }
 {
     if buffer.len() - offset < octets.len() {
         return false;
