@@ -238,8 +238,7 @@ impl<Octs: Octets> Name<Octs> {
     ///
     /// ```rust
     /// pub fn first_label<'a>(name: &'a Name<&[u8]>) -> Option<Label<'a>>
-    ///     ensures label { IfSome result
-    ///         (λ label. (rest : List (List ℕ)) × (name_labels name.now ≡ label_octets label ∷ rest)) }
+    ///     ensures label { IfSome result (λ label. NameBeginsWith name.now (label_octets label)) }
     ///     ensures some { IsSome result }
     /// {
     ///     name.iter().next()

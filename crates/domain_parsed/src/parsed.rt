@@ -113,11 +113,7 @@ impl<'a> ParsedName<&'a [u8]> {
     /// pub fn question<'a>(parser: &mut Parser<'a>) -> Result<(ParsedName<&'a [u8]>, u16, u16), ParseError>
     ///     ensures name { IfOk result
     ///         (λ read. Names 255 (message parser.old) (position parser.old) (parsed_labels read.0)) }
-    ///     ensures after { IfOk result
-    ///         (λ read. (e : ℕ) × EncodingEnds (message parser.old) (position parser.old) e
-    ///         × (read.1 ≡ from_be_bytes w16 (slice_range (message parser.old) e (e + 2)))
-    ///         × (read.2 ≡ from_be_bytes w16 (slice_range (message parser.old) (e + 2) (e + 4)))
-    ///         × MovesTo parser.old parser.new (e + 4)) }
+    ///     ensures after { IfOk result (λ read. HasTypeAndClass parser.old read.1 read.2 parser.new) }
     ///     ensures unchanged { OnErr result (parser.new ≡ parser.old) }
     /// {
     ///     let mut ahead = *parser;
@@ -256,13 +252,8 @@ impl<'a> ParsedName<&'a [u8]> {
     ///
     /// ```rust
     /// pub fn skip_question(parser: &mut Parser<'_>) -> Result<(), ParseError>
-    ///     ensures ok { OnOk result
-    ///         ((e : ℕ) × Skips (message parser.old) (position parser.old) e
-    ///         × (position parser.new ≡ e + 4)) }
-    ///     ensures err { OnErr result
-    ///         (((why : NameFault) × SkipFault (message parser.old) (position parser.old) why)
-    ///         ⊎ ((e : ℕ) × Skips (message parser.old) (position parser.old) e
-    ///         × (length (message parser.old) < e + 4))) }
+    ///     ensures ok { OnOk result (PassesQuestion parser.old parser.new) }
+    ///     ensures err { OnErr result (CannotPass parser.old) }
     /// {
     ///     ParsedName::skip(parser)?;
     ///     parser.advance(4)?;
@@ -373,8 +364,7 @@ impl<Octs: Octets> ParsedName<Octs> {
     ///
     /// ```rust
     /// pub fn top_label<'a>(name: &'a ParsedName<&[u8]>) -> Option<Label<'a>>
-    ///     ensures some { IfSome result (λ label. (front : List (List ℕ)) × (root : List ℕ)
-    ///         × (parsed_labels name.now ≡ front ++ label_octets label ∷ root ∷ [])) }
+    ///     ensures some { IfSome result (λ label. IsTopLabel name.now (label_octets label)) }
     ///     ensures none { IsNone result ↔ (parsed_labels name.now ≡ Root) }
     /// {
     ///     let mut labels = name.iter();

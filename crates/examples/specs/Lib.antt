@@ -6,3 +6,7 @@ pub mod MessageHosts
 pub mod Responses
 pub mod Served
 pub mod Services
+pub mod Parsed
+pub mod FlatNames
+pub mod Appending
+pub mod Targets

@@ -1,5 +1,6 @@
 -- Hosts that take mail, and addresses of hosts, among the records of a message.
-use Rattle.std.specs.Prelude.{◌≡◌, ℕ, ◌<◌, ◌≤◌, ◌⊎◌, List, [], ◌∷◌, ◌++◌, length, Option, Some, None, All}
+use Rattle.std.specs.Prelude.{◌≡◌, ℕ, ◌<◌, ◌≤◌, ◌⊎◌, List, [], ◌∷◌, ◌++◌, length, Option, Some, None, All, option_map}
+use Rattle.octseq.specs.declared.octets.Octets.{Ghosts}
 use Rattle.domain_wire.specs.declared.error.ParseError.{ParseError}
 use Rattle.domain_wire.specs.declared.net.Ipv4Addr.{Ipv4Addr}
 use Rattle.domain_wire.specs.Addresses.{ipv4_of}
@@ -10,6 +11,8 @@ use Rattle.domain_header.specs.Numbers.{number16}
 use Rattle.domain_record.specs.Entries.{RecordFields, RecordAt, NoRecord}
 use Rattle.domain_message.specs.Sections.{Run, QuestionsTo, AuthorityTo, NoQuestions, NoAuthority}
 use Rattle.domain_fields.specs.Data.{AllAt, NotAll}
+use Rattle.domain_parsed.specs.declared.parsed.ParsedName.{ParsedName}
+use Rattle.domain_parsed.specs.ParsedNames.{parsed_labels}
 use Rattle.domain_data.specs.Shapes.{NumberNameAt, NoNumberName}
 
 -- a preference and the name of a host (RFC 1035, 3.3.9)
@@ -112,3 +115,7 @@ MailRefused m why = NoQuestions m why ⊎ ((start : ℕ) × QuestionsTo m start 
 -- Why the additional section can't be searched for an address of the host.
 abbrev pub AddressRefused : List ℕ → List (List ℕ) → ParseError → Type 0
 AddressRefused m host why = NoAuthority m why ⊎ ((start : ℕ) × AuthorityTo m start × StopsAt 1 (All (IsOther host)) (NotAll refusal (FixedAt 4 ipv4_of) (ShortAt 4)) m start (number16 m 10) why)
+
+-- The same of the name that was found in a message.
+abbrev pub Prefers : {O : Type 0} {g : Ghosts O} → List ℕ → Option (ParsedName O g) → Type 0
+Prefers m found = PrefersHost m (option_map (λ name. parsed_labels name) found)

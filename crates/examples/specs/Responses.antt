@@ -2,10 +2,13 @@
 use Rattle.std.specs.Prelude.{◌≡◌, ℕ, List, [], ◌∷◌, ◌++◌, true}
 use Rattle.std.specs.Int.{w16, to_be_bytes}
 use Rattle.octseq.specs.declared.builder.ShortBuf.{ShortBuf}
+use Rattle.octseq.specs.declared.octets.Octets.{Ghosts}
 use Rattle.domain_wire.specs.declared.net.Ipv4Addr.{Ipv4Addr}
 use Rattle.domain_wire.specs.Addresses.{ipv4_octets}
 use Rattle.domain_header.specs.Headers.{header_octets, counts_octets, section_header, section_counts}
 use Rattle.domain_header.specs.declared.header.HeaderSection.{HeaderSection}
+use Rattle.domain_name.specs.declared.absolute.Name.{Name}
+use Rattle.domain_name.specs.Names.{name_labels}
 use Rattle.domain_rdata.specs.declared.record_data.ComposeRdataError.{ComposeRdataError}
 use Rattle.domain_rdata.specs.ReadBack.{Exceeds}
 use Rattle.domain_rdata.specs.RecordData.{NameOctets}
@@ -47,3 +50,11 @@ pub data ExceedsMessage (id : ℕ) (name host : List (List ℕ)) (addr : Ipv4Add
   no_address : (question mail : List ℕ) → QuestionOctets name 15 1 true (response_octets id) question
       → RecordOctets name 15 1 3600 (MailData host) true (response_octets id ++ question) mail
       → (e : ComposeRdataError ShortBuf) → RecordRefused host 1 1 3600 (AddressData addr) true (response_octets id ++ question ++ mail) 512 e → ExceedsMessage id name host addr
+
+-- So it is for these two names.
+abbrev pub TellsMail : {O P : Type 0} {g : Ghosts O} {h : Ghosts P} → (id : ℕ) → Name O g → Name P h → Ipv4Addr → List ℕ → Type 0
+TellsMail id name host addr m = IsMailResponse id (name_labels name) (name_labels host) addr m
+
+-- So it is for these two names.
+abbrev pub MailIsTooLong : {O P : Type 0} {g : Ghosts O} {h : Ghosts P} → (id : ℕ) → Name O g → Name P h → Ipv4Addr → Type 0
+MailIsTooLong id name host addr = ExceedsMessage id (name_labels name) (name_labels host) addr

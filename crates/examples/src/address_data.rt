@@ -1,6 +1,6 @@
 //! Record data of a type of one's own: the address of a host (RFC 1035, 3.4.1).
-ghost use Rattle.std.specs.Prelude.{◌≡◌, ◌+◌, ◌++◌, ◌<◌, length, nat_eq, slice_range, true, false, IfOk, IfSome, IsNone, Some, ◌↔◌, OnErr, refl};
-ghost use Rattle.octseq.specs.Parsing.{message, position};
+ghost use Rattle.std.specs.Prelude.{◌≡◌, ◌+◌, ◌<◌, length, nat_eq, true, false, IfOk, IfSome, IsNone, Some, ◌↔◌, OnErr, refl};
+ghost use Rattle.octseq.specs.Parsing.{message, position, next};
 ghost use Rattle.domain_wire.specs.Addresses.{ipv4_octets, ipv4_of};
 ghost use Rattle.domain_wire.specs.FixedLength.{fixed_reading};
 ghost use Rattle.domain_wire.specs.Values.{FixedAt, ShortAt};
@@ -102,11 +102,7 @@ pub fn read_address<'a>(
     rtype: Rtype,
     parser: &mut Parser<'a>,
 ) -> Result<Option<Ipv4Addr>, ParseError>
-    ensures address { IfOk result
-        (λ read. IfSome read
-        (λ it. it
-        ≡ ipv4_of
-        (slice_range (message parser.old) (position parser.old) (position parser.old + 4)))) }
+    ensures address { IfOk result (λ read. IfSome read (λ it. it ≡ ipv4_of (next parser.old 4))) }
     ensures none { IfOk result (λ read. IsNone read ↔ (nat_eq (rtype_number rtype) 1 ≡ false)) }
     ensures short { OnErr result (length (message parser.old) < position parser.old + 4) }
     ensures unchanged { OnErr result (parser.new ≡ parser.old) }

@@ -1,6 +1,6 @@
 //! Octets of the caller's choice: what they are made of, and how many fit.
-ghost use Rattle.std.specs.Prelude.{◌≡◌, ◌+◌, ◌<◌, ◌≤◌, length, IfOk, IsOk, IsErr, OnErr, IfSome};
-ghost use Rattle.domain_label.specs.Wire.{wire};
+ghost use Rattle.std.specs.Prelude.{◌≡◌, IfOk, IsOk, IsErr, OnErr};
+ghost use Rattle.examples.specs.Appending.{IfFits, IfPasses};
 
 use domain::base::name::*;
 use octseq::{OctetsBuilder, SameOctets, ShortBuf};
@@ -26,10 +26,8 @@ pub fn append_name<'a, N: AbsoluteLabels<'a>, B: OctetsBuilder>(
     name: &'a N,
     target: &mut B,
 ) -> Result<(), B::AppendError>
-    ensures fits { IfSome B.limit
-        (λ n. length (B.octets target.old) + length (wire (N.labels name.now)) ≤ n → IsOk result) }
-    ensures passes { IfSome B.limit
-        (λ n. n < length (B.octets target.old) + length (wire (N.labels name.now)) → IsErr result) }
+    ensures fits { IfFits B.limit (B.octets target.old) (N.labels name.now) (IsOk result) }
+    ensures passes { IfPasses B.limit (B.octets target.old) (N.labels name.now) (IsErr result) }
 {
     name.compose(target)
 }

@@ -1,8 +1,6 @@
 //! Messages that are built.
-ghost use Rattle.std.specs.Prelude.{◌<◌, length, IfSome, IsNone};
-ghost use Rattle.domain_record.specs.RecordParts.{data_of};
-ghost use Rattle.domain_message_builder.specs.Pushes.{asked, headed};
-ghost use Rattle.examples.specs.Built.{IsQuery, IsSizedQuery, IsAnswer, NotAsked, NotSized, NotAnswered};
+ghost use Rattle.std.specs.Prelude.{◌<◌, length, IsNone};
+ghost use Rattle.examples.specs.Targets.{AsksQuestion, NoQueryFits, AsksWithSize, NoSizedQueryFits, AnswersWith, NoAnswerFits};
 
 use domain::base::header::Header;
 use domain::base::message::Section;
@@ -19,10 +17,8 @@ pub fn query<'a, N: AbsoluteLabels<'a>, Target: Composer + Drop>(
     header: Header,
     question: &'a Question<N>,
 ) -> Option<Target>
-    ensures ok { IfSome result (λ made. IsQuery header
-        (asked N.labels question.now) (Target.octets made)) }
-    ensures none { IsNone result → NotAsked Target.compresses (asked N.labels question.now)
-        (Target.octets target) (Target.capacity target) 65535 }
+    ensures ok { AsksQuestion Target.octets N.labels header question.now result }
+    ensures none { IsNone result → NoQueryFits Target.Composer N.labels question.now target }
     ensures not_empty { 0 < length (Target.octets target) → IsNone result }
 {
     let mut message = match MessageBuilder::from_target(target) {
@@ -43,10 +39,9 @@ pub fn sized_query<'a, N: AbsoluteLabels<'a>, Target: Composer + Drop>(
     question: &'a Question<N>,
     udp_payload_size: u16,
 ) -> Option<Target>
-    ensures ok { IfSome result (λ made. IsSizedQuery header
-        (asked N.labels question.now) udp_payload_size (Target.octets made)) }
-    ensures none { IsNone result → NotSized Target.compresses (asked N.labels question.now)
-        udp_payload_size (Target.octets target) (Target.capacity target) 65535 }
+    ensures ok { AsksWithSize Target.octets N.labels header question.now udp_payload_size result }
+    ensures none { IsNone result →
+        NoSizedQueryFits Target.Composer N.labels question.now udp_payload_size target }
     ensures not_empty { 0 < length (Target.octets target) → IsNone result }
 {
     let Ok(mut opt) = OptBuilder::new(b"".as_slice()) else {
@@ -74,13 +69,10 @@ pub fn answer<'a, N: AbsoluteLabels<'a>, D: ComposeRecordData, Target: Composer 
     question: &'a Question<N>,
     resource: &'a Record<N, D>,
 ) -> Option<Target>
-    ensures ok { IfSome result (λ made. IsAnswer header
-        (asked N.labels question.now) (headed N.labels D.type_number resource.now)
-        (D.composed (data_of resource.now) Target.compresses) (Target.octets made)) }
-    ensures none { IsNone result → NotAnswered Target.compresses (asked N.labels question.now)
-        (headed N.labels D.type_number resource.now)
-        (D.composed (data_of resource.now) Target.compresses)
-        (Target.octets target) (Target.capacity target) 512 }
+    ensures ok { AnswersWith Target.Composer N.labels D.ComposeRecordData header question.now
+        resource.now result }
+    ensures none { IsNone result →
+        NoAnswerFits Target.Composer N.labels D.ComposeRecordData question.now resource.now target }
     ensures not_empty { 0 < length (Target.octets target) → IsNone result }
 {
     let mut message = match MessageBuilder::with_limit(target, 512) {

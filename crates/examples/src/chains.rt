@@ -1,8 +1,7 @@
 //! Chains of names of any type.
-ghost use Rattle.std.specs.Prelude.{◌≡◌, ◌<◌, ◌++◌, ◌⊎◌, ◌↔◌, IsNone, IfSome};
-ghost use Rattle.domain_label.specs.Wire.{IsAbsolute};
+ghost use Rattle.std.specs.Prelude.{◌≡◌, ◌↔◌, IsNone, IfSome};
 ghost use Rattle.domain_list.specs.ChainParts.{left_part, right_part};
-ghost use Rattle.domain_list.specs.Chains.{before_root};
+ghost use Rattle.examples.specs.FlatNames.{CannotChain};
 
 use domain::base::name::*;
 
@@ -13,8 +12,7 @@ pub fn put_before<L: NameLabels + Drop, R: NameLabels + Drop>(
     right: R,
 ) -> Option<Chain<L, R>>
     ensures parts { IfSome result (λ chain. (left_part chain ≡ left) × (right_part chain ≡ right)) }
-    ensures none { IsNone result
-        ↔ (IsAbsolute (L.labels left) ⊎ (254 < before_root (L.labels left ++ R.labels right))) }
+    ensures none { IsNone result ↔ CannotChain (L.labels left) (R.labels right) }
 {
     if left.is_absolute() {
         return None;

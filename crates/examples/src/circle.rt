@@ -1,11 +1,9 @@
 //! A text, the name that it spells, the name in a message, and the name in one piece again: its labels stay.
-ghost use Rattle.std.specs.Prelude.{◌≡◌, ℕ, List, IsOkAnd, IfOk};
+ghost use Rattle.std.specs.Prelude.{◌≡◌, IfOk};
 ghost use Rattle.std.specs.Str.{chars};
-ghost use Rattle.domain_label.specs.Text.{text_with_final_dot};
-ghost use Rattle.domain_label.specs.Wire.{IsAbsoluteName};
-ghost use Rattle.domain_builder.specs.Laws.{AreBytes};
 ghost use Rattle.domain_builder.specs.TextGrammar.{IsTextOfName};
 ghost use Rattle.domain_name.specs.Names.{name_labels};
+ghost use Rattle.examples.specs.FlatNames.{GivesShown};
 
 use arrayvec::ArrayVec;
 use domain::base::name::*;
@@ -40,8 +38,7 @@ pub fn put_and_read(alloc: Global, name: &Name<ArrayVec<u8, 255>>) -> Name<Array
 /// gives that name back.
 pub fn through_a_message(alloc: Global, text: &str) -> Result<Name<ArrayVec<u8, 255>>, FromStrError>
     ensures spelled { IfOk result (λ name. IsTextOfName (chars text.now) (name_labels name)) }
-    ensures shown { (ls : List (List ℕ)) → IsAbsoluteName ls → AreBytes ls →
-        chars text.now ≡ text_with_final_dot ls → IsOkAnd result (λ name. name_labels name ≡ ls) }
+    ensures shown { GivesShown name_labels (chars text.now) result }
 {
     text_laws();
     match text.parse() {

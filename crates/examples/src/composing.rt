@@ -1,7 +1,6 @@
 //! A message that is composed.
 ghost use Rattle.std.specs.Prelude.{◌≡◌, IfSome, IsNone};
-ghost use Rattle.domain.specs.Names.{name_labels};
-ghost use Rattle.examples.specs.Responses.{response_octets, section_octets, IsMailResponse, ExceedsMessage};
+ghost use Rattle.examples.specs.Responses.{response_octets, section_octets, TellsMail, MailIsTooLong};
 
 use arrayvec::ArrayVec;
 use domain::base::compress::CompressComposer;
@@ -35,10 +34,8 @@ pub fn mail_response(
     host: Name<&[u8]>,
     addr: Ipv4Addr,
 ) -> Option<ArrayVec<u8, 512>>
-    ensures ok { IfSome result
-        (λ m. IsMailResponse id (name_labels name.entry) (name_labels host.entry) addr m.items) }
-    ensures full { IsNone result →
-        ExceedsMessage id (name_labels name.entry) (name_labels host.entry) addr }
+    ensures ok { IfSome result (λ m. TellsMail id name.entry host.entry addr m.items) }
+    ensures full { IsNone result → MailIsTooLong id name.entry host.entry addr }
 {
     let (class, ttl) = (Class::from_int(1), Ttl::from_secs(3600));
     let mut header = [0; 12];

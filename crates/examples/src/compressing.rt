@@ -1,6 +1,6 @@
 //! Writing names into messages, shorter where they can be.
 ghost use Rattle.std.specs.Prelude.{◌≡◌, IfOk, OnErr};
-ghost use Rattle.domain_rdata.specs.ReadBack.{StandsAt};
+ghost use Rattle.examples.specs.Appending.{StandsIn};
 
 use arrayvec::ArrayVec;
 use domain::base::compress::CompressComposer;
@@ -14,8 +14,7 @@ pub fn append_at<'a, Target: Composer, N: AbsoluteLabels<'a>>(
     target: &mut Target,
     name: &'a N,
 ) -> Result<usize, Target::AppendError>
-    ensures stands { IfOk result
-        (λ offset. StandsAt (Target.octets target.new) offset (N.labels name.now)) }
+    ensures stands { IfOk result (StandsIn (Target.octets target.new) (N.labels name.now)) }
     ensures unchanged { OnErr result (Target.octets target.new ≡ Target.octets target.old) }
 {
     let offset = target.as_slice().len();
@@ -30,8 +29,7 @@ pub fn append_data_and_name<'a, Target: Composer, Data: ComposeRecordData, N: Ab
     data: &Data,
     name: &'a N,
 ) -> Result<usize, ComposeRdataError<Target::AppendError>>
-    ensures stands { IfOk result
-        (λ offset. StandsAt (Target.octets target.new) offset (N.labels name.now)) }
+    ensures stands { IfOk result (StandsIn (Target.octets target.new) (N.labels name.now)) }
 {
     data.compose_len_rdata(target)?;
     match append_at(target, name) {

@@ -1,7 +1,7 @@
 //! A message whose header is written last.
-ghost use Rattle.std.specs.Prelude.{◌≡◌, ◌++◌, ◌≤◌, length, take, drop, IfOk};
-ghost use Rattle.std.specs.Int.{w16, to_be_bytes};
+ghost use Rattle.std.specs.Prelude.{◌≡◌, ◌≤◌, length, drop, IfOk};
 ghost use Rattle.domain_rdata.specs.ReadBack.{StandsAt};
+ghost use Rattle.examples.specs.Appending.{with_ancount};
 
 use arrayvec::ArrayVec;
 use domain::base::compress::{CompressComposer, compress_laws};
@@ -19,9 +19,7 @@ const HEADER_LEN: usize = 12;
 fn write_count<Octs: OctetsMut>(message: &mut Octs, count: u16)
     requires { 12 ≤ length (Octs.octets message.old) }
     ensures rest { drop 12 (Octs.octets message.new) ≡ drop 12 (Octs.octets message.old) }
-    ensures octets { Octs.octets message.new
-        ≡ take 6 (Octs.octets message.old)
-        ++ (to_be_bytes w16 count ++ drop 8 (Octs.octets message.old)) }
+    ensures octets { Octs.octets message.new ≡ with_ancount count (Octs.octets message.old) }
 {
     message.as_slice_mut()[6..8].copy_from_slice(&count.to_be_bytes());
 }

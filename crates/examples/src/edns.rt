@@ -1,9 +1,8 @@
 //! What a sender tells of itself beside its message.
-ghost use Rattle.std.specs.Prelude.{◌≡◌, IfErr, IfOk, Option};
-ghost use Rattle.domain_edns.specs.OptRecords.{IsTheOpt, HasOptFault};
-ghost use Rattle.domain_edns.specs.declared.record.OptRecord.{OptRecord};
+ghost use Rattle.std.specs.Prelude.{IfErr, IfOk};
+ghost use Rattle.domain_edns.specs.OptRecords.{HasOptFault};
 ghost use Rattle.domain_message.specs.Messages.{message_octets};
-ghost use Rattle.examples.specs.EdnsSizes.{size_told};
+ghost use Rattle.examples.specs.EdnsSizes.{TellsSize};
 
 use domain::base::message::Message;
 use domain::base::opt::{OptError, opt_of};
@@ -11,9 +10,7 @@ use octseq::Octets;
 
 /// How many octets the sender of a message takes over UDP: 512 where it doesn't tell (RFC 6891, 6.2.5).
 pub fn size_taken<Octs: Octets>(message: &Message<Octs>) -> Result<u16, OptError>
-    ensures ok { IfOk result
-        (λ size. (found : Option OptRecord) × IsTheOpt (message_octets message.now) found
-        × (size ≡ size_told found)) }
+    ensures ok { IfOk result (TellsSize (message_octets message.now)) }
     ensures err { IfErr result (λ e. HasOptFault (message_octets message.now) e) }
 {
     match opt_of(message) {

@@ -44,8 +44,7 @@ pub fn own_exchange(
     alloc: Global,
 ) -> Result<Exchange<Name<Vec<u8>>>, ShortBuf>
     ensures number { IfOk result (λ made. made.preference ≡ mail.entry.preference) }
-    ensures name { IfOk result
-        (λ made. name_labels made.exchange ≡ parsed_labels mail.entry.exchange) }
+    ensures name { IfOk result (λ it. name_labels it.exchange ≡ parsed_labels mail.entry.exchange) }
 {
     mail.flatten_into(alloc)
 }

@@ -1,9 +1,9 @@
 //! Flat names and their parts.
-ghost use Rattle.std.specs.Prelude.{◌≡◌, ◌++◌, ◌∷◌, ◌+◌, ◌↔◌, ℕ, List, length, IfSome, IsSome};
-ghost use Rattle.domain_flat.specs.Flat.{IsLabelStart};
+ghost use Rattle.std.specs.Prelude.{◌≡◌, ◌↔◌, IfSome, IsSome};
 ghost use Rattle.domain_label.specs.Labels.{label_octets};
-ghost use Rattle.domain_label.specs.Wire.{wire, IsAbsoluteWire};
-ghost use Rattle.domain_name.specs.Names.{name_labels, name_octets, relative_labels};
+ghost use Rattle.domain_label.specs.Wire.{IsAbsoluteWire};
+ghost use Rattle.domain_name.specs.Names.{name_octets};
+ghost use Rattle.examples.specs.FlatNames.{NameBeginsWith, HasFront, IsAsLongAsFirst, TellsSecond};
 
 use domain::base::name::*;
 
@@ -18,8 +18,7 @@ pub fn known_name(octets: &[u8]) -> Option<Name<&[u8]>>
 
 /// The first label of a name, as `www` of `www.example.com`.
 pub fn first_label<'a>(name: &'a Name<&[u8]>) -> Option<Label<'a>>
-    ensures label { IfSome result
-        (λ label. (rest : List (List ℕ)) × (name_labels name.now ≡ label_octets label ∷ rest)) }
+    ensures label { IfSome result (λ label. NameBeginsWith name.now (label_octets label)) }
     ensures some { IsSome result }
 {
     name.iter().next()
@@ -27,13 +26,9 @@ pub fn first_label<'a>(name: &'a Name<&[u8]>) -> Option<Label<'a>>
 
 /// The first label of a name, as a name. `None` where no label begins after it, as for the root.
 pub fn host<'a>(name: &'a Name<&'a [u8]>) -> Option<RelativeName<&'a [u8]>>
-    ensures front { IfSome result
-        (λ host. (zone : List (List ℕ)) × (name_labels name.now ≡ relative_labels host ++ zone)) }
-    ensures first { IfSome result
-        (λ host. (label : List ℕ) × (rest : List (List ℕ)) × (name_labels name.now ≡ label ∷ rest)
-        × (length (wire (relative_labels host)) ≡ length label + 1)) }
-    ensures some { (label : List ℕ) → (rest : List (List ℕ)) → name_labels name.now ≡ label ∷ rest →
-        (IsSome result ↔ IsLabelStart (name_labels name.now) (length label + 1)) }
+    ensures front { IfSome result (HasFront name.now) }
+    ensures first { IfSome result (IsAsLongAsFirst name.now) }
+    ensures some { TellsSecond name.now (IsSome result) }
 {
     let first = name.first().len() + 1;
     if name.is_label_start(first) {

@@ -1,12 +1,10 @@
 //! A type of one's own with an iterator of its own: the hosts of a zone. Their octets are nowhere in a row, so a host
 //! gives nothing but its labels, and has all calls that absolute names have.
-ghost use Rattle.std.specs.Prelude.{◌≡◌, ◌<◌, ◌+◌, ◌∷◌, ◌⊎◌, ◌↔◌, [], length, IsNone, IfSome, IsTrue};
+ghost use Rattle.std.specs.Prelude.{◌≡◌, ◌↔◌, IsNone, IfSome, IsTrue};
 ghost use Rattle.std.proofs.Common.{inl};
-ghost use Rattle.domain_label.specs.Labels.{owned_octets};
-ghost use Rattle.domain_label.specs.Wire.{wire, IsAbsoluteName};
+ghost use Rattle.domain_label.specs.Wire.{IsAbsoluteName};
 ghost use Rattle.domain_label.proofs.WireLaws.{IsAbsoluteName_prop};
-ghost use Rattle.domain_list.specs.Ends.{EndsWith};
-ghost use Rattle.domain_name.specs.Names.{name_labels};
+ghost use Rattle.examples.specs.FlatNames.{with_zone, MakesNoHost, IsInZone};
 
 use crate::comparing::is_in_zone;
 use crate::host_labels::HostLabels;
@@ -17,7 +15,7 @@ use domain::base::name::*;
 pub struct Host {
     label: OwnedLabel,
     zone: Name<Vec<u8>>,
-    ghost named: { IsAbsoluteName (owned_octets label ∷ name_labels zone) } by { IsAbsoluteName_prop (owned_octets label ∷ name_labels zone) },
+    ghost named: { IsAbsoluteName (with_zone label zone) } by { IsAbsoluteName_prop (with_zone label zone) },
 }
 
 impl Host {
@@ -27,11 +25,8 @@ impl Host {
     ///
     /// `None` where the label is the root's, or the name would have more than 255 octets.
     pub fn new(label: OwnedLabel, zone: Name<Vec<u8>>) -> Option<Host>
-        ensures labels { IfSome result
-            (λ host. labels_of host ≡ owned_octets label ∷ name_labels zone) }
-        ensures none { IsNone result
-            ↔ ((owned_octets label ≡ [])
-            ⊎ (255 < length (wire (owned_octets label ∷ name_labels zone)))) }
+        ensures labels { IfSome result (λ host. labels_of host ≡ with_zone label zone) }
+        ensures none { IsNone result ↔ MakesNoHost label zone }
     {
         let len = label.as_label().len();
         if len == 0 || len + 1 + zone.len() > 255 {
@@ -79,9 +74,7 @@ impl<'a> AbsoluteLabels<'a> for Host {}
 
 /// Whether a host is in a zone. The type has each call that absolute names have.
 pub fn is_host_in_zone(host: &Host, ancestor: &Name<Vec<u8>>) -> bool
-    ensures { IsTrue result
-        ↔ EndsWith (owned_octets host.now.label ∷ name_labels host.now.zone)
-        (name_labels ancestor.now) }
+    ensures { IsTrue result ↔ IsInZone host.now.label host.now.zone ancestor.now }
 {
     is_in_zone(host, ancestor)
 }

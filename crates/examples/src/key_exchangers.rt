@@ -1,12 +1,7 @@
 //! Record data of a type of one's own with a name in it: a host that exchanges keys (RFC 2230, 3).
 ghost use Rattle.std.specs.Prelude.{◌≡◌, IfOk, IfSome, OnErr};
-ghost use Rattle.std.specs.Int.{w16, from_be_bytes};
-ghost use Rattle.octseq.specs.Parsing.{message, position};
-ghost use Rattle.domain_wire.specs.Values.{FixedAt};
 ghost use Rattle.domain_parsed.specs.ParsedNames.{parsed_labels};
-ghost use Rattle.domain_data.specs.Data.{AllAt};
-ghost use Rattle.domain_data.specs.Names.{NameFieldAt};
-ghost use Rattle.domain_data.specs.Sequences.{BothAt};
+ghost use Rattle.examples.specs.Parsed.{HasExchanger};
 
 use domain::base::name::*;
 use domain::base::rdata::*;
@@ -23,10 +18,8 @@ pub fn read_exchanger<'a>(
     parser: &mut Parser<'a>,
 ) -> Result<Option<Kx<ParsedName<&'a [u8]>>>, ParseError>
     ensures ok { IfOk result
-        (λ read. IfSome read
-        (λ kx. AllAt (BothAt (FixedAt 2 (from_be_bytes w16)) NameFieldAt) (message parser.old)
-        (position parser.old) (kx.fields.first, parsed_labels kx.fields.rest.name)
-        (position parser.new))) }
+        (λ read. IfSome read (λ kx. HasExchanger parser.old kx.fields.first
+        (parsed_labels kx.fields.rest.name) parser.new)) }
     ensures unchanged { OnErr result (parser.new ≡ parser.old) }
 {
     Kx::parse_rdata(rtype, parser)

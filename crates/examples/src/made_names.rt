@@ -1,8 +1,9 @@
 //! Names that are put together, label by label.
 ghost use Rattle.std.specs.Prelude.{◌≡◌, ◌++◌, ◌+◌, ◌≤◌, length, IfOk, IsOk};
-ghost use Rattle.domain_builder.specs.BuilderState.{empty_state, labelled, closed, size};
+ghost use Rattle.domain_builder.specs.BuilderState.{empty_state, labelled, size};
 ghost use Rattle.domain_label.specs.Wire.{wire};
 ghost use Rattle.domain_name.specs.Names.{name_labels};
+ghost use Rattle.examples.specs.FlatNames.{one_label};
 
 use arrayvec::ArrayVec;
 use domain::base::name::*;
@@ -14,8 +15,7 @@ pub fn host_name<'a, N: AbsoluteLabels<'a>>(
     label: &[u8],
     zone: &'a N,
 ) -> Result<Name<ArrayVec<u8, 255>>, FromStrError>
-    ensures ok { IfOk result
-        (λ name. name_labels name ≡ closed (labelled empty_state label.now) ++ N.labels zone.now) }
+    ensures ok { IfOk result (λ name. name_labels name ≡ one_label label.now ++ N.labels zone.now) }
     ensures made { length label.now ≤ 63 →
         size (labelled empty_state label.now) + length (wire (N.labels zone.now)) ≤ 255 →
         IsOk result }

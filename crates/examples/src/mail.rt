@@ -1,8 +1,8 @@
 //! The hosts that take mail for a name, and their addresses.
-ghost use Rattle.std.specs.Prelude.{IfOk, IfErr, option_map};
+ghost use Rattle.std.specs.Prelude.{IfOk, IfErr};
 ghost use Rattle.domain.specs.ParsedViews.{parsed_labels};
 ghost use Rattle.domain_message.specs.Messages.{message_octets};
-ghost use Rattle.examples.specs.MessageHosts.{PrefersHost, MailRefused, FindsAddress, AddressRefused};
+ghost use Rattle.examples.specs.MessageHosts.{Prefers, MailRefused, FindsAddress, AddressRefused};
 
 use domain::base::message::Message;
 use domain::base::name::*;
@@ -14,9 +14,7 @@ use domain::rdata::{A, Mx};
 pub fn preferred_host<'a>(
     message: &'a Message<&'a [u8]>,
 ) -> Result<Option<ParsedName<&'a [u8]>>, ParseError>
-    ensures ok { IfOk result
-        (λ host.
-        PrefersHost (message_octets message.now) (option_map (λ name. parsed_labels name) host)) }
+    ensures ok { IfOk result (Prefers (message_octets message.now)) }
     ensures err { IfErr result (λ e. MailRefused (message_octets message.now) e) }
 {
     let mut preferred: Option<Mx<ParsedName<&'a [u8]>>> = None;
@@ -43,10 +41,9 @@ pub fn address_of<'a>(
     message: &'a Message<&'a [u8]>,
     host: &ParsedName<&'a [u8]>,
 ) -> Result<Option<Ipv4Addr>, ParseError>
-    ensures ok { IfOk result
-        (λ addr. FindsAddress (message_octets message.now) (parsed_labels host.now) addr) }
+    ensures ok { IfOk result (FindsAddress (message_octets message.now) (parsed_labels host.now)) }
     ensures err { IfErr result
-        (λ e. AddressRefused (message_octets message.now) (parsed_labels host.now) e) }
+        (AddressRefused (message_octets message.now) (parsed_labels host.now)) }
 {
     for item in message.additional()?.limit_to::<A>() {
         let record = item?;

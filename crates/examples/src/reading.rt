@@ -1,14 +1,12 @@
 //! Reading names from messages, and going over their labels.
-ghost use Rattle.std.specs.Prelude.{◌≡◌, ◌<◌, ◌≤◌, ◌+◌, ◌++◌, ◌∷◌, ◌⊎◌, ◌↔◌, [], ℕ, List, length, slice_range, string_bytes, IfOk, IfSome, IsNone, OnOk, OnErr};
-ghost use Rattle.std.specs.Int.{w16, from_be_bytes};
+ghost use Rattle.std.specs.Prelude.{◌≡◌, ◌≤◌, ◌+◌, ◌↔◌, string_bytes, IfOk, IfSome, IsNone, OnOk, OnErr};
 ghost use Rattle.domain_label.specs.Text.{text_with_final_dot};
 ghost use Rattle.domain_label.specs.Labels.{label_octets};
 ghost use Rattle.domain_label.specs.Wire.{Root};
 ghost use Rattle.domain_parsed.specs.ParsedNames.{parsed_labels};
-ghost use Rattle.domain_reading.specs.Faults.{Skips, SkipFault};
-ghost use Rattle.domain_reading.specs.Grammar.{Names, EncodingEnds};
-ghost use Rattle.domain_reading.specs.declared.fault.NameFault.{NameFault};
-ghost use Rattle.octseq.specs.Parsing.{message, position, MovesTo};
+ghost use Rattle.domain_reading.specs.Grammar.{Names};
+ghost use Rattle.octseq.specs.Parsing.{message, position};
+ghost use Rattle.examples.specs.Parsed.{HasTypeAndClass, PassesQuestion, CannotPass, IsTopLabel};
 
 use domain::base::name::*;
 use domain::base::wire::{ParseError, parse_slice};
@@ -20,11 +18,7 @@ use std::sync::ledger::Ledger;
 pub fn question<'a>(parser: &mut Parser<'a>) -> Result<(ParsedName<&'a [u8]>, u16, u16), ParseError>
     ensures name { IfOk result
         (λ read. Names 255 (message parser.old) (position parser.old) (parsed_labels read.0)) }
-    ensures after { IfOk result
-        (λ read. (e : ℕ) × EncodingEnds (message parser.old) (position parser.old) e
-        × (read.1 ≡ from_be_bytes w16 (slice_range (message parser.old) e (e + 2)))
-        × (read.2 ≡ from_be_bytes w16 (slice_range (message parser.old) (e + 2) (e + 4)))
-        × MovesTo parser.old parser.new (e + 4)) }
+    ensures after { IfOk result (λ read. HasTypeAndClass parser.old read.1 read.2 parser.new) }
     ensures unchanged { OnErr result (parser.new ≡ parser.old) }
 {
     let mut ahead = *parser;
@@ -44,13 +38,8 @@ pub fn whole_name(octets: &[u8]) -> Result<ParsedName<&[u8]>, ParseError>
 
 /// Passes over a question: the name, and the four octets of its type and class.
 pub fn skip_question(parser: &mut Parser<'_>) -> Result<(), ParseError>
-    ensures ok { OnOk result
-        ((e : ℕ) × Skips (message parser.old) (position parser.old) e
-        × (position parser.new ≡ e + 4)) }
-    ensures err { OnErr result
-        (((why : NameFault) × SkipFault (message parser.old) (position parser.old) why)
-        ⊎ ((e : ℕ) × Skips (message parser.old) (position parser.old) e
-        × (length (message parser.old) < e + 4))) }
+    ensures ok { OnOk result (PassesQuestion parser.old parser.new) }
+    ensures err { OnErr result (CannotPass parser.old) }
 {
     ParsedName::skip(parser)?;
     parser.advance(4)?;
@@ -59,8 +48,7 @@ pub fn skip_question(parser: &mut Parser<'_>) -> Result<(), ParseError>
 
 /// The label right before the root, as `com` of `www.example.com`. `None` for the root.
 pub fn top_label<'a>(name: &'a ParsedName<&[u8]>) -> Option<Label<'a>>
-    ensures some { IfSome result (λ label. (front : List (List ℕ)) × (root : List ℕ)
-        × (parsed_labels name.now ≡ front ++ label_octets label ∷ root ∷ [])) }
+    ensures some { IfSome result (λ label. IsTopLabel name.now (label_octets label)) }
     ensures none { IsNone result ↔ (parsed_labels name.now ≡ Root) }
 {
     let mut labels = name.iter();

@@ -1,6 +1,6 @@
 //! Record data that is composed into a message.
-ghost use Rattle.std.specs.Prelude.{◌≡◌, ◌++◌, length, OnOk, OnErr};
-ghost use Rattle.std.specs.Int.{w16, to_be_bytes};
+ghost use Rattle.std.specs.Prelude.{◌≡◌, ◌++◌, OnOk, OnErr};
+ghost use Rattle.examples.specs.Appending.{with_len};
 
 use domain::base::rdata::*;
 use octseq::ShortBuf;
@@ -13,9 +13,7 @@ pub fn append_data(
     octets: &[u8],
     message: &mut Vec<u8>,
 ) -> Result<(), ComposeRdataError<ShortBuf>>
-    ensures ok { OnOk result
-        (message.new.items
-        ≡ message.old.items ++ to_be_bytes w16 (length octets.now) ++ octets.now) }
+    ensures ok { OnOk result (message.new.items ≡ message.old.items ++ with_len octets.now) }
     ensures unchanged { OnErr result (message.new.items ≡ message.old.items) }
 {
     match UnknownRecordData::from_octets(rtype, octets) {

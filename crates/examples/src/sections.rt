@@ -1,8 +1,6 @@
 //! Messages that are built section by section.
-ghost use Rattle.std.specs.Prelude.{◌<◌, length, IfSome, IsNone};
-ghost use Rattle.domain_record.specs.RecordParts.{data_of};
-ghost use Rattle.domain_message_builder.specs.Pushes.{asked, headed};
-ghost use Rattle.examples.specs.Built.{IsAnswer, NotAnswered};
+ghost use Rattle.std.specs.Prelude.{◌<◌, length, IsNone};
+ghost use Rattle.examples.specs.Targets.{AnswersWith, NoAnswerFits};
 
 use domain::base::header::Header;
 use domain::base::message_builder::{MessageBuilder, QuestionBuilder};
@@ -20,13 +18,10 @@ pub fn answer_by_sections<'a, N: AbsoluteLabels<'a>, D: ComposeRecordData, Targe
     question: &'a Question<N>,
     resource: &'a Record<N, D>,
 ) -> Option<Target>
-    ensures ok { IfSome result (λ made. IsAnswer header
-        (asked N.labels question.now) (headed N.labels D.type_number resource.now)
-        (D.composed (data_of resource.now) Target.compresses) (Target.octets made)) }
-    ensures none { IsNone result → NotAnswered Target.compresses (asked N.labels question.now)
-        (headed N.labels D.type_number resource.now)
-        (D.composed (data_of resource.now) Target.compresses)
-        (Target.octets target) (Target.capacity target) 512 }
+    ensures ok { AnswersWith Target.Composer N.labels D.ComposeRecordData header question.now
+        resource.now result }
+    ensures none { IsNone result →
+        NoAnswerFits Target.Composer N.labels D.ComposeRecordData question.now resource.now target }
     ensures not_empty { 0 < length (Target.octets target) → IsNone result }
 {
     let mut message = match MessageBuilder::with_limit(target, 512) {

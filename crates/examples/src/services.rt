@@ -1,15 +1,12 @@
 //! What a client needs of a service binding (RFC 9460).
-ghost use Rattle.std.specs.Prelude.{◌≡◌, ℕ, List, IfOk};
-ghost use Rattle.domain_svcb.specs.SvcParams.{EncodesParams, value_with};
-ghost use Rattle.examples.specs.Services.{port_in};
+ghost use Rattle.std.specs.Prelude.{IfOk};
+ghost use Rattle.examples.specs.Services.{TellsPort};
 
 use domain::rdata::{SvcParams, SvcParamsError};
 
 /// The port that parameters tell, where they tell one (RFC 9460, 7.2).
 pub fn port_of(octets: &[u8]) -> Result<Option<u16>, SvcParamsError>
-    ensures { IfOk result
-        (λ port. (ps : List (ℕ × List ℕ))
-        × EncodesParams octets.now ps × (port ≡ port_in (value_with 3 ps))) }
+    ensures { IfOk result (TellsPort octets.now) }
 {
     let params = SvcParams::from_octets(octets)?;
     let Some([high, low]) = params.value(3) else {

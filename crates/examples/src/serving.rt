@@ -1,11 +1,6 @@
 //! Answers to queries.
-ghost use Rattle.std.specs.Prelude.{◌<◌, ◌≤◌, ◌⊎◌, length, IfSome, IsNone};
-ghost use Rattle.domain_header.specs.Values.{rcode_number};
-ghost use Rattle.domain_message.specs.Messages.{message_octets};
-ghost use Rattle.domain_record.specs.RecordParts.{data_of};
-ghost use Rattle.domain_message_builder.specs.OptViews.{opt_of};
-ghost use Rattle.domain_message_builder.specs.Pushes.{headed};
-ghost use Rattle.examples.specs.Served.{IsReferral, IsErrorAnswer, IsWholeOrCut};
+ghost use Rattle.std.specs.Prelude.{◌<◌, ◌≤◌, length, IfSome, IsNone};
+ghost use Rattle.examples.specs.Targets.{Refers, TellsError, CannotBegin, AnswersOrCuts};
 
 use domain::base::iana::Rcode;
 use domain::base::message::{Message, Section};
@@ -27,10 +22,8 @@ where
     N: AbsoluteLabels<'a>,
     S: ComposeRecordData,
     G: ComposeRecordData,
-    ensures { IfSome result (λ made. IsReferral (message_octets query.now)
-        (headed N.labels S.type_number server.now) (S.composed (data_of server.now) Target.compresses)
-        (headed N.labels G.type_number glue.now) (G.composed (data_of glue.now) Target.compresses)
-        (Target.octets made)) }
+    ensures { Refers Target.Composer N.labels S.ComposeRecordData G.ComposeRecordData query.now
+        server.now glue.now result }
 {
     let mut message = match MessageBuilder::from_target(target) {
         Ok(message) => message,
@@ -54,11 +47,8 @@ pub fn error_answer<Octs: Octets, Target: Composer + Drop>(
     query: &Message<Octs>,
     rcode: Rcode,
 ) -> Option<Target>
-    ensures ok { IfSome result (λ made. IsErrorAnswer Target.compresses
-        (message_octets query.now) (Target.octets target) (Target.capacity target)
-        (rcode_number rcode) (Target.octets made)) }
-    ensures none { IsNone result → (0 < length (Target.octets target))
-        ⊎ (Target.capacity target < 12) }
+    ensures ok { TellsError Target.Composer query.now rcode target result }
+    ensures none { IsNone result → CannotBegin Target.Composer target }
     ensures not_empty { 0 < length (Target.octets target) → IsNone result }
 {
     let mut message = match MessageBuilder::from_target(target) {
@@ -79,10 +69,8 @@ pub fn short_answer<'a, N, D, Octs: Octets, Options: Octets, Target: Composer + 
 where
     N: AbsoluteLabels<'a>,
     D: ComposeRecordData,
-    ensures whole_or_cut { IfSome result (λ made. IsWholeOrCut (message_octets query.now)
-        (headed N.labels D.type_number resource.now)
-        (D.composed (data_of resource.now) Target.compresses)
-        (opt_of opt.now) (Target.octets made)) }
+    ensures whole_or_cut { AnswersOrCuts Target.Composer N.labels D.ComposeRecordData query.now
+        resource.now opt.now result }
     ensures short { IfSome result (λ made. length (Target.octets made) ≤ 512) }
 {
     let mut message = match MessageBuilder::with_limit(target, 512) {

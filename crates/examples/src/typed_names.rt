@@ -1,10 +1,10 @@
 //! Names that a user writes, and why a text is none.
-ghost use Rattle.std.specs.Prelude.{◌≡◌, ◌⊎◌, ◌↔◌, IfOk, IfErr, IsTrue};
+ghost use Rattle.std.specs.Prelude.{◌↔◌, IfOk, IfErr, IsTrue};
 ghost use Rattle.std.specs.Str.{chars};
 ghost use Rattle.domain_builder.specs.TextGrammar.{IsTextOfName, IsTextOfNoName};
 ghost use Rattle.domain_builder.specs.TextErrors.{MatchFromStr};
-ghost use Rattle.domain_builder.specs.declared.name_symbol.TextFault.TheVariants.{LongLabel, LongName};
 ghost use Rattle.domain_name.specs.Names.{name_labels};
+ghost use Rattle.examples.specs.FlatNames.{IsLongFault};
 
 use arrayvec::ArrayVec;
 use domain::base::name::*;
@@ -20,8 +20,7 @@ pub fn typed_name(text: &str) -> Result<Name<ArrayVec<u8, 255>>, FromStrError>
 
 /// Whether a text is no name since a label, or the whole, is too long.
 pub fn is_too_long(error: FromStrError) -> bool
-    ensures { IsTrue result
-        ↔ MatchFromStr error (λ fault. (fault ≡ LongLabel) ⊎ (fault ≡ LongName)) ⊥ }
+    ensures { IsTrue result ↔ MatchFromStr error IsLongFault ⊥ }
 {
     let FromStrError::Presentation(error) = error else {
         return false;

@@ -1,9 +1,10 @@
 //! Values that are written to and read from messages.
-ghost use Rattle.std.specs.Prelude.{◌≡◌, ◌+◌, ◌++◌, ◌<◌, ◌⊎◌, ℕ, length, slice_range, IsOk, IfOk, IfErr, OnOk, OnErr};
+ghost use Rattle.std.specs.Prelude.{◌≡◌, ◌++◌, ◌<◌, length, IsOk, IfOk, IfErr, OnOk, OnErr};
 ghost use Rattle.std.specs.Int.{w16, to_be_bytes, from_be_bytes};
 ghost use Rattle.domain_wire.specs.Refusals.{refusal, short_input};
 ghost use Rattle.domain_wire.specs.declared.error.ParseError.{ParseError};
-ghost use Rattle.octseq.specs.Parsing.{message, position, next, MovesOver, MovesTo};
+ghost use Rattle.octseq.specs.Parsing.{position, next, MovesOver, MovesTo};
+ghost use Rattle.examples.specs.Parsed.{second_two, InTurn, NotInTurn};
 
 use domain::base::wire::{Compose, Parse, ParseError, compose_vec, parse_slice};
 use octseq::{OctetsBuilder, Parser, ShortBuf};
@@ -34,16 +35,12 @@ pub fn compose_two<A: Compose, B: Compose, Target: OctetsBuilder>(
 pub fn parse_two<'a, A: Parse<'a> + Drop, B: Parse<'a> + Drop, E: From<ParseError>>(
     parser: &mut Parser<'a>,
 ) -> Result<(A, B), E>
-    ensures ok { IfOk result (λ read. (between : ℕ)
-        × A.encodes (message parser.old) (position parser.old) (A.model read.0) between
-        × B.encodes (message parser.old) between (B.model read.1) (position parser.new)) }
+    ensures ok { IfOk result (λ read.
+        InTurn A.encodes B.encodes parser.old (A.model read.0) (B.model read.1) parser.new) }
     ensures moves { OnOk result (MovesTo parser.old parser.new (position parser.new)) }
     ensures err { IfErr result
         (λ e. (told : ParseError) × E.from_gives told e
-        × (A.fails_with (message parser.old) (position parser.old) told
-        ⊎ ((seen : A.View) × (between : ℕ)
-        × A.encodes (message parser.old) (position parser.old) seen between
-        × B.fails_with (message parser.old) between told))) }
+        × NotInTurn A.encodes A.fails_with B.fails_with parser.old told) }
     ensures unchanged { OnErr result (parser.new ≡ parser.old) }
 {
     let mut ahead = *parser;
@@ -56,10 +53,7 @@ pub fn parse_two<'a, A: Parse<'a> + Drop, B: Parse<'a> + Drop, E: From<ParseErro
 /// The type and the class of a question, which stand after its name.
 pub fn type_and_class(parser: &mut Parser<'_>) -> Result<(u16, u16), ParseError>
     ensures rtype { IfOk result (λ read. read.0 ≡ from_be_bytes w16 (next parser.old 2)) }
-    ensures class { IfOk result
-        (λ read. read.1
-        ≡ from_be_bytes w16
-        (slice_range (message parser.old) (position parser.old + 2) (position parser.old + 4))) }
+    ensures class { IfOk result (λ read. read.1 ≡ from_be_bytes w16 (second_two parser.old)) }
     ensures moves { OnOk result (MovesOver parser.old parser.new 4) }
     ensures unchanged { OnErr result (parser.new ≡ parser.old) }
 {
