@@ -593,6 +593,6 @@ impl<'a> fmt::Display for AllRecordData<&'a [u8], ParsedName<&'a [u8]>> {
     ghost output = { λ it. Some (fields_text (all_fields it)) };
 
     fn fmt<W: fmt::Write>(&self, f: &mut fmt::Formatter<W>) -> fmt::Result {
-        each_variant!(self, it => write!(f, "{it}"))
+        each_variant!(self, it => fmt::Display::fmt(it, f))
     }
 }
