@@ -1,4 +1,5 @@
 pub mod AllData
 pub mod AllTypes
 pub mod TypedOctets
+pub mod Visits
 pub mod Written

@@ -6,6 +6,7 @@ ghost use Rattle.domain_wire.specs.declared.error.ParseError.{ParseError};
 ghost use Rattle.domain_all_data.specs.AllData.{AllFields, AllDataAt, NoAllData, all_data_reading, fields_text};
 
 use crate::variants::each_variant;
+use crate::visit::{Compose, ComposeCanonical, DataVisitor, Measure};
 use domain_data::{
     A, Aaaa, Afsdb, Caa, Cname, Dname, Dnskey, Ds, Hinfo, Kx, Mb, Md, Mf, Mg, Minfo, Mr, Mx, Naptr,
     Ns, Nsec, Ptr, Px, Rp, Rrsig, Rt, Soa, Srv, Sshfp, Tlsa,
@@ -146,6 +147,23 @@ impl<Octs: Octets, N> RecordData for AllRecordData<Octs, N> {
             AllRecordData::Txt(_) => Rtype::from_int(16),
             AllRecordData::Unknown(it) => it.rtype(),
         }
+    }
+}
+
+impl<'a> AllRecordData<&'a [u8], ParsedName<&'a [u8]>> {
+    ghost use Rattle.domain_all_data.specs.Visits.{facts_of};
+
+    /// Does what the visitor does with the data.
+    pub(crate) fn visit<State, V: DataVisitor<State>>(
+        &self,
+        visitor: &V,
+        state: &mut State,
+    ) -> V::Output
+        ensures { V.visited visitor.now
+            (facts_of self.now ⟦<Self as ComposeRecordData>⟧)
+            state.old state.new result }
+    {
+        each_variant!(self, it => visitor.visit(it, state))
     }
 }
 
@@ -340,21 +358,21 @@ impl<'a> ComposeRecordData for AllRecordData<&'a [u8], ParsedName<&'a [u8]>> {
     ] };
 
     fn rdlen(&self, compress: bool) -> Option<u16> {
-        each_variant!(self, it => it.rdlen(compress))
+        self.visit(&Measure { compress }, &mut ())
     }
 
     fn compose_rdata<Target: Composer>(
         &self,
         target: &mut Target,
     ) -> Result<(), Target::AppendError> {
-        each_variant!(self, it => it.compose_rdata(target))
+        self.visit(&Compose, target)
     }
 
     fn compose_canonical_rdata<Target: Composer>(
         &self,
         target: &mut Target,
     ) -> Result<(), CanonicalError<Target::AppendError>> {
-        each_variant!(self, it => it.compose_canonical_rdata(target))
+        self.visit(&ComposeCanonical, target)
     }
 
     ghost plain = { elim [

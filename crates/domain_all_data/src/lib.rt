@@ -7,6 +7,7 @@ pub mod order;
 mod owned;
 mod owned_compose;
 mod variants;
+mod visit;
 
 pub use all::AllRecordData;
 pub use order::TypedData;

@@ -3,6 +3,7 @@ ghost use Rattle.std.specs.Prelude.{◌≡◌};
 
 use crate::all::AllRecordData;
 use crate::variants::each_variant;
+use crate::visit::{Compose, ComposeCanonical, DataVisitor, Measure};
 use domain_data::{
     A, Aaaa, Afsdb, Caa, Cname, Dname, Dnskey, Ds, Hinfo, Kx, Mb, Md, Mf, Mg, Minfo, Mr, Mx, Naptr,
     Ns, Nsec, Ptr, Px, Rp, Rrsig, Rt, Soa, Srv, Sshfp, Tlsa,
@@ -11,6 +12,23 @@ use domain_name::Name;
 use domain_rdata::{CanonicalError, ComposeRecordData, Composer, UnknownRecordData};
 use domain_svcb::{Https, Svcb};
 use domain_txt::Txt;
+
+impl AllRecordData<Vec<u8>, Name<Vec<u8>>> {
+    ghost use Rattle.domain_all_data.specs.Visits.{facts_of};
+
+    /// Does what the visitor does with the data.
+    pub(crate) fn visit<State, V: DataVisitor<State>>(
+        &self,
+        visitor: &V,
+        state: &mut State,
+    ) -> V::Output
+        ensures { V.visited visitor.now
+            (facts_of self.now ⟦<Self as ComposeRecordData>⟧)
+            state.old state.new result }
+    {
+        each_variant!(self, it => visitor.visit(it, state))
+    }
+}
 
 /// The data as its own type has it: names are written shorter in data of the types of RFC 1035 alone (RFC 3597, 4).
 impl ComposeRecordData for AllRecordData<Vec<u8>, Name<Vec<u8>>> {
@@ -203,21 +221,21 @@ impl ComposeRecordData for AllRecordData<Vec<u8>, Name<Vec<u8>>> {
     ] };
 
     fn rdlen(&self, compress: bool) -> Option<u16> {
-        each_variant!(self, it => it.rdlen(compress))
+        self.visit(&Measure { compress }, &mut ())
     }
 
     fn compose_rdata<Target: Composer>(
         &self,
         target: &mut Target,
     ) -> Result<(), Target::AppendError> {
-        each_variant!(self, it => it.compose_rdata(target))
+        self.visit(&Compose, target)
     }
 
     fn compose_canonical_rdata<Target: Composer>(
         &self,
         target: &mut Target,
     ) -> Result<(), CanonicalError<Target::AppendError>> {
-        each_variant!(self, it => it.compose_canonical_rdata(target))
+        self.visit(&ComposeCanonical, target)
     }
 
     ghost plain = { elim [

@@ -1,0 +1,81 @@
+-- What is known of data, whichever type it has, and what a call ensures by that.
+use Rattle.std.specs.Prelude.{◌≡◌, ◌↔◌, ◌≤◌, ℕ, Bool, false, List, length, Option, OnOk, OnErr, IfErr, IfSome, IsNone}
+use Rattle.std.specs.declared.result.Result.{Result}
+use Rattle.domain_rdata.specs.Canonical.{canonical_form, WithForm, FormRefused}
+use Rattle.domain_rdata.specs.ReadBack.{Appended, Exceeds}
+use Rattle.domain_rdata.specs.declared.record_data.CanonicalError.{CanonicalError}
+
+-- what a clause has as `D.ComposeRecordData`
+abbrev pub DataMembers : Type 0 → Type 1
+DataMembers D = record {
+  type_number : D → ℕ;
+  composed : D → Bool → List ℕ → List ℕ → Type 0;
+  written : D → (T : Type 0) → (T → List ℕ → T → Type 0) → (T → List (List ℕ) → T → Type 0) → T → T → Type 0;
+  uncompressed : D → List ℕ;
+  lowercase : D → Option (List ℕ);
+  knows_len : D → Bool → Bool;
+}
+
+-- what a clause has as `Target.Composer`
+abbrev pub ComposerMembers : Type 0 → Type 1
+ComposerMembers T = record {
+  with_octets : T → List ℕ → T;
+  octets : T → List ℕ;
+  capacity : T → ℕ;
+  limit : Option ℕ;
+  cuts : T → ℕ → T → Type 0;
+  extends : T → List ℕ → T → Type 0;
+  may_append : T → List (List ℕ) → List ℕ → Type 0;
+  compresses : Bool;
+  Memory : Type 0;
+  memory : T → Memory;
+  kept_within : ℕ → Memory → Memory;
+  appends : T → List (List ℕ) → T → Type 0;
+}
+
+-- what is known of data
+pub record DataFacts : Type 1 where
+  pub type_number : ℕ
+  pub composed : Bool → List ℕ → List ℕ → Type 0
+  pub written : (T : Type 0) → (T → List ℕ → T → Type 0) → (T → List (List ℕ) → T → Type 0) → T → T → Type 0
+  pub uncompressed : List ℕ
+  pub lowercase : Option (List ℕ)
+  pub knows_len : Bool → Bool
+
+-- what is known of this data, by the members of its type
+abbrev pub facts_of : {D : Type 0} → D → DataMembers D → DataFacts
+facts_of it d = record {
+  type_number = d.type_number it;
+  composed = d.composed it;
+  written = d.written it;
+  uncompressed = d.uncompressed it;
+  lowercase = d.lowercase it;
+  knows_len = d.knows_len it;
+}
+
+-- the canonical form, where the names are known
+abbrev pub canonical_of : DataFacts → Option (List ℕ)
+canonical_of it = canonical_form it.type_number it.uncompressed it.lowercase
+
+-- What `rdlen` ensures.
+pub record LengthTold (it : DataFacts) (compress : Bool) (result : Option ℕ) : Type 0 where
+  pub known : IsNone result ↔ (it.knows_len compress ≡ false)
+  pub composed : IfSome result (λ n. (t s : List ℕ) → it.composed compress t s → length s ≡ n)
+  pub canonical : compress ≡ false → IfSome result (λ n. IfSome (canonical_of it) (λ octets. length octets ≡ n))
+
+-- What `compose_rdata` ensures.
+pub record DataAppended {T E : Type 0} (g : ComposerMembers T) (it : DataFacts) (old new : T) (result : Result (Unit {0}) E) : Type 0 where
+  pub ok : OnOk result (Appended (it.composed g.compresses (g.octets old)) (g.octets old) (g.octets new))
+  pub names : OnOk result (it.written T g.extends g.appends old new)
+  pub memory : g.kept_within (length (g.octets old)) (g.memory new) ≡ g.memory old
+  pub unchanged : OnErr result (g.octets new ≡ g.octets old)
+  pub full : OnErr result (Exceeds (it.composed g.compresses (g.octets old)) (g.octets old) (g.capacity old))
+  pub capacity : g.capacity old ≤ g.capacity new
+
+-- What `compose_canonical_rdata` ensures.
+pub record FormAppended {T E : Type 0} (g : ComposerMembers T) (it : DataFacts) (old new : T) (result : Result (Unit {0}) (CanonicalError E)) : Type 0 where
+  pub ok : OnOk result (WithForm (canonical_of it) (g.octets old) (g.octets new))
+  pub memory : g.kept_within (length (g.octets old)) (g.memory new) ≡ g.memory old
+  pub unchanged : OnErr result (g.octets new ≡ g.octets old)
+  pub why : IfErr result (λ e. FormRefused (canonical_of it) (g.octets old) (g.capacity old) e)
+  pub capacity : g.capacity old ≤ g.capacity new

@@ -1,0 +1,68 @@
+//! What is done with data of any type, each in one place: the variants are told apart by `visit` alone.
+ghost use Rattle.domain_all_data.specs.Visits.{DataFacts, facts_of, LengthTold, DataAppended, FormAppended};
+
+use domain_rdata::{CanonicalError, ComposeRecordData, Composer};
+
+/// What is done with data, whichever type it has, and with a value beside it.
+pub(crate) trait DataVisitor<State> {
+    type Output;
+
+    /// What is known then of the value before and after, and of the result.
+    ghost visited: { Self → DataFacts → State → State → Self.Output → Type 0 };
+
+    fn visit<D: ComposeRecordData>(&self, it: &D, state: &mut State) -> Self::Output
+        ensures { visited self.now (facts_of it.now D.ComposeRecordData) state.old state.new
+            result };
+}
+
+/// Tells the length.
+#[derive(Drop)]
+pub(crate) struct Measure {
+    pub(crate) compress: bool,
+}
+
+impl DataVisitor<()> for Measure {
+    type Output = Option<u16>;
+
+    ghost visited = { λ visitor it _ _ result. LengthTold it visitor.compress result };
+
+    fn visit<D: ComposeRecordData>(&self, it: &D, state: &mut ()) -> Option<u16> {
+        it.rdlen(self.compress)
+    }
+}
+
+/// Appends the data to a target.
+#[derive(Drop)]
+pub(crate) struct Compose;
+
+impl<Target: Composer> DataVisitor<Target> for Compose {
+    type Output = Result<(), Target::AppendError>;
+
+    ghost visited = { λ _ it old new result. DataAppended Target.Composer it old new result };
+
+    fn visit<D: ComposeRecordData>(
+        &self,
+        it: &D,
+        target: &mut Target,
+    ) -> Result<(), Target::AppendError> {
+        it.compose_rdata(target)
+    }
+}
+
+/// Appends the canonical form to a target.
+#[derive(Drop)]
+pub(crate) struct ComposeCanonical;
+
+impl<Target: Composer> DataVisitor<Target> for ComposeCanonical {
+    type Output = Result<(), CanonicalError<Target::AppendError>>;
+
+    ghost visited = { λ _ it old new result. FormAppended Target.Composer it old new result };
+
+    fn visit<D: ComposeRecordData>(
+        &self,
+        it: &D,
+        target: &mut Target,
+    ) -> Result<(), CanonicalError<Target::AppendError>> {
+        it.compose_canonical_rdata(target)
+    }
+}
