@@ -17,8 +17,8 @@ BuilderMembers T = record {
 }
 
 -- The octets exceed the spare capacity of the target.
-abbrev pub LacksRoom : {T : Type 0} → BuilderMembers T → List ℕ → T → Type 0
-LacksRoom g s old = g.capacity old < length (g.octets old) + length s
+abbrev pub ExceedSpare : {T : Type 0} → BuilderMembers T → List ℕ → T → Type 0
+ExceedSpare g s old = g.capacity old < length (g.octets old) + length s
 
 -- the first octets of a name, up to begin, and a pointer to the offset
 abbrev pub pointed : List ℕ → ℕ → ℕ → List ℕ
@@ -45,8 +45,8 @@ abbrev pub Repeats : {T : Type 0} → BuilderMembers T → List Written → List
 Repeats g ws name old new = PointerWritten (g.octets old) (all_remembered ws) name 0 (g.octets new)
 
 -- The name was begun so, or nothing was written.
-abbrev pub Begins : {T : Type 0} → BuilderMembers T → List Written → List ℕ → T → T → Option ℕ → Type 0
-Begins g ws name old new begun = BeginningWritten begun (g.octets old) (all_remembered ws) name (g.octets new)
+abbrev pub BeginsName : {T : Type 0} → BuilderMembers T → List Written → List ℕ → T → T → Option ℕ → Type 0
+BeginsName g ws name old new begun = BeginningWritten begun (g.octets old) (all_remembered ws) name (g.octets new)
 
 -- Octets that may be written for the name exceed the spare capacity of the target.
 abbrev pub NoRoomFor : {T : Type 0} → BuilderMembers T → List Written → List ℕ → T → Type 0

@@ -21,18 +21,18 @@ abbrev pub NotBegunOn : {T E : Type 0} → ComposerMembers T → T → ℕ → S
 NotBegunOn g target limit e = NotBegun (g.octets target) (g.capacity target) limit e
 
 -- Octets that the question may be composed into were appended.
-abbrev pub AsksFor : {T N : Type 0} → ComposerMembers T → (N → List (List ℕ)) → Question N → T → T → Type 0
-AsksFor g labels q old new =
+abbrev pub AppendsQuestion : {T N : Type 0} → ComposerMembers T → (N → List (List ℕ)) → Question N → T → T → Type 0
+AppendsQuestion g labels q old new =
     Appended (AsksIn g.compresses (asked labels q) (g.octets old)) (g.octets old) (g.octets new)
 
 -- Why a message of at most `most` octets has no question more.
-abbrev pub CannotAsk : {T E N : Type 0} → ComposerMembers T → (N → List (List ℕ)) → Question N → ℕ → T → PushError E → Type 0
-CannotAsk g labels q most old e =
+abbrev pub LacksQuestion : {T E N : Type 0} → ComposerMembers T → (N → List (List ℕ)) → Question N → ℕ → T → PushError E → Type 0
+LacksQuestion g labels q most old e =
     QuestionNotAppended g.compresses (asked labels q) (g.octets old) (g.capacity old) most e
 
 -- If the question was composed, it has no room in the target, or surpasses the limit, as the target writes it.
-abbrev pub Overflows : {T E N : Type 0} → ComposerMembers T → (N → List (List ℕ)) → Question N → ℕ → T → PushError E → Type 0
-Overflows g labels q most old e =
+abbrev pub QuestionIsTooLong : {T E N : Type 0} → ComposerMembers T → (N → List (List ℕ)) → Question N → ℕ → T → PushError E → Type 0
+QuestionIsTooLong g labels q most old e =
     RefusedAsWritten (HasNoRoom labels g.octets g.capacity g.may_append q old)
     (Surpasses g.octets (WritesQuestion labels g.extends g.appends q) old most) e
 
