@@ -5,6 +5,8 @@ use Rattle.std.specs.Int.{w16, w32, from_be_bytes}
 use Rattle.std.specs.Net.Addr.{segments_of}
 use Rattle.std.specs.Net.Text.{ipv4_text, ipv6_text}
 use Rattle.std.proofs.Common.{ap, sym, ◌∙◌}
+use Rattle.octseq.specs.Parsing.{message, position}
+use Rattle.octseq.specs.declared.parse.Parser.{Parser}
 use Rattle.domain_wire.specs.Addresses.{ipv4_of, ipv4_octets, ipv6_of, ipv6_octets}
 use Rattle.domain_wire.specs.Refusals.{refusal}
 use Rattle.domain_wire.specs.Values.{IsReading, FixedAt, ShortAt}
@@ -173,6 +175,10 @@ AllDataAt t = ShapeAt (shape_of t)
 -- No data of a record of the type t is at offset p, and why.
 abbrev pub NoAllData : ℕ → List ℕ → ℕ → ParseError → Type 0
 NoAllData t = NoShape (shape_of t)
+
+-- Why data of a type isn't read where the parser stands is what the error is made from.
+abbrev pub MakesErrorOf : {E : Type 0} → (List ℕ → ℕ → ParseError → Type 0) → (ParseError → E → Type 0) → Parser → E → Type 0
+MakesErrorOf fails from_gives old e = (why : ParseError) × fails (message old) (position old) why × from_gives why e
 
 said_reading : {A : Type 0} {says : A → AllFields} {At : List ℕ → ℕ → A → ℕ → Type 0} {No : List ℕ → ℕ → ParseError → Type 0} → IsReading At No → IsReading (Says says At) No
 said_reading {says = says} law = record {

@@ -2,42 +2,15 @@
 use Rattle.std.specs.Prelude.{◌≡◌, ◌↔◌, ◌≤◌, ℕ, Bool, false, List, length, Option, OnOk, OnErr, IfErr, IfSome, IsNone}
 use Rattle.std.specs.declared.result.Result.{Result}
 use Rattle.domain_rdata.specs.Canonical.{canonical_form, WithForm, FormRefused}
+use Rattle.domain_rdata.specs.Members.{ComposerMembers, DataMembers, Writing}
 use Rattle.domain_rdata.specs.ReadBack.{Appended, Exceeds}
 use Rattle.domain_rdata.specs.declared.record_data.CanonicalError.{CanonicalError}
-
--- what a clause has as `D.ComposeRecordData`
-abbrev pub DataMembers : Type 0 → Type 1
-DataMembers D = record {
-  type_number : D → ℕ;
-  composed : D → Bool → List ℕ → List ℕ → Type 0;
-  written : D → (T : Type 0) → (T → List ℕ → T → Type 0) → (T → List (List ℕ) → T → Type 0) → T → T → Type 0;
-  uncompressed : D → List ℕ;
-  lowercase : D → Option (List ℕ);
-  knows_len : D → Bool → Bool;
-}
-
--- what a clause has as `Target.Composer`
-abbrev pub ComposerMembers : Type 0 → Type 1
-ComposerMembers T = record {
-  with_octets : T → List ℕ → T;
-  octets : T → List ℕ;
-  capacity : T → ℕ;
-  limit : Option ℕ;
-  cuts : T → ℕ → T → Type 0;
-  extends : T → List ℕ → T → Type 0;
-  may_append : T → List (List ℕ) → List ℕ → Type 0;
-  compresses : Bool;
-  Memory : Type 0;
-  memory : T → Memory;
-  kept_within : ℕ → Memory → Memory;
-  appends : T → List (List ℕ) → T → Type 0;
-}
 
 -- what is known of data
 pub record DataFacts : Type 1 where
   pub type_number : ℕ
   pub composed : Bool → List ℕ → List ℕ → Type 0
-  pub written : (T : Type 0) → (T → List ℕ → T → Type 0) → (T → List (List ℕ) → T → Type 0) → T → T → Type 0
+  pub written : Writing
   pub uncompressed : List ℕ
   pub lowercase : Option (List ℕ)
   pub knows_len : Bool → Bool

@@ -2,8 +2,7 @@
 ghost use Rattle.std.specs.Prelude.{◌≡◌, true, Some, IfOk, IfErr, OnOk, OnErr};
 ghost use Rattle.octseq.specs.Parsing.{message, position, MovesTo};
 ghost use Rattle.domain_rdata.specs.Rtypes.{rtype_number};
-ghost use Rattle.domain_wire.specs.declared.error.ParseError.{ParseError};
-ghost use Rattle.domain_all_data.specs.AllData.{AllFields, AllDataAt, NoAllData, all_data_reading, fields_text};
+ghost use Rattle.domain_all_data.specs.AllData.{AllFields, AllDataAt, NoAllData, MakesErrorOf, all_data_reading, fields_text};
 
 use crate::variants::each_variant;
 use crate::visit::{Compose, ComposeCanonical, DataVisitor, Measure};
@@ -500,9 +499,7 @@ fn read<'a, D: ParseRecordData<'a>, E: From<ParseError>>(
     ensures of_type { IfOk result (λ it. D.type_number it ≡ rtype_number rtype) }
     ensures moves { OnOk result (MovesTo parser.old parser.new (position parser.new)) }
     ensures err { IfErr result
-        (λ e. (why : ParseError)
-        × D.fails_with (rtype_number rtype) (message parser.old) (position parser.old) why
-        × E.from_gives why e) }
+        (MakesErrorOf (D.fails_with (rtype_number rtype)) E.from_gives parser.old) }
     ensures unchanged { OnErr result (parser.new ≡ parser.old) }
 {
     match D::parse_rdata(rtype, parser) {
