@@ -1,8 +1,8 @@
 //! Appending labels to octets.
-ghost use Rattle.std.specs.Prelude.{◌≡◌, ◌≤◌, ◌<◌, ◌+◌, ◌++◌, length, OnOk, OnErr, IfSome};
+ghost use Rattle.std.specs.Prelude.{◌≡◌, ◌≤◌, length, OnOk, OnErr, IfSome};
+ghost use Rattle.octseq.specs.Appending.{GrowsBy, TooFull};
 ghost use Rattle.domain_label.specs.Lowercase.{lowercase};
-ghost use Rattle.domain_label.specs.Wire.{wire_label};
-ghost use Rattle.domain_label.specs.Labels.{label_octets, owned_octets};
+ghost use Rattle.domain_label.specs.Labels.{label_octets, owned_octets, wire_of, canonical_wire, owned_wire};
 
 use crate::label::Label;
 use crate::owned::OwnedLabel;
@@ -20,7 +20,7 @@ impl<'a> Label<'a> {
 
     /// How many octets the wire format has: the length octet and the octets.
     pub fn compose_len(&self) -> u16
-        ensures { result ≡ length (wire_label (label_octets self.now)) }
+        ensures { result ≡ length (wire_of self.now) }
     {
         self.len() as u16 + 1
     }
@@ -33,13 +33,9 @@ impl<'a> Label<'a> {
         &self,
         target: &mut Target,
     ) -> Result<(), Target::AppendError>
-        ensures ok { OnOk result
-            (Target.octets target.new
-            ≡ Target.octets target.old ++ wire_label (label_octets self.now)) }
+        ensures ok { OnOk result (GrowsBy Target.Octets target.old (wire_of self.now) target.new) }
         ensures unchanged { OnErr result (Target.octets target.new ≡ Target.octets target.old) }
-        ensures full { OnErr result
-            (Target.capacity target.old
-            < length (Target.octets target.old) + (1 + length (label_octets self.now))) }
+        ensures full { OnErr result (TooFull Target.Octets target.old (wire_of self.now)) }
         ensures capacity { Target.capacity target.old ≤ Target.capacity target.new }
         ensures within { IfSome Target.limit (λ n. length (Target.octets target.new) ≤ n) }
         ensures fixed { IfSome Target.limit (λ n. Target.capacity target.old ≡ n) }
@@ -59,12 +55,9 @@ impl<'a> Label<'a> {
         target: &mut Target,
     ) -> Result<(), Target::AppendError>
         ensures ok { OnOk result
-            (Target.octets target.new
-            ≡ Target.octets target.old ++ wire_label (lowercase (label_octets self.now))) }
+            (GrowsBy Target.Octets target.old (canonical_wire self.now) target.new) }
         ensures unchanged { OnErr result (Target.octets target.new ≡ Target.octets target.old) }
-        ensures full { OnErr result
-            (Target.capacity target.old
-            < length (Target.octets target.old) + (1 + length (label_octets self.now))) }
+        ensures full { OnErr result (TooFull Target.Octets target.old (wire_of self.now)) }
         ensures capacity { Target.capacity target.old ≤ Target.capacity target.new }
         ensures within { IfSome Target.limit (λ n. length (Target.octets target.new) ≤ n) }
         ensures fixed { IfSome Target.limit (λ n. Target.capacity target.old ≡ n) }
@@ -78,13 +71,9 @@ fn append_wire<Target: OctetsBuilder>(
     label: &OwnedLabel,
     target: &mut Target,
 ) -> Result<(), Target::AppendError>
-    ensures ok { OnOk result
-        (Target.octets target.new
-        ≡ Target.octets target.old ++ wire_label (owned_octets label.now)) }
+    ensures ok { OnOk result (GrowsBy Target.Octets target.old (owned_wire label.now) target.new) }
     ensures unchanged { OnErr result (Target.octets target.new ≡ Target.octets target.old) }
-    ensures full { OnErr result
-        (Target.capacity target.old
-        < length (Target.octets target.old) + (1 + length (owned_octets label.now))) }
+    ensures full { OnErr result (TooFull Target.Octets target.old (owned_wire label.now)) }
     ensures capacity { Target.capacity target.old ≤ Target.capacity target.new }
     ensures within { IfSome Target.limit (λ n. length (Target.octets target.new) ≤ n) }
     ensures fixed { IfSome Target.limit (λ n. Target.capacity target.old ≡ n) }
