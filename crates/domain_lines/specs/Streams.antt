@@ -10,8 +10,8 @@ AppendsLine contents shown old new =
     IfSome shown (λ text. Appends (contents old) (contents new) (text ++ 10 ∷ []))
 
 -- The text, where it is known, and a newline were put into the output.
-abbrev pub TakesLine : {W : Type 0} → (W → W → List ℕ → Type 0) → Option (List ℕ) → W → W → Type 0
-TakesLine takes shown old new = IfSome shown (λ text. takes old new (text ++ 10 ∷ []))
+abbrev pub PutsTextLine : {W : Type 0} → (W → W → List ℕ → Type 0) → Option (List ℕ) → W → W → Type 0
+PutsTextLine takes shown old new = IfSome shown (λ text. takes old new (text ++ 10 ∷ []))
 
 -- Reading failed, and the output is as it was; or writing failed.
 abbrev pub EitherFailed : {R W : Type 0} → (R → Type 0) → R → (W → Type 0) → W → W → Type 0

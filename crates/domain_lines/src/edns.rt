@@ -110,16 +110,16 @@ impl fmt::Display for EdnsLine {
 
 /// Each octet as a space and two hexadecimal digits.
 #[derive(Clone, Copy)]
-struct SpacedOctets<'a> {
+struct HexPairs<'a> {
     octets: &'a [u8],
 }
 
-impl<'a> fmt::Display for SpacedOctets<'a> {
+impl<'a> fmt::Display for HexPairs<'a> {
     ghost output = { λ it. Some (flat_map spaced_octet it.octets.now) };
 
     fn fmt<W: fmt::Write>(&self, f: &mut fmt::Formatter<W>) -> fmt::Result {
         for octet in self.octets {
-            write!(f, "{}", Spaced(*octet))?;
+            write!(f, "{}", HexPair(*octet))?;
         }
         Ok(())
     }
@@ -127,9 +127,9 @@ impl<'a> fmt::Display for SpacedOctets<'a> {
 
 /// A space, and an octet in two hexadecimal digits.
 #[derive(Clone, Copy)]
-struct Spaced(u8);
+struct HexPair(u8);
 
-impl fmt::Display for Spaced {
+impl fmt::Display for HexPair {
     ghost output = { λ it. Some (spaced_octet it.0) };
 
     fn fmt<W: fmt::Write>(&self, f: &mut fmt::Formatter<W>) -> fmt::Result {
@@ -150,7 +150,7 @@ impl<'a> fmt::Display for OptionLine<'a> {
 
     fn fmt<W: fmt::Write>(&self, f: &mut fmt::Formatter<W>) -> fmt::Result {
         let code = self.option.code;
-        let octets = SpacedOctets {
+        let octets = HexPairs {
             octets: self.option.data,
         };
         write!(f, "; OPT={code}:{octets}")
@@ -168,7 +168,7 @@ impl<'a> fmt::Display for CutOption<'a> {
 
     fn fmt<W: fmt::Write>(&self, f: &mut fmt::Formatter<W>) -> fmt::Result {
         let len = self.octets.len();
-        let digits = SpacedOctets {
+        let digits = HexPairs {
             octets: self.octets,
         };
         let why = ParseError::ShortInput;
@@ -178,7 +178,7 @@ impl<'a> fmt::Display for CutOption<'a> {
 
 /// Writes a line for each option, and one for octets at the end that are no whole option.
 pub(crate) fn write_options<W: Sink>(octets: &[u8], output: &mut W) -> Result<(), WriteFault>
-    ensures written { OnOk result (PutsOptions octets.now (W.takes output.old output.new)) }
+    ensures written { OnOk result (PutsOptions octets.now W.Sink output.old output.new) }
     ensures failed { OnErr result (W.failed output.new) }
 {
     let mut rest = octets;

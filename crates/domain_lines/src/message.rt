@@ -8,7 +8,7 @@ ghost use Rattle.domain_tool.specs.Engines.{IfRefused, OnAnswer};
 ghost use Rattle.domain_lines.specs.Failures.{IfWritingFailed};
 ghost use Rattle.domain_lines.specs.Messages.{flags_text, codes_line, counts_line, header_text, header_rcode, section_heading, PutsMessage};
 ghost use Rattle.domain_lines.specs.Streams.{IfEitherFailed};
-ghost use Rattle.domain_lines.specs.Writing.{PutsQuestions, LacksQuestion, PutsRecords, LacksRecord, PutsSection, StopsIn};
+ghost use Rattle.domain_lines.specs.Writing.{PutsQuestions, FewerAsked, PutsRecords, FewerRecords, PutsSection, StopsIn};
 ghost use Rattle.domain_lines.specs.Writing.{PutsAsked, PutsAnswers, PutsAuthority, PutsPart, PutsPartOf, ShowsGiven, ShowsPart};
 
 use crate::flags::word_if;
@@ -140,11 +140,10 @@ fn write_questions<W: Sink>(
     parser: &mut Parser<'_>,
     output: &mut W,
 ) -> Result<(), ToolError>
-    ensures written { OnOk result (PutsQuestions parser.old count parser.new
-        (W.takes output.old output.new)) }
+    ensures written { OnOk result
+        (PutsQuestions parser.old count parser.new W.Sink output.old output.new) }
     ensures moves { OnOk result (MovesTo parser.old parser.new (position parser.new)) }
-    ensures refused { IfRefused result (LacksQuestion parser.old count
-        (W.takes output.old output.new)) }
+    ensures refused { IfRefused result (FewerAsked parser.old count W.Sink output.old output.new) }
     ensures failed { IfWritingFailed result (W.failed output.new) }
 {
     for _question in 0..count {
@@ -165,11 +164,11 @@ fn write_records<W: Sink>(
     parser: &mut Parser<'_>,
     output: &mut W,
 ) -> Result<(), ToolError>
-    ensures written { OnOk result (PutsRecords rcode section parser.old count parser.new
-        (W.takes output.old output.new)) }
+    ensures written { OnOk result
+        (PutsRecords rcode section parser.old count parser.new W.Sink output.old output.new) }
     ensures moves { OnOk result (MovesTo parser.old parser.new (position parser.new)) }
-    ensures refused { IfRefused result (LacksRecord rcode section parser.old count
-        (W.takes output.old output.new)) }
+    ensures refused { IfRefused result
+        (FewerRecords rcode section parser.old count W.Sink output.old output.new) }
     ensures failed { IfWritingFailed result (W.failed output.new) }
 {
     let mut opt_seen = false;
@@ -191,11 +190,10 @@ fn write_section<W: Sink>(
     output: &mut W,
 ) -> Result<(), ToolError>
     requires { 12 ≤ length (message parser.old) }
-    ensures written { OnOk result (PutsSection section parser.old parser.new
-        (W.takes output.old output.new)) }
+    ensures written { OnOk result
+        (PutsSection section parser.old parser.new W.Sink output.old output.new) }
     ensures moves { OnOk result (MovesTo parser.old parser.new (position parser.new)) }
-    ensures refused { IfRefused result (StopsIn section parser.old
-        (W.takes output.old output.new)) }
+    ensures refused { IfRefused result (StopsIn section parser.old W.Sink output.old output.new) }
     ensures failed { IfWritingFailed result (W.failed output.new) }
 {
     output.put_line(Heading { section })?;
@@ -229,10 +227,9 @@ fn rcode_of(message: &[u8]) -> Rcode
 fn write_to_questions<W: Sink>(parser: &mut Parser<'_>, output: &mut W) -> Result<(), ToolError>
     requires long { 12 ≤ length (message parser.old) }
     requires start { position parser.old ≡ 12 }
-    ensures written { OnOk result (PutsAsked parser.old parser.new
-        (W.takes output.old output.new)) }
+    ensures written { OnOk result (PutsAsked parser.old parser.new W.Sink output.old output.new) }
     ensures moves { OnOk result (MovesTo parser.old parser.new (position parser.new)) }
-    ensures refused { IfRefused result (PutsPartOf parser.old (W.takes output.old output.new)) }
+    ensures refused { IfRefused result (PutsPartOf parser.old W.Sink output.old output.new) }
     ensures failed { IfWritingFailed result (W.failed output.new) }
 {
     let message = parser.as_slice();
@@ -247,10 +244,9 @@ fn write_to_questions<W: Sink>(parser: &mut Parser<'_>, output: &mut W) -> Resul
 fn write_to_answers<W: Sink>(parser: &mut Parser<'_>, output: &mut W) -> Result<(), ToolError>
     requires long { 12 ≤ length (message parser.old) }
     requires start { position parser.old ≡ 12 }
-    ensures written { OnOk result (PutsAnswers parser.old parser.new
-        (W.takes output.old output.new)) }
+    ensures written { OnOk result (PutsAnswers parser.old parser.new W.Sink output.old output.new) }
     ensures moves { OnOk result (MovesTo parser.old parser.new (position parser.new)) }
-    ensures refused { IfRefused result (PutsPartOf parser.old (W.takes output.old output.new)) }
+    ensures refused { IfRefused result (PutsPartOf parser.old W.Sink output.old output.new) }
     ensures failed { IfWritingFailed result (W.failed output.new) }
 {
     if let Err(e) = write_to_questions(parser, output) {
@@ -263,10 +259,10 @@ fn write_to_answers<W: Sink>(parser: &mut Parser<'_>, output: &mut W) -> Result<
 fn write_to_authority<W: Sink>(parser: &mut Parser<'_>, output: &mut W) -> Result<(), ToolError>
     requires long { 12 ≤ length (message parser.old) }
     requires start { position parser.old ≡ 12 }
-    ensures written { OnOk result (PutsAuthority parser.old parser.new
-        (W.takes output.old output.new)) }
+    ensures written { OnOk result
+        (PutsAuthority parser.old parser.new W.Sink output.old output.new) }
     ensures moves { OnOk result (MovesTo parser.old parser.new (position parser.new)) }
-    ensures refused { IfRefused result (PutsPartOf parser.old (W.takes output.old output.new)) }
+    ensures refused { IfRefused result (PutsPartOf parser.old W.Sink output.old output.new) }
     ensures failed { IfWritingFailed result (W.failed output.new) }
 {
     if let Err(e) = write_to_answers(parser, output) {
@@ -280,8 +276,7 @@ fn write_to_authority<W: Sink>(parser: &mut Parser<'_>, output: &mut W) -> Resul
 /// `Parse` says why the message can't be shown to its end: it has fewer than twelve octets, or a question or record that
 /// the header counts is missing. All lines before that are written. The other errors are of writing.
 pub fn write_message<W: Sink>(message: &[u8], output: &mut W) -> Result<(), ToolError>
-    ensures written { OnOk result
-        (PutsMessage message.now (W.takes output.old output.new)) }
+    ensures written { OnOk result (PutsMessage message.now (W.takes output.old output.new)) }
     ensures refused { IfRefused result (PutsPart message.now (W.takes output.old output.new)) }
     ensures failed { IfWritingFailed result (W.failed output.new) }
 {
@@ -309,10 +304,8 @@ pub fn show_message<R: Source, W: Sink>(
     output: &mut W,
 ) -> Result<(), ToolError>
     ensures whole { OnAnswer result (IsAtEnd (R.remaining input.new)) }
-    ensures written { OnOk result (ShowsGiven (R.remaining input.old)
-        W.contents output.old output.new) }
-    ensures refused { IfRefused result (ShowsPart (R.remaining input.old)
-        W.contents output.old output.new) }
+    ensures written { OnOk result (ShowsGiven R.Source input.old W.Sink output.old output.new) }
+    ensures refused { IfRefused result (ShowsPart R.Source input.old W.Sink output.old output.new) }
     ensures failed { IfEitherFailed result R.failed input.new W.failed output.old output.new }
 {
     let octets = match input.read_whole(alloc) {

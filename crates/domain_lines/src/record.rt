@@ -108,8 +108,7 @@ const ANOTHER: &str = "; another OPT record: FORMERR, RFC 6891 6.1.1";
 
 /// Writes that an OPT record is another one, if it is.
 fn write_another<W: Sink>(another: bool, output: &mut W) -> Result<(), WriteFault>
-    ensures written { OnOk result
-        (W.takes output.old output.new (another_text another)) }
+    ensures written { OnOk result (W.takes output.old output.new (another_text another)) }
     ensures failed { OnErr result (W.failed output.new) }
 {
     if !another {
@@ -126,8 +125,7 @@ fn write_opt<W: Sink>(
     found: &ParsedRecord<'_>,
     output: &mut W,
 ) -> Result<(), WriteFault>
-    ensures written { OnOk result (PutsOpt rcode another found.now
-        (W.takes output.old output.new)) }
+    ensures written { OnOk result (PutsOpt rcode another found.now W.Sink output.old output.new) }
     ensures failed { OnErr result (W.failed output.new) }
 {
     write_another(another, output)?;
@@ -146,8 +144,8 @@ pub(crate) fn write_entry<W: Sink>(
     found: &ParsedRecord<'_>,
     output: &mut W,
 ) -> Result<bool, WriteFault>
-    ensures written { OnOk result (PutsEntry rcode section opt_seen found.now
-        (W.takes output.old output.new)) }
+    ensures written { OnOk result
+        (PutsEntry rcode section opt_seen found.now W.Sink output.old output.new) }
     ensures seen { IfOk result (TellsOpt section opt_seen found.now) }
     ensures failed { OnErr result (W.failed output.new) }
 {

@@ -1,7 +1,7 @@
 //! What is read to its end, and what lines are written to.
 ghost use Rattle.std.specs.Prelude.{◌≡◌, ◌++◌, ◌⊎◌, [], ℕ, List, Option, OnOk, OnErr, IfOk, IfErr, IfSome};
 ghost use Rattle.std.specs.Io.KnownBytes.{Appends, Keeps, IsAtEnd};
-ghost use Rattle.domain_lines.specs.Streams.{AppendsLine, TakesLine};
+ghost use Rattle.domain_lines.specs.Streams.{AppendsLine, PutsTextLine};
 ghost use Rattle.domain_tool.specs.declared.tool.ToolError.{ToolError};
 
 use domain_tool::tool::{ToolError, WriteFault, read_all, write_line};
@@ -55,7 +55,7 @@ pub trait Sink {
     /// Writes a text and a newline.
     fn put_line<D: Display + Drop>(&mut self, text: D) -> Result<(), WriteFault>
         ensures written { OnOk result (AppendsLine contents (D.output text) self.old self.new) }
-        ensures taken { OnOk result (TakesLine takes (D.output text) self.old self.new) }
+        ensures taken { OnOk result (PutsTextLine takes (D.output text) self.old self.new) }
         ensures failed { OnErr result (failed self.new) };
 
     /// Sends on what was written.
