@@ -141,8 +141,8 @@ fn push_named(
     requires named { IsNamed head.rtype (fields_of fields) }
     requires before { length fields.before.now ≤ 6 }
     requires after { length fields.after.now ≤ 20 }
-    ensures { GivesNamed section owner.now (headed_by owner.now head) (fields_of fields.entry) result
-        octets.old builder.old octets.new builder.new }
+    ensures { GivesNamed section owner.now (headed_by owner.now head) (fields_of fields.entry)
+        result octets.old builder.old octets.new builder.new }
 {
     if has_later(section, builder) {
         return 24;

@@ -3,8 +3,10 @@ use Rattle.std.specs.Prelude.{◌≡◌, ℕ, Bool, false, List, [], ◌∷◌, 
 use Rattle.std.proofs.Common.{ap, ◌∙◌}
 use Rattle.domain_label.specs.Wire.{wire, IsAbsoluteName}
 use Rattle.domain_rdata.specs.FlatNames.{wire_reads_back}
+use Rattle.domain_rdata.specs.Members.{Writing}
+use Rattle.domain_rdata.specs.OctetsAlone.{WritesComposed, octets_written, name_written}
 use Rattle.domain_rdata.specs.RecordData.{NameOctets}
-use Rattle.domain_fields.specs.Sequences.{BothComposed}
+use Rattle.domain_fields.specs.Sequences.{BothComposed, BothWritten, both_written}
 
 -- These octets may always be appended, and where no name is written shorter nothing else may.
 pub record IsWritten (May : Bool → List ℕ → List ℕ → Type 0) (octets : List ℕ) : Type 0 where
@@ -74,6 +76,27 @@ octets_and_name name = both one_of_octets (a_name name)
 -- two names and five fields of octets
 pub names_and_octets : {ls ms : List (List ℕ)} {a b c d e : List ℕ} → IsAbsoluteName ls → IsAbsoluteName ms → IsWritten (λ k. BothComposed (NameOctets ls k) (BothComposed (NameOctets ms k) (Fields a (b ∷ c ∷ d ∷ e ∷ [])))) (wire ls ++ (wire ms ++ all_fields a (b ∷ c ∷ d ∷ e ∷ [])))
 names_and_octets {ls} {ms} {a} {b} {c} {d} {e} first second = both (a_name first) (both (a_name second) (fields a (b ∷ c ∷ d ∷ e ∷ [])))
+
+-- Fields of these octets are written, one after the other.
+abbrev pub FieldsWritten : List ℕ → List (List ℕ) → Writing
+FieldsWritten a [] = λ T extends named old new. extends old a new
+FieldsWritten a (b ∷ more) = λ T extends named. BothWritten (λ old new. extends old a new) (FieldsWritten b more T extends named)
+
+-- They come to these octets.
+pub fields_written : (a : List ℕ) (more : List (List ℕ)) → WritesComposed (FieldsWritten a more) (λ _. Fields a more)
+fields_written a [] = octets_written a
+fields_written a (b ∷ more) =
+    both_written (λ _ extends _ old new. extends old a new) (FieldsWritten b more) (λ _ _ s. s ≡ a) (λ _. Fields b more) (octets_written a) (fields_written b more)
+
+-- Two names come to octets that may stand for them,
+pub names_written : (ls ms : List (List ℕ)) → WritesComposed (λ T extends named. BothWritten (λ old new. named old ls new) (λ old new. named old ms new)) (λ c. BothComposed (NameOctets ls c) (NameOctets ms c))
+names_written ls ms =
+    both_written (λ _ _ named old new. named old ls new) (λ _ _ named old new. named old ms new) (NameOctets ls) (NameOctets ms) (name_written ls) (name_written ms)
+
+-- and so does a name after octets.
+pub octets_and_name_written : (a : List ℕ) (ls : List (List ℕ)) → WritesComposed (λ T extends named. BothWritten (λ old new. extends old a new) (λ old new. named old ls new)) (λ c. BothComposed (λ _ s. s ≡ a) (NameOctets ls c))
+octets_and_name_written a ls =
+    both_written (λ _ extends _ old new. extends old a new) (λ _ _ named old new. named old ls new) (λ _ _ s. s ≡ a) (NameOctets ls) (octets_written a) (name_written ls)
 
 -- Two names and fields of octets come to such as may stand for the names, and to these octets.
 pub names_and_octets_written : (ls ms : List (List ℕ)) (a : List ℕ) (more : List (List ℕ)) → WritesComposed (λ T extends named. BothWritten (λ old new. named old ls new) (BothWritten (λ old new. named old ms new) (FieldsWritten a more T extends named))) (λ c. BothComposed (NameOctets ls c) (BothComposed (NameOctets ms c) (Fields a more)))

@@ -118,7 +118,7 @@ abbrev pub EndsRecord : List ℕ → (start limit : ℕ) → (table : List ℕ) 
 EndsRecord o start limit table head d o' table' e =
     WritesAfterOwner o start limit table (before_length head.rtype head.class head.ttl) (fields_of d) e.end e.count o' table'
 
--- It exceeds the limit, and nothing is changed.
+-- It exceeds the limit, and the octets are unchanged.
 abbrev pub EndExceedsLimit : List ℕ → (start limit : ℕ) → (table : List ℕ) → NamedData → List ℕ → Type 0
 EndExceedsLimit o start limit table d o' =
     HasNoRoomAfterOwner o start limit table (fields_of d) × (o' ≡ o)

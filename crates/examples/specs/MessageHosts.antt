@@ -116,6 +116,6 @@ MailRefused m why = NoQuestions m why ⊎ ((start : ℕ) × QuestionsTo m start 
 abbrev pub AddressRefused : List ℕ → List (List ℕ) → ParseError → Type 0
 AddressRefused m host why = NoAuthority m why ⊎ ((start : ℕ) × AuthorityTo m start × StopsAt 1 (All (IsOther host)) (NotAll refusal (FixedAt 4 ipv4_of) (ShortAt 4)) m start (number16 m 10) why)
 
--- The same of the name that was found in a message.
+-- The name that was found in a message, or none, is the preferred host (`PrefersHost`).
 abbrev pub Prefers : {O : Type 0} {g : Ghosts O} → List ℕ → Option (ParsedName O g) → Type 0
 Prefers m found = PrefersHost m (option_map (λ name. parsed_labels name) found)

@@ -51,10 +51,10 @@ pub data ExceedsMessage (id : ℕ) (name host : List (List ℕ)) (addr : Ipv4Add
       → RecordOctets name 15 1 3600 (MailData host) true (response_octets id ++ question) mail
       → (e : ComposeRdataError ShortBuf) → RecordRefused host 1 1 3600 (AddressData addr) true (response_octets id ++ question ++ mail) 512 e → ExceedsMessage id name host addr
 
--- So it is for these two names.
+-- The octets are the response that tells these two names' host for mail (`IsMailResponse`).
 abbrev pub TellsMail : {O P : Type 0} {g : Ghosts O} {h : Ghosts P} → (id : ℕ) → Name O g → Name P h → Ipv4Addr → List ℕ → Type 0
 TellsMail id name host addr m = IsMailResponse id (name_labels name) (name_labels host) addr m
 
--- So it is for these two names.
+-- With these two names it would be too long (`ExceedsMessage`).
 abbrev pub MailIsTooLong : {O P : Type 0} {g : Ghosts O} {h : Ghosts P} → (id : ℕ) → Name O g → Name P h → Ipv4Addr → Type 0
 MailIsTooLong id name host addr = ExceedsMessage id (name_labels name) (name_labels host) addr

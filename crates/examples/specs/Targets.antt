@@ -7,7 +7,7 @@ use Rattle.domain_header.specs.declared.code.Rcode.{Rcode}
 use Rattle.domain_header.specs.declared.flags.Header.{Header}
 use Rattle.domain_message.specs.Messages.{message_octets}
 use Rattle.domain_message.specs.declared.message.Message.{Message}
-use Rattle.domain_record.specs.Members.{ComposerMembers, DataMembers}
+use Rattle.domain_rdata.specs.Members.{ComposerMembers, DataMembers}
 use Rattle.domain_record.specs.RecordParts.{data_of}
 use Rattle.domain_record.specs.declared.question.Question.{Question}
 use Rattle.domain_record.specs.declared.resource_record.Record.{Record}
@@ -17,7 +17,7 @@ use Rattle.domain_message_builder.specs.declared.opt.OptBuilder.{OptBuilder}
 use Rattle.examples.specs.Built.{IsQuery, IsSizedQuery, IsAnswer, NotAsked, NotSized, NotAnswered}
 use Rattle.examples.specs.Served.{IsReferral, IsErrorAnswer, IsWholeOrCut}
 
--- A message asks this question.
+-- The message, if there is one, asks this question.
 abbrev pub AsksQuestion : {T N : Type 0} → (T → List ℕ) → (N → List (List ℕ)) → Header → Question N → Option T → Type 0
 AsksQuestion octets labels header q r = IfSome r (λ made. IsQuery header (asked labels q) (octets made))
 
@@ -26,7 +26,7 @@ abbrev pub NoQueryFits : {T N : Type 0} → ComposerMembers T → (N → List (L
 NoQueryFits g labels q target =
     NotAsked g.compresses (asked labels q) (g.octets target) (g.capacity target) 65535
 
--- A message asks it, and tells how many octets of an answer are taken.
+-- The message, if there is one, asks it, and tells how many octets of an answer are taken.
 abbrev pub AsksWithSize : {T N : Type 0} → (T → List ℕ) → (N → List (List ℕ)) → Header → Question N → (size : ℕ) → Option T → Type 0
 AsksWithSize octets labels header q size r =
     IfSome r (λ made. IsSizedQuery header (asked labels q) size (octets made))
@@ -36,7 +36,7 @@ abbrev pub NoSizedQueryFits : {T N : Type 0} → ComposerMembers T → (N → Li
 NoSizedQueryFits g labels q size target =
     NotSized g.compresses (asked labels q) size (g.octets target) (g.capacity target) 65535
 
--- A message of at most 512 octets answers this question with this record.
+-- The message, if there is one, has at most 512 octets, and answers this question with this record.
 abbrev pub AnswersWith : {T N D : Type 0} → ComposerMembers T → (N → List (List ℕ)) → DataMembers D → Header → Question N → Record N D → Option T → Type 0
 AnswersWith g labels d header q it r =
     IfSome r (λ made. IsAnswer header (asked labels q) (headed labels d.type_number it) (d.composed (data_of it) g.compresses) (g.octets made))
@@ -50,19 +50,19 @@ NoAnswerFits g labels d q it target =
 abbrev pub CannotBegin : {T : Type 0} → ComposerMembers T → T → Type 0
 CannotBegin g target = (0 < length (g.octets target)) ⊎ (g.capacity target < 12)
 
--- A message refers the query to this server of this address.
+-- The message, if there is one, refers the query to this server of this address.
 abbrev pub Refers : {T N S G O : Type 0} {m : Ghosts O} → ComposerMembers T → (N → List (List ℕ)) → DataMembers S → DataMembers G → Message O m → Record N S → Record N G → Option T → Type 0
 Refers g labels d e query server glue r =
     IfSome r (λ made. IsReferral (message_octets query)
     (headed labels d.type_number server) (d.composed (data_of server) g.compresses)
     (headed labels e.type_number glue) (e.composed (data_of glue) g.compresses) (g.octets made))
 
--- A message tells the query this error.
+-- The message, if there is one, tells the query this error.
 abbrev pub TellsError : {T O : Type 0} {m : Ghosts O} → ComposerMembers T → Message O m → Rcode → T → Option T → Type 0
 TellsError g query rcode target r =
     IfSome r (λ made. IsErrorAnswer g.compresses (message_octets query) (g.octets target) (g.capacity target) (rcode_number rcode) (g.octets made))
 
--- A message answers the query with this record, or is cut, and has this OPT record.
+-- The message, if there is one, answers the query with this record, or is cut, and has this OPT record.
 abbrev pub AnswersOrCuts : {T N D O P : Type 0} {m : Ghosts O} {n : Ghosts P} → ComposerMembers T → (N → List (List ℕ)) → DataMembers D → Message O m → Record N D → OptBuilder P n → Option T → Type 0
 AnswersOrCuts g labels d query it opt r =
     IfSome r (λ made. IsWholeOrCut (message_octets query) (headed labels d.type_number it) (d.composed (data_of it) g.compresses) (opt_of opt) (g.octets made))
