@@ -14,12 +14,12 @@ use Rattle.domain_builder.specs.Pushing.{LabelThenName, OpenLabelThenName, NameT
 use Rattle.domain_builder.specs.declared.push_error.PushError.{PushError}
 use Rattle.domain_builder.specs.declared.push_error.PushNameError.{PushNameError}
 
--- The parts of the text that is read are pushed in turn.
+-- The parts of the text that is read are pushed in turn, up to the first that can't be.
 abbrev pub AddsText : (limit : Option ℕ) → (text : List ℕ) → Held → Result (Unit {0}) FromStrError → Held → Type 0
 AddsText limit text old r new =
     (items : Items) → ReadsSymbols text items → AddsSymbols limit old (name_symbols items) r new
 
--- The parts that an iterator yields are pushed in turn.
+-- The parts that an iterator yields are pushed in turn, up to the first that can't be.
 abbrev pub AddsItems : {S : Type 0} → (limit : Option ℕ) → (S → Option (Result Symbol SymbolCharsError) → S → Type 0) → S → Held → Result (Unit {0}) FromStrError → Held → Type 0
 AddsItems limit steps items old r new =
     (all : Items) → AlwaysYields steps (λ x. x) items all → AddsSymbols limit old (name_symbols all) r new

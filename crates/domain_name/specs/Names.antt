@@ -60,7 +60,7 @@ abbrev pub IsRelativeNameOf : {O : Type 0} {g : Ghosts O} → List ℕ → Relat
 IsRelativeNameOf octets name =
     (ls : List (List ℕ)) → IsRelativeName ls → octets ≡ wire ls → relative_labels name ≡ ls
 
--- If the octets are the wire format of an absolute name, the result is that name.
+-- If the octets are the wire format of an absolute name, the result is an error or that name.
 abbrev pub ReadsAbsoluteWire : {O E : Type 0} {g : Ghosts O} → List ℕ → Result (Name O g) E → Type 0
 ReadsAbsoluteWire octets result =
     (ls : List (List ℕ)) → IsAbsoluteName ls → octets ≡ wire ls → IfOk result (λ name. name_labels name ≡ ls)
@@ -98,7 +98,7 @@ IsLastLabel ls l = (front : List (List ℕ)) × (ls ≡ front ++ l ∷ [])
 abbrev pub IsParent : List (List ℕ) → List (List ℕ) → Type 0
 IsParent ls rest = (first : List ℕ) × (ls ≡ first ∷ rest)
 
--- front is ls without its last labels
+-- front is ls without its last labels, or all of it
 abbrev pub IsFront : List (List ℕ) → List (List ℕ) → Type 0
 IsFront ls front = (after : List (List ℕ)) × (ls ≡ front ++ after)
 
@@ -110,7 +110,7 @@ NameAhead parser ls e = NameAt (message parser) (position parser) ls e
 abbrev pub WasAhead : {O : Type 0} {g : Ghosts O} → Parser → Parser → Name O g → Type 0
 WasAhead old new name = NameAhead old (name_labels name) (position new)
 
--- If an uncompressed name is next for the parser, the result is that name.
+-- If an uncompressed name is next for the parser, the result is an error or that name.
 abbrev pub ReadsNameAhead : {O E : Type 0} {g : Ghosts O} → Parser → Result (Name O g) E → Type 0
 ReadsNameAhead parser result =
     (ls : List (List ℕ)) (e : ℕ) → NameAhead parser ls e → IfOk result (λ name. name_labels name ≡ ls)
