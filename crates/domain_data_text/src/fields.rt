@@ -168,7 +168,8 @@ pub(crate) fn push_fields(
     words: &[Word<'_>],
     data: &mut Vec<u8>,
 ) -> Result<(), Stop>
-    ensures ok { OnOk result (PushesSome (AreFields fields.now (words_at words.now)) data.old data.new) }
+    ensures ok { OnOk result
+        (PushesSome (AreFields fields.now (words_at words.now)) data.old data.new) }
     ensures err { IfErr result
         (λ e. IfRefused e (NoFields fields.now column (words_at words.now))) }
 {

@@ -85,7 +85,8 @@ fn octet_at(text: &[u8], at: usize) -> Option<(u8, usize)>
 /// and doesn't end with another.
 fn without_quotes(text: &[u8]) -> Option<&[u8]>
     ensures some { IfSome result (λ inner. (inner.now ≡ text.now) ⊎ InQuotes text.now inner.now) }
-    ensures quoted { IfSome result (λ inner. slice_index text.now 0 ≡ 34 → InQuotes text.now inner.now) }
+    ensures quoted { IfSome result
+        (λ inner. slice_index text.now 0 ≡ 34 → InQuotes text.now inner.now) }
     ensures quote { IsNone result → slice_index text.now 0 ≡ 34 }
     ensures none { IsNone result → (inner : List ℕ) → InQuotes text.now inner → ⊥ }
 {
@@ -119,7 +120,8 @@ fn spelled(alloc: Global, text: &[u8], column: usize) -> Result<Vec<u8>, Stop>
 
 /// Appends the character string that a word is: one octet that tells its length, and its octets.
 pub(crate) fn push_string(alloc: Global, word: &Word<'_>, data: &mut Vec<u8>) -> Result<(), Stop>
-    ensures ok { OnOk result (PushesSome (IsField Field.Text word.now.octets.now) data.old data.new) }
+    ensures ok { OnOk result
+        (PushesSome (IsField Field.Text word.now.octets.now) data.old data.new) }
     ensures err { IfErr result (λ e. IfRefused e (NoString (word_at word.now))) }
 {
     let column = word.column;

@@ -9,7 +9,6 @@ ghost use Rattle.domain_rdata.specs.RecordData.{NameOctets};
 ghost use Rattle.domain_rdata.specs.Targets.{RemembersAsBefore, AddsName, NameOverflows};
 ghost use Rattle.domain_fields.specs.Cases.{cased_labels, lowercase_wire};
 ghost use Rattle.domain_fields.specs.FieldLaws.{fixed_size, cased_size, name_size, wire_octets};
-ghost use Rattle.domain_fields.specs.Moves.{name_moves};
 ghost use Rattle.domain_fields.specs.Names.{NameFieldAt, NoNameField, name_reading};
 ghost use Rattle.domain_fields.specs.Orders.{cased_order, hashed};
 ghost use Rattle.domain_fields.specs.Parts.{a_name, one_part};
@@ -198,6 +197,8 @@ impl<'a> ReadField<'a, ParseError> for NameField<ParsedName<&'a [u8]>> {
 }
 
 impl<N: DataName> DataField for NameField<N> {
+    ghost use Rattle.domain_fields.specs.Moves.{name_moves};
+
     ghost parts = { λ it. a_name (N.labels it.name) ∷ [] };
 
     ghost uncompressed = { λ it lowercase. wire (cased_labels lowercase (N.labels it.name)) };

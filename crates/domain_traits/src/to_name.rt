@@ -175,8 +175,10 @@ pub trait ToName<'a>: AbsoluteLabels<'a> {
         &'a self,
         target: &mut Target,
     ) -> Result<(), Target::AppendError>
-        ensures ok { OnOk result (AddsForm Target.Octets Self.labels self.now target.old target.new) }
-        ensures extends { OnOk result (Target.extends target.old (canonical_wire (Self.labels self.now)) target.new) }
+        ensures ok { OnOk result
+            (AddsForm Target.Octets Self.labels self.now target.old target.new) }
+        ensures extends { OnOk result
+            (Target.extends target.old (canonical_wire (Self.labels self.now)) target.new) }
         ensures unchanged { OnErr result (Target.octets target.new ≡ Target.octets target.old) }
         ensures nothing { OnErr result (Target.extends target.old [] target.new) }
         ensures full { OnErr result (FormExceeds Target.Octets Self.labels self.now target.old) }
