@@ -14,7 +14,7 @@ use Rattle.domain_parsed.specs.ParsedNames.{parsed_octets, parsed_labels, may_be
 abbrev pub IsParent : {O : Type 0} {g : Ghosts O} → ParsedName O g → ParsedName O g → Type 0
 IsParent old new = (label : List ℕ) × (parsed_labels old ≡ label ∷ parsed_labels new)
 
--- It is told whether the name new is old without its first label; else old is the root, and new is old.
+-- Where `told` is true, the name new is old without its first label; else old is the root, and new is old.
 abbrev pub TellsParent : {O : Type 0} {g : Ghosts O} → Bool → ParsedName O g → ParsedName O g → Type 0
 TellsParent told old new = MatchBool told (IsParent old new) ((new ≡ old) × (parsed_labels old ≡ Root))
 

@@ -67,6 +67,7 @@ impl<'a> ParsedNameIter<'a> {
         Some(label)
     }
 
+    /// `next_counted` with a new count, which is dropped.
     #[inline(always)]
     fn next_with<L: Ledger>(&mut self, blank: Blank) -> Option<Label<'a>>
         requires ledger { blank.name ≡ L.name }
@@ -77,6 +78,7 @@ impl<'a> ParsedNameIter<'a> {
         self.next_counted(&mut Heads::<L>::new(blank))
     }
 
+    /// `next_back_counted` with a new count, which is dropped.
     #[inline(always)]
     fn next_back_with<L: Ledger>(&mut self, blank: Blank) -> Option<Label<'a>>
         requires ledger { blank.name ≡ L.name }

@@ -65,8 +65,8 @@ pub struct ParsedName<Octs: Octets> {
     ghost absolute: { IsAbsoluteName
         (table_labels (Octs.octets octets) base entries dropped count) } by { IsAbsoluteName_prop
             (table_labels (Octs.octets octets) base entries dropped count) },
-    // `name_len` is its size; with the labels that were dropped it has at most 255 octets; where `compressed` is false
-    // it is contiguous.
+    // `name_len` is how many octets that name has; with those of the labels that were dropped they are at most 255.
+    // Where `compressed` is false, they are contiguous.
     ghost is_sized: { name_len
         ≡ length (wire (table_labels (Octs.octets octets) base entries dropped count)) },
     ghost short: { dropped_len + name_len ≤ max_name },
@@ -157,7 +157,7 @@ impl<'a> ParsedName<&'a [u8]> {
         ParsedName::parse_with::<Brand>(parser, limit, Blank::new(1))
     }
 
-    /// `parse_counted` with a new counter, which is dropped. (Why `Brand` and `Blank`: `domain_reading`, `uncounted.rt`.)
+    /// `parse_counted` with a new count, which is dropped. Why `Brand` and `Blank`: `uncounted.rt` of `domain_reading`.
     #[inline(always)]
     fn parse_with<L: Ledger>(
         parser: &mut Parser<'a>,
@@ -499,12 +499,11 @@ impl<Octs: Octets> ParsedName<Octs> {
         self.name_len
     }
 
-    /// Appends the wire format, without compression (RFC 1035, 3.1), or nothing, as `ToName::compose` does. Labels
-    /// that are contiguous in the message are copied at once; `ToName::compose` copies those of a compressed name one
-    /// by one.
+    /// Appends the wire format, without compression (RFC 1035, 3.1), with the clauses of `ToName::compose`. Labels that
+    /// are contiguous in the message are copied at once; `ToName::compose` copies those of a compressed name one by one.
     ///
-    /// The target's error where the octets don't fit, or where there was no memory for them; the target is then as
-    /// before. Where they fit its spare capacity, there is no error.
+    /// The target's error where the octets don't fit, or where there was no memory for them; nothing is appended then.
+    /// Where they fit its spare capacity, there is no error.
     #[inline(always)]
     pub fn compose<Target: OctetsBuilder>(
         &self,
@@ -551,7 +550,7 @@ impl<Octs: Octets> ParsedName<Octs> {
         )
     }
 
-    /// The octets of a name that is uncompressed from its first label on.
+    /// The octets of a name that are contiguous, from its first label on. `None` where it may be compressed.
     pub(crate) fn flat_octets(&self) -> Option<&[u8]>
         ensures octets { IfSome result (λ octets. octets.now ≡ wire (parsed_labels self.now)) }
         ensures none { IsNone result ↔ (may_be_compressed self.now ≡ true) }
@@ -580,7 +579,7 @@ impl<'a, Octs: Octets> ParsedName<&'a Octs> {
     }
 }
 
-/// An uncompressed name is a name in a message that has no other octets.
+/// An uncompressed name as a name in a message: the message has its octets and no others.
 impl<Octs: Octets> From<Name<Octs>> for ParsedName<Octs> {
     ghost use Rattle.domain_name.specs.Names.{name_octets, name_labels};
     ghost use Rattle.domain_parsed.specs.ParsedNames.{parsed_octets, parsed_labels, may_be_compressed};
