@@ -1,4 +1,4 @@
--- Labels and names as text (RFC 1035, 5.1).
+-- Labels and names in presentation format, as text that is written (RFC 1035, 5.1).
 use Rattle.std.specs.Prelude.{ℕ, ◌+◌, ◌/◌, ◌%◌, List, [], ◌∷◌, ◌++◌, cond, nat_lt, ◌==◌, ◌||◌}
 use Rattle.std.specs.List.{flat_map}
 
