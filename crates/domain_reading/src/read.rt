@@ -38,7 +38,6 @@ pub fn read_name_counted<L: Ledger>(
         (FaultCounted limit message.now progress.old.at heads.old heads.new) }
     ensures few_heads { heads.new ≤ heads.old + max_labels + limit }
 {
-    // The label names the loop in its proof.
     'heads: loop {
         match read_head(message, progress.at, heads)? {
             Head::Root => {

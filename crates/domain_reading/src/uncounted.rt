@@ -20,9 +20,9 @@ use domain_label::Label;
 use std::marker::Brand;
 use std::sync::ledger::{Blank, Ledger};
 
-/// Reads the name at an offset, through at most `limit` pointers, and leaves the result in `progress`. The name has at
-/// most 128 labels and pointers more than the limit, as many come before an error, and no more are read: that is proved
-/// of the counted call, `read_name_counted`, which this is.
+/// Reads the name at an offset, through at most `limit` pointers, and leaves the result in `progress`. For a name, as
+/// before an error, at most 128 labels and pointers more than the limit are read: that is the clause `few_heads` of
+/// `read_name_counted`, of which this is a call.
 ///
 /// `progress` is as `Progress::new` makes it, at the name's first octet. The offsets of the labels are written to the
 /// beginning of the table.
