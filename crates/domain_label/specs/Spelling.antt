@@ -1,4 +1,4 @@
--- How symbols are written (RFC 1035, 5.1).
+-- How symbols are written in presentation format (RFC 1035, 5.1).
 use Rattle.std.specs.Prelude.{◌≡◌, ◌≢◌, ℕ, ◌+◌, ◌-◌, ◌*◌, ◌/◌, ◌%◌, ◌<◌, ◌≤◌, ◌⊎◌, List, [], ◌∷◌, ◌++◌, length, Result, Ok, Err, if◌then◌else◌, ◌&&◌, nat_le}
 use Rattle.std.specs.List.{AllByRecursion}
 use Rattle.domain_label.specs.declared.symbol.Symbol.{Symbol}

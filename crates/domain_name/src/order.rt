@@ -35,7 +35,7 @@ impl<Octs: Octets> Eq for Name<Octs> {
     ghost laws = { on_equiv name_labels same_name_is_equivalence };
 }
 
-/// The order of names (RFC 4034, 6.1).
+/// The canonical order of names (RFC 4034, 6.1).
 impl<Octs: Octets> Ord for Name<Octs> {
     ghost use Rattle.domain_name.specs.Names.{name_labels};
 

@@ -78,7 +78,7 @@ impl<Octs: Octets> CanonicalOrd for ParsedName<Octs> {
     }
 }
 
-/// Writes each label's length and its octets in lower case to the hasher, so that equal names have equal hashes.
+/// Writes to the hasher each label's length and its octets in lower case, so that equal names write the same.
 impl<Octs: Octets> Hash for ParsedName<Octs> {
     ghost use Rattle.domain_parsed.specs.ParsedNames.{parsed_labels};
 
