@@ -11,6 +11,7 @@ use domain_list::{Absolute, AbsoluteLabels, JoinedLabels, LabelIterator, NameLab
 use octseq::Octets;
 use std::fmt;
 
+// What each ghost member says: the trait, in `labels.rt` of `domain_list`.
 impl<'a> LabelIterator<'a> for ParsedNameIter<'a> {
     ghost left = { labels_left };
 
