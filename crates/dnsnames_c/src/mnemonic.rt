@@ -1,153 +1,20 @@
 //! Types, classes and codes as text.
-ghost use Rattle.std.specs.Prelude.{◌≡◌, ◌≤◌, length, codes};
+ghost use Rattle.std.specs.Prelude.{◌≤◌, length, codes};
 ghost use Rattle.domain_header.specs.Mnemonics.{rows_of};
 ghost use Rattle.domain_header.specs.Rtypes.{rtype_rows, rtype_text};
-ghost use Rattle.domain_header.specs.Tables.{class_rows, class_text, opcode_rows, opcode_text};
+ghost use Rattle.domain_header.specs.Tables.{class_rows, class_text, opcode_rows, opcode_text, response_rows, response_text};
 ghost use Rattle.dnsnames_c.specs.Answers.{Gives};
-ghost use Rattle.dnsnames_c.specs.Mnemonics.{response_rows, response_text, GivesTextOf, GivesNumber};
+ghost use Rattle.dnsnames_c.specs.Mnemonics.{GivesTextOf, GivesNumber};
 
 use crate::put::give;
 use arrayvec::ArrayVec;
+use domain_header::class::classes;
+use domain_header::code::{extended_rcodes, opcodes};
 use domain_header::mnemonic::{Mnemonic, mnemonic_word};
 use domain_header::numbered::named_number;
 use domain_header::rtypes::rtypes;
 use itoa::Buffer;
 use std::str::from_utf8;
-
-// The rows of `domain_header`, which shows its own tables by the texts of its types alone.
-const CLASSES: [Mnemonic; 6] = [
-    Mnemonic {
-        number: 1,
-        word: "IN",
-    },
-    Mnemonic {
-        number: 3,
-        word: "CH",
-    },
-    Mnemonic {
-        number: 4,
-        word: "HS",
-    },
-    Mnemonic {
-        number: 254,
-        word: "NONE",
-    },
-    Mnemonic {
-        number: 255,
-        word: "ANY",
-    },
-    Mnemonic {
-        number: 255,
-        word: "*",
-    },
-];
-
-/// The table of classes.
-fn classes() -> &'static [Mnemonic]
-    ensures { rows_of result.now ≡ class_rows }
-{
-    &CLASSES
-}
-
-const OPCODES: [Mnemonic; 6] = [
-    Mnemonic {
-        number: 0,
-        word: "QUERY",
-    },
-    Mnemonic {
-        number: 1,
-        word: "IQUERY",
-    },
-    Mnemonic {
-        number: 2,
-        word: "STATUS",
-    },
-    Mnemonic {
-        number: 4,
-        word: "NOTIFY",
-    },
-    Mnemonic {
-        number: 5,
-        word: "UPDATE",
-    },
-    Mnemonic {
-        number: 6,
-        word: "DSO",
-    },
-];
-
-/// The table of kinds of query.
-fn opcodes() -> &'static [Mnemonic]
-    ensures { rows_of result.now ≡ opcode_rows }
-{
-    &OPCODES
-}
-
-const RESPONSES: [Mnemonic; 14] = [
-    Mnemonic {
-        number: 0,
-        word: "NOERROR",
-    },
-    Mnemonic {
-        number: 1,
-        word: "FORMERR",
-    },
-    Mnemonic {
-        number: 2,
-        word: "SERVFAIL",
-    },
-    Mnemonic {
-        number: 3,
-        word: "NXDOMAIN",
-    },
-    Mnemonic {
-        number: 4,
-        word: "NOTIMP",
-    },
-    Mnemonic {
-        number: 5,
-        word: "REFUSED",
-    },
-    Mnemonic {
-        number: 6,
-        word: "YXDOMAIN",
-    },
-    Mnemonic {
-        number: 7,
-        word: "YXRRSET",
-    },
-    Mnemonic {
-        number: 8,
-        word: "NXRRSET",
-    },
-    Mnemonic {
-        number: 9,
-        word: "NOTAUTH",
-    },
-    Mnemonic {
-        number: 10,
-        word: "NOTZONE",
-    },
-    Mnemonic {
-        number: 11,
-        word: "DSOTYPENI",
-    },
-    Mnemonic {
-        number: 16,
-        word: "BADVERS",
-    },
-    Mnemonic {
-        number: 23,
-        word: "BADCOOKIE",
-    },
-];
-
-/// The table of response codes.
-fn responses() -> &'static [Mnemonic]
-    ensures { rows_of result.now ≡ response_rows }
-{
-    &RESPONSES
-}
 
 /// Gives the text of a number: its mnemonic in the table, or the word and the number in decimal digits.
 fn give_text(table: &[Mnemonic], word: &str, number: u16, buffer: &mut [u8], len: &mut usize) -> u32
@@ -247,7 +114,7 @@ pub extern "C" fn dnsnames_opcode_from_text(text: &[u8], opcode: &mut u16) -> u3
 pub extern "C" fn dnsnames_rcode_text(rcode: u16, buffer: &mut [u8], length: &mut usize) -> u32
     ensures { Gives (response_text rcode) result buffer.old buffer.new length.new }
 {
-    give_text(responses(), "RCODE", rcode, buffer, length)
+    give_text(extended_rcodes(), "RCODE", rcode, buffer, length)
 }
 
 /// The number of the response code that a text names: by its mnemonic, or by `RCODE` immediately followed by the number in
@@ -256,5 +123,5 @@ pub extern "C" fn dnsnames_rcode_text(rcode: u16, buffer: &mut [u8], length: &mu
 pub extern "C" fn dnsnames_rcode_from_text(text: &[u8], rcode: &mut u16) -> u32
     ensures { GivesNumber response_rows (codes "RCODE") 4096 text.now result rcode.old rcode.new }
 {
-    give_number(responses(), "RCODE", 4096, text, rcode)
+    give_number(extended_rcodes(), "RCODE", 4096, text, rcode)
 }

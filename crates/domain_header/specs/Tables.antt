@@ -19,6 +19,10 @@ rcode_rows = mnemonic 0 (codes "NOERROR") ∷ mnemonic 1 (codes "FORMERR") ∷ m
     ∷ mnemonic 6 (codes "YXDOMAIN") ∷ mnemonic 7 (codes "YXRRSET") ∷ mnemonic 8 (codes "NXRRSET") ∷ mnemonic 9 (codes "NOTAUTH") ∷ mnemonic 10 (codes "NOTZONE")
     ∷ mnemonic 11 (codes "DSOTYPENI") ∷ []
 
+-- Response codes, those past four bits too (RFC 6891, 6.1.3; `BADVERS` section 9, `BADCOOKIE` RFC 7873, 8).
+abbrev pub response_rows : List Row
+response_rows = rcode_rows ++ mnemonic 16 (codes "BADVERS") ∷ mnemonic 23 (codes "BADCOOKIE") ∷ []
+
 -- the mnemonic of the number n, or this word and the number
 abbrev pub text_of : List Row → List ℕ → ℕ → List ℕ
 text_of rows word n = unwrap_or (word_of rows n) (word ++ decimal n)
@@ -34,3 +38,7 @@ opcode_text n = text_of opcode_rows (codes "OPCODE") n
 -- `RCODE` and the number where there is no mnemonic
 abbrev pub rcode_text : ℕ → List ℕ
 rcode_text n = text_of rcode_rows (codes "RCODE") n
+
+-- The mnemonic of a response code, those past four bits too, or `RCODE` and the number where there is none.
+abbrev pub response_text : ℕ → List ℕ
+response_text n = text_of response_rows (codes "RCODE") n

@@ -38,8 +38,8 @@ const CLASSES: [Mnemonic; 6] = [
     },
 ];
 
-/// Returns the table of their mnemonics.
-fn classes() -> &'static [Mnemonic]
+/// Returns the table of the mnemonics of classes.
+pub fn classes() -> &'static [Mnemonic]
     ensures { rows_of result.now ≡ class_rows }
 {
     &CLASSES

@@ -1,7 +1,7 @@
 //! What is asked for, and how it went: the two codes of four bits in a header.
 ghost use Rattle.std.specs.Prelude.{◌≡◌, ◌≤◌, ◌<◌, ◌%◌, ◌↔◌, IfSome, IsNone, Some};
 ghost use Rattle.domain_header.specs.Mnemonics.{rows_of};
-ghost use Rattle.domain_header.specs.Tables.{opcode_rows, rcode_rows};
+ghost use Rattle.domain_header.specs.Tables.{opcode_rows, rcode_rows, response_rows};
 
 use crate::mnemonic::{Mnemonic, mnemonic_word};
 use std::fmt;
@@ -35,15 +35,15 @@ const OPCODES: [Mnemonic; 6] = [
     },
 ];
 
-/// Returns the table of their mnemonics.
-fn opcodes() -> &'static [Mnemonic]
+/// Returns the table of the mnemonics of kinds of query.
+pub fn opcodes() -> &'static [Mnemonic]
     ensures { rows_of result.now ≡ opcode_rows }
 {
     &OPCODES
 }
 
-// As the table above: the response codes that four bits can tell.
-const RCODES: [Mnemonic; 12] = [
+// As the table above: the response codes that four bits can tell, and two of those with eight bits more.
+const RCODES: [Mnemonic; 14] = [
     Mnemonic {
         number: 0,
         word: "NOERROR",
@@ -92,13 +92,29 @@ const RCODES: [Mnemonic; 12] = [
         number: 11,
         word: "DSOTYPENI",
     },
+    Mnemonic {
+        number: 16,
+        word: "BADVERS",
+    },
+    Mnemonic {
+        number: 23,
+        word: "BADCOOKIE",
+    },
 ];
 
-/// Returns the table of their mnemonics.
+/// Returns the table of the mnemonics of response codes, of those too that have the eight bits more of an OPT record
+/// (RFC 6891, 6.1.3).
+pub fn extended_rcodes() -> &'static [Mnemonic]
+    ensures { rows_of result.now ≡ response_rows }
+{
+    &RCODES
+}
+
+/// Returns the table of those that four bits can tell.
 fn rcodes() -> &'static [Mnemonic]
     ensures { rows_of result.now ≡ rcode_rows }
 {
-    &RCODES
+    &RCODES[..12]
 }
 
 /// The kind of query: a number of 4 bits (RFC 1035, 4.1.1).
