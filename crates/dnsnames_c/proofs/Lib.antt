@@ -1,4 +1,4 @@
 pub mod LabelOffsets
 pub mod Dots
 pub mod CompressedFlag
-pub mod Tabling
+pub mod PushNumbers

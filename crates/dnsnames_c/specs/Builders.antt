@@ -8,14 +8,16 @@ use Rattle.domain_message.specs.declared.section.Section.TheVariants.{Answer, Au
 use Rattle.domain_message_builder.specs.Contents.{blank_header, RecordHead, Content, no_content, Holds}
 use Rattle.domain_message_builder.specs.Cuts.{Truncates}
 use Rattle.domain_message_builder.specs.Opt.{Opt, opt_head}
-use Rattle.domain_message_builder.specs.Pushes.{record_count, section_count, later_count, PushesQuestion}
+use Rattle.domain_message_builder.specs.Pushes.{record_count, PushesQuestion}
 use Rattle.domain_message_builder.specs.Reading.{IsMessageOf}
 use Rattle.domain_buffer.specs.Puts.{PutsAt}
-use Rattle.domain_buffer.specs.Builders.{header_of, counts_of, state, IsUsable, Enters, TooBig, headed, asked, PushesData}
+use Rattle.domain_buffer.specs.Builders.{header_of, counts_of, state, IsUsable, Enters, TooBig, asked, PushesData}
 use Rattle.domain_buffer.specs.Data.{Fields, whole, IsNamed}
-use Rattle.domain_buffer.specs.Named.{NamedTooBig, PushesNamed}
+use Rattle.domain_buffer.specs.Named.{PushesNamed}
+use Rattle.domain_buffer.specs.Pushing.{RefusesData, RefusesNamed}
 use Rattle.domain_buffer.specs.declared.builder.Builder.{Builder}
-use Rattle.domain_buffer.specs.declared.builder.Head.{Head}
+use Rattle.domain_buffer.specs.declared.push.PushFault.{PushFault}
+use Rattle.dnsnames_c.specs.Status.{push_number}
 
 -- A message was begun with this identifier and these flags, and nothing in it; it has as many octets as the buffer at most, and
 -- 65,535 (0). Or the buffer has no room for a header (8), and nothing changed.
@@ -52,28 +54,21 @@ section_of n =
     if nat_eq n 1 then Some Answer else if nat_eq n 2 then Some Authority else if nat_eq n 3
     then Some Additional else None
 
--- Why a record isn't pushed into it: a later section has a record (24), this one has 65,535 (25), or it doesn't fit (8), as is said.
-abbrev pub RefusesPush : Section → Builder → Type 0 → ℕ → Type 0
-RefusesPush section b DoesNotFit status =
-    ((status ≡ 24) × (0 < later_count section (counts_of b)))
-    ⊎ ((status ≡ 25) × (later_count section (counts_of b) ≡ 0)
-    × (section_count section (counts_of b) ≡ 65535))
-    ⊎ ((status ≡ 8) × (later_count section (counts_of b) ≡ 0)
-    × (section_count section (counts_of b) < 65535) × DoesNotFit)
-
 -- The record was pushed (0); or it wasn't, and nothing changed.
 abbrev pub GivesData : Section → List ℕ → RecordHead → List ℕ → ℕ → List ℕ → Builder → List ℕ
     → Builder → Type 0
 GivesData section owner head rdata status o b o' b' =
     ((status ≡ 0) × PushesData section owner head rdata o b o' b')
-    ⊎ (RefusesPush section b (TooBig o b owner (10 + length rdata)) status × (o' ≡ o) × (b' ≡ b))
+    ⊎ ((why : PushFault) × RefusesData section owner rdata o b why × (status ≡ push_number why)
+    × (o' ≡ o) × (b' ≡ b))
 
 -- So was a record with names in its data, these with compression; or it wasn't, and nothing changed.
 abbrev pub GivesNamed : Section → List ℕ → RecordHead → Fields → ℕ → List ℕ → Builder → List ℕ
     → Builder → Type 0
 GivesNamed section owner head f status o b o' b' =
     ((status ≡ 0) × PushesNamed section owner head f o b o' b')
-    ⊎ (RefusesPush section b (NamedTooBig o b owner f) status × (o' ≡ o) × (b' ≡ b))
+    ⊎ ((why : PushFault) × RefusesNamed section owner f o b why × (status ≡ push_number why)
+    × (o' ≡ o) × (b' ≡ b))
 
 -- These are the fields of data of a type in which names may be compressed, and so they are written; or data are no such fields,
 -- and are written as they are.
@@ -96,10 +91,6 @@ GivesInSection number owner head rdata status o b o' b' =
     ⊎ ((status ≡ 26) × IsUsable o b × (section_of number ≡ None) × (o' ≡ o) × (b' ≡ b))
     ⊎ ((status ≡ 9) × IsUsable o b × IsSome (section_of number) × (IsAbsoluteWire owner → ⊥)
     × (o' ≡ o) × (b' ≡ b))
-
--- what a record says before its data, by the owner's octets and the numbers after them
-abbrev pub headed_by : List ℕ → Head → RecordHead
-headed_by owner head = headed owner head.rtype head.class head.ttl
 
 -- a number that isn't 0
 abbrev pub is_set : ℕ → Bool

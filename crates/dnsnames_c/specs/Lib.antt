@@ -1,7 +1,6 @@
 pub mod Status
 pub mod Answers
 pub mod Comparing
-pub mod Reading
 pub mod Labels
 pub mod Plans
 pub mod Messages

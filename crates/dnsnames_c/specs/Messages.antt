@@ -3,16 +3,10 @@ use Rattle.std.specs.Prelude.{◌≡◌, ◌⊎◌, ℕ, ◌≤◌, ◌<◌, Boo
 use Rattle.domain_reading.specs.Faults.{Skips, SkipFault}
 use Rattle.domain_reading.specs.declared.fault.NameFault.{NameFault}
 use Rattle.dnsnames_c.specs.Status.{fault_number}
-use Rattle.domain_offsets.specs.Entries.{HasParts, LacksParts}
+use Rattle.domain_offsets.specs.Entries.{LacksParts, EntryAt}
 use Rattle.domain_offsets.specs.declared.entry.Parts.{Parts}
 
--- A question (true) or a record (false) is at p: a name, and these parts after it.
-pub record EntryAt (m : List ℕ) (question : Bool) (p : ℕ) (it : Parts) : Type 0 where
-  pub after : ℕ
-  pub name : Skips m p after
-  pub parts : HasParts m question after it
-
--- None is at p, and this is the number of the fault: no name can be skipped there, or the message ends in the parts after it.
+-- No question (true) or record (false) is at p, and this is the number of the fault: no name can be skipped there, or the message ends in the parts after it.
 abbrev pub NoEntryAt : List ℕ → Bool → ℕ → ℕ → Type 0
 NoEntryAt m question p status =
     ((f : NameFault) × SkipFault m p f × (status ≡ fault_number f))

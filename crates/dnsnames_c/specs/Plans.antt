@@ -2,7 +2,7 @@
 use Rattle.std.specs.Prelude.{◌≡◌, ◌⊎◌, ℕ, ◌≤◌, ◌<◌, List, length, take, drop}
 use Rattle.domain_label.specs.Wire.{labels_in, IsAbsoluteWire}
 use Rattle.domain_compress.specs.Planned.{remembered_in_table, WritesPointer, WritesFlat}
-use Rattle.domain_buffer.specs.Plans.{IsTable, WritesName, HasNoRoom, more_of_table}
+use Rattle.domain_buffer.specs.Plans.{IsTable, PutsName, HasNoRoom, more_of_table}
 
 -- The name is to be written with a pointer (0) or without one (17); or the table is no table (16), or the name is no
 -- absolute name (9). With any number but 0 nothing changed.
@@ -18,10 +18,10 @@ Plans t table name status old_begin begin old_offset offset =
     × (offset ≡ old_offset))
 
 -- The name was written after the first octets, and the offsets of its labels were added after the first offsets.
-pub record AppendsName (o : List ℕ) (len : ℕ) (table : List ℕ) (count : ℕ) (name : List ℕ)
+pub record PutsNameAndOffsets (o : List ℕ) (len : ℕ) (table : List ℕ) (count : ℕ) (name : List ℕ)
     (o' : List ℕ) (len' : ℕ) (table' : List ℕ) (count' : ℕ) : Type 0 where
   pub begin : ℕ
-  pub writes : WritesName o len (take count table) name begin len' o'
+  pub writes : PutsName o len (take count table) name begin len' o'
   pub fits : count' ≤ length table
   pub offsets : take count' table' ≡ more_of_table (length table) (take count table) len
       (labels_in (take begin name))
@@ -42,6 +42,6 @@ RefusesName o len table count name status =
 abbrev pub Appends : List ℕ → ℕ → List ℕ → ℕ → List ℕ → ℕ → List ℕ → ℕ → List ℕ → ℕ → Type 0
 Appends o len table count name status o' len' table' count' =
     ((status ≡ 0) × (len ≤ length o) × (count ≤ length table) × IsTable (take count table)
-    × IsAbsoluteWire name × AppendsName o len table count name o' len' table' count')
+    × IsAbsoluteWire name × PutsNameAndOffsets o len table count name o' len' table' count')
     ⊎ (RefusesName o len table count name status × (o' ≡ o) × (len' ≡ len) × (table' ≡ table)
     × (count' ≡ count))

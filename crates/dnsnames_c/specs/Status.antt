@@ -1,7 +1,11 @@
 -- The numbers that calls return. The header dnsnames.h names them.
-use Rattle.std.specs.Prelude.{ℕ, ℤ, pos, negsuc, Bool, true, false}
+use Rattle.std.specs.Prelude.{ℕ, ℤ, pos, negsuc, Bool, true, false, Option, Some, None, Result, Ok, Err}
 use Rattle.std.specs.declared.cmp.Ordering.{Ordering}
 use Rattle.std.specs.declared.cmp.Ordering.TheVariants.{Less, Equal, Greater}
+use Rattle.domain_buffer.specs.declared.push.PushFault.{PushFault}
+use Rattle.domain_buffer.specs.declared.push.PushFault.TheVariants as push
+use Rattle.domain_buffer.specs.declared.rows.RowFault.{RowFault}
+use Rattle.domain_buffer.specs.declared.rows.RowFault.TheVariants as table
 use Rattle.domain_builder.specs.declared.name_symbol.TextFault.{TextFault}
 use Rattle.domain_builder.specs.declared.name_symbol.TextFault.TheVariants as text
 use Rattle.domain_flat.specs.declared.error.NameErrorKind.{NameErrorKind}
@@ -26,6 +30,24 @@ data_number within.NoField = 21
 data_number within.ShortInput = 1
 data_number within.TrailingData = 7
 data_number (within.Name f) = fault_number f
+
+-- of why no more entries were put into a table, or of none, where all were
+abbrev pub table_number : Option RowFault → ℕ
+table_number None = 0
+table_number (Some (table.Name f)) = fault_number f
+table_number (Some table.ShortInput) = 1
+table_number (Some table.NoRoom) = 8
+
+-- of why a record wasn't pushed
+abbrev pub push_number : PushFault → ℕ
+push_number push.LaterSection = 24
+push_number push.FullSection = 25
+push_number push.NoRoom = 8
+
+-- of a record that was pushed, or wasn't
+abbrev pub pushed_number : {A : Type 0} → Result A PushFault → ℕ
+pushed_number (Ok a) = 0
+pushed_number (Err why) = push_number why
 
 -- of octets that are no absolute name
 abbrev pub absolute_number : NameErrorKind → ℕ

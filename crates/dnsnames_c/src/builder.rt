@@ -1,16 +1,14 @@
 //! Messages that are built in the caller's buffer (RFC 1035, 4.1).
-ghost use Rattle.std.specs.Prelude.{◌≡◌, ◌≤◌, length};
-ghost use Rattle.domain_label.specs.Wire.{IsAbsoluteWire};
-ghost use Rattle.domain_buffer.specs.Builders.{headed, IsUsable};
-ghost use Rattle.domain_buffer.specs.Data.{fields_of, IsNamed};
-ghost use Rattle.dnsnames_c.specs.Builders.{section_of, headed_by, opt_with, Begins, AsksFor, GivesData, GivesNamed, GivesInSection, GivesOpt, Cuts, Finishes};
+ghost use Rattle.std.specs.Prelude.{◌≡◌};
+ghost use Rattle.domain_buffer.specs.Builders.{headed};
+ghost use Rattle.dnsnames_c.specs.Builders.{section_of, opt_with, Begins, AsksFor, GivesInSection, GivesOpt, Cuts, Finishes};
+ghost use Rattle.dnsnames_c.specs.Status.{pushed_number};
 
 use domain_buffer::builder::{
-    BLANK, Builder, Head, count_of, count_question, count_record, enter, has_later, head_octets,
-    header_octets_of, is_usable, type_and_class_octets,
+    BLANK, Builder, Head, count_question, enter, header_octets_of, is_usable, type_and_class_octets,
 };
-use domain_buffer::data::{NamedData, named_data};
-use domain_buffer::named::enter_named;
+use domain_buffer::data::named_data;
+use domain_buffer::push::{PushFault, push_named, push_record};
 use domain_buffer::put::place;
 use domain_message::Section;
 use domain_name::Name;
@@ -97,64 +95,16 @@ fn section_named(number: u32) -> Option<Section>
     }
 }
 
-/// Pushes a record with data as they are, or nothing.
-fn push_record(
-    octets: &mut [u8],
-    builder: &mut Builder,
-    section: Section,
-    owner: &[u8],
-    head: Head,
-    data: &[u8],
-) -> u32
-    requires usable { IsUsable octets.old builder.old }
-    requires owner { IsAbsoluteWire owner.now }
-    ensures { GivesData section owner.now (headed_by owner.now head) data.now result octets.old
-        builder.old octets.new builder.new }
+/// The number of a record that was pushed, or of why it wasn't.
+fn number_of_push(pushed: Result<(), PushFault>) -> u32
+    ensures { result ≡ pushed_number pushed }
 {
-    if has_later(section, builder) {
-        return 24;
+    match pushed {
+        Ok(()) => 0,
+        Err(PushFault::LaterSection) => 24,
+        Err(PushFault::FullSection) => 25,
+        Err(PushFault::NoRoom) => 8,
     }
-    if count_of(section, builder) == 65_535 {
-        return 25;
-    }
-    // Data of more than 65,535 octets don't fit, whatever stands before them.
-    let len = data.len().min(65_535) as u16;
-    let before_data = head_octets(head, len);
-    if !enter(octets, builder, owner, &before_data, data) {
-        return 8;
-    }
-    count_record(section, builder);
-    0
-}
-
-/// Pushes a record with data of names, or nothing.
-fn push_named(
-    octets: &mut [u8],
-    builder: &mut Builder,
-    section: Section,
-    owner: &[u8],
-    head: Head,
-    fields: NamedData<'_>,
-) -> u32
-    requires usable { IsUsable octets.old builder.old }
-    requires owner { IsAbsoluteWire owner.now }
-    requires named { IsNamed head.rtype (fields_of fields) }
-    requires before { length fields.before.now ≤ 6 }
-    requires after { length fields.after.now ≤ 20 }
-    ensures { GivesNamed section owner.now (headed_by owner.now head) (fields_of fields.entry)
-        result octets.old builder.old octets.new builder.new }
-{
-    if has_later(section, builder) {
-        return 24;
-    }
-    if count_of(section, builder) == 65_535 {
-        return 25;
-    }
-    if !enter_named(octets, builder, owner, head, fields) {
-        return 8;
-    }
-    count_record(section, builder);
-    0
 }
 
 /// Pushes a record into a section, or nothing: 1 is that of answers, 2 authority, 3 additional. The owner's name is written
@@ -189,10 +139,11 @@ pub extern "C" fn dnsnames_builder_record(
         return 9;
     };
     let head = Head { rtype, class, ttl };
-    match named_data(rtype, data) {
+    let pushed = match named_data(rtype, data) {
         Some(fields) => push_named(octets, builder, section, owner, head, fields),
         None => push_record(octets, builder, section, owner, head, data),
-    }
+    };
+    number_of_push(pushed)
 }
 
 /// Pushes an OPT record into the additional section, or nothing (RFC 6891, 6.1): how many octets of a message over UDP its
@@ -224,7 +175,8 @@ pub extern "C" fn dnsnames_builder_opt(
     };
     let (rtype, class) = (41, size);
     let head = Head { rtype, class, ttl };
-    push_record(octets, builder, Section::Additional, &[0], head, options)
+    let pushed = push_record(octets, builder, Section::Additional, &[0], head, options);
+    number_of_push(pushed)
 }
 
 /// Takes all records away again, and sets the flag TC: the message is cut after its questions (RFC 2181, 9).

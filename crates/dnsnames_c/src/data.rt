@@ -4,7 +4,8 @@ ghost use Rattle.dnsnames_c.specs.Data.{GivesNameAt, GivesDataName, GivesDataNum
 ghost use Rattle.dnsnames_c.specs.Status.{data_number};
 
 use crate::put::give;
-use crate::read::{number_of, read_into};
+use crate::read::number_of;
+use domain_buffer::read::read_into;
 use domain_offsets::{DataFault, address_in, name_in, number_in};
 
 /// The number of why data have no such field.

@@ -1,16 +1,12 @@
 //! Names in messages.
-ghost use Rattle.std.specs.Prelude.{◌≡◌, ◌≤◌, IfOk, IfErr};
-ghost use Rattle.domain_reading.specs.Faults.{NameFaultAt};
+ghost use Rattle.std.specs.Prelude.{◌≡◌};
 ghost use Rattle.dnsnames_c.specs.Answers.{ReadsName, ReturnsEnd};
-ghost use Rattle.dnsnames_c.specs.Reading.{ReadsInto, TellsCompressed};
 ghost use Rattle.dnsnames_c.specs.Status.{fault_number, bit_number};
 
 use crate::put::give;
-use domain_list::composing::put_name;
-use domain_parsed::ParsedName;
+use domain_buffer::read::read_into;
 use domain_reading::fault::NameFault;
 use domain_reading::uncounted::encoding_end;
-use octseq::Parser;
 
 /// The number of a fault.
 pub(crate) fn number_of(fault: NameFault) -> u32
@@ -29,40 +25,6 @@ fn number_of_bit(bit: bool) -> u32
     ensures { result ≡ bit_number bit }
 {
     if bit { 1 } else { 0 }
-}
-
-/// A name that was read: how many octets it has, the offset after it, and whether a pointer follows a label.
-#[derive(Clone, Copy)]
-pub(crate) struct Found {
-    pub(crate) len: usize,
-    pub(crate) end: usize,
-    compressed: bool,
-}
-
-/// Puts the name at the offset at the beginning of a buffer.
-pub(crate) fn read_into(
-    message: &[u8],
-    offset: usize,
-    limit: u8,
-    octets: &mut [u8; 255],
-) -> Result<Found, NameFault>
-    ensures name { IfOk result (λ found. ReadsInto limit message.now offset found octets.new) }
-    ensures compressed { IfOk result (TellsCompressed message.now offset) }
-    ensures fits { IfOk result (λ found. found.len ≤ 255) }
-    ensures fault { IfErr result (λ fault. NameFaultAt limit message.now offset fault) }
-{
-    let mut parser = Parser::from_ref(message);
-    if parser.seek(offset).is_err() {
-        return Err(NameFault::ShortInput);
-    }
-    match ParsedName::parse_or_fault(&mut parser, limit) {
-        Ok(name) => Ok(Found {
-            len: put_name(&name, octets),
-            end: parser.pos(),
-            compressed: name.is_compressed(),
-        }),
-        Err(fault) => Err(fault),
-    }
 }
 
 /// Reads the name at an offset of a message, through at most `limit` pointers, into the buffer with no pointer in it

@@ -5,3 +5,5 @@ pub mod Later
 pub mod Building
 pub mod Naming
 pub mod Standing
+pub mod Contiguous
+pub mod Tabling

@@ -6,7 +6,7 @@ use Rattle.domain_label.proofs.WireLaws.{absolute_wire}
 use Rattle.domain_compress.specs.Compressing.{Compresses, pointer_to}
 use Rattle.domain_compress.specs.Planned.{remembered_in_table, WritesPointer, WritesFlat}
 use Rattle.domain_buffer.specs.Puts.{PutsAt}
-use Rattle.domain_buffer.specs.Plans.{Spells, WritesName, HasNoRoom}
+use Rattle.domain_buffer.specs.Plans.{Spells, PutsName, HasNoRoom}
 
 pub spells_pointer : (t table name : List ℕ) (begin offset : ℕ) (s : List ℕ) → WritesPointer t (remembered_in_table table) name begin offset → s ≡ take begin name ++ pointer_to offset → Spells t table name begin s
 spells_pointer t table name begin offset s w e = record {
@@ -26,7 +26,7 @@ spells_flat t table name s wired w e = record {
   inside = omega arith;
 }
 
-pub writes_spelled : (o : List ℕ) (start : ℕ) (table name : List ℕ) (begin : ℕ) (s : List ℕ) (end : ℕ) (o' : List ℕ) → Spells (take start o) table name begin s → start + length s ≤ length o → end ≡ start + length s → PutsAt start s o o' → WritesName o start table name begin end o'
+pub writes_spelled : (o : List ℕ) (start : ℕ) (table name : List ℕ) (begin : ℕ) (s : List ℕ) (end : ℕ) (o' : List ℕ) → Spells (take start o) table name begin s → start + length s ≤ length o → end ≡ start + length s → PutsAt start s o o' → PutsName o start table name begin end o'
 writes_spelled o start table name begin s end o' w fits ends puts = record {
   octets = s;
   compresses = w.compresses;

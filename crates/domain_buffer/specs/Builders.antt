@@ -19,6 +19,7 @@ use Rattle.domain_compress.specs.Planned.{remembered_in_table}
 use Rattle.domain_buffer.specs.Puts.{PutsAt}
 use Rattle.domain_buffer.specs.Plans.{IsTable, more_of_table}
 use Rattle.domain_buffer.specs.declared.builder.Builder.{Builder}
+use Rattle.domain_buffer.specs.declared.builder.Head.{Head}
 
 -- the identifier and the flags that the message gets
 abbrev pub header_of : Builder → Header
@@ -110,6 +111,10 @@ asked name rtype class = record { name = labels_in name; rtype = rtype; class = 
 abbrev pub headed : List ℕ → ℕ → ℕ → ℕ → RecordHead
 headed owner rtype class ttl =
     record { owner = labels_in owner; rtype = rtype; class = class; ttl = ttl }
+
+-- what a record says before its data, by the owner's octets and the numbers after them
+abbrev pub headed_by : List ℕ → Head → RecordHead
+headed_by owner head = headed owner head.rtype head.class head.ttl
 
 -- these octets of data, as they are
 abbrev pub Exactly : List ℕ → List ℕ → List ℕ → Type 0

@@ -20,7 +20,7 @@ pub record Spells (t table name : List ℕ) (begin : ℕ) (octets : List ℕ) : 
 
 -- After the first octets of o, up to start, the name was written: its labels up to begin, and a pointer where begin isn't
 -- its end. What was written ends at end, and the octets after it are unchanged.
-pub record WritesName (o : List ℕ) (start : ℕ) (table name : List ℕ) (begin end : ℕ)
+pub record PutsName (o : List ℕ) (start : ℕ) (table name : List ℕ) (begin end : ℕ)
     (o' : List ℕ) : Type 0 where
   pub octets : List ℕ
   pub compresses : Compresses (take start o) (remembered_in_table table) (labels_in name)
@@ -46,7 +46,7 @@ more_of_table room table start labels =
 
 -- The name was written so.
 abbrev pub WritesAs : (o : List ℕ) → (start : ℕ) → (table name o' : List ℕ) → Written → Type 0
-WritesAs o start table name o' w = WritesName o start table name w.begin w.end o'
+WritesAs o start table name o' w = PutsName o start table name w.begin w.end o'
 
 -- It ends past the octets, and these are unchanged.
 abbrev pub NameExceedsRoom : (o : List ℕ) → (start : ℕ) → (table name o' : List ℕ) → Type 0

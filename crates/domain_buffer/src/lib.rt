@@ -1,11 +1,14 @@
-//! What is written into a caller's buffer: octets, names with pointers, and a message that is built, whose state is
-//! numbers beside its octets.
+//! What is written into a caller's buffer: octets, names with pointers or without, a message that is built, whose state
+//! is numbers beside its octets, and rows of numbers of all that a message has.
 #![tactic(auto)]
 
 pub mod builder;
 pub mod data;
 pub mod named;
 pub mod plan;
+pub mod push;
 pub mod put;
+pub mod read;
+pub mod rows;
 
 pub use builder::Builder;

@@ -1,5 +1,6 @@
 -- What follows the name of a question or a record in a message, whose octets are m.
 use Rattle.std.specs.Prelude.{◌≡◌, ◌⊎◌, ℕ, ◌+◌, ◌≤◌, ◌<◌, Bool, true, false, List, length}
+use Rattle.domain_reading.specs.Faults.{Skips}
 use Rattle.domain_header.specs.Numbers.{number16, number32}
 use Rattle.domain_offsets.specs.declared.entry.Parts.{Parts}
 
@@ -21,3 +22,9 @@ LacksParts m true after = length m < after + 4
 LacksParts m false after =
     (length m < after + 10) ⊎ ((after + 10 ≤ length m)
     × (length m < after + 10 + number16 m (after + 8)))
+
+-- A question (true) or a record (false) is at p: a name, and these parts after it.
+pub record EntryAt (m : List ℕ) (question : Bool) (p : ℕ) (it : Parts) : Type 0 where
+  pub after : ℕ
+  pub name : Skips m p after
+  pub parts : HasParts m question after it

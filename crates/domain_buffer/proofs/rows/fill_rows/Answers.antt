@@ -1,7 +1,7 @@
 use Rattle.std.proofs.Common.{rules, ◌<◌, length, inr, refl, subst, arith}
-use Rattle.dnsnames_c.specs.Tables.{entry_count, NotTaken}
-use Rattle.dnsnames_c.proofs.Tabling.{holds_none, holds_one_more, takes_sizes}
-use Rattle.dnsnames_c.proofs.table.fill.Goals as goal
+use Rattle.domain_buffer.specs.Rows.{entry_count, NotTaken}
+use Rattle.domain_buffer.proofs.Tabling.{holds_none, holds_one_more, takes_sizes}
+use Rattle.domain_buffer.proofs.rows.fill_rows.Goals as goal
 
 pub entries-init : goal.entries-init
 entries-init c = record {
@@ -36,6 +36,8 @@ returns-in-Err-clause-stops c =
     let few : c.entries.taken.count < entry_count c.args.message.now = search rules in
     inr (
       few,
-      subst (λ s. NotTaken c.args.limit c.args.message.now c.entries.taken.count c.entries.taken.offset s c.entries.taken.names (length c.args.names.now) c.in-Err.status) before.rows_kept
-          (subst (λ s. NotTaken c.args.limit c.args.message.now c.entries.taken.count c.entries.taken.offset (length c.entries.rows) c.entries.taken.names s c.in-Err.status) before.names_kept c.in-Err.ensures.err),
+      c.in-Err.fault,
+      refl,
+      subst (λ s. NotTaken c.args.limit c.args.message.now c.entries.taken.count c.entries.taken.offset s c.entries.taken.names (length c.args.names.now) c.in-Err.fault) before.rows_kept
+          (subst (λ s. NotTaken c.args.limit c.args.message.now c.entries.taken.count c.entries.taken.offset (length c.entries.rows) c.entries.taken.names s c.in-Err.fault) before.names_kept c.in-Err.ensures.err),
     )

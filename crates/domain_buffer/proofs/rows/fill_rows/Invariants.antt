@@ -1,10 +1,10 @@
 use Rattle.std.proofs.Common.{◌-◌, ◌≡◌, ◌≤◌, ◌*◌, length}
-use Rattle.dnsnames_c.specs.Tables.{Holds}
-use Rattle.dnsnames_c.proofs.table.fill.Given as goal
+use Rattle.domain_buffer.specs.Rows.{HoldsRows}
+use Rattle.domain_buffer.proofs.rows.fill_rows.Given as goal
 
 abbrev pub invariant-entries : goal.invariant-entries
 invariant-entries l = record {
-  holds : Holds l.limit l.message l.taken.count l.taken.offset l.taken.names l.initial.rows l.rows l.initial.names l.names;
+  holds : HoldsRows l.limit l.message l.taken.count l.taken.offset l.taken.names l.initial.rows l.rows l.initial.names l.names;
   few : l.taken.count ≤ l.entries;
   short : l.taken.names ≤ 255 * l.taken.count;
   rows_left : 8 * l.taken.count ≤ length l.rows;

@@ -1,13 +1,13 @@
-use Rattle.std.proofs.Common.{◌≡◌, ◌≤◌, ◌++◌, ◌∙◌, length, inl, refl, ap, subst, arith, append_assoc, length-append}
+use Rattle.std.proofs.Common.{◌≡◌, ◌≤◌, ◌++◌, ◌∙◌, length, refl, ap, subst, arith, append_assoc, length-append}
 use Rattle.std.proofs.lemmas.Bool.{false≢true}
 use Rattle.std.specs.Int.{w16, to_be_bytes}
 use Rattle.domain_record.specs.Composing.{before_length}
 use Rattle.domain_buffer.specs.Builders.{headed, after_owner, Enters}
 use Rattle.domain_buffer.proofs.Building.{record_pushed}
-use Rattle.dnsnames_c.proofs.builder.push_record.Goals as goal
+use Rattle.domain_buffer.proofs.push.push_record.Goals as goal
 
-pub returns : goal.returns
-returns c =
+pub returns-clause-ok : goal.returns-clause-ok
+returns-clause-ok c =
     let o = c.args.octets.now in
     let b = c.args.builder.now in
     let o' = c.enter.new.octets in
@@ -23,4 +23,4 @@ returns c =
     let len : c.min-len.result ≡ length rdata = grind (arith, c.min-len.ensures, few) in
     let rest : made ++ rdata ≡ after_owner head rdata = ap (λ x. x ++ rdata) (fits.octets ∙ ap (λ n. front ++ to_be_bytes w16 n) len) ∙ append_assoc front (to_be_bytes w16 (length rdata)) rdata in
     let entered = subst (λ r. Enters o b owner r o' b') rest e in
-    inl (refl, record_pushed c.args.section o b owner head rdata o' b' c.count_record.new.builder fits.rtype fits.class fits.ttl refl c.requires.usable c.requires.owner (λ h. false≢true (c.if-has_later.ensures.1 h)) entered c.if-not-enter.ensures.1 c.count_record.ensures)
+    record_pushed c.args.section o b owner head rdata o' b' c.count_record.new.builder fits.rtype fits.class fits.ttl refl c.requires.usable c.requires.owner (λ h. false≢true (c.if-has_later.ensures.1 h)) entered c.if-not-enter.ensures.1 c.count_record.ensures

@@ -9,10 +9,10 @@ use Rattle.domain_reading.proofs.OneEncoding.{front_once, names_skips}
 use Rattle.domain_buffer.specs.Puts.{PutsAt}
 use Rattle.domain_header.specs.Numbers.{number16}
 use Rattle.domain_offsets.specs.Entries.{HasParts, LacksParts}
-use Rattle.dnsnames_c.specs.Tables.{entry_count, row, PartsAt, NoPartsAt, Tabled, Adds, Holds}
-use Rattle.dnsnames_c.specs.Tables.Tabled.{header, entry}
+use Rattle.domain_buffer.specs.Rows.{entry_count, row, PartsAt, NoPartsAt, Tabled, AddsRow, HoldsRows}
+use Rattle.domain_buffer.specs.Rows.Tabled.{header, entry}
 use Rattle.domain_offsets.specs.declared.entry.Parts.{Parts}
-use Rattle.dnsnames_c.specs.declared.table.Taken.{Taken}
+use Rattle.domain_buffer.specs.declared.rows.Taken.{Taken}
 use Rattle.domain_buffer.proofs.Puts.{puts_both, puts_size}
 
 -- A name that is read is skipped, to where its encoding ends.
@@ -33,9 +33,9 @@ parts_here m n p after true it s kind h = inl (kind.0 refl, record { after = aft
 parts_here m n p after false it s kind h = inr (not_less false n (number16 m 4) refl kind.1, record { after = after; name = s; parts = h })
 
 -- It is missing, so the next entry isn't there.
-pub no_parts_here : (m : List ℕ) (n p after : ℕ) (b : Bool) → Skips m p after → IsTrue b ↔ (n < number16 m 4) → LacksParts m b after → NoPartsAt m n p 1
-no_parts_here m n p after true s kind h = inl (kind.0 refl, inr (after, s, h, refl))
-no_parts_here m n p after false s kind h = inr (not_less false n (number16 m 4) refl kind.1, inr (after, s, h, refl))
+pub no_parts_here : (m : List ℕ) (n p after : ℕ) (b : Bool) → Skips m p after → IsTrue b ↔ (n < number16 m 4) → LacksParts m b after → NoPartsAt m n p
+no_parts_here m n p after true s kind h = inl (kind.0 refl, after, s, h)
+no_parts_here m n p after false s kind h = inr (not_less false n (number16 m 4) refl kind.1, after, s, h)
 
 -- A table has eight numbers for each entry.
 pub tabled_size : {k : ℕ} {m : List ℕ} {n p : ℕ} {rows names : List ℕ} → Tabled k m n rows names p → length rows ≡ 8 * n
@@ -44,11 +44,11 @@ tabled_size (entry {rows = rows} {names} {ls} {it} before few name parts) =
     omega (arith, tabled_size before, length-append rows (row (length names) (length (wire ls)) it))
 
 -- Nothing was put yet.
-pub holds_none : (k : ℕ) (m r n : List ℕ) → 12 ≤ length m → Holds k m 0 12 0 r r n n
+pub holds_none : (k : ℕ) (m r n : List ℕ) → 12 ≤ length m → HoldsRows k m 0 12 0 r r n n
 holds_none k m r n whole = record { numbers = []; octets = []; tabled = header whole; size = refl; rows_put = refl; names_put = refl }
 
 -- One more entry was put.
-pub holds_one_more : {k : ℕ} {m : List ℕ} {old new : Taken} {r0 r r' n0 n n' : List ℕ} → old.count < entry_count m → length r ≡ length r0 → length n ≡ length n0 → Holds k m old.count old.offset old.names r0 r n0 n → Adds k m old r r' n n' new → Holds k m new.count new.offset new.names r0 r' n0 n'
+pub holds_one_more : {k : ℕ} {m : List ℕ} {old new : Taken} {r0 r r' n0 n n' : List ℕ} → old.count < entry_count m → length r ≡ length r0 → length n ≡ length n0 → HoldsRows k m old.count old.offset old.names r0 r n0 n → AddsRow k m old r r' n n' new → HoldsRows k m new.count new.offset new.names r0 r' n0 n'
 holds_one_more {k} {m} {old} {new} {r0} {r} {r'} {n0} {n} {n'} few same_rows same_names h t =
     let many = tabled_size h.tabled in
     let name = wire t.labels in
@@ -65,7 +65,7 @@ holds_one_more {k} {m} {old} {new} {r0} {r} {r'} {n0} {n} {n'} few same_rows sam
     }
 
 -- Rows and names keep their sizes.
-pub takes_sizes : {k : ℕ} {m : List ℕ} {old new : Taken} {r r' n n' : List ℕ} → Adds k m old r r' n n' new → (length r' ≡ length r) × (length n' ≡ length n)
+pub takes_sizes : {k : ℕ} {m : List ℕ} {old new : Taken} {r r' n n' : List ℕ} → AddsRow k m old r r' n n' new → (length r' ≡ length r) × (length n' ≡ length n)
 takes_sizes {k} {m} {old} {new} {r} {r'} {n} {n'} t = (
   puts_size (8 * old.count) (row old.names (length (wire t.labels)) t.parts) r r' t.row_fits t.row_put,
   puts_size old.names (wire t.labels) n n' t.name_fits t.name_put,

@@ -1,8 +1,8 @@
 use Rattle.std.proofs.Common.{◌≡◌, ◌≤◌, [], length, arith, sym, ap, inl, ◌∙◌, rules}
 use Rattle.domain_reading.specs.Faults.Followed.{start}
 use Rattle.octseq.specs.Parsing.{message, position}
-use Rattle.dnsnames_c.proofs.CompressedFlag.{contiguous_here}
-use Rattle.dnsnames_c.proofs.read.read_into.Goals as goal
+use Rattle.domain_buffer.proofs.Contiguous.{contiguous_here}
+use Rattle.domain_buffer.proofs.read.read_into.Goals as goal
 
 pub returns-then-is_err-clause-fault : goal.returns-then-is_err-clause-fault
 returns-then-is_err-clause-fault c =

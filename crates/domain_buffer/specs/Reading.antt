@@ -2,7 +2,7 @@
 use Rattle.std.specs.Prelude.{◌≡◌, ◌↔◌, ℕ, false, List, take}
 use Rattle.domain_label.specs.Wire.{wire}
 use Rattle.domain_reading.specs.Grammar.{Names, EncodingEnds, IsContiguous}
-use Rattle.dnsnames_c.specs.declared.read.Found.{Found}
+use Rattle.domain_buffer.specs.declared.read.Found.{Found}
 
 -- The name at p in m, through at most n pointers, was put there: how long it is, and where its encoding ends, was found.
 abbrev pub ReadsInto : ℕ → List ℕ → ℕ → Found → List ℕ → Type 0

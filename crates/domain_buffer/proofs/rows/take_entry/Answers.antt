@@ -2,20 +2,20 @@ use Rattle.std.proofs.Common.{◌≡◌, ◌*◌, length, inl, inr, refl, ap, su
 use Rattle.std.proofs.lemmas.List.{length-take-le}
 use Rattle.domain_label.specs.Wire.{wire}
 use Rattle.domain_buffer.specs.Puts.{PutsAt}
-use Rattle.dnsnames_c.specs.Tables.{row}
-use Rattle.dnsnames_c.specs.Tables.NotTaken.{no_name, no_parts, no_room}
-use Rattle.dnsnames_c.proofs.Tabling.{read_skips, parts_here, no_parts_here}
-use Rattle.dnsnames_c.proofs.table.take_entry.Goals as goal
-use Rattle.dnsnames_c.proofs.table.take_entry.Goals.{then-rows-taken-lt8-via-then-rows-taken-lt8, then-rows-taken-lt8-via-else-rows-taken-lt8+then-names-taken}
+use Rattle.domain_buffer.specs.Rows.{row}
+use Rattle.domain_buffer.specs.Rows.NotTaken.{no_name, no_parts, no_room}
+use Rattle.domain_buffer.proofs.Tabling.{read_skips, parts_here, no_parts_here}
+use Rattle.domain_buffer.proofs.rows.take_entry.Goals as goal
+use Rattle.domain_buffer.proofs.rows.take_entry.Goals.{then-rows-taken-lt8-via-then-rows-taken-lt8, then-rows-taken-lt8-via-else-rows-taken-lt8+then-names-taken}
 
 pub returns-in-Err-clause-err : goal.returns-in-Err-clause-err
-returns-in-Err-clause-err c = no_name c.in-Err.ensures.fault c.number_of.ensures
+returns-in-Err-clause-err c = no_name c.in-Err.ensures.fault refl
 
 pub returns-in_default-clause-err : goal.returns-in_default-clause-err
 returns-in_default-clause-err c =
     let name = c.in-Ok.ensures.name in
     let skips = read_skips c.args.limit c.args.message.now c.args.taken.offset c.in-Ok.found.end name.0 name.1 name.2 in
-    no_parts name.1 (no_parts_here c.args.message.now c.args.taken.count c.args.taken.offset c.in-Ok.found.end c.args.is_question skips c.requires.question c.in_default.ensures.none)
+    no_parts name.1 (no_parts_here c.args.message.now c.args.taken.count c.args.taken.offset c.in-Ok.found.end c.args.is_question skips c.requires.question c.in_default.ensures.none) refl
 
 pub returns-then-rows-taken-lt8-clause-err : goal.returns-then-rows-taken-lt8-clause-err
 returns-then-rows-taken-lt8-clause-err c =
