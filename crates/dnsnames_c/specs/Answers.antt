@@ -43,8 +43,8 @@ CompressedNumber m p compressed =
 
 -- The name at p in m, through at most n pointers, was given, with the offset after its root or first pointer and whether
 -- it is compressed (RFC 1035, 4.1.4); or there is none, the number is that of its fault, and nothing changed.
-abbrev pub ReadsName : ℕ → List ℕ → ℕ → ℕ → List ℕ → List ℕ → ℕ → ℕ → ℕ → ℕ → ℕ → ℕ → Type 0
-ReadsName n m p status old new old_len len old_end end old_compressed compressed =
+abbrev pub ReadsNameAt : ℕ → List ℕ → ℕ → ℕ → List ℕ → List ℕ → ℕ → ℕ → ℕ → ℕ → ℕ → ℕ → Type 0
+ReadsNameAt n m p status old new old_len len old_end end old_compressed compressed =
     ((ls : List (List ℕ)) × Names n m p ls × EncodingEnds m p end × CompressedNumber m p compressed
     × Gives (wire ls) status old new len)
     ⊎ ((f : NameFault) × NameFaultAt n m p f × (status ≡ fault_number f) × (new ≡ old)

@@ -21,8 +21,8 @@ use Rattle.dnsnames_c.specs.Status.{push_number}
 
 -- A message was begun with this identifier and these flags, and nothing in it; it has as many octets as the buffer at most, and
 -- 65,535 (0). Or the buffer has no room for a header (8), and nothing changed.
-abbrev pub Begins : ℕ → ℕ → ℕ → List ℕ → Builder → List ℕ → Builder → Type 0
-Begins id flags status o b o' b' =
+abbrev pub BeginsMessage : ℕ → ℕ → ℕ → List ℕ → Builder → List ℕ → Builder → Type 0
+BeginsMessage id flags status o b o' b' =
     ((status ≡ 0) × PutsAt 0 blank_header o o' × (b'.limit ≡ min (length o) 65535) × (b'.id ≡ id)
     × (b'.flags ≡ flags) × (b'.len ≡ 12) × (b'.table_len ≡ 0)
     × Holds true (state o' b') no_content × IsUsable o' b')

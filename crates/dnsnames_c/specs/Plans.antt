@@ -2,7 +2,7 @@
 use Rattle.std.specs.Prelude.{◌≡◌, ◌⊎◌, ℕ, ◌≤◌, ◌<◌, List, length, take, drop}
 use Rattle.domain_label.specs.Wire.{labels_in, IsAbsoluteWire}
 use Rattle.domain_compress.specs.Planned.{remembered_in_table, WritesPointer, WritesFlat}
-use Rattle.domain_buffer.specs.Plans.{IsTable, PutsName, HasNoRoom, more_of_table}
+use Rattle.domain_buffer.specs.Plans.{IsTable, PutsName, NameDoesNotFit, more_of_table}
 
 -- The name is to be written with a pointer (0) or without one (17); or the table is no table (16), or the name is no
 -- absolute name (9). With any number but 0 nothing changed.
@@ -36,7 +36,7 @@ RefusesName o len table count name status =
     ⊎ ((status ≡ 9) × (len ≤ length o) × (count ≤ length table) × IsTable (take count table)
     × (IsAbsoluteWire name → ⊥))
     ⊎ ((status ≡ 8) × (len ≤ length o) × (count ≤ length table) × IsTable (take count table)
-    × IsAbsoluteWire name × HasNoRoom o len (take count table) name)
+    × IsAbsoluteWire name × NameDoesNotFit o len (take count table) name)
 
 -- The name was written (0); or it wasn't, and nothing changed.
 abbrev pub Appends : List ℕ → ℕ → List ℕ → ℕ → List ℕ → ℕ → List ℕ → ℕ → List ℕ → ℕ → Type 0

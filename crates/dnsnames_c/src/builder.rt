@@ -1,7 +1,7 @@
 //! Messages that are built in the caller's buffer (RFC 1035, 4.1).
 ghost use Rattle.std.specs.Prelude.{◌≡◌};
 ghost use Rattle.domain_buffer.specs.Builders.{headed};
-ghost use Rattle.dnsnames_c.specs.Builders.{section_of, opt_with, Begins, AsksFor, GivesInSection, GivesOpt, Cuts, Finishes};
+ghost use Rattle.dnsnames_c.specs.Builders.{section_of, opt_with, BeginsMessage, AsksFor, GivesInSection, GivesOpt, Cuts, Finishes};
 ghost use Rattle.dnsnames_c.specs.Status.{pushed_number};
 
 use domain_buffer::builder::{
@@ -24,7 +24,7 @@ pub extern "C" fn dnsnames_builder_start(
     id: u16,
     flags: u16,
 ) -> u32
-    ensures { Begins id flags result octets.old builder.old octets.new builder.new }
+    ensures { BeginsMessage id flags result octets.old builder.old octets.new builder.new }
 {
     let limit = octets.len().min(65_535);
     if limit < 12 {
@@ -139,11 +139,12 @@ pub extern "C" fn dnsnames_builder_record(
         return 9;
     };
     let head = Head { rtype, class, ttl };
-    let pushed = match named_data(rtype, data) {
-        Some(fields) => push_named(octets, builder, section, owner, head, fields),
-        None => push_record(octets, builder, section, owner, head, data),
-    };
-    number_of_push(pushed)
+    match named_data(rtype, data) {
+        Some(fields) => {
+            number_of_push(push_named(octets, builder, section, owner, head, fields))
+        }
+        None => number_of_push(push_record(octets, builder, section, owner, head, data)),
+    }
 }
 
 /// Pushes an OPT record into the additional section, or nothing (RFC 6891, 6.1): how many octets of a message over UDP its

@@ -1,6 +1,6 @@
 //! Names in messages.
 ghost use Rattle.std.specs.Prelude.{◌≡◌};
-ghost use Rattle.dnsnames_c.specs.Answers.{ReadsName, ReturnsEnd};
+ghost use Rattle.dnsnames_c.specs.Answers.{ReadsNameAt, ReturnsEnd};
 ghost use Rattle.dnsnames_c.specs.Status.{fault_number, bit_number};
 
 use crate::put::give;
@@ -44,7 +44,7 @@ pub extern "C" fn dnsnames_read(
     end: &mut usize,
     compressed: &mut u32,
 ) -> u32
-    ensures { ReadsName limit message.now offset result buffer.old buffer.new length.old length.new
+    ensures { ReadsNameAt limit message.now offset result buffer.old buffer.new length.old length.new
         end.old end.new compressed.old compressed.new }
 {
     let mut octets = [0; 255];

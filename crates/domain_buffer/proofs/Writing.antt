@@ -6,7 +6,7 @@ use Rattle.domain_label.proofs.WireLaws.{absolute_wire}
 use Rattle.domain_compress.specs.Compressing.{Compresses, pointer_to}
 use Rattle.domain_compress.specs.Planned.{remembered_in_table, WritesPointer, WritesFlat}
 use Rattle.domain_buffer.specs.Puts.{PutsAt}
-use Rattle.domain_buffer.specs.Plans.{Spells, PutsName, HasNoRoom}
+use Rattle.domain_buffer.specs.Plans.{Spells, PutsName, NameDoesNotFit}
 
 pub spells_pointer : (t table name : List ℕ) (begin offset : ℕ) (s : List ℕ) → WritesPointer t (remembered_in_table table) name begin offset → s ≡ take begin name ++ pointer_to offset → Spells t table name begin s
 spells_pointer t table name begin offset s w e = record {
@@ -37,7 +37,7 @@ writes_spelled o start table name begin s end o' w fits ends puts = record {
   puts = puts;
 }
 
-pub spelled_no_room : (o : List ℕ) (start : ℕ) (table name : List ℕ) (begin : ℕ) (s : List ℕ) → Spells (take start o) table name begin s → length o < start + length s → HasNoRoom o start table name
+pub spelled_no_room : (o : List ℕ) (start : ℕ) (table name : List ℕ) (begin : ℕ) (s : List ℕ) → Spells (take start o) table name begin s → length o < start + length s → NameDoesNotFit o start table name
 spelled_no_room o start table name begin s w long = record {
   labels = labels_in (take begin name);
   octets = s;

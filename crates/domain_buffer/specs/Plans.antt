@@ -32,7 +32,7 @@ pub record PutsName (o : List ℕ) (start : ℕ) (table name : List ℕ) (begin 
   pub puts : PutsAt start octets o o'
 
 -- What is to be written for the name after the first octets of o, up to start, ends past o.
-pub record HasNoRoom (o : List ℕ) (start : ℕ) (table name : List ℕ) : Type 0 where
+pub record NameDoesNotFit (o : List ℕ) (start : ℕ) (table name : List ℕ) : Type 0 where
   pub labels : List (List ℕ)
   pub octets : List ℕ
   pub compresses : Compresses (take start o) (remembered_in_table table)
@@ -50,7 +50,7 @@ WritesAs o start table name o' w = PutsName o start table name w.begin w.end o'
 
 -- It ends past the octets, and these are unchanged.
 abbrev pub NameExceedsRoom : (o : List ℕ) → (start : ℕ) → (table name o' : List ℕ) → Type 0
-NameExceedsRoom o start table name o' = HasNoRoom o start table name × (o' ≡ o)
+NameExceedsRoom o start table name o' = NameDoesNotFit o start table name × (o' ≡ o)
 
 -- The offsets of these labels, written from start on, came after the first count ones of the table, and so many are there.
 abbrev pub AddsOffsets : (count : ℕ) → (table : List ℕ) → (start : ℕ) → (labels : List ℕ) → (told : ℕ) → (table' : List ℕ) → Type 0
