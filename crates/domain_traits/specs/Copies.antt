@@ -1,4 +1,4 @@
--- What contracts say of names that are made of another name, and of two names.
+-- What contracts say of names that are made of another name.
 use Rattle.std.specs.Prelude.{◌≡◌, ℕ, List}
 use Rattle.std.specs.Cow.{IsBorrowedSlice}
 use Rattle.std.specs.declared.borrow.CowSlice.{CowSlice}
@@ -23,7 +23,3 @@ BorrowsOctets name = IsBorrowedSlice (name_holder name)
 -- The same of a relative name.
 abbrev pub BorrowsRelativeOctets : {X Z : Type 0} {g : Ghosts (CowSlice X Z)} → RelativeName (CowSlice X Z) g → Type 0
 BorrowsRelativeOctets name = IsBorrowedSlice (relative_holder name)
-
--- The labels are the same ignoring ASCII case (RFC 4343).
-abbrev pub EqualIgnoringCase : List (List ℕ) → List (List ℕ) → Type 0
-EqualIgnoringCase xs ys = lowercase_labels xs ≡ lowercase_labels ys

@@ -1,12 +1,13 @@
 //! The calls of relative names.
 ghost use Rattle.std.specs.Prelude.{◌≡◌, [], ◌<◌, ◌≤◌, ◌++◌, ◌↔◌, length, IsTrue, IsErr, IfOk, IfSome, IsOkAnd, OnOk, OnErr};
+ghost use Rattle.domain_label.specs.Lowercase.{lowercase_labels};
 ghost use Rattle.domain_label.specs.Wire.{wire, Root};
 ghost use Rattle.domain_list.specs.ChainParts.{left_part, right_part};
 ghost use Rattle.domain_list.specs.Chains.{before_root};
-ghost use Rattle.domain_list.specs.Order.{canonical_order};
+ghost use Rattle.domain_list.specs.Order.{SameLabels, canonical_order};
+ghost use Rattle.domain_list.specs.Targets.{NameFollows, NameLacksRoom, LowercaseFollows, LowercaseLacksRoom};
 ghost use Rattle.domain_name.specs.Names.{name_labels, relative_labels, WireMayExceed, IsChainOf};
-ghost use Rattle.domain_traits.specs.Composing.{canonical_wire, Adds, AddsForm, WireExceeds, FormExceeds};
-ghost use Rattle.domain_traits.specs.Copies.{IsRelativeCanonicalOf, BorrowsRelativeOctets, EqualIgnoringCase};
+ghost use Rattle.domain_traits.specs.Copies.{IsRelativeCanonicalOf, BorrowsRelativeOctets};
 
 use crate::building::{lend_or_build, relative_name_of};
 use domain_list::comparing::{eq_names, order_names};
@@ -124,12 +125,14 @@ pub trait ToRelativeName<'a>: RelativeLabels<'a> {
         &'a self,
         target: &mut Target,
     ) -> Result<(), Target::AppendError>
-        ensures ok { OnOk result (Adds Target.Octets Self.labels self.now target.old target.new) }
+        ensures ok { OnOk result
+            (NameFollows Target.Octets (Self.labels self.now) target.old target.new) }
         ensures extends { OnOk result
             (Target.extends target.old (wire (Self.labels self.now)) target.new) }
         ensures unchanged { OnErr result (Target.octets target.new ≡ Target.octets target.old) }
         ensures nothing { OnErr result (Target.extends target.old [] target.new) }
-        ensures full { OnErr result (WireExceeds Target.Octets Self.labels self.now target.old) }
+        ensures full { OnErr result
+            (NameLacksRoom Target.Octets (Self.labels self.now) target.old) }
         ensures capacity { Target.capacity target.old ≤ Target.capacity target.new }
         ensures within { IfSome Target.limit (λ n. length (Target.octets target.new) ≤ n) }
         ensures fixed { IfSome Target.limit (λ n. Target.capacity target.old ≡ n) }
@@ -145,12 +148,13 @@ pub trait ToRelativeName<'a>: RelativeLabels<'a> {
         target: &mut Target,
     ) -> Result<(), Target::AppendError>
         ensures ok { OnOk result
-            (AddsForm Target.Octets Self.labels self.now target.old target.new) }
+            (LowercaseFollows Target.Octets (Self.labels self.now) target.old target.new) }
         ensures extends { OnOk result
-            (Target.extends target.old (canonical_wire (Self.labels self.now)) target.new) }
+            (Target.extends target.old (wire (lowercase_labels (Self.labels self.now))) target.new) }
         ensures unchanged { OnErr result (Target.octets target.new ≡ Target.octets target.old) }
         ensures nothing { OnErr result (Target.extends target.old [] target.new) }
-        ensures full { OnErr result (FormExceeds Target.Octets Self.labels self.now target.old) }
+        ensures full { OnErr result
+            (LowercaseLacksRoom Target.Octets (Self.labels self.now) target.old) }
         ensures capacity { Target.capacity target.old ≤ Target.capacity target.new }
         ensures within { IfSome Target.limit (λ n. length (Target.octets target.new) ≤ n) }
         ensures fixed { IfSome Target.limit (λ n. Target.capacity target.old ≡ n) }
@@ -194,7 +198,7 @@ pub trait ToRelativeName<'a>: RelativeLabels<'a> {
 
     /// Whether the labels are the same ignoring ASCII case (RFC 4343).
     final fn name_eq<N: RelativeLabels<'a>>(&'a self, other: &'a N) -> bool
-        ensures { IsTrue result ↔ EqualIgnoringCase (Self.labels self.now) (N.labels other.now) }
+        ensures { IsTrue result ↔ SameLabels (Self.labels self.now) (N.labels other.now) }
     {
         eq_names(self, other)
     }
