@@ -30,6 +30,7 @@ pub use Rattle.domain_builder.specs.BuilderState
 pub use Rattle.domain_builder.specs.TextGrammar
 pub use Rattle.domain_builder.specs.ErrorText
 pub use Rattle.domain_builder.specs.Pushing
+pub use Rattle.domain_builder.specs.Calls
 pub use Rattle.domain_flat.specs.Flat
 pub use Rattle.domain_flat.specs.Starts
 pub use Rattle.domain_flat.specs.Faults as FlatFaults

@@ -147,7 +147,7 @@ impl<B: OctetsBuilder + OctetsMut + Drop> NameBuilder<B> {
 }
 
 impl<B: OctetsBuilder + OctetsMut> NameBuilder<B> {
-    ghost use Rattle.domain_name.specs.Builders.{AnswersPush, AnswersSlice, AnswersLabel, AnswersDigits, AnswersName};
+    ghost use Rattle.domain_builder.specs.Calls.{AnswersOctet, AnswersOctets, AnswersLabel, AnswersShortLabel, AnswersName};
 
     /// A builder of the labels whose wire format the octets are known to be.
     pub(crate) fn from_wire(builder: B) -> Self
@@ -204,7 +204,7 @@ impl<B: OctetsBuilder + OctetsMut> NameBuilder<B> {
     pub fn push(&mut self, ch: u8) -> Result<(), PushError>
         ensures made { OnOk result (built self.new ≡ pushed (built self.old) (ch ∷ [])) }
         ensures unchanged { OnErr result (built self.new ≡ built self.old) }
-        ensures answer { AnswersPush B.limit (ch ∷ []) self.old self.new result }
+        ensures answer { AnswersOctet B.limit ch (held self.old) result (held self.new) }
         ensures grows { (held self.old).capacity ≤ (held self.new).capacity }
     {
         self.labels.push(ch)
@@ -218,7 +218,7 @@ impl<B: OctetsBuilder + OctetsMut> NameBuilder<B> {
     pub fn append_slice(&mut self, slice: &[u8]) -> Result<(), PushError>
         ensures made { OnOk result (built self.new ≡ pushed (built self.old) slice.now) }
         ensures unchanged { OnErr result (built self.new ≡ built self.old) }
-        ensures answer { AnswersSlice B.limit slice.now self.old self.new result }
+        ensures answer { AnswersOctets B.limit slice.now (held self.old) result (held self.new) }
         ensures grows { (held self.old).capacity ≤ (held self.new).capacity }
         ensures nothing { slice.now ≡ [] → IsOk result }
     {
@@ -242,7 +242,7 @@ impl<B: OctetsBuilder + OctetsMut> NameBuilder<B> {
     pub fn append_label(&mut self, label: &[u8]) -> Result<(), PushError>
         ensures made { OnOk result (built self.new ≡ labelled (built self.old) label.now) }
         ensures unchanged { OnErr result (built self.new ≡ built self.old) }
-        ensures answer { AnswersLabel B.limit label.now self.old self.new result }
+        ensures answer { AnswersLabel B.limit label.now (held self.old) result (held self.new) }
         ensures grows { (held self.old).capacity ≤ (held self.new).capacity }
         ensures nothing { label.now ≡ [] → IsOk result }
     {
@@ -255,7 +255,8 @@ impl<B: OctetsBuilder + OctetsMut> NameBuilder<B> {
     pub fn append_dec_u8_label(&mut self, value: u8) -> Result<(), PushError>
         ensures made { OnOk result (built self.new ≡ labelled (built self.old) (decimal value)) }
         ensures unchanged { OnErr result (built self.new ≡ built self.old) }
-        ensures answer { AnswersDigits B.limit (decimal value) self.old self.new result }
+        ensures answer { AnswersShortLabel B.limit (decimal value) (held self.old) result
+            (held self.new) }
         ensures grows { (held self.old).capacity ≤ (held self.new).capacity }
     {
         self.labels.append_dec_u8_label(value)
@@ -268,7 +269,8 @@ impl<B: OctetsBuilder + OctetsMut> NameBuilder<B> {
     pub fn append_hex_digit_label(&mut self, nibble: u8) -> Result<(), PushError>
         ensures made { OnOk result (built self.new ≡ labelled (built self.old) (hex_label nibble)) }
         ensures unchanged { OnErr result (built self.new ≡ built self.old) }
-        ensures answer { AnswersDigits B.limit (hex_label nibble) self.old self.new result }
+        ensures answer { AnswersShortLabel B.limit (hex_label nibble) (held self.old) result
+            (held self.new) }
         ensures grows { (held self.old).capacity ≤ (held self.new).capacity }
     {
         self.labels.append_hex_digit_label(nibble)
@@ -283,7 +285,8 @@ impl<B: OctetsBuilder + OctetsMut> NameBuilder<B> {
     ) -> Result<(), PushNameError>
         ensures made { OnOk result (built self.new ≡ named (built self.old) (N.labels name.now)) }
         ensures unchanged { OnErr result (built self.new ≡ built self.old) }
-        ensures answer { AnswersName B.limit (N.labels name.now) self.old self.new result }
+        ensures answer { AnswersName B.limit (N.labels name.now) (held self.old) result
+            (held self.new) }
         ensures grows { (held self.old).capacity ≤ (held self.new).capacity }
     {
         self.labels.append_name(name)
@@ -294,7 +297,8 @@ impl<B: OctetsBuilder + OctetsMut> NameBuilder<B> {
         ensures made { OnOk result
             (built self.new ≡ named (built self.old) (relative_labels name.entry)) }
         ensures unchanged { OnErr result (built self.new ≡ built self.old) }
-        ensures answer { AnswersName B.limit (relative_labels name.entry) self.old self.new result }
+        ensures answer { AnswersName B.limit (relative_labels name.entry) (held self.old) result
+            (held self.new) }
         ensures grows { (held self.old).capacity ≤ (held self.new).capacity }
     {
         self.labels.append_wire(name.as_slice())
@@ -304,7 +308,9 @@ impl<B: OctetsBuilder + OctetsMut> NameBuilder<B> {
 impl<B: OctetsBuilder + OctetsMut> NameBuilder<B> {
     ghost use Rattle.std.specs.Iterator.{IsFinite};
     ghost use Rattle.std.specs.Str.{chars};
-    ghost use Rattle.domain_name.specs.Builders.{PushesSymbol, PushesSymbols, PushesChars, PushesText};
+    ghost use Rattle.domain_builder.specs.Calls.{AddsText, AddsChars, AddsEach};
+    ghost use Rattle.domain_builder.specs.NameSymbols.{symbol_in_name};
+    ghost use Rattle.domain_builder.specs.Pushing.{AddsSymbol};
 
     /// Adds what a symbol of a text stands for (RFC 1035, 5.1): a plain dot ends the open label, and any other
     /// symbol is pushed as its octet.
@@ -312,7 +318,8 @@ impl<B: OctetsBuilder + OctetsMut> NameBuilder<B> {
     /// `EmptyLabel` at a dot where no label is open, and a dot elsewhere never fails; `BinaryLabel` at `\[` where
     /// none is open; `BadSymbol` at a character that stands for no octet; else the errors of `push`.
     pub fn push_symbol(&mut self, symbol: Symbol) -> Result<(), FromStrError>
-        ensures takes { PushesSymbol B.limit symbol self.old self.new result }
+        ensures takes { AddsSymbol B.limit (held self.old) (symbol_in_name symbol) result
+            (held self.new) }
         ensures grows { (held self.old).capacity ≤ (held self.new).capacity }
     {
         self.labels.push_symbol(symbol)
@@ -327,7 +334,8 @@ impl<B: OctetsBuilder + OctetsMut> NameBuilder<B> {
     ) -> Result<(), FromStrError>
         requires can { I.can_next symbols }
         requires ends { IsFinite (I.remaining symbols) }
-        ensures takes { PushesSymbols B.limit I.next_gives symbols self.old self.new result }
+        ensures takes { AddsEach B.limit I.next_gives symbols (held self.old) result
+            (held self.new) }
         ensures grows { (held self.old).capacity ≤ (held self.new).capacity }
     {
         self.labels.append_symbols(symbols)
@@ -343,7 +351,8 @@ impl<B: OctetsBuilder + OctetsMut> NameBuilder<B> {
     ) -> Result<(), FromStrError>
         requires can { I.can_next chars }
         requires ends { IsFinite (I.remaining chars) }
-        ensures takes { PushesChars B.limit I.next_gives chars self.old self.new result }
+        ensures takes { AddsChars B.limit I.next_gives chars (held self.old) result
+            (held self.new) }
         ensures grows { (held self.old).capacity ≤ (held self.new).capacity }
     {
         self.labels.append_chars(chars)
@@ -351,7 +360,7 @@ impl<B: OctetsBuilder + OctetsMut> NameBuilder<B> {
 
     /// Pushes the symbols of a text in turn, as `append_chars` does those of its characters.
     pub(crate) fn append_str(&mut self, text: &str) -> Result<(), FromStrError>
-        ensures takes { PushesText B.limit (chars text.now) self.old self.new result }
+        ensures takes { AddsText B.limit (chars text.now) (held self.old) result (held self.new) }
         ensures grows { (held self.old).capacity ≤ (held self.new).capacity }
     {
         self.labels.append_str(text)
@@ -362,8 +371,9 @@ impl<B: OctetsBuilder + OctetsMut + FreezeBuilder + Drop> NameBuilder<B>
 where
     B::Octets: Drop,
 {
+    ghost use Rattle.domain_flat.specs.Flat.{wire_len};
+    ghost use Rattle.domain_builder.specs.Calls.{AnswersOrigin};
     ghost use Rattle.domain_builder.specs.Pushing.{RoomAlone};
-    ghost use Rattle.domain_name.specs.Builders.{AnswersOrigin};
 
     /// Finishes the open label and returns the labels as a relative name. It can't fail.
     #[inline(always)]
@@ -403,7 +413,7 @@ where
     ) -> Result<Name<B::Octets>, PushNameError>
         ensures ok { IfOk result
             (λ name. name_labels name ≡ closed (built self) ++ N.labels origin.now) }
-        ensures answer { AnswersOrigin B.limit (N.labels origin.now) self result }
+        ensures answer { AnswersOrigin B.limit (wire_len (N.labels origin.now)) (held self) result }
     {
         let NameBuilder { labels } = self;
         match labels.append_origin(origin) {
