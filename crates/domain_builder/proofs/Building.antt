@@ -5,7 +5,7 @@ use Rattle.std.proofs.lemmas.Grind.{common_steps}
 use Rattle.domain_label.specs.Wire.{wire, labels_in, IsRelative, IsRelativeName, IsAbsoluteName, IsAbsoluteWire, IsRelativeWire, Root}
 use Rattle.domain_label.proofs.WireLaws.{labels_in_wire, wire_absolute, wire_relative, wire_append, relative_then_absolute, relative_then_relative}
 use Rattle.domain_text.specs.BuilderState.{BuilderState, encoded, encoded_label, closed_with, closed, size, pushed, ended, labelled, named}
-use Rattle.domain_builder.specs.Inside.{Held, room, view_of, head_of, closed_at, IsInside}
+use Rattle.domain_builder.specs.Inside.{Held, room, view_of, open_head, closed_at, IsInside}
 
 length-cons-pos : (c : ℕ) (cs : List ℕ) → 0 < length (c ∷ cs)
 length-cons-pos c cs = omega arith
@@ -27,10 +27,10 @@ after s x t =
     all_before u t = grind (arith, common_steps)
 
 -- the view of the octets and the offset that labels make is those labels
-pub view-shown : (b : BuilderState) → view_of (encoded b) (head_of b) ≡ b
+pub view-shown : (b : BuilderState) → view_of (encoded b) (open_head b) ≡ b
 view-shown b = parts b.labels b.open_label
   where
-    parts : (ls : List (List ℕ)) (o : List ℕ) → view_of (encoded (record { labels = ls; open_label = o })) (head_of (record { labels = ls; open_label = o })) ≡ record { labels = ls; open_label = o }
+    parts : (ls : List (List ℕ)) (o : List ℕ) → view_of (encoded (record { labels = ls; open_label = o })) (open_head (record { labels = ls; open_label = o })) ≡ record { labels = ls; open_label = o }
     parts ls [] = rw (append-nil (wire ls), labels_in_wire ls) refl
     parts ls (c ∷ cs) =
         let front : take (length (wire ls)) (wire ls ++ 0 ∷ c ∷ cs) ≡ wire ls = grind (arith, common_steps) in
@@ -38,7 +38,7 @@ view-shown b = parts b.labels b.open_label
         rw (front, back, labels_in_wire ls) refl
 
 -- the octets and the offset that labels make are those of a builder
-pub inside_shown : (b : BuilderState) → IsRelative b.labels → length b.open_label ≤ 63 → size b ≤ 254 → IsInside (encoded b) (head_of b)
+pub inside_shown : (b : BuilderState) → IsRelative b.labels → length b.open_label ≤ 63 → size b ≤ 254 → IsInside (encoded b) (open_head b)
 inside_shown b ok short small =
     let e = view-shown b in
     record {
@@ -70,7 +70,7 @@ nothing_pushed b [] h = ap (λ (o : List ℕ). record { labels = b.labels; open_
 nothing_pushed b (x ∷ xs) h = absurd (omega arith)
 
 -- octets and an offset that are those of labels within the limits
-pub becomes : (b : BuilderState) (s : List ℕ) (h : Option ℕ) → s ≡ encoded b → h ≡ head_of b → IsRelative b.labels → length b.open_label ≤ 63 → size b ≤ 254 → IsInside s h × (view_of s h ≡ b)
+pub becomes : (b : BuilderState) (s : List ℕ) (h : Option ℕ) → s ≡ encoded b → h ≡ open_head b → IsRelative b.labels → length b.open_label ≤ 63 → size b ≤ 254 → IsInside s h × (view_of s h ≡ b)
 becomes b s h es eh ok short small = rw (es, eh) (inside_shown b ok short small, view-shown b)
 
 -- the same octets
@@ -84,7 +84,7 @@ more_open s t x h i e short small =
     let p = parts b.labels b.open_label i.head in
     becomes (pushed b x) t (Some h) (e ∙ ap (λ (u : List ℕ). u ++ x) i.octets ∙ p.0) p.1 i.labels short small
   where
-    parts : (ls : List (List ℕ)) (o : List ℕ) → Some h ≡ head_of (record { labels = ls; open_label = o }) → ((wire ls ++ encoded_label o) ++ x ≡ wire ls ++ encoded_label (o ++ x)) × (Some h ≡ head_of (record { labels = ls; open_label = o ++ x }))
+    parts : (ls : List (List ℕ)) (o : List ℕ) → Some h ≡ open_head (record { labels = ls; open_label = o }) → ((wire ls ++ encoded_label o) ++ x ≡ wire ls ++ encoded_label (o ++ x)) × (Some h ≡ open_head (record { labels = ls; open_label = o ++ x }))
     parts ls [] e = absurd (cc)
     parts ls (c ∷ cs) e = (append_assoc (wire ls) (0 ∷ c ∷ cs) x, e)
 
@@ -96,7 +96,7 @@ more_new s t x i e some short small =
     let whole : s ≡ wire b.labels = i.octets ∙ append-nil (wire b.labels) in
     becomes (pushed b x) t (Some (length s)) (e ∙ ap (λ (u : List ℕ). u ++ 0 ∷ x) whole ∙ p.0) (ap (λ (u : List ℕ). Some (length u)) whole ∙ p.1) i.labels short small
   where
-    parts : (ls : List (List ℕ)) (x : List ℕ) → 0 < length x → (wire ls ++ 0 ∷ x ≡ wire ls ++ encoded_label x) × (Some (length (wire ls)) ≡ head_of (record { labels = ls; open_label = x }))
+    parts : (ls : List (List ℕ)) (x : List ℕ) → 0 < length x → (wire ls ++ 0 ∷ x ≡ wire ls ++ encoded_label x) × (Some (length (wire ls)) ≡ open_head (record { labels = ls; open_label = x }))
     parts ls [] p = absurd (omega arith)
     parts ls (y ∷ ys) p = (refl, refl)
 
@@ -122,7 +122,7 @@ pub size_open : (s x : List ℕ) (h : Option ℕ) (b : BuilderState) → view_of
 size_open s x None b v i o = absurd (cc)
 size_open s x (Some h) b v i o = rw (← v) (size_shown (pushed (view_of s (Some h)) x) ∙ sym (ap length (parts (view_of s (Some h)).labels (view_of s (Some h)).open_label i.head)) ∙ rw (← i.octets) (length-append s x))
   where
-    parts : (ls : List (List ℕ)) (o : List ℕ) → Some h ≡ head_of (record { labels = ls; open_label = o }) → (wire ls ++ encoded_label o) ++ x ≡ wire ls ++ encoded_label (o ++ x)
+    parts : (ls : List (List ℕ)) (o : List ℕ) → Some h ≡ open_head (record { labels = ls; open_label = o }) → (wire ls ++ encoded_label o) ++ x ≡ wire ls ++ encoded_label (o ++ x)
     parts ls [] e = absurd (cc)
     parts ls (c ∷ cs) e = append_assoc (wire ls) (0 ∷ c ∷ cs) x
 
@@ -161,7 +161,7 @@ set_closes ls c cs u =
 pub open_octets : (s u : List ℕ) (h : ℕ) (b : BuilderState) → view_of s (Some h) ≡ b → IsInside s (Some h) → set (s ++ u) h (length s - h - 1) ≡ wire (closed b) ++ u
 open_octets s u h b v i = subst (λ (w : BuilderState). set (s ++ u) h (length s - h - 1) ≡ wire (closed w) ++ u) v (parts (view_of s (Some h)).labels (view_of s (Some h)).open_label i.octets i.head)
   where
-    parts : (ls : List (List ℕ)) (o : List ℕ) → s ≡ wire ls ++ encoded_label o → Some h ≡ head_of (record { labels = ls; open_label = o }) → set (s ++ u) h (length s - h - 1) ≡ wire (closed_with ls o) ++ u
+    parts : (ls : List (List ℕ)) (o : List ℕ) → s ≡ wire ls ++ encoded_label o → Some h ≡ open_head (record { labels = ls; open_label = o }) → set (s ++ u) h (length s - h - 1) ≡ wire (closed_with ls o) ++ u
     parts ls [] e eh = absurd (cc)
     parts ls (c ∷ cs) e eh =
         let offset : h ≡ length (wire ls) = cc in
@@ -218,7 +218,7 @@ pub open_fits : (s n : List ℕ) (h : Option ℕ) → n ≡ s → IsInside s h �
 open_fits s n None e i = tt
 open_fits s n (Some h) e i = rw e (fits (view_of s (Some h)).labels (view_of s (Some h)).open_label i.octets i.head i.label_short)
   where
-    fits : (ls : List (List ℕ)) (o : List ℕ) → s ≡ wire ls ++ encoded_label o → Some h ≡ head_of (record { labels = ls; open_label = o }) → length o ≤ 63 → (h < length s) × (length s ≤ h + 64)
+    fits : (ls : List (List ℕ)) (o : List ℕ) → s ≡ wire ls ++ encoded_label o → Some h ≡ open_head (record { labels = ls; open_label = o }) → length o ≤ 63 → (h < length s) × (length s ≤ h + 64)
     fits ls [] e eh short = absurd (cc)
     fits ls (c ∷ cs) e eh short = let size : length s ≡ length (wire ls) + length (0 ∷ c ∷ cs) = ap length e ∙ length-append (wire ls) (0 ∷ c ∷ cs) in grind (arith, common_steps)
 

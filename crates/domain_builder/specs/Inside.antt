@@ -19,8 +19,8 @@ view_of s None = record { labels = labels_in s; open_label = [] }
 view_of s (Some h) = record { labels = labels_in (take h s); open_label = drop (h + 1) s }
 
 -- The offset of the open label's length octet.
-abbrev pub head_of : BuilderState → Option ℕ
-head_of b = offset (length (wire b.labels)) b.open_label
+abbrev pub open_head : BuilderState → Option ℕ
+open_head b = offset (length (wire b.labels)) b.open_label
   where
     offset : ℕ → List ℕ → Option ℕ
     offset h [] = None
@@ -34,7 +34,7 @@ closed_at s (Some h) n = slice_set s h (n - h - 1)
 -- The octets are those of the labels.
 pub record IsInside (s : List ℕ) (h : Option ℕ) : Type 0 where
   pub octets : s ≡ encoded (view_of s h)
-  pub head : h ≡ head_of (view_of s h)
+  pub head : h ≡ open_head (view_of s h)
   pub labels : IsRelative (view_of s h).labels
   pub label_short : length (view_of s h).open_label ≤ 63
   pub name_short : length s ≤ 254

@@ -49,10 +49,10 @@ abbrev pub padding : ℕ → List ℕ
 padding len = replicate (7 - len % 8) 0 ++ (len % 256) ∷ []
 
 -- the state after the first n words of the octets
-abbrev pub after : State → List ℕ → ℕ → State
-after s octets zero = s
-after s octets (suc n) = sip_absorb (after s octets n) (word octets (8 * n))
+abbrev pub after_words : State → List ℕ → ℕ → State
+after_words s octets zero = s
+after_words s octets (suc n) = sip_absorb (after_words s octets n) (word octets (8 * n))
 
 -- the hash of octets under a key
 abbrev pub siphash : List ℕ → List ℕ → ℕ
-siphash key octets = sip_finish (after (sip_start (word key 0) (word key 8)) (octets ++ padding (length octets)) (length octets / 8 + 1))
+siphash key octets = sip_finish (after_words (sip_start (word key 0) (word key 8)) (octets ++ padding (length octets)) (length octets / 8 + 1))

@@ -19,8 +19,8 @@ pub record IsBuffer (octets : List ℕ) (head : ℕ) (open_len : ℕ) : Type 0 w
   pub open_fits : 0 < open_len → head + open_len ≤ 253
 
 -- What lies in a buffer whose labels end there.
-abbrev pub held : List ℕ → Ends → BuilderState
-held octets ends = buffer_view octets ends.head ends.open_len
+abbrev pub buffer_state : List ℕ → Ends → BuilderState
+buffer_state octets ends = buffer_view octets ends.head ends.open_len
 
 -- They end there.
 abbrev pub IsHeld : List ℕ → Ends → Type 0

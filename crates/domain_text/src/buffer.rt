@@ -5,7 +5,7 @@ ghost use Rattle.domain_label.specs.Wire.{wire, IsAbsoluteName, IsRelativeName};
 ghost use Rattle.domain_text.specs.Plain.{IsPlainText};
 ghost use Rattle.domain_text.specs.BuilderState.{empty_state, closed, rooted, size, with_octet, ended, too_long, symbol_fault, after};
 ghost use Rattle.domain_text.specs.BuilderState.{TakesParts, ReadsParts};
-ghost use Rattle.domain_text.specs.Buffer.{held, IsHeld};
+ghost use Rattle.domain_text.specs.Buffer.{buffer_state, IsHeld};
 ghost use Rattle.domain_text.specs.NameSymbols.{IfParts, IfYieldsParts};
 
 use crate::name_symbol::{NameSymbol, TextFault, name_symbol_of};
@@ -33,11 +33,11 @@ pub(crate) struct NameBuffer {
 
 impl Model for NameBuffer {
     ghost use Rattle.domain_text.specs.BuilderState.{BuilderState};
-    ghost use Rattle.domain_text.specs.Buffer.{held, IsHeld};
+    ghost use Rattle.domain_text.specs.Buffer.{buffer_state, IsHeld};
 
     ghost Value = { BuilderState };
 
-    ghost view = { λ s. held s.octets s.ends };
+    ghost view = { λ s. buffer_state s.octets s.ends };
 
     ghost invariant = { λ s. IsHeld s.octets s.ends };
 }
@@ -47,12 +47,12 @@ impl Model for NameBuffer {
 fn push(octets: &mut [u8; 255], ends: &mut Ends, c: u8) -> Result<(), TextFault>
     requires inside { IsHeld octets.old ends.old }
     ensures inside { IsHeld octets.new ends.new }
-    ensures taken { OnOk result (too_long (with_octet (held octets.old ends.old) c) ≡ None) }
+    ensures taken { OnOk result (too_long (with_octet (buffer_state octets.old ends.old) c) ≡ None) }
     ensures made { OnOk result
-        (held octets.new ends.new ≡ with_octet (held octets.old ends.old) c) }
+        (buffer_state octets.new ends.new ≡ with_octet (buffer_state octets.old ends.old) c) }
     ensures err { IfErr result
-        (λ f. too_long (with_octet (held octets.old ends.old) c) ≡ Some f) }
-    ensures unchanged { OnErr result (held octets.new ends.new ≡ held octets.old ends.old) }
+        (λ f. too_long (with_octet (buffer_state octets.old ends.old) c) ≡ Some f) }
+    ensures unchanged { OnErr result (buffer_state octets.new ends.new ≡ buffer_state octets.old ends.old) }
 {
     if ends.head + ends.open_len > 252 {
         return Err(TextFault::LongName);
@@ -70,7 +70,7 @@ fn push(octets: &mut [u8; 255], ends: &mut Ends, c: u8) -> Result<(), TextFault>
 fn end_open(octets: &mut [u8; 255], ends: &mut Ends)
     requires inside { IsHeld octets.old ends.old }
     ensures inside { IsHeld octets.new ends.new }
-    ensures made { held octets.new ends.new ≡ ended (held octets.old ends.old) }
+    ensures made { buffer_state octets.new ends.new ≡ ended (buffer_state octets.old ends.old) }
 {
     if ends.open_len > 0 {
         octets[ends.head] = ends.open_len as u8;
@@ -84,10 +84,10 @@ fn end_open(octets: &mut [u8; 255], ends: &mut Ends)
 fn add_symbol(octets: &mut [u8; 255], ends: &mut Ends, part: NameSymbol) -> Result<(), TextFault>
     requires inside { IsHeld octets.old ends.old }
     ensures inside { IsHeld octets.new ends.new }
-    ensures taken { OnOk result (symbol_fault (held octets.old ends.old) part ≡ None) }
-    ensures made { OnOk result (held octets.new ends.new ≡ after (held octets.old ends.old) part) }
-    ensures err { IfErr result (λ f. symbol_fault (held octets.old ends.old) part ≡ Some f) }
-    ensures unchanged { OnErr result (held octets.new ends.new ≡ held octets.old ends.old) }
+    ensures taken { OnOk result (symbol_fault (buffer_state octets.old ends.old) part ≡ None) }
+    ensures made { OnOk result (buffer_state octets.new ends.new ≡ after (buffer_state octets.old ends.old) part) }
+    ensures err { IfErr result (λ f. symbol_fault (buffer_state octets.old ends.old) part ≡ Some f) }
+    ensures unchanged { OnErr result (buffer_state octets.new ends.new ≡ buffer_state octets.old ends.old) }
 {
     match part {
         NameSymbol::Octet(c) => push(octets, ends, c),
@@ -115,7 +115,7 @@ fn end_plain(octets: &mut [u8; 255], text: &[u8]) -> Result<Ends, TextFault>
     requires plain { IsPlainText text.now }
     requires there { take (length text.now) (drop 1 octets.old) ≡ text.now }
     ensures inside { IfOk result (IsHeld octets.new) }
-    ensures read { IfParts text.now (λ ps. ReadsParts (held octets.new) ps result) }
+    ensures read { IfParts text.now (λ ps. ReadsParts (buffer_state octets.new) ps result) }
 {
     let mut head = 0;
     for i in 0..text.len() {
@@ -149,7 +149,7 @@ fn add_symbols<I: Iterator<Item = Result<Symbol, SymbolCharsError>> + Drop>(
     requires ends { IsFinite (I.remaining items) }
     ensures inside { IsHeld octets.new ends.new }
     ensures read { IfYieldsParts I.next_gives items
-        (λ ps. TakesParts (held octets.old ends.old) ps result (held octets.new ends.new)) }
+        (λ ps. TakesParts (buffer_state octets.old ends.old) ps result (buffer_state octets.new ends.new)) }
 {
     for item in items {
         add_symbol(octets, ends, name_symbol_of(item))?;

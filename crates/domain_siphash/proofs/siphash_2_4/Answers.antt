@@ -1,6 +1,6 @@
 use Rattle.std.proofs.Common.{◌≡◌, ℕ, suc, ◌+◌, ◌*◌, ◌/◌, ◌-◌, ◌≤◌, ◌++◌, length, drop, refl, ap, ◌∙◌, arith, length-drop}
 use Rattle.std.proofs.lemmas.List.{drop-drop, take_rest}
-use Rattle.domain_siphash.specs.SipHash.{after, padding, word, sip_start, sip_absorb, sip_finish}
+use Rattle.domain_siphash.specs.SipHash.{after_words, padding, word, sip_start, sip_absorb, sip_finish}
 use Rattle.domain_siphash.proofs.Padding.{word_inside, word_across}
 use Rattle.domain_siphash.proofs.siphash_2_4.Goals as goal
 
@@ -36,6 +36,6 @@ returns c =
     let words : suc n ≡ length os / 8 + 1 = omega (arith, ap length i.2, length-drop (8 * n) os, i.1, c.words-test.false) in
     let last : c.last_word.result ≡ word all (8 * n) = c.last_word.ensures ∙ ap (λ xs. word (xs ++ padding (length os)) 0) i.2 ∙ word_across os (padding (length os)) (8 * n) i.1 in
     let start : c.new-state.result ≡ sip_start (word key 0) (word key 8) = c.new-state.ensures ∙ ap (λ k. sip_start k c.word_at-2.result) c.word_at.ensures ∙ ap (sip_start (word key 0)) c.word_at-2.ensures in
-    let absorbed : c.absorb-2.new.self ≡ after c.new-state.result all (suc n) = c.absorb-2.ensures ∙ ap (sip_absorb c.words.state) last ∙ ap (λ s. sip_absorb s (word all (8 * n))) i.3 in
-    c.finish.ensures ∙ ap sip_finish absorbed ∙ ap (λ s. sip_finish (after s all (suc n))) start
-    ∙ ap (λ k. sip_finish (after (sip_start (word key 0) (word key 8)) all k)) words
+    let absorbed : c.absorb-2.new.self ≡ after_words c.new-state.result all (suc n) = c.absorb-2.ensures ∙ ap (sip_absorb c.words.state) last ∙ ap (λ s. sip_absorb s (word all (8 * n))) i.3 in
+    c.finish.ensures ∙ ap sip_finish absorbed ∙ ap (λ s. sip_finish (after_words s all (suc n))) start
+    ∙ ap (λ k. sip_finish (after_words (sip_start (word key 0) (word key 8)) all k)) words
