@@ -5,7 +5,7 @@ use Rattle.domain_label.specs.Wire.{wire, labels_in, IsAbsoluteWire}
 use Rattle.domain_reading.specs.Grammar.{Names, Encoding, IsContiguous}
 use Rattle.domain_reading.specs.Grammar.Stop.{root as stop_root}
 use Rattle.domain_reading.specs.Faults.{NameFaultAt}
-use Rattle.domain_reading.specs.ParseResult.{NameRead, Holds}
+use Rattle.domain_reading.specs.ParseResult.{NameRead, HoldsName}
 use Rattle.domain_reading.specs.Offsets.{labels_at_entries}
 use Rattle.domain_reading.specs.declared.fault.NameFault.{NameFault}
 use Rattle.domain_reading.specs.declared.progress.Progress.{Progress}
@@ -31,7 +31,7 @@ pub flat_no_fault : {o : List ℕ} {p : ℕ} {e : NameFault} → IsAbsoluteWire 
 flat_no_fault {o} {e = e} w z f = names_or_fault (flat_named o w) (subst (λ p. NameFaultAt 0 o p e) z f)
 
 pub record FlatRead (o : List ℕ) (w : Progress) (table : List ℕ) : Type 0 where
-  pub holds : Holds o w table
+  pub holds : HoldsName o w table
   pub same : labels_at_entries o w.base (slice_range table 0 w.count) ≡ labels_in o
   pub piece : w.compressed ≡ false
 

@@ -12,7 +12,7 @@ use Rattle.domain_wire.specs.Refusals.{refusal}
 use Rattle.domain_wire.specs.declared.error.ParseError.{ParseError}
 use Rattle.domain_reading.specs.Faults.{NameFaultAt, Skips, SkipFault, error_of}
 use Rattle.domain_reading.specs.Offsets.{labels_at_entries}
-use Rattle.domain_reading.specs.ParseResult.{NameRead, Holds, StandsUncompressed, CountsName, CountsFault}
+use Rattle.domain_reading.specs.ParseResult.{NameRead, HoldsName, StandsUncompressed, CountsName, CountsFault}
 use Rattle.domain_reading.specs.declared.fault.NameFault.{NameFault}
 use Rattle.domain_reading.specs.declared.progress.Progress.{Progress}
 use Rattle.domain_reading.proofs.Reading.{names_absolute, names_within, reads_once}
@@ -45,7 +45,7 @@ slice_more m u a b h = grind (arith, common_steps)
 
 -- what was read in the message stands in octets that go on after it
 pub record HeldAs (octets : List ℕ) (w : Progress) (table : List ℕ) (labels : List (List ℕ)) : Type 0 where
-  pub holds : Holds octets w table
+  pub holds : HoldsName octets w table
   pub same : labels_at_entries octets w.base (slice_range table 0 w.count) ≡ labels
 
 pub held_more : {n : ℕ} {m : List ℕ} {p : ℕ} {w : Progress} {t : List ℕ} {before now : ℕ} (u : List ℕ) → (r : NameRead n m p w t before now) → HeldAs (m ++ u) w t r.labels

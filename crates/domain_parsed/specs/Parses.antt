@@ -6,14 +6,14 @@ use Rattle.octseq.specs.Parsing.{slice_of, message, position}
 use Rattle.domain_wire.specs.Refusals.{refusal}
 use Rattle.domain_wire.specs.declared.error.ParseError.{ParseError}
 use Rattle.domain_label.specs.Wire.{wire}
-use Rattle.domain_reading.specs.Grammar.{Names, HasName, IsContiguous}
+use Rattle.domain_reading.specs.Grammar.{Names, HasNameWithin, IsContiguous}
 use Rattle.domain_reading.specs.ParseResult.{MovesPastName, IsErrorOfName, StandsUncompressed, CountsName, CountsFault}
 use Rattle.domain_parsed.specs.declared.parsed.ParsedName.{ParsedName}
 use Rattle.domain_parsed.specs.ParsedNames.{parsed_octets, parsed_labels, may_be_compressed}
 
 -- A name of at most so many pointers is at the parser's position.
 abbrev pub HasNameHere : (limit : ℕ) → Parser → Type 0
-HasNameHere limit parser = HasName limit (message parser) (position parser)
+HasNameHere limit parser = HasNameWithin limit (message parser) (position parser)
 
 -- It is this name.
 abbrev pub IsNameHere : {O : Type 0} {g : Ghosts O} → (limit : ℕ) → Parser → ParsedName O g → Type 0
@@ -59,7 +59,7 @@ pub record GivesName {O E : Type 0} {g : Ghosts O} (limit : ℕ) (old new : Pars
 
 -- What `ParsedName::parse` promises, clause by clause, where at most `limit` pointers are followed.
 pub record ParsesName {O : Type 0} {g : Ghosts O} (limit : ℕ) (old new : Parser) (result : Result (ParsedName O g) ParseError) : Type 0 where
-  pub exact : IsOk result ↔ HasName limit (message old) (position old)
+  pub exact : IsOk result ↔ HasNameWithin limit (message old) (position old)
   pub labels : IfOk result (λ name. Names limit (message old) (position old) (parsed_labels name))
   pub octets : IfOk result (λ name. parsed_octets name ≡ slice_of old)
   pub is_compressed : IfOk result (TellsCompression old)

@@ -6,25 +6,21 @@ use mathlib.Core.Option.{none}
 use Rattle.octseq.specs.declared.octets.Octets.{Ghosts}
 use Rattle.domain_label.specs.Wire.{wire, Root, IsRelativeName}
 use Rattle.domain_name.specs.declared.relative.RelativeName.{RelativeName}
-use Rattle.domain_name.specs.Names.{relative_labels}
+use Rattle.domain_name.specs.Names.{relative_labels, IsParent}
 use Rattle.domain_parsed.specs.declared.parsed.ParsedName.{ParsedName}
 use Rattle.domain_parsed.specs.ParsedNames.{parsed_octets, parsed_labels, may_be_compressed}
 
--- The name new is old without its first label.
-abbrev pub IsParent : {O : Type 0} {g : Ghosts O} → ParsedName O g → ParsedName O g → Type 0
-IsParent old new = (label : List ℕ) × (parsed_labels old ≡ label ∷ parsed_labels new)
-
 -- Where `told` is true, the name new is old without its first label; else old is the root, and new is old.
 abbrev pub TellsParent : {O : Type 0} {g : Ghosts O} → Bool → ParsedName O g → ParsedName O g → Type 0
-TellsParent told old new = MatchBool told (IsParent old new) ((new ≡ old) × (parsed_labels old ≡ Root))
+TellsParent told old new = MatchBool told (IsParent (parsed_labels old) (parsed_labels new)) ((new ≡ old) × (parsed_labels old ≡ Root))
 
 -- Once the borrow that is returned ends, what was borrowed is as P says.
 abbrev pub BecomesAfter : (R : RattleType) → MutBor R.Denot → (P : R.Denot → Type 0) → Fml
 BecomesAfter R s P = follows_so R R s.ghost_name none (λ _ _. ⊤) P
 
 -- The relative name has one label, the first one of the name.
-abbrev pub IsFirstLabel : {O : Type 0} {g : Ghosts O} {P : Type 0} {h : Ghosts P} → ParsedName O g → RelativeName P h → Type 0
-IsFirstLabel old first = (label : List ℕ) × (rest : List (List ℕ)) × (relative_labels first ≡ label ∷ []) × (parsed_labels old ≡ label ∷ rest)
+abbrev pub IsFirstLabelAlone : {O : Type 0} {g : Ghosts O} {P : Type 0} {h : Ghosts P} → ParsedName O g → RelativeName P h → Type 0
+IsFirstLabelAlone old first = (label : List ℕ) × (rest : List (List ℕ)) × (relative_labels first ≡ label ∷ []) × (parsed_labels old ≡ label ∷ rest)
 
 -- The name new is old without its first label, which is in the octets at this range.
 pub record DropsFirst {O : Type 0} {g : Ghosts O} (old : ParsedName O g) (range : Range ℕ) (new : ParsedName O g) : Type 0 where

@@ -92,7 +92,7 @@ impl<'a> ParsedName<&'a [u8]> {
     ghost use Rattle.domain_parsed.specs.Parses.{HasNameHere, IsNameHere, GivesName, ParsesName, TellsCompression, TakesUncompressed, CountsHeads};
     ghost use Rattle.octseq.specs.Parsing.{slice_of, message, position, MovesTo};
     ghost use Rattle.domain_reading.specs.Faults.{NameFaultAt, HasSkip};
-    ghost use Rattle.domain_reading.specs.ParseResult.{Holds, MovesPastName, IsErrorOfName, SkipsName, IsErrorOfSkip};
+    ghost use Rattle.domain_reading.specs.ParseResult.{HoldsName, MovesPastName, IsErrorOfName, SkipsName, IsErrorOfSkip};
 
     /// Reads the name at the parser's position, and moves the parser after the name's root or first pointer.
     ///
@@ -225,7 +225,7 @@ impl<'a> ParsedName<&'a [u8]> {
         found: &Progress,
         entries: [u16; MAX_LABELS],
     ) -> ParsedName<&'a [u8]>
-        requires holds { Holds (slice_of parser.old) found.now entries }
+        requires holds { HoldsName (slice_of parser.old) found.now entries }
         requires inside { end_offset found.now ≤ length (message parser.old) }
         requires room { found.now.at + 1 < 2 ^ 64 }
         ensures octets { parsed_octets result ≡ slice_of parser.old }
@@ -278,15 +278,15 @@ impl<'a> ParsedName<&'a [u8]> {
 impl<Octs: Octets> ParsedName<Octs> {
     ghost use Rattle.domain_list.specs.Ends.{StartsWith, EndsWith};
     ghost use Rattle.domain_parsed.specs.ParsedNames.{parsed_octets, parsed_labels, may_be_compressed, labels_left, suffixes_of, suffixes_left};
-    ghost use Rattle.domain_parsed.specs.Splitting.{TellsParent, IsFirstLabel, SplitsFirst, DropsFirst, BecomesAfter};
-    ghost use Rattle.domain_reading.specs.ParseResult.{Holds};
+    ghost use Rattle.domain_parsed.specs.Splitting.{TellsParent, IsFirstLabelAlone, SplitsFirst, DropsFirst, BecomesAfter};
+    ghost use Rattle.domain_reading.specs.ParseResult.{HoldsName};
     ghost use Rattle.domain_parsed.specs.contracts.parsed.ParsedName.{the_row};
     ghost use Rattle.std.specs.Borrow.{sem};
 
     /// The name whose labels were found in these octets.
     #[inline(always)]
     fn of(octets: Octs, found: &Progress, entries: [u16; MAX_LABELS]) -> Self
-        requires { Holds (Octs.octets octets) found.now entries }
+        requires { HoldsName (Octs.octets octets) found.now entries }
         ensures octets { parsed_octets result ≡ Octs.octets octets }
         ensures labels { parsed_labels result
             ≡ labels_found (Octs.octets octets) found.now entries }
@@ -457,7 +457,7 @@ impl<Octs: Octets> ParsedName<Octs> {
     // The clause `after`: once the borrow that is returned ends, the name is as `SplitsFirst` says.
     pub fn split_first(&mut self) -> Option<RelativeName<&[u8]>>
         ensures none { IsNone result ↔ (parsed_labels self.old ≡ Root) }
-        ensures some { IfSome result (IsFirstLabel self.old) }
+        ensures some { IfSome result (IsFirstLabelAlone self.old) }
         ensures* after { sem 𝓛
             (BecomesAfter (the_row Octs.row Octs.Octets) self.entry (SplitsFirst self.old result)) }
     {

@@ -36,8 +36,8 @@ pub record Names (n : ℕ) (m : List ℕ) (p : ℕ) (ls : List (List ℕ)) : Typ
   pub short : length (wire ls) ≤ max_name
 
 -- A name of at most n pointers is at p.
-abbrev pub HasName : ℕ → List ℕ → ℕ → Type 0
-HasName n m p = (ls : List (List ℕ)) × Names n m p ls
+abbrev pub HasNameWithin : ℕ → List ℕ → ℕ → Type 0
+HasNameWithin n m p = (ls : List (List ℕ)) × Names n m p ls
 
 -- The labels fs are at the octets from p to r, one after the other, with no pointer between them.
 abbrev pub LabelRun : List ℕ → ℕ → List (List ℕ) → ℕ → Type 0

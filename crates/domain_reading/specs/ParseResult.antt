@@ -82,7 +82,7 @@ NameReadWithin n m p w table = (heads : ℕ) × NameRead n m p w table 0 heads �
 
 -- The labels whose offsets the table has are in the octets o, of which the message may be the beginning, and are a
 -- name.
-pub record Holds (o : List ℕ) (w : Progress) (table : List ℕ) : Type 0 where
+pub record HoldsName (o : List ℕ) (w : Progress) (table : List ℕ) : Type 0 where
   pub some : 0 < w.count
   pub few : w.count ≤ max_labels
   pub stand : TableHasLabels o w.base table 0 w.count

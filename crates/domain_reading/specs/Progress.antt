@@ -38,12 +38,12 @@ abbrev pub HasRoom : Progress → ℕ → Type 0
 HasRoom w n = w.len + 1 + n ≤ max_before_root
 
 -- They have more.
-abbrev pub LacksRoom : Progress → ℕ → Type 0
-LacksRoom w n = max_before_root < w.len + 1 + n
+abbrev pub ExceedsName : Progress → ℕ → Type 0
+ExceedsName w n = max_before_root < w.len + 1 + n
 
 -- The result tells which: `LongName` that they have more.
 abbrev pub TellsRoom : ℕ → Progress → Result (Unit {0}) NameFault → Type 0
-TellsRoom n w r = MatchResult r (λ _. HasRoom w n) (λ e. (e ≡ fault.LongName) × LacksRoom w n)
+TellsRoom n w r = MatchResult r (λ _. HasRoom w n) (λ e. (e ≡ fault.LongName) × ExceedsName w n)
 
 -- A pointer to q leads to an offset before its own, and is one of at most n.
 abbrev pub MayFollow : ℕ → Progress → ℕ → Type 0

@@ -2,7 +2,7 @@
 ghost use Rattle.std.specs.Prelude.{◌≡◌, ◌<◌, ◌≤◌, ◌⊎◌, ◌++◌, length};
 ghost use Rattle.domain_label.specs.Wire.{wire, IsAbsoluteName};
 ghost use Rattle.domain_reading.specs.Limits.{max_pointers};
-ghost use Rattle.domain_reading.specs.Grammar.{PointerAt, Reads, Names, HasName, LabelRun, FirstLabelAt};
+ghost use Rattle.domain_reading.specs.Grammar.{PointerAt, Reads, Names, HasNameWithin, LabelRun, FirstLabelAt};
 ghost use Rattle.domain_reading.specs.Grammar.{EncodingEnds, HasOneEncoding, IsPlainEncoding};
 ghost use Rattle.domain_reading.specs.Faults.{NameFaultAt, HasFault, HasOneFault, Skips, HasSkip, SkipFault, HasSkipFault};
 ghost use Rattle.domain_reading.specs.Labels.{labels_at};
@@ -20,7 +20,7 @@ pub fn reads_laws()
     ensures more { (m u p k ls : _) → Reads m p k ls → Reads (m ++ u) p k ls }
     ensures absolute { (n m p ls : _) → Names n m p ls → IsAbsoluteName ls }
     ensures labels { (m p ls : _) → Names max_pointers m p ls → labels_at m p ≡ ls }
-    ensures some { (n m p : _) → HasName n m p ⊎ HasFault n m p }
+    ensures some { (n m p : _) → HasNameWithin n m p ⊎ HasFault n m p }
     ensures not_both { (n m p ls e : _) → Names n m p ls → NameFaultAt n m p e → ⊥ }
     ensures one_fault { (n m p : _) → HasOneFault n m p }
     ensures one_front { (m p : _) → HasOneEncoding m p }
