@@ -8,5 +8,4 @@ pub mod Parts
 pub mod ReadBack
 pub mod Reading
 pub mod Sequences
-pub mod Targets
 pub mod Moves

@@ -7,8 +7,8 @@ use Rattle.domain_wire.specs.Refusals.{Refusal}
 use Rattle.domain_fields.specs.Data.{AllAt, NotAll}
 
 -- The value is where the parser stood, up to where it stands.
-abbrev pub Reads : {F View : Type 0} → (List ℕ → ℕ → View → ℕ → Type 0) → (F → View) → Parser → Parser → F → Type 0
-Reads encodes model old new value = encodes (message old) (position old) (model value) (position new)
+abbrev pub ReadsValue : {F View : Type 0} → (List ℕ → ℕ → View → ℕ → Type 0) → (F → View) → Parser → Parser → F → Type 0
+ReadsValue encodes model old new value = encodes (message old) (position old) (model value) (position new)
 
 -- The value is, and has all octets from there on.
 abbrev pub ReadsAll : {F View : Type 0} → (List ℕ → ℕ → View → ℕ → Type 0) → (F → View) → Parser → Parser → F → Type 0

@@ -1,12 +1,12 @@
 //! Fields of record data.
 ghost use Rattle.std.specs.Prelude.{◌≡◌, ℕ, ◌∷◌, [], ◌≤◌, List, length, OnOk, OnErr, Bool, false, Option, Some, refl};
+ghost use Rattle.octseq.specs.Appending.{GrowsBy, TooFull};
 ghost use Rattle.domain_rdata.specs.Members.{Writing};
 ghost use Rattle.domain_rdata.specs.OctetsAlone.{WritesComposed, octets_written};
 ghost use Rattle.domain_rdata.specs.Targets.{RemembersAsBefore, Grows, Overflows, LeftTo};
 ghost use Rattle.domain_fields.specs.FieldLaws.{fixed_size};
 ghost use Rattle.domain_fields.specs.Moves.{NamesMove};
 ghost use Rattle.domain_fields.specs.Parts.{Part, no_name, parts_octets, one_part};
-ghost use Rattle.domain_fields.specs.Targets.{GrowsBy, Exceed};
 
 use domain_rdata::Composer;
 use domain_wire::FixedLen;
@@ -63,11 +63,11 @@ pub trait DataField {
         target: &mut T,
     ) -> Result<(), T::AppendError>
         ensures ok { OnOk result
-            (GrowsBy T.Composer (uncompressed self.now lowercase) target.old target.new) }
+            (GrowsBy T.Octets target.old (uncompressed self.now lowercase) target.new) }
         ensures memory { RemembersAsBefore T.Composer target.old target.new }
         ensures unchanged { OnErr result (T.octets target.new ≡ T.octets target.old) }
         ensures full { OnErr result
-            (Exceed T.Composer (uncompressed self.now lowercase) target.old) }
+            (TooFull T.Octets target.old (uncompressed self.now lowercase)) }
         ensures capacity { T.capacity target.old ≤ T.capacity target.new };
 
     /// In both forms the octets are those of the parts: names in lowercase, or with their case, and other octets as they are.

@@ -3,6 +3,7 @@ ghost use Rattle.std.specs.Prelude.{◌≡◌, ◌∷◌, [], ◌≤◌, ℕ, Li
 ghost use Rattle.std.specs.Ordering.{on};
 ghost use Rattle.domain_label.specs.Wire.{wire};
 ghost use Rattle.domain_list.specs.Order.{composed_order, lowercase_composed_order};
+ghost use Rattle.domain_list.specs.Targets.{NameFollows, NameLacksRoom, LowercaseFollows, LowercaseLacksRoom};
 ghost use Rattle.domain_parsed.specs.ParsedNames.{parsed_labels};
 ghost use Rattle.domain_rdata.specs.OctetsAlone.{name_written, octets_written};
 ghost use Rattle.domain_rdata.specs.RecordData.{NameOctets};
@@ -13,7 +14,6 @@ ghost use Rattle.domain_fields.specs.Names.{NameFieldAt, NoNameField, name_readi
 ghost use Rattle.domain_fields.specs.Orders.{cased_order, hashed};
 ghost use Rattle.domain_fields.specs.Parts.{a_name, one_part};
 ghost use Rattle.domain_fields.specs.Reading.{any_reading};
-ghost use Rattle.domain_fields.specs.Targets.{AddsWire, WireOverflows, AddsLower, LowerOverflows, AddsCased, CasedOverflows};
 
 use crate::field::DataField;
 use crate::read::ReadField;
@@ -41,20 +41,23 @@ pub trait DataName: Absolute {
 
     /// Appends the name with no pointer (RFC 1035, 3.1), or nothing.
     fn append_uncompressed<T: Composer>(&self, target: &mut T) -> Result<(), T::AppendError>
-        ensures ok { OnOk result (AddsWire T.Composer Self.labels self.now target.old target.new) }
+        ensures ok { OnOk result
+            (NameFollows T.Octets (Self.labels self.now) target.old target.new) }
         ensures extends { OnOk result
             (T.extends target.old (wire (Self.labels self.now)) target.new) }
         ensures memory { RemembersAsBefore T.Composer target.old target.new }
         ensures unchanged { OnErr result (T.octets target.new ≡ T.octets target.old) }
-        ensures full { OnErr result (WireOverflows T.Composer Self.labels self.now target.old) }
+        ensures full { OnErr result (NameLacksRoom T.Octets (Self.labels self.now) target.old) }
         ensures capacity { T.capacity target.old ≤ T.capacity target.new };
 
     /// Appends the name in lowercase with no pointer (RFC 4034, 6.2), or nothing.
     fn append_lowercase<T: Composer>(&self, target: &mut T) -> Result<(), T::AppendError>
-        ensures ok { OnOk result (AddsLower T.Composer Self.labels self.now target.old target.new) }
+        ensures ok { OnOk result
+            (LowercaseFollows T.Octets (Self.labels self.now) target.old target.new) }
         ensures memory { RemembersAsBefore T.Composer target.old target.new }
         ensures unchanged { OnErr result (T.octets target.new ≡ T.octets target.old) }
-        ensures full { OnErr result (LowerOverflows T.Composer Self.labels self.now target.old) }
+        ensures full { OnErr result
+            (LowercaseLacksRoom T.Octets (Self.labels self.now) target.old) }
         ensures capacity { T.capacity target.old ≤ T.capacity target.new };
 
     /// The order of the octets of the two names with no pointer.
@@ -75,12 +78,12 @@ pub trait DataName: Absolute {
         lowercase: bool,
         target: &mut T,
     ) -> Result<(), T::AppendError>
-        ensures ok { OnOk result
-            (AddsCased T.Composer lowercase Self.labels self.now target.old target.new) }
+        ensures ok { OnOk result (NameFollows T.Octets
+            (cased_labels lowercase (Self.labels self.now)) target.old target.new) }
         ensures memory { RemembersAsBefore T.Composer target.old target.new }
         ensures unchanged { OnErr result (T.octets target.new ≡ T.octets target.old) }
         ensures full { OnErr result
-            (CasedOverflows T.Composer lowercase Self.labels self.now target.old) }
+            (NameLacksRoom T.Octets (cased_labels lowercase (Self.labels self.now)) target.old) }
         ensures capacity { T.capacity target.old ≤ T.capacity target.new }
     {
         match lowercase {

@@ -9,7 +9,7 @@ ghost use Rattle.domain_wire.specs.Values.{FixedAt, ShortAt};
 ghost use Rattle.domain_wire.specs.declared.net.Ipv4Addr.{Ipv4Addr};
 ghost use Rattle.domain_wire.specs.declared.net.Ipv6Addr.{Ipv6Addr};
 ghost use Rattle.domain_fields.specs.Reading.{IsReadingOf, any_reading};
-ghost use Rattle.domain_fields.specs.Parsers.{Reads, ReadsAll, NoneHasAll};
+ghost use Rattle.domain_fields.specs.Parsers.{ReadsValue, ReadsAll, NoneHasAll};
 
 use domain_wire::net::{Ipv4Addr, Ipv6Addr};
 use domain_wire::{Parse, ParseError};
@@ -49,7 +49,7 @@ pub trait ReadField<'a, E: FieldError>: Sized {
 
     /// Reads a value at the parser's position, and moves the parser to its end. An error leaves the parser.
     fn read_field(parser: &mut Parser<'a>) -> Result<Self, E>
-        ensures ok { IfOk result (Reads encodes model parser.old parser.new) }
+        ensures ok { IfOk result (ReadsValue encodes model parser.old parser.new) }
         ensures moves { OnOk result (MovesTo parser.old parser.new (position parser.new)) }
         ensures err { IfErr result (λ e. fails_with (message parser.old) (position parser.old) e) }
         ensures unchanged { OnErr result (parser.new ≡ parser.old) };
