@@ -13,7 +13,8 @@ use Rattle.domain_tool.specs.declared.entry.RecordHeader.{RecordHeader}
 use Rattle.domain_tool.specs.Entries.{IsRecordHeader}
 use Rattle.domain_tool.specs.declared.entry_kind.EntryKind.{EntryKind}
 use Rattle.domain_tool.specs.declared.entry_kind.EntryKind.TheVariants.{Question}
-use Rattle.domain_tool.specs.Lines.{IsLineOf, IsQuestion, kind_word, NameTo, NoQuestionLine, NoRecordLine, number_in_16_bits, number_in_32_bits}
+use Rattle.domain_header.specs.Numbers.{number16, number32}
+use Rattle.domain_tool.specs.Lines.{IsLineOf, IsQuestion, kind_word, NameTo, NoQuestionLine, NoRecordLine}
 use Rattle.domain_tool.specs.Lines.NoQuestionLine.{cut}
 use Rattle.domain_tool.specs.Lines.NoRecordLine.{cut as cut_record}
 
@@ -37,11 +38,11 @@ cut_record_head old after ls why named moves short told =
     cut_record ls (position after) (name_to old after ls named moves) (inl (omega (arith, short, ap length (same_message old after moves.0 moves.2)))) told
 
 -- the number that a parser reads stands at its offset
-pub read16 : (p : Parser) (m : List ℕ) (at n : ℕ) → message p ≡ m → position p ≡ at → n ≡ from_be_bytes w16 (next p 2) → n ≡ number_in_16_bits m at
-read16 p m at n same there e = e ∙ (ap (λ x. number_in_16_bits x (position p)) same ∙ ap (number_in_16_bits m) there)
+pub read16 : (p : Parser) (m : List ℕ) (at n : ℕ) → message p ≡ m → position p ≡ at → n ≡ from_be_bytes w16 (next p 2) → n ≡ number16 m at
+read16 p m at n same there e = e ∙ (ap (λ x. number16 x (position p)) same ∙ ap (number16 m) there)
 
-pub read32 : (p : Parser) (m : List ℕ) (at n : ℕ) → message p ≡ m → position p ≡ at → n ≡ from_be_bytes w32 (next p 4) → n ≡ number_in_32_bits m at
-read32 p m at n same there e = e ∙ (ap (λ x. number_in_32_bits x (position p)) same ∙ ap (number_in_32_bits m) there)
+pub read32 : (p : Parser) (m : List ℕ) (at n : ℕ) → message p ≡ m → position p ≡ at → n ≡ from_be_bytes w32 (next p 4) → n ≡ number32 m at
+read32 p m at n same there e = e ∙ (ap (λ x. number32 x (position p)) same ∙ ap (number32 m) there)
 
 -- the data after a head is cut
 pub cut_data : (m : List ℕ) (p e : ℕ) (it : RecordHeader) (why : ParseError) → IsRecordHeader m p it e → length m < e + it.len → why ≡ ShortInput → NoRecordLine m p why

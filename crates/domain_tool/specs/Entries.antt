@@ -8,7 +8,8 @@ use Rattle.domain_parsed.specs.ParsedNames.{parsed_labels}
 use Rattle.domain_rdata.specs.AnyData.{unknown_text}
 use Rattle.domain_rdata.specs.Rtypes.{rtype_number}
 use Rattle.domain_rdata.specs.Unknown.{data_octets}
-use Rattle.domain_tool.specs.Lines.{NameTo, number_in_16_bits, number_in_32_bits, kind_word, IsQuestion, IsRecord, IsLineOf}
+use Rattle.domain_header.specs.Numbers.{number16, number32}
+use Rattle.domain_tool.specs.Lines.{NameTo, kind_word, IsQuestion, IsRecord, IsLineOf}
 use Rattle.domain_tool.specs.declared.entry.Question.{Question}
 use Rattle.domain_tool.specs.declared.entry.RecordHeader.{RecordHeader}
 use Rattle.domain_tool.specs.declared.entry.Record.{Record}
@@ -25,10 +26,10 @@ question_line it = 32 ∷ text_with_final_dot (parsed_labels it.name) ++ 32 ∷ 
 pub record IsRecordHeader (m : List ℕ) (p : ℕ) (it : RecordHeader) (e : ℕ) : Type 0 where
   pub after : ℕ
   pub name : NameTo m p (parsed_labels it.name) after
-  pub rtype : it.rtype ≡ number_in_16_bits m after
-  pub class : it.class ≡ number_in_16_bits m (after + 2)
-  pub time_to_live : it.time_to_live ≡ number_in_32_bits m (after + 4)
-  pub len : it.len ≡ number_in_16_bits m (after + 8)
+  pub rtype : it.rtype ≡ number16 m after
+  pub class : it.class ≡ number16 m (after + 2)
+  pub time_to_live : it.time_to_live ≡ number32 m (after + 4)
+  pub len : it.len ≡ number16 m (after + 8)
   pub whole : after + 10 ≤ length m
   pub end : e ≡ after + 10
 

@@ -1,24 +1,16 @@
 -- The lines of a message (RFC 1035, 4.1): one for each entry, in the order in which they are there.
 use Rattle.std.specs.Prelude.{◌≡◌, ℕ, ◌+◌, ◌<◌, ◌≤◌, ◌⊎◌, List, [], ◌∷◌, ◌++◌, length, replicate, slice_range, codes}
 use Rattle.std.specs.Fmt.{decimal}
-use Rattle.std.specs.Int.{w16, w32, from_be_bytes}
 use Rattle.domain_wire.specs.declared.error.ParseError.{ParseError}
 use Rattle.domain_wire.specs.declared.error.ParseError.TheVariants.{ShortInput}
 use Rattle.domain_label.specs.Text.{text_with_final_dot}
 use Rattle.domain_reading.specs.Grammar.{Names, EncodingEnds}
 use Rattle.domain_reading.specs.Limits.{max_pointers}
+use Rattle.domain_header.specs.Numbers.{number16, number32}
 use Rattle.domain_rdata.specs.AnyData.{unknown_text}
 use Rattle.domain_tool.specs.NameFaults.{NoNameAt}
 use Rattle.domain_tool.specs.declared.entry_kind.EntryKind.{EntryKind}
 use Rattle.domain_tool.specs.declared.entry_kind.EntryKind.TheVariants.{Question, Answer, Authority, Additional}
-
--- the numbers that are at an offset in 16 and in 32 bits
-abbrev pub number_in_16_bits : List ℕ → ℕ → ℕ
-number_in_16_bits m p = from_be_bytes w16 (slice_range m p (p + 2))
-
--- the same in 32 bits, such as a TTL
-abbrev pub number_in_32_bits : List ℕ → ℕ → ℕ
-number_in_32_bits m p = from_be_bytes w32 (slice_range m p (p + 4))
 
 -- what the lines of a kind begin with
 abbrev pub kind_word : EntryKind → List ℕ
@@ -34,11 +26,11 @@ pub record NameTo (m : List ℕ) (p : ℕ) (ls : List (List ℕ)) (e : ℕ) : Ty
 
 -- What is shown of the name, the type and the class of an entry: the two numbers are at q, after the name.
 abbrev pub shown_entry : List ℕ → List (List ℕ) → ℕ → List ℕ
-shown_entry m ls q = 32 ∷ text_with_final_dot ls ++ 32 ∷ decimal (number_in_16_bits m q) ++ 32 ∷ decimal (number_in_16_bits m (q + 2))
+shown_entry m ls q = 32 ∷ text_with_final_dot ls ++ 32 ∷ decimal (number16 m q) ++ 32 ∷ decimal (number16 m (q + 2))
 
 -- What is shown of the rest of a record, whose type is at q: the TTL in 32 bits, and the data after its length.
 abbrev pub shown_record : List ℕ → ℕ → List ℕ
-shown_record m q = 32 ∷ decimal (number_in_32_bits m (q + 4)) ++ 32 ∷ unknown_text (slice_range m (q + 10) (q + 10 + number_in_16_bits m (q + 8)))
+shown_record m q = 32 ∷ decimal (number32 m (q + 4)) ++ 32 ∷ unknown_text (slice_range m (q + 10) (q + 10 + number16 m (q + 8)))
 
 -- A question is at p and ends before e (RFC 1035, 4.1.2).
 pub record IsQuestion (m : List ℕ) (p : ℕ) (line : List ℕ) (e : ℕ) : Type 0 where
@@ -54,8 +46,8 @@ pub record IsRecord (m : List ℕ) (p : ℕ) (line : List ℕ) (e : ℕ) : Type 
   pub labels : List (List ℕ)
   pub after : ℕ
   pub name : NameTo m p labels after
-  pub whole : after + 10 + number_in_16_bits m (after + 8) ≤ length m
-  pub end : e ≡ after + 10 + number_in_16_bits m (after + 8)
+  pub whole : after + 10 + number16 m (after + 8) ≤ length m
+  pub end : e ≡ after + 10 + number16 m (after + 8)
   pub shown : line ≡ shown_entry m labels after ++ shown_record m after
 
 -- No question is at p, and why: no name is there, or the message ends before the question does.
@@ -66,7 +58,7 @@ pub data NoQuestionLine (m : List ℕ) (p : ℕ) (why : ParseError) : Type 0 whe
 -- No record is at p, and why.
 pub data NoRecordLine (m : List ℕ) (p : ℕ) (why : ParseError) : Type 0 where
   no_name : NoNameAt m p why → NoRecordLine m p why
-  cut : (ls : List (List ℕ)) (q : ℕ) → NameTo m p ls q → (length m < q + 10) ⊎ (length m < q + 10 + number_in_16_bits m (q + 8)) → why ≡ ShortInput → NoRecordLine m p why
+  cut : (ls : List (List ℕ)) (q : ℕ) → NameTo m p ls q → (length m < q + 10) ⊎ (length m < q + 10 + number16 m (q + 8)) → why ≡ ShortInput → NoRecordLine m p why
 
 -- An entry of this kind is at p and ends before e, and is shown so.
 abbrev pub IsEntry : List ℕ → EntryKind → ℕ → List ℕ → ℕ → Type 0
@@ -95,8 +87,8 @@ Lists m (s ∷ ss) p text e = (line : List ℕ) × (q : ℕ) × (rest : List ℕ
 
 -- The entries that the header counts (RFC 1035, 4.1.1).
 abbrev pub counted_entries : List ℕ → List EntryKind
-counted_entries m = replicate (number_in_16_bits m 4) Question
-    ++ (replicate (number_in_16_bits m 6) Answer ++ (replicate (number_in_16_bits m 8) Authority ++ replicate (number_in_16_bits m 10) Additional))
+counted_entries m = replicate (number16 m 4) Question
+    ++ (replicate (number16 m 6) Answer ++ (replicate (number16 m 8) Authority ++ replicate (number16 m 10) Additional))
 
 -- The header is there, and so are all entries that it counts, from the offset after it on. These are their lines.
 abbrev pub IsListing : List ℕ → List ℕ → Type 0

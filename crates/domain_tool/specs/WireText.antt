@@ -33,8 +33,8 @@ abbrev pub HasTextFault : List ℕ → FromStrError → Type 0
 HasTextFault cs e = MatchFromStr e (IsTextOfNoName cs) ⊥
 
 -- If the characters have a fault as the text of a name, that is the error.
-abbrev pub TellsFault : {N : Type 0} → List ℕ → Result N FromStrError → Type 0
-TellsFault cs result = (f : TextFault) → IsTextOfNoName cs f → MatchResult result (λ _. ⊥) (IsErrorOfText f)
+abbrev pub TellsTextFault : {N : Type 0} → List ℕ → Result N FromStrError → Type 0
+TellsTextFault cs result = (f : TextFault) → IsTextOfNoName cs f → MatchResult result (λ _. ⊥) (IsErrorOfText f)
 
 -- The text is none of a name, and P holds of the reason; or the output couldn't be written. Nothing else fails.
 abbrev pub IfTextRefused : Result (Unit {0}) ToolError → (FromStrError → Type 0) → Type 0

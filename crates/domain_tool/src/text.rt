@@ -5,7 +5,7 @@ ghost use Rattle.domain_builder.specs.TextGrammar.{IsTextOfName};
 ghost use Rattle.domain_name.specs.Names.{name_labels};
 ghost use Rattle.domain_tool.specs.Outputs.{Stays};
 ghost use Rattle.domain_tool.specs.WireText.{octet_digits, hexadecimal, ShowsWireOf};
-ghost use Rattle.domain_tool.specs.WireText.{HasTextFault, TellsFault, IfTextRefused, RefusesFault};
+ghost use Rattle.domain_tool.specs.WireText.{HasTextFault, TellsTextFault, IfTextRefused, RefusesFault};
 
 use crate::tool::{ToolError, write_line};
 use arrayvec::ArrayVec;
@@ -20,7 +20,7 @@ use std::io::Write;
 fn name_from_text(alloc: Global, text: &str) -> Result<Name<ArrayVec<u8, 255>>, FromStrError>
     ensures ok { IfOk result (λ name. IsTextOfName (chars text.now) (name_labels name)) }
     ensures err { IfErr result (HasTextFault (chars text.now)) }
-    ensures exact { TellsFault (chars text.now) result }
+    ensures exact { TellsTextFault (chars text.now) result }
 {
     Name::from_chars(alloc, text.chars())
 }

@@ -1,5 +1,5 @@
 use Rattle.std.proofs.Common.{arith, ap, length, ◌∙◌}
-use Rattle.domain_tool.specs.Lines.{number_in_16_bits}
+use Rattle.domain_header.specs.Numbers.{number16}
 use Rattle.domain_tool.proofs.Entries.{same_message, place_inside}
 use Rattle.domain_tool.proofs.list.parse_counts.Goals as goal
 
@@ -13,8 +13,8 @@ returns-clause-ok c =
     let inside = place_inside c.advance.new.self in
     record {
       header = omega (arith, start, offset, all, inside);
-      questions = c.for_message_slice.ensures.qdcount ∙ ap (λ m. number_in_16_bits m 4) read;
-      answers = c.for_message_slice.ensures.ancount ∙ ap (λ m. number_in_16_bits m 6) read;
-      authority = c.for_message_slice.ensures.nscount ∙ ap (λ m. number_in_16_bits m 8) read;
-      additional = c.for_message_slice.ensures.arcount ∙ ap (λ m. number_in_16_bits m 10) read;
+      questions = c.for_message_slice.ensures.qdcount ∙ ap (λ m. number16 m 4) read;
+      answers = c.for_message_slice.ensures.ancount ∙ ap (λ m. number16 m 6) read;
+      authority = c.for_message_slice.ensures.nscount ∙ ap (λ m. number16 m 8) read;
+      additional = c.for_message_slice.ensures.arcount ∙ ap (λ m. number16 m 10) read;
     }
