@@ -5,7 +5,7 @@ use Rattle.domain_label.specs.Wire.{wire, labels_in, IsWire, IsAbsolute, IsRelat
 use Rattle.domain_label.proofs.WireLaws.{labels_in_wire, relative_labels}
 use Rattle.domain_flat.proofs.LabelBounds.{IsWire_wire}
 use Rattle.domain_rdata.specs.ReadBack.{Exceeds}
-use Rattle.domain_compress.specs.Compressing.{RememberedLabel, pointer_to, Compresses, IsRead, remembered_from, Adds}
+use Rattle.domain_compress.specs.Compressing.{RememberedLabel, pointer_to, Compresses, IsRead, remembered_from, AddsCompressed}
 use Rattle.domain_compress.specs.Compressing.Compresses.{pointer, flat, unread}
 use Rattle.domain_compress.specs.declared.written.WrittenSuffix.{WrittenSuffix}
 use Rattle.domain_compress.specs.Written.{SuffixFound}
@@ -65,7 +65,7 @@ exceeds_pointed t ws name begin offset cap p full = record {
 pub exceeds_flat : (t : List ℕ) (ws : List RememberedLabel) (name : List ℕ) (cap : ℕ) → IsAbsoluteWire name → Compresses t ws (labels_in name) (labels_in name) (wire (labels_in name)) → cap < length t + length name → Exceeds (MayWrite t ws (labels_in name)) t cap
 exceeds_flat t ws name cap w x full = record { octets = wire (labels_in name); allowed = (labels_in name, x); full = omega (arith, full, ap length w.0) }
 
-pub adds_pointer : (t : List ℕ) (ws ws' : List RememberedLabel) (name : List ℕ) (at : ℕ) (t' : List ℕ) → (x : PointerWritten t ws name at t') → ws' ≡ take 128 (ws ++ remembered_from (length t) (length t') (labels_in (take at name))) → Adds t ws (labels_in name) t' ws'
+pub adds_pointer : (t : List ℕ) (ws ws' : List RememberedLabel) (name : List ℕ) (at : ℕ) (t' : List ℕ) → (x : PointerWritten t ws name at t') → ws' ≡ take 128 (ws ++ remembered_from (length t) (length t') (labels_in (take at name))) → AddsCompressed t ws (labels_in name) t' ws'
 adds_pointer t ws ws' name at t' x e = record {
   labels = x.labels;
   octets = x.octets;
@@ -74,7 +74,7 @@ adds_pointer t ws ws' name at t' x e = record {
   offsets = e ∙ (ap (λ n. take 128 (ws ++ remembered_from (length t) n (labels_in (take at name)))) (ap length x.all ∙ length-append t x.octets) ∙ ap (λ l. take 128 (ws ++ remembered_from (length t) (length t + length x.octets) l)) x.spelled);
 }
 
-pub adds_flat : (t : List ℕ) (ws ws' : List RememberedLabel) (name t' : List ℕ) → IsAbsoluteWire name → Compresses t ws (labels_in name) (labels_in name) (wire (labels_in name)) → t' ≡ t ++ name → ws' ≡ take 128 (ws ++ remembered_from (length t) (length t') (labels_in name)) → Adds t ws (labels_in name) t' ws'
+pub adds_flat : (t : List ℕ) (ws ws' : List RememberedLabel) (name t' : List ℕ) → IsAbsoluteWire name → Compresses t ws (labels_in name) (labels_in name) (wire (labels_in name)) → t' ≡ t ++ name → ws' ≡ take 128 (ws ++ remembered_from (length t) (length t') (labels_in name)) → AddsCompressed t ws (labels_in name) t' ws'
 adds_flat t ws ws' name t' w x all e =
     let whole : t' ≡ t ++ wire (labels_in name) = all ∙ ap (λ o. t ++ o) (sym w.0) in
     record {

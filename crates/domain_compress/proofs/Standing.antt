@@ -13,7 +13,7 @@ use Rattle.domain_reading.specs.Touched.{ReadsFrom}
 use Rattle.domain_reading.proofs.UncompressedIsRead.{plain_names}
 use Rattle.domain_reading.proofs.Touching.{after_more, after_kept, after_from, names_kept, names_after, labels_after, pointer_after, reads_inside, touches_flat}
 use Rattle.domain_rdata.specs.ReadBack.{StandsAt}
-use Rattle.domain_compress.specs.Compressing.{RememberedLabel, pointer_to, FirstRemembered, LongestSuffix, Compresses, Adds, remembered_from, remembered_within}
+use Rattle.domain_compress.specs.Compressing.{RememberedLabel, pointer_to, FirstRemembered, LongestSuffix, Compresses, AddsCompressed, remembered_from, remembered_within}
 use Rattle.domain_compress.specs.Compressing.Compresses.{pointer as pointed, flat, unread}
 use Rattle.domain_compress.specs.Pointed.{flat_plain, pointer_after as pointer_plain, begins_relative, compressed_reads_back}
 use Rattle.domain_compress.specs.Standing.{RememberedStands, AllRememberedStand}
@@ -155,7 +155,7 @@ new_stands n t ws ls labels s name le stand (unread found not) = new_flat n t ls
 
 -- A name that was written is read from n on, and so are those at the offsets of its labels, where those at the
 -- offsets before are.
-pub added : (n : ℕ) (t u : List ℕ) (ws vs : List RememberedLabel) (ls : List (List ℕ)) → IsAbsoluteName ls → n ≤ length t → AllRememberedStand n t ws → Adds t ws ls u vs → AllRememberedStand n u vs × ((c : List (List ℕ)) × ReadsFrom n u (length t) c)
+pub added : (n : ℕ) (t u : List ℕ) (ws vs : List RememberedLabel) (ls : List (List ℕ)) → IsAbsoluteName ls → n ≤ length t → AllRememberedStand n t ws → AddsCompressed t ws ls u vs → AllRememberedStand n u vs × ((c : List (List ℕ)) × ReadsFrom n u (length t) c)
 added n t u ws vs ls name le stand x =
     let m = t ++ x.octets in
     let P = RememberedStands n m in
@@ -166,7 +166,7 @@ added n t u ws vs ls name le stand x =
     (subst (λ o. AllRememberedStand n o vs) (sym x.all) same, (new.read, subst (λ o. ReadsFrom n o (length t) new.read) (sym x.all) new.reads))
 
 -- So a name that was written is read at its offset after more octets, and whatever is written before n.
-pub added_stays : (n : ℕ) (t u v o : List ℕ) (ws vs : List RememberedLabel) (ls : List (List ℕ)) → IsAbsoluteName ls → n ≤ length t → AllRememberedStand n t ws → Adds t ws ls u vs → drop n o ≡ drop n (u ++ v) → StandsAt o (length t) ls
+pub added_stays : (n : ℕ) (t u v o : List ℕ) (ws vs : List RememberedLabel) (ls : List (List ℕ)) → IsAbsoluteName ls → n ≤ length t → AllRememberedStand n t ws → AddsCompressed t ws ls u vs → drop n o ≡ drop n (u ++ v) → StandsAt o (length t) ls
 added_stays n t u v o ws vs ls name le stand x same =
     let new = (added n t u ws vs ls name le stand x).1 in
     let P : List ℕ → Type 0 = λ m. StandsAt m (length t) ls in

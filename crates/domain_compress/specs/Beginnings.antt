@@ -1,5 +1,5 @@
 -- How a name was begun to be written. `g` is `Target.OctetsBuilder`, what the traits of a target tell.
-use Rattle.std.specs.Prelude.{◌≡◌, ℕ, ◌+◌, ◌≤◌, ◌<◌, List, ◌++◌, length, take, Option, None, Some}
+use Rattle.std.specs.Prelude.{◌≡◌, ℕ, ◌≤◌, List, ◌++◌, length, take, Option, None, Some}
 use Rattle.domain_label.specs.Wire.{wire, labels_in, IsWire}
 use Rattle.domain_compress.specs.Compressing.{RememberedLabel, pointer_to, Compresses}
 use Rattle.domain_compress.specs.MayWrite.{NameExceeds}
@@ -15,10 +15,6 @@ BuilderMembers T = record {
   cuts : T → ℕ → T → Type 0;
   extends : T → List ℕ → T → Type 0;
 }
-
--- The octets exceed the spare capacity of the target.
-abbrev pub ExceedSpare : {T : Type 0} → BuilderMembers T → List ℕ → T → Type 0
-ExceedSpare g s old = g.capacity old < length (g.octets old) + length s
 
 -- the first octets of a name, up to begin, and a pointer to the offset
 abbrev pub pointed : List ℕ → ℕ → ℕ → List ℕ

@@ -2,7 +2,7 @@
 use Rattle.std.specs.Prelude.{◌≡◌, ℕ, List}
 use Rattle.domain_label.specs.Wire.{labels_in}
 use Rattle.domain_compress.specs.declared.compress.CompressComposer.{CompressComposer}
-use Rattle.domain_compress.specs.Compressing.{RememberedLabel, Adds}
+use Rattle.domain_compress.specs.Compressing.{RememberedLabel, AddsCompressed}
 use Rattle.domain_compress.specs.MayWrite.{NameAppended, NameExceeds}
 use Rattle.domain_compress.specs.Written.{all_remembered}
 
@@ -28,15 +28,15 @@ abbrev pub RemembersSame : {T E : Type 0} {g : _} {h : _} {i : _} {j : _} {k : _
 RemembersSame old new = remembered_labels new ≡ remembered_labels old
 
 -- The name of this wire format was written, and the offsets of its labels are remembered.
-abbrev pub WritesName : {T E : Type 0} {g : _} {h : _} {i : _} {j : _} {k : _} {l : _}
+abbrev pub WritesCompressed : {T E : Type 0} {g : _} {h : _} {i : _} {j : _} {k : _} {l : _}
     → List ℕ → CompressComposer T E g h i j k l → CompressComposer T E g h i j k l → Type 0
-WritesName name old new =
-    Adds (octets_of old) (remembered_labels old) (labels_in name) (octets_of new) (remembered_labels new)
+WritesCompressed name old new =
+    AddsCompressed (octets_of old) (remembered_labels old) (labels_in name) (octets_of new) (remembered_labels new)
 
 -- Octets that may be written for it were appended.
-abbrev pub AppendsName : {T E : Type 0} {g : _} {h : _} {i : _} {j : _} {k : _} {l : _}
+abbrev pub AppendsForName : {T E : Type 0} {g : _} {h : _} {i : _} {j : _} {k : _} {l : _}
     → List ℕ → CompressComposer T E g h i j k l → CompressComposer T E g h i j k l → Type 0
-AppendsName name old new = NameAppended (octets_of old) (remembered_labels old) (labels_in name) (octets_of new)
+AppendsForName name old new = NameAppended (octets_of old) (remembered_labels old) (labels_in name) (octets_of new)
 
 -- Such octets exceed the spare capacity of the target.
 abbrev pub ExceedsRoom : {T E : Type 0} {g : _} {h : _} {i : _} {j : _} {k : _} {l : _}

@@ -65,7 +65,7 @@ abbrev pub remembered_within : ℕ → List RememberedLabel → List RememberedL
 remembered_within n = filter (λ w. nat_le w.end n)
 
 -- The octets t and the offsets ws become t' and ws': the name ls was written.
-pub record Adds (t : List ℕ) (ws : List RememberedLabel) (ls : List (List ℕ)) (t' : List ℕ) (ws' : List RememberedLabel) : Type 0 where
+pub record AddsCompressed (t : List ℕ) (ws : List RememberedLabel) (ls : List (List ℕ)) (t' : List ℕ) (ws' : List RememberedLabel) : Type 0 where
   pub labels : List (List ℕ)
   pub octets : List ℕ
   pub compresses : Compresses t ws ls labels octets

@@ -10,7 +10,7 @@ use Rattle.domain_compress.specs.declared.written.Written.{Written}
 use Rattle.domain_compress.specs.Written.{remembered, all_remembered}
 use Rattle.arrayvec.specs.ArrayVec.{ArrayVec}
 use Rattle.domain_compress.specs.MayWrite.{MayWrite}
-use Rattle.domain_compress.specs.Compressing.{RememberedLabel, Compresses, pointer, flat, unread, Adds, remembered_from, remembered_within}
+use Rattle.domain_compress.specs.Compressing.{RememberedLabel, Compresses, pointer, flat, unread, AddsCompressed, remembered_from, remembered_within}
 
 -- The name ends within the first n octets.
 abbrev pub EndsWithin : ℕ → RememberedLabel → Type 0
@@ -145,6 +145,6 @@ pub few_remembered : (ws : List Written) → length ws ≤ 128 → length (all_r
 few_remembered ws few = omega (arith, few, length-map ws remembered)
 
 -- A name that was written is forgotten by a cut before it, and no other is.
-pub name_cut : (t : List ℕ) (ws vs : List RememberedLabel) (ls : List (List ℕ)) (u : List ℕ) → length ws ≤ 128 → All (EndsWithin (length t)) ws → Adds t ws ls u vs → remembered_within (length t) vs ≡ ws
+pub name_cut : (t : List ℕ) (ws vs : List RememberedLabel) (ls : List (List ℕ)) (u : List ℕ) → length ws ≤ 128 → All (EndsWithin (length t)) ws → AddsCompressed t ws ls u vs → remembered_within (length t) vs ≡ ws
 name_cut t ws vs ls u few old adds =
     ap (remembered_within (length t)) adds.offsets ∙ old_left (length t) 128 ws (remembered_from (length t) (length t + length adds.octets) adds.labels) few old (new_after t ws ls adds.labels adds.octets adds.compresses)

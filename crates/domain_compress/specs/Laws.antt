@@ -3,7 +3,7 @@ use Rattle.std.specs.Prelude.{◌≡◌, ℕ, ◌≤◌, List, ◌++◌, length,
 use Rattle.domain_label.specs.Wire.{IsAbsoluteName}
 use Rattle.domain_rdata.specs.ReadBack.{StandsAt, ReadsBack}
 use Rattle.domain_reading.specs.Touched.{ReadsFrom}
-use Rattle.domain_compress.specs.Compressing.{RememberedLabel, Compresses, Adds, remembered_within}
+use Rattle.domain_compress.specs.Compressing.{RememberedLabel, Compresses, AddsCompressed, remembered_within}
 use Rattle.domain_compress.specs.Standing.{AllRememberedStand}
 
 -- For a name one list of octets is written, and one list of labels is spelled out.
@@ -37,14 +37,14 @@ StandsWhenWrittenOver =
 abbrev pub AddedStands : Type 0
 AddedStands =
     (n : ℕ) (t u : List ℕ) (ws vs : List RememberedLabel) (ls : List (List ℕ)) → IsAbsoluteName ls → n ≤ length t
-    → AllRememberedStand n t ws → Adds t ws ls u vs
+    → AllRememberedStand n t ws → AddsCompressed t ws ls u vs
     → AllRememberedStand n u vs × ((c : List (List ℕ)) × ReadsFrom n u (length t) c)
 
 -- There the next name stands where it was written, after more octets, and whatever is written before n.
 abbrev pub AddedStays : Type 0
 AddedStays =
     (n : ℕ) (t u v o : List ℕ) (ws vs : List RememberedLabel) (ls : List (List ℕ)) → IsAbsoluteName ls → n ≤ length t
-    → AllRememberedStand n t ws → Adds t ws ls u vs → drop n o ≡ drop n (u ++ v) → StandsAt o (length t) ls
+    → AllRememberedStand n t ws → AddsCompressed t ws ls u vs → drop n o ≡ drop n (u ++ v) → StandsAt o (length t) ls
 
 -- Remembered labels stand where they did after more octets;
 abbrev pub RememberedStandWithMore : Type 0

@@ -1,7 +1,8 @@
 //! Writing the labels before a suffix of a name, and a pointer to where that stands.
 ghost use Rattle.std.specs.Prelude.{◌≡◌, ◌≤◌, ◌<◌, ◌+◌, ◌++◌, length, OnOk, OnErr, IfOk};
+ghost use Rattle.octseq.specs.Appending.{TooFull};
 ghost use Rattle.domain_label.specs.Wire.{IsAbsoluteWire};
-ghost use Rattle.domain_compress.specs.Beginnings.{ExceedSpare, pointed, Repeats, BeginsName, NoRoomFor};
+ghost use Rattle.domain_compress.specs.Beginnings.{pointed, Repeats, BeginsName, NoRoomFor};
 ghost use Rattle.domain_compress.specs.Compressing.{pointer_to};
 ghost use Rattle.domain_compress.specs.Hashes.{IsKnown};
 ghost use Rattle.domain_compress.specs.Written.{SuffixWritten};
@@ -21,7 +22,7 @@ fn append_pointer<Target: OctetsBuilder>(
         (Target.octets target.new ≡ Target.octets target.old ++ pointer_to offset) }
     ensures unchanged { OnErr result (Target.octets target.new ≡ Target.octets target.old) }
     ensures full { OnErr result
-        (ExceedSpare Target.OctetsBuilder (pointer_to offset) target.old) }
+        (TooFull Target.Octets target.old (pointer_to offset)) }
     ensures capacity { Target.capacity target.old ≤ Target.capacity target.new }
 {
     target.append_slice(&pointer(offset))
@@ -44,7 +45,7 @@ fn append_pointed<Target: OctetsBuilder>(
         (Target.octets target.new ≡ Target.octets target.old ++ pointed name.now begin offset) }
     ensures unchanged { OnErr result (Target.octets target.new ≡ Target.octets target.old) }
     ensures full { OnErr result
-        (ExceedSpare Target.OctetsBuilder (pointed name.now begin offset) target.old) }
+        (TooFull Target.Octets target.old (pointed name.now begin offset)) }
     ensures capacity { Target.capacity target.old ≤ Target.capacity target.new }
 {
     let mut octets = [0; 255];
@@ -67,7 +68,7 @@ fn append_begun<Target: OctetsBuilder>(
         (Target.octets target.new ≡ Target.octets target.old ++ pointed name.now begin offset) }
     ensures unchanged { OnErr result (Target.octets target.new ≡ Target.octets target.old) }
     ensures full { OnErr result
-        (ExceedSpare Target.OctetsBuilder (pointed name.now begin offset) target.old) }
+        (TooFull Target.Octets target.old (pointed name.now begin offset)) }
     ensures capacity { Target.capacity target.old ≤ Target.capacity target.new }
 {
     if begin == 0 {

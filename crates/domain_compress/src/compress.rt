@@ -4,7 +4,7 @@ ghost use Rattle.std.proofs.lemmas.Bool.{true≢false, false≢true};
 ghost use Rattle.std.proofs.Props.{props};
 ghost use Rattle.octseq.specs.Octets.{appended_twice};
 ghost use Rattle.domain_label.specs.Wire.{IsAbsoluteWire};
-ghost use Rattle.domain_compress.specs.Compressing.{Adds, RememberedLabel, remembered_within};
+ghost use Rattle.domain_compress.specs.Compressing.{AddsCompressed, RememberedLabel, remembered_within};
 ghost use Rattle.domain_compress.specs.Forgetting.{AllWithin, entries_within, entries_inside, few_entries, all_within, all_left, within_twice, name_cut, few_remembered, remembered_still, may_write_so};
 ghost use Rattle.domain_compress.specs.Hashes.{IsKnown};
 ghost use Rattle.domain_compress.specs.MayWrite.{MayWrite, adds_appended};
@@ -66,14 +66,14 @@ impl<T: Composer> CompressComposer<T> {
 }
 
 impl<T: Composer> CompressComposer<T> {
-    ghost use Rattle.domain_compress.specs.Composers.{octets_of, room_of, RemembersSame, WritesName, AppendsName, ExceedsRoom};
+    ghost use Rattle.domain_compress.specs.Composers.{octets_of, room_of, RemembersSame, WritesCompressed, AppendsForName, ExceedsRoom};
 
     /// Appends a name that isn't the one that was written first, or is written otherwise.
     #[inline(never)]
     fn append_searched(&mut self, name: &[u8]) -> Result<(), T::AppendError>
         requires { IsAbsoluteWire name.now }
-        ensures appends { OnOk result (WritesName name.now self.old self.new) }
-        ensures ok { OnOk result (AppendsName name.now self.old self.new) }
+        ensures appends { OnOk result (WritesCompressed name.now self.old self.new) }
+        ensures ok { OnOk result (AppendsForName name.now self.old self.new) }
         ensures unchanged { OnErr result (octets_of self.new ≡ octets_of self.old) }
         ensures memory_unchanged { OnErr result (RemembersSame self.old self.new) }
         ensures full { OnErr result (ExceedsRoom name.now self.old) }
@@ -197,7 +197,7 @@ impl<T: Composer> OctetsBuilder for CompressComposer<T> {
 
 impl<T: Composer> Composer for CompressComposer<T> {
     ghost use Rattle.domain_compress.specs.Composers.{remembered_labels, octets_of, room_of, RemembersSame};
-    ghost use Rattle.domain_compress.specs.Composers.{WritesName, AppendsName, ExceedsRoom};
+    ghost use Rattle.domain_compress.specs.Composers.{WritesCompressed, AppendsForName, ExceedsRoom};
     ghost use Rattle.domain_compress.specs.Pointed.{compressed_reads_back};
 
     ghost may_append = { λ c ls s.
@@ -211,7 +211,7 @@ impl<T: Composer> Composer for CompressComposer<T> {
 
     ghost kept_within = { remembered_within };
 
-    ghost appends = { λ c ls d. Adds (T.octets c.target) (remembered_labels c) ls
+    ghost appends = { λ c ls d. AddsCompressed (T.octets c.target) (remembered_labels c) ls
         (T.octets d.target) (remembered_labels d) };
 
     /// Appends the labels before the longest suffix of the name that stands at an offset that is remembered, and a
@@ -222,8 +222,8 @@ impl<T: Composer> Composer for CompressComposer<T> {
     /// then as before.
     fn append_flat_name(&mut self, name: &[u8]) -> Result<(), T::AppendError>
         requires { IsAbsoluteWire name.now }
-        ensures appends { OnOk result (WritesName name.now self.old self.new) }
-        ensures ok { OnOk result (AppendsName name.now self.old self.new) }
+        ensures appends { OnOk result (WritesCompressed name.now self.old self.new) }
+        ensures ok { OnOk result (AppendsForName name.now self.old self.new) }
         ensures unchanged { OnErr result (octets_of self.new ≡ octets_of self.old) }
         ensures memory_unchanged { OnErr result (RemembersSame self.old self.new) }
         ensures full { OnErr result (ExceedsRoom name.now self.old) }
