@@ -15,7 +15,3 @@ types_left it = map (λ bit. it.first + bit) (ones it.octet) ++ types_after it
 -- how many octets are after that at which it is
 abbrev pub octets_left : TypesIter → ℕ
 octets_left it = length it.bitmap.now + length it.later.now
-
--- a type
-abbrev pub type_of : ℕ → ℕ
-type_of n = n
