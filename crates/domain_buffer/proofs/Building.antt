@@ -30,7 +30,7 @@ use Rattle.domain_header.specs.Headers.{header_octets, counts_octets}
 use Rattle.domain_header.specs.declared.counts.HeaderCounts.{HeaderCounts}
 use Rattle.domain_header.specs.declared.flags.Header.{Header}
 use Rattle.domain_buffer.specs.Puts.{PutsAt}
-use Rattle.domain_buffer.specs.Builders.{state, header_of, starts_of, counts_of, table_of, questioned, counted, entered, asked, after_owner, Exactly, IsUsable, Enters, PushesData}
+use Rattle.domain_buffer.specs.Builders.{state, header_of, starts_of, counts_of, table_of, questioned, with_one_more, entered, asked, after_owner, Exactly, IsUsable, Enters, PushesData}
 use Rattle.domain_buffer.proofs.Puts.{puts_take, puts_size, puts_first}
 use Rattle.domain_buffer.specs.Plans.{IsTable, Spells, more_of_table}
 use Rattle.domain_buffer.specs.declared.builder.Builder.{Builder}
@@ -171,10 +171,10 @@ record_added section o b owner head May rdata o' b' y small_type small_class sma
 
 -- A record was pushed.
 pub record_pushed : (section : Section) (o : List ℕ) (b : Builder) (owner : List ℕ) (head : RecordHead) (rdata o' : List ℕ) (b' x : Builder) → head.rtype < 2 ^ 16 → head.class < 2 ^ 16 → head.ttl < 2 ^ 32 → head.owner ≡ labels_in owner → IsUsable o b → IsAbsoluteWire owner → (0 < later_count section (counts_of b) → ⊥) → Enters o b owner (after_owner head rdata) o' b'
-    → b' ≡ entered b b' → x ≡ counted section b' → PushesData section owner head rdata o b o' x
+    → b' ≡ entered b b' → x ≡ with_one_more section b' → PushesData section owner head rdata o b o' x
 record_pushed Answer o b owner head rdata o' b' x small_type small_class small_ttl named u wired none e others counts =
-    let y : Builder = counted Answer (entered b b') in
-    let same : y ≡ x = ap (counted Answer) (sym others) ∙ sym counts in
+    let y : Builder = with_one_more Answer (entered b b') in
+    let same : y ≡ x = ap (with_one_more Answer) (sym others) ∙ sym counts in
     let ordered = ordered_after Answer (starts_of b) b.len b'.len (omega (arith, e.ends)) u.ordered in
     subst (λ z. PushesData Answer owner head rdata o b o' z) same (record {
       enters = enters_same o b owner (after_owner head rdata) o' b' y e refl refl refl;
@@ -182,8 +182,8 @@ record_pushed Answer o b owner head rdata o' b' x small_type small_class small_t
       usable = still_usable o b owner (after_owner head rdata) o' b' y u e refl refl refl refl ordered;
     })
 record_pushed Authority o b owner head rdata o' b' x small_type small_class small_ttl named u wired none e others counts =
-    let y : Builder = counted Authority (entered b b') in
-    let same : y ≡ x = ap (counted Authority) (sym others) ∙ sym counts in
+    let y : Builder = with_one_more Authority (entered b b') in
+    let same : y ≡ x = ap (with_one_more Authority) (sym others) ∙ sym counts in
     let ordered = ordered_after Authority (starts_of b) b.len b'.len (omega (arith, e.ends)) u.ordered in
     subst (λ z. PushesData Authority owner head rdata o b o' z) same (record {
       enters = enters_same o b owner (after_owner head rdata) o' b' y e refl refl refl;
@@ -191,8 +191,8 @@ record_pushed Authority o b owner head rdata o' b' x small_type small_class smal
       usable = still_usable o b owner (after_owner head rdata) o' b' y u e refl refl refl refl ordered;
     })
 record_pushed Additional o b owner head rdata o' b' x small_type small_class small_ttl named u wired none e others counts =
-    let y : Builder = counted Additional (entered b b') in
-    let same : y ≡ x = ap (counted Additional) (sym others) ∙ sym counts in
+    let y : Builder = with_one_more Additional (entered b b') in
+    let same : y ≡ x = ap (with_one_more Additional) (sym others) ∙ sym counts in
     let ordered = ordered_after Additional (starts_of b) b.len b'.len (omega (arith, e.ends)) u.ordered in
     subst (λ z. PushesData Additional owner head rdata o b o' z) same (record {
       enters = enters_same o b owner (after_owner head rdata) o' b' y e refl refl refl;

@@ -14,9 +14,9 @@ use Rattle.domain_message_builder.specs.SectionStarts.{IsInOrder, starts_after}
 use Rattle.domain_message_builder.proofs.Ordering.{ordered_after}
 use Rattle.domain_buffer.specs.Puts.{PutsAt}
 use Rattle.domain_buffer.specs.Plans.{IsTable, Spells, more_of_table}
-use Rattle.domain_buffer.specs.Builders.{state, starts_of, counts_of, table_of, counted, entered, after_owner, IsUsable, Enters}
+use Rattle.domain_buffer.specs.Builders.{state, starts_of, counts_of, table_of, with_one_more, entered, after_owner, IsUsable, Enters}
 use Rattle.domain_buffer.specs.Data.{Fields, IsSecond, IsNamed}
-use Rattle.domain_buffer.specs.Named.{SpelledNames, SpellsAny, SpellsNames, data_octets, names_remembered, owner_remembered, EntersNamed, NamedTooBig, WritesAfterOwner, HasNoRoomAfterOwner, SameNames, PushesNamed}
+use Rattle.domain_buffer.specs.Named.{SpelledNames, SpellsAny, SpellsNames, written_data, names_remembered, owner_remembered, EntersNamed, NamedTooBig, WritesAfterOwner, HasNoRoomAfterOwner, SameNames, PushesNamed}
 use Rattle.domain_buffer.specs.declared.builder.Builder.{Builder}
 use Rattle.domain_buffer.proofs.Puts.{puts_take, puts_size, puts_both}
 use Rattle.domain_buffer.proofs.Later.{name_octets_later}
@@ -79,7 +79,7 @@ names_added table f s p at k n first both k_is n_is added more at_is =
 pub named_entered : (o : List ℕ) (b : Builder) (owner : List ℕ) (head : RecordHead) (f : Fields) (begin : ℕ) (named m o' table table' : List ℕ) (at end count : ℕ) (b' : Builder) → IsUsable o b → Spells (take b.len o) (table_of b) owner begin named → at ≡ b.len + length named → at + 10 ≤ b.limit → PutsAt b.len named o m → table ≡ owner_remembered b owner begin
     → WritesAfterOwner m at b.limit table (before_length head.rtype head.class head.ttl) f end count o' table' → b'.len ≡ end → b'.table_len ≡ count → b'.table ≡ table' → EntersNamed o b owner head f o' b'
 named_entered o b owner head f begin named m o' table table' at end count b' u spelled at_is room puts is w ends few remembers =
-    let octets = data_octets f w.names in
+    let octets = written_data f w.names in
     let rest = after_owner head octets in
     let front = before_length head.rtype head.class head.ttl in
     let size : length rest ≡ 10 + length octets = omega (arith, length-append front (to_be_bytes w16 (length octets) ++ octets), length-append (to_be_bytes w16 (length octets)) octets) in
@@ -113,7 +113,7 @@ read_there t front size x table name begin s wired spelled =
     let there : t ++ front ++ size ++ x ≡ t ++ (front ++ size ++ x) = ap (λ z. z ++ x) (append_assoc t front size) ∙ append_assoc t (front ++ size) x in
     subst (λ z. NameOctets (labels_in name) true z s) (sym there) (name_octets_later t (front ++ size ++ x) (remembered_in_table table) (labels_in name) (labels_in (take begin name)) s wired.1 spelled.compresses)
 
-same_names : (rtype : ℕ) (t front size table : List ℕ) (f : Fields) (s : SpelledNames) → IsNamed rtype f → SpellsNames t table f s → SameNames f (t ++ front ++ size) (data_octets f s)
+same_names : (rtype : ℕ) (t front size table : List ℕ) (f : Fields) (s : SpelledNames) → IsNamed rtype f → SpellsNames t table f s → SameNames f (t ++ front ++ size) (written_data f s)
 same_names rtype t front size table f s n spelled = record {
   first = s.first;
   first_read = read_there t front size f.before table f.first s.first_begin s.first n.first spelled.first;
@@ -129,7 +129,7 @@ same_names rtype t front size table f s n spelled = record {
 abbrev plain : Builder → List ℕ → Builder
 plain b table = record b { table_len = 128; table = table }
 
-abbrev plainly : (o : List ℕ) (b : Builder) (owner : List ℕ) (head : RecordHead) (f : Fields) (o' : List ℕ) (b' : Builder) → (e : EntersNamed o b owner head f o' b') → Enters o b owner (after_owner head (data_octets f e.names)) o' (plain b' (owner_remembered b owner e.begin))
+abbrev plainly : (o : List ℕ) (b : Builder) (owner : List ℕ) (head : RecordHead) (f : Fields) (o' : List ℕ) (b' : Builder) → (e : EntersNamed o b owner head f o' b') → Enters o b owner (after_owner head (written_data f e.names)) o' (plain b' (owner_remembered b owner e.begin))
 plainly o b owner head f o' b' e = record {
   begin = e.begin;
   named = e.named;
@@ -158,21 +158,21 @@ named_usable : (o : List ℕ) (b : Builder) (owner : List ℕ) (head : RecordHea
 named_usable o b owner head f o' x u e limit ordered =
     let own = more_is_table (table_of b) b.len (labels_in (take e.begin owner)) u.table in
     let is = subst IsTable (sym e.remembers) (names_are_table (owner_remembered b owner e.begin) f e.names (b.len + length e.named + 10) own) in
-    usable_after o b (e.named ++ after_owner head (data_octets f e.names)) o' x u e.puts e.ends e.within limit e.few is ordered
+    usable_after o b (e.named ++ after_owner head (written_data f e.names)) o' x u e.puts e.ends e.within limit e.few is ordered
 
 named_made : (section : Section) (o : List ℕ) (b : Builder) (owner : List ℕ) (head : RecordHead) (f : Fields) (o' : List ℕ) (b' y : Builder) → head.rtype < 2 ^ 16 → head.class < 2 ^ 16 → head.ttl < 2 ^ 32 → head.owner ≡ labels_in owner → IsUsable o b → IsAbsoluteWire owner → (0 < later_count section (counts_of b) → ⊥) → IsNamed head.rtype f → EntersNamed o b owner head f o' b'
     → CountsRecord section (counts_of b) (counts_of y) → starts_of y ≡ starts_after section b'.len (starts_of b) → PushesRecord true section head (SameNames f) (state o b) (record (state o b) { counts = counts_of y; starts = starts_of y; octets = take b'.len o' })
 named_made section o b owner head f o' b' y small_type small_class small_ttl named u wired none n e counts at =
-    let octets = data_octets f e.names in
+    let octets = written_data f e.names in
     let allowed = same_names head.rtype (take b.len o ++ e.named) (before_length head.rtype head.class head.ttl) (to_be_bytes w16 (length octets)) (owner_remembered b owner e.begin) f e.names n e.spells.names_spelled in
     record_added section o b owner head (SameNames f) octets o' (plain b' (owner_remembered b owner e.begin)) y small_type small_class small_ttl named u wired none (plainly o b owner head f o' b' e) allowed counts at
 
 -- A record whose data have names was pushed.
 pub named_pushed : (section : Section) (o : List ℕ) (b : Builder) (owner : List ℕ) (head : RecordHead) (f : Fields) (o' : List ℕ) (b' x : Builder) → head.rtype < 2 ^ 16 → head.class < 2 ^ 16 → head.ttl < 2 ^ 32 → head.owner ≡ labels_in owner → IsUsable o b → IsAbsoluteWire owner → (0 < later_count section (counts_of b) → ⊥) → IsNamed head.rtype f → EntersNamed o b owner head f o' b'
-    → b' ≡ entered b b' → x ≡ counted section b' → PushesNamed section owner head f o b o' x
+    → b' ≡ entered b b' → x ≡ with_one_more section b' → PushesNamed section owner head f o b o' x
 named_pushed Answer o b owner head f o' b' x small_type small_class small_ttl named u wired none n e others counts =
-    let y : Builder = counted Answer (entered b b') in
-    let same : y ≡ x = ap (counted Answer) (sym others) ∙ sym counts in
+    let y : Builder = with_one_more Answer (entered b b') in
+    let same : y ≡ x = ap (with_one_more Answer) (sym others) ∙ sym counts in
     let made = named_same o b owner head f o' b' y e refl refl refl in
     let longer : b.len ≤ b'.len = omega (arith, e.ends) in
     subst (λ z. PushesNamed Answer owner head f o b o' z) same (record {
@@ -181,8 +181,8 @@ named_pushed Answer o b owner head f o' b' x small_type small_class small_ttl na
       usable = named_usable o b owner head f o' y u made refl (ordered_after Answer (starts_of b) b.len b'.len longer u.ordered);
     })
 named_pushed Authority o b owner head f o' b' x small_type small_class small_ttl named u wired none n e others counts =
-    let y : Builder = counted Authority (entered b b') in
-    let same : y ≡ x = ap (counted Authority) (sym others) ∙ sym counts in
+    let y : Builder = with_one_more Authority (entered b b') in
+    let same : y ≡ x = ap (with_one_more Authority) (sym others) ∙ sym counts in
     let made = named_same o b owner head f o' b' y e refl refl refl in
     let longer : b.len ≤ b'.len = omega (arith, e.ends) in
     subst (λ z. PushesNamed Authority owner head f o b o' z) same (record {
@@ -191,8 +191,8 @@ named_pushed Authority o b owner head f o' b' x small_type small_class small_ttl
       usable = named_usable o b owner head f o' y u made refl (ordered_after Authority (starts_of b) b.len b'.len longer u.ordered);
     })
 named_pushed Additional o b owner head f o' b' x small_type small_class small_ttl named u wired none n e others counts =
-    let y : Builder = counted Additional (entered b b') in
-    let same : y ≡ x = ap (counted Additional) (sym others) ∙ sym counts in
+    let y : Builder = with_one_more Additional (entered b b') in
+    let same : y ≡ x = ap (with_one_more Additional) (sym others) ∙ sym counts in
     let made = named_same o b owner head f o' b' y e refl refl refl in
     let longer : b.len ≤ b'.len = omega (arith, e.ends) in
     subst (λ z. PushesNamed Additional owner head f o b o' z) same (record {

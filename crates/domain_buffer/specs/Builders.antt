@@ -97,11 +97,11 @@ questioned b =
     }
 
 -- a record more in a section, which ends where the message does
-abbrev pub counted : Section → Builder → Builder
-counted Answer b =
+abbrev pub with_one_more : Section → Builder → Builder
+with_one_more Answer b =
     record b { answers = b.answers + 1; authority_start = b.len; additional_start = b.len }
-counted Authority b = record b { authority = b.authority + 1; additional_start = b.len }
-counted Additional b = record b { additional = b.additional + 1 }
+with_one_more Authority b = record b { authority = b.authority + 1; additional_start = b.len }
+with_one_more Additional b = record b { additional = b.additional + 1 }
 
 -- what a question says whose name has this wire format
 abbrev pub asked : List ℕ → ℕ → ℕ → QuestionFields

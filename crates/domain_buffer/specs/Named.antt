@@ -38,8 +38,8 @@ pub record SpellsNames (t table : List ℕ) (f : Fields) (s : SpelledNames) : Ty
   pub second : SpellsAny t table f.second s.second_begin s.second
 
 -- the data as they are written: the numbers as they are, and for each name what is written for it
-abbrev pub data_octets : Fields → SpelledNames → List ℕ
-data_octets f s = f.before ++ (s.first ++ (s.second ++ f.after))
+abbrev pub written_data : Fields → SpelledNames → List ℕ
+written_data f s = f.before ++ (s.first ++ (s.second ++ f.after))
 
 -- how many octets a head and the data have, where this is written for the names
 abbrev pub len_after_owner : (head : List ℕ) → NamedData → (first second : List ℕ) → ℕ
@@ -77,8 +77,8 @@ pub record EntersNamed (o : List ℕ) (b : Builder) (owner : List ℕ) (head : R
   pub named : List ℕ
   pub names : SpelledNames
   pub spells : SpellsRecord o b owner f begin named names
-  pub puts : PutsAt b.len (named ++ after_owner head (data_octets f names)) o o'
-  pub ends : b'.len ≡ b.len + length (named ++ after_owner head (data_octets f names))
+  pub puts : PutsAt b.len (named ++ after_owner head (written_data f names)) o o'
+  pub ends : b'.len ≡ b.len + length (named ++ after_owner head (written_data f names))
   pub within : b'.len ≤ b.limit
   pub few : b'.table_len ≤ 128
   pub remembers : table_of b' ≡ names_remembered (owner_remembered b owner begin) f names
@@ -91,7 +91,7 @@ NamedTooBig o b owner f =
     × (b.limit < b.len + length named + 10))
     ⊎ ((begin : ℕ) × (named : List ℕ) × (names : SpelledNames)
     × SpellsRecord o b owner f begin named names
-    × (b.limit < b.len + length named + 10 + length (data_octets f names)))
+    × (b.limit < b.len + length named + 10 + length (written_data f names)))
 
 -- These octets after the first ones of o, up to start, within the limit, end a record whose owner's name ends before start.
 -- They end at end, and the first offsets of the table, so many, are those that are remembered then.
@@ -100,8 +100,8 @@ pub record WritesAfterOwner (o : List ℕ) (start limit : ℕ) (table before : L
   pub names : SpelledNames
   pub spells : SpellsNames (take start o) table f names
   pub puts : PutsAt start
-      (before ++ (to_be_bytes w16 (length (data_octets f names)) ++ data_octets f names)) o o'
-  pub ends : end ≡ start + 10 + length (data_octets f names)
+      (before ++ (to_be_bytes w16 (length (written_data f names)) ++ written_data f names)) o o'
+  pub ends : end ≡ start + 10 + length (written_data f names)
   pub within : end ≤ limit
   pub few : count ≤ 128
   pub remembers : take count table' ≡ names_remembered table f names (start + 10)
@@ -111,7 +111,7 @@ pub record HasNoRoomAfterOwner (o : List ℕ) (start limit : ℕ) (table : List 
     (f : Fields) : Type 0 where
   pub names : SpelledNames
   pub spells : SpellsNames (take start o) table f names
-  pub long : limit < start + 10 + length (data_octets f names)
+  pub long : limit < start + 10 + length (written_data f names)
 
 -- What follows the owner's name was written so.
 abbrev pub EndsRecord : List ℕ → (start limit : ℕ) → (table : List ℕ) → Head → NamedData → List ℕ → List ℕ → RecordEnd → Type 0

@@ -6,7 +6,7 @@ ghost use Rattle.domain_record.specs.Composing.{type_and_class, before_length};
 ghost use Rattle.domain_message_builder.specs.Pushes.{later_count, section_count};
 ghost use Rattle.domain_message_builder.specs.SectionStarts.{IsInOrder};
 ghost use Rattle.domain_buffer.specs.Puts.{PutsAt};
-ghost use Rattle.domain_buffer.specs.Builders.{all_header_octets, starts_of, counts_of, questioned, counted, IsUsable, EntersIfRoom};
+ghost use Rattle.domain_buffer.specs.Builders.{all_header_octets, starts_of, counts_of, questioned, with_one_more, IsUsable, EntersIfRoom};
 
 use crate::plan::{add_offsets, is_table, spell};
 use crate::put::place;
@@ -157,7 +157,7 @@ pub fn count_of(section: Section, builder: &Builder) -> u16
 /// Counts a record of a section that the message ends with: the sections after it begin behind it.
 pub fn count_record(section: Section, builder: &mut Builder)
     requires { section_count section (counts_of builder.old) < 65535 }
-    ensures { builder.new ≡ counted section builder.old }
+    ensures { builder.new ≡ with_one_more section builder.old }
 {
     match section {
         Section::Answer => {

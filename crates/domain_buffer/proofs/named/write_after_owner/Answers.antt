@@ -4,7 +4,7 @@ use Rattle.domain_label.specs.Wire.{labels_in}
 use Rattle.domain_record.specs.Composing.{before_length}
 use Rattle.domain_buffer.specs.Puts.{PutsAt}
 use Rattle.domain_buffer.specs.Data.{fields_of}
-use Rattle.domain_buffer.specs.Named.{SpelledNames, data_octets}
+use Rattle.domain_buffer.specs.Named.{SpelledNames, written_data}
 use Rattle.domain_buffer.proofs.Naming.{data_size, head_and_data, more_table, names_added}
 use Rattle.domain_buffer.proofs.named.write_after_owner.Goals as goal
 
@@ -36,7 +36,7 @@ returns-clause-some c =
     let first_size : length first ≡ c.spell-first.result.len = length-take-le c.spell-first.result.len c.spell-first.new.text (omega (arith, c.spell-first.ensures.fits)) in
     let second_size : length second ≡ c.spell_any-second.result.len = length-take-le c.spell_any-second.result.len c.spell_any-second.new.text (omega (arith, c.spell_any-second.ensures.fits)) in
     let names : SpelledNames = record { first_begin = c.spell-first.result.begin; first = first; second_begin = c.spell_any-second.result.begin; second = second } in
-    let octets = data_octets f names in
+    let octets = written_data f names in
     let size = data_size f.before first second f.after in
     let front = before_length c.args.head.rtype c.args.head.class c.args.head.ttl in
     let all = head_and_data front octets _ c.head_octets-before_data.result c.head_octets-before_data.ensures.octets (omega (arith, size, first_size, second_size)) in
