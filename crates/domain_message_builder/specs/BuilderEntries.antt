@@ -11,7 +11,7 @@ use Rattle.domain_message_builder.specs.Builders.{state, target_room}
 use Rattle.domain_message_builder.specs.Members.{head_of, data_octets_of}
 use Rattle.domain_message_builder.specs.Pushes.{asked, with_reserved, PushesQuestion, PushesRecord}
 use Rattle.domain_message_builder.specs.Refusals.{QuestionRefused, RecordRefused}
-use Rattle.domain_message_builder.specs.Tight.{Surpasses, RefusedAsWritten, HasNoRoom, RefusesEntry}
+use Rattle.domain_message_builder.specs.Tight.{Surpasses, RefusedAsWritten, QuestionHasNoRoom, RefusesEntry}
 use Rattle.domain_message_builder.specs.Views.{target_of}
 use Rattle.domain_message_builder.specs.declared.builder.MessageBuilder.{MessageBuilder}
 use Rattle.domain_message_builder.specs.declared.error.PushError.{PushError}
@@ -43,7 +43,7 @@ most_octets b = (state b).limit - (state b).reserved
 abbrev pub QuestionDoesNotFit : {T E N : Type 0} {g : _} {h : _} {i : _} {j : _} {k : _} {l : _}
     → (N → List (List ℕ)) → Question N → MessageBuilder T E g h i j k l → PushError E → Type 0
 QuestionDoesNotFit {g = g} {h = h} {j = j} labels q b e =
-    RefusedAsWritten (HasNoRoom labels j.octets j.capacity g.may_append q (target_of b))
+    RefusedAsWritten (QuestionHasNoRoom labels j.octets j.capacity g.may_append q (target_of b))
     (Surpasses j.octets (WritesQuestion labels h.extends g.appends q) (target_of b) (most_octets b)) e
 
 -- The record was pushed into the section.

@@ -41,12 +41,12 @@ abbrev pub with_options : List ℕ → Opt → Opt
 with_options options o = record o { options = options }
 
 -- the TTL: eight bits of the response code, eight of the version, the bit DO and fifteen of zero (6.1.3)
-abbrev pub opt_ttl : ℕ → ℕ → Bool → ℕ
-opt_ttl rcode_ext version dnssec_ok = rcode_ext * 16777216 + version * 65536 + bit_of dnssec_ok * 32768
+abbrev pub packed_opt_ttl : ℕ → ℕ → Bool → ℕ
+packed_opt_ttl rcode_ext version dnssec_ok = rcode_ext * 16777216 + version * 65536 + bit_of dnssec_ok * 32768
 
 -- the record before the length of its options: the root, the type 41, the size in the place of the class (6.1.2)
 abbrev pub opt_head : Opt → RecordHead
-opt_head o = record { owner = Root; rtype = 41; class = o.udp_payload_size; ttl = opt_ttl o.rcode_ext o.version o.dnssec_ok }
+opt_head o = record { owner = Root; rtype = 41; class = o.udp_payload_size; ttl = packed_opt_ttl o.rcode_ext o.version o.dnssec_ok }
 
 -- an option: its code, the length of its data, and the data (6.1.2)
 abbrev pub option_octets : ℕ → List ℕ → List ℕ

@@ -12,7 +12,7 @@ use Rattle.domain_message_builder.specs.Contents.{AsksIn, RecordsIn}
 use Rattle.domain_message_builder.specs.Members.{head_of, data_octets_of}
 use Rattle.domain_message_builder.specs.Pushes.{asked}
 use Rattle.domain_message_builder.specs.Refusals.{NotBegun, QuestionNotAppended, RecordNotAppended}
-use Rattle.domain_message_builder.specs.Tight.{Surpasses, RefusedAsWritten, HasNoRoom, RefusesEntry}
+use Rattle.domain_message_builder.specs.Tight.{Surpasses, RefusedAsWritten, QuestionHasNoRoom, RefusesEntry}
 use Rattle.domain_message_builder.specs.declared.error.PushError.{PushError}
 use Rattle.domain_message_builder.specs.declared.error.StartError.{StartError}
 
@@ -33,7 +33,7 @@ LacksQuestion g labels q most old e =
 -- If the question was composed, it has no room in the target, or surpasses the limit, as the target writes it.
 abbrev pub QuestionIsTooLong : {T E N : Type 0} → ComposerMembers T → (N → List (List ℕ)) → Question N → ℕ → T → PushError E → Type 0
 QuestionIsTooLong g labels q most old e =
-    RefusedAsWritten (HasNoRoom labels g.octets g.capacity g.may_append q old)
+    RefusedAsWritten (QuestionHasNoRoom labels g.octets g.capacity g.may_append q old)
     (Surpasses g.octets (WritesQuestion labels g.extends g.appends q) old most) e
 
 -- Octets that the record may be composed into were appended.

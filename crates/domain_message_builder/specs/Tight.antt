@@ -27,8 +27,8 @@ RefusedAsWritten Refuses over Order = ⊤
 
 -- The question has no room in the target: its name, as the target may write it, and the four octets after it. `may` tells what
 -- a target may append for a name.
-abbrev pub HasNoRoom : {N T E : Type 0} → (N → List (List ℕ)) → (T → List ℕ) → (T → ℕ) → (T → List (List ℕ) → List ℕ → Type 0) → Question N → T → E → Type 0
-HasNoRoom labels octets capacity may q old e = Exceeds (IsNameThen (may old (labels (question_name q))) (after_qname q)) (octets old) (capacity old)
+abbrev pub QuestionHasNoRoom : {N T E : Type 0} → (N → List (List ℕ)) → (T → List ℕ) → (T → ℕ) → (T → List (List ℕ) → List ℕ → Type 0) → Question N → T → E → Type 0
+QuestionHasNoRoom labels octets capacity may q old e = Exceeds (IsNameThen (may old (labels (question_name q))) (after_qname q)) (octets old) (capacity old)
 
 -- The target refused the record. `Refuses t room e`: it refuses the data so after the octets t.
 abbrev pub RefusesEntry : {N D T E : Type 0} → (N → List (List ℕ)) → (D → ℕ) → (T → List ℕ) → (T → ℕ) → (T → List (List ℕ) → List ℕ → Type 0) → (T → List (List ℕ) → T → Type 0) → (List ℕ → ℕ → E → Type 0) → Record N D → T → E → Type 0

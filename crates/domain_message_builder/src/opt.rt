@@ -1,6 +1,6 @@
 //! OPT records (RFC 6891).
 ghost use Rattle.std.specs.Prelude.{◌≡◌, ◌≤◌, ◌<◌, ◌+◌, ◌↔◌, length, IfOk, IfErr, IsErr, OnOk, OnErr};
-ghost use Rattle.domain_message_builder.specs.Opt.{opt_ttl, AppendsOption, OptionsAreFull};
+ghost use Rattle.domain_message_builder.specs.Opt.{packed_opt_ttl, AppendsOption, OptionsAreFull};
 
 use domain_header::{Class, Ttl};
 use domain_name::Name;
@@ -10,7 +10,7 @@ use octseq::{Octets, OctetsBuilder, Truncate};
 
 /// The TTL that tells these (6.1.3).
 fn flags_ttl(rcode_ext: u8, version: u8, dnssec_ok: bool) -> u32
-    ensures { result ≡ opt_ttl rcode_ext version dnssec_ok }
+    ensures { result ≡ packed_opt_ttl rcode_ext version dnssec_ok }
 {
     let numbers = u32::from(rcode_ext) * 16777216 + u32::from(version) * 65536;
     if dnssec_ok { numbers + 32768 } else { numbers }
