@@ -1,8 +1,9 @@
 -- Writing a name by a pointer or flat.
-use Rattle.std.proofs.Common.{◌≡◌, ℕ, ◌+◌, ◌≤◌, ◌<◌, List, [], ◌++◌, length, take, refl, sym, ap, subst, ◌∙◌, arith, append-nil, length-append}
+use Rattle.std.proofs.Common.{◌≡◌, ℕ, ◌+◌, ◌≤◌, ◌<◌, List, [], ◌∷◌, ◌++◌, length, take, refl, sym, ap, subst, ◌∙◌, arith, append-nil, length-append}
 use Rattle.std.proofs.lemmas.Grind.{common_steps}
+use Rattle.std.proofs.lemmas.List.{take_all}
 use Rattle.domain_label.specs.Wire.{wire, labels_in, IsWire, IsAbsolute, IsRelative, IsAbsoluteWire}
-use Rattle.domain_label.proofs.WireLaws.{labels_in_wire, relative_labels}
+use Rattle.domain_label.proofs.WireLaws.{labels_in_wire, labels_le_wire, relative_labels}
 use Rattle.domain_flat.proofs.LabelBounds.{IsWire_wire}
 use Rattle.domain_rdata.specs.ReadBack.{Exceeds}
 use Rattle.domain_compress.specs.Compressing.{RememberedLabel, pointer_to, Compresses, IsRead, remembered_from, AddsCompressed}
@@ -84,6 +85,27 @@ adds_flat t ws ws' name t' w x all e =
       all = whole;
       offsets = e ∙ ap (λ n. take 128 (ws ++ remembered_from (length t) n (labels_in name))) (ap length whole ∙ length-append t (wire (labels_in name)));
     }
+
+few_labels : (name : List ℕ) → IsAbsoluteWire name → length name ≡ 1 → length (labels_in name) ≤ 1
+few_labels name w one = omega (arith, labels_le_wire (labels_in name), ap length w.0, one)
+
+none_from : (p end : ℕ) (ls : List (List ℕ)) → IsAbsolute ls → length ls ≤ 1 → remembered_from p end ls ≡ []
+none_from p end [] absolute few = refl
+none_from p end ([] ∷ ls) absolute few = refl
+none_from p end ((c ∷ l) ∷ []) absolute few = absurd absolute.1
+none_from p end ((c ∷ l) ∷ (m ∷ ls)) absolute few = absurd (omega (arith, few))
+
+-- The root has no suffix that a pointer may stand for,
+pub root_flat : (t : List ℕ) (ws : List RememberedLabel) (name : List ℕ) → IsAbsoluteWire name → length name ≡ 1 → Compresses t ws (labels_in name) (labels_in name) (wire (labels_in name))
+root_flat t ws name w one =
+    flat (λ xs ys parts more. absurd (omega (arith, ap length parts, length-append xs ys, more, few_labels name w one)))
+
+-- and none of its labels is remembered.
+pub adds_root : (t : List ℕ) (ws : List RememberedLabel) (name t' : List ℕ) → IsAbsoluteWire name → length name ≡ 1 → length ws ≤ 128 → t' ≡ t ++ name → Adds t ws (labels_in name) t' ws
+adds_root t ws name t' w one few all =
+    let none : remembered_from (length t) (length t') (labels_in name) ≡ [] = none_from (length t) (length t') (labels_in name) w.1.0 (few_labels name w one) in
+    let same : take 128 (ws ++ remembered_from (length t) (length t') (labels_in name)) ≡ ws = ap (λ r. take 128 (ws ++ r)) none ∙ (ap (take 128) (append-nil ws) ∙ take_all 128 ws few) in
+    adds_flat t ws ws name t' w (root_flat t ws name w one) all (sym same)
 
 -- The labels that are spelled out are the first octets that are written.
 spelled_first : {t : List ℕ} {ws : List RememberedLabel} {ls labels : List (List ℕ)} {s : List ℕ} → Compresses t ws ls labels s → (r : List ℕ) × (s ≡ wire labels ++ r)

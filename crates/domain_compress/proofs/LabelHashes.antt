@@ -1,12 +1,12 @@
 -- The hashes of the labels at the offsets.
-use Rattle.std.proofs.Common.{◌≡◌, ℕ, suc, ◌+◌, ◌≤◌, ◌<◌, nat_le, length, List, [], ◌∷◌, ◌++◌, take, drop, ◌-◌, Bool, true, false, ◌&&◌, refl, sym, ap, subst, ◌∙◌, arith, slice_index, slice_range, length-append, get_or-append-add}
+use Rattle.std.proofs.Common.{◌≡◌, ℕ, zero, suc, ◌+◌, ◌≤◌, ◌<◌, nat_le, length, List, [], ◌∷◌, ◌++◌, take, drop, ◌-◌, Bool, true, false, ◌&&◌, refl, sym, ap, subst, ◌∙◌, arith, slice_index, slice_index_or, slice_set, slice_range, length-append, get_or-append-add}
 use Rattle.std.proofs.Math.Seq.{drop-append-add}
 use Rattle.std.proofs.lemmas.Grind.{common_steps}
 use Rattle.std.proofs.lemmas.List.{get_or_append_left, drop-take, take-take}
 use Rattle.std.proofs.lemmas.Bool.{false≢true, leb-true}
-use Rattle.std.proofs.lemmas.List.Elements.{All-nil, All-cons, All-head, All-tail, All-push, All-take, All-weaker, filter_passes}
+use Rattle.std.proofs.lemmas.List.Elements.{All-nil, All-cons, All-head, All-tail, All-push, All-take, All-weaker, AllWithin-more_set, filter_passes}
 use Rattle.std.proofs.Props.{props}
-use Rattle.std.specs.List.{All}
+use Rattle.std.specs.List.{All, AllWithin}
 use Rattle.domain_compress.specs.declared.written.Written.{Written}
 use Rattle.domain_compress.specs.Compressing.{RememberedLabel, remembered_within}
 use Rattle.domain_compress.specs.Forgetting.{EndsWithin}
@@ -49,7 +49,7 @@ hash_left t n p e h before x =
 pub known_more : (hashed : Bool) (t u : List ℕ) (ws : List Written) → IsKnown hashed t ws → IsKnown hashed (t ++ u) ws
 known_more hashed t u ws known = λ e k d lt. hash_more t u _ _ _ (known e k d lt)
 
-both_true : (a b : Bool) → (a && b) ≡ true → (a ≡ true) × (b ≡ true)
+pub both_true : (a b : Bool) → (a && b) ≡ true → (a ≡ true) × (b ≡ true)
 both_true true b e = (refl, e)
 both_true false b e = absurd (false≢true e)
 
@@ -110,9 +110,22 @@ known_first hashed t ws more w e known counts = subst (λ vs. All (IsHashed t) v
 pub known_rest : (hashed : Bool) (t : List ℕ) (ws more : List Written) (w : Written) → ws ≡ w ∷ more → IsKnown hashed t ws → IsKnown hashed t more
 known_rest hashed t ws more w e known = λ counts i d lt. subst (λ vs. All (IsHashed t) vs) e (known counts) (suc i) d (omega (arith, lt))
 
-pub known_still : (hashed : Bool) (t t' s labels : List ℕ) (start end : ℕ) (ws vs : List Written) → t' ≡ t ++ s → IsKnown hashed t ws → StayKnown labels start end ws vs → StandFrom t' labels start end → IsKnown hashed t' vs
-known_still hashed t t' s labels start end ws vs all known kept there =
-    λ counts. kept t' there (subst (λ m. IsKnown hashed m ws) (sym all) (known_more hashed t s ws known) counts)
+-- What is known of the old entries is known of the new ones, too, where their hashes count.
+pub known_still : (hashed counted : Bool) (t t' s labels : List ℕ) (start end : ℕ) (ws vs : List Written) → (counted ≡ true → hashed ≡ true) → t' ≡ t ++ s → IsKnown hashed t ws → (counted ≡ true → StayKnown labels start end ws vs) → StandFrom t' labels start end → IsKnown counted t' vs
+known_still hashed counted t t' s labels start end ws vs was all known kept there =
+    λ counts. kept counts t' there (subst (λ m. IsKnown hashed m ws) (sym all) (known_more hashed t s ws known) (was counts))
+
+-- An entry whose hash alone is another has the same offset and end.
+pub remembered_set : (ws : List Written) (i : ℕ) (w d : Written) → i < length ws → remembered w ≡ remembered (slice_index_or ws i d) → all_remembered (slice_set ws i w) ≡ all_remembered ws
+remembered_set [] i w d lt same = absurd (omega (arith, lt))
+remembered_set (v ∷ ws) zero w d lt same = ap (λ r. r ∷ all_remembered ws) same
+remembered_set (v ∷ ws) (suc i) w d lt same = ap (λ rs. remembered v ∷ rs) (remembered_set ws i w d (omega (arith, lt)) same)
+
+-- One hash more is known.
+pub hashed_next : (t : List ℕ) (stands stand : Bool) (ws : List Written) (i : ℕ) (w : Written) → i < length ws → (stands ≡ true → IsHashed t w) → (stand ≡ true → AllWithin (IsHashed t) ws 0 i) → (stands && stand) ≡ true → AllWithin (IsHashed t) (slice_set ws i w) 0 (i + 1)
+hashed_next t stands stand ws i w lt here known both =
+    let b = both_true stands stand both in
+    AllWithin-more_set ws i w lt (IsHashed t) (known b.1) (here b.0)
 
 all_left : (t : List ℕ) (n : ℕ) (ws : List Written) → All (IsHashed t) ws → All (EndsWithin n) (all_remembered ws) → All (IsHashed (take n t)) ws
 all_left t n [] known inside = All-nil (IsHashed (take n t))

@@ -11,7 +11,7 @@ ghost use Rattle.domain_compress.specs.MayWrite.{MayWrite, adds_appended};
 ghost use Rattle.domain_compress.specs.Written.{all_remembered};
 
 use crate::append::{append_again, append_beginning};
-use crate::remember::{forget, remember};
+use crate::remember::{forget, hash_all, remember};
 use crate::search::first_again;
 use crate::written::Written;
 use arrayvec::ArrayVec;
@@ -34,7 +34,7 @@ use octseq::{Octets, OctetsBuilder, OctetsMut, Truncate};
 pub struct CompressComposer<T: Composer> {
     target: T,
     written: ArrayVec<Written, 128>,
-    /// Whether the hashes count, which they don't once octets were lent for writing.
+    /// Whether the hashes count, which they don't once octets were lent for writing, nor before a name was searched for.
     hashed: bool,
     ghost known: { IsKnown hashed (T.octets target) written.items } by { Prim.hlevel props },
     ghost inside: { AllWithin (length (T.octets target)) written.items } by { Prim.hlevel props },
@@ -66,7 +66,36 @@ impl<T: Composer> CompressComposer<T> {
 }
 
 impl<T: Composer> CompressComposer<T> {
-    ghost use Rattle.domain_compress.specs.Composers.{octets_of, room_of, RemembersSame, WritesCompressed, AppendsForName, ExceedsRoom};
+    ghost use Rattle.domain_compress.specs.Composers.{target_of, octets_of, room_of, RemembersSame, WritesCompressed, AppendsForName, ExceedsRoom};
+
+    /// Hashes what is remembered, where its hashes don't count.
+    #[inline(always)]
+    fn hash_remembered(&mut self)
+        ensures target { target_of self.new ≡ target_of self.old }
+        ensures offsets { RemembersSame self.old self.new }
+    {
+        if !self.hashed {
+            self.hashed = hash_all(&mut self.written, self.target.as_slice());
+        }
+    }
+
+    /// Appends the root, which no pointer stands for.
+    #[inline(always)]
+    fn append_root(&mut self, root: &[u8]) -> Result<(), T::AppendError>
+        requires wire { IsAbsoluteWire root.now }
+        requires root { length root.now ≡ 1 }
+        ensures appends { OnOk result (WritesCompressed root.now self.old self.new) }
+        ensures ok { OnOk result (AppendsForName root.now self.old self.new) }
+        ensures unchanged { OnErr result (octets_of self.new ≡ octets_of self.old) }
+        ensures memory_unchanged { OnErr result (RemembersSame self.old self.new) }
+        ensures full { OnErr result (ExceedsRoom root.now self.old) }
+        ensures capacity { room_of self.old ≤ room_of self.new }
+    {
+        match self.target.append_slice(root) {
+            Ok(()) => Ok(()),
+            Err(e) => Err(e),
+        }
+    }
 
     /// Appends a name that isn't the one that was written first, or is written otherwise.
     #[inline(never)]
@@ -79,6 +108,7 @@ impl<T: Composer> CompressComposer<T> {
         ensures full { OnErr result (ExceedsRoom name.now self.old) }
         ensures capacity { room_of self.old ≤ room_of self.new }
     {
+        self.hash_remembered();
         let start = self.target.as_slice().len();
         let begun = match append_beginning(
             &mut self.target,
@@ -91,14 +121,16 @@ impl<T: Composer> CompressComposer<T> {
         };
         if let Some(at) = begun {
             let end = self.target.as_slice().len();
-            remember(&mut self.written, &name[..at], start, end);
+            remember(&mut self.written, &name[..at], start, end, self.hashed);
             return Ok(());
         }
         if let Err(e) = self.target.append_slice(name) {
             return Err(e);
         }
         let end = self.target.as_slice().len();
-        remember(&mut self.written, name, start, end);
+        // Most messages have one name, which is found again without its hashes: the next search makes them.
+        self.hashed = self.hashed & (self.written.len() > 0);
+        remember(&mut self.written, name, start, end, self.hashed);
         Ok(())
     }
 }
@@ -229,6 +261,9 @@ impl<T: Composer> Composer for CompressComposer<T> {
         ensures full { OnErr result (ExceedsRoom name.now self.old) }
         ensures capacity { room_of self.old ≤ room_of self.new }
     {
+        if name.len() == 1 {
+            return self.append_root(name);
+        }
         if let Some(found) = first_again(self.target.as_slice(), self.written.as_slice(), name) {
             match append_again(&mut self.target, self.written.as_slice(), name, found) {
                 Ok(()) => return Ok(()),

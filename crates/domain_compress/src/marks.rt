@@ -26,6 +26,14 @@ pub(crate) fn hash(label: &[u8]) -> u16
     (sum.wrapping_mul(SPREAD) / 281474976710656) as u16
 }
 
+/// The same where the hashes count, and else 0.
+#[inline(always)]
+pub(crate) fn hash_if(hashed: bool, label: &[u8]) -> u16
+    ensures { hashed ≡ true → result ≡ label_hash label.now }
+{
+    if hashed { hash(label) } else { 0 }
+}
+
 /// Where a hash is marked.
 fn slot(hash: u16) -> usize
     ensures { result ≡ slot_of hash }

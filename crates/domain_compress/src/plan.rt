@@ -133,7 +133,7 @@ pub fn more_offsets(table: &[u16], labels: &[u8], start: usize) -> ArrayVec<u16,
         ≡ take 128 (table.now ++ offsets (remembered_from start start (labels_in labels.now))) }
 {
     let mut written = written_at(table);
-    // The offsets alone are asked for: where the name ends isn't known here, and the hashes aren't looked at.
-    remember(&mut written, labels, start, start);
+    // The offsets alone are asked for: where the name ends isn't known here, and no hash is looked at.
+    remember(&mut written, labels, start, start, false);
     offsets_of(written.as_slice())
 }

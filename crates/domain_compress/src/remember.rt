@@ -1,11 +1,11 @@
 //! Remembering where labels were written.
-ghost use Rattle.std.specs.Prelude.{◌+◌, ◌≤◌, length, IfSome};
+ghost use Rattle.std.specs.Prelude.{◌≡◌, ◌+◌, ◌≤◌, length, IfSome, true};
 ghost use Rattle.domain_label.specs.Wire.{IsWire};
 ghost use Rattle.domain_compress.specs.Forgetting.{LeavesFirst, AreLeft};
-ghost use Rattle.domain_compress.specs.Hashes.{StayKnown, KnownWithin};
-ghost use Rattle.domain_compress.specs.Written.{RemembersToo};
+ghost use Rattle.domain_compress.specs.Hashes.{IsKnown, StayKnown, KnownWithin};
+ghost use Rattle.domain_compress.specs.Written.{all_remembered, RemembersToo};
 
-use crate::marks::{hash, hash_kept};
+use crate::marks::{hash_if, hash_kept};
 use crate::written::Written;
 use arrayvec::ArrayVec;
 
@@ -14,10 +14,17 @@ const OFFSETS_END: usize = 16384;
 
 /// Remembers labels one by one.
 #[inline(never)]
-fn remember_each(written: &mut ArrayVec<Written, 128>, labels: &[u8], start: usize, end: usize)
+fn remember_each(
+    written: &mut ArrayVec<Written, 128>,
+    labels: &[u8],
+    start: usize,
+    end: usize,
+    hashed: bool,
+)
     requires labels { IsWire labels.now }
     requires end { end ≤ start + 255 }
-    ensures known { StayKnown labels.now start end written.old.items written.new.items }
+    ensures known { hashed ≡ true
+        → StayKnown labels.now start end written.old.items written.new.items }
     ensures offsets { RemembersToo labels.now start end written.old.items written.new.items }
 {
     if written.remaining_capacity() == 0 {
@@ -43,24 +50,26 @@ fn remember_each(written: &mut ArrayVec<Written, 128>, labels: &[u8], start: usi
         written.push(Written {
             offset: (start + at) as u16,
             end: end as u16,
-            hash: hash(label),
+            hash: hash_if(hashed, label),
         });
         at = at + 1 + len;
     }
 }
 
 /// Remembers where these labels stand, but for the root, that were written from `start` on for a name that ends
-/// at `end`, each with its hash.
+/// at `end`, each with its hash where the hashes count.
 #[inline(always)]
 pub(crate) fn remember(
     written: &mut ArrayVec<Written, 128>,
     labels: &[u8],
     start: usize,
     end: usize,
+    hashed: bool,
 )
     requires labels { IsWire labels.now }
     requires end { end ≤ start + 255 }
-    ensures known { StayKnown labels.now start end written.old.items written.new.items }
+    ensures known { hashed ≡ true
+        → StayKnown labels.now start end written.old.items written.new.items }
     ensures offsets { RemembersToo labels.now start end written.old.items written.new.items }
 {
     if written.remaining_capacity() == 0 {
@@ -69,7 +78,22 @@ pub(crate) fn remember(
     if labels.len() == 0 {
         return;
     }
-    remember_each(written, labels, start, end)
+    remember_each(written, labels, start, end, hashed)
+}
+
+/// Hashes the label at each offset. Tells whether all of them stand there.
+#[inline(never)]
+pub(crate) fn hash_all(written: &mut ArrayVec<Written, 128>, octets: &[u8]) -> bool
+    ensures known { IsKnown result octets.now written.new.items }
+    ensures offsets { all_remembered written.new.items ≡ all_remembered written.old.items }
+{
+    let mut stand = true;
+    for label in written.as_mut_slice().iter_mut() {
+        let (stands, hash) = hash_kept(octets, *label, false);
+        label.hash = hash;
+        stand = stands & stand;
+    }
+    stand
 }
 
 /// How many of the entries are left by a cut to `len` octets, where these are the first ones.

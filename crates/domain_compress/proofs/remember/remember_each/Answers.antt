@@ -12,7 +12,7 @@ slice_bounds-label-end c =
 pub labels-init : goal.labels-init
 labels-init c = record {
   done = remember_start _ _ _ _ c.requires.labels;
-  known = λ t there old. old;
+  known = λ counts t there old. old;
   grown = omega arith;
   few = omega (arith, remembered_size c.args.written.now.items, c.remaining_capacity.ensures);
 }
@@ -40,9 +40,9 @@ labels-preserved c =
     let size : length c.push.new.self.items ≡ length c.labels.written.items + 1 = c.push.ensures.len in
     record {
       done = subst P (sym (remembered_push _ _ _ c.push.ensures.items)) (remember_next _ _ _ _ _ _ _ c.labels.invariant.done c.labels-test.true (sym c.from-len.ensures) (omega arith) (omega arith));
-      known = λ t there old.
-          let here = written_hash t _ _ _ _ _ _ _ _ c.labels.invariant.done.meets c.labels-test.true c.from-len.ensures c.hash.ensures there in
-          known_push t _ _ _ (c.labels.invariant.known t there old) here c.push.ensures.items;
+      known = λ counts t there old.
+          let here = written_hash t _ _ _ _ _ _ _ _ c.labels.invariant.done.meets c.labels-test.true c.from-len.ensures (c.hash_if.ensures counts) there in
+          known_push t _ _ _ (c.labels.invariant.known counts t there old) here c.push.ensures.items;
       grown = omega (arith, c.labels.invariant.grown, size);
       few = omega (arith, remembered_size c.push.new.self.items, size, c.remaining_capacity-in-labels.ensures);
     }
