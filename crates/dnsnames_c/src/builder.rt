@@ -9,7 +9,7 @@ use domain_buffer::builder::{
 };
 use domain_buffer::data::named_data;
 use domain_buffer::push::{PushFault, push_named, push_record};
-use domain_buffer::put::place;
+use domain_buffer::put::put_at;
 use domain_message::Section;
 use domain_name::Name;
 
@@ -30,7 +30,7 @@ pub extern "C" fn dnsnames_builder_start(
     if limit < 12 {
         return 8;
     }
-    place(&BLANK, octets, 0);
+    put_at(&BLANK, octets, 0);
     *builder = Builder {
         limit,
         len: 12,
@@ -216,7 +216,7 @@ pub extern "C" fn dnsnames_builder_finish(
     if !is_usable(octets, builder) {
         return 23;
     }
-    place(&header_octets_of(builder), octets, 0);
+    put_at(&header_octets_of(builder), octets, 0);
     *length = builder.len;
     0
 }

@@ -9,7 +9,7 @@ ghost use Rattle.domain_buffer.specs.Puts.{PutsAt};
 ghost use Rattle.domain_buffer.specs.Builders.{all_header_octets, starts_of, counts_of, questioned, with_one_more, IsUsable, EntersIfRoom};
 
 use crate::plan::{add_offsets, is_table, spell};
-use crate::put::place;
+use crate::put::put_at;
 use domain_message::Section;
 
 /// A message that is built: how many octets it has at most, how many it has, the identifier and the flags that it gets,
@@ -66,15 +66,15 @@ pub fn is_usable(octets: &[u8], builder: &Builder) -> bool
 }
 
 /// Puts the name, the head and the data of an entry into the buffer, one after the other, from an offset on.
-pub fn place_entry(name: &[u8], head: &[u8], data: &[u8], buffer: &mut [u8], offset: usize)
+pub fn put_entry(name: &[u8], head: &[u8], data: &[u8], buffer: &mut [u8], offset: usize)
     requires { offset + length name.now + (length head.now + length data.now) ≤ length buffer.old }
     ensures { PutsAt offset (name.now ++ (head.now ++ data.now)) buffer.old buffer.new }
 {
     let after_name = offset + name.len();
     let after_head = after_name + head.len();
-    place(name, buffer, offset);
-    place(head, buffer, after_name);
-    place(data, buffer, after_head);
+    put_at(name, buffer, offset);
+    put_at(head, buffer, after_name);
+    put_at(data, buffer, after_head);
 }
 
 /// Writes an entry after the message: its name, as `plan` of `domain_compress` tells, and the octets after it; and remembers the
@@ -105,7 +105,7 @@ pub fn enter(
     if room < before || room - before < data.len() {
         return false;
     }
-    place_entry(&text[..spelled.len], head, data, octets, start);
+    put_entry(&text[..spelled.len], head, data, octets, start);
     let count = builder.table_len;
     builder.table_len = add_offsets(&mut builder.table, count, &name[..spelled.begin], start);
     builder.len = start + before + data.len();

@@ -6,10 +6,10 @@ ghost use Rattle.domain_buffer.specs.Builders.{IsUsable};
 ghost use Rattle.domain_buffer.specs.Data.{fields_of, IsNamed};
 ghost use Rattle.domain_buffer.specs.Named.{SpellsAny, len_after_owner, PutsData, EndsRecord, EndExceedsLimit, EntersNamedIfRoom, NamesReadBack};
 
-use crate::builder::{Builder, Head, head_octets, place_entry};
+use crate::builder::{Builder, Head, head_octets, put_entry};
 use crate::data::NamedData;
 use crate::plan::{Spelled, add_offsets, spell};
-use crate::put::place;
+use crate::put::put_at;
 
 /// Puts what is to be written for a name after the octets into a text, or nothing for nothing.
 fn spell_any(octets: &[u8], table: &[u16], name: &[u8], text: &mut [u8; 255]) -> Spelled
@@ -27,7 +27,7 @@ fn spell_any(octets: &[u8], table: &[u16], name: &[u8], text: &mut [u8; 255]) ->
 
 /// Puts what follows an owner's name into the buffer from an offset on: a head, and data, whose names are spelled out in
 /// `first` and `second`.
-fn place_data(
+fn put_data(
     head: &[u8],
     fields: NamedData<'_>,
     first: &[u8],
@@ -39,9 +39,9 @@ fn place_data(
     ensures { PutsData offset head.now fields.entry first.now second.now buffer.old buffer.new }
 {
     let second_at = offset + head.len() + fields.before.len() + first.len();
-    place_entry(head, fields.before, first, buffer, offset);
-    place(second, buffer, second_at);
-    place(fields.after, buffer, second_at + second.len());
+    put_entry(head, fields.before, first, buffer, offset);
+    put_at(second, buffer, second_at);
+    put_at(fields.after, buffer, second_at + second.len());
 }
 
 /// What was written: the offset after it, and how many offsets the table has then.
@@ -90,7 +90,7 @@ fn write_after_owner(
     }
     let before_data = head_octets(head, len as u16);
     let (first_octets, second_octets) = (&first_text[..first.len], &second_text[..second.len]);
-    place_data(
+    put_data(
         &before_data,
         fields,
         first_octets,
@@ -141,7 +141,7 @@ pub fn enter_named(
     // Names in the data may lead into the owner's name, so that is written first, and taken away again where the rest
     // doesn't fit.
     kept[..named.len].copy_from_slice(&octets[start..after_owner]);
-    place(&text[..named.len], octets, start);
+    put_at(&text[..named.len], octets, start);
     let count = add_offsets(&mut table, count, &owner[..named.begin], start);
     match write_after_owner(octets, after_owner, limit, &mut table, count, head, fields) {
         Some(written) => {
@@ -151,7 +151,7 @@ pub fn enter_named(
             true
         }
         None => {
-            place(&kept[..named.len], octets, start);
+            put_at(&kept[..named.len], octets, start);
             false
         }
     }

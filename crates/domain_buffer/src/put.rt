@@ -3,7 +3,7 @@ ghost use Rattle.std.specs.Prelude.{◌≤◌, ◌+◌, length};
 ghost use Rattle.domain_buffer.specs.Puts.{PutsAt, PutsIfRoom};
 
 /// Puts the octets into the buffer from an offset on.
-pub fn place(octets: &[u8], buffer: &mut [u8], offset: usize)
+pub fn put_at(octets: &[u8], buffer: &mut [u8], offset: usize)
     requires { offset + length octets.now ≤ length buffer.old }
     ensures { PutsAt offset octets.now buffer.old buffer.new }
 {
@@ -18,6 +18,6 @@ pub fn put(octets: &[u8], buffer: &mut [u8], offset: usize) -> bool
     if buffer.len() - offset < octets.len() {
         return false;
     }
-    place(octets, buffer, offset);
+    put_at(octets, buffer, offset);
     true
 }

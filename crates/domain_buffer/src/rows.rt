@@ -4,7 +4,7 @@ ghost use Rattle.domain_header.specs.Numbers.{number16};
 ghost use Rattle.domain_buffer.specs.Puts.{PutsAt};
 ghost use Rattle.domain_buffer.specs.Rows.{row, AddsRow, NotTakenAfter, HoldsAll, StopsAfter};
 
-use crate::put::place;
+use crate::put::put_at;
 use crate::read::read_into;
 use domain_header::numbers::number_of_16_bits;
 use domain_offsets::entry::{Parts, parts_after};
@@ -58,7 +58,7 @@ fn row_of(at: usize, len: usize, parts: Parts) -> [u32; 8]
 }
 
 /// Puts a row after so many others.
-fn place_row(numbers: [u32; 8], rows: &mut [u32], count: usize)
+fn put_row(numbers: [u32; 8], rows: &mut [u32], count: usize)
     requires { 8 * count + 8 ≤ length rows.old }
     ensures { PutsAt (8 * count) numbers rows.old rows.new }
 {
@@ -97,9 +97,9 @@ fn take_entry(
     if rows.len() - 8 * taken.count < 8 || names.len() - taken.names < found.len {
         return Err(RowFault::NoRoom);
     }
-    place(&octets[..found.len], names, taken.names);
+    put_at(&octets[..found.len], names, taken.names);
     let numbers = row_of(taken.names, found.len, parts);
-    place_row(numbers, rows, taken.count);
+    put_row(numbers, rows, taken.count);
     Ok(Taken {
         count: taken.count + 1,
         names: taken.names + found.len,

@@ -12,4 +12,4 @@ pub mod Standing
 mod Planning
 mod Inside
 mod SpelledOut
-mod FirstPlaces
+mod FirstFinds

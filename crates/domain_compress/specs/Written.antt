@@ -7,7 +7,7 @@ use Rattle.domain_reading.specs.Grammar.{Reads}
 use Rattle.domain_rdata.specs.ReadBack.{StandsAt}
 use Rattle.domain_compress.specs.declared.written.Written.{Written}
 use Rattle.domain_compress.specs.declared.written.WrittenSuffix.{WrittenSuffix}
-use Rattle.domain_compress.specs.declared.written.Place.{Place}
+use Rattle.domain_compress.specs.declared.written.FoundName.{FoundName}
 use Rattle.domain_compress.specs.Compressing.{RememberedLabel, NoneRemembered, NoSuffix, FirstRemembered, LongestSuffix, remembered_too}
 
 -- the offset at which a label was written, and the end of its name
@@ -56,9 +56,9 @@ pub record FirstFound (t : List ℕ) (ws : List Written) (ls : List (List ℕ)) 
   pub low : p < 16384
 
 -- Such a name stands first there, or at none of the offsets.
-abbrev pub FirstPlace : List ℕ → List Written → List (List ℕ) → Option Place → Type 0
-FirstPlace t ws ls None = NoneRemembered t (all_remembered ws) ls
-FirstPlace t ws ls (Some place) = FirstFound t ws ls place.offset place.pointers
+abbrev pub FindsFirst : List ℕ → List Written → List (List ℕ) → Option FoundName → Type 0
+FindsFirst t ws ls None = NoneRemembered t (all_remembered ws) ls
+FindsFirst t ws ls (Some found) = FirstFound t ws ls found.offset found.pointers
 
 -- The labels of the wire format up to where the suffix begins are before, and those after are the longest suffix that
 -- stands anywhere, at its offset first.

@@ -4,11 +4,11 @@ ghost use Rattle.std.specs.List.{All};
 ghost use Rattle.domain_label.specs.Wire.{labels_in, IsAbsoluteWire};
 ghost use Rattle.domain_rdata.specs.ReadBack.{StandsAt};
 ghost use Rattle.domain_compress.specs.Hashes.{IsHashed, IsKnown};
-ghost use Rattle.domain_compress.specs.Written.{all_remembered, StandsThrough, SuffixAt, NoSuffixAt, FirstPlace, Longest, Improves, begin_or_length};
+ghost use Rattle.domain_compress.specs.Written.{all_remembered, StandsThrough, SuffixAt, NoSuffixAt, FindsFirst, Longest, Improves, begin_or_length};
 ghost use Rattle.domain_compress.specs.Written.{HasWireLength, NoSuffixWritten, SuffixWritten, NameSpelledOut};
 
 use crate::marks::{hash, mark_firsts, may_stand_there};
-use crate::written::{Place, Written, WrittenSuffix};
+use crate::written::{FoundName, Written, WrittenSuffix};
 use domain_label::ignoring_case::same_octets;
 use domain_reading::head::{Head, read_head};
 use domain_reading::heads::Heads;
@@ -267,11 +267,11 @@ fn suffix_by_marks(
 
 /// Where the name stands first, if at any of the offsets, by the hash of its first label. `None` where the hashes led to
 /// other names too often.
-fn first_place(octets: &[u8], written: &[Written], name: &[u8]) -> Option<Option<Place>>
+fn find_first(octets: &[u8], written: &[Written], name: &[u8]) -> Option<Option<FoundName>>
     requires wire { IsAbsoluteWire name.now }
     requires some { slice_index name.now 0 ≡ 0 → ⊥ }
     requires hashed { All (IsHashed octets.now) written.now }
-    ensures { IfSome result (FirstPlace octets.now written.now (labels_in name.now)) }
+    ensures { IfSome result (FindsFirst octets.now written.now (labels_in name.now)) }
 {
     let end = 1 + usize::from(name[0]);
     let first = hash(&name[1..end]);
@@ -283,7 +283,7 @@ fn first_place(octets: &[u8], written: &[Written], name: &[u8]) -> Option<Option
             continue;
         }
         if let Some(pointers) = pointers_there(octets, *entry, name) {
-            return Some(Some(Place {
+            return Some(Some(FoundName {
                 offset: entry.offset,
                 pointers,
             }));
@@ -314,14 +314,14 @@ fn suffix_by_hashes(
             return None;
         }
         suffixes += 1;
-        let Some(found) = first_place(octets, written, &name[begin..]) else {
+        let Some(found) = find_first(octets, written, &name[begin..]) else {
             return None;
         };
-        if let Some(place) = found {
+        if let Some(at) = found {
             return Some(Some(WrittenSuffix {
                 begin,
-                offset: place.offset,
-                pointers: place.pointers,
+                offset: at.offset,
+                pointers: at.pointers,
             }));
         }
         begin = begin + 1 + usize::from(name[begin]);

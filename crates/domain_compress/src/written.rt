@@ -33,7 +33,7 @@ pub(crate) struct WrittenSuffix {
 
 /// Where a name stands first of the offsets.
 #[derive(Clone, Copy)]
-pub(crate) struct Place {
+pub(crate) struct FoundName {
     pub(crate) offset: u16,
     /// How many pointers lead along it there.
     pub(crate) pointers: u8,

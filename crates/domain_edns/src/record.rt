@@ -2,7 +2,8 @@
 ghost use Rattle.std.specs.Prelude.{◌≡◌, ◌↔◌, ◌+◌, ◌*◌, IfOk, IfErr, IsTrue, Some};
 ghost use Rattle.domain_header.specs.Values.{rcode_number};
 ghost use Rattle.domain_message.specs.Messages.{message_octets};
-ghost use Rattle.domain_edns.specs.OptRecords.{IsTheOpt, HasOptFault, opt_error_text, taken_size, opt_class, opt_ttl, opt_data, edns_version, upper_code, dnssec_ok_bit};
+ghost use Rattle.domain_edns.specs.OptRecords.{IsTheOpt, HasOptFault, opt_error_text, taken_size, opt_class};
+ghost use Rattle.domain_edns.specs.OptRecords.{opt_ttl, opt_data, edns_version, upper_code, dnssec_ok_bit};
 
 use crate::data::OptData;
 use crate::options::OptIter;

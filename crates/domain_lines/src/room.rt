@@ -14,7 +14,7 @@ pub(crate) struct Room<'a> {
 }
 
 /// Puts the octets into the buffer from an offset on.
-fn place(octets: &[u8], buffer: &mut [u8], offset: usize)
+fn put_at(octets: &[u8], buffer: &mut [u8], offset: usize)
     requires { offset + length octets.now ≤ length buffer.old }
     ensures { buffer.new ≡ placed octets.now offset buffer.old }
 {
@@ -30,9 +30,9 @@ fn put_fitting(octets: &[u8], buffer: &mut [u8], offset: usize)
     }
     let room = buffer.len() - offset;
     if octets.len() <= room {
-        place(octets, buffer, offset);
+        put_at(octets, buffer, offset);
     } else {
-        place(&octets[..room], buffer, offset);
+        put_at(&octets[..room], buffer, offset);
     }
 }
 

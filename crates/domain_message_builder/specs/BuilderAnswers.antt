@@ -54,9 +54,9 @@ abbrev pub OptNotAdded : {T E O : Type 0} {g : _} {h : _} {i : _} {j : _} {k : _
 OptNotAdded {g = g} opt b e = OptRefused g.compresses (opt_of opt) (state b) (target_room b) e
 
 -- There is no room for the OPT record, or there are 65,535 additional records.
-abbrev pub HasNoPlaceFor : {T E O : Type 0} {g : _} {h : _} {i : _} {j : _} {k : _} {l : _} {m : Ghosts O}
+abbrev pub HasNoRoomForOpt : {T E O : Type 0} {g : _} {h : _} {i : _} {j : _} {k : _} {l : _} {m : Ghosts O}
     → OptBuilder O m → MessageBuilder T E g h i j k l → Type 0
-HasNoPlaceFor opt b = CannotAddOpt (opt_of opt) (target_room b) (state b)
+HasNoRoomForOpt opt b = CannotAddOpt (opt_of opt) (target_room b) (state b)
 
 -- The OPT record was pushed, or, where it can't be after the records, instead of them, and TC was set.
 abbrev pub EndsWithOpt : {T E O : Type 0} {g : _} {h : _} {i : _} {j : _} {k : _} {l : _} {m : Ghosts O}

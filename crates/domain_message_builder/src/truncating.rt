@@ -2,7 +2,7 @@
 ghost use Rattle.std.specs.Prelude.{◌≡◌, ◌≤◌, true, false, length, IfOk, IfErr, OnOk, OnErr};
 ghost use Rattle.domain_message.specs.declared.section.Section.TheVariants.{Answer, Additional};
 ghost use Rattle.domain_header.specs.Headers.{SetsHigh};
-ghost use Rattle.domain_message_builder.specs.BuilderAnswers.{AddsOpt, OptNotAdded, HasNoPlaceFor};
+ghost use Rattle.domain_message_builder.specs.BuilderAnswers.{AddsOpt, OptNotAdded, HasNoRoomForOpt};
 ghost use Rattle.domain_message_builder.specs.BuilderAnswers.{EndsWithOpt, EndsWithOpts, LeavesNoRoomFor, LeavesNoRoomForAny};
 ghost use Rattle.domain_message_builder.specs.BuilderAnswers.{EndsAs, ClosesIn, EndRefused};
 ghost use Rattle.domain_message_builder.specs.Builders.{state, target_room, target_memory, KeepsMemory, IsFull, CutsToSection};
@@ -45,7 +45,7 @@ impl<Target: Composer> MessageBuilder<Target> {
         ensures unchanged { OnErr result (state self.new ≡ state self.old) }
         ensures memory_unchanged { OnErr result (target_memory self.new ≡ target_memory self.old) }
         ensures why { IfErr result (OptNotAdded opt.now self.old) }
-        ensures no_room { OnErr result (HasNoPlaceFor opt.now self.old) }
+        ensures no_room { OnErr result (HasNoRoomForOpt opt.now self.old) }
         ensures early { IfErr result (λ e. IsEarly e → self.new ≡ self.old) }
         ensures count { IsFull Additional self.old → result ≡ Err Count }
         ensures capacity { target_room self.old ≤ target_room self.new }

@@ -149,7 +149,7 @@ impl<Target: Composer, S: RecordSection> RecordBuilder<Target, S> {
 
 impl<Target: Composer> RecordBuilder<Target, AdditionalSection> {
     ghost use Rattle.domain_message.specs.declared.section.Section.TheVariants.{Additional};
-    ghost use Rattle.domain_message_builder.specs.BuilderAnswers.{HasNoPlaceFor};
+    ghost use Rattle.domain_message_builder.specs.BuilderAnswers.{HasNoRoomForOpt};
     ghost use Rattle.domain_sections.specs.Errors.{IsEarly};
     ghost use Rattle.domain_sections.specs.Records.{IsUnchanged, AddsOpt, OptNotAdded};
     ghost use Rattle.domain_sections.specs.Views.{record_builder, record_state, record_room, record_memory};
@@ -168,7 +168,7 @@ impl<Target: Composer> RecordBuilder<Target, AdditionalSection> {
         ensures unchanged { OnErr result (record_state self.new ≡ record_state self.old) }
         ensures memory_unchanged { OnErr result (record_memory self.new ≡ record_memory self.old) }
         ensures why { IfErr result (OptNotAdded opt.now self.old) }
-        ensures no_room { OnErr result (HasNoPlaceFor opt.now (record_builder self.old)) }
+        ensures no_room { OnErr result (HasNoRoomForOpt opt.now (record_builder self.old)) }
         ensures early { IfErr result (λ e. IsEarly e → IsUnchanged self.old self.new) }
         ensures count { IsFull Additional (record_builder self.old) → result ≡ Err Count }
         ensures capacity { record_room self.old ≤ record_room self.new }

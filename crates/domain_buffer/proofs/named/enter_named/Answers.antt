@@ -24,7 +24,7 @@ returns-in-Some-clause-done c =
     let size : length b.table ≡ 128 = search rules in
     let labels = labels_in (take c.spell-named.result.begin owner) in
     let is = c.add_offsets-count.ensures.table ∙ ap (λ n. more_of_table n (table_of b) b.len labels) size in (
-      named_entered o b owner head (fields_of c.args.fields) c.spell-named.result.begin named c.place.new.buffer c.write_after_owner.new.octets _ c.write_after_owner.new.table _ c.in-Some.written.end c.in-Some.written.count _ c.requires.usable c.spell-named.ensures.spells (omega (arith, named_size)) c.if-limit-after_owner.false c.place.ensures is c.in-Some.ensures.some refl refl refl,
+      named_entered o b owner head (fields_of c.args.fields) c.spell-named.result.begin named c.put_at.new.buffer c.write_after_owner.new.octets _ c.write_after_owner.new.table _ c.in-Some.written.end c.in-Some.written.count _ c.requires.usable c.spell-named.ensures.spells (omega (arith, named_size)) c.if-limit-after_owner.false c.put_at.ensures is c.in-Some.ensures.some refl refl refl,
       refl,
     )
 
@@ -39,7 +39,7 @@ returns-in-None-clause-done c =
     let labels = labels_in (take c.spell-named.result.begin owner) in
     let is = c.add_offsets-count.ensures.table ∙ ap (λ n. more_of_table n (table_of b) b.len labels) size in
     let none = c.in-None.ensures.none refl in (
-      named_too_big o b owner (fields_of c.args.fields) c.spell-named.result.begin named c.place.new.buffer _ _ c.requires.usable c.spell-named.ensures.spells (omega (arith, named_size)) c.if-limit-after_owner.false c.place.ensures is none.0,
-      puts_back b.len named _ o c.place.new.buffer c.write_after_owner.new.octets c.place-in-None.new.buffer (omega (arith, named_size, c.if-limit-after_owner.false, c.requires.usable.room)) c.place.ensures none.1 c.place-in-None.ensures (kept_there b.len c.spell-named.result.len (length named) _ _ o (omega (arith, c.if-limit-after_owner.false, c.requires.usable.room)) named_size c.copy_from_slice.ensures.after),
+      named_too_big o b owner (fields_of c.args.fields) c.spell-named.result.begin named c.put_at.new.buffer _ _ c.requires.usable c.spell-named.ensures.spells (omega (arith, named_size)) c.if-limit-after_owner.false c.put_at.ensures is none.0,
+      puts_back b.len named _ o c.put_at.new.buffer c.write_after_owner.new.octets c.put_at-in-None.new.buffer (omega (arith, named_size, c.if-limit-after_owner.false, c.requires.usable.room)) c.put_at.ensures none.1 c.put_at-in-None.ensures (kept_there b.len c.spell-named.result.len (length named) _ _ o (omega (arith, c.if-limit-after_owner.false, c.requires.usable.room)) named_size c.copy_from_slice.ensures.after),
       refl,
     )

@@ -45,7 +45,7 @@ returns-clause-some c =
     record {
       names = names;
       spells = record { first = c.spell-first.ensures.spells; second = c.spell_any-second.ensures.spells };
-      puts = subst (λ x. PutsAt c.args.start x c.args.octets.now c.place_data.new.buffer) all c.place_data.ensures;
+      puts = subst (λ x. PutsAt c.args.start x c.args.octets.now c.put_data.new.buffer) all c.put_data.ensures;
       ends = omega (arith, size, first_size, second_size);
       within = omega (arith, c.if-limit-start.false, c.requires.start);
       few = omega (arith, c.add_offsets-count.ensures.fits, c.add_offsets-count.auto.table, more_size);

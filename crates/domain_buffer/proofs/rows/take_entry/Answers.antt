@@ -43,6 +43,6 @@ returns-clause-ok c =
       len = omega (arith, size);
       row_fits = omega (arith, c.if-rows-taken-lt8.false, c.requires.rows);
       name_fits = omega (arith, size, c.if-names-taken.false, c.requires.names);
-      row_put = subst (λ x. PutsAt (8 * c.args.taken.count) (row c.args.taken.names x c.in-Some.parts) c.args.rows.now c.place_row.new.rows) (sym size) (subst (λ x. PutsAt (8 * c.args.taken.count) x c.args.rows.now c.place_row.new.rows) c.row_of-numbers.ensures c.place_row.ensures);
-      name_put = subst (λ x. PutsAt c.args.taken.names x c.args.names.now c.place.new.buffer) name.3 c.place.ensures;
+      row_put = subst (λ x. PutsAt (8 * c.args.taken.count) (row c.args.taken.names x c.in-Some.parts) c.args.rows.now c.put_row.new.rows) (sym size) (subst (λ x. PutsAt (8 * c.args.taken.count) x c.args.rows.now c.put_row.new.rows) c.row_of-numbers.ensures c.put_row.ensures);
+      name_put = subst (λ x. PutsAt c.args.taken.names x c.args.names.now c.put_at.new.buffer) name.3 c.put_at.ensures;
     }

@@ -1,5 +1,5 @@
 use Rattle.std.proofs.Common.{refl}
-use Rattle.domain_compress.proofs.FirstPlaces.{nowhere_start, stands_first, whole_first}
+use Rattle.domain_compress.proofs.FirstFinds.{nowhere_start, stands_first, whole_first}
 use Rattle.domain_compress.proofs.search.first_again.Goals as goal
 
 pub returns-then-is_spelled_out : goal.returns-then-is_spelled_out

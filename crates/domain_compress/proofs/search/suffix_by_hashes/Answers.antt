@@ -2,7 +2,7 @@ use Rattle.std.proofs.Common.{ℕ, ◌+◌, List, refl, sym, subst, arith}
 use Rattle.domain_label.specs.Wire.{labels_in, IsAbsoluteWire}
 use Rattle.domain_compress.specs.Compressing.{NoneRemembered}
 use Rattle.domain_compress.specs.Written.{all_remembered, FirstFound}
-use Rattle.domain_compress.proofs.FirstPlaces.{suffix_first}
+use Rattle.domain_compress.proofs.FirstFinds.{suffix_first}
 use Rattle.domain_compress.proofs.Searching.{Passed, passed_start, passed_next, passed_all, ahead, after_all}
 use Rattle.domain_compress.proofs.search.suffix_by_hashes.Goals as goal
 
@@ -12,15 +12,15 @@ ends-init c = record { passed = passed_start _ _ c.requires.wire; few = omega ar
 pub bounds-name-begin : goal.bounds-name-begin
 bounds-name-begin c = (ahead _ _ c.requires.wire c.ends.invariant.passed).inside
 
-pub first_place-requires-clause-wire : goal.first_place-requires-clause-wire
-first_place-requires-clause-wire c =
+pub find_first-requires-clause-wire : goal.find_first-requires-clause-wire
+find_first-requires-clause-wire c =
     subst IsAbsoluteWire (sym (after_all c.args.name.now c.ends.begin)) (ahead _ _ c.requires.wire c.ends.invariant.passed).wire_form
 
 pub returns-in-Some-found : goal.returns-in-Some-found
 returns-in-Some-found c =
     let s = c.ends.invariant.passed in
-    let place = c.in-Some-found.place in
-    let P : List (List ℕ) → Type 0 = λ ls. FirstFound c.args.octets.now c.args.written.now ls place.offset place.pointers in
+    let at = c.in-Some-found.at in
+    let P : List (List ℕ) → Type 0 = λ ls. FirstFound c.args.octets.now c.args.written.now ls at.offset at.pointers in
     let here = subst (λ o. P (labels_in o)) (after_all c.args.name.now c.ends.begin) (rw c.in-Some-found.is at c.in-Some.ensures) in
     suffix_first _ _ _ _ _ c.requires.wire s c.ends-test.true refl (subst P (ahead _ _ c.requires.wire s).spelled here)
 

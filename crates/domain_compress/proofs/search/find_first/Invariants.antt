@@ -2,8 +2,8 @@ use Rattle.std.proofs.Common.{◌<◌, length}
 use Rattle.std.specs.List.{All}
 use Rattle.domain_label.specs.Wire.{labels_in}
 use Rattle.domain_compress.specs.Hashes.{IsHashed}
-use Rattle.domain_compress.proofs.FirstPlaces.{Nowhere}
-use Rattle.domain_compress.proofs.search.first_place.Given as goal
+use Rattle.domain_compress.proofs.FirstFinds.{Nowhere}
+use Rattle.domain_compress.proofs.search.find_first.Given as goal
 
 abbrev pub invariant-offsets : goal.invariant-offsets
 invariant-offsets l = record {

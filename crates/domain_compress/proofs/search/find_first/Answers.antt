@@ -1,7 +1,7 @@
 use Rattle.std.proofs.Common.{true, refl, arith}
-use Rattle.domain_compress.proofs.FirstPlaces.{nowhere_next, stands_first, hashed_otherwise}
+use Rattle.domain_compress.proofs.FirstFinds.{nowhere_next, stands_first, hashed_otherwise}
 use Rattle.domain_compress.proofs.LabelHashes.{known_first, known_rest}
-use Rattle.domain_compress.proofs.search.first_place.Goals as goal
+use Rattle.domain_compress.proofs.search.find_first.Goals as goal
 
 pub offsets-preserved-then-entry-first : goal.offsets-preserved-then-entry-first
 offsets-preserved-then-entry-first c =

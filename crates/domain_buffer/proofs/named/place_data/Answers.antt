@@ -1,7 +1,0 @@
-use Rattle.std.proofs.Common.{refl, arith}
-use Rattle.domain_buffer.proofs.Naming.{puts_five}
-use Rattle.domain_buffer.proofs.named.place_data.Goals as goal
-
-pub returns : goal.returns
-returns c =
-    puts_five c.args.offset _ c.args.head.now c.args.fields.before.now c.args.first.now c.args.second.now c.args.fields.after.now c.args.buffer.now c.place_entry.new.buffer c.place.new.buffer c.place-2.new.buffer refl (omega (arith, c.requires)) c.place_entry.ensures c.place.ensures c.place-2.ensures
