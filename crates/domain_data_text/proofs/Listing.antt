@@ -3,7 +3,7 @@ use Rattle.std.proofs.Common.{◌≡◌, ℕ, ◌+◌, List, [], ◌∷◌, ◌+
 use Rattle.std.proofs.lemmas.List.{append-nil, length-map}
 use Rattle.domain_data_text.specs.Data.{AreParts}
 use Rattle.domain_data_text.specs.Fields.{IsField, AreFields}
-use Rattle.domain_data_text.specs.Faults.{IfRefused, FirstOther, FirstNone, NoField, NoFields}
+use Rattle.domain_data_text.specs.Faults.{IfFault, FirstOther, FirstNone, NoField, NoFields}
 use Rattle.domain_data_text.specs.Faults.NoFields.{number, other}
 use Rattle.domain_data_text.specs.Parts.{AreDigitsAt, DigitsTo, IsDigitsWord}
 use Rattle.domain_data_text.specs.Steps.Reaches.{begins, further}
@@ -119,11 +119,11 @@ fitted_here all words i e d f c before inside within lack = before f c (at_left 
 
 -- What is told of the word at an index is told of all.
 pub parts_refused : (IsPart : List ℕ → List ℕ → Type 0) (NoPart : WordAt → Fault → ℕ → Type 0) (all : List Word) (i : ℕ) (d : Word) (e : Stop) → Passed IsPart NoPart all (drop i all) → i < length all
-    → IfRefused e (NoPart (word_at (get_or all i d))) → IfRefused e (FirstNone IsPart NoPart (words_at all))
+    → IfFault e (NoPart (word_at (get_or all i d))) → IfFault e (FirstNone IsPart NoPart (words_at all))
 parts_refused IsPart NoPart all i d e before inside h = if_refused (NoPart (word_at (get_or all i d))) (FirstNone IsPart NoPart (words_at all)) e (λ f c lack. passed_here IsPart NoPart all i d f c before inside lack) h
 
 pub fields_refused : (all : List Field) (words : List Word) (i column : ℕ) (p : Field) (d : Word) (e : Stop) → Fitted all words (drop i all) (drop i words) → i < length all → i < length words → length words ≡ length all
-    → IfRefused e (NoField (get_or all i p) (word_at (get_or words i d))) → IfRefused e (NoFields all column (words_at words))
+    → IfFault e (NoField (get_or all i p) (word_at (get_or words i d))) → IfFault e (NoFields all column (words_at words))
 fields_refused all words i column p d e before inside within same h =
     if_refused (NoField (get_or all i p) (word_at (get_or words i d))) (NoFields all column (words_at words)) e
     (λ f c lack. other (length-map words word_at ∙ same) (fitted_here all words i p d f c before inside within lack)) h

@@ -10,10 +10,10 @@ use Rattle.domain_builder.specs.TextErrors.{LacksCapacity}
 use Rattle.domain_builder.specs.TextGrammar.{IsTextOfName}
 use Rattle.domain_text.specs.declared.error.FromStrError.{FromStrError}
 use Rattle.domain_text.specs.declared.error.FromStrError.TheVariants.{Presentation, ShortBuf}
-use Rattle.domain_data_text.specs.Faults.{IfRefused, Tells, NoName}
+use Rattle.domain_data_text.specs.Faults.{IfFault, Tells, NoName}
 use Rattle.domain_data_text.specs.Faults.NoName.{no_text}
 use Rattle.domain_data_text.specs.Parts.{IsIpv4Word, IsIpv6Word}
-use Rattle.domain_data_text.specs.Words.{WordAt, EndsInDot}
+use Rattle.domain_data_text.specs.Words.{WordAt, EndsInFinalDot}
 use Rattle.domain_data_text.specs.declared.error.Fault.TheVariants as fault
 use Rattle.domain_data_text.specs.declared.error.Stop.{Stop}
 use Rattle.domain_data_text.proofs.Telling.{if_refused}
@@ -40,8 +40,8 @@ pub no_ipv6 : (text word : List ℕ) → text ≡ word → ((a : Ipv6Addr) → I
 no_ipv6 text word same never octets is = never (record { segments = is.0 }) (subst (λ t. IsColonHex t is.0) (sym same) is.2)
 
 -- A word that ends in a dot and is no text, or isn't that of a name.
-pub name_no_text : (w : WordAt) (e : Stop) → EndsInDot w.octets → (IsUtf8 w.octets → ⊥) → IfRefused e (Tells fault.Name w.column) → IfRefused e (NoName w)
+pub name_no_text : (w : WordAt) (e : Stop) → EndsInFinalDot w.octets → (IsUtf8 w.octets → ⊥) → IfFault e (Tells fault.Name w.column) → IfFault e (NoName w)
 name_no_text w e ends never h = if_refused (Tells fault.Name w.column) (NoName w) e (λ f c told. no_text ends (told, λ ls is. never is.utf8)) h
 
-pub name_no_name : (w : WordAt) (text : List ℕ) → text ≡ w.octets → EndsInDot w.octets → ((ls : List (List ℕ)) → IsTextOfName (chars text) ls → ⊥) → NoName w fault.Name w.column
+pub name_no_name : (w : WordAt) (text : List ℕ) → text ≡ w.octets → EndsInFinalDot w.octets → ((ls : List (List ℕ)) → IsTextOfName (chars text) ls → ⊥) → NoName w fault.Name w.column
 name_no_name w text same ends never = no_text ends ((refl, refl), λ ls is. never ls (subst (λ t. IsTextOfName (chars t) ls) (sym same) is.text))

@@ -6,7 +6,7 @@ use Rattle.std.proofs.lemmas.List.{get_or_past, map-append}
 use Rattle.domain_data_text.specs.Faults.{NoWord, NoWords}
 use Rattle.domain_data_text.specs.Faults.NoWord.{lone, unclosed}
 use Rattle.domain_data_text.specs.declared.error.Fault.{Fault}
-use Rattle.domain_data_text.specs.Words.{WordAt, IsBlank, word_at, words_at, WordStep, IsWordIn, word_between, WordsStep, WordsTo, AreWords, SymbolStep, SymbolsTo, EndsInDot}
+use Rattle.domain_data_text.specs.Words.{WordAt, IsBlank, word_at, words_at, WordStep, IsWordIn, word_between, WordsStep, WordsTo, AreWords, SymbolStep, SymbolsTo, EndsInFinalDot}
 use Rattle.domain_data_text.specs.Words.WordStep.{escaped, quote, ordinary}
 use Rattle.domain_data_text.specs.Words.WordsStep.{blank, word}
 use Rattle.domain_data_text.specs.Words.SymbolStep.{escaped as symbol_escaped, unescaped_dot, other}
@@ -131,14 +131,14 @@ symbol_lone text d at is all t (symbol_escaped a b e) = absurd (omega arith)
 symbol_lone text d at is all t (unescaped_dot a e) = absurd (omega arith)
 symbol_lone text d at is all t (other a b c e) = absurd (b is)
 
-pub no_dot : (text : List ℕ) (d : Bool) (at : ℕ) → SymbolsTo text d at → slice_index text at ≡ 92 → length text ≡ at + 1 → EndsInDot text → ⊥
+pub no_dot : (text : List ℕ) (d : Bool) (at : ℕ) → SymbolsTo text d at → slice_index text at ≡ 92 → length text ≡ at + 1 → EndsInFinalDot text → ⊥
 no_dot text d at to is all ends =
     let same = one_end (SymbolStep text) (false, 0) (d, at) (true, length text) (symbol_single text) (symbol_lone text d at is all) (symbols_ended text true (length text) refl) to ends in
     let at_end : at ≡ length text = ap (λ (s : Bool × ℕ). s.1) same in
     absurd (omega arith)
 
 -- All symbols were read: the last was a dot, or the text doesn't end in one.
-pub dotted : (text : List ℕ) (d : Bool) (at : ℕ) → at ≡ length text → SymbolsTo text d at → (d ≡ true → EndsInDot text) × (EndsInDot text → d ≡ true)
+pub dotted : (text : List ℕ) (d : Bool) (at : ℕ) → at ≡ length text → SymbolsTo text d at → (d ≡ true → EndsInFinalDot text) × (EndsInFinalDot text → d ≡ true)
 dotted text d at all to = (
   λ is. subst (λ n. SymbolsTo text true n) all (subst (λ b. SymbolsTo text b at) is to),
   λ ends. ap (λ (s : Bool × ℕ). s.0) (one_end (SymbolStep text) (false, 0) (d, at) (true, length text) (symbol_single text) (symbols_ended text d at all) (symbols_ended text true (length text) refl) to ends),

@@ -6,9 +6,9 @@ use Rattle.std.proofs.lemmas.List.{get_or_past, get_or_at, append_cancel_right}
 use Rattle.domain_label.specs.Spelling.{IsDigit, IsNoDigit, IsPrintable, number}
 use Rattle.domain_data_text.specs.Parts.{IsHexDigit, AreDigitsAt, DigitsStep, DigitsTo, IsDigitsWord}
 use Rattle.domain_data_text.specs.Steps.Reaches.{begins}
-use Rattle.domain_data_text.specs.Strings.{IsPlain, SpellsAt, SpellStep, SpelledTo, IsSpelled, IsStringText}
+use Rattle.domain_data_text.specs.Strings.{StandsForItself, SpellsAt, SpellStep, SpelledTo, IsSpelled, IsStringText}
 use Rattle.domain_data_text.specs.Strings.SpellsAt.{itself, simple, decimal}
-use Rattle.domain_data_text.specs.Faults.{IfRefused, Lacks}
+use Rattle.domain_data_text.specs.Faults.{IfFault, TellsMissing}
 use Rattle.domain_data_text.specs.declared.error.Fault.TheVariants as fault
 use Rattle.domain_data_text.specs.declared.error.Stop.{Stop}
 use Rattle.domain_data_text.proofs.Telling.{if_refused}
@@ -24,8 +24,8 @@ no_escape text at is no_simple no_decimal octet next (itself a plain e) = plain.
 no_escape text at is no_simple no_decimal octet next (simple a b printable digit e) = no_simple (subst IsPrintable b printable) (subst IsNoDigit b digit)
 no_escape text at is no_simple no_decimal octet next (decimal a x y z b small e) = no_decimal x y z (omega (arith, sym b))
 
-pub no_plain : (text : List ℕ) (at : ℕ) → slice_index text at ≢ 92 → (IsPlain (slice_index text at) → ⊥) → (octet next : ℕ) → SpellsAt text at octet next → ⊥
-no_plain text at other dark octet next (itself a plain e) = dark (subst IsPlain a plain)
+pub no_plain : (text : List ℕ) (at : ℕ) → slice_index text at ≢ 92 → (StandsForItself (slice_index text at) → ⊥) → (octet next : ℕ) → SpellsAt text at octet next → ⊥
+no_plain text at other dark octet next (itself a plain e) = dark (subst StandsForItself a plain)
 no_plain text at other dark octet next (simple a b printable digit e) = other a
 no_plain text at other dark octet next (decimal a x y z b small e) = other a
 
@@ -158,9 +158,9 @@ inner_choice word inner (inr is) quoted = inr is
 inner_choice word inner (inl is) quoted = elim (cases_eq (slice_index word 0) 34) [ inl e ↦ inr (quoted e) | inr other ↦ inl (other, is) ]
 
 pub string_refused : (word inner : List ℕ) (column : ℕ) (e : Stop) → (inner ≡ word) ⊎ (word ≡ 34 ∷ (inner ++ 34 ∷ [])) → (slice_index word 0 ≡ 34 → word ≡ 34 ∷ (inner ++ 34 ∷ []))
-    → IfRefused e (Lacks (IsSpelled inner) fault.Text column) → IfRefused e (Lacks (IsStringText word) fault.Text column)
+    → IfFault e (TellsMissing (IsSpelled inner) fault.Text column) → IfFault e (TellsMissing (IsStringText word) fault.Text column)
 string_refused word inner column e is quoted h =
-    if_refused (Lacks (IsSpelled inner) fault.Text column) (Lacks (IsStringText word) fault.Text column) e (λ f c lack. (lack.0, λ octets string. lack.1 octets (string_inner word inner octets (inner_choice word inner is quoted) string))) h
+    if_refused (TellsMissing (IsSpelled inner) fault.Text column) (TellsMissing (IsStringText word) fault.Text column) e (λ f c lack. (lack.0, λ octets string. lack.1 octets (string_inner word inner octets (inner_choice word inner is quoted) string))) h
 
 pub string_long : (word inner octets : List ℕ) → (inner ≡ word) ⊎ (word ≡ 34 ∷ (inner ++ 34 ∷ [])) → (slice_index word 0 ≡ 34 → word ≡ 34 ∷ (inner ++ 34 ∷ [])) → IsSpelled inner octets → 255 < length octets → (also : List ℕ) → IsStringText word also → ⊥
 string_long word inner octets is quoted spelled long also string =

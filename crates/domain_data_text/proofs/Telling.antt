@@ -2,18 +2,18 @@
 use Rattle.std.proofs.Common.{◌≡◌, ℕ, List, sym, subst}
 use Rattle.std.specs.Prelude.{Result, Ok, Err, IfErr, IsErrAnd}
 use Rattle.std.specs.Str.{IsUtf8}
-use Rattle.domain_data_text.specs.Faults.{IfRefused, Tells, Lacks}
+use Rattle.domain_data_text.specs.Faults.{IfFault, Tells, TellsMissing}
 use Rattle.domain_data_text.specs.declared.error.Fault.{Fault}
 use Rattle.domain_data_text.specs.declared.error.Stop.{Stop}
 use Rattle.domain_data_text.specs.declared.error.Stop.TheVariants.{Refused, Memory}
 
 -- What holds of a refusal, where another fact follows from the first.
-pub if_refused : (P Q : Fault → ℕ → Type 0) (e : Stop) → ((f : Fault) (c : ℕ) → P f c → Q f c) → IfRefused e P → IfRefused e Q
+pub if_refused : (P Q : Fault → ℕ → Type 0) (e : Stop) → ((f : Fault) (c : ℕ) → P f c → Q f c) → IfFault e P → IfFault e Q
 if_refused P Q (Refused f c) follows h = follows f c h
 if_refused P Q Memory follows h = tt
 
 -- The same of a result.
-pub if_err : {A : Type 0} (P Q : Fault → ℕ → Type 0) (r : Result A Stop) → ((f : Fault) (c : ℕ) → P f c → Q f c) → IfErr r (λ e. IfRefused e P) → IfErr r (λ e. IfRefused e Q)
+pub if_err : {A : Type 0} (P Q : Fault → ℕ → Type 0) (r : Result A Stop) → ((f : Fault) (c : ℕ) → P f c → Q f c) → IfErr r (λ e. IfFault e P) → IfErr r (λ e. IfFault e Q)
 if_err P Q (Ok x) follows h = tt
 if_err P Q (Err e) follows h = if_refused P Q e follows h
 
@@ -28,5 +28,5 @@ passed_on P (Ok x) e h holds = absurd h
 passed_on P (Err y) e h holds = subst P (sym h) holds
 
 -- A word that is no text is nothing that is text.
-pub no_text : {A : Type 0} (P : A → Type 0) (word : List ℕ) (kind : Fault) (column : ℕ) (e : Stop) → ((x : A) → P x → IsUtf8 word) → (IsUtf8 word → ⊥) → IfRefused e (Tells kind column) → IfRefused e (Lacks P kind column)
-no_text P word kind column e text never h = if_refused (Tells kind column) (Lacks P kind column) e (λ f c told. (told, λ x is. never (text x is))) h
+pub no_text : {A : Type 0} (P : A → Type 0) (word : List ℕ) (kind : Fault) (column : ℕ) (e : Stop) → ((x : A) → P x → IsUtf8 word) → (IsUtf8 word → ⊥) → IfFault e (Tells kind column) → IfFault e (TellsMissing P kind column)
+no_text P word kind column e text never h = if_refused (Tells kind column) (TellsMissing P kind column) e (λ f c told. (told, λ x is. never (text x is))) h

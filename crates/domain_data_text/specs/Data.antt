@@ -12,8 +12,8 @@ AreParts IsPart [] octets = octets ≡ []
 AreParts IsPart (w ∷ ws) octets = (first : List ℕ) × (rest : List ℕ) × IsPart w.octets first × AreParts IsPart ws rest × (octets ≡ first ++ rest)
 
 -- Each word is a character string, and together they are these octets (RFC 1035, 3.3.14).
-abbrev pub AreStrings : List WordAt → List ℕ → Type 0
-AreStrings words octets = AreParts (IsField Text) words octets
+abbrev pub AreStringWords : List WordAt → List ℕ → Type 0
+AreStringWords words octets = AreParts (IsField Text) words octets
 
 -- Each word is octets in hexadecimal digits, and together they are these.
 abbrev pub AreDigits : List WordAt → List ℕ → Type 0
@@ -33,7 +33,7 @@ IsOfStrings rtype = (rtype ≡ 16) ⊎ (rtype ≡ 99)
 
 -- The words are data of a type, as the type has it.
 pub data IsTyped (rtype : ℕ) (words : List WordAt) (octets : List ℕ) : Type 0 where
-  strings : IsOfStrings rtype → 0 < length words → AreStrings words octets → IsTyped rtype words octets
+  strings : IsOfStrings rtype → 0 < length words → AreStringWords words octets → IsTyped rtype words octets
   fields : (fs : List Field) → fields_of_type rtype ≡ Some fs → AreFields fs words octets → IsTyped rtype words octets
 
 -- The words begin with `\#`, and the rest follows it.

@@ -4,7 +4,7 @@ use Rattle.domain_data_text.specs.Data.{IsOfStrings, BeginsGeneric, AreDigits}
 use Rattle.domain_data_text.specs.Fields.{fields_of_type, IsField}
 use Rattle.domain_data_text.specs.Parts.{IsNameWord, IsNumber16, IsNumber32, IsIpv4Word, IsIpv6Word, IsDigitsWord}
 use Rattle.domain_data_text.specs.Strings.{IsStringText}
-use Rattle.domain_data_text.specs.Words.{WordAt, IsBlank, WordTo, WordsTo, EndsInDot}
+use Rattle.domain_data_text.specs.Words.{WordAt, IsBlank, WordTo, WordsTo, EndsInFinalDot}
 use Rattle.domain_data_text.specs.declared.error.Fault.{Fault}
 use Rattle.domain_data_text.specs.declared.error.Fault.TheVariants as fault
 use Rattle.domain_data_text.specs.declared.error.Stop.{Stop}
@@ -13,17 +13,17 @@ use Rattle.domain_data_text.specs.declared.fields.Field.{Field}
 use Rattle.domain_data_text.specs.declared.fields.Field.TheVariants as part
 
 -- This holds of the fault and the column, where it isn't memory that lacks.
-abbrev pub IfRefused : Stop → (Fault → ℕ → Type 0) → Type 0
-IfRefused (Refused f c) P = P f c
-IfRefused Memory P = ⊤
+abbrev pub IfFault : Stop → (Fault → ℕ → Type 0) → Type 0
+IfFault (Refused f c) P = P f c
+IfFault Memory P = ⊤
 
 -- The fault is this one, in this column.
 abbrev pub Tells : Fault → ℕ → Fault → ℕ → Type 0
 Tells kind column f c = (f ≡ kind) × (c ≡ column)
 
 -- The fault is this one, in this column, and nothing of the kind is there.
-abbrev pub Lacks : {A : Type 0} → (A → Type 0) → Fault → ℕ → Fault → ℕ → Type 0
-Lacks {A} Says kind column f c = Tells kind column f c × ((x : A) → Says x → ⊥)
+abbrev pub TellsMissing : {A : Type 0} → (A → Type 0) → Fault → ℕ → Fault → ℕ → Type 0
+TellsMissing {A} Says kind column f c = Tells kind column f c × ((x : A) → Says x → ⊥)
 
 -- No word begins at start: a backslash ends the line, or a quote is open at its end.
 pub data NoWord (line : List ℕ) (start : ℕ) (f : Fault) (c : ℕ) : Type 0 where
@@ -42,32 +42,32 @@ pub record NoWords (line : List ℕ) (start : ℕ) (f : Fault) (c : ℕ) : Type 
 
 -- The word is no absolute name: it has no final dot, or isn't the text of one.
 pub data NoName (w : WordAt) (f : Fault) (c : ℕ) : Type 0 where
-  no_dot : (EndsInDot w.octets → ⊥) → Tells fault.NoFinalDot w.column f c → NoName w f c
-  no_text : EndsInDot w.octets → Lacks (IsNameWord w.octets) fault.Name w.column f c → NoName w f c
+  no_dot : (EndsInFinalDot w.octets → ⊥) → Tells fault.NoFinalDot w.column f c → NoName w f c
+  no_text : EndsInFinalDot w.octets → TellsMissing (IsNameWord w.octets) fault.Name w.column f c → NoName w f c
 
 -- The word is no such number.
 abbrev pub NoNumber32 : WordAt → Fault → ℕ → Type 0
-NoNumber32 w f c = Lacks (IsNumber32 w.octets) fault.Number w.column f c
+NoNumber32 w f c = TellsMissing (IsNumber32 w.octets) fault.Number w.column f c
 
 -- The same of 16 bits.
 abbrev pub NoNumber16 : WordAt → Fault → ℕ → Type 0
-NoNumber16 w f c = Lacks (IsNumber16 w.octets) fault.Number w.column f c
+NoNumber16 w f c = TellsMissing (IsNumber16 w.octets) fault.Number w.column f c
 
 -- The word is no such address.
 abbrev pub NoIpv4 : WordAt → Fault → ℕ → Type 0
-NoIpv4 w f c = Lacks (IsIpv4Word w.octets) fault.Ipv4 w.column f c
+NoIpv4 w f c = TellsMissing (IsIpv4Word w.octets) fault.Ipv4 w.column f c
 
 -- The same of IPv6.
 abbrev pub NoIpv6 : WordAt → Fault → ℕ → Type 0
-NoIpv6 w f c = Lacks (IsIpv6Word w.octets) fault.Ipv6 w.column f c
+NoIpv6 w f c = TellsMissing (IsIpv6Word w.octets) fault.Ipv6 w.column f c
 
 -- The word is no octets in digits.
 abbrev pub NoDigits : WordAt → Fault → ℕ → Type 0
-NoDigits w f c = Lacks (IsDigitsWord w.octets) fault.Digits w.column f c
+NoDigits w f c = TellsMissing (IsDigitsWord w.octets) fault.Digits w.column f c
 
 -- The word is no character string.
 abbrev pub NoString : WordAt → Fault → ℕ → Type 0
-NoString w f c = Lacks (IsStringText w.octets) fault.Text w.column f c
+NoString w f c = TellsMissing (IsStringText w.octets) fault.Text w.column f c
 
 -- The word is no part of this kind.
 abbrev pub NoField : Field → WordAt → Fault → ℕ → Type 0

@@ -6,7 +6,7 @@ use Rattle.std.specs.Net.Addr.{octets_of}
 use Rattle.domain_builder.specs.TextGrammar.{IsTextOfName}
 use Rattle.domain_tool.specs.Numerals.{IsOffsetWord}
 use Rattle.domain_data_text.specs.Steps.{Reaches}
-use Rattle.domain_data_text.specs.Words.{EndsInDot}
+use Rattle.domain_data_text.specs.Words.{EndsInFinalDot}
 
 -- The characters are the text of no name.
 abbrev pub SpellsNoName : List ℕ → Type 0
@@ -14,7 +14,7 @@ SpellsNoName cs = (labels : List (List ℕ)) → IsTextOfName cs labels → ⊥
 
 -- The word is the absolute name of these labels, with its final dot (RFC 1035, 5.1).
 pub record IsNameWord (word : List ℕ) (labels : List (List ℕ)) : Type 0 where
-  pub absolute : EndsInDot word
+  pub absolute : EndsInFinalDot word
   pub utf8 : IsUtf8 word
   pub text : IsTextOfName (chars word) labels
 

@@ -70,5 +70,5 @@ abbrev pub SymbolsTo : List ℕ → Bool → ℕ → Type 0
 SymbolsTo text dot at = Reaches (SymbolStep text) (false, 0) (dot, at)
 
 -- The text ends in such a dot: it is of an absolute name.
-abbrev pub EndsInDot : List ℕ → Type 0
-EndsInDot text = SymbolsTo text true (length text)
+abbrev pub EndsInFinalDot : List ℕ → Type 0
+EndsInFinalDot text = SymbolsTo text true (length text)

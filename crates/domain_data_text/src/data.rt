@@ -1,7 +1,7 @@
 //! The data of a record.
 ghost use Rattle.std.specs.Prelude.{◌≡◌, ◌⊎◌, ◌↔◌, IsTrue, OnOk, IfOk, IfErr};
-ghost use Rattle.domain_data_text.specs.Data.{IsOfStrings, AreStrings, AreDigits, IsGeneric, IsTyped, IsData};
-ghost use Rattle.domain_data_text.specs.Faults.{IfRefused, FirstNoString, FirstNoDigits, NoGeneric, NoTyped, NoData};
+ghost use Rattle.domain_data_text.specs.Data.{IsOfStrings, AreStringWords, AreDigits, IsGeneric, IsTyped, IsData};
+ghost use Rattle.domain_data_text.specs.Faults.{IfFault, FirstNoString, FirstNoDigits, NoGeneric, NoTyped, NoData};
 ghost use Rattle.domain_data_text.specs.Pushing.{PushesSome};
 ghost use Rattle.domain_data_text.specs.Words.{words_at};
 
@@ -14,8 +14,8 @@ use std::alloc::Global;
 
 /// Appends the character strings that words are.
 fn push_strings(alloc: Global, words: &[Word<'_>], data: &mut Vec<u8>) -> Result<(), Stop>
-    ensures ok { OnOk result (PushesSome (AreStrings (words_at words.now)) data.old data.new) }
-    ensures err { IfErr result (λ e. IfRefused e (FirstNoString (words_at words.now))) }
+    ensures ok { OnOk result (PushesSome (AreStringWords (words_at words.now)) data.old data.new) }
+    ensures err { IfErr result (λ e. IfFault e (FirstNoString (words_at words.now))) }
 {
     for word in words {
         push_string(alloc, word, data)?;
@@ -26,7 +26,7 @@ fn push_strings(alloc: Global, words: &[Word<'_>], data: &mut Vec<u8>) -> Result
 /// Appends the octets that words are in hexadecimal digits.
 fn push_all_digits(words: &[Word<'_>], data: &mut Vec<u8>) -> Result<(), Stop>
     ensures ok { OnOk result (PushesSome (AreDigits (words_at words.now)) data.old data.new) }
-    ensures err { IfErr result (λ e. IfRefused e (FirstNoDigits (words_at words.now))) }
+    ensures err { IfErr result (λ e. IfFault e (FirstNoDigits (words_at words.now))) }
 {
     for word in words {
         push_digits(word, data)?;
@@ -37,7 +37,7 @@ fn push_all_digits(words: &[Word<'_>], data: &mut Vec<u8>) -> Result<(), Stop>
 /// The data of any type in the form of RFC 3597, 5, after its first word: how many octets, and the octets.
 fn generic_data(alloc: Global, column: usize, words: &[Word<'_>]) -> Result<Vec<u8>, Stop>
     ensures ok { IfOk result (λ made. IsGeneric (words_at words.now) made.items) }
-    ensures err { IfErr result (λ e. IfRefused e (NoGeneric column (words_at words.now))) }
+    ensures err { IfErr result (λ e. IfFault e (NoGeneric column (words_at words.now))) }
 {
     let Some((count, digits)) = words.split_first() else {
         return Err(Stop::Refused(Fault::Words, column));
@@ -61,7 +61,7 @@ fn is_of_strings(rtype: u16) -> bool
 /// The data of a type in the form of this type.
 fn typed_data(alloc: Global, rtype: u16, column: usize, words: &[Word<'_>]) -> Result<Vec<u8>, Stop>
     ensures ok { IfOk result (λ made. IsTyped rtype (words_at words.now) made.items) }
-    ensures err { IfErr result (λ e. IfRefused e (NoTyped rtype column (words_at words.now))) }
+    ensures err { IfErr result (λ e. IfFault e (NoTyped rtype column (words_at words.now))) }
 {
     let mut data = Vec::new(alloc);
     if is_of_strings(rtype) {
@@ -100,7 +100,7 @@ pub fn data_of(
     words: &[Word<'_>],
 ) -> Result<Vec<u8>, Stop>
     ensures ok { IfOk result (λ made. IsData rtype class (words_at words.now) made.items) }
-    ensures err { IfErr result (λ e. IfRefused e (NoData rtype class column (words_at words.now))) }
+    ensures err { IfErr result (λ e. IfFault e (NoData rtype class column (words_at words.now))) }
 {
     let Some((first, rest)) = words.split_first() else {
         if may_lack(class) {

@@ -1,6 +1,6 @@
 //! What the data of a type is made of.
 ghost use Rattle.std.specs.Prelude.{◌≡◌, ◌++◌, OnOk, IfErr, option_map};
-ghost use Rattle.domain_data_text.specs.Faults.{IfRefused, NoField, NoFields};
+ghost use Rattle.domain_data_text.specs.Faults.{IfFault, NoField, NoFields};
 ghost use Rattle.domain_data_text.specs.Fields.{name_types, two_name_types, exchange_types, is_among, fields_of_type, AreFields, IsField};
 ghost use Rattle.domain_data_text.specs.Pushing.{PushesSome};
 ghost use Rattle.domain_data_text.specs.Words.{word_at, words_at};
@@ -133,7 +133,7 @@ fn append(octets: &[u8], data: &mut Vec<u8>) -> Result<(), Stop>
 /// Appends the part of the data that a word is.
 fn push_field(alloc: Global, field: Field, word: &Word<'_>, data: &mut Vec<u8>) -> Result<(), Stop>
     ensures ok { OnOk result (PushesSome (IsField field word.now.octets.now) data.old data.new) }
-    ensures err { IfErr result (λ e. IfRefused e (NoField field (word_at word.now))) }
+    ensures err { IfErr result (λ e. IfFault e (NoField field (word_at word.now))) }
 {
     match field {
         Field::Number16 => {
@@ -171,7 +171,7 @@ pub(crate) fn push_fields(
     ensures ok { OnOk result
         (PushesSome (AreFields fields.now (words_at words.now)) data.old data.new) }
     ensures err { IfErr result
-        (λ e. IfRefused e (NoFields fields.now column (words_at words.now))) }
+        (λ e. IfFault e (NoFields fields.now column (words_at words.now))) }
 {
     if words.len() != fields.len() {
         return Err(Stop::Refused(Fault::Words, column));

@@ -3,8 +3,8 @@ ghost use Rattle.std.specs.Prelude.{◌≡◌, ◌<◌, ◌≤◌, ◌+◌, ℕ,
 ghost use Rattle.std.specs.Str.{chars, IsUtf8};
 ghost use Rattle.domain_builder.specs.TextGrammar.{IsTextOfName};
 ghost use Rattle.domain_name.specs.Names.{name_labels};
-ghost use Rattle.domain_data_text.specs.Faults.{IfRefused, Tells, NoName, NoNumber16, NoNumber32, NoIpv4, NoIpv6, NoDigits};
-ghost use Rattle.domain_data_text.specs.Words.{EndsInDot, word_at};
+ghost use Rattle.domain_data_text.specs.Faults.{IfFault, Tells, NoName, NoNumber16, NoNumber32, NoIpv4, NoIpv6, NoDigits};
+ghost use Rattle.domain_data_text.specs.Words.{EndsInFinalDot, word_at};
 ghost use Rattle.domain_data_text.specs.declared.error.Fault.{Fault};
 ghost use Rattle.domain_data_text.specs.Parts.{IsNameWord, IsNumber16, IsNumber32, IsIpv4Word, IsIpv6Word, IsHexDigit, AreDigitsAt, IsDigitsWord, SpellsNoName};
 ghost use Rattle.domain_data_text.specs.Pushing.{PushesSome};
@@ -28,7 +28,7 @@ pub type OwnName = Name<ArrayVec<u8, 255>>;
 pub fn text_of<'a>(word: &Word<'a>, fault: Fault) -> Result<&'a str, Stop>
     ensures ok { IfOk result
         (λ text. (text.now ≡ word.now.octets.now) × IsUtf8 word.now.octets.now) }
-    ensures err { IfErr result (λ e. IfRefused e (Tells fault word.now.column)) }
+    ensures err { IfErr result (λ e. IfFault e (Tells fault word.now.column)) }
     ensures no_text { IfErr result (λ _. IsUtf8 word.now.octets.now → ⊥) }
 {
     let Ok(text) = from_utf8(word.octets) else {
@@ -39,7 +39,7 @@ pub fn text_of<'a>(word: &Word<'a>, fault: Fault) -> Result<&'a str, Stop>
 
 /// Whether a text ends in a dot that no backslash stands before.
 fn ends_in_dot(text: &[u8]) -> bool
-    ensures { IsTrue result ↔ EndsInDot text.now }
+    ensures { IsTrue result ↔ EndsInFinalDot text.now }
 {
     let mut at = 0;
     let mut dot = false;
@@ -76,7 +76,7 @@ fn name_from_text(alloc: Global, text: &str) -> Result<OwnName, FromStrError>
 /// name; both in the column of the word.
 pub fn name_of(alloc: Global, word: &Word<'_>) -> Result<OwnName, Stop>
     ensures ok { IfOk result (λ name. IsNameWord word.now.octets.now (name_labels name)) }
-    ensures err { IfErr result (λ e. IfRefused e (NoName (word_at word.now))) }
+    ensures err { IfErr result (λ e. IfFault e (NoName (word_at word.now))) }
 {
     if !ends_in_dot(word.octets) {
         return Err(Stop::Refused(Fault::NoFinalDot, word.column));
@@ -96,7 +96,7 @@ pub fn name_of(alloc: Global, word: &Word<'_>) -> Result<OwnName, Stop>
 /// `Refused` has `Number` where it is none, or a larger one, in the column of the word.
 pub fn number32_of(word: &Word<'_>) -> Result<u32, Stop>
     ensures ok { IfOk result (λ n. IsNumber32 word.now.octets.now n) }
-    ensures err { IfErr result (λ e. IfRefused e (NoNumber32 (word_at word.now))) }
+    ensures err { IfErr result (λ e. IfFault e (NoNumber32 (word_at word.now))) }
 {
     let text = match text_of(word, Fault::Number) {
         Ok(text) => text,
@@ -111,7 +111,7 @@ pub fn number32_of(word: &Word<'_>) -> Result<u32, Stop>
 /// The number of at most 16 bits that a word is in decimal digits.
 pub(crate) fn number16_of(word: &Word<'_>) -> Result<u16, Stop>
     ensures ok { IfOk result (λ n. IsNumber16 word.now.octets.now n) }
-    ensures err { IfErr result (λ e. IfRefused e (NoNumber16 (word_at word.now))) }
+    ensures err { IfErr result (λ e. IfFault e (NoNumber16 (word_at word.now))) }
 {
     let number = match number32_of(word) {
         Ok(number) => number,
@@ -126,7 +126,7 @@ pub(crate) fn number16_of(word: &Word<'_>) -> Result<u16, Stop>
 /// The IPv4 address that a word is.
 pub(crate) fn ipv4_of(word: &Word<'_>) -> Result<[u8; 4], Stop>
     ensures ok { IfOk result (λ octets. IsIpv4Word word.now.octets.now octets) }
-    ensures err { IfErr result (λ e. IfRefused e (NoIpv4 (word_at word.now))) }
+    ensures err { IfErr result (λ e. IfFault e (NoIpv4 (word_at word.now))) }
 {
     let text = match text_of(word, Fault::Ipv4) {
         Ok(text) => text,
@@ -141,7 +141,7 @@ pub(crate) fn ipv4_of(word: &Word<'_>) -> Result<[u8; 4], Stop>
 /// The IPv6 address that a word is.
 pub(crate) fn ipv6_of(word: &Word<'_>) -> Result<[u8; 16], Stop>
     ensures ok { IfOk result (λ octets. IsIpv6Word word.now.octets.now octets) }
-    ensures err { IfErr result (λ e. IfRefused e (NoIpv6 (word_at word.now))) }
+    ensures err { IfErr result (λ e. IfFault e (NoIpv6 (word_at word.now))) }
 {
     let text = match text_of(word, Fault::Ipv6) {
         Ok(text) => text,
@@ -188,7 +188,7 @@ fn digits_at(text: &[u8], at: usize) -> Option<u8>
 /// Appends the octets that a word is in hexadecimal digits, two for each.
 pub(crate) fn push_digits(word: &Word<'_>, data: &mut Vec<u8>) -> Result<(), Stop>
     ensures ok { OnOk result (PushesSome (IsDigitsWord word.now.octets.now) data.old data.new) }
-    ensures err { IfErr result (λ e. IfRefused e (NoDigits (word_at word.now))) }
+    ensures err { IfErr result (λ e. IfFault e (NoDigits (word_at word.now))) }
 {
     let text = word.octets;
     let mut at = 0;

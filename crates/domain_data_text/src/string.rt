@@ -1,11 +1,11 @@
 //! Character strings (RFC 1035, 3.3 and 5.1).
 ghost use Rattle.std.specs.Prelude.{◌≡◌, ◌⊎◌, ◌<◌, ◌≤◌, ◌↔◌, ℕ, List, length, slice_index, false, IsTrue, IsNone, IfOk, IfErr, IfSome, OnOk};
-ghost use Rattle.domain_data_text.specs.Faults.{IfRefused, Lacks, NoString};
+ghost use Rattle.domain_data_text.specs.Faults.{IfFault, TellsMissing, NoString};
 ghost use Rattle.domain_data_text.specs.Fields.{IsField};
 ghost use Rattle.domain_data_text.specs.Words.{word_at};
 ghost use Rattle.domain_data_text.specs.declared.error.Fault.{Fault};
 ghost use Rattle.domain_label.specs.Spelling.{IsDigit, IsNoDigit};
-ghost use Rattle.domain_data_text.specs.Strings.{IsPlain, SpellsAt, IsSpelled, InQuotes};
+ghost use Rattle.domain_data_text.specs.Strings.{StandsForItself, SpellsAt, IsSpelled, InQuotes};
 ghost use Rattle.domain_data_text.specs.Pushing.{PushesSome};
 ghost use Rattle.domain_data_text.specs.declared.fields.Field.{Field};
 
@@ -15,7 +15,7 @@ use std::alloc::Global;
 
 /// Whether the octet stands for itself in a string: from space to tilde, and neither a quote nor a backslash.
 fn is_plain(octet: u8) -> bool
-    ensures { IsTrue result ↔ IsPlain octet }
+    ensures { IsTrue result ↔ StandsForItself octet }
 {
     b' ' <= octet && octet <= b'~' && octet != b'"' && octet != b'\\'
 }
@@ -102,7 +102,7 @@ fn without_quotes(text: &[u8]) -> Option<&[u8]>
 /// The octets that are spelled. The text is in a word at this column.
 fn spelled(alloc: Global, text: &[u8], column: usize) -> Result<Vec<u8>, Stop>
     ensures ok { IfOk result (λ octets. IsSpelled text.now octets.items) }
-    ensures err { IfErr result (λ e. IfRefused e (Lacks (IsSpelled text.now) Fault.Text column)) }
+    ensures err { IfErr result (λ e. IfFault e (TellsMissing (IsSpelled text.now) Fault.Text column)) }
 {
     let mut octets = Vec::new(alloc);
     let mut at = 0;
@@ -122,7 +122,7 @@ fn spelled(alloc: Global, text: &[u8], column: usize) -> Result<Vec<u8>, Stop>
 pub(crate) fn push_string(alloc: Global, word: &Word<'_>, data: &mut Vec<u8>) -> Result<(), Stop>
     ensures ok { OnOk result
         (PushesSome (IsField Field.Text word.now.octets.now) data.old data.new) }
-    ensures err { IfErr result (λ e. IfRefused e (NoString (word_at word.now))) }
+    ensures err { IfErr result (λ e. IfFault e (NoString (word_at word.now))) }
 {
     let column = word.column;
     let Some(text) = without_quotes(word.octets) else {

@@ -1,6 +1,6 @@
 //! The words of a line (RFC 1035, 5.1).
-ghost use Rattle.std.specs.Prelude.{◌≡◌, ◌<◌, ◌≤◌, ◌↔◌, length, slice_index, IsTrue, IfOk, IfErr};
-ghost use Rattle.domain_data_text.specs.Faults.{IfRefused, NoWord, NoWords};
+ghost use Rattle.std.specs.Prelude.{◌<◌, ◌≤◌, ◌↔◌, length, slice_index, IsTrue, IfOk, IfErr};
+ghost use Rattle.domain_data_text.specs.Faults.{IfFault, NoWord, NoWords};
 ghost use Rattle.domain_data_text.specs.Words.{IsBlank, IsWordIn, AreWords, words_at};
 
 use crate::error::{Fault, Stop};
@@ -30,7 +30,7 @@ fn word_end(line: &[u8], start: usize) -> Result<usize, Stop>
     ensures word { IfOk result (λ end. IsWordIn line.now start end) }
     ensures within { IfOk result (λ end. end ≤ length line.now) }
     ensures some { IfOk result (λ end. start < end) }
-    ensures err { IfErr result (λ e. IfRefused e (NoWord line.now start)) }
+    ensures err { IfErr result (λ e. IfFault e (NoWord line.now start)) }
 {
     let mut at = start;
     let mut quoted = false;
@@ -63,7 +63,7 @@ fn word_end(line: &[u8], start: usize) -> Result<usize, Stop>
 pub fn words_of<'a>(alloc: Global, line: &'a [u8], start: usize) -> Result<Vec<Word<'a>>, Stop>
     requires { start ≤ length line.now }
     ensures ok { IfOk result (λ words. AreWords line.now start (words_at words.items)) }
-    ensures err { IfErr result (λ e. IfRefused e (NoWords line.now start)) }
+    ensures err { IfErr result (λ e. IfFault e (NoWords line.now start)) }
 {
     let mut words = Vec::new(alloc);
     let mut at = start;

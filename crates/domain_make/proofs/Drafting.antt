@@ -12,9 +12,9 @@ use Rattle.domain_make.specs.Drafts.{Draft, IsBlankDraft, IsAsked, IsRemark, IsL
 use Rattle.domain_make.specs.Drafts.LineSays.{empty, remark, asked, question, entry}
 use Rattle.domain_make.specs.Drafts.LinesSay.{none, line}
 use Rattle.domain_make.specs.Entries.{IsQuestionWords, IsRecordWords}
-use Rattle.domain_data_text.specs.Faults.{IfRefused}
+use Rattle.domain_data_text.specs.Faults.{IfFault}
 use Rattle.domain_make.specs.Made.{IsMade, IfLine}
-use Rattle.domain_make.specs.Refusals.{Refuses, StopsAt, StopsFrom, HasRoom}
+use Rattle.domain_make.specs.Refusals.{RefusesLine, StopsAtLine, StopsFrom, EntriesHaveRoom}
 use Rattle.domain_make.specs.Remarks.{IsTrimmed, Remarks}
 use Rattle.domain_data_text.specs.Words.{WordAt, words_at, AreWords}
 use Rattle.domain_data_text.specs.declared.words.Word.{Word}
@@ -121,24 +121,24 @@ made c text m begun s is takes message =
 
 -- The line after those that were taken wasn't.
 pub line_refused : (c : Bool) (text : List ℕ) (n at end : ℕ) (stage : Stage) (old now : State) (stop : Stop) (e : MakeError) → Taken c text n at stage old now → at < length text → IsLine text at end
-    → IfRefused stop (Refuses c (slice_range text at end) stage now) → IfLine e (λ told. (told.line ≡ n + 1) × (stop ≡ Refused told.fault told.column)) → IfLine e (StopsFrom c text old)
+    → IfFault stop (RefusesLine c (slice_range text at end) stage now) → IfLine e (λ told. (told.line ≡ n + 1) × (stop ≡ Refused told.fault told.column)) → IfLine e (StopsFrom c text old)
 line_refused c text n at end stage old now stop (Line e) before more is_line lack is = λ d fresh drafted.
     let said = before d fresh drafted in
-    let why : Refuses c (slice_range text at end) stage now e.fault e.column = subst (λ s. IfRefused s (Refuses c (slice_range text at end) stage now)) is.1 lack in
+    let why : RefusesLine c (slice_range text at end) stage now e.fault e.column = subst (λ s. IfFault s (RefusesLine c (slice_range text at end) stage now)) is.1 lack in
     record { lines = n; at = at; end = end; said = said.0; before = said.1; more = more; next = is.0; is_line = is_line; refused = why said.0 said.2 }
 line_refused c text n at end stage old now stop Read before more is_line lack is = tt
 line_refused c text n at end stage old now stop Write before more is_line lack is = tt
 line_refused c text n at end stage old now stop Memory before more is_line lack is = tt
 
 -- The error of a text for a message that was begun.
-pub refused : (c : Bool) (text : List ℕ) (begun : State) (e : MakeError) → IsBegun c 65535 begun → IfLine e (StopsFrom c text begun) → IfLine e (StopsAt c text)
+pub refused : (c : Bool) (text : List ℕ) (begun : State) (e : MakeError) → IsBegun c 65535 begun → IfLine e (StopsFrom c text begun) → IfLine e (StopsAtLine c text)
 refused c text begun (Line e) is stops = stops (blank begun) (blank_is c begun is) (blank_held c begun is)
 refused c text begun Read is stops = tt
 refused c text begun Write is stops = tt
 refused c text begun Memory is stops = tt
 
 -- A text whose entries have room is taken.
-pub taken : (c : Bool) (text : List ℕ) (e : MakeError) → IfLine e (StopsAt c text) → IfLine e (λ _. (said : Draft) → TextSays text said → HasRoom c text → ⊥)
+pub taken : (c : Bool) (text : List ℕ) (e : MakeError) → IfLine e (StopsAtLine c text) → IfLine e (λ _. (said : Draft) → TextSays text said → EntriesHaveRoom c text → ⊥)
 taken c text (Line e) stops = λ said all fits. accepted c text said e all fits stops
 taken c text Read stops = tt
 taken c text Write stops = tt
@@ -156,8 +156,8 @@ of_input P Write o text items is read h = tt
 of_input P Memory o text items is read h = tt
 
 -- What is told of a line that isn't taken.
-pub line_told : (e : MakeError) (told : LineError) (o : Option (List ℕ)) → e ≡ Line told → IfLine e (λ k. IfSome o (λ text. StopsAt true text k)) → IfSome o (λ text. (k : LineError) × StopsAt true text k)
-line_told e told o is h = some_map (λ text. StopsAt true text told) (λ text. (k : LineError) × StopsAt true text k) o (λ text stops. (told, stops)) (subst (λ x. IfLine x (λ k. IfSome o (λ text. StopsAt true text k))) is h)
+pub line_told : (e : MakeError) (told : LineError) (o : Option (List ℕ)) → e ≡ Line told → IfLine e (λ k. IfSome o (λ text. StopsAtLine true text k)) → IfSome o (λ text. (k : LineError) × StopsAtLine true text k)
+line_told e told o is h = some_map (λ text. StopsAtLine true text told) (λ text. (k : LineError) × StopsAtLine true text k) o (λ text stops. (told, stops)) (subst (λ x. IfLine x (λ k. IfSome o (λ text. StopsAtLine true text k))) is h)
 
 pub line_never : (e : MakeError) (told : LineError) (P : Type 0) → e ≡ Line told → IfLine e (λ _. P) → P
 line_never e told P is h = subst (λ x. IfLine x (λ _. P)) is h

@@ -5,7 +5,7 @@ use Rattle.std.proofs.lemmas.Bool.{false≢true, cases_order}
 use Rattle.std.proofs.lemmas.List.{append-nil, append_cancel_left}
 use Rattle.domain_header.specs.Tables.{opcode_text, rcode_text}
 use Rattle.domain_header.specs.declared.flags.Header.{Header}
-use Rattle.domain_data_text.specs.Faults.{IfRefused, Tells, Lacks}
+use Rattle.domain_data_text.specs.Faults.{IfFault, Tells, TellsMissing}
 use Rattle.domain_data_text.specs.Parts.{IsNumber16}
 use Rattle.domain_make.specs.Refusals.{IsOther, NoRemark}
 use Rattle.domain_make.specs.Refusals.NoRemark.{late_codes, no_codes, late_flags, no_flags, no_heading, of_opt}
@@ -77,14 +77,14 @@ abbrev pub NoCodes : List ℕ → Fault → ℕ → Type 0
 NoCodes text f c = Tells fault.Header 1 f c × ((o r i : ℕ) → AreCodes text o r i → ⊥)
 
 -- A part that isn't there.
-pub codes_lack : {A : Type 0} (Says : A → Type 0) (text : List ℕ) (e : Stop) → (((x : A) → Says x → ⊥) → (o r i : ℕ) → AreCodes text o r i → ⊥) → IfRefused e (Lacks Says fault.Header 1) → IfRefused e (NoCodes text)
-codes_lack Says text e there h = if_refused (Lacks Says fault.Header 1) (NoCodes text) e (λ f c lack. (lack.0, there lack.1)) h
+pub codes_lack : {A : Type 0} (Says : A → Type 0) (text : List ℕ) (e : Stop) → (((x : A) → Says x → ⊥) → (o r i : ℕ) → AreCodes text o r i → ⊥) → IfFault e (TellsMissing Says fault.Header 1) → IfFault e (NoCodes text)
+codes_lack Says text e there h = if_refused (TellsMissing Says fault.Header 1) (NoCodes text) e (λ f c lack. (lack.0, there lack.1)) h
 
-pub codes_refused : (text rest : List ℕ) (stage : Stage) (e : Stop) → IsCodesLine text rest → stage ≡ Start → IfRefused e (NoCodes rest) → IfRefused e (λ f c. NoRemark text stage f × (c ≡ 1))
+pub codes_refused : (text rest : List ℕ) (stage : Stage) (e : Stop) → IsCodesLine text rest → stage ≡ Start → IfFault e (NoCodes rest) → IfFault e (λ f c. NoRemark text stage f × (c ≡ 1))
 codes_refused text rest stage e is start h = if_refused (NoCodes rest) (λ f c. NoRemark text stage f × (c ≡ 1)) e (λ f c lack. (no_codes rest is start lack.1 lack.0.0, lack.0.1)) h
 
-pub flags_refused : (text rest : List ℕ) (stage : Stage) (e : Stop) → IsFlagsLine text rest → (stage ≡ Start) ⊎ (stage ≡ Codes) → IfRefused e (Lacks (BeginsWithFlags rest) fault.Header 1) → IfRefused e (λ f c. NoRemark text stage f × (c ≡ 1))
-flags_refused text rest stage e is at h = if_refused (Lacks (BeginsWithFlags rest) fault.Header 1) (λ f c. NoRemark text stage f × (c ≡ 1)) e (λ f c lack. (no_flags rest is at lack.1 lack.0.0, lack.0.1)) h
+pub flags_refused : (text rest : List ℕ) (stage : Stage) (e : Stop) → IsFlagsLine text rest → (stage ≡ Start) ⊎ (stage ≡ Codes) → IfFault e (TellsMissing (BeginsWithFlags rest) fault.Header 1) → IfFault e (λ f c. NoRemark text stage f × (c ≡ 1))
+flags_refused text rest stage e is at h = if_refused (TellsMissing (BeginsWithFlags rest) fault.Header 1) (λ f c. NoRemark text stage f × (c ≡ 1)) e (λ f c lack. (no_flags rest is at lack.1 lack.0.0, lack.0.1)) h
 
 pub other_refused : (text : List ℕ) (stage : Stage) (f : Fault) → IsOther text → (EndsInSection text × (f ≡ fault.Heading)) ⊎ ((EndsInSection text → ⊥) × BeginsAsOpt text × (f ≡ fault.Opt)) → NoRemark text stage f
 other_refused text stage f is (inl h) = no_heading is h.0 h.1
@@ -153,10 +153,10 @@ pub no_z_after : (word text rest : List ℕ) (b : Bool) → Looked word text res
 no_z_after word text rest true look off x is = false≢true (sym off)
 no_z_after word text rest false look off x is = look.1 refl x (look.0 ∙ is)
 
-pub flags_lack : (text rest : List ℕ) (e : Stop) → ((flags : Flags) → BeginsWithFlags text flags → (x : List ℕ) × (rest ≡ codes "; " ++ x)) → IfRefused e (Lacks (λ x. rest ≡ codes "; " ++ x) fault.Header 1)
-    → IfRefused e (Lacks (BeginsWithFlags text) fault.Header 1)
+pub flags_lack : (text rest : List ℕ) (e : Stop) → ((flags : Flags) → BeginsWithFlags text flags → (x : List ℕ) × (rest ≡ codes "; " ++ x)) → IfFault e (TellsMissing (λ x. rest ≡ codes "; " ++ x) fault.Header 1)
+    → IfFault e (TellsMissing (BeginsWithFlags text) fault.Header 1)
 flags_lack text rest e only h =
-    if_refused (Lacks (λ x. rest ≡ codes "; " ++ x) fault.Header 1) (Lacks (BeginsWithFlags text) fault.Header 1) e (λ f c lack. (lack.0, λ flags has. let w = only flags has in lack.1 w.0 w.1)) h
+    if_refused (TellsMissing (λ x. rest ≡ codes "; " ++ x) fault.Header 1) (TellsMissing (BeginsWithFlags text) fault.Header 1) e (λ f c lack. (lack.0, λ flags has. let w = only flags has in lack.1 w.0 w.1)) h
 
 -- ---- kinds of lines
 

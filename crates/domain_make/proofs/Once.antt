@@ -18,9 +18,9 @@ use Rattle.domain_data_text.specs.Words.{WordAt}
 use Rattle.domain_data_text.specs.declared.error.Fault.{Fault}
 use Rattle.domain_data_text.proofs.Once.{some_same, some_none, same_head, same_tail, no_name, no_data}
 use Rattle.domain_make.specs.Entries.{IsClassWord, IsTypeWord, IsQuestionWords, IsRecordWords}
-use Rattle.domain_make.specs.Faults.{NoQuestion, NoRecord}
-use Rattle.domain_make.specs.Faults.NoQuestion.{class as lack_question_class, name as lack_question_name, number as lack_question_number, rtype as lack_question_rtype}
-use Rattle.domain_make.specs.Faults.NoRecord.{class as lack_record_class, few as lack_record_few, owner as lack_record_owner, rdata as lack_record_rdata, rtype as lack_record_rtype, ttl as lack_record_ttl}
+use Rattle.domain_make.specs.Faults.{NoQuestionWords, NoRecordWords}
+use Rattle.domain_make.specs.Faults.NoQuestionWords.{class as lack_question_class, name as lack_question_name, number as lack_question_number, rtype as lack_question_rtype}
+use Rattle.domain_make.specs.Faults.NoRecordWords.{class as lack_record_class, few as lack_record_few, owner as lack_record_owner, rdata as lack_record_rdata, rtype as lack_record_rtype, ttl as lack_record_ttl}
 
 number_of_once : (word : List ℕ) (rows : List Row) (a b : Option ℕ) → NumberOf word rows a → NumberOf word rows b → a ≡ b
 number_of_once word [] a b nowhere nowhere = refl
@@ -68,7 +68,7 @@ pub type_once : (word : List ℕ) (n m : ℕ) → IsTypeWord word n → IsTypeWo
 type_once word n m a b = named_once _ _ word n m a.1 b.1
 
 -- Three words, and four before others, are one by one the same.
-pub no_question : (words : List WordAt) (f : Fault) (c : ℕ) (q : QuestionFields) → NoQuestion words f c → IsQuestionWords words q → ⊥
+pub no_question : (words : List WordAt) (f : Fault) (c : ℕ) (q : QuestionFields) → NoQuestionWords words f c → IsQuestionWords words q → ⊥
 no_question words f c q (lack_question_number other told) is = other (ap length is.parts)
 no_question words f c q (lack_question_name n k t parts lack) is = no_name n f c q.name lack (subst (λ v. IsNameWord v.octets q.name) (same_head is.name n _ _ (sym is.parts ∙ parts)) is.name_is)
 no_question words f c q (lack_question_class n k t ls parts name lack) is =
@@ -100,7 +100,7 @@ same_record o s k t p u x y rest more e =
       rest_is = same_tail y t more rest e3;
     }
 
-pub no_record : (words : List WordAt) (f : Fault) (c : ℕ) (head : RecordHead) (octets : List ℕ) → NoRecord words f c → IsRecordWords words head octets → ⊥
+pub no_record : (words : List WordAt) (f : Fault) (c : ℕ) (head : RecordHead) (octets : List ℕ) → NoRecordWords words f c → IsRecordWords words head octets → ⊥
 no_record words f c head octets (lack_record_few few told) is = absurd (omega (arith, few, ap length is.parts))
 no_record words f c head octets (lack_record_owner o s k t rest parts lack) is =
     let same = same_record o s k t is.owner is.ttl is.class is.rtype rest is.rest (sym is.parts ∙ parts) in

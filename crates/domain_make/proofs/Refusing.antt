@@ -13,13 +13,13 @@ use Rattle.domain_make.specs.Drafts.LineSays.{asked as says_asked, empty as says
 use Rattle.domain_make.specs.Drafts.LinesSay.{none, line}
 use Rattle.domain_make.specs.Entries.{IsQuestionWords, IsRecordWords}
 use Rattle.domain_data_text.specs.Faults.{NoWords}
-use Rattle.domain_make.specs.Faults.{NoQuestion, NoRecord}
-use Rattle.domain_make.specs.Refusals.{NoRemark, IsOutside, IsFaulty, QuestionStops, RecordStops, QuestionNotPushed, RecordNotPushed, NoPushedQuestion, NoPushedRecord, IsRefused, Refuses, StopsAt, HasRoom}
+use Rattle.domain_make.specs.Faults.{NoQuestionWords, NoRecordWords}
+use Rattle.domain_make.specs.Refusals.{NoRemark, IsOutside, IsFaulty, QuestionStops, RecordStops, QuestionNotPushed, RecordNotPushed, NoPushedQuestion, NoPushedRecord, IsRefused, RefusesLine, StopsAtLine, EntriesHaveRoom}
 use Rattle.domain_make.specs.Refusals.IsFaulty.{asked as faulty_asked, asked_words as faulty_asked_words, entry as faulty_entry, no_words as faulty_no_words, outside as faulty_outside, question as faulty_question, remark as faulty_remark}
 use Rattle.domain_make.specs.Refusals.NotPushed.{long, order, many, limit}
 use Rattle.domain_make.specs.Refusals.NoPushedQuestion.{no_question as lack_question_no_question, stopped as lack_question_stopped}
 use Rattle.domain_make.specs.Refusals.NoPushedRecord.{no_record as lack_record_no_record, stopped as lack_record_stopped}
-use Rattle.domain_make.specs.Refusals.HasNoRoom.{asked as room_asked, entry as room_entry, question as room_question}
+use Rattle.domain_make.specs.Refusals.EntryNotPushed.{asked as room_asked, entry as room_entry, question as room_question}
 use Rattle.domain_make.specs.Refusals.IsRefused.{says_nothing, no_room}
 use Rattle.domain_make.specs.Remarks.{IsTrimmed, Remarks}
 use Rattle.domain_data_text.specs.Words.{WordAt, word_at, words_at, AreWords}
@@ -39,10 +39,10 @@ two_stages s section e f = cc
 empty_other : (l : List ℕ) (words : List WordAt) → AreWords l 0 words → 0 < length words → AreWords l 0 [] → ⊥
 empty_other l words are some none_are = absurd (omega (arith, some, ap length (words_once l 0 words [] are none_are)))
 
-same_question : (l : List ℕ) (start : ℕ) (words also : List WordAt) (f : Fault) (c : ℕ) (q : QuestionFields) → AreWords l start words → AreWords l start also → NoQuestion words f c → IsQuestionWords also q → ⊥
+same_question : (l : List ℕ) (start : ℕ) (words also : List WordAt) (f : Fault) (c : ℕ) (q : QuestionFields) → AreWords l start words → AreWords l start also → NoQuestionWords words f c → IsQuestionWords also q → ⊥
 same_question l start words also f c q are they lack is = no_question words f c q lack (subst (λ ws. IsQuestionWords ws q) (words_once l start also words they are) is)
 
-same_record : (l : List ℕ) (words also : List WordAt) (f : Fault) (c : ℕ) (head : RecordHead) (octets : List ℕ) → AreWords l 0 words → AreWords l 0 also → NoRecord words f c → IsRecordWords also head octets → ⊥
+same_record : (l : List ℕ) (words also : List WordAt) (f : Fault) (c : ℕ) (head : RecordHead) (octets : List ℕ) → AreWords l 0 words → AreWords l 0 also → NoRecordWords words f c → IsRecordWords also head octets → ⊥
 same_record l words also f c head octets are they lack is = no_record words f c head octets lack (subst (λ ws. IsRecordWords ws head octets) (words_once l 0 also words they are) is)
 
 -- A line of which a fault is told says nothing.
@@ -89,7 +89,7 @@ refused comp l d f c is = says_nothing is (λ new. faulty_is l d new f c is)
 
 -- ---- what is told where a builder holds what was said
 
-pub refuses_remark : (comp : Bool) (l text : List ℕ) (stage : Stage) (s : State) (f : Fault) (c : ℕ) → IsRemark l stage → IsTrimmed l text → NoRemark text stage f × (c ≡ 1) → Refuses comp l stage s f c
+pub refuses_remark : (comp : Bool) (l text : List ℕ) (stage : Stage) (s : State) (f : Fault) (c : ℕ) → IsRemark l stage → IsTrimmed l text → NoRemark text stage f × (c ≡ 1) → RefusesLine comp l stage s f c
 refuses_remark comp l text stage s f c marked trimmed lack = λ d is.
     refused comp l d f c (faulty_remark text (subst (λ p. IsRemark l p) (sym is.stage_is) marked) trimmed (subst (λ p. NoRemark text p f) (sym is.stage_is) lack.0) lack.1)
 
@@ -110,17 +110,17 @@ record_stops comp stage Additional s d head octets f is (many full told) = many 
 record_stops comp stage section s d head octets f is (limit over told) =
     limit (s, is.holds, subst (λ n. Exceeds (RecordsIn comp head (λ _ t. t ≡ octets) s.octets) s.octets n) (omega (arith, is.limit_is, is.reserved_is)) over) told
 
-pub refuses_asked_words : (comp : Bool) (l : List ℕ) (s : State) (f : Fault) (c : ℕ) → IsAsked l → NoWords l 1 f c → Refuses comp l Questions s f c
+pub refuses_asked_words : (comp : Bool) (l : List ℕ) (s : State) (f : Fault) (c : ℕ) → IsAsked l → NoWords l 1 f c → RefusesLine comp l Questions s f c
 refuses_asked_words comp l s f c begins lack = λ d is. refused comp l d f c (faulty_asked_words is.stage_is begins lack)
 
-pub refuses_asked : (comp : Bool) (l : List ℕ) (words : List WordAt) (s : State) (f : Fault) (c : ℕ) → IsAsked l → AreWords l 1 words → NoPushedQuestion comp words s f c → Refuses comp l Questions s f c
+pub refuses_asked : (comp : Bool) (l : List ℕ) (words : List WordAt) (s : State) (f : Fault) (c : ℕ) → IsAsked l → AreWords l 1 words → NoPushedQuestion comp words s f c → RefusesLine comp l Questions s f c
 refuses_asked comp l words s f c begins are (lack_question_no_question lack) = λ d is. refused comp l d f c (faulty_asked words is.stage_is begins are lack)
 refuses_asked comp l words s f c begins are (lack_question_stopped q says stops at_first) = λ d is. no_room (room_asked words q is.stage_is begins are says (question_stops comp Questions s d q f is stops) at_first)
 
-pub refuses_words : (comp : Bool) (l : List ℕ) (stage : Stage) (s : State) (f : Fault) (c : ℕ) → slice_index l 0 ≢ 59 → NoWords l 0 f c → Refuses comp l stage s f c
+pub refuses_words : (comp : Bool) (l : List ℕ) (stage : Stage) (s : State) (f : Fault) (c : ℕ) → slice_index l 0 ≢ 59 → NoWords l 0 f c → RefusesLine comp l stage s f c
 refuses_words comp l stage s f c plain lack = λ d is. refused comp l d f c (faulty_no_words plain lack)
 
-pub refuses_outside : (comp : Bool) (l : List ℕ) (stage : Stage) (s : State) (w : WordAt) (ws : List WordAt) → IsOutside stage → slice_index l 0 ≢ 59 → AreWords l 0 (w ∷ ws) → Refuses comp l stage s fault.Outside w.column
+pub refuses_outside : (comp : Bool) (l : List ℕ) (stage : Stage) (s : State) (w : WordAt) (ws : List WordAt) → IsOutside stage → slice_index l 0 ≢ 59 → AreWords l 0 (w ∷ ws) → RefusesLine comp l stage s fault.Outside w.column
 refuses_outside comp l stage s w ws out plain are = λ d is. refused comp l d fault.Outside w.column (faulty_outside w ws (subst IsOutside (sym is.stage_is) out) plain are (refl, refl))
 
 -- Where entries are said, and no records, questions are.
@@ -132,17 +132,17 @@ only_questions Questions out never = refl
 only_questions (Records section) out never = absurd (never section refl)
 
 -- The first word is an entry before all headings.
-pub refuses_outside_first : (comp : Bool) (l : List ℕ) (stage : Stage) (s : State) (words : List Word) (d : Word) → IsOutside stage → slice_index l 0 ≢ 59 → AreWords l 0 (words_at words) → 0 < length words → Refuses comp l stage s fault.Outside (get_or words 0 d).column
+pub refuses_outside_first : (comp : Bool) (l : List ℕ) (stage : Stage) (s : State) (words : List Word) (d : Word) → IsOutside stage → slice_index l 0 ≢ 59 → AreWords l 0 (words_at words) → 0 < length words → RefusesLine comp l stage s fault.Outside (get_or words 0 d).column
 refuses_outside_first comp l stage s [] d out plain are some = absurd (omega (arith, some))
 refuses_outside_first comp l stage s (w ∷ ws) d out plain are some = refuses_outside comp l stage s (word_at w) (words_at ws) out plain are
 
-pub refuses_question : (comp : Bool) (l : List ℕ) (words : List WordAt) (s : State) (f : Fault) (c : ℕ) → slice_index l 0 ≢ 59 → AreWords l 0 words → 0 < length words → NoPushedQuestion comp words s f c → Refuses comp l Questions s f c
+pub refuses_question : (comp : Bool) (l : List ℕ) (words : List WordAt) (s : State) (f : Fault) (c : ℕ) → slice_index l 0 ≢ 59 → AreWords l 0 words → 0 < length words → NoPushedQuestion comp words s f c → RefusesLine comp l Questions s f c
 refuses_question comp l words s f c plain are some (lack_question_no_question lack) = λ d is. refused comp l d f c (faulty_question words is.stage_is plain are some lack)
 refuses_question comp l words s f c plain are some (lack_question_stopped q says stops at_first) =
     λ d is. no_room (room_question words q is.stage_is plain are says (question_stops comp Questions s d q f is stops) at_first)
 
 pub refuses_record : (comp : Bool) (l : List ℕ) (section : Section) (words : List WordAt) (s : State) (f : Fault) (c : ℕ) → slice_index l 0 ≢ 59 → AreWords l 0 words → 0 < length words → NoPushedRecord comp section words s f c
-    → Refuses comp l (Records section) s f c
+    → RefusesLine comp l (Records section) s f c
 refuses_record comp l section words s f c plain are some (lack_record_no_record lack) = λ d is. refused comp l d f c (faulty_entry section words is.stage_is plain are some lack)
 refuses_record comp l section words s f c plain are some (lack_record_stopped head octets says stops at_first) =
     λ d is. no_room (room_entry section words head octets is.stage_is plain are says (record_stops comp (Records section) section s d head octets f is stops) at_first)
@@ -229,7 +229,7 @@ faulty_stage l a b f c e (faulty_question words at plain are some lack) = faulty
 faulty_stage l a b f c e (faulty_entry section words at plain are some lack) = faulty_entry section words (sym e ∙ at) plain are some lack
 
 -- A text whose lines all say something, and whose entries have room, has no line that isn't taken.
-pub accepted : (comp : Bool) (text : List ℕ) (said : Draft) (e : LineError) → TextSays text said → HasRoom comp text → StopsAt comp text e → ⊥
+pub accepted : (comp : Bool) (text : List ℕ) (said : Draft) (e : LineError) → TextSays text said → EntriesHaveRoom comp text → StopsAtLine comp text e → ⊥
 accepted comp text said e all fits stops = elim stops.refused [
   | no_room lack ↦ fits stops.lines stops.at stops.end stops.said e.fault e.column stops.before stops.is_line lack
   | says_nothing is never ↦ elim (cases_lt stops.lines all.lines) [

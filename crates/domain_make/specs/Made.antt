@@ -1,6 +1,5 @@
 -- The message that the lines of a text say, and what is written of it.
-use Rattle.std.specs.Prelude.{◌≡◌, ℕ, Bool, true, false, cond, List, [], ◌∷◌, ◌++◌, map, Option, IfSome, codes, ⊤}
-use denote.Bor.{Bor}
+use Rattle.std.specs.Prelude.{◌≡◌, ℕ, Bool, true, false, cond, List, [], ◌∷◌, ◌++◌, Option, IfSome, codes, ⊤}
 use Rattle.std.specs.Io.KnownBytes.{Appends}
 use Rattle.domain_message_builder.specs.Reading.{IsMessageOf}
 use Rattle.domain_tool.specs.WireText.{hexadecimal}
@@ -32,10 +31,6 @@ WritesOctets contents octets hex old new = Appends (contents old) (contents new)
 abbrev pub MakesOf : {W : Type 0} → Option (List ℕ) → Bool → (W → Option (List ℕ)) → W → W → Type 0
 MakesOf given hex contents old new =
     IfSome given (λ text. WritesMade text hex (contents old) (contents new))
-
--- the texts of the words
-abbrev pub texts : List (Bor (List ℕ)) → List (List ℕ)
-texts words = map (λ word. word.now) words
 
 -- The words are `make`, and `--hex` behind it where the message is to be in hexadecimal digits.
 abbrev pub AsksToMake : List (List ℕ) → Bool → Type 0

@@ -13,7 +13,7 @@ use Rattle.domain_rdata.specs.ReadBack.{Exceeds}
 use Rattle.domain_make.specs.Drafts.{Draft, IsBlankDraft, IsAsked, IsRemark, LineSays, IsLine, LinesSay, TextSays, IsDraft}
 use Rattle.domain_make.specs.Entries.{first_column, IsQuestionWords, IsRecordWords}
 use Rattle.domain_data_text.specs.Faults.{Tells, NoWords}
-use Rattle.domain_make.specs.Faults.{NoQuestion, NoRecord}
+use Rattle.domain_make.specs.Faults.{NoQuestionWords, NoRecordWords}
 use Rattle.domain_make.specs.Remarks.{IsTrimmed, IsCodesLine, AreCodes, IsFlagsLine, BeginsWithFlags, IsHeading, EndsInSection, BeginsAsOpt}
 use Rattle.domain_data_text.specs.Words.{WordAt, AreWords}
 use Rattle.domain_data_text.specs.declared.error.Fault.{Fault}
@@ -50,11 +50,11 @@ IsOutside (Records section) = ⊥
 pub data IsFaulty (line : List ℕ) (old : Draft) (f : Fault) (c : ℕ) : Type 0 where
   remark : (text : List ℕ) → IsRemark line old.stage → IsTrimmed line text → NoRemark text old.stage f → c ≡ 1 → IsFaulty line old f c
   asked_words : old.stage ≡ Questions → IsAsked line → NoWords line 1 f c → IsFaulty line old f c
-  asked : (words : List WordAt) → old.stage ≡ Questions → IsAsked line → AreWords line 1 words → NoQuestion words f c → IsFaulty line old f c
+  asked : (words : List WordAt) → old.stage ≡ Questions → IsAsked line → AreWords line 1 words → NoQuestionWords words f c → IsFaulty line old f c
   no_words : slice_index line 0 ≢ 59 → NoWords line 0 f c → IsFaulty line old f c
   outside : (w : WordAt) (ws : List WordAt) → IsOutside old.stage → slice_index line 0 ≢ 59 → AreWords line 0 (w ∷ ws) → Tells fault.Outside w.column f c → IsFaulty line old f c
-  question : (words : List WordAt) → old.stage ≡ Questions → slice_index line 0 ≢ 59 → AreWords line 0 words → 0 < length words → NoQuestion words f c → IsFaulty line old f c
-  entry : (section : Section) (words : List WordAt) → old.stage ≡ Records section → slice_index line 0 ≢ 59 → AreWords line 0 words → 0 < length words → NoRecord words f c → IsFaulty line old f c
+  question : (words : List WordAt) → old.stage ≡ Questions → slice_index line 0 ≢ 59 → AreWords line 0 words → 0 < length words → NoQuestionWords words f c → IsFaulty line old f c
+  entry : (section : Section) (words : List WordAt) → old.stage ≡ Records section → slice_index line 0 ≢ 59 → AreWords line 0 words → 0 < length words → NoRecordWords words f c → IsFaulty line old f c
 
 -- how many records there are
 abbrev pub records_in : Content → ℕ
@@ -113,35 +113,35 @@ TellsPush Order f = f ≡ fault.Order
 
 -- The words are no question, or one that a builder doesn't take.
 pub data NoPushedQuestion (compresses : Bool) (words : List WordAt) (s : State) (f : Fault) (c : ℕ) : Type 0 where
-  no_question : NoQuestion words f c → NoPushedQuestion compresses words s f c
+  no_question : NoQuestionWords words f c → NoPushedQuestion compresses words s f c
   stopped : (q : QuestionFields) → IsQuestionWords words q → QuestionStops compresses q s f → c ≡ first_column words → NoPushedQuestion compresses words s f c
 
 -- The words are no record, or one that a builder doesn't take.
 pub data NoPushedRecord (compresses : Bool) (section : Section) (words : List WordAt) (s : State) (f : Fault) (c : ℕ) : Type 0 where
-  no_record : NoRecord words f c → NoPushedRecord compresses section words s f c
+  no_record : NoRecordWords words f c → NoPushedRecord compresses section words s f c
   stopped : (head : RecordHead) (octets : List ℕ) → IsRecordWords words head octets → RecordStops compresses section head octets s f → c ≡ first_column words → NoPushedRecord compresses section words s f c
 
 -- What the line says is an entry, which isn't pushed.
-pub data HasNoRoom (compresses : Bool) (line : List ℕ) (old : Draft) (f : Fault) (c : ℕ) : Type 0 where
+pub data EntryNotPushed (compresses : Bool) (line : List ℕ) (old : Draft) (f : Fault) (c : ℕ) : Type 0 where
   asked : (words : List WordAt) (q : QuestionFields) → old.stage ≡ Questions → IsAsked line → AreWords line 1 words → IsQuestionWords words q
-      → QuestionNotPushed compresses q old.content f → c ≡ first_column words → HasNoRoom compresses line old f c
+      → QuestionNotPushed compresses q old.content f → c ≡ first_column words → EntryNotPushed compresses line old f c
   question : (words : List WordAt) (q : QuestionFields) → old.stage ≡ Questions → slice_index line 0 ≢ 59 → AreWords line 0 words → IsQuestionWords words q
-      → QuestionNotPushed compresses q old.content f → c ≡ first_column words → HasNoRoom compresses line old f c
+      → QuestionNotPushed compresses q old.content f → c ≡ first_column words → EntryNotPushed compresses line old f c
   entry : (section : Section) (words : List WordAt) (head : RecordHead) (octets : List ℕ) → old.stage ≡ Records section → slice_index line 0 ≢ 59 → AreWords line 0 words
-      → IsRecordWords words head octets → RecordNotPushed compresses section head octets old.content f → c ≡ first_column words → HasNoRoom compresses line old f c
+      → IsRecordWords words head octets → RecordNotPushed compresses section head octets old.content f → c ≡ first_column words → EntryNotPushed compresses line old f c
 
 -- The line isn't taken after what was said: it says nothing of a message, with this fault in this column; or an entry, which
 -- isn't pushed.
 pub data IsRefused (compresses : Bool) (line : List ℕ) (old : Draft) (f : Fault) (c : ℕ) : Type 0 where
   says_nothing : IsFaulty line old f c → ((new : Draft) → LineSays line old new → ⊥) → IsRefused compresses line old f c
-  no_room : HasNoRoom compresses line old f c → IsRefused compresses line old f c
+  no_room : EntryNotPushed compresses line old f c → IsRefused compresses line old f c
 
 -- The line isn't taken after what this builder holds.
-abbrev pub Refuses : Bool → List ℕ → Stage → State → Fault → ℕ → Type 0
-Refuses compresses line stage old f c = (d : Draft) → IsDraft compresses stage old d → IsRefused compresses line d f c
+abbrev pub RefusesLine : Bool → List ℕ → Stage → State → Fault → ℕ → Type 0
+RefusesLine compresses line stage old f c = (d : Draft) → IsDraft compresses stage old d → IsRefused compresses line d f c
 
 -- The lines of a text before the one of this number, from 1 on, say something, and that one isn't taken after it.
-pub record StopsAt (compresses : Bool) (text : List ℕ) (e : LineError) : Type 0 where
+pub record StopsAtLine (compresses : Bool) (text : List ℕ) (e : LineError) : Type 0 where
   pub lines : ℕ
   pub at : ℕ
   pub end : ℕ
@@ -154,23 +154,23 @@ pub record StopsAt (compresses : Bool) (text : List ℕ) (e : LineError) : Type 
 
 -- From a builder that holds nothing, the lines before this one of a text were taken, and this one wasn't.
 abbrev pub StopsFrom : Bool → List ℕ → State → LineError → Type 0
-StopsFrom compresses text old e = (d : Draft) → IsBlankDraft d → IsDraft compresses Start old d → StopsAt compresses text e
+StopsFrom compresses text old e = (d : Draft) → IsBlankDraft d → IsDraft compresses Start old d → StopsAtLine compresses text e
 
 -- Each entry that the lines of a text say, one after the other, has room.
-abbrev pub HasRoom : Bool → List ℕ → Type 0
-HasRoom compresses text = (n at end : ℕ) (said : Draft) (f : Fault) (c : ℕ) → LinesSay text n at said → IsLine text at end → HasNoRoom compresses (slice_range text at end) said f c → ⊥
+abbrev pub EntriesHaveRoom : Bool → List ℕ → Type 0
+EntriesHaveRoom compresses text = (n at end : ℕ) (said : Draft) (f : Fault) (c : ℕ) → LinesSay text n at said → IsLine text at end → EntryNotPushed compresses (slice_range text at end) said f c → ⊥
 
 -- If all lines of the text say something, then an entry of them has no room.
 abbrev pub NotMade : Bool → List ℕ → Type 0
-NotMade compresses text = (said : Draft) → TextSays text said → HasRoom compresses text → ⊥
+NotMade compresses text = (said : Draft) → TextSays text said → EntriesHaveRoom compresses text → ⊥
 
 -- A line of the text isn't taken after those before it, and why.
 abbrev pub StopsSomewhere : Bool → List ℕ → Type 0
-StopsSomewhere compresses text = (told : LineError) × StopsAt compresses text told
+StopsSomewhere compresses text = (told : LineError) × StopsAtLine compresses text told
 
 -- The error tells which line of the given text isn't taken, and why, where it is known what is given.
 abbrev pub StopsAtGiven : Bool → Option (List ℕ) → LineError → Type 0
-StopsAtGiven compresses given told = IfSome given (λ text. StopsAt compresses text told)
+StopsAtGiven compresses given told = IfSome given (λ text. StopsAtLine compresses text told)
 
 -- If all lines of the given text say something, then an entry of them has no room, where it is known what is given.
 abbrev pub GivenNotMade : Bool → Option (List ℕ) → Type 0

@@ -7,7 +7,7 @@ use Rattle.domain_header.specs.Tables.{opcode_text, rcode_text}
 use Rattle.domain_header.specs.Values.{opcode_number, rcode_number}
 use Rattle.domain_header.specs.declared.flags.Header.{Header}
 use Rattle.domain_message.specs.declared.section.Section.TheVariants.{Answer, Authority, Additional}
-use Rattle.domain_data_text.specs.Faults.{Tells, Lacks}
+use Rattle.domain_data_text.specs.Faults.{Tells, TellsMissing}
 use Rattle.domain_data_text.specs.Parts.{IsNumber16}
 use Rattle.domain_data_text.specs.Words.{IsBlank}
 use Rattle.domain_data_text.specs.declared.error.Fault.{Fault}
@@ -71,7 +71,7 @@ AreTold text told = AreCodes text (opcode_number told.opcode) (rcode_number told
 
 -- A part of a line of a header isn't what stands there.
 abbrev pub LacksPart : {A : Type 0} → (A → Type 0) → Fault → ℕ → Type 0
-LacksPart Says f c = Lacks Says fault.Header 1 f c
+LacksPart Says f c = TellsMissing Says fault.Header 1 f c
 
 -- The text isn't such codes and an identifier.
 abbrev pub LacksCodes : List ℕ → Fault → ℕ → Type 0

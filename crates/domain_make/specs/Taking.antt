@@ -14,13 +14,13 @@ use Rattle.domain_message_builder.specs.Builders.{state}
 use Rattle.domain_message_builder.specs.Contents.{RecordHead}
 use Rattle.domain_message_builder.specs.Pushes.{headed, PushesQuestion, PushesRecord}
 use Rattle.domain_message_builder.specs.declared.builder.MessageBuilder.{MessageBuilder}
-use Rattle.domain_data_text.specs.Faults.{IfRefused}
+use Rattle.domain_data_text.specs.Faults.{IfFault}
 use Rattle.domain_data_text.specs.Words.{WordAt}
 use Rattle.domain_data_text.specs.declared.error.Stop.{Stop}
 use Rattle.domain_make.specs.Drafts.{DraftsLine, DraftsLines}
 use Rattle.domain_make.specs.Entries.{IsQuestionWords, IsRecordWords}
 use Rattle.domain_make.specs.Made.{IfLine}
-use Rattle.domain_make.specs.Refusals.{NoPushedQuestion, NoPushedRecord, Refuses, StopsFrom}
+use Rattle.domain_make.specs.Refusals.{NoPushedQuestion, NoPushedRecord, RefusesLine, StopsFrom}
 use Rattle.domain_make.specs.declared.error.MakeError.{MakeError}
 use Rattle.domain_make.specs.declared.remark.Stage.{Stage}
 
@@ -38,7 +38,7 @@ AddsQuestionOf {g = g} words old new =
 -- Why no question that the words are was pushed, if it isn't memory that lacks.
 abbrev pub NoQuestionAdded : {T E : Type 0} {g : _} {h : _} {i : _} {j : _} {k : _} {l : _}
     → List WordAt → MessageBuilder T E g h i j k l → Stop → Type 0
-NoQuestionAdded {g = g} words b e = IfRefused e (NoPushedQuestion g.compresses words (state b))
+NoQuestionAdded {g = g} words b e = IfFault e (NoPushedQuestion g.compresses words (state b))
 
 -- The record that the words are was pushed into the section.
 abbrev pub AddsRecordOf : {T E : Type 0} {g : _} {h : _} {i : _} {j : _} {k : _} {l : _}
@@ -49,7 +49,7 @@ AddsRecordOf {g = g} section words old new =
 -- Why no record that the words are was pushed, if it isn't memory that lacks.
 abbrev pub NoRecordAdded : {T E : Type 0} {g : _} {h : _} {i : _} {j : _} {k : _} {l : _}
     → Section → List WordAt → MessageBuilder T E g h i j k l → Stop → Type 0
-NoRecordAdded {g = g} section words b e = IfRefused e (NoPushedRecord g.compresses section words (state b))
+NoRecordAdded {g = g} section words b e = IfFault e (NoPushedRecord g.compresses section words (state b))
 
 -- The line says something that the builder holds then after what was said before, if it held that.
 abbrev pub TakesLine : {T E : Type 0} {g : _} {h : _} {i : _} {j : _} {k : _} {l : _}
@@ -57,14 +57,14 @@ abbrev pub TakesLine : {T E : Type 0} {g : _} {h : _} {i : _} {j : _} {k : _} {l
 TakesLine {g = g} line stage old next new = DraftsLine g.compresses line stage (state old) next (state new)
 
 -- The same of a line that leaves the stage as it is.
-abbrev pub TakesEntry : {T E : Type 0} {g : _} {h : _} {i : _} {j : _} {k : _} {l : _}
+abbrev pub TakesEntryLine : {T E : Type 0} {g : _} {h : _} {i : _} {j : _} {k : _} {l : _}
     → List ℕ → Stage → MessageBuilder T E g h i j k l → MessageBuilder T E g h i j k l → Type 0
-TakesEntry line stage old new = TakesLine line stage old stage new
+TakesEntryLine line stage old new = TakesLine line stage old stage new
 
 -- Why the line isn't taken after what the builder holds, if it isn't memory that lacks.
 abbrev pub LineNotTaken : {T E : Type 0} {g : _} {h : _} {i : _} {j : _} {k : _} {l : _}
     → List ℕ → Stage → MessageBuilder T E g h i j k l → Stop → Type 0
-LineNotTaken {g = g} line stage b e = IfRefused e (Refuses g.compresses line stage (state b))
+LineNotTaken {g = g} line stage b e = IfFault e (RefusesLine g.compresses line stage (state b))
 
 -- A builder that held nothing holds what the lines of a text say.
 abbrev pub TakesLines : {T E : Type 0} {g : _} {h : _} {i : _} {j : _} {k : _} {l : _}

@@ -2,8 +2,9 @@
 ghost use Rattle.std.specs.Prelude.{◌≡◌, ◌≤◌, ◌↔◌, Bool, true, Some, IfOk, IfErr, IfSome, IsNone, OnOk};
 ghost use Rattle.std.specs.Io.KnownBytes.{IsAtEnd};
 ghost use Rattle.domain_tool.specs.WireText.{octet_digits, hexadecimal};
-ghost use Rattle.domain_make.specs.Made.{IsMade, WritesOctets, MakesOf, texts, AsksToMake, MakesAsked, IfLine};
-ghost use Rattle.domain_make.specs.Refusals.{StopsAt, NotMade, StopsSomewhere, StopsAtGiven, GivenNotMade};
+ghost use Rattle.domain_tool.specs.WordParts.{texts};
+ghost use Rattle.domain_make.specs.Made.{IsMade, WritesOctets, MakesOf, AsksToMake, MakesAsked, IfLine};
+ghost use Rattle.domain_make.specs.Refusals.{StopsAtLine, NotMade, StopsSomewhere, StopsAtGiven, GivenNotMade};
 
 use crate::error::MakeError;
 use crate::line::take_lines;
@@ -26,7 +27,7 @@ pub fn make_message<Target: Composer + Drop>(
     target: Target,
 ) -> Result<Target, MakeError>
     ensures message { IfOk result (λ made. IsMade text.now (Target.octets made)) }
-    ensures refused { IfErr result (λ e. IfLine e (StopsAt Target.compresses text.now)) }
+    ensures refused { IfErr result (λ e. IfLine e (StopsAtLine Target.compresses text.now)) }
     ensures accepted { IfErr result (λ e. IfLine e (λ _. NotMade Target.compresses text.now)) }
 {
     let mut message = match MessageBuilder::from_target(target) {
@@ -42,7 +43,7 @@ pub fn make_message<Target: Composer + Drop>(
 /// The message that the lines of a text say, with names of questions and owners of records written shorter.
 fn shorter_message(alloc: Global, text: &[u8]) -> Result<Vec<u8>, MakeError>
     ensures message { IfOk result (λ made. IsMade text.now made.items) }
-    ensures refused { IfErr result (λ e. IfLine e (StopsAt true text.now)) }
+    ensures refused { IfErr result (λ e. IfLine e (StopsAtLine true text.now)) }
     ensures accepted { IfErr result (λ e. IfLine e (λ _. NotMade true text.now)) }
 {
     let composer = CompressComposer::new(Vec::new(alloc));

@@ -5,8 +5,8 @@ ghost use Rattle.domain_message_builder.specs.Pushes.{asked};
 ghost use Rattle.domain_name.specs.Names.{name_labels};
 ghost use Rattle.domain_rdata.specs.Rtypes.{rtype_number};
 ghost use Rattle.domain_make.specs.Entries.{IsClassWord, IsTypeWord, first_column, IsQuestionWords};
-ghost use Rattle.domain_data_text.specs.Faults.{IfRefused};
-ghost use Rattle.domain_make.specs.Faults.{NoClass, NoType, NoQuestion, NoFittingRecord};
+ghost use Rattle.domain_data_text.specs.Faults.{IfFault};
+ghost use Rattle.domain_make.specs.Faults.{NoClass, NoType, NoQuestionWords, NoFittingRecord};
 ghost use Rattle.domain_make.specs.Refusals.{TellsPush};
 ghost use Rattle.domain_make.specs.Taking.{AreWordsOf, AddsQuestionOf, NoQuestionAdded, AddsRecordOf, NoRecordAdded};
 ghost use Rattle.domain_data_text.specs.Words.{word_at, words_at};
@@ -26,7 +26,7 @@ use std::alloc::Global;
 /// The class that a word names.
 fn class_of(word: &Word<'_>) -> Result<Class, Stop>
     ensures ok { IfOk result (λ class. IsClassWord word.now.octets.now (class_number class)) }
-    ensures err { IfErr result (λ e. IfRefused e (NoClass (word_at word.now))) }
+    ensures err { IfErr result (λ e. IfFault e (NoClass (word_at word.now))) }
 {
     let text = text_of(word, Fault::Class)?;
     let Some(class) = Class::from_text(text) else {
@@ -38,7 +38,7 @@ fn class_of(word: &Word<'_>) -> Result<Class, Stop>
 /// The type that a word names.
 fn rtype_of(word: &Word<'_>) -> Result<Rtype, Stop>
     ensures ok { IfOk result (λ rtype. IsTypeWord word.now.octets.now (rtype_number rtype)) }
-    ensures err { IfErr result (λ e. IfRefused e (NoType (word_at word.now))) }
+    ensures err { IfErr result (λ e. IfFault e (NoType (word_at word.now))) }
 {
     let text = text_of(word, Fault::Rtype)?;
     let Some(rtype) = rtype_from_text(text) else {
@@ -51,7 +51,7 @@ fn rtype_of(word: &Word<'_>) -> Result<Rtype, Stop>
 fn question_of(alloc: Global, words: &[Word<'_>]) -> Result<Question<OwnName>, Stop>
     ensures ok { IfOk result (λ it.
         IsQuestionWords (words_at words.now) (asked name_labels it)) }
-    ensures err { IfErr result (λ e. IfRefused e (NoQuestion (words_at words.now))) }
+    ensures err { IfErr result (λ e. IfFault e (NoQuestionWords (words_at words.now))) }
 {
     let [name, class, rtype] = words else {
         return Err(Stop::Refused(Fault::Question, first_column(words)));
@@ -68,7 +68,7 @@ fn record_of(
     words: &[Word<'_>],
 ) -> Result<Record<OwnName, UnknownRecordData<Vec<u8>>>, Stop>
     ensures ok { IfOk result (λ it. AreWordsOf (words_at words.now) it) }
-    ensures err { IfErr result (λ e. IfRefused e (NoFittingRecord (words_at words.now))) }
+    ensures err { IfErr result (λ e. IfFault e (NoFittingRecord (words_at words.now))) }
 {
     let [owner, ttl, class, rtype, rest @ ..] = words else {
         return Err(Stop::Refused(Fault::Record, first_column(words)));
@@ -97,7 +97,7 @@ fn first_column(words: &[Word<'_>]) -> usize
 
 /// Why a push was refused, of the entry at this column.
 fn refused<E: Drop>(e: PushError<E>, column: usize) -> Stop
-    ensures { IfRefused result (λ f c. TellsPush e f × (c ≡ column)) }
+    ensures { IfFault result (λ f c. TellsPush e f × (c ≡ column)) }
 {
     match e {
         PushError::Append(_) => Stop::Memory,

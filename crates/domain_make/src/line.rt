@@ -3,7 +3,7 @@ ghost use Rattle.std.specs.Prelude.{◌≡◌, ◌≢◌, ◌<◌, ◌≤◌, �
 ghost use Rattle.domain_make.specs.Drafts.{IsAsked, IsRemark, IsLine};
 ghost use Rattle.domain_make.specs.Made.{IfLine};
 ghost use Rattle.domain_make.specs.Refusals.{IsOutside};
-ghost use Rattle.domain_make.specs.Taking.{TakesLine, TakesEntry, LineNotTaken, TakesLines, LinesNotTaken};
+ghost use Rattle.domain_make.specs.Taking.{TakesLine, TakesEntryLine, LineNotTaken, TakesLines, LinesNotTaken};
 ghost use Rattle.domain_data_text.specs.Words.{AreWords, words_at};
 ghost use Rattle.domain_data_text.specs.declared.error.Stop.{Stop};
 ghost use Rattle.domain_make.specs.declared.remark.Stage.{Stage};
@@ -54,7 +54,7 @@ fn take_asked<Target: Composer>(
     message: &mut MessageBuilder<Target>,
 ) -> Result<(), Stop>
     requires { IsAsked line.now }
-    ensures ok { OnOk result (TakesEntry line.now Stage.Questions message.old message.new) }
+    ensures ok { OnOk result (TakesEntryLine line.now Stage.Questions message.old message.new) }
     ensures err { IfErr result (LineNotTaken line.now Stage.Questions message.old) }
 {
     let words = words_of(alloc, line, 1)?;
@@ -71,7 +71,7 @@ fn take_question<Target: Composer>(
     requires begins { slice_index line.now 0 ≢ 59 }
     requires words { AreWords line.now 0 (words_at words.now) }
     requires some { 0 < length words.now }
-    ensures ok { OnOk result (TakesEntry line.now Stage.Questions message.old message.new) }
+    ensures ok { OnOk result (TakesEntryLine line.now Stage.Questions message.old message.new) }
     ensures err { IfErr result (LineNotTaken line.now Stage.Questions message.old) }
 {
     push_question(alloc, words, message)
@@ -88,7 +88,7 @@ fn take_record<Target: Composer>(
     requires begins { slice_index line.now 0 ≢ 59 }
     requires words { AreWords line.now 0 (words_at words.now) }
     requires some { 0 < length words.now }
-    ensures ok { OnOk result (TakesEntry line.now (Stage.Records section)
+    ensures ok { OnOk result (TakesEntryLine line.now (Stage.Records section)
         message.old message.new) }
     ensures err { IfErr result (LineNotTaken line.now (Stage.Records section) message.old) }
 {
@@ -113,7 +113,7 @@ fn take_entry<Target: Composer>(
     message: &mut MessageBuilder<Target>,
 ) -> Result<(), Stop>
     requires { slice_index line.now 0 ≢ 59 }
-    ensures ok { OnOk result (TakesEntry line.now stage message.old message.new) }
+    ensures ok { OnOk result (TakesEntryLine line.now stage message.old message.new) }
     ensures err { IfErr result (LineNotTaken line.now stage message.old) }
 {
     let words = words_of(alloc, line, 0)?;

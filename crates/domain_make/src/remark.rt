@@ -2,7 +2,7 @@
 ghost use Rattle.std.specs.Prelude.{◌≡◌, ◌⊎◌, ◌++◌, ◌∷◌, [], ◌<◌, ℕ, List, IfOk, IfErr, IfSome, IsNone, IsTrue, ◌↔◌, codes, cond, false};
 ghost use Rattle.domain_header.specs.Tables.{opcode_text, rcode_text};
 ghost use Rattle.domain_header.specs.Values.{opcode_number, rcode_number};
-ghost use Rattle.domain_data_text.specs.Faults.{IfRefused};
+ghost use Rattle.domain_data_text.specs.Faults.{IfFault};
 ghost use Rattle.domain_data_text.specs.Parts.{IsNumber16};
 ghost use Rattle.domain_make.specs.Refusals.{NoRemark};
 ghost use Rattle.domain_make.specs.Remarks.{IsTrimmed, IsAfter, BeginsWith, BeginsOtherwise, FindsRest, HasNoOctet, IsCodesLine, IsOpcodeText, IsRcodeText};
@@ -59,7 +59,7 @@ fn parted(text: &[u8], octet: u8) -> Option<(&[u8], &[u8])>
 fn opcode_of(alloc: Global, text: &[u8]) -> Result<Opcode, Stop>
     ensures text { IfOk result (λ code. text.now ≡ opcode_text (opcode_number code)) }
     ensures small { IfOk result (λ code. opcode_number code < 16) }
-    ensures err { IfErr result (λ e. IfRefused e (LacksPart (IsOpcodeText text.now))) }
+    ensures err { IfErr result (λ e. IfFault e (LacksPart (IsOpcodeText text.now))) }
 {
     for number in 0..16_u8 {
         let opcode = Opcode::masked_from_int(number);
@@ -77,7 +77,7 @@ fn opcode_of(alloc: Global, text: &[u8]) -> Result<Opcode, Stop>
 fn rcode_of(alloc: Global, text: &[u8]) -> Result<Rcode, Stop>
     ensures text { IfOk result (λ code. text.now ≡ rcode_text (rcode_number code)) }
     ensures small { IfOk result (λ code. rcode_number code < 16) }
-    ensures err { IfErr result (λ e. IfRefused e (LacksPart (IsRcodeText text.now))) }
+    ensures err { IfErr result (λ e. IfFault e (LacksPart (IsRcodeText text.now))) }
 {
     for number in 0..16_u8 {
         let rcode = Rcode::masked_from_int(number);
@@ -94,7 +94,7 @@ fn rcode_of(alloc: Global, text: &[u8]) -> Result<Rcode, Stop>
 /// The identifier of this text.
 fn id_of(text: &[u8]) -> Result<u16, Stop>
     ensures ok { IfOk result (λ id. IsNumber16 text.now id) }
-    ensures err { IfErr result (λ e. IfRefused e (LacksPart (IsNumber16 text.now))) }
+    ensures err { IfErr result (λ e. IfFault e (LacksPart (IsNumber16 text.now))) }
 {
     let Ok(text) = from_utf8(text) else {
         return Err(Stop::Refused(Fault::Header, 1));
@@ -111,7 +111,7 @@ fn id_of(text: &[u8]) -> Result<u16, Stop>
 /// The text after this beginning, of a line of a header.
 fn header_part<'a>(beginning: &[u8], text: &'a [u8]) -> Result<&'a [u8], Stop>
     ensures ok { IfOk result (λ rest. IsAfter beginning.now text.now rest.now) }
-    ensures err { IfErr result (λ e. IfRefused e (LacksPart (IsAfter beginning.now text.now))) }
+    ensures err { IfErr result (λ e. IfFault e (LacksPart (IsAfter beginning.now text.now))) }
 {
     let Some(rest) = after(beginning, text) else {
         return Err(Stop::Refused(Fault::Header, 1));
@@ -130,7 +130,7 @@ struct CodesTold {
 /// The codes and the identifier that a text tells, as `QUERY, status: NOERROR, id: 1`.
 fn codes_of(alloc: Global, text: &[u8]) -> Result<CodesTold, Stop>
     ensures ok { IfOk result (λ told. AreTold text.now told) }
-    ensures err { IfErr result (λ e. IfRefused e (LacksCodes text.now)) }
+    ensures err { IfErr result (λ e. IfFault e (LacksCodes text.now)) }
 {
     let Some((opcode, rest)) = parted(text, b',') else {
         return Err(Stop::Refused(Fault::Header, 1));
@@ -211,7 +211,7 @@ fn flags_before(text: &[u8]) -> (Flags, &[u8])
 /// The flags that a text begins with, and a semicolon after them.
 fn flags_of(text: &[u8]) -> Result<Flags, Stop>
     ensures ok { IfOk result (λ flags. BeginsWithFlags text.now flags) }
-    ensures err { IfErr result (λ e. IfRefused e (LacksPart (BeginsWithFlags text.now))) }
+    ensures err { IfErr result (λ e. IfFault e (LacksPart (BeginsWithFlags text.now))) }
 {
     let (flags, rest) = flags_before(text);
     header_part(b"; ", rest)?;
@@ -363,7 +363,7 @@ pub(crate) fn remark(
     header: Header,
 ) -> Result<(Stage, Header), Stop>
     ensures ok { IfOk result (λ after. Remarks line.now stage header after.0 after.1) }
-    ensures err { IfErr result (λ e. IfRefused e (λ f c. NoRemark line.now stage f × (c ≡ 1))) }
+    ensures err { IfErr result (λ e. IfFault e (λ f c. NoRemark line.now stage f × (c ≡ 1))) }
 {
     if let Some(text) = codes_text(line) {
         if !before_codes(stage) {

@@ -1,10 +1,10 @@
 use Rattle.std.proofs.Common.{List, ℕ}
 use Rattle.std.specs.Prelude.{true}
 use Rattle.domain_make.specs.Drafts.{Draft, TextSays}
-use Rattle.domain_make.specs.Refusals.{HasRoom}
+use Rattle.domain_make.specs.Refusals.{EntriesHaveRoom}
 use Rattle.domain_make.proofs.Drafting.{of_input}
 use Rattle.domain_make.proofs.engine.make.Goals as goal
 
 pub returns-in-Err-shorter_message-clause-accepted : goal.returns-in-Err-shorter_message-clause-accepted
 returns-in-Err-shorter_message-clause-accepted g c =
-    of_input (λ (text : List ℕ). (said : Draft) → TextSays text said → HasRoom true text → ⊥) c.in-Err-shorter_message.e _ _ _ c.as_slice.ensures.value c.in-Ok.ensures.octets c.in-Err-shorter_message.ensures.accepted
+    of_input (λ (text : List ℕ). (said : Draft) → TextSays text said → EntriesHaveRoom true text → ⊥) c.in-Err-shorter_message.e _ _ _ c.as_slice.ensures.value c.in-Ok.ensures.octets c.in-Err-shorter_message.ensures.accepted
