@@ -10,7 +10,7 @@ use Rattle.domain_record.specs.Entries.{RecordFields}
 use Rattle.domain_edns.specs.Options.{BeginsWithOption, EndsInOption}
 use Rattle.domain_lines.specs.Edns.{edns_line, another_text, option_line, cut_option_line, AreOptionLines}
 use Rattle.domain_lines.specs.Edns.AreOptionLines.{no_more, option, cut}
-use Rattle.domain_lines.specs.Records.{is_root, data_of, IsOptText}
+use Rattle.domain_lines.specs.Records.{is_root, rdata_octets, IsOptText}
 
 abbrev first_len : List (List ℕ) → ℕ
 first_len [] = 0
@@ -46,7 +46,7 @@ Listed octets rest Puts = (text : List ℕ) × Puts text × ((more : List ℕ) �
 -- Texts that are put into something one after another: `Takes a b text` says that a becomes b by a text.
 module _ {S : Type 0} (Takes : S → S → List ℕ → Type 0) (joined : (a b c : S) (first second : List ℕ) → Takes a b first → Takes b c second → Takes a c (first ++ second)) where
   -- The lines of an OPT record were written.
-  pub wrote_opt : (rcode : ℕ) (another : Bool) (it : RecordFields) (data_octets : List ℕ) (old a b new : S) → data_octets ≡ data_of it → Takes old a (another_text another) → Takes a b (edns_line it.header.ttl it.header.class rcode ++ 10 ∷ [])
+  pub wrote_opt : (rcode : ℕ) (another : Bool) (it : RecordFields) (data_octets : List ℕ) (old a b new : S) → data_octets ≡ rdata_octets it → Takes old a (another_text another) → Takes a b (edns_line it.header.ttl it.header.class rcode ++ 10 ∷ [])
       → ((options : List ℕ) × AreOptionLines data_octets options × Takes b new options) → (text : List ℕ) × IsOptText rcode another it text × Takes old new text
   wrote_opt rcode another it data_octets old a b new same first second third =
       let line = edns_line it.header.ttl it.header.class rcode in

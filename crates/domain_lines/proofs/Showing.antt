@@ -13,14 +13,14 @@ use Rattle.domain_header.specs.Numbers.{number16}
 use Rattle.domain_record.specs.Entries.{QuestionAt, NoQuestion, RecordFields, RecordAt, NoRecord}
 use Rattle.domain_record.specs.Facts.{same_message}
 use Rattle.domain_message.specs.Facts.{run_and}
-use Rattle.domain_message.specs.Sections.{Run, counted}
+use Rattle.domain_message.specs.Sections.{Run, counted_records}
 use Rattle.domain_message.specs.declared.section.Section.{Section}
 use Rattle.domain_message.specs.declared.section.Section.TheVariants.{Answer, Authority, Additional}
 use Rattle.domain_tool.specs.Engines.{IfRefused, OnAnswer}
 use Rattle.domain_tool.specs.declared.tool.ToolError.{ToolError}
 use Rattle.domain_tool.specs.declared.tool.ToolError.TheVariants.{Parse, Text, Read, Write, Memory}
 use Rattle.domain_lines.specs.Flags.{flag_text}
-use Rattle.domain_lines.specs.Records.{is_opt, IsEntryText}
+use Rattle.domain_lines.specs.Records.{is_opt_in, IsEntryText}
 use Rattle.domain_lines.specs.Messages.{codes_line, counts_line, header_lines, header_rcode, questions_heading, section_heading, IsQuestionText, AreTextsOf, ShowsAll, ShowsSome, WritesAll, WritesSome, ShowsQuestions, ShowsSection, StopsInSection, ShowsAnswers, ShowsAuthority, PutsMessage, PutsUntil, WritesMessage, WritesUntil, WritesShown}
 use Rattle.domain_lines.specs.Writing.{Wrote}
 use Rattle.domain_lines.specs.Messages.StopsShowing.{no_header, no_question, no_answer, no_authority, no_additional}
@@ -47,7 +47,7 @@ pub record Written {V : Type 0} (At : List ℕ → ℕ → V → ℕ → Type 0)
 -- The records of a section were put, and it is known whether an OPT record is among them.
 pub record Recorded (rcode : ℕ) (s : Section) (first : Parser) (n : ℕ) (p : Parser) (Puts : List ℕ → Type 0) (seen : Bool) : Type 0 where
   pub written : Written RecordAt (IsEntryText rcode s) first n p Puts
-  pub known : seen ≡ list_any (is_opt s) written.entries
+  pub known : seen ≡ list_any (is_opt_in s) written.entries
 
 -- what holds of the reason of a refusal
 pub refused_so : (r : Result (Unit {0}) ToolError) (P Q : ParseError → Type 0) → ((e : ParseError) → P e → Q e) → IfRefused r P → IfRefused r Q
@@ -116,8 +116,8 @@ module _ {S : Type 0} (Takes : S → S → List ℕ → Type 0) (nothing : (a : 
 
   -- one more
   pub recorded_more : (rcode : ℕ) (s : Section) (first p q : Parser) (n : ℕ) (old now new : S) (x : RecordFields) (seen still_seen : Bool) → Recorded rcode s first n p (Takes old now) seen → RecordAt (message p) (position p) x (position q) → MovesTo p q (position q)
-      → ((others : List RecordFields) → seen ≡ list_any (is_opt s) others → (text : List ℕ) × IsEntryText rcode s others x text × Takes now new text)
-      → ((others : List RecordFields) → seen ≡ list_any (is_opt s) others → still_seen ≡ list_any (is_opt s) (others ++ x ∷ [])) → Recorded rcode s first (n + 1) q (Takes old new) still_seen
+      → ((others : List RecordFields) → seen ≡ list_any (is_opt_in s) others → (text : List ℕ) × IsEntryText rcode s others x text × Takes now new text)
+      → ((others : List RecordFields) → seen ≡ list_any (is_opt_in s) others → still_seen ≡ list_any (is_opt_in s) (others ++ x ∷ [])) → Recorded rcode s first (n + 1) q (Takes old new) still_seen
   unfolding written_more
   recorded_more rcode s first p q n old now new x seen still_seen before at moves shown known =
       let text = shown before.written.entries before.known in
@@ -126,14 +126,14 @@ module _ {S : Type 0} (Takes : S → S → List ℕ → Type 0) (nothing : (a : 
         known = known before.written.entries before.known;
       }
 
-  pub wrote_section : (m : List ℕ) (s : Section) (r p e n : ℕ) (old mid new : S) → r ≡ header_rcode m → n ≡ counted m s → Takes old mid (section_heading s ++ 10 ∷ []) → WritesAll RecordAt (IsEntryText r s) m p n e (Takes mid new) → Wrote (ShowsSection m s p e) (Takes old new)
+  pub wrote_section : (m : List ℕ) (s : Section) (r p e n : ℕ) (old mid new : S) → r ≡ header_rcode m → n ≡ counted_records m s → Takes old mid (section_heading s ++ 10 ∷ []) → WritesAll RecordAt (IsEntryText r s) m p n e (Takes mid new) → Wrote (ShowsSection m s p e) (Takes old new)
   wrote_section m s r p e n old mid new code count head all =
-      let lines = subst (λ r. ShowsAll RecordAt (IsEntryText r s) m p (counted m s) e all.0) code (subst (λ n. ShowsAll RecordAt (IsEntryText r s) m p n e all.0) count all.1) in
+      let lines = subst (λ r. ShowsAll RecordAt (IsEntryText r s) m p (counted_records m s) e all.0) code (subst (λ n. ShowsAll RecordAt (IsEntryText r s) m p n e all.0) count all.1) in
       ((section_heading s ++ 10 ∷ []) ++ all.0, (all.0, lines, refl), joined old mid new (section_heading s ++ 10 ∷ []) all.0 head all.2)
 
-  pub stopped_section : (m : List ℕ) (s : Section) (r p n : ℕ) (old mid new : S) (result : Result (Unit {0}) ToolError) → r ≡ header_rcode m → n ≡ counted m s → Takes old mid (section_heading s ++ 10 ∷ []) → IfRefused result (λ why. WritesSome RecordAt NoRecord (IsEntryText r s) m p n (Takes mid new) why) → IfRefused result (λ why. Wrote (λ text. StopsInSection m s p text why) (Takes old new))
+  pub stopped_section : (m : List ℕ) (s : Section) (r p n : ℕ) (old mid new : S) (result : Result (Unit {0}) ToolError) → r ≡ header_rcode m → n ≡ counted_records m s → Takes old mid (section_heading s ++ 10 ∷ []) → IfRefused result (λ why. WritesSome RecordAt NoRecord (IsEntryText r s) m p n (Takes mid new) why) → IfRefused result (λ why. Wrote (λ text. StopsInSection m s p text why) (Takes old new))
   stopped_section m s r p n old mid new result code count head = refused_so result (λ why. WritesSome RecordAt NoRecord (IsEntryText r s) m p n (Takes mid new) why) (λ why. Wrote (λ text. StopsInSection m s p text why) (Takes old new)) (λ why some.
-      let lines = subst (λ r. ShowsSome RecordAt NoRecord (IsEntryText r s) m p (counted m s) some.0 why) code (subst (λ n. ShowsSome RecordAt NoRecord (IsEntryText r s) m p n some.0 why) count some.1) in
+      let lines = subst (λ r. ShowsSome RecordAt NoRecord (IsEntryText r s) m p (counted_records m s) some.0 why) code (subst (λ n. ShowsSome RecordAt NoRecord (IsEntryText r s) m p n some.0 why) count some.1) in
       ((section_heading s ++ 10 ∷ []) ++ some.0, (some.0, lines, refl), joined old mid new (section_heading s ++ 10 ∷ []) some.0 head some.2))
 
   pub wrote_questions : (m : List ℕ) (p e n : ℕ) (old mid new : S) → 12 ≤ length m → p ≡ 12 → n ≡ number16 m 4 → Takes old mid (header_lines m ++ questions_heading) → WritesAll QuestionAt IsQuestionText m p n e (Takes mid new) → Wrote (ShowsQuestions m e) (Takes old new)

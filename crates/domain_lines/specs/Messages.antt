@@ -8,7 +8,7 @@ use Rattle.domain_header.specs.Bits.{bits, bit}
 use Rattle.domain_header.specs.Numbers.{number16}
 use Rattle.domain_header.specs.Tables.{opcode_text, rcode_text}
 use Rattle.domain_record.specs.Entries.{QuestionFields, QuestionAt, NoQuestion, RecordAt, NoRecord}
-use Rattle.domain_message.specs.Sections.{Run, counted}
+use Rattle.domain_message.specs.Sections.{Run, counted_records}
 use Rattle.domain_record.specs.Texts.{question_text}
 use Rattle.domain_message.specs.declared.section.Section.{Section}
 use Rattle.domain_message.specs.declared.section.Section.TheVariants.{Answer, Authority, Additional}
@@ -97,11 +97,11 @@ StopsAtQuestion m text why = (lines : List ℕ) × (12 ≤ length m) × ShowsSom
 
 -- The records of a section at p, as many as the header counts, are shown under its heading, and end before e.
 abbrev pub ShowsSection : List ℕ → Section → ℕ → ℕ → List ℕ → Type 0
-ShowsSection m s p e text = (lines : List ℕ) × ShowsAll RecordAt (IsEntryText (header_rcode m) s) m p (counted m s) e lines × (text ≡ (section_heading s ++ 10 ∷ []) ++ lines)
+ShowsSection m s p e text = (lines : List ℕ) × ShowsAll RecordAt (IsEntryText (header_rcode m) s) m p (counted_records m s) e lines × (text ≡ (section_heading s ++ 10 ∷ []) ++ lines)
 
 -- Some records of a section at p are shown under its heading; the next is missing, and why.
 abbrev pub StopsInSection : List ℕ → Section → ℕ → List ℕ → ParseError → Type 0
-StopsInSection m s p text why = (lines : List ℕ) × ShowsSome RecordAt NoRecord (IsEntryText (header_rcode m) s) m p (counted m s) lines why × (text ≡ (section_heading s ++ 10 ∷ []) ++ lines)
+StopsInSection m s p text why = (lines : List ℕ) × ShowsSome RecordAt NoRecord (IsEntryText (header_rcode m) s) m p (counted_records m s) lines why × (text ≡ (section_heading s ++ 10 ∷ []) ++ lines)
 
 -- All up to the end of the answers is shown.
 abbrev pub ShowsAnswers : List ℕ → ℕ → List ℕ → Type 0
@@ -112,8 +112,8 @@ abbrev pub ShowsAuthority : List ℕ → ℕ → List ℕ → Type 0
 ShowsAuthority m e text = (p : ℕ) × (before : List ℕ) × (here : List ℕ) × ShowsAnswers m p before × ShowsSection m Authority p e here × (text ≡ before ++ here)
 
 -- The text shows the message: the header, the questions, and the records of each section.
-abbrev pub IsShown : List ℕ → List ℕ → Type 0
-IsShown m text = (e : ℕ) × (p : ℕ) × (before : List ℕ) × (here : List ℕ) × ShowsAuthority m p before × ShowsSection m Additional p e here × (text ≡ before ++ here)
+abbrev pub ShowsMessage : List ℕ → List ℕ → Type 0
+ShowsMessage m text = (e : ℕ) × (p : ℕ) × (before : List ℕ) × (here : List ℕ) × ShowsAuthority m p before × ShowsSection m Additional p e here × (text ≡ before ++ here)
 
 -- The message can't be shown to its end, and why, and the text shows all before that.
 pub data StopsShowing (m text : List ℕ) (why : ParseError) : Type 0 where
@@ -125,7 +125,7 @@ pub data StopsShowing (m text : List ℕ) (why : ParseError) : Type 0 where
 
 -- The text that shows the message was put: `Puts` says so of a text.
 abbrev pub PutsMessage : List ℕ → (List ℕ → Type 0) → Type 0
-PutsMessage m Puts = (text : List ℕ) × IsShown m text × Puts text
+PutsMessage m Puts = (text : List ℕ) × ShowsMessage m text × Puts text
 
 -- The message can't be shown to its end, and why, and the text that shows all before that was put.
 abbrev pub PutsUntil : List ℕ → ParseError → (List ℕ → Type 0) → Type 0

@@ -2,14 +2,14 @@
 use Rattle.std.specs.Prelude.{◌≡◌, ℕ, List, [], ◌∷◌, ◌++◌, Option, Some, None}
 use Rattle.domain_wire.specs.declared.error.ParseError.{ParseError}
 use Rattle.domain_record.specs.Entries.{RecordFields, RecordAt, NoRecord}
-use Rattle.domain_lines.specs.Messages.{IsShown, StopsShowing}
+use Rattle.domain_lines.specs.Messages.{ShowsMessage, StopsShowing}
 use Rattle.domain_lines.specs.Records.{IsRecordLine}
 use Rattle.domain_lines.specs.Rooms.{Holds}
 use Rattle.domain_lines.specs.declared.put.PutText.{PutText}
 
 -- The text shows the message, to its end (None), or up to what can't be shown, and why.
 abbrev pub IsTextOf : List ℕ → Option ParseError → List ℕ → Type 0
-IsTextOf m None text = IsShown m text
+IsTextOf m None text = ShowsMessage m text
 IsTextOf m (Some why) text = StopsShowing m text why
 
 -- The buffer has such a text, as far as it fits.

@@ -15,8 +15,8 @@ use Rattle.domain_all_data.specs.AllData.{AllFields, AllDataAt, NoAllData, field
 use Rattle.domain_lines.specs.Edns.{remark, edns_line, another_text, AreOptionLines}
 
 -- the octets of the data
-abbrev pub data_of : RecordFields → List ℕ
-data_of it = drop it.start it.octets
+abbrev pub rdata_octets : RecordFields → List ℕ
+rdata_octets it = drop it.start it.octets
 
 -- The record has no data, and its class says that none is meant: NONE or ANY (RFC 2136, 2.4 and 2.5).
 abbrev pub IsBare : RecordFields → Type 0
@@ -28,7 +28,7 @@ bare_text it = spaced (text_with_final_dot it.header.owner) (spaced (decimal it.
 
 -- the line of a record whose data can't be read: its octets in the form of RFC 3597, 5, and why
 abbrev pub unread_text : RecordFields → ParseError → List ℕ
-unread_text it why = record_text it.header.owner it.header.ttl it.header.class it.header.rtype (unknown_text (data_of it)) ++ remark why
+unread_text it why = record_text it.header.owner it.header.ttl it.header.class it.header.rtype (unknown_text (rdata_octets it)) ++ remark why
 
 -- The line of a record whose data is there as its type has it: owner, TTL, class, type, and the data.
 pub record IsTypedLine (it : RecordFields) (line : List ℕ) : Type 0 where
@@ -56,16 +56,16 @@ has_opt_head it = cond (nat_eq it.header.rtype 41) (is_root it.header.owner) fal
 
 -- whether a record of a section is an OPT record: of type 41 and of the root, in the additional section (RFC 6891, 6.1.1
 -- and 6.1.2)
-abbrev pub is_opt : Section → RecordFields → Bool
-is_opt Answer it = false
-is_opt Authority it = false
-is_opt Additional it = has_opt_head it
+abbrev pub is_opt_in : Section → RecordFields → Bool
+is_opt_in Answer it = false
+is_opt_in Authority it = false
+is_opt_in Additional it = has_opt_head it
 
 -- The text of an OPT record: that it is another one, the line of what its header says, and the lines of its options.
 abbrev pub IsOptText : ℕ → Bool → RecordFields → List ℕ → Type 0
-IsOptText rcode another it text = (options : List ℕ) × AreOptionLines (data_of it) options × (text ≡ another_text another ++ (edns_line it.header.ttl it.header.class rcode ++ (10 ∷ options)))
+IsOptText rcode another it text = (options : List ℕ) × AreOptionLines (rdata_octets it) options × (text ≡ another_text another ++ (edns_line it.header.ttl it.header.class rcode ++ (10 ∷ options)))
 
 -- The text of a record of a section, after others of it: the lines of an OPT record, or the line of another.
 pub data IsEntryText (rcode : ℕ) (s : Section) (before : List RecordFields) (it : RecordFields) (text : List ℕ) : Type 0 where
-  opt : is_opt s it ≡ true → IsOptText rcode (list_any (is_opt s) before) it text → IsEntryText rcode s before it text
-  plain : (line : List ℕ) → is_opt s it ≡ false → IsRecordLine it line → text ≡ line ++ 10 ∷ [] → IsEntryText rcode s before it text
+  opt : is_opt_in s it ≡ true → IsOptText rcode (list_any (is_opt_in s) before) it text → IsEntryText rcode s before it text
+  plain : (line : List ℕ) → is_opt_in s it ≡ false → IsRecordLine it line → text ≡ line ++ 10 ∷ [] → IsEntryText rcode s before it text

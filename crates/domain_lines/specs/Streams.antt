@@ -1,13 +1,7 @@
 -- What contracts say of an output: `contents` tells what it holds, where that is known, and `takes` what it becomes by a text.
 use Rattle.std.specs.Prelude.{◌≡◌, ◌⊎◌, ℕ, List, [], ◌∷◌, ◌++◌, Option, Result, IfSome}
-use Rattle.std.specs.Io.KnownBytes.{Appends}
 use Rattle.domain_tool.specs.declared.tool.ToolError.{ToolError}
 use Rattle.domain_lines.specs.Failures.{IfStreamFailed}
-
--- The text, where it is known, and a newline stand behind what the output held.
-abbrev pub AppendsLine : {W : Type 0} → (W → Option (List ℕ)) → Option (List ℕ) → W → W → Type 0
-AppendsLine contents shown old new =
-    IfSome shown (λ text. Appends (contents old) (contents new) (text ++ 10 ∷ []))
 
 -- The text, where it is known, and a newline were put into the output.
 abbrev pub PutsTextLine : {W : Type 0} → (W → W → List ℕ → Type 0) → Option (List ℕ) → W → W → Type 0

@@ -14,7 +14,7 @@ use Rattle.domain_lines.specs.Edns.{AreOptionLines}
 use Rattle.domain_lines.specs.declared.streams.Source.{Ghosts as SourceMembers}
 use Rattle.domain_lines.specs.declared.streams.Sink.{Ghosts as SinkMembers}
 use Rattle.domain_lines.specs.Messages.{IsQuestionText, WritesAll, WritesSome, ShowsQuestions, ShowsAnswers, ShowsAuthority, ShowsSection, StopsInSection, PutsUntil, WritesMessage, WritesUntil}
-use Rattle.domain_lines.specs.Records.{IsRecordLine, is_opt, IsOptText, IsEntryText}
+use Rattle.domain_lines.specs.Records.{IsRecordLine, is_opt_in, IsOptText, IsEntryText}
 
 -- What shows this was put.
 abbrev pub Wrote : (List ℕ → Type 0) → (List ℕ → Type 0) → Type 0
@@ -36,13 +36,13 @@ PutsOpt rcode another found g before after =
 -- After other records, among which is an OPT record or not, what shows the record of a section was put.
 abbrev pub PutsEntry : {W : Type 0} → Rcode → Section → Bool → ParsedRecord → SinkMembers W → W → W → Type 0
 PutsEntry rcode section opt_seen found g before after =
-    (others : List RecordFields) → opt_seen ≡ list_any (is_opt section) others
+    (others : List RecordFields) → opt_seen ≡ list_any (is_opt_in section) others
     → Wrote (IsEntryText (rcode_number rcode) section others (record_fields found)) (g.takes before after)
 
 -- Whether an OPT record is among the records before and this one, if it is known of those before.
 abbrev pub TellsOpt : Section → Bool → ParsedRecord → Bool → Type 0
 TellsOpt section opt_seen found seen =
-    (before : List RecordFields) → opt_seen ≡ list_any (is_opt section) before → seen ≡ list_any (is_opt section) (before ++ record_fields found ∷ [])
+    (before : List RecordFields) → opt_seen ≡ list_any (is_opt_in section) before → seen ≡ list_any (is_opt_in section) (before ++ record_fields found ∷ [])
 
 -- The lines of n questions were put, which are where the parser was and end where it is then.
 abbrev pub PutsQuestions : {W : Type 0} → Parser → ℕ → Parser → SinkMembers W → W → W → Type 0

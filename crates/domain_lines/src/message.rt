@@ -3,7 +3,7 @@ ghost use Rattle.std.specs.Prelude.{◌≡◌, ◌≤◌, length, Some, OnOk};
 ghost use Rattle.std.specs.Io.KnownBytes.{IsAtEnd};
 ghost use Rattle.octseq.specs.Parsing.{message, position, MovesTo};
 ghost use Rattle.domain_header.specs.Values.{rcode_number};
-ghost use Rattle.domain_message.specs.Sections.{counted};
+ghost use Rattle.domain_message.specs.Sections.{counted_records};
 ghost use Rattle.domain_tool.specs.Engines.{IfRefused, OnAnswer};
 ghost use Rattle.domain_lines.specs.Failures.{IfWritingFailed};
 ghost use Rattle.domain_lines.specs.Messages.{flags_text, codes_line, counts_line, header_text, header_rcode, section_heading, PutsMessage};
@@ -205,7 +205,7 @@ fn write_section<W: Sink>(
 /// How many records the header counts in a section.
 fn count_of(section: Section, message: &[u8]) -> u16
     requires { 12 ≤ length message.now }
-    ensures { result ≡ counted message.now section }
+    ensures { result ≡ counted_records message.now section }
 {
     let counts = HeaderCounts::for_message_slice(message);
     match section {

@@ -1,7 +1,7 @@
 //! The lines of a record.
 ghost use Rattle.std.specs.Prelude.{◌≡◌, ◌↔◌, Some, IsTrue, OnOk, OnErr, IfOk};
 ghost use Rattle.domain_record.specs.RecordModel.{record_fields};
-ghost use Rattle.domain_lines.specs.Records.{bare_text, unread_text, IsBare, has_opt_head, is_opt};
+ghost use Rattle.domain_lines.specs.Records.{bare_text, unread_text, IsBare, has_opt_head, is_opt_in};
 ghost use Rattle.domain_lines.specs.Edns.{another_text};
 ghost use Rattle.domain_lines.specs.Writing.{PutsLine, PutsOpt, PutsEntry, TellsOpt};
 
@@ -95,7 +95,7 @@ fn opt_head_is(found: &ParsedRecord<'_>) -> bool
 
 /// Whether a record of a section is an OPT record: these are in the additional section (RFC 6891, 6.1.1).
 fn opt_is(section: Section, found: &ParsedRecord<'_>) -> bool
-    ensures { result ≡ is_opt section (record_fields found.now) }
+    ensures { result ≡ is_opt_in section (record_fields found.now) }
 {
     match section {
         Section::Additional => opt_head_is(found),

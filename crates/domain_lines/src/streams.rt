@@ -1,7 +1,8 @@
 //! What is read to its end, and what lines are written to.
 ghost use Rattle.std.specs.Prelude.{◌≡◌, ◌++◌, ◌⊎◌, [], ℕ, List, Option, OnOk, OnErr, IfOk, IfErr, IfSome};
 ghost use Rattle.std.specs.Io.KnownBytes.{Appends, Keeps, IsAtEnd};
-ghost use Rattle.domain_lines.specs.Streams.{AppendsLine, PutsTextLine};
+ghost use Rattle.domain_lines.specs.Streams.{PutsTextLine};
+ghost use Rattle.domain_tool.specs.Outputs.{AppendsLine};
 ghost use Rattle.domain_tool.specs.declared.tool.ToolError.{ToolError};
 
 use domain_tool::tool::{ToolError, WriteFault, read_all, write_line};

@@ -4,7 +4,7 @@ use Rattle.std.specs.Prelude.{Result, Ok, Some}
 use Rattle.octseq.specs.declared.parse.Parser.{Parser}
 use Rattle.octseq.specs.Parsing.{message, position, MovesTo}
 use Rattle.domain_wire.specs.declared.error.ParseError.{ParseError}
-use Rattle.domain_message.specs.Sections.{Run, entries_left, counted, Begins, BeginsAfter, Misses, QuestionsTo, RecordsTo, NoRecords, records_section, records_message, records_offset, records_left}
+use Rattle.domain_message.specs.Sections.{Run, entries_left, counted_records, Begins, BeginsAfter, Misses, QuestionsTo, RecordsTo, NoRecords, records_section, records_message, records_offset, records_left}
 use Rattle.domain_header.specs.Numbers.{number16}
 use Rattle.domain_message.specs.SectionOrder.{section_after}
 use Rattle.domain_record.specs.Entries.{QuestionAt, RecordAt, NoRecord}
@@ -58,7 +58,7 @@ records_to m s t p self it next begin (u, is, (xs, e, many, run, after)) =
     let same : u ≡ t = cc (next, is, begin.section) in
     let octets = begin.message in
     let position = begin.offset in
-    let count : length xs ≡ counted m s = sym (ap (λ c. entries_left c) many) ∙ ap (λ c. entries_left c) begin.left in
+    let count : length xs ≡ counted_records m s = sym (ap (λ c. entries_left c) many) ∙ ap (λ c. entries_left c) begin.left in
     (e, (xs, count, subst (λ o. Run RecordAt o p xs e) octets (subst (λ q. Run RecordAt (records_message self) q xs e) position run)), subst (λ o. Begins o t e it) octets (subst (λ v. Begins (records_message self) v e it) same after))
 
 pub no_records : (m : List ℕ) (s : Section) (p : ℕ) (self : RecordSection) (why : ParseError) → Begins m s p self → Misses RecordAt NoRecord (records_message self) (records_offset self) (records_left self) why → NoRecords m s p why

@@ -139,20 +139,20 @@ abbrev pub DataFails : {D E : Type 0} → (ParseError → E → Type 0) → Pars
 DataFails Becomes d it e = HasDataError Becomes d.fails_with (record_fields it) e
 
 -- The class of the record is asked for, and its type has such data.
-abbrev pub IsKept : {D : Type 0} → ParseMembers D → Bool → ParsedRecord → Type 0
-IsKept d only_in it = keeps d.reads_type only_in (record_fields it) ≡ true
+abbrev pub KeepsRecord : {D : Type 0} → ParseMembers D → Bool → ParsedRecord → Type 0
+KeepsRecord d only_in it = keeps d.reads_type only_in (record_fields it) ≡ true
 
 -- The class of the record isn't asked for, or its type has no such data.
-abbrev pub Skips : {D : Type 0} → ParseMembers D → Bool → ParsedRecord → Type 0
-Skips d only_in it = keeps d.reads_type only_in (record_fields it) ≡ false
+abbrev pub PassesRecord : {D : Type 0} → ParseMembers D → Bool → ParsedRecord → Type 0
+PassesRecord d only_in it = keeps d.reads_type only_in (record_fields it) ≡ false
 
 -- The record is kept, and the other was made of it.
 abbrev pub KeepsAs : {O D : Type 0} {g : Ghosts O} → ParseMembers D → Bool → ParsedRecord → Record (ParsedName O g) D → Type 0
-KeepsAs d only_in it made = IsKept d only_in it × IsReadOf d it made
+KeepsAs d only_in it made = KeepsRecord d only_in it × IsReadOf d it made
 
 -- The record is kept, and its data has an error, which is returned as e.
 abbrev pub KeepsButFails : {D E : Type 0} → (ParseError → E → Type 0) → ParseMembers D → Bool → ParsedRecord → E → Type 0
-KeepsButFails Becomes d only_in it e = IsKept d only_in it × DataFails Becomes d it e
+KeepsButFails Becomes d only_in it e = KeepsRecord d only_in it × DataFails Becomes d it e
 
 -- A call at a parser, with n records left, took the next that is kept, as `TakesKept` says; then the parser is the other, and k are left.
 abbrev pub TakesNext : {O D E : Type 0} {g : Ghosts O} → (ParseError → E → Type 0) → ParseMembers D → Bool → Parser → ℕ → Option (Result (Record (ParsedName O g) D) E) → Parser → ℕ → Type 0

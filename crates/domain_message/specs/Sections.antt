@@ -91,17 +91,17 @@ GivesRecord s r t =
     (records_left s) r (records_offset t) (records_left t)
 
 -- how many records the header counts in a section
-abbrev pub counted : List ℕ → Section → ℕ
-counted m Answer = number16 m 6
-counted m Authority = number16 m 8
-counted m Additional = number16 m 10
+abbrev pub counted_records : List ℕ → Section → ℕ
+counted_records m Answer = number16 m 6
+counted_records m Authority = number16 m 8
+counted_records m Additional = number16 m 10
 
 -- The section begins at e, with all the records left that the header counts.
 pub record Begins (m : List ℕ) (s : Section) (e : ℕ) (it : RecordSection) : Type 0 where
   pub message : records_message it ≡ m
   pub section : records_section it ≡ s
   pub offset : records_offset it ≡ e
-  pub left : records_left it ≡ Ok (counted m s)
+  pub left : records_left it ≡ Ok (counted_records m s)
 
 -- The entries that were left are at p, and the section begins after them.
 abbrev pub BeginsAfter : {V : Type 0} → (List ℕ → ℕ → V → ℕ → Type 0) → List ℕ → ℕ
@@ -147,7 +147,7 @@ QuestionsTo m e = (qs : List QuestionFields) × (length qs ≡ number16 m 4) × 
 
 -- All records that the header counts in a section are at p, and end before e.
 abbrev pub RecordsTo : List ℕ → Section → ℕ → ℕ → Type 0
-RecordsTo m s p e = (rs : List RecordFields) × (length rs ≡ counted m s) × Run RecordAt m p rs e
+RecordsTo m s p e = (rs : List RecordFields) × (length rs ≡ counted_records m s) × Run RecordAt m p rs e
 
 -- All entries to the end of the answers are there, and end before e.
 abbrev pub AnswersTo : List ℕ → ℕ → Type 0
@@ -162,7 +162,7 @@ abbrev pub NoQuestions : List ℕ → ParseError → Type 0
 NoQuestions m why = Misses QuestionAt NoQuestion m 12 (Ok (number16 m 4)) why
 
 abbrev pub NoRecords : List ℕ → Section → ℕ → ParseError → Type 0
-NoRecords m s p why = Misses RecordAt NoRecord m p (Ok (counted m s)) why
+NoRecords m s p why = Misses RecordAt NoRecord m p (Ok (counted_records m s)) why
 
 -- An entry to the end of the answers is missing, and why.
 abbrev pub NoAnswers : List ℕ → ParseError → Type 0

@@ -2,7 +2,7 @@
 ghost use Rattle.std.specs.Prelude.{◌≡◌, ◌↔◌, false, true, IfOk, IfErr, IfSome, IsNone, OnErr};
 ghost use Rattle.std.specs.Iterator.{at_most};
 ghost use Rattle.octseq.specs.Parsing.{message, position};
-ghost use Rattle.domain_message.specs.Kept.{HasOtherType, IsReadOf, DataFails, KeepsAs, Skips, KeepsButFails, TakesNext};
+ghost use Rattle.domain_message.specs.Kept.{HasOtherType, IsReadOf, DataFails, KeepsAs, PassesRecord, KeepsButFails, TakesNext};
 ghost use Rattle.domain_message.specs.Kept.{GivesKept, kept_parser, kept_left, kept_class};
 ghost use Rattle.domain_record.specs.RecordModel.{record_fields};
 
@@ -57,7 +57,7 @@ fn kept<'a, D: ParseRecordData<'a>, E: From<ParseError>>(
     ensures some { IfOk result
         (λ read. IfSome read (KeepsAs D.ParseRecordData only_in found.now)) }
     ensures none { IfOk result
-        (λ read. IsNone read → Skips D.ParseRecordData only_in found.now) }
+        (λ read. IsNone read → PassesRecord D.ParseRecordData only_in found.now) }
     ensures err { IfErr result
         (KeepsButFails E.from_gives D.ParseRecordData only_in found.now) }
 {

@@ -10,7 +10,7 @@ use Rattle.domain_rdata.specs.LeavingNames.{LeavesNames}
 use Rattle.domain_record.specs.LeftToTarget.{NameThenData}
 use Rattle.domain_record.specs.MayCompose.{IsNameThen, RefusesRecord}
 use Rattle.domain_record.specs.MayCompose.RefusesRecord.{at_data}
-use Rattle.domain_record.specs.Composing.{BeginsWithName, type_and_class, QuestionOctets, before_length, RecordOctets, RecordExceeds, RecordRefused}
+use Rattle.domain_record.specs.Composing.{BeginsWithName, type_and_class, QuestionOctets, before_length, RecordOctets, RecordExceeds, ComposeRecordRefused}
 use Rattle.domain_record.specs.Composing.RecordExceeds.{no_numbers, no_data}
 
 pub record_appended : (owner : List (List ℕ)) (rtype class ttl : ℕ) (May : List ℕ → List ℕ → Type 0) (b : Bool) (t named mid new : List ℕ) → NameOctets owner b t named → mid ≡ t ++ named ++ before_length rtype class ttl → LengthAndData May mid new → Appended (RecordOctets owner rtype class ttl May b t) t new
@@ -49,7 +49,7 @@ pub numbers_exceed : (owner : List (List ℕ)) (rtype class ttl : ℕ) (May : Li
 numbers_exceed owner rtype class ttl May b t mid capacity room n done size grown full = no_numbers done.octets done.allowed (omega (arith, size, grown, full, ap length done.all, length-append t done.octets))
 
 -- why the data was refused
-pub data_refused : {E : Type 0} (owner : List (List ℕ)) (rtype class ttl : ℕ) (May : List ℕ → List ℕ → Type 0) (b : Bool) (t named mid : List ℕ) (capacity room : ℕ) (e : ComposeRdataError E) → NameOctets owner b t named → mid ≡ t ++ named ++ before_length rtype class ttl → capacity ≤ room → ComposeRefused May mid room e → RecordRefused owner rtype class ttl May b t capacity e
+pub data_refused : {E : Type 0} (owner : List (List ℕ)) (rtype class ttl : ℕ) (May : List ℕ → List ℕ → Type 0) (b : Bool) (t named mid : List ℕ) (capacity room : ℕ) (e : ComposeRdataError E) → NameOctets owner b t named → mid ≡ t ++ named ++ before_length rtype class ttl → capacity ≤ room → ComposeRefused May mid room e → ComposeRecordRefused owner rtype class ttl May b t capacity e
 data_refused owner rtype class ttl May b t named mid capacity room (Append e) name is grown refused = no_data named room name grown (subst (λ m. ExceedsWithLength May m room) is refused)
 data_refused owner rtype class ttl May b t named mid capacity room (Long e) name is grown refused = (named, name, subst (λ m. IsTooLong May m) is refused)
 

@@ -13,13 +13,13 @@ canonical_head owner rtype class ttl =
     wire (lowercase_labels owner) ++ before_length rtype class ttl
 
 -- There is no room for so many octets.
-abbrev pub LacksRoom : {E : Type 0} → ℕ → ℕ → CanonicalError E → Type 0
-LacksRoom n capacity (Append _) = capacity < n
-LacksRoom n capacity (Long _) = ⊥
-LacksRoom n capacity UnknownNames = ⊥
+abbrev pub TellsNoRoom : {E : Type 0} → ℕ → ℕ → CanonicalError E → Type 0
+TellsNoRoom n capacity (Append _) = capacity < n
+TellsNoRoom n capacity (Long _) = ⊥
+TellsNoRoom n capacity UnknownNames = ⊥
 
 -- Why the form wasn't appended: there is no room for the octets before the data, or the form of the data was refused after them.
 abbrev pub CanonicalRecordRefused : {E : Type 0} → Option (List ℕ) → List ℕ → List ℕ → ℕ
     → CanonicalError E → Type 0
 CanonicalRecordRefused form head old capacity e =
-    LacksRoom (length old + length head) capacity e ⊎ CanonicalRefused form (old ++ head) capacity e
+    TellsNoRoom (length old + length head) capacity e ⊎ CanonicalRefused form (old ++ head) capacity e

@@ -53,10 +53,10 @@ pub data RecordExceeds (owner : List (List ℕ)) (rtype class ttl : ℕ) (May : 
       → RecordExceeds owner rtype class ttl May compresses t capacity
 
 -- Why nothing was composed.
-abbrev pub RecordRefused : {E : Type 0} → List (List ℕ) → ℕ → ℕ → ℕ → (List ℕ → List ℕ → Type 0)
+abbrev pub ComposeRecordRefused : {E : Type 0} → List (List ℕ) → ℕ → ℕ → ℕ → (List ℕ → List ℕ → Type 0)
     → Bool → List ℕ → ℕ → ComposeRdataError E → Type 0
-RecordRefused owner rtype class ttl May compresses t capacity (Append e) =
+ComposeRecordRefused owner rtype class ttl May compresses t capacity (Append e) =
     RecordExceeds owner rtype class ttl May compresses t capacity
-RecordRefused owner rtype class ttl May compresses t capacity (Long e) =
+ComposeRecordRefused owner rtype class ttl May compresses t capacity (Long e) =
     (named : List ℕ) × NameOctets owner compresses t named
     × IsTooLong May (t ++ named ++ before_length rtype class ttl)

@@ -7,7 +7,7 @@ use Rattle.domain_rdata.specs.Rtypes.{rtype_number}
 use Rattle.domain_header.specs.Values.{class_number, ttl_seconds}
 use Rattle.domain_record.specs.declared.question.Question.{Question}
 use Rattle.domain_record.specs.declared.resource_record.Record.{Record}
-use Rattle.domain_record.specs.Composing.{type_and_class, before_length, QuestionOctets, RecordOctets, RecordRefused}
+use Rattle.domain_record.specs.Composing.{type_and_class, before_length, QuestionOctets, RecordOctets, ComposeRecordRefused}
 use Rattle.domain_record.specs.RecordParts.{owner_of, class_of, ttl_of, data_of}
 use Rattle.domain_record.specs.Views.{question_name, question_type, question_class}
 
@@ -54,5 +54,5 @@ abbrev pub MayRefuseRecord : {N D E : Type 0} → (N → List (List ℕ)) → (D
     → (D → Bool → List ℕ → List ℕ → Type 0) → Record N D → Bool → List ℕ → ℕ → ComposeRdataError E
     → Type 0
 MayRefuseRecord labels number composed r compresses t capacity e =
-    RecordRefused (labels (owner_of r)) (number (data_of r)) (class_number (class_of r))
+    ComposeRecordRefused (labels (owner_of r)) (number (data_of r)) (class_number (class_of r))
     (ttl_seconds (ttl_of r)) (composed (data_of r) compresses) compresses t capacity e

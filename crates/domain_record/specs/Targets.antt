@@ -43,8 +43,8 @@ QuestionExceeds g labels q old =
     Exceeds (MayComposeQuestion labels q g.compresses (g.octets old)) (g.octets old) (g.capacity old)
 
 -- The question, its name as the target may write it, exceeds the spare capacity.
-abbrev pub HasNoRoomFor : {T N : Type 0} → ComposerMembers T → (N → List (List ℕ)) → Question N → T → Type 0
-HasNoRoomFor g labels q old =
+abbrev pub QuestionOverflows : {T N : Type 0} → ComposerMembers T → (N → List (List ℕ)) → Question N → T → Type 0
+QuestionOverflows g labels q old =
     Exceeds (IsNameThen (g.may_append old (labels (question_name q))) (after_qname q))
     (g.octets old) (g.capacity old)
 

@@ -8,7 +8,7 @@ ghost use Rattle.domain_record.specs.Entries.{QuestionFields, QuestionAt, NoQues
 ghost use Rattle.domain_record.specs.Readings.{question_reading};
 ghost use Rattle.domain_record.specs.Texts.{question_text};
 ghost use Rattle.domain_record.specs.Targets.{SameMemory, ComposesQuestion, BeginsWithQname, TakesQuestion};
-ghost use Rattle.domain_record.specs.Targets.{QuestionExceeds, HasNoRoomFor};
+ghost use Rattle.domain_record.specs.Targets.{QuestionExceeds, QuestionOverflows};
 
 use crate::rtype_text::RtypeText;
 use domain_header::Class;
@@ -148,7 +148,7 @@ impl<'a, N: AbsoluteLabels<'a>> Question<N> {
         ensures full { OnErr result
             (QuestionExceeds Target.Composer N.labels self.now target.old) }
         ensures tight { OnErr result
-            (HasNoRoomFor Target.Composer N.labels self.now target.old) }
+            (QuestionOverflows Target.Composer N.labels self.now target.old) }
         ensures capacity { Target.capacity target.old ≤ Target.capacity target.new }
     {
         let start = target.as_slice().len();

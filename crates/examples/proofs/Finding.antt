@@ -26,7 +26,7 @@ use Rattle.domain_fields.specs.declared.sequence.Sequence.{Sequence}
 use Rattle.domain_data.specs.Shapes.{NumberNameAt, NoNumberName}
 use Rattle.domain_data.specs.Views.{fields_of}
 use Rattle.domain_data.specs.declared.fields.FieldsData.{FieldsData}
-use Rattle.examples.specs.MessageHosts.{Host, HaveMail, IsPreferred, PreferredName, PrefersHost, IsAddress, IsOf, IsOther, FirstAddress, NoAddress, StopsAt}
+use Rattle.examples.specs.MessageHosts.{Host, HaveMail, IsPreferred, PreferredName, PrefersHost, IsAddressRecord, IsOf, HasNoAddressOf, FirstAddress, NoAddress, StopsAtRecord}
 use Rattle.examples.proofs.Passing.{IsNot, GoesOn, Passed, Found, AllRead, IsAt, found, all_read, stopped, run_at, stops_at, passed_found}
 
 -- other records have no mail
@@ -101,16 +101,16 @@ best_changes hosts best host was lower = record {
 }
 
 -- records of other types have no address of the host
-pub others_go_on : (host : List (List ℕ)) → GoesOn 1 (All (IsOther host))
-others_go_on host xs ys before others = All-append (IsOther host) xs ys before (other_records ys others)
+pub others_go_on : (host : List (List ℕ)) → GoesOn 1 (All (HasNoAddressOf host))
+others_go_on host xs ys before others = All-append (HasNoAddressOf host) xs ys before (other_records ys others)
   where
-    other_records : (its : List RecordFields) → All (IsNot 1) its → All (IsOther host) its
-    other_records [] others = All-nil (IsOther host)
-    other_records (it ∷ its) others = All-cons (IsOther host) it its (inl (All-head (IsNot 1) it its others)) (other_records its (All-tail (IsNot 1) it its others))
+    other_records : (its : List RecordFields) → All (IsNot 1) its → All (HasNoAddressOf host) its
+    other_records [] others = All-nil (HasNoAddressOf host)
+    other_records (it ∷ its) others = All-cons (HasNoAddressOf host) it its (inl (All-head (IsNot 1) it its others)) (other_records its (All-tail (IsNot 1) it its others))
 
 -- an A record more, of another owner
-pub other_more : (its : List RecordFields) (it : RecordFields) (host : List (List ℕ)) (addr : Ipv4Addr) → All (IsOther host) its → IsAddress it addr → (IsOf it host → ⊥) → All (IsOther host) (its ++ (it ∷ []))
-other_more its it host addr others address other = All-append (IsOther host) its (it ∷ []) others (All-cons (IsOther host) it [] (inr (addr, address, other)) (All-nil (IsOther host)))
+pub other_more : (its : List RecordFields) (it : RecordFields) (host : List (List ℕ)) (addr : Ipv4Addr) → All (HasNoAddressOf host) its → IsAddressRecord it addr → (IsOf it host → ⊥) → All (HasNoAddressOf host) (its ++ (it ∷ []))
+other_more its it host addr others address other = All-append (HasNoAddressOf host) its (it ∷ []) others (All-cons (HasNoAddressOf host) it [] (inr (addr, address, other)) (All-nil (HasNoAddressOf host)))
 
 -- The hosts of the records that were read, and the preferred one so far.
 abbrev pub Collected : {D E : Type 0} → RecordIter D E → RecordIter D E → Option Host → Type 0
@@ -136,7 +136,7 @@ prefers_host m start s hosts found questions at all preferred = record {
 }
 
 -- an address was found
-pub first_address : {O D E : Type 0} {g : Ghosts O} (seen : D → Ipv4Addr) (m : List ℕ) (p n : ℕ) (s u : RecordIter D E) (host : List (List ℕ)) (made : Record (ParsedName O g) D) → IsAt m p n s → Found {g = g} 1 seen (AllAt (FixedAt 4 ipv4_of)) (All (IsOther host)) s u made → lowercase_labels (parsed_labels (owner_of made)) ≡ lowercase_labels host → FirstAddress m p n host (seen (data_of made))
+pub first_address : {O D E : Type 0} {g : Ghosts O} (seen : D → Ipv4Addr) (m : List ℕ) (p n : ℕ) (s u : RecordIter D E) (host : List (List ℕ)) (made : Record (ParsedName O g) D) → IsAt m p n s → Found {g = g} 1 seen (AllAt (FixedAt 4 ipv4_of)) (All (HasNoAddressOf host)) s u made → lowercase_labels (parsed_labels (owner_of made)) ≡ lowercase_labels host → FirstAddress m p n host (seen (data_of made))
 first_address seen m p n s u host made at f owner = record {
   before = f.before;
   others = f.more;
@@ -151,12 +151,12 @@ first_address seen m p n s u host made at f owner = record {
 }
 
 -- no address was found
-pub no_address : {D E : Type 0} (m : List ℕ) (p n : ℕ) (s : RecordIter D E) (host : List (List ℕ)) → IsAt m p n s → AllRead (All (IsOther host)) s → NoAddress m p n host
+pub no_address : {D E : Type 0} (m : List ℕ) (p n : ℕ) (s : RecordIter D E) (host : List (List ℕ)) → IsAt m p n s → AllRead (All (HasNoAddressOf host)) s → NoAddress m p n host
 no_address m p n s host at all = record { records = all.records; others = all.read; count = all.count ∙ at.left; end = all.end; run = run_at m p n all.end all.records s at all.run }
 
 -- a record of another owner was passed by
-pub passed_other : {O D E : Type 0} {g : Ghosts O} (seen : D → Ipv4Addr) (s u : RecordIter D E) (host : List (List ℕ)) (made : Record (ParsedName O g) D) → Found {g = g} 1 seen (AllAt (FixedAt 4 ipv4_of)) (All (IsOther host)) s u made → (lowercase_labels (parsed_labels (owner_of made)) ≡ lowercase_labels host → ⊥) → Passed (All (IsOther host)) s u
-passed_other {g = g} seen s u host made f other = passed_found {g = g} 1 seen (AllAt (FixedAt 4 ipv4_of)) (All (IsOther host)) (All (IsOther host)) s u made f
+pub passed_other : {O D E : Type 0} {g : Ghosts O} (seen : D → Ipv4Addr) (s u : RecordIter D E) (host : List (List ℕ)) (made : Record (ParsedName O g) D) → Found {g = g} 1 seen (AllAt (FixedAt 4 ipv4_of)) (All (HasNoAddressOf host)) s u made → (lowercase_labels (parsed_labels (owner_of made)) ≡ lowercase_labels host → ⊥) → Passed (All (HasNoAddressOf host)) s u
+passed_other {g = g} seen s u host made f other = passed_found {g = g} 1 seen (AllAt (FixedAt 4 ipv4_of)) (All (HasNoAddressOf host)) (All (HasNoAddressOf host)) s u made f
     (other_more f.before f.it host (seen (data_of made)) f.more record { a = f.of_type; end = f.made_of.data_is.0; data_is = f.made_of.data_is.1 }
     (λ same. other (ap (λ ls. lowercase_labels ls) f.made_of.owner ∙ same)))
 
@@ -173,15 +173,15 @@ GivesAddress {g = g} s r u = GivesKept {g = g} (λ _. 1) (λ it. fields_of it) (
 abbrev pub GivesMail : {O : Type 0} (g : Ghosts O) → RecordIter (FieldsData 15 (Sequence ℕ (NameField (ParsedName O g)))) ParseError → Option (Result (Record (ParsedName O g) (FieldsData 15 (Sequence ℕ (NameField (ParsedName O g))))) ParseError) → RecordIter (FieldsData 15 (Sequence ℕ (NameField (ParsedName O g)))) ParseError → Type 0
 GivesMail g s r u = GivesKept {g = g} (λ _. 15) mail_of (λ r. nat_eq r 15) (λ _. AllAt NumberNameAt) (λ _. NotAll refusal NumberNameAt NoNumberName) (λ a b. b ≡ a) s r u
 
-pub address_found : {O : Type 0} (g : Ghosts O) (host : List (List ℕ)) (s mid u : RecordIter (FieldsData 1 Ipv4Addr) ParseError) (made : Record (ParsedName O g) (FieldsData 1 Ipv4Addr)) → Passed (All (IsOther host)) s mid → GivesAddress {g = g} mid (Some (Ok made)) u → Found {g = g} 1 (λ it. fields_of it) (AllAt (FixedAt 4 ipv4_of)) (All (IsOther host)) s u made
-address_found g host s mid u made passed gives = found {g = g} 1 (λ it. fields_of it) (AllAt (FixedAt 4 ipv4_of)) (λ _. NotAll refusal (FixedAt 4 ipv4_of) (ShortAt 4)) (λ a b. b ≡ a) (All (IsOther host)) (others_go_on host) s mid u made passed gives
+pub address_found : {O : Type 0} (g : Ghosts O) (host : List (List ℕ)) (s mid u : RecordIter (FieldsData 1 Ipv4Addr) ParseError) (made : Record (ParsedName O g) (FieldsData 1 Ipv4Addr)) → Passed (All (HasNoAddressOf host)) s mid → GivesAddress {g = g} mid (Some (Ok made)) u → Found {g = g} 1 (λ it. fields_of it) (AllAt (FixedAt 4 ipv4_of)) (All (HasNoAddressOf host)) s u made
+address_found g host s mid u made passed gives = found {g = g} 1 (λ it. fields_of it) (AllAt (FixedAt 4 ipv4_of)) (λ _. NotAll refusal (FixedAt 4 ipv4_of) (ShortAt 4)) (λ a b. b ≡ a) (All (HasNoAddressOf host)) (others_go_on host) s mid u made passed gives
 
-pub address_over : {O : Type 0} {g : Ghosts O} (like : ParsedName O g) (host : List (List ℕ)) (s mid u : RecordIter (FieldsData 1 Ipv4Addr) ParseError) → Passed (All (IsOther host)) s mid → GivesAddress {g = g} mid None u → AllRead (All (IsOther host)) s
-address_over {g = g} like host s mid u passed gives = all_read g 1 (λ it. fields_of it) (AllAt (FixedAt 4 ipv4_of)) (λ _. NotAll refusal (FixedAt 4 ipv4_of) (ShortAt 4)) (λ a b. b ≡ a) (All (IsOther host)) (others_go_on host) s mid u passed gives
+pub address_over : {O : Type 0} {g : Ghosts O} (like : ParsedName O g) (host : List (List ℕ)) (s mid u : RecordIter (FieldsData 1 Ipv4Addr) ParseError) → Passed (All (HasNoAddressOf host)) s mid → GivesAddress {g = g} mid None u → AllRead (All (HasNoAddressOf host)) s
+address_over {g = g} like host s mid u passed gives = all_read g 1 (λ it. fields_of it) (AllAt (FixedAt 4 ipv4_of)) (λ _. NotAll refusal (FixedAt 4 ipv4_of) (ShortAt 4)) (λ a b. b ≡ a) (All (HasNoAddressOf host)) (others_go_on host) s mid u passed gives
 
-pub address_stopped : {O : Type 0} {g : Ghosts O} (like : ParsedName O g) (host : List (List ℕ)) (m : List ℕ) (p n : ℕ) (s mid u : RecordIter (FieldsData 1 Ipv4Addr) ParseError) (why : ParseError) → IsAt m p n s → Passed (All (IsOther host)) s mid → GivesAddress {g = g} mid (Some (Err why)) u → StopsAt 1 (All (IsOther host)) (NotAll refusal (FixedAt 4 ipv4_of) (ShortAt 4)) m p n why
-address_stopped {g = g} like host m p n s mid u why at passed gives = stops_at 1 (All (IsOther host)) (NotAll refusal (FixedAt 4 ipv4_of) (ShortAt 4)) m p n s why at
-    (stopped g 1 (λ it. fields_of it) (AllAt (FixedAt 4 ipv4_of)) (NotAll refusal (FixedAt 4 ipv4_of) (ShortAt 4)) (λ a b. b ≡ a) (All (IsOther host)) (λ a b same. same) (others_go_on host) s mid u why passed gives)
+pub address_stopped : {O : Type 0} {g : Ghosts O} (like : ParsedName O g) (host : List (List ℕ)) (m : List ℕ) (p n : ℕ) (s mid u : RecordIter (FieldsData 1 Ipv4Addr) ParseError) (why : ParseError) → IsAt m p n s → Passed (All (HasNoAddressOf host)) s mid → GivesAddress {g = g} mid (Some (Err why)) u → StopsAtRecord 1 (All (HasNoAddressOf host)) (NotAll refusal (FixedAt 4 ipv4_of) (ShortAt 4)) m p n why
+address_stopped {g = g} like host m p n s mid u why at passed gives = stops_at 1 (All (HasNoAddressOf host)) (NotAll refusal (FixedAt 4 ipv4_of) (ShortAt 4)) m p n s why at
+    (stopped g 1 (λ it. fields_of it) (AllAt (FixedAt 4 ipv4_of)) (NotAll refusal (FixedAt 4 ipv4_of) (ShortAt 4)) (λ a b. b ≡ a) (All (HasNoAddressOf host)) (λ a b same. same) (others_go_on host) s mid u why passed gives)
 
 pub mail_found : {O : Type 0} (g : Ghosts O) (hosts : List Host) (s mid u : RecordIter (FieldsData 15 (Sequence ℕ (NameField (ParsedName O g)))) ParseError) (made : Record (ParsedName O g) (FieldsData 15 (Sequence ℕ (NameField (ParsedName O g))))) → Passed (λ its. HaveMail its hosts) s mid → GivesMail g mid (Some (Ok made)) u → Passed (λ its. HaveMail its (hosts ++ (mail_of (data_of made) ∷ []))) s u
 mail_found g hosts s mid u made passed gives = passed_mail {g = g} mail_of s u hosts made
@@ -196,6 +196,6 @@ any_hosts xs ys (hosts, mail) others = (hosts, mail_goes_on hosts xs ys mail oth
 some_hosts : {D E : Type 0} (hosts : List Host) (s u : RecordIter D E) → Passed (λ its. HaveMail its hosts) s u → Passed (λ its. (hosts : List Host) × HaveMail its hosts) s u
 some_hosts hosts s u passed = record { octets = passed.octets; class = passed.class; before = passed.before; read = (hosts, passed.read); count = passed.count; run = passed.run }
 
-pub mail_stopped : {O : Type 0} (g : Ghosts O) (hosts : List Host) (m : List ℕ) (p n : ℕ) (s mid u : RecordIter (FieldsData 15 (Sequence ℕ (NameField (ParsedName O g)))) ParseError) (why : ParseError) → IsAt m p n s → Passed (λ its. HaveMail its hosts) s mid → GivesMail g mid (Some (Err why)) u → StopsAt 15 (λ its. (hosts : List Host) × HaveMail its hosts) (NotAll refusal NumberNameAt NoNumberName) m p n why
+pub mail_stopped : {O : Type 0} (g : Ghosts O) (hosts : List Host) (m : List ℕ) (p n : ℕ) (s mid u : RecordIter (FieldsData 15 (Sequence ℕ (NameField (ParsedName O g)))) ParseError) (why : ParseError) → IsAt m p n s → Passed (λ its. HaveMail its hosts) s mid → GivesMail g mid (Some (Err why)) u → StopsAtRecord 15 (λ its. (hosts : List Host) × HaveMail its hosts) (NotAll refusal NumberNameAt NoNumberName) m p n why
 mail_stopped g hosts m p n s mid u why at passed gives = stops_at 15 (λ its. (hosts : List Host) × HaveMail its hosts) (NotAll refusal NumberNameAt NoNumberName) m p n s why at
     (stopped g 15 mail_of (AllAt NumberNameAt) (NotAll refusal NumberNameAt NoNumberName) (λ a b. b ≡ a) (λ its. (hosts : List Host) × HaveMail its hosts) (λ a b same. same) any_hosts s mid u why (some_hosts hosts s mid passed) gives)

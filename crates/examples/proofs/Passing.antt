@@ -9,12 +9,12 @@ use Rattle.domain_wire.specs.declared.error.ParseError.{ParseError}
 use Rattle.domain_parsed.specs.declared.parsed.ParsedName.{ParsedName}
 use Rattle.domain_record.specs.Entries.{RecordFields, RecordAt, NoRecord}
 use Rattle.domain_message.specs.Kept.{keeps, AreOthers, IsMadeOf, GivesKept, kept_parser, kept_left, kept_class}
-use Rattle.domain_message.specs.Sections.{Run, Begins, counted, entries_left, records_message, records_offset, records_left}
+use Rattle.domain_message.specs.Sections.{Run, Begins, counted_records, entries_left, records_message, records_offset, records_left}
 use Rattle.domain_message.specs.declared.section.RecordSection.{RecordSection}
 use Rattle.domain_message.specs.declared.section.Section.{Section}
 use Rattle.domain_message.specs.declared.kept.RecordIter.{RecordIter}
 use Rattle.domain_record.specs.declared.resource_record.Record.{Record}
-use Rattle.examples.specs.MessageHosts.{StopsAt}
+use Rattle.examples.specs.MessageHosts.{StopsAtRecord}
 
 -- The record is of another type.
 abbrev pub IsNot : ℕ → RecordFields → Type 0
@@ -112,7 +112,7 @@ all_read g t seen At Fails Becomes Read goes s mid u passed (octets, class, (non
 }
 
 -- Reading stopped.
-pub stopped : {O D V : Type 0} (g : Ghosts O) (t : ℕ) (seen : D → V) (At : List ℕ → ℕ → V → ℕ → Type 0) (No : List ℕ → ℕ → ParseError → Type 0) (Becomes : ParseError → ParseError → Type 0) (Read : List RecordFields → Type 0) → ((a b : ParseError) → Becomes a b → b ≡ a) → GoesOn t Read → (s mid u : RecordIter D ParseError) (why : ParseError) → Passed Read s mid → GivesKept {g = g} (λ _. t) seen (λ r. nat_eq r t) (λ _. At) (λ _. No) Becomes mid (Some (Err why)) u → StopsAt t Read No (message (kept_parser s)) (position (kept_parser s)) (kept_left s) why
+pub stopped : {O D V : Type 0} (g : Ghosts O) (t : ℕ) (seen : D → V) (At : List ℕ → ℕ → V → ℕ → Type 0) (No : List ℕ → ℕ → ParseError → Type 0) (Becomes : ParseError → ParseError → Type 0) (Read : List RecordFields → Type 0) → ((a b : ParseError) → Becomes a b → b ≡ a) → GoesOn t Read → (s mid u : RecordIter D ParseError) (why : ParseError) → Passed Read s mid → GivesKept {g = g} (λ _. t) seen (λ r. nat_eq r t) (λ _. At) (λ _. No) Becomes mid (Some (Err why)) u → StopsAtRecord t Read No (message (kept_parser s)) (position (kept_parser s)) (kept_left s) why
 stopped g t seen At No Becomes Read becomes goes s mid u why passed (octets, class, (over, inl (other, misses, is))) = record {
   before = passed.before ++ misses.before;
   read = goes passed.before misses.before passed.read (other_types t (kept_class mid) misses.before passed.class misses.others);
@@ -137,7 +137,7 @@ pub record IsAt {D E : Type 0} (m : List ℕ) (p n : ℕ) (s : RecordIter D E) :
   pub left : kept_left s ≡ n
 
 -- where `limit_to` begins
-pub begins_at : {D E : Type 0} (m : List ℕ) (which : Section) (p : ℕ) (section : RecordSection) (s : RecordIter D E) → Begins m which p section → message (kept_parser s) ≡ records_message section → position (kept_parser s) ≡ records_offset section → kept_left s ≡ entries_left (records_left section) → IsAt m p (counted m which) s
+pub begins_at : {D E : Type 0} (m : List ℕ) (which : Section) (p : ℕ) (section : RecordSection) (s : RecordIter D E) → Begins m which p section → message (kept_parser s) ≡ records_message section → position (kept_parser s) ≡ records_offset section → kept_left s ≡ entries_left (records_left section) → IsAt m p (counted_records m which) s
 begins_at m which p section s begins octets offset left = record {
   octets = octets ∙ begins.message;
   offset = offset ∙ begins.offset;
@@ -147,6 +147,6 @@ begins_at m which p section s begins octets offset left = record {
 pub run_at : {D E : Type 0} (m : List ℕ) (p n e : ℕ) (its : List RecordFields) (s : RecordIter D E) → IsAt m p n s → Run RecordAt (message (kept_parser s)) (position (kept_parser s)) its e → Run RecordAt m p its e
 run_at m p n e its s at run = subst (λ o. Run RecordAt o p its e) at.octets (subst (λ q. Run RecordAt (message (kept_parser s)) q its e) at.offset run)
 
-pub stops_at : {D E : Type 0} (t : ℕ) (Read : List RecordFields → Type 0) (No : List ℕ → ℕ → ParseError → Type 0) (m : List ℕ) (p n : ℕ) (s : RecordIter D E) (why : ParseError) → IsAt m p n s → StopsAt t Read No (message (kept_parser s)) (position (kept_parser s)) (kept_left s) why → StopsAt t Read No m p n why
+pub stops_at : {D E : Type 0} (t : ℕ) (Read : List RecordFields → Type 0) (No : List ℕ → ℕ → ParseError → Type 0) (m : List ℕ) (p n : ℕ) (s : RecordIter D E) (why : ParseError) → IsAt m p n s → StopsAtRecord t Read No (message (kept_parser s)) (position (kept_parser s)) (kept_left s) why → StopsAtRecord t Read No m p n why
 stops_at t Read No m p n s why at stops =
-    subst (λ k. StopsAt t Read No m p k why) at.left (subst (λ q. StopsAt t Read No m q (kept_left s) why) at.offset (subst (λ o. StopsAt t Read No o (position (kept_parser s)) (kept_left s) why) at.octets stops))
+    subst (λ k. StopsAtRecord t Read No m p k why) at.left (subst (λ q. StopsAtRecord t Read No m q (kept_left s) why) at.offset (subst (λ o. StopsAtRecord t Read No o (position (kept_parser s)) (kept_left s) why) at.octets stops))

@@ -14,7 +14,7 @@ use Rattle.domain_message_builder.specs.Opt.{Opt}
 use Rattle.domain_message_builder.specs.Pushes.{IsBegun, PushesRecord}
 use Rattle.domain_message_builder.specs.Reading.{IsMessageOf}
 use Rattle.domain_message_builder.specs.State.{State}
-use Rattle.examples.specs.Served.{Repeats, IsReferral, IsErrorAnswer, IsWholeOrCut, with_sections}
+use Rattle.examples.specs.Served.{RepeatsFirstQuestion, IsReferral, IsErrorAnswer, IsWholeOrCut, with_sections}
 use Rattle.examples.specs.Served.IsWholeOrCut.{whole, cut}
 use Rattle.examples.specs.Served.RepeatsIfRoom.{all as as_asked, bare as without}
 use Rattle.examples.proofs.Built.{cannot_ask_so}
@@ -23,7 +23,7 @@ use Rattle.examples.proofs.Built.{cannot_ask_so}
 pub record BegunAnswer (c : Bool) (query : List ℕ) (rcode : ℕ) (s : State) : Type 0 where
   pub header : AnswersHeaderOf query rcode s.header
   pub questions : List QuestionFields
-  pub repeated : Repeats query questions
+  pub repeated : RepeatsFirstQuestion query questions
   pub holds : Holds c s (with_sections questions [] [] [])
 
 pub begun_answer : (c : Bool) (query : List ℕ) (rcode code limit : ℕ) (begun s : State) → code ≡ rcode → IsBegun c limit begun → StartsAnswer c query code begun s → BegunAnswer c query rcode s

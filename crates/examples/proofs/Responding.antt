@@ -12,7 +12,7 @@ use Rattle.domain_rdata.specs.declared.record_data.ComposeRdataError.{ComposeRda
 use Rattle.domain_rdata.specs.ReadBack.{Appended}
 use Rattle.domain_rdata.specs.RecordData.{NameOctets}
 use Rattle.domain_fields.specs.Sequences.{BothComposed}
-use Rattle.domain_record.specs.Composing.{QuestionOctets, RecordOctets, RecordRefused}
+use Rattle.domain_record.specs.Composing.{QuestionOctets, RecordOctets, ComposeRecordRefused}
 use Rattle.examples.specs.Responses.{response_octets, section_octets, MailData, AddressData, IsMailResponse, ExceedsMessage}
 use Rattle.examples.specs.Responses.ExceedsMessage.{no_mail, no_address}
 
@@ -82,11 +82,11 @@ is_mail_response id name host addr mid o before address =
     }
 
 -- the first record exceeds the octets
-pub mail_exceeds : (id : ℕ) (name host : List (List ℕ)) (addr : Ipv4Addr) (mid : List ℕ) (e : ComposeRdataError ShortBuf) → UpToRecords id name mid → RecordRefused name 15 1 3600 (MailData host) true mid 512 e → ExceedsMessage id name host addr
+pub mail_exceeds : (id : ℕ) (name host : List (List ℕ)) (addr : Ipv4Addr) (mid : List ℕ) (e : ComposeRdataError ShortBuf) → UpToRecords id name mid → ComposeRecordRefused name 15 1 3600 (MailData host) true mid 512 e → ExceedsMessage id name host addr
 mail_exceeds id name host addr mid e before refused =
-    no_mail before.octets before.allowed e (subst (λ t. RecordRefused name 15 1 3600 (MailData host) true t 512 e) before.all refused)
+    no_mail before.octets before.allowed e (subst (λ t. ComposeRecordRefused name 15 1 3600 (MailData host) true t 512 e) before.all refused)
 
 -- the second record does
-pub address_exceeds : (id : ℕ) (name host : List (List ℕ)) (addr : Ipv4Addr) (mid : List ℕ) (e : ComposeRdataError ShortBuf) → UpToAddress id name host mid → RecordRefused host 1 1 3600 (AddressData addr) true mid 512 e → ExceedsMessage id name host addr
+pub address_exceeds : (id : ℕ) (name host : List (List ℕ)) (addr : Ipv4Addr) (mid : List ℕ) (e : ComposeRdataError ShortBuf) → UpToAddress id name host mid → ComposeRecordRefused host 1 1 3600 (AddressData addr) true mid 512 e → ExceedsMessage id name host addr
 address_exceeds id name host addr mid e before refused =
-    no_address before.question before.mail.octets before.has_question before.mail.allowed e (subst (λ t. RecordRefused host 1 1 3600 (AddressData addr) true t 512 e) before.mail.all refused)
+    no_address before.question before.mail.octets before.has_question before.mail.allowed e (subst (λ t. ComposeRecordRefused host 1 1 3600 (AddressData addr) true t 512 e) before.mail.all refused)

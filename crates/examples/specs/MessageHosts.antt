@@ -56,7 +56,7 @@ pub record PrefersHost (m : List ℕ) (found : Option (List (List ℕ))) : Type 
   pub preferred : PreferredName hosts found
 
 -- The record is an A record with this address (RFC 1035, 3.4.1).
-pub record IsAddress (it : RecordFields) (addr : Ipv4Addr) : Type 0 where
+pub record IsAddressRecord (it : RecordFields) (addr : Ipv4Addr) : Type 0 where
   pub a : it.header.rtype ≡ 1
   pub end : ℕ
   pub data_is : AllAt (FixedAt 4 ipv4_of) it.octets it.start addr end
@@ -66,26 +66,26 @@ abbrev pub IsOf : RecordFields → List (List ℕ) → Type 0
 IsOf it host = lowercase_labels it.header.owner ≡ lowercase_labels host
 
 -- The record has no address of the host: it is of another type, or is an A record of another owner.
-abbrev pub IsOther : List (List ℕ) → RecordFields → Type 0
-IsOther host it = (it.header.rtype ≡ 1 → ⊥) ⊎ ((addr : Ipv4Addr) × IsAddress it addr × (IsOf it host → ⊥))
+abbrev pub HasNoAddressOf : List (List ℕ) → RecordFields → Type 0
+HasNoAddressOf host it = (it.header.rtype ≡ 1 → ⊥) ⊎ ((addr : Ipv4Addr) × IsAddressRecord it addr × (IsOf it host → ⊥))
 
 -- Of n records at p a first one is an A record of the host, with this address.
 pub record FirstAddress (m : List ℕ) (p n : ℕ) (host : List (List ℕ)) (addr : Ipv4Addr) : Type 0 where
   pub before : List RecordFields
-  pub others : All (IsOther host) before
+  pub others : All (HasNoAddressOf host) before
   pub few : length before < n
   pub offset : ℕ
   pub run : Run RecordAt m p before offset
   pub it : RecordFields
   pub end : ℕ
   pub at : RecordAt m offset it end
-  pub address : IsAddress it addr
+  pub address : IsAddressRecord it addr
   pub owner : IsOf it host
 
 -- The n records at p are all there, and none has an address of the host.
 pub record NoAddress (m : List ℕ) (p n : ℕ) (host : List (List ℕ)) : Type 0 where
   pub records : List RecordFields
-  pub others : All (IsOther host) records
+  pub others : All (HasNoAddressOf host) records
   pub count : length records ≡ n
   pub end : ℕ
   pub run : Run RecordAt m p records end
@@ -100,7 +100,7 @@ FindsAddress m host found = (start : ℕ) × AuthorityTo m start × AddressOf m 
 
 -- Of n records at p the first ones are as Read says. The next is missing, or is of the type t and its data is refused, and
 -- why.
-pub record StopsAt (t : ℕ) (Read : List RecordFields → Type 0) (Refused : List ℕ → ℕ → ParseError → Type 0) (m : List ℕ) (p n : ℕ) (why : ParseError) : Type 0 where
+pub record StopsAtRecord (t : ℕ) (Read : List RecordFields → Type 0) (Refused : List ℕ → ℕ → ParseError → Type 0) (m : List ℕ) (p n : ℕ) (why : ParseError) : Type 0 where
   pub before : List RecordFields
   pub read : Read before
   pub few : length before < n
@@ -110,11 +110,11 @@ pub record StopsAt (t : ℕ) (Read : List RecordFields → Type 0) (Refused : Li
 
 -- Why the answers can't be searched for hosts.
 abbrev pub MailRefused : List ℕ → ParseError → Type 0
-MailRefused m why = NoQuestions m why ⊎ ((start : ℕ) × QuestionsTo m start × StopsAt 15 (λ its. (hosts : List Host) × HaveMail its hosts) (NotAll refusal NumberNameAt NoNumberName) m start (number16 m 6) why)
+MailRefused m why = NoQuestions m why ⊎ ((start : ℕ) × QuestionsTo m start × StopsAtRecord 15 (λ its. (hosts : List Host) × HaveMail its hosts) (NotAll refusal NumberNameAt NoNumberName) m start (number16 m 6) why)
 
 -- Why the additional section can't be searched for an address of the host.
 abbrev pub AddressRefused : List ℕ → List (List ℕ) → ParseError → Type 0
-AddressRefused m host why = NoAuthority m why ⊎ ((start : ℕ) × AuthorityTo m start × StopsAt 1 (All (IsOther host)) (NotAll refusal (FixedAt 4 ipv4_of) (ShortAt 4)) m start (number16 m 10) why)
+AddressRefused m host why = NoAuthority m why ⊎ ((start : ℕ) × AuthorityTo m start × StopsAtRecord 1 (All (HasNoAddressOf host)) (NotAll refusal (FixedAt 4 ipv4_of) (ShortAt 4)) m start (number16 m 10) why)
 
 -- The name that was found in a message, or none, is the preferred host (`PrefersHost`).
 abbrev pub Prefers : {O : Type 0} {g : Ghosts O} → List ℕ → Option (ParsedName O g) → Type 0

@@ -13,7 +13,7 @@ use Rattle.domain_rdata.specs.declared.record_data.ComposeRdataError.{ComposeRda
 use Rattle.domain_rdata.specs.ReadBack.{Exceeds}
 use Rattle.domain_rdata.specs.RecordData.{NameOctets}
 use Rattle.domain_fields.specs.Sequences.{BothComposed}
-use Rattle.domain_record.specs.Composing.{QuestionOctets, RecordOctets, RecordRefused}
+use Rattle.domain_record.specs.Composing.{QuestionOctets, RecordOctets, ComposeRecordRefused}
 
 -- The header: the identifier, the bit QR alone, one question, one answer and one additional record (RFC 1035, 4.1.1).
 abbrev pub response_octets : ℕ → List ℕ
@@ -46,10 +46,10 @@ pub record IsMailResponse (id : ℕ) (name host : List (List ℕ)) (addr : Ipv4A
 pub data ExceedsMessage (id : ℕ) (name host : List (List ℕ)) (addr : Ipv4Addr) : Type 0 where
   no_question : Exceeds (QuestionOctets name 15 1 true (response_octets id)) (response_octets id) 512 → ExceedsMessage id name host addr
   no_mail : (question : List ℕ) → QuestionOctets name 15 1 true (response_octets id) question
-      → (e : ComposeRdataError ShortBuf) → RecordRefused name 15 1 3600 (MailData host) true (response_octets id ++ question) 512 e → ExceedsMessage id name host addr
+      → (e : ComposeRdataError ShortBuf) → ComposeRecordRefused name 15 1 3600 (MailData host) true (response_octets id ++ question) 512 e → ExceedsMessage id name host addr
   no_address : (question mail : List ℕ) → QuestionOctets name 15 1 true (response_octets id) question
       → RecordOctets name 15 1 3600 (MailData host) true (response_octets id ++ question) mail
-      → (e : ComposeRdataError ShortBuf) → RecordRefused host 1 1 3600 (AddressData addr) true (response_octets id ++ question ++ mail) 512 e → ExceedsMessage id name host addr
+      → (e : ComposeRdataError ShortBuf) → ComposeRecordRefused host 1 1 3600 (AddressData addr) true (response_octets id ++ question ++ mail) 512 e → ExceedsMessage id name host addr
 
 -- The octets are the response that tells these two names' host for mail (`IsMailResponse`).
 abbrev pub TellsMail : {O P : Type 0} {g : Ghosts O} {h : Ghosts P} → (id : ℕ) → Name O g → Name P h → Ipv4Addr → List ℕ → Type 0

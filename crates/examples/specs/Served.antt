@@ -11,10 +11,10 @@ use Rattle.domain_message_builder.specs.Reading.{IsMessageOf}
 use Rattle.examples.specs.Built.{NotAsked}
 
 -- What an answer to a query repeats of it: the first question, or none where that is missing.
-abbrev pub Repeats : List ℕ → List QuestionFields → Type 0
-Repeats query [] = HasNoQuestion query
-Repeats query (q ∷ []) = BeginsWithQuestion query q
-Repeats query (q ∷ r ∷ qs) = ⊥
+abbrev pub RepeatsFirstQuestion : List ℕ → List QuestionFields → Type 0
+RepeatsFirstQuestion query [] = HasNoQuestion query
+RepeatsFirstQuestion query (q ∷ []) = BeginsWithQuestion query q
+RepeatsFirstQuestion query (q ∷ r ∷ qs) = ⊥
 
 -- the records of a section each
 abbrev pub with_sections : List QuestionFields → List PushedRecord → List PushedRecord → List PushedRecord → Content
@@ -32,7 +32,7 @@ pub record IsReferral (query : List ℕ) (servers : RecordHead) (Servers : List 
   pub header : Header
   pub answers : AnswersHeaderOf query 0 header
   pub questions : List QuestionFields
-  pub repeats : Repeats query questions
+  pub repeats : RepeatsFirstQuestion query questions
   pub server : PushedRecord
   pub is_server : IsRecordOf servers Servers server
   pub address : PushedRecord
@@ -42,7 +42,7 @@ pub record IsReferral (query : List ℕ) (servers : RecordHead) (Servers : List 
 -- An answer to the query has these questions: its first one, or none where that can't be pushed, into a target of this
 -- capacity.
 pub data RepeatsIfRoom (compresses : Bool) (query octets : List ℕ) (capacity limit : ℕ) (qs : List QuestionFields) : Type 0 where
-  all : Repeats query qs → RepeatsIfRoom compresses query octets capacity limit qs
+  all : RepeatsFirstQuestion query qs → RepeatsIfRoom compresses query octets capacity limit qs
   bare : (q : QuestionFields) → BeginsWithQuestion query q → NotAsked compresses q octets capacity limit → qs ≡ [] → RepeatsIfRoom compresses query octets capacity limit qs
 
 -- The message tells an error, and has no record (RFC 1035, 4.1.1).
@@ -56,7 +56,7 @@ pub record IsErrorAnswer (compresses : Bool) (query octets : List ℕ) (capacity
 -- The message answers the query with a record and an OPT record; or it is cut: TC is set, and the OPT record alone is there
 -- (RFC 2181, 9; RFC 6891, 7).
 pub data IsWholeOrCut (query : List ℕ) (head : RecordHead) (May : List ℕ → List ℕ → Type 0) (opt : Opt) (m : List ℕ) : Type 0 where
-  whole : (header : Header) → AnswersHeaderOf query 0 header → (qs : List QuestionFields) → Repeats query qs → (it : PushedRecord) → IsRecordOf head May it
+  whole : (header : Header) → AnswersHeaderOf query 0 header → (qs : List QuestionFields) → RepeatsFirstQuestion query qs → (it : PushedRecord) → IsRecordOf head May it
       → IsMessageOf header (with_sections qs (it ∷ []) [] (opt_record opt ∷ [])) m → IsWholeOrCut query head May opt m
-  cut : (header bits : Header) → AnswersHeaderOf query 0 header → SetsHigh 2 2 1 header bits → (qs : List QuestionFields) → Repeats query qs
+  cut : (header bits : Header) → AnswersHeaderOf query 0 header → SetsHigh 2 2 1 header bits → (qs : List QuestionFields) → RepeatsFirstQuestion query qs
       → IsMessageOf bits (with_sections qs [] [] (opt_record opt ∷ [])) m → IsWholeOrCut query head May opt m

@@ -2,7 +2,7 @@
 ghost use Rattle.std.specs.Prelude.{◌≡◌, ◌∷◌};
 ghost use Rattle.std.specs.Iterator.{YieldsFirstBy, YieldsLastBy, item_count};
 ghost use Rattle.domain_label.specs.Labels.{label_octets};
-ghost use Rattle.examples.specs.Hosts.{left_of};
+ghost use Rattle.examples.specs.Hosts.{labels_left_of};
 
 use domain::base::name::*;
 
@@ -16,7 +16,7 @@ pub struct HostLabels<'a, I> {
 impl<'a, I: LabelIterator<'a>> HostLabels<'a, I> {
     /// A label, and then those of a zone's name.
     pub fn new(first: Label<'a>, zone: I) -> HostLabels<'a, I>
-        ensures { left_of I.left result ≡ label_octets first.entry ∷ I.left zone }
+        ensures { labels_left_of I.left result ≡ label_octets first.entry ∷ I.left zone }
     {
         HostLabels {
             first: Some(first),
@@ -28,9 +28,9 @@ impl<'a, I: LabelIterator<'a>> HostLabels<'a, I> {
 impl<'a, I: LabelIterator<'a>> Iterator for HostLabels<'a, I> {
     type Item = Label<'a>;
 
-    ghost next_gives = { YieldsFirstBy label_octets (left_of I.left) };
+    ghost next_gives = { YieldsFirstBy label_octets (labels_left_of I.left) };
 
-    ghost remaining = { item_count (left_of I.left) };
+    ghost remaining = { item_count (labels_left_of I.left) };
 
     fn next(&mut self) -> Option<Label<'a>> {
         match self.first.take() {
@@ -41,7 +41,7 @@ impl<'a, I: LabelIterator<'a>> Iterator for HostLabels<'a, I> {
 }
 
 impl<'a, I: LabelIterator<'a>> DoubleEndedIterator for HostLabels<'a, I> {
-    ghost next_back_gives = { YieldsLastBy label_octets (left_of I.left) };
+    ghost next_back_gives = { YieldsLastBy label_octets (labels_left_of I.left) };
 
     fn next_back(&mut self) -> Option<Label<'a>> {
         match self.zone.next_back() {
@@ -52,7 +52,7 @@ impl<'a, I: LabelIterator<'a>> DoubleEndedIterator for HostLabels<'a, I> {
 }
 
 impl<'a, I: LabelIterator<'a>> LabelIterator<'a> for HostLabels<'a, I> {
-    ghost left = { left_of I.left };
+    ghost left = { labels_left_of I.left };
 
     ghost ready = { λ s. tt };
 

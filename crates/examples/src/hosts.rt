@@ -19,13 +19,13 @@ pub struct Host {
 }
 
 impl Host {
-    ghost use Rattle.examples.specs.Hosts.{labels_of};
+    ghost use Rattle.examples.specs.Hosts.{labels_of_host};
 
     /// The host of this label in the zone.
     ///
     /// `None` where the label is the root's, or the name would have more than 255 octets.
     pub fn new(label: OwnedLabel, zone: Name<Vec<u8>>) -> Option<Host>
-        ensures labels { IfSome result (λ host. labels_of host ≡ with_zone label zone) }
+        ensures labels { IfSome result (λ host. labels_of_host host ≡ with_zone label zone) }
         ensures none { IsNone result ↔ MakesNoHost label zone }
     {
         let len = label.as_label().len();
@@ -37,9 +37,9 @@ impl Host {
 }
 
 impl NameLabels for Host {
-    ghost use Rattle.examples.specs.Hosts.{labels_of};
+    ghost use Rattle.examples.specs.Hosts.{labels_of_host};
 
-    ghost labels = { λ host. labels_of host };
+    ghost labels = { λ host. labels_of_host host };
 
     fn compose_len(&self) -> u16 {
         self.label.as_label().len() as u16 + 1 + self.zone.compose_len()

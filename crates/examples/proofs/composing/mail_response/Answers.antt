@@ -5,7 +5,7 @@ use Rattle.domain_data.specs.Views.{fields_of}
 use Rattle.domain_header.specs.Values.{class_number, ttl_seconds}
 use Rattle.domain_rdata.specs.ReadBack.{Appended}
 use Rattle.domain_rdata.specs.Rtypes.{rtype_number}
-use Rattle.domain_record.specs.Composing.{QuestionOctets, RecordOctets, RecordRefused}
+use Rattle.domain_record.specs.Composing.{QuestionOctets, RecordOctets, ComposeRecordRefused}
 use Rattle.domain_record.specs.RecordParts.{owner_of, class_of, ttl_of, data_of}
 use Rattle.domain_record.specs.Views.{question_name, question_type, question_class}
 use Rattle.examples.specs.Responses.{IsMailResponse}
@@ -25,7 +25,7 @@ returns-in_err-ok-4-clause-full c none =
     let question = same_question (λ n r k. Appended (QuestionOctets n r k true one) one two) (name_labels (question_name c.new-question.result)) name (rtype_number (question_type c.new-question.result)) 15 (class_number (question_class c.new-question.result)) 1 (search rules) (search rules) (search rules) asked in
     let before = up_to_records c.args.id name one two head question in
     let refused = of_err c.compose-2.result c.ok-4.result _ c.ok-4.ensures.value (search rules) c.compose-2.ensures.why in
-    mail_exceeds c.args.id name host c.args.addr two refused.0 before (same_mail (λ n k l May. RecordRefused n 15 k l May true two 512 refused.0) (name_labels (owner_of c.new-mail.result)) name (name_labels (fields_of (data_of c.new-mail.result)).rest.name) host (class_number (class_of c.new-mail.result)) 1 (ttl_seconds (ttl_of c.new-mail.result)) 3600 (fields_of (data_of c.new-mail.result)).first 10 (search rules) (search rules) (search rules) (search rules) (search rules) refused.1)
+    mail_exceeds c.args.id name host c.args.addr two refused.0 before (same_mail (λ n k l May. ComposeRecordRefused n 15 k l May true two 512 refused.0) (name_labels (owner_of c.new-mail.result)) name (name_labels (fields_of (data_of c.new-mail.result)).rest.name) host (class_number (class_of c.new-mail.result)) 1 (ttl_seconds (ttl_of c.new-mail.result)) 3600 (fields_of (data_of c.new-mail.result)).first 10 (search rules) (search rules) (search rules) (search rules) (search rules) refused.1)
 
 pub returns-in_err-ok-5-clause-full : goal.returns-in_err-ok-5-clause-full
 returns-in_err-ok-5-clause-full c none =
@@ -44,7 +44,7 @@ returns-in_err-ok-5-clause-full c none =
     let mail = same_mail (λ n k l May. Appended (RecordOctets n 15 k l May true two) two three) (name_labels (owner_of c.new-mail.result)) name (name_labels (fields_of (data_of c.new-mail.result)).rest.name) host (class_number (class_of c.new-mail.result)) 1 (ttl_seconds (ttl_of c.new-mail.result)) 3600 (fields_of (data_of c.new-mail.result)).first 10 (search rules) (search rules) (search rules) (search rules) (search rules) told in
     let on = up_to_address c.args.id name host two three before mail in
     let refused = of_err c.compose-3.result c.ok-5.result _ c.ok-5.ensures.value (search rules) c.compose-3.ensures.why in
-    address_exceeds c.args.id name host c.args.addr three refused.0 on (same_address (λ n k l May. RecordRefused n 1 k l May true three 512 refused.0) (name_labels (owner_of c.new-address.result)) host (class_number (class_of c.new-address.result)) 1 (ttl_seconds (ttl_of c.new-address.result)) 3600 (fields_of (data_of c.new-address.result)) c.args.addr (search rules) (search rules) (search rules) (search rules) refused.1)
+    address_exceeds c.args.id name host c.args.addr three refused.0 on (same_address (λ n k l May. ComposeRecordRefused n 1 k l May true three 512 refused.0) (name_labels (owner_of c.new-address.result)) host (class_number (class_of c.new-address.result)) 1 (ttl_seconds (ttl_of c.new-address.result)) 3600 (fields_of (data_of c.new-address.result)) c.args.addr (search rules) (search rules) (search rules) (search rules) refused.1)
 
 pub returns-clause-ok : goal.returns-clause-ok
 returns-clause-ok c =
