@@ -1,4 +1,3 @@
 pub mod LabelOffsets
 pub mod Dots
 pub mod CompressedFlag
-pub mod PushNumbers

@@ -1,5 +1,5 @@
 -- The numbers that calls return. The header dnsnames.h names them.
-use Rattle.std.specs.Prelude.{ℕ, ℤ, pos, negsuc, Bool, true, false, Option, Some, None, Result, Ok, Err}
+use Rattle.std.specs.Prelude.{ℕ, ℤ, pos, negsuc, Bool, true, false, Option, Some, None}
 use Rattle.std.specs.declared.cmp.Ordering.{Ordering}
 use Rattle.std.specs.declared.cmp.Ordering.TheVariants.{Less, Equal, Greater}
 use Rattle.domain_buffer.specs.declared.push.PushFault.{PushFault}
@@ -43,11 +43,6 @@ abbrev pub push_number : PushFault → ℕ
 push_number push.LaterSection = 24
 push_number push.FullSection = 25
 push_number push.NoRoom = 8
-
--- of a record that was pushed, or wasn't
-abbrev pub pushed_number : {A : Type 0} → Result A PushFault → ℕ
-pushed_number (Ok a) = 0
-pushed_number (Err why) = push_number why
 
 -- of octets that are no absolute name
 abbrev pub absolute_number : NameErrorKind → ℕ

@@ -1,13 +1,15 @@
 //! Messages that are built in the caller's buffer (RFC 1035, 4.1).
-ghost use Rattle.std.specs.Prelude.{◌≡◌};
-ghost use Rattle.domain_buffer.specs.Builders.{headed};
-ghost use Rattle.dnsnames_c.specs.Builders.{section_of, opt_with, BeginsMessage, AsksFor, GivesInSection, GivesOpt, Cuts, Finishes};
-ghost use Rattle.dnsnames_c.specs.Status.{pushed_number};
+ghost use Rattle.std.specs.Prelude.{◌≡◌, ◌≤◌, length};
+ghost use Rattle.domain_label.specs.Wire.{IsAbsoluteWire};
+ghost use Rattle.domain_buffer.specs.Builders.{headed, headed_by, IsUsable};
+ghost use Rattle.domain_buffer.specs.Data.{fields_of, IsNamed};
+ghost use Rattle.dnsnames_c.specs.Builders.{section_of, opt_with, BeginsMessage, AsksFor, GivesData, GivesNamed, GivesInSection, GivesOpt, Cuts, Finishes};
+ghost use Rattle.dnsnames_c.specs.Status.{push_number};
 
 use domain_buffer::builder::{
     BLANK, Builder, Head, count_question, enter, header_octets_of, is_usable, type_and_class_octets,
 };
-use domain_buffer::data::named_data;
+use domain_buffer::data::{NamedData, named_data};
 use domain_buffer::push::{PushFault, push_named, push_record};
 use domain_buffer::put::put_at;
 use domain_message::Section;
@@ -95,15 +97,57 @@ fn section_named(number: u32) -> Option<Section>
     }
 }
 
-/// The number of a record that was pushed, or of why it wasn't.
-fn number_of_push(pushed: Result<(), PushFault>) -> u32
-    ensures { result ≡ pushed_number pushed }
+/// The number of why a record wasn't pushed.
+fn number_of_push(fault: PushFault) -> u32
+    ensures { result ≡ push_number fault }
 {
-    match pushed {
+    match fault {
+        PushFault::LaterSection => 24,
+        PushFault::FullSection => 25,
+        PushFault::NoRoom => 8,
+    }
+}
+
+/// Pushes a record with data as they are, or nothing.
+fn push_data(
+    octets: &mut [u8],
+    builder: &mut Builder,
+    section: Section,
+    owner: &[u8],
+    head: Head,
+    data: &[u8],
+) -> u32
+    requires usable { IsUsable octets.old builder.old }
+    requires owner { IsAbsoluteWire owner.now }
+    ensures { GivesData section owner.now (headed_by owner.now head) data.now result octets.old
+        builder.old octets.new builder.new }
+{
+    match push_record(octets, builder, section, owner, head, data) {
         Ok(()) => 0,
-        Err(PushFault::LaterSection) => 24,
-        Err(PushFault::FullSection) => 25,
-        Err(PushFault::NoRoom) => 8,
+        Err(fault) => number_of_push(fault),
+    }
+}
+
+/// Pushes a record with data of names, or nothing.
+fn push_names(
+    octets: &mut [u8],
+    builder: &mut Builder,
+    section: Section,
+    owner: &[u8],
+    head: Head,
+    fields: NamedData<'_>,
+) -> u32
+    requires usable { IsUsable octets.old builder.old }
+    requires owner { IsAbsoluteWire owner.now }
+    requires named { IsNamed head.rtype (fields_of fields) }
+    requires before { length fields.before.now ≤ 6 }
+    requires after { length fields.after.now ≤ 20 }
+    ensures { GivesNamed section owner.now (headed_by owner.now head) (fields_of fields.entry)
+        result octets.old builder.old octets.new builder.new }
+{
+    match push_named(octets, builder, section, owner, head, fields) {
+        Ok(()) => 0,
+        Err(fault) => number_of_push(fault),
     }
 }
 
@@ -140,10 +184,8 @@ pub extern "C" fn dnsnames_builder_record(
     };
     let head = Head { rtype, class, ttl };
     match named_data(rtype, data) {
-        Some(fields) => {
-            number_of_push(push_named(octets, builder, section, owner, head, fields))
-        }
-        None => number_of_push(push_record(octets, builder, section, owner, head, data)),
+        Some(fields) => push_names(octets, builder, section, owner, head, fields),
+        None => push_data(octets, builder, section, owner, head, data),
     }
 }
 
@@ -176,8 +218,7 @@ pub extern "C" fn dnsnames_builder_opt(
     };
     let (rtype, class) = (41, size);
     let head = Head { rtype, class, ttl };
-    let pushed = push_record(octets, builder, Section::Additional, &[0], head, options);
-    number_of_push(pushed)
+    push_data(octets, builder, Section::Additional, &[0], head, options)
 }
 
 /// Takes all records away again, and sets the flag TC: the message is cut after its questions (RFC 2181, 9).
