@@ -5,7 +5,7 @@ use Rattle.std.proofs.lemmas.Bool.{ne_eqb}
 use Rattle.std.proofs.Math.Seq.{drop-cons}
 use Rattle.std.proofs.Math.ListN.{drop_of_length-le}
 use Rattle.std.proofs.lemmas.List.{drop-drop, drop-set-lt, take_more_set}
-use Rattle.domain_walk.specs.Hexadecimal.{IsWhite, BeginsWithOctet, BeginsWithNone, IsHexText, IsHexFault, Position, position_after, further}
+use Rattle.domain_walk.specs.Hexadecimal.{IsWhite, BeginsWithHexOctet, BeginsWithNone, IsHexText, IsHexFault, Position, position_after, further}
 use Rattle.domain_walk.specs.Hexadecimal.IsHexText.{white, octet}
 use Rattle.domain_walk.specs.Hexadecimal.IsHexFault.{after_white, after_octet, here}
 use Rattle.domain_walk.specs.declared.hexadecimal.HexFault.{HexFault}
@@ -37,11 +37,11 @@ reads_white all t s i n inside same found before os more =
     before os (subst (λ x. IsHexText x os) (sym begins) (white found more))
 
 -- Two digits are read: their octet is written after those before it.
-pub reads_octet : (all t s : List ℕ) (i n x : ℕ) → n ≤ i → i + 2 ≤ length t → drop i t ≡ drop i s → BeginsWithOctet (drop i t) x
+pub reads_octet : (all t s : List ℕ) (i n x : ℕ) → n ≤ i → i + 2 ≤ length t → drop i t ≡ drop i s → BeginsWithHexOctet (drop i t) x
     → ((os : List ℕ) → IsHexText (drop i s) os → IsHexText all (take n t ++ os)) → (os : List ℕ) → IsHexText (drop (i + 2) s) os → IsHexText all (take (n + 1) (set t n x) ++ os)
 reads_octet all t s i n x behind inside same found before os more =
     let begins : drop i s ≡ slice_index t i ∷ slice_index t (i + 1) ∷ drop (i + 2) s = sym same ∙ (left_two t i inside ∙ ap (λ r. slice_index t i ∷ slice_index t (i + 1) ∷ r) (still_left 2 i t s same)) in
-    let digits : BeginsWithOctet (slice_index t i ∷ slice_index t (i + 1) ∷ drop (i + 2) s) x = subst (λ r. BeginsWithOctet r x) (same ∙ begins) found in
+    let digits : BeginsWithHexOctet (slice_index t i ∷ slice_index t (i + 1) ∷ drop (i + 2) s) x = subst (λ r. BeginsWithHexOctet r x) (same ∙ begins) found in
     let whole : IsHexText all (take n t ++ x ∷ os) = before (x ∷ os) (subst (λ r. IsHexText r (x ∷ os)) (sym begins) (octet digits more)) in
     let short : n < length t = omega arith in
     let written : take (n + 1) (set t n x) ++ os ≡ take n t ++ x ∷ os = ap (λ r. r ++ os) (take_more_set t n x short) ∙ append_assoc (take n t) (x ∷ []) os in
@@ -60,12 +60,12 @@ fault_after_white p q first all t s i inside same found offset before f line col
     before f line column (subst (λ r. IsHexFault p r f line column) (sym begins) (after_white found (subst (λ q. IsHexFault q (drop (i + 1) s) f line column) offset more)))
 
 -- A fault after an octet.
-pub fault_after_octet : (p first : Position) (all t s : List ℕ) (i x : ℕ) → i + 2 ≤ length t → drop i t ≡ drop i s → BeginsWithOctet (drop i t) x
+pub fault_after_octet : (p first : Position) (all t s : List ℕ) (i x : ℕ) → i + 2 ≤ length t → drop i t ≡ drop i s → BeginsWithHexOctet (drop i t) x
     → ((f : HexFault) (line column : ℕ) → IsHexFault p (drop i s) f line column → IsHexFault first all f line column)
     → (f : HexFault) (line column : ℕ) → IsHexFault (further 2 p) (drop (i + 2) s) f line column → IsHexFault first all f line column
 fault_after_octet p first all t s i x inside same found before f line column more =
     let begins : drop i s ≡ slice_index t i ∷ slice_index t (i + 1) ∷ drop (i + 2) s = sym same ∙ (left_two t i inside ∙ ap (λ r. slice_index t i ∷ slice_index t (i + 1) ∷ r) (still_left 2 i t s same)) in
-    let digits : BeginsWithOctet (slice_index t i ∷ slice_index t (i + 1) ∷ drop (i + 2) s) x = subst (λ r. BeginsWithOctet r x) (same ∙ begins) found in
+    let digits : BeginsWithHexOctet (slice_index t i ∷ slice_index t (i + 1) ∷ drop (i + 2) s) x = subst (λ r. BeginsWithHexOctet r x) (same ∙ begins) found in
     before f line column (subst (λ r. IsHexFault p r f line column) (sym begins) (after_octet digits more))
 
 -- A fault here.

@@ -1,6 +1,5 @@
 -- What the words after the program's name ask for.
-use Rattle.std.specs.Prelude.{◌≡◌, ◌⊎◌, List, ℕ, [], ◌∷◌, Option, Bool, true, false, codes, map, IfSome}
-use denote.Bor.{Bor}
+use Rattle.std.specs.Prelude.{◌≡◌, ◌⊎◌, List, ℕ, [], ◌∷◌, Option, Bool, true, false, codes, IfSome}
 use Rattle.std.specs.Io.KnownBytes.{Keeps}
 use Rattle.domain_tool.specs.Numerals.{IsOffsetWord}
 use Rattle.domain_tool.specs.declared.tool.ToolError.{ToolError}
@@ -12,10 +11,6 @@ use Rattle.domain_walk.specs.declared.hexadecimal.HexError.{HexError}
 use Rattle.domain_walk.specs.declared.hexadecimal.HexFault.{HexFault}
 use Rattle.domain_walk.specs.declared.engine.Asked.{Asked}
 use Rattle.domain_walk.specs.declared.engine.Asked.TheVariants.{Name, Message}
-
--- the texts of the words
-abbrev pub texts : List (Bor (List ℕ)) → List (List ℕ)
-texts words = map (λ word. word.now) words
 
 -- Reading, writing or memory failed.
 abbrev pub IsOfStream : ToolError → Type 0
@@ -54,9 +49,9 @@ abbrev pub NotInDigits : Bool → List ℕ → Option (List ℕ) → Option (Lis
 NotInDigits hex given old new = (hex ≡ true) × ((fault : HexFault) × (line : ℕ) × (column : ℕ) × IsHexFault start given fault line column) × Keeps old new
 
 -- What was asked for was written; or it isn't in the message, and what there is of it was written, or no message is given.
-abbrev pub IsAnswer : Asked → Bool → List ℕ → Bool → Option (List ℕ) → Option (List ℕ) → Type 0
-IsAnswer asked hex given true old new = WritesGiven asked hex given true old new
-IsAnswer asked hex given false old new = WritesGiven asked hex given false old new ⊎ NotInDigits hex given old new
+abbrev pub WritesAnswer : Asked → Bool → List ℕ → Bool → Option (List ℕ) → Option (List ℕ) → Type 0
+WritesAnswer asked hex given true old new = WritesGiven asked hex given true old new
+WritesAnswer asked hex given false old new = WritesGiven asked hex given false old new ⊎ NotInDigits hex given old new
 
 -- The words say that the message is in hexadecimal digits, and what is given isn't, and why.
 abbrev pub LacksDigits : Bool → List ℕ → HexError → Type 0
@@ -73,7 +68,7 @@ ShowsOf contents m old new whole = WritesShown m whole (contents old) (contents 
 -- What was asked for was written of the given message, where it is known what is given.
 abbrev pub Answers : {W : Type 0} → (W → Option (List ℕ)) → Asked → Bool → Option (List ℕ) → W → W → Bool → Type 0
 Answers contents asked hex given old new found =
-    IfSome given (λ given. IsAnswer asked hex given found (contents old) (contents new))
+    IfSome given (λ given. WritesAnswer asked hex given found (contents old) (contents new))
 
 -- The words ask for something, and that was written of the given message.
 abbrev pub AnswersWords : {W : Type 0} → List (List ℕ) → Option (List ℕ) → Bool → (W → Option (List ℕ)) → W → W → Type 0

@@ -28,8 +28,8 @@ pub record WritesFollowed (m : List ℕ) (p : ℕ) (found : Bool) (old new : Opt
   pub appends : Appends old new (lines ++ (last ++ 10 ∷ []))
 
 -- The same of an output: `contents` tells what it holds, where that is known.
-abbrev pub Follows : {W : Type 0} → (W → Option (List ℕ)) → List ℕ → ℕ → W → W → Bool → Type 0
-Follows contents m p old new found = WritesFollowed m p found (contents old) (contents new)
+abbrev pub FollowsName : {W : Type 0} → (W → Option (List ℕ)) → List ℕ → ℕ → W → W → Bool → Type 0
+FollowsName contents m p old new found = WritesFollowed m p found (contents old) (contents new)
 
 -- The same of the given message, where it is known what is given.
 abbrev pub FollowsGiven : {W : Type 0} → (W → Option (List ℕ)) → Option (List ℕ) → ℕ → W → W → Bool → Type 0

@@ -17,8 +17,8 @@ abbrev pub IsNoHexDigit : ℕ → Type 0
 IsNoHexDigit c = (x : ℕ) → IsHexDigit c x → ⊥
 
 -- The text begins with the two digits of an octet, the high one first.
-pub data BeginsWithOctet : (text : List ℕ) (octet : ℕ) → Type 0 where
-  two_digits : {c d x y octet : ℕ} {rest : List ℕ} → IsHexDigit c x → IsHexDigit d y → octet ≡ x * 16 + y → BeginsWithOctet (c ∷ d ∷ rest) octet
+pub data BeginsWithHexOctet : (text : List ℕ) (octet : ℕ) → Type 0 where
+  two_digits : {c d x y octet : ℕ} {rest : List ℕ} → IsHexDigit c x → IsHexDigit d y → octet ≡ x * 16 + y → BeginsWithHexOctet (c ∷ d ∷ rest) octet
 
 -- The text begins with no white space and with no octet, and what is wrong, and after how many octets.
 pub data BeginsWithNone : (text : List ℕ) (fault : HexFault) (skip : ℕ) → Type 0 where
@@ -31,7 +31,7 @@ pub data BeginsWithNone : (text : List ℕ) (fault : HexFault) (skip : ℕ) → 
 pub data IsHexText : (text octets : List ℕ) → Type 0 where
   nothing : IsHexText [] []
   white : {c : ℕ} {text octets : List ℕ} → IsWhite c → IsHexText text octets → IsHexText (c ∷ text) octets
-  octet : {c d x : ℕ} {text octets : List ℕ} → BeginsWithOctet (c ∷ d ∷ text) x → IsHexText text octets → IsHexText (c ∷ d ∷ text) (x ∷ octets)
+  octet : {c d x : ℕ} {text octets : List ℕ} → BeginsWithHexOctet (c ∷ d ∷ text) x → IsHexText text octets → IsHexText (c ∷ d ∷ text) (x ∷ octets)
 
 -- a position in a text: how many lines end before it, and how many octets of its line are before it
 pub record Position : Type 0 where
@@ -55,7 +55,7 @@ position_after c p = cond (nat_eq c 10) (record { line = p.line + 1; column = 0 
 pub data IsHexFault : (p : Position) (text : List ℕ) (fault : HexFault) (line column : ℕ) → Type 0 where
   here : {p : Position} {text : List ℕ} {fault : HexFault} {skip line column : ℕ} → BeginsWithNone text fault skip → line ≡ p.line + 1 → column ≡ p.column + 1 + skip → IsHexFault p text fault line column
   after_white : {p : Position} {c : ℕ} {text : List ℕ} {fault : HexFault} {line column : ℕ} → IsWhite c → IsHexFault (position_after c p) text fault line column → IsHexFault p (c ∷ text) fault line column
-  after_octet : {p : Position} {c d x : ℕ} {text : List ℕ} {fault : HexFault} {line column : ℕ} → BeginsWithOctet (c ∷ d ∷ text) x → IsHexFault (further 2 p) text fault line column → IsHexFault p (c ∷ d ∷ text) fault line column
+  after_octet : {p : Position} {c d x : ℕ} {text : List ℕ} {fault : HexFault} {line column : ℕ} → BeginsWithHexOctet (c ∷ d ∷ text) x → IsHexFault (further 2 p) text fault line column → IsHexFault p (c ∷ d ∷ text) fault line column
 
 -- the name of what is wrong
 abbrev pub hex_fault_text : HexFault → List ℕ

@@ -3,9 +3,10 @@ ghost use Rattle.std.specs.Prelude.{◌≡◌, ◌≤◌, ◌↔◌, true, false
 ghost use Rattle.std.specs.Bool.{OnTrue};
 ghost use Rattle.std.specs.Io.KnownBytes.{IsAtEnd};
 ghost use Rattle.domain_lines.specs.Streams.{EitherFailed};
-ghost use Rattle.domain_walk.specs.Asked.{texts, IsOfStream, AsksTo, AsksForSomething, WordAsks, IsMessage};
+ghost use Rattle.domain_tool.specs.WordParts.{texts};
+ghost use Rattle.domain_walk.specs.Asked.{IsOfStream, AsksTo, AsksForSomething, WordAsks, IsMessage};
 ghost use Rattle.domain_walk.specs.Asked.{LacksDigits, WritesOf, ShowsOf, Answers, AnswersWords};
-ghost use Rattle.domain_walk.specs.Engines.{Follows, FollowsGiven};
+ghost use Rattle.domain_walk.specs.Engines.{FollowsName, FollowsGiven};
 ghost use Rattle.domain_walk.specs.declared.engine.Asked.{Asked};
 
 use crate::follow::write_lines;
@@ -60,7 +61,7 @@ impl fmt::Display for RefusedLine {
 /// Writes a line for each label and pointer that reading the name at an offset of a message comes to, and a last line with
 /// the name or the reason why there is none. Returns whether there is a name.
 fn follow_in<W: Sink>(message: &[u8], output: &mut W, offset: u32) -> Result<bool, WriteFault>
-    ensures written { IfOk result (Follows W.contents message.now offset output.old output.new) }
+    ensures written { IfOk result (FollowsName W.contents message.now offset output.old output.new) }
     ensures failed { OnErr result (W.failed output.new) }
 {
     let count = write_lines(message, offset as usize, output)?;
@@ -214,7 +215,7 @@ fn answer<W: Sink, E: Write>(
 
 /// Follows the name, and flushes the output.
 fn follow<W: Sink>(message: &[u8], output: &mut W, offset: u32) -> Result<bool, ToolError>
-    ensures written { IfOk result (Follows W.contents message.now offset output.old output.new) }
+    ensures written { IfOk result (FollowsName W.contents message.now offset output.old output.new) }
     ensures failed { OnErr result (W.failed output.new) }
 {
     let found = follow_in(message, output, offset)?;

@@ -1,6 +1,6 @@
 //! Octets that are written in hexadecimal digits.
 ghost use Rattle.std.specs.Prelude.{◌+◌, ◌<◌, ◌≤◌, ◌↔◌, length, take, drop, slice_index, Some, IfOk, IfErr, IfSome, IsNone, IsTrue, OnOk};
-ghost use Rattle.domain_walk.specs.Hexadecimal.{IsWhite, IsHexDigit, IsNoHexDigit, BeginsWithOctet, BeginsWithNone};
+ghost use Rattle.domain_walk.specs.Hexadecimal.{IsWhite, IsHexDigit, IsNoHexDigit, BeginsWithHexOctet, BeginsWithNone};
 ghost use Rattle.domain_walk.specs.Hexadecimal.{IsHexText, start, IsHexFault, hex_error_text};
 
 use std::error::Error;
@@ -68,7 +68,7 @@ fn digit_of(octet: u8) -> Option<u8>
 fn octet_at(text: &[u8], at: usize) -> Result<u8, (HexFault, usize)>
     requires inside { at < length text.now }
     requires dark { IsWhite (slice_index text.now at) → ⊥ }
-    ensures ok { IfOk result (λ x. BeginsWithOctet (drop at text.now) x) }
+    ensures ok { IfOk result (λ x. BeginsWithHexOctet (drop at text.now) x) }
     ensures whole { OnOk result (at + 2 ≤ length text.now) }
     ensures err { IfErr result (λ e. BeginsWithNone (drop at text.now) e.0 e.1) }
     ensures near { IfErr result (λ e. at + e.1 < length text.now) }

@@ -1,7 +1,7 @@
 use Rattle.std.proofs.Common.{refl, sym, subst, arith, ◌+◌, ◌*◌}
 use Rattle.std.proofs.lemmas.Bool.{false≢true}
-use Rattle.domain_walk.specs.Hexadecimal.{BeginsWithOctet, BeginsWithNone}
-use Rattle.domain_walk.specs.Hexadecimal.BeginsWithOctet.{two_digits}
+use Rattle.domain_walk.specs.Hexadecimal.{BeginsWithHexOctet, BeginsWithNone}
+use Rattle.domain_walk.specs.Hexadecimal.BeginsWithHexOctet.{two_digits}
 use Rattle.domain_walk.specs.Hexadecimal.BeginsWithNone.{no_digit, no_second, lone, last}
 use Rattle.domain_walk.specs.declared.hexadecimal.HexFault.TheVariants.{NoDigit, LoneDigit}
 use Rattle.domain_walk.proofs.HexTexts.{left_one, left_two, left_last}
@@ -14,7 +14,7 @@ pub returns-then-text-at-lt2-clause-err : goal.returns-then-text-at-lt2-clause-e
 returns-then-text-at-lt2-clause-err c = subst (λ t. BeginsWithNone t LoneDigit 0) (sym (left_last c.args.text.now c.args.at c.requires.inside (omega arith))) (last c.in-Some.ensures.some)
 
 pub returns-in-Some-digit_of-clause-ok : goal.returns-in-Some-digit_of-clause-ok
-returns-in-Some-digit_of-clause-ok c = subst (λ t. BeginsWithOctet t (c.in-Some.high * 16 + c.in-Some-digit_of.low)) (sym (left_two c.args.text.now c.args.at (omega arith))) (two_digits c.in-Some.ensures.some c.in-Some-digit_of.ensures.some refl)
+returns-in-Some-digit_of-clause-ok c = subst (λ t. BeginsWithHexOctet t (c.in-Some.high * 16 + c.in-Some-digit_of.low)) (sym (left_two c.args.text.now c.args.at (omega arith))) (two_digits c.in-Some.ensures.some c.in-Some-digit_of.ensures.some refl)
 
 pub returns-in-None-clause-err : goal.returns-in-None-clause-err
 returns-in-None-clause-err c = subst (λ t. BeginsWithNone t LoneDigit 0) (sym (left_two c.args.text.now c.args.at (omega arith))) (lone c.in-Some.ensures.some (c.if-is_white.ensures.0 refl))
