@@ -74,6 +74,8 @@ pub use Rattle.domain_fields.specs.Sequences
 pub use Rattle.domain_data.specs.Shapes
 pub use Rattle.domain_data.specs.Views as DataViews
 pub use Rattle.domain_data.specs.HostFields
+pub use Rattle.domain_data.specs.KeyFields
+pub use Rattle.domain_data.specs.SignatureFields
 pub use Rattle.domain_txt.specs.Strings
 pub use Rattle.domain_txt.specs.Txts
 pub use Rattle.domain_all_data.specs.AllData

@@ -3,7 +3,9 @@ pub use Rattle.domain_fields.specs.Names
 pub use Rattle.domain_fields.specs.Reading
 pub use Rattle.domain_fields.specs.Sequences
 pub mod HostFields
+pub mod KeyFields
 pub mod OctetShapes
 pub mod Parsed
 pub mod Shapes
+pub mod SignatureFields
 pub mod Views

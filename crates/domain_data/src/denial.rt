@@ -11,12 +11,13 @@ use octseq::Octets;
 pub type Nsec<Octs, N> = FieldsData<47, Sequence<UncompressedNameField<N>, TypeBitmaps<Octs>>>;
 
 impl<Octs: Octets, N> Nsec<Octs, N> {
-    ghost use Rattle.domain_data.specs.Views.{fields_of, type_of};
+    ghost use Rattle.domain_data.specs.Views.{type_of};
+    ghost use Rattle.domain_data.specs.SignatureFields.{nsec_next_name, nsec_types};
 
     /// Data of these.
     pub fn new(next_name: N, types: TypeBitmaps<Octs>) -> Nsec<Octs, N>
-        ensures next_name { (fields_of result).first.name ≡ next_name }
-        ensures types { (fields_of result).rest ≡ types }
+        ensures next_name { nsec_next_name result ≡ next_name }
+        ensures types { nsec_types result ≡ types }
         ensures of_type { type_of result ≡ 47 }
     {
         FieldsData {
@@ -30,14 +31,14 @@ impl<Octs: Octets, N> Nsec<Octs, N> {
     /// The next name, in the canonical order, of those that have records that are signed. At the last one it is the
     /// zone's own.
     pub fn next_name(&self) -> &N
-        ensures { result.now ≡ (fields_of self.now).first.name }
+        ensures { result.now ≡ nsec_next_name self.now }
     {
         &self.fields.first.name
     }
 
     /// The types of records that the owner has.
     pub fn types(&self) -> &TypeBitmaps<Octs>
-        ensures { result.now ≡ (fields_of self.now).rest }
+        ensures { result.now ≡ nsec_types self.now }
     {
         &self.fields.rest
     }

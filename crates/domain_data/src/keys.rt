@@ -25,14 +25,15 @@ pub type Tlsa<Octs> = FieldsData<52, Sequence<u8, Sequence<u8, Sequence<u8, Base
 pub type Caa<Octs> = FieldsData<257, Sequence<u8, Sequence<Tag<Octs>, QuotedOctets<Octs>>>>;
 
 impl<Octs: Octets> Ds<Octs> {
-    ghost use Rattle.domain_data.specs.Views.{fields_of, type_of};
+    ghost use Rattle.domain_data.specs.Views.{type_of};
+    ghost use Rattle.domain_data.specs.KeyFields.{ds_key_tag, ds_algorithm, ds_digest_type, ds_digest};
 
     /// Data of these.
     pub fn new(key_tag: u16, algorithm: u8, digest_type: u8, digest: Base16Octets<Octs>) -> Ds<Octs>
-        ensures key_tag { (fields_of result).first ≡ key_tag }
-        ensures algorithm { (fields_of result).rest.first ≡ algorithm }
-        ensures digest_type { (fields_of result).rest.rest.first ≡ digest_type }
-        ensures digest { (fields_of result).rest.rest.rest ≡ digest }
+        ensures key_tag { ds_key_tag result ≡ key_tag }
+        ensures algorithm { ds_algorithm result ≡ algorithm }
+        ensures digest_type { ds_digest_type result ≡ digest_type }
+        ensures digest { ds_digest result ≡ digest }
         ensures of_type { type_of result ≡ 43 }
     {
         FieldsData {
@@ -51,41 +52,42 @@ impl<Octs: Octets> Ds<Octs> {
 
     /// The tag of the key (RFC 4034, appendix B).
     pub fn key_tag(&self) -> u16
-        ensures { result ≡ (fields_of self.now).first }
+        ensures { result ≡ ds_key_tag self.now }
     {
         self.fields.first
     }
 
     /// The number of the key's algorithm.
     pub fn algorithm(&self) -> u8
-        ensures { result ≡ (fields_of self.now).rest.first }
+        ensures { result ≡ ds_algorithm self.now }
     {
         self.fields.rest.first
     }
 
     /// The number of the algorithm that the digest was made by.
     pub fn digest_type(&self) -> u8
-        ensures { result ≡ (fields_of self.now).rest.rest.first }
+        ensures { result ≡ ds_digest_type self.now }
     {
         self.fields.rest.rest.first
     }
 
     /// The digest.
     pub fn digest(&self) -> &Base16Octets<Octs>
-        ensures { result.now ≡ (fields_of self.now).rest.rest.rest }
+        ensures { result.now ≡ ds_digest self.now }
     {
         &self.fields.rest.rest.rest
     }
 }
 
 impl<Octs: Octets> Sshfp<Octs> {
-    ghost use Rattle.domain_data.specs.Views.{fields_of, type_of};
+    ghost use Rattle.domain_data.specs.Views.{type_of};
+    ghost use Rattle.domain_data.specs.KeyFields.{sshfp_algorithm, sshfp_fp_type, sshfp_fingerprint};
 
     /// Data of these.
     pub fn new(algorithm: u8, fp_type: u8, fingerprint: Base16Octets<Octs>) -> Sshfp<Octs>
-        ensures algorithm { (fields_of result).first ≡ algorithm }
-        ensures fp_type { (fields_of result).rest.first ≡ fp_type }
-        ensures fingerprint { (fields_of result).rest.rest ≡ fingerprint }
+        ensures algorithm { sshfp_algorithm result ≡ algorithm }
+        ensures fp_type { sshfp_fp_type result ≡ fp_type }
+        ensures fingerprint { sshfp_fingerprint result ≡ fingerprint }
         ensures of_type { type_of result ≡ 44 }
     {
         FieldsData {
@@ -101,28 +103,29 @@ impl<Octs: Octets> Sshfp<Octs> {
 
     /// The number of the key's algorithm.
     pub fn algorithm(&self) -> u8
-        ensures { result ≡ (fields_of self.now).first }
+        ensures { result ≡ sshfp_algorithm self.now }
     {
         self.fields.first
     }
 
     /// The number of the algorithm that the fingerprint was made by.
     pub fn fp_type(&self) -> u8
-        ensures { result ≡ (fields_of self.now).rest.first }
+        ensures { result ≡ sshfp_fp_type self.now }
     {
         self.fields.rest.first
     }
 
     /// The fingerprint.
     pub fn fingerprint(&self) -> &Base16Octets<Octs>
-        ensures { result.now ≡ (fields_of self.now).rest.rest }
+        ensures { result.now ≡ sshfp_fingerprint self.now }
     {
         &self.fields.rest.rest
     }
 }
 
 impl<Octs: Octets> Dnskey<Octs> {
-    ghost use Rattle.domain_data.specs.Views.{fields_of, type_of};
+    ghost use Rattle.domain_data.specs.Views.{type_of};
+    ghost use Rattle.domain_data.specs.KeyFields.{dnskey_flags, dnskey_protocol, dnskey_algorithm, dnskey_public_key};
 
     /// Data of these.
     pub fn new(
@@ -131,10 +134,10 @@ impl<Octs: Octets> Dnskey<Octs> {
         algorithm: u8,
         public_key: Base64Octets<Octs>,
     ) -> Dnskey<Octs>
-        ensures flags { (fields_of result).first ≡ flags }
-        ensures protocol { (fields_of result).rest.first ≡ protocol }
-        ensures algorithm { (fields_of result).rest.rest.first ≡ algorithm }
-        ensures public_key { (fields_of result).rest.rest.rest ≡ public_key }
+        ensures flags { dnskey_flags result ≡ flags }
+        ensures protocol { dnskey_protocol result ≡ protocol }
+        ensures algorithm { dnskey_algorithm result ≡ algorithm }
+        ensures public_key { dnskey_public_key result ≡ public_key }
         ensures of_type { type_of result ≡ 48 }
     {
         FieldsData {
@@ -154,35 +157,36 @@ impl<Octs: Octets> Dnskey<Octs> {
     /// The flags: 256 of a key of the zone, to which alone a DS record may lead, and 1 as a hint that it is a secure entry
     /// point, which nothing may be decided by (RFC 4034, 2.1.1 and 5.2).
     pub fn flags(&self) -> u16
-        ensures { result ≡ (fields_of self.now).first }
+        ensures { result ≡ dnskey_flags self.now }
     {
         self.fields.first
     }
 
     /// The protocol, which is 3 in each valid record.
     pub fn protocol(&self) -> u8
-        ensures { result ≡ (fields_of self.now).rest.first }
+        ensures { result ≡ dnskey_protocol self.now }
     {
         self.fields.rest.first
     }
 
     /// The number of the key's algorithm.
     pub fn algorithm(&self) -> u8
-        ensures { result ≡ (fields_of self.now).rest.rest.first }
+        ensures { result ≡ dnskey_algorithm self.now }
     {
         self.fields.rest.rest.first
     }
 
     /// The key.
     pub fn public_key(&self) -> &Base64Octets<Octs>
-        ensures { result.now ≡ (fields_of self.now).rest.rest.rest }
+        ensures { result.now ≡ dnskey_public_key self.now }
     {
         &self.fields.rest.rest.rest
     }
 }
 
 impl<Octs: Octets> Tlsa<Octs> {
-    ghost use Rattle.domain_data.specs.Views.{fields_of, type_of};
+    ghost use Rattle.domain_data.specs.Views.{type_of};
+    ghost use Rattle.domain_data.specs.KeyFields.{tlsa_usage, tlsa_selector, tlsa_matching_type, tlsa_association};
 
     /// Data of these.
     pub fn new(
@@ -191,10 +195,10 @@ impl<Octs: Octets> Tlsa<Octs> {
         matching_type: u8,
         association: Base16Octets<Octs>,
     ) -> Tlsa<Octs>
-        ensures usage { (fields_of result).first ≡ usage }
-        ensures selector { (fields_of result).rest.first ≡ selector }
-        ensures matching_type { (fields_of result).rest.rest.first ≡ matching_type }
-        ensures association { (fields_of result).rest.rest.rest ≡ association }
+        ensures usage { tlsa_usage result ≡ usage }
+        ensures selector { tlsa_selector result ≡ selector }
+        ensures matching_type { tlsa_matching_type result ≡ matching_type }
+        ensures association { tlsa_association result ≡ association }
         ensures of_type { type_of result ≡ 52 }
     {
         FieldsData {
@@ -213,41 +217,42 @@ impl<Octs: Octets> Tlsa<Octs> {
 
     /// How the certificate is used.
     pub fn usage(&self) -> u8
-        ensures { result ≡ (fields_of self.now).first }
+        ensures { result ≡ tlsa_usage self.now }
     {
         self.fields.first
     }
 
     /// Which part of the certificate is matched.
     pub fn selector(&self) -> u8
-        ensures { result ≡ (fields_of self.now).rest.first }
+        ensures { result ≡ tlsa_selector self.now }
     {
         self.fields.rest.first
     }
 
     /// How it is matched.
     pub fn matching_type(&self) -> u8
-        ensures { result ≡ (fields_of self.now).rest.rest.first }
+        ensures { result ≡ tlsa_matching_type self.now }
     {
         self.fields.rest.rest.first
     }
 
     /// What it is matched with.
     pub fn association(&self) -> &Base16Octets<Octs>
-        ensures { result.now ≡ (fields_of self.now).rest.rest.rest }
+        ensures { result.now ≡ tlsa_association self.now }
     {
         &self.fields.rest.rest.rest
     }
 }
 
 impl<Octs: Octets> Caa<Octs> {
-    ghost use Rattle.domain_data.specs.Views.{fields_of, type_of};
+    ghost use Rattle.domain_data.specs.Views.{type_of};
+    ghost use Rattle.domain_data.specs.KeyFields.{caa_flags, caa_tag, caa_value};
 
     /// Data of these.
     pub fn new(flags: u8, tag: Tag<Octs>, value: QuotedOctets<Octs>) -> Caa<Octs>
-        ensures flags { (fields_of result).first ≡ flags }
-        ensures tag { (fields_of result).rest.first ≡ tag }
-        ensures value { (fields_of result).rest.rest ≡ value }
+        ensures flags { caa_flags result ≡ flags }
+        ensures tag { caa_tag result ≡ tag }
+        ensures value { caa_value result ≡ value }
         ensures of_type { type_of result ≡ 257 }
     {
         FieldsData {
@@ -263,21 +268,21 @@ impl<Octs: Octets> Caa<Octs> {
 
     /// The flags: 128 where no certificate may be issued by who doesn't know the property.
     pub fn flags(&self) -> u8
-        ensures { result ≡ (fields_of self.now).first }
+        ensures { result ≡ caa_flags self.now }
     {
         self.fields.first
     }
 
     /// The tag of the property, by which it is known ignoring ASCII case.
     pub fn tag(&self) -> &Tag<Octs>
-        ensures { result.now ≡ (fields_of self.now).rest.first }
+        ensures { result.now ≡ caa_tag self.now }
     {
         &self.fields.rest.first
     }
 
     /// The value of the property.
     pub fn value(&self) -> &QuotedOctets<Octs>
-        ensures { result.now ≡ (fields_of self.now).rest.rest }
+        ensures { result.now ≡ caa_value self.now }
     {
         &self.fields.rest.rest
     }

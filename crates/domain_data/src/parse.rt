@@ -115,16 +115,12 @@ impl<'a, const TYPE: u16> ParseRecordData<'a>
         Sequence<u16, Sequence<u16, Sequence<u16, UncompressedNameField<ParsedName<&'a [u8]>>>>>,
     > {
     ghost use Rattle.domain_data.specs.Shapes.{NumbersNameAt, NoNumbersName, numbers_name_data};
+    ghost use Rattle.domain_data.specs.HostFields.{srv_priority, srv_weight, srv_port, srv_target};
 
     ghost View = { ℕ × (ℕ × (ℕ × (List (List ℕ)))) };
 
-    ghost model = { λ it. (
-      (fields_of it).first,
-      (
-        (fields_of it).rest.first,
-        ((fields_of it).rest.rest.first, parsed_labels (fields_of it).rest.rest.rest.name),
-      ),
-    ) };
+    ghost model = { λ it.
+        (srv_priority it, (srv_weight it, (srv_port it, parsed_labels (srv_target it)))) };
 
     ghost reads_type = { λ t. nat_eq t TYPE };
 
@@ -152,22 +148,23 @@ impl<'a, const TYPE: u16> ParseRecordData<'a>
         >,
     > {
     ghost use Rattle.domain_data.specs.Shapes.{NamesNumbersAt, NoNamesNumbers, names_numbers_data};
+    ghost use Rattle.domain_data.specs.HostFields.{soa_mname, soa_rname, soa_serial, soa_refresh, soa_retry, soa_expire, soa_minimum};
 
     ghost View = { (List (List ℕ)) × ((List (List ℕ)) × (ℕ × (ℕ × (ℕ × (ℕ × ℕ))))) };
 
     ghost model = { λ it. (
-      parsed_labels (fields_of it).first.name,
+      parsed_labels (soa_mname it),
       (
-        parsed_labels (fields_of it).rest.first.name,
+        parsed_labels (soa_rname it),
         (
-          (fields_of it).rest.rest.first,
+          soa_serial it,
           (
-            (fields_of it).rest.rest.rest.first,
+            soa_refresh it,
             (
-              (fields_of it).rest.rest.rest.rest.first,
+              soa_retry it,
               (
-                (fields_of it).rest.rest.rest.rest.rest.first,
-                (fields_of it).rest.rest.rest.rest.rest.rest,
+                soa_expire it,
+                soa_minimum it,
               ),
             ),
           ),

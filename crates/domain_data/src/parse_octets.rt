@@ -97,13 +97,12 @@ impl<'a, const TYPE: u16> ParseRecordData<'a>
 impl<'a, const TYPE: u16, const TEXT: u8> ParseRecordData<'a>
     for FieldsData<TYPE, Sequence<u8, Sequence<u8, LastOctets<TEXT, &'a [u8]>>>> {
     ghost use Rattle.domain_data.specs.OctetShapes.{FingerprintAt, NoFingerprint, fingerprint_data};
+    ghost use Rattle.domain_data.specs.KeyFields.{sshfp_algorithm, sshfp_fp_type, sshfp_fingerprint};
 
     ghost View = { ℕ × (ℕ × List ℕ) };
 
-    ghost model = { λ it. (
-      (fields_of it).first,
-      ((fields_of it).rest.first, last_octets (fields_of it).rest.rest),
-    ) };
+    ghost model = { λ it.
+        (sshfp_algorithm it, (sshfp_fp_type it, last_octets (sshfp_fingerprint it))) };
 
     ghost reads_type = { λ t. nat_eq t TYPE };
 
@@ -151,14 +150,15 @@ impl<'a, const TYPE: u16, const TEXT: u8> ParseRecordData<'a>
 impl<'a, const TYPE: u16, const TEXT: u8> ParseRecordData<'a>
     for FieldsData<TYPE, Sequence<u8, Sequence<u8, Sequence<u8, LastOctets<TEXT, &'a [u8]>>>>> {
     ghost use Rattle.domain_data.specs.OctetShapes.{AssociationAt, NoAssociation, association_data};
+    ghost use Rattle.domain_data.specs.KeyFields.{tlsa_usage, tlsa_selector, tlsa_matching_type, tlsa_association};
 
     ghost View = { ℕ × (ℕ × (ℕ × List ℕ)) };
 
     ghost model = { λ it. (
-      (fields_of it).first,
+      tlsa_usage it,
       (
-        (fields_of it).rest.first,
-        ((fields_of it).rest.rest.first, last_octets (fields_of it).rest.rest.rest),
+        tlsa_selector it,
+        (tlsa_matching_type it, last_octets (tlsa_association it)),
       ),
     ) };
 
@@ -180,13 +180,11 @@ impl<'a, const TYPE: u16, const TEXT: u8> ParseRecordData<'a>
 impl<'a, const TYPE: u16, const TEXT: u8> ParseRecordData<'a>
     for FieldsData<TYPE, Sequence<u8, Sequence<Tag<&'a [u8]>, LastOctets<TEXT, &'a [u8]>>>> {
     ghost use Rattle.domain_data.specs.OctetShapes.{PropertyAt, NoProperty, property_data};
+    ghost use Rattle.domain_data.specs.KeyFields.{caa_flags, caa_tag, caa_value};
 
     ghost View = { ℕ × (List ℕ × List ℕ) };
 
-    ghost model = { λ it. (
-      (fields_of it).first,
-      (tag_octets (fields_of it).rest.first, last_octets (fields_of it).rest.rest),
-    ) };
+    ghost model = { λ it. (caa_flags it, (tag_octets (caa_tag it), last_octets (caa_value it))) };
 
     ghost reads_type = { λ t. nat_eq t TYPE };
 
@@ -233,26 +231,28 @@ impl<'a, const TYPE: u16, const TEXT: u8> ParseRecordData<'a>
         >,
     > {
     ghost use Rattle.domain_data.specs.OctetShapes.{SignatureAt, NoSignature, signature_data};
+    ghost use Rattle.domain_data.specs.SignatureFields.{rrsig_type_covered, rrsig_algorithm, rrsig_labels, rrsig_original_ttl, rrsig_expiration};
+    ghost use Rattle.domain_data.specs.SignatureFields.{rrsig_inception, rrsig_key_tag, rrsig_signer_name, rrsig_signature};
 
     ghost View = { ℕ × (ℕ × (ℕ × (ℕ × (ℕ × (ℕ × (ℕ × (List (List ℕ) × List ℕ))))))) };
 
     ghost model = { λ it. (
-      rtype_number (fields_of it).first.rtype,
+      rtype_number (rrsig_type_covered it),
       (
-        (fields_of it).rest.first,
+        rrsig_algorithm it,
         (
-          (fields_of it).rest.rest.first,
+          rrsig_labels it,
           (
-            (fields_of it).rest.rest.rest.first,
+            rrsig_original_ttl it,
             (
-              (fields_of it).rest.rest.rest.rest.first.seconds,
+              rrsig_expiration it,
               (
-                (fields_of it).rest.rest.rest.rest.rest.first.seconds,
+                rrsig_inception it,
                 (
-                  (fields_of it).rest.rest.rest.rest.rest.rest.first,
+                  rrsig_key_tag it,
                   (
-                    parsed_labels (fields_of it).rest.rest.rest.rest.rest.rest.rest.first.name,
-                    last_octets (fields_of it).rest.rest.rest.rest.rest.rest.rest.rest,
+                    parsed_labels (rrsig_signer_name it),
+                    last_octets (rrsig_signature it),
                   ),
                 ),
               ),
@@ -283,11 +283,11 @@ impl<'a, const TYPE: u16> ParseRecordData<'a>
         Sequence<UncompressedNameField<ParsedName<&'a [u8]>>, TypeBitmaps<&'a [u8]>>,
     > {
     ghost use Rattle.domain_data.specs.OctetShapes.{DenialAt, NoDenial, denial_data};
+    ghost use Rattle.domain_data.specs.SignatureFields.{nsec_next_name, nsec_types};
 
     ghost View = { List (List ℕ) × List (ℕ × List ℕ) };
 
-    ghost model = { λ it.
-        (parsed_labels (fields_of it).first.name, bitmaps_blocks (fields_of it).rest) };
+    ghost model = { λ it. (parsed_labels (nsec_next_name it), bitmaps_blocks (nsec_types it)) };
 
     ghost reads_type = { λ t. nat_eq t TYPE };
 

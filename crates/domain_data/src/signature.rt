@@ -33,7 +33,9 @@ type SignatureFields<Octs, N> = Sequence<
 pub type Rrsig<Octs, N> = FieldsData<46, Sequence<RtypeField, SignatureFields<Octs, N>>>;
 
 impl<Octs: Octets, N> Rrsig<Octs, N> {
-    ghost use Rattle.domain_data.specs.Views.{fields_of, type_of};
+    ghost use Rattle.domain_data.specs.Views.{type_of};
+    ghost use Rattle.domain_data.specs.SignatureFields.{rrsig_type_covered, rrsig_algorithm, rrsig_labels, rrsig_original_ttl, rrsig_expiration};
+    ghost use Rattle.domain_data.specs.SignatureFields.{rrsig_inception, rrsig_key_tag, rrsig_signer_name, rrsig_signature};
     ghost use Rattle.domain_header.specs.Values.{ttl_seconds};
 
     /// Data of these.
@@ -48,17 +50,15 @@ impl<Octs: Octets, N> Rrsig<Octs, N> {
         signer_name: N,
         signature: Base64Octets<Octs>,
     ) -> Rrsig<Octs, N>
-        ensures type_covered { (fields_of result).first.rtype ≡ type_covered }
-        ensures algorithm { (fields_of result).rest.first ≡ algorithm }
-        ensures labels { (fields_of result).rest.rest.first ≡ labels }
-        ensures original_ttl { (fields_of result).rest.rest.rest.first ≡ ttl_seconds original_ttl }
-        ensures expiration { (fields_of result).rest.rest.rest.rest.first.seconds ≡ expiration.0 }
-        ensures inception { (fields_of result).rest.rest.rest.rest.rest.first.seconds
-            ≡ inception.0 }
-        ensures key_tag { (fields_of result).rest.rest.rest.rest.rest.rest.first ≡ key_tag }
-        ensures signer_name { (fields_of result).rest.rest.rest.rest.rest.rest.rest.first.name
-            ≡ signer_name }
-        ensures signature { (fields_of result).rest.rest.rest.rest.rest.rest.rest.rest ≡ signature }
+        ensures type_covered { rrsig_type_covered result ≡ type_covered }
+        ensures algorithm { rrsig_algorithm result ≡ algorithm }
+        ensures labels { rrsig_labels result ≡ labels }
+        ensures original_ttl { rrsig_original_ttl result ≡ ttl_seconds original_ttl }
+        ensures expiration { rrsig_expiration result ≡ expiration.0 }
+        ensures inception { rrsig_inception result ≡ inception.0 }
+        ensures key_tag { rrsig_key_tag result ≡ key_tag }
+        ensures signer_name { rrsig_signer_name result ≡ signer_name }
+        ensures signature { rrsig_signature result ≡ signature }
         ensures of_type { type_of result ≡ 46 }
     {
         let signed = Sequence {
@@ -100,63 +100,63 @@ impl<Octs: Octets, N> Rrsig<Octs, N> {
 
     /// The type of the records that are signed.
     pub fn type_covered(&self) -> Rtype
-        ensures { result ≡ (fields_of self.now).first.rtype }
+        ensures { result ≡ rrsig_type_covered self.now }
     {
         self.fields.first.rtype
     }
 
     /// The number of the algorithm that the signature was made by.
     pub fn algorithm(&self) -> u8
-        ensures { result ≡ (fields_of self.now).rest.first }
+        ensures { result ≡ rrsig_algorithm self.now }
     {
         self.fields.rest.first
     }
 
     /// How many labels the owner has where no wildcard was put for some: without the root, and without `*`.
     pub fn labels(&self) -> u8
-        ensures { result ≡ (fields_of self.now).rest.rest.first }
+        ensures { result ≡ rrsig_labels self.now }
     {
         self.fields.rest.rest.first
     }
 
     /// The TTL of the records in the zone.
     pub fn original_ttl(&self) -> Ttl
-        ensures { ttl_seconds result ≡ (fields_of self.now).rest.rest.rest.first }
+        ensures { ttl_seconds result ≡ rrsig_original_ttl self.now }
     {
         Ttl::from_secs(self.fields.rest.rest.rest.first)
     }
 
     /// Until when the signature holds, in seconds since 1970 modulo 2^32: in the order of RFC 1982.
     pub fn expiration(&self) -> Serial
-        ensures { result.0 ≡ (fields_of self.now).rest.rest.rest.rest.first.seconds }
+        ensures { result.0 ≡ rrsig_expiration self.now }
     {
         Serial(self.fields.rest.rest.rest.rest.first.seconds)
     }
 
     /// From when on it holds.
     pub fn inception(&self) -> Serial
-        ensures { result.0 ≡ (fields_of self.now).rest.rest.rest.rest.rest.first.seconds }
+        ensures { result.0 ≡ rrsig_inception self.now }
     {
         Serial(self.fields.rest.rest.rest.rest.rest.first.seconds)
     }
 
     /// The tag of the key (RFC 4034, appendix B).
     pub fn key_tag(&self) -> u16
-        ensures { result ≡ (fields_of self.now).rest.rest.rest.rest.rest.rest.first }
+        ensures { result ≡ rrsig_key_tag self.now }
     {
         self.fields.rest.rest.rest.rest.rest.rest.first
     }
 
     /// The owner of the key: the zone's name.
     pub fn signer_name(&self) -> &N
-        ensures { result.now ≡ (fields_of self.now).rest.rest.rest.rest.rest.rest.rest.first.name }
+        ensures { result.now ≡ rrsig_signer_name self.now }
     {
         &self.fields.rest.rest.rest.rest.rest.rest.rest.first.name
     }
 
     /// The signature.
     pub fn signature(&self) -> &Base64Octets<Octs>
-        ensures { result.now ≡ (fields_of self.now).rest.rest.rest.rest.rest.rest.rest.rest }
+        ensures { result.now ≡ rrsig_signature self.now }
     {
         &self.fields.rest.rest.rest.rest.rest.rest.rest.rest
     }
