@@ -13,7 +13,7 @@ use crate::records::{put_lengths, put_longdata, put_rdata, put_rdatacmp};
 use conformance_answer::{Answer, Fields, is};
 
 /// Answers a line whose word is one of these; else it is false.
-pub fn answer_parsed(fields: Fields<'_>, out: &mut Answer) -> bool {
+pub fn answer_parsed(fields: &Fields<'_>, out: &Answer) -> bool {
     answer_message(fields, out)
         || answer_place(fields, out)
         || answer_places(fields, out)
@@ -24,7 +24,7 @@ pub fn answer_parsed(fields: Fields<'_>, out: &mut Answer) -> bool {
 }
 
 /// `WORD OCTETS OFFSET`, and maybe an end
-fn answer_message(fields: Fields<'_>, out: &mut Answer) -> bool {
+fn answer_message(fields: &Fields<'_>, out: &Answer) -> bool {
     let octets = fields.octets(1, out);
     let offset = fields.number(2, out);
     let mut end = octets.len();
@@ -36,13 +36,7 @@ fn answer_message(fields: Fields<'_>, out: &mut Answer) -> bool {
 }
 
 /// The calls of `answer_message`, by the word: false where it names none of them.
-fn call_on_message(
-    word: &[u8],
-    octets: &[u8],
-    offset: usize,
-    end: usize,
-    out: &mut Answer,
-) -> bool {
+fn call_on_message(word: &[u8], octets: &[u8], offset: usize, end: usize, out: &Answer) -> bool {
     if is(word, b"parse") {
         put_parse(out, octets, offset, end);
     } else if is(word, b"skip") {
@@ -56,7 +50,7 @@ fn call_on_message(
 }
 
 /// `WORD OCTETS NUMBER`
-fn answer_place(fields: Fields<'_>, out: &mut Answer) -> bool {
+fn answer_place(fields: &Fields<'_>, out: &Answer) -> bool {
     fields.expect(3, out);
     let octets = fields.octets(1, out);
     let offset = fields.number(2, out);
@@ -64,7 +58,7 @@ fn answer_place(fields: Fields<'_>, out: &mut Answer) -> bool {
 }
 
 /// The calls of `answer_place`, by the word: false where it names none of them.
-fn call_on_place(word: &[u8], octets: &[u8], offset: usize, out: &mut Answer) -> bool {
+fn call_on_place(word: &[u8], octets: &[u8], offset: usize, out: &Answer) -> bool {
     if is(word, b"walk") {
         put_walk(out, octets, offset);
     } else if is(word, b"parentswalk") {
@@ -80,7 +74,7 @@ fn call_on_place(word: &[u8], octets: &[u8], offset: usize, out: &mut Answer) ->
 }
 
 /// `WORD OCTETS NUMBER NUMBER`
-fn answer_places(fields: Fields<'_>, out: &mut Answer) -> bool {
+fn answer_places(fields: &Fields<'_>, out: &Answer) -> bool {
     fields.expect(4, out);
     let octets = fields.octets(1, out);
     let first = fields.number(2, out);
@@ -89,13 +83,7 @@ fn answer_places(fields: Fields<'_>, out: &mut Answer) -> bool {
 }
 
 /// The calls of `answer_places`, by the word: false where it names none of them.
-fn call_on_places(
-    word: &[u8],
-    octets: &[u8],
-    first: usize,
-    second: usize,
-    out: &mut Answer,
-) -> bool {
+fn call_on_places(word: &[u8], octets: &[u8], first: usize, second: usize, out: &Answer) -> bool {
     if is(word, b"parselimit") {
         put_limited(out, octets, first, second);
     } else if is(word, b"rest") {
@@ -115,7 +103,7 @@ fn call_on_places(
 }
 
 /// `WORD OCTETS OFFSET OCTETS`
-fn answer_beside(fields: Fields<'_>, out: &mut Answer) -> bool {
+fn answer_beside(fields: &Fields<'_>, out: &Answer) -> bool {
     fields.expect(4, out);
     let octets = fields.octets(1, out);
     let offset = fields.number(2, out);
@@ -130,13 +118,7 @@ fn answer_beside(fields: Fields<'_>, out: &mut Answer) -> bool {
 }
 
 /// The calls of `answer_beside`, by the word: false where it names none of them.
-fn call_on_beside(
-    word: &[u8],
-    octets: &[u8],
-    offset: usize,
-    other: &[u8],
-    out: &mut Answer,
-) -> bool {
+fn call_on_beside(word: &[u8], octets: &[u8], offset: usize, other: &[u8], out: &Answer) -> bool {
     if is(word, b"pname") {
         put_pname(out, octets, offset, other);
     } else if is(word, b"prel") {
@@ -148,7 +130,7 @@ fn call_on_beside(
 }
 
 /// `WORD OCTETS OFFSET` with two fields more
-fn answer_long(fields: Fields<'_>, out: &mut Answer) -> bool {
+fn answer_long(fields: &Fields<'_>, out: &Answer) -> bool {
     fields.expect(5, out);
     let octets = fields.octets(1, out);
     let offset = fields.number(2, out);
@@ -156,7 +138,7 @@ fn answer_long(fields: Fields<'_>, out: &mut Answer) -> bool {
 }
 
 /// The calls of `answer_long`, by the word: false where it names none of them.
-fn call_on_fields(fields: Fields<'_>, octets: &[u8], offset: usize, out: &mut Answer) -> bool {
+fn call_on_fields(fields: &Fields<'_>, octets: &[u8], offset: usize, out: &Answer) -> bool {
     let word = fields.at(0);
     if is(word, b"mixture") {
         let labels = fields.number(3, out);
@@ -172,13 +154,13 @@ fn call_on_fields(fields: Fields<'_>, octets: &[u8], offset: usize, out: &mut An
 }
 
 /// `WORD OCTETS`, or two
-fn answer_data(fields: Fields<'_>, out: &mut Answer) -> bool {
+fn answer_data(fields: &Fields<'_>, out: &Answer) -> bool {
     let octets = fields.octets(1, out);
     call_on_data(fields, octets.as_slice(), out) || out.is_other_word()
 }
 
 /// The calls of `answer_data`, by the word: false where it names none of them.
-fn call_on_data(fields: Fields<'_>, octets: &[u8], out: &mut Answer) -> bool {
+fn call_on_data(fields: &Fields<'_>, octets: &[u8], out: &Answer) -> bool {
     let word = fields.at(0);
     if is(word, b"everywhere") {
         fields.expect(2, out);
@@ -197,7 +179,7 @@ fn call_on_data(fields: Fields<'_>, octets: &[u8], out: &mut Answer) -> bool {
 }
 
 /// `WORD` with fields that aren't octets
-fn answer_calls(fields: Fields<'_>, out: &mut Answer) -> bool {
+fn answer_calls(fields: &Fields<'_>, out: &Answer) -> bool {
     let word = fields.at(0);
     if is(word, b"compress") {
         fields.expect(2, out);

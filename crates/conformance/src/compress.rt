@@ -30,12 +30,12 @@ struct Written {
 }
 
 /// `compress CALLS`: what each call appends.
-pub fn put_compressed(out: &mut Answer, calls: &[u8]) {
+pub fn put_compressed(out: &Answer, calls: &[u8]) {
     put_on::<Vec<u8>>(out, calls);
 }
 
 /// `compresscap OCTETS CALLS`: the same over an array of so many octets.
-pub fn put_compressedcap(out: &mut Answer, room: usize, calls: &[u8]) {
+pub fn put_compressedcap(out: &Answer, room: usize, calls: &[u8]) {
     match room {
         22 => put_on::<ArrayVec<u8, 22>>(out, calls),
         40 => put_on::<ArrayVec<u8, 40>>(out, calls),
@@ -43,7 +43,7 @@ pub fn put_compressedcap(out: &mut Answer, room: usize, calls: &[u8]) {
     }
 }
 
-fn put_on<T: EmptyBuilder + Composer + Drop>(out: &mut Answer, calls: &[u8]) {
+fn put_on<T: EmptyBuilder + Composer + Drop>(out: &Answer, calls: &[u8]) {
     let mut target = CompressComposer::new(T::empty(out.alloc()));
     let mut names: Vec<Written> = Vec::new(out.alloc());
     let mut is_first = true;
@@ -63,7 +63,7 @@ fn put_on<T: EmptyBuilder + Composer + Drop>(out: &mut Answer, calls: &[u8]) {
 
 /// `raw:OCTETS`, `data:NAME`, `canonical:NAME`, `over:PLACE,OCTETS`, `cut:LEN`, and `pad:COUNT` for zero octets.
 fn put_other<T: Composer>(
-    out: &mut Answer,
+    out: &Answer,
     target: &mut CompressComposer<T>,
     word: &[u8],
     field: &[u8],
@@ -85,7 +85,7 @@ fn put_other<T: Composer>(
 }
 
 /// Octets as they are, which are no name.
-fn put_raw<T: Composer>(out: &mut Answer, target: &mut CompressComposer<T>, digits: &[u8]) {
+fn put_raw<T: Composer>(out: &Answer, target: &mut CompressComposer<T>, digits: &[u8]) {
     match octets_of(digits, out.alloc()) {
         Ok(octets) => {
             if target.append_slice(octets.as_slice()).is_err() {
@@ -98,7 +98,7 @@ fn put_raw<T: Composer>(out: &mut Answer, target: &mut CompressComposer<T>, digi
 }
 
 /// Octets over those that stand at an offset.
-fn put_over<T: Composer>(out: &mut Answer, target: &mut CompressComposer<T>, field: &[u8]) {
+fn put_over<T: Composer>(out: &Answer, target: &mut CompressComposer<T>, field: &[u8]) {
     let (offset, digits) = split_once(field, b',');
     let (Ok(offset), Ok(octets)) = (
         decimal(offset),
@@ -116,7 +116,7 @@ fn put_over<T: Composer>(out: &mut Answer, target: &mut CompressComposer<T>, fie
 }
 
 fn put_resized<T: Composer>(
-    out: &mut Answer,
+    out: &Answer,
     target: &mut CompressComposer<T>,
     word: &[u8],
     digits: &[u8],
@@ -135,7 +135,7 @@ fn put_resized<T: Composer>(
     }
 }
 
-fn pad<T: Composer>(out: &mut Answer, target: &mut CompressComposer<T>, count: usize) {
+fn pad<T: Composer>(out: &Answer, target: &mut CompressComposer<T>, count: usize) {
     for _time in 0..count {
         if target.append_slice(&[0]).is_err() {
             out.fail(Fail::Memory);
@@ -214,7 +214,7 @@ fn is_taken<T: Composer>(
 
 /// The octets that record data takes that is the name, with its length in front, or `err` where it is refused.
 fn put_data<T: Composer>(
-    out: &mut Answer,
+    out: &Answer,
     target: &mut CompressComposer<T>,
     digits: &[u8],
     canonical: bool,
@@ -237,7 +237,7 @@ fn put_data<T: Composer>(
 }
 
 /// The data at an offset, up to the end, is the name after its length.
-fn put_taken_data(out: &mut Answer, message: &[u8], start: usize, name: Name<&[u8]>) {
+fn put_taken_data(out: &Answer, message: &[u8], start: usize, name: Name<&[u8]>) {
     let mut parser = Parser::from_ref(message);
     out.agree(parser.seek(start).is_ok(), b"compose_len_rdata");
     out.put_hex(parser.peek_all());
@@ -249,7 +249,7 @@ fn put_taken_data(out: &mut Answer, message: &[u8], start: usize, name: Name<&[u
 }
 
 /// The name is read where the parser stands. Returns the offset behind it.
-fn is_read_as(out: &mut Answer, parser: Parser<'_>, name: Name<&[u8]>) -> usize {
+fn is_read_as(out: &Answer, parser: Parser<'_>, name: Name<&[u8]>) -> usize {
     let mut parser = parser;
     match ParsedName::parse(&mut parser) {
         Ok(read) => out.agree(read.name_eq(&name), b"name_eq"),
@@ -260,7 +260,7 @@ fn is_read_as(out: &mut Answer, parser: Parser<'_>, name: Name<&[u8]>) -> usize 
 
 /// The octets that a name takes, or `err` where it is refused.
 fn put_name<T: EmptyBuilder + Composer>(
-    out: &mut Answer,
+    out: &Answer,
     target: &mut CompressComposer<T>,
     digits: &[u8],
     names: &mut Vec<Written>,
@@ -273,7 +273,7 @@ fn put_name<T: EmptyBuilder + Composer>(
 
 /// Appends a name, and keeps its octets where it was taken.
 fn put_kept<T: EmptyBuilder + Composer>(
-    out: &mut Answer,
+    out: &Answer,
     target: &mut CompressComposer<T>,
     octets: Vec<u8>,
     names: &mut Vec<Written>,
@@ -290,7 +290,7 @@ fn put_kept<T: EmptyBuilder + Composer>(
 
 /// Appends a name, and tells whether it was taken. A refused one leaves the target.
 fn put_appended<T: EmptyBuilder + Composer>(
-    out: &mut Answer,
+    out: &Answer,
     target: &mut CompressComposer<T>,
     octets: &[u8],
 ) -> bool {
@@ -310,7 +310,7 @@ fn put_appended<T: EmptyBuilder + Composer>(
 }
 
 /// A name is refused where a room is full, or for want of memory.
-fn put_refused(out: &mut Answer, room: Option<usize>) {
+fn put_refused(out: &Answer, room: Option<usize>) {
     match room {
         Some(_) => out.put(b"err"),
         None => out.fail(Fail::Memory),
@@ -318,7 +318,7 @@ fn put_refused(out: &mut Answer, room: Option<usize>) {
 }
 
 /// Each name that is left is read at its offset, up to its end.
-fn are_read_back(out: &mut Answer, message: &[u8], names: &mut Vec<Written>) {
+fn are_read_back(out: &Answer, message: &[u8], names: &mut Vec<Written>) {
     let left = names
         .iter()
         .filter(|name| name.end <= message.len())
@@ -329,7 +329,7 @@ fn are_read_back(out: &mut Answer, message: &[u8], names: &mut Vec<Written>) {
     }
 }
 
-fn is_read_back(out: &mut Answer, message: &[u8], written: &Written) {
+fn is_read_back(out: &Answer, message: &[u8], written: &Written) {
     let Ok(name) = Name::from_slice(written.octets.as_slice()) else {
         return out.fail(Fail::Bad);
     };

@@ -9,7 +9,7 @@ use domain_parsed::ParsedName;
 
 /// `everywhere MSG`: the number of pairs of an offset and an end, where `parse` and `skip` answer at each as the slow
 /// reader does; else the first offset and end where one doesn't, and what differs.
-pub fn put_everywhere(out: &mut Answer, message: &[u8]) {
+pub fn put_everywhere(out: &Answer, message: &[u8]) {
     let mut pairs: usize = 0;
     for end in 0..message.len().saturating_add(1) {
         if let Some((offset, what)) = first_difference(message, end) {
@@ -48,7 +48,7 @@ fn parse_difference(message: &[u8], before: &[u8], offset: usize) -> Option<&'st
         return Some("parser");
     };
     match (ParsedName::parse(&mut parser), read_slowly(before, offset)) {
-        (Ok(name), Ok(slow)) => name_difference(name, parser.pos(), &slow),
+        (Ok(name), Ok(slow)) => name_difference(&name, parser.pos(), &slow),
         (Err(error), Err(fault)) => {
             if error != fault {
                 Some("error of parse")
@@ -62,7 +62,7 @@ fn parse_difference(message: &[u8], before: &[u8], offset: usize) -> Option<&'st
     }
 }
 
-fn name_difference(name: ParsedName<&[u8]>, end: usize, slow: &SlowName) -> Option<&'static str> {
+fn name_difference(name: &ParsedName<&[u8]>, end: usize, slow: &SlowName) -> Option<&'static str> {
     if !has_labels(name, slow.octets.as_slice()) {
         Some("labels")
     } else if usize::from(name.compose_len()) != slow.octets.len() {
@@ -77,7 +77,7 @@ fn name_difference(name: ParsedName<&[u8]>, end: usize, slow: &SlowName) -> Opti
 }
 
 /// Whether the labels of a name, each after its length, are these octets.
-fn has_labels(name: ParsedName<&[u8]>, octets: &[u8]) -> bool {
+fn has_labels(name: &ParsedName<&[u8]>, octets: &[u8]) -> bool {
     let mut given = ArrayVec::<u8, 255>::new();
     for label in name.iter() {
         if label.compose(&mut given).is_err() {

@@ -24,8 +24,8 @@ use std::io::{Read, Write};
 use std::process::ExitCode;
 
 /// Answers a line.
-fn respond(line: &[u8], out: &mut Answer) {
-    let fields = Fields::new(line);
+fn respond(line: &[u8], out: &Answer) {
+    let fields = &Fields::new(line);
     let is_answered = answer_parsed(fields, out)
         || answer_texts(fields, out)
         || answer_names(fields, out)
@@ -37,7 +37,7 @@ fn respond(line: &[u8], out: &mut Answer) {
 }
 
 /// `run WORDS INPUT`
-fn answer_run(fields: Fields<'_>, out: &mut Answer) -> bool {
+fn answer_run(fields: &Fields<'_>, out: &Answer) -> bool {
     if fields.at(0) != b"run".as_slice() {
         return false;
     }
@@ -48,7 +48,7 @@ fn answer_run(fields: Fields<'_>, out: &mut Answer) -> bool {
 
 /// Answers each line of the input. A line that begins with `#` is a heading, and its own answer.
 fn answer_all(alloc: Global, input: &[u8], out: &mut Vec<u8>) -> Result<(), AllocError> {
-    let mut answer = Answer::new(alloc);
+    let answer = Answer::new(alloc);
     for line in input.split(|octet| *octet == b'\n') {
         if line.is_empty() {
             continue;
@@ -57,7 +57,7 @@ fn answer_all(alloc: Global, input: &[u8], out: &mut Vec<u8>) -> Result<(), Allo
         if is_heading(line) {
             answer.put(line);
         } else {
-            respond(line, &mut answer);
+            respond(line, &answer);
         }
         answer.end_line(out)?;
     }

@@ -23,7 +23,7 @@ pub fn name_at(message: &[u8], offset: usize) -> Option<ParsedName<&[u8]>> {
 /// The same name as a `Name`. If memory is refused, that is noted, and there is none.
 ///
 /// A call that is generic over names is dear to check, so it stands here once.
-pub fn flat_of(out: &mut Answer, name: ParsedName<&[u8]>) -> Option<Name<Vec<u8>>> {
+pub fn flat_of(out: &Answer, name: &ParsedName<&[u8]>) -> Option<Name<Vec<u8>>> {
     match name.to_vec(out.alloc()) {
         Ok(flat) => Some(flat),
         Err(_) => {
@@ -34,19 +34,19 @@ pub fn flat_of(out: &mut Answer, name: ParsedName<&[u8]>) -> Option<Name<Vec<u8>
 }
 
 /// A name and the offset behind it, or why there is none and where the parser stands.
-fn put_answer(out: &mut Answer, read: Result<ParsedName<&[u8]>, ParseError>, offset: usize) {
+fn put_answer(out: &Answer, read: Result<ParsedName<&[u8]>, ParseError>, offset: usize) {
     match read {
-        Ok(name) => put_read(out, name, offset),
+        Ok(name) => put_read(out, &name, offset),
         Err(error) => put_refusal(out, offset, error),
     }
 }
 
-fn put_refusal(out: &mut Answer, offset: usize, error: ParseError) {
+fn put_refusal(out: &Answer, offset: usize, error: ParseError) {
     out.put_number_after(b"err ", offset);
     out.put_text_after(b" ", error);
 }
 
-pub fn put_parse(out: &mut Answer, message: &[u8], offset: usize, end: usize) {
+pub fn put_parse(out: &Answer, message: &[u8], offset: usize, end: usize) {
     let Some(mut parser) = parser_at(message, offset, end) else {
         return out.fail(Fail::Bad);
     };
@@ -61,7 +61,7 @@ pub fn put_parse(out: &mut Answer, message: &[u8], offset: usize, end: usize) {
 }
 
 /// By `parse_with_limit`: as `put_parse`, with so many pointers at most.
-pub fn put_limited(out: &mut Answer, message: &[u8], offset: usize, limit: usize) {
+pub fn put_limited(out: &Answer, message: &[u8], offset: usize, limit: usize) {
     if limit > 255 {
         return out.fail(Fail::Bad);
     }
@@ -97,20 +97,22 @@ fn is_same_name(a: &ParsedName<&[u8]>, b: &ParsedName<&[u8]>) -> bool {
     a == b && a.is_compressed() == b.is_compressed()
 }
 
-fn put_read(out: &mut Answer, name: ParsedName<&[u8]>, offset: usize) {
+fn put_read(out: &Answer, name: &ParsedName<&[u8]>, offset: usize) {
     let Some(flat) = flat_of(out, name) else {
         return;
     };
     out.put_hex_after(b"ok ", flat.as_slice());
     out.put(if name.is_compressed() { b" c " } else { b" f " });
     out.put_number(offset);
-    is_measured_as(out, name, flat.for_slice());
-    has_parts_of(out, name, flat.for_slice());
-    is_flattened(out, name, flat.as_slice());
+    let lent = flat.for_slice();
+    is_measured_as(out, name, &lent);
+    has_parts_of(out, name, &lent);
+    is_made_of_others(out, name, lent);
+    is_flattened(out, *name, flat.as_slice());
 }
 
 /// What a name in a message tells of its octets is what the same name as a `Name` tells.
-fn is_measured_as(out: &mut Answer, name: ParsedName<&[u8]>, flat: Name<&[u8]>) {
+fn is_measured_as(out: &Answer, name: &ParsedName<&[u8]>, flat: &Name<&[u8]>) {
     let len = flat.len();
     let lent = name.as_flat_slice();
     out.agree_all(
@@ -128,35 +130,34 @@ fn is_measured_as(out: &mut Answer, name: ParsedName<&[u8]>, flat: Name<&[u8]>) 
 }
 
 /// The labels of a name in a message are those of the same name as a `Name`.
-fn has_parts_of(out: &mut Answer, name: ParsedName<&[u8]>, flat: Name<&[u8]>) {
+fn has_parts_of(out: &Answer, name: &ParsedName<&[u8]>, flat: &Name<&[u8]>) {
     out.agree_all(
         b"label_count;first;last;name_eq",
         &[
             name.label_count() == flat.label_count(),
             name.first().as_slice() == flat.first().as_slice(),
             name.last().is_root(),
-            name.name_eq(&flat),
+            name.name_eq(flat),
         ],
     );
-    is_made_of_others(out, name, flat);
 }
 
 /// The name is made of the `Name`, and of a name that lends its octets.
-fn is_made_of_others(out: &mut Answer, name: ParsedName<&[u8]>, flat: Name<&[u8]>) {
+fn is_made_of_others(out: &Answer, name: &ParsedName<&[u8]>, flat: Name<&[u8]>) {
     let twin = ParsedName::from(flat);
     let lent = name.ref_octets();
     out.agree_all(
         b"from;from;deref_octets",
         &[
-            twin == name,
+            twin == *name,
             !twin.is_compressed(),
-            is_same_name(&lent.deref_octets(), &name),
+            is_same_name(&lent.deref_octets(), name),
         ],
     );
 }
 
 /// A name in a message is flattened over a `Vec` and over an array of 255 octets.
-fn is_flattened(out: &mut Answer, name: ParsedName<&[u8]>, wire: &[u8]) {
+fn is_flattened(out: &Answer, name: ParsedName<&[u8]>, wire: &[u8]) {
     let flattened: Result<Name<Vec<u8>>, _> = name.flatten_into(out.alloc());
     match flattened {
         Ok(made) => {
@@ -172,7 +173,7 @@ fn is_flattened(out: &mut Answer, name: ParsedName<&[u8]>, wire: &[u8]) {
     }
 }
 
-pub fn put_skip(out: &mut Answer, message: &[u8], offset: usize, end: usize) {
+pub fn put_skip(out: &Answer, message: &[u8], offset: usize, end: usize) {
     let Some(mut parser) = parser_at(message, offset, end) else {
         return out.fail(Fail::Bad);
     };
@@ -184,7 +185,7 @@ pub fn put_skip(out: &mut Answer, message: &[u8], offset: usize, end: usize) {
     }
 }
 
-pub fn put_nparse(out: &mut Answer, message: &[u8], offset: usize, end: usize) {
+pub fn put_nparse(out: &Answer, message: &[u8], offset: usize, end: usize) {
     let Some(mut parser) = parser_at(message, offset, end) else {
         return out.fail(Fail::Bad);
     };
@@ -197,17 +198,17 @@ pub fn put_nparse(out: &mut Answer, message: &[u8], offset: usize, end: usize) {
     }
 }
 
-pub fn put_walk(out: &mut Answer, message: &[u8], offset: usize) {
+pub fn put_walk(out: &Answer, message: &[u8], offset: usize) {
     let Some(mut parser) = parser_at(message, offset, message.len()) else {
         return out.fail(Fail::Bad);
     };
     match ParsedName::parse(&mut parser) {
-        Ok(name) => put_walked(out, name),
+        Ok(name) => put_walked(out, &name),
         Err(_) => out.put(b"err"),
     }
 }
 
-fn put_walked(out: &mut Answer, name: ParsedName<&[u8]>) {
+fn put_walked(out: &Answer, name: &ParsedName<&[u8]>) {
     put_orders(out, name.iter());
     out.put(b" ");
     put_suffixes(out, name);
@@ -220,7 +221,7 @@ fn put_walked(out: &mut Answer, name: ParsedName<&[u8]>) {
 }
 
 /// The flag and the flat wire format of a name in a message.
-fn put_part_of(out: &mut Answer, name: ParsedName<&[u8]>) {
+fn put_part_of(out: &Answer, name: &ParsedName<&[u8]>) {
     let Some(flat) = flat_of(out, name) else {
         return;
     };
@@ -232,7 +233,7 @@ fn put_part_of(out: &mut Answer, name: ParsedName<&[u8]>) {
     );
 }
 
-fn put_suffixes(out: &mut Answer, name: ParsedName<&[u8]>) {
+fn put_suffixes(out: &Answer, name: &ParsedName<&[u8]>) {
     let mut suffixes = name.iter_suffixes();
     let mut is_first = true;
     for _time in 0..1000u32 {
@@ -240,27 +241,27 @@ fn put_suffixes(out: &mut Answer, name: ParsedName<&[u8]>) {
             break;
         };
         out.put_comma(&mut is_first);
-        put_part_of(out, suffix);
+        put_part_of(out, &suffix);
     }
     out.agree(suffixes.next().is_none(), b"iter_suffixes");
 }
 
-fn put_parents(out: &mut Answer, name: ParsedName<&[u8]>) {
-    let mut rest = name;
+fn put_parents(out: &Answer, name: &ParsedName<&[u8]>) {
+    let mut rest = *name;
     let mut is_first = true;
     for _time in 0..1000u32 {
         if !rest.parent() {
             break;
         }
         out.put_comma(&mut is_first);
-        put_part_of(out, rest);
+        put_part_of(out, &rest);
     }
     out.put_none(is_first);
     out.agree(rest.is_root() && !rest.parent(), b"parent");
 }
 
-fn put_firsts(out: &mut Answer, name: ParsedName<&[u8]>) {
-    let mut rest = name;
+fn put_firsts(out: &Answer, name: &ParsedName<&[u8]>) {
+    let mut rest = *name;
     let mut is_first = true;
     for _time in 0..1000u32 {
         let Some(first) = rest.split_first() else {
@@ -270,7 +271,7 @@ fn put_firsts(out: &mut Answer, name: ParsedName<&[u8]>) {
         out.put_hex(first.as_slice());
     }
     out.put_comma(&mut is_first);
-    put_part_of(out, rest);
+    put_part_of(out, &rest);
     out.agree(
         rest.is_root() && rest.split_first().is_none(),
         b"split_first",
@@ -278,16 +279,16 @@ fn put_firsts(out: &mut Answer, name: ParsedName<&[u8]>) {
 }
 
 /// The counts, the texts and the canonical wire format.
-fn put_numbers(out: &mut Answer, name: ParsedName<&[u8]>) {
+fn put_numbers(out: &Answer, name: &ParsedName<&[u8]>) {
     out.put_number(name.label_count());
     out.put_text_after(b" ", name.rrsig_label_count());
-    out.put_shown_after(b" ", &name);
+    out.put_shown_after(b" ", name);
     out.put_shown_after(b" ", name.fmt_with_dot());
     out.put(b" ");
     put_canonical(out, name);
 }
 
-fn put_canonical(out: &mut Answer, name: ParsedName<&[u8]>) {
+fn put_canonical(out: &Answer, name: &ParsedName<&[u8]>) {
     let made: Result<Name<Vec<u8>>, _> = name.to_canonical_name(out.alloc());
     match made {
         Ok(canonical) => out.put_hex(canonical.as_slice()),
@@ -296,7 +297,7 @@ fn put_canonical(out: &mut Answer, name: ParsedName<&[u8]>) {
 }
 
 /// `rest MSG PLACE N`: the labels of what is left of a name without its first labels, from both ends.
-pub fn put_rest(out: &mut Answer, message: &[u8], offset: usize, labels: usize) {
+pub fn put_rest(out: &Answer, message: &[u8], offset: usize, labels: usize) {
     let Some(name) = name_at(message, offset) else {
         return out.fail(Fail::Bad);
     };
@@ -308,11 +309,11 @@ pub fn put_rest(out: &mut Answer, message: &[u8], offset: usize, labels: usize) 
     }
     put_orders(out, rest.iter());
     out.put(b" ");
-    put_part_of(out, rest);
+    put_part_of(out, &rest);
 }
 
 /// `parentswalk MSG PLACE`: the labels from both ends, of the name and of what each `parent` leaves.
-pub fn put_parentswalk(out: &mut Answer, message: &[u8], offset: usize) {
+pub fn put_parentswalk(out: &Answer, message: &[u8], offset: usize) {
     let Some(mut rest) = name_at(message, offset) else {
         return out.fail(Fail::Bad);
     };
@@ -336,12 +337,12 @@ pub fn leave_out<Octs: Octets>(name: &mut ParsedName<Octs>, labels: usize) {
 }
 
 /// `mixture MSG PLACE N CALLS`: without the first N labels, what calls on either end give, also on the same name as a `Name`.
-pub fn put_mixture(out: &mut Answer, message: &[u8], offset: usize, labels: usize, calls: &[u8]) {
+pub fn put_mixture(out: &Answer, message: &[u8], offset: usize, labels: usize, calls: &[u8]) {
     let Some(mut rest) = name_at(message, offset) else {
         return out.fail(Fail::Bad);
     };
     leave_out(&mut rest, labels);
-    if let Some(flat) = flat_of(out, rest) {
+    if let Some(flat) = flat_of(out, &rest) {
         put_mixed(out, rest.iter(), flat.iter(), calls);
     }
 }

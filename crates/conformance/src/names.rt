@@ -18,7 +18,7 @@ use std::hash::Hash;
 
 /// `fromflat NAME N`: a flat name as one in a message, without its first N labels, over a `Vec` and
 /// over an array.
-pub fn put_fromflat(out: &mut Answer, octets: &[u8], labels: usize) {
+pub fn put_fromflat(out: &Answer, octets: &[u8], labels: usize) {
     let Ok(owned) = Vec::from_slice(out.alloc(), octets) else {
         return out.fail(Fail::Memory);
     };
@@ -40,7 +40,7 @@ pub fn put_fromflat(out: &mut Answer, octets: &[u8], labels: usize) {
     is_cloned_in_an_array(out, octets);
 }
 
-fn is_cloned_in_an_array(out: &mut Answer, octets: &[u8]) {
+fn is_cloned_in_an_array(out: &Answer, octets: &[u8]) {
     let Ok(held) = ArrayVec::<u8, 255>::try_from(octets) else {
         return out.fail(Fail::Bad);
     };
@@ -55,7 +55,7 @@ fn is_cloned_in_an_array(out: &mut Answer, octets: &[u8]) {
 }
 
 /// `pforms MSG PLACE`
-pub fn put_parsed_forms(out: &mut Answer, message: &[u8], offset: usize) {
+pub fn put_parsed_forms(out: &Answer, message: &[u8], offset: usize) {
     match name_at(message, offset) {
         Some(name) => put_forms(out, &name),
         None => out.fail(Fail::Bad),
@@ -64,7 +64,7 @@ pub fn put_parsed_forms(out: &mut Answer, message: &[u8], offset: usize) {
 
 /// `room MSG PLACE N`: what the name composes where there is room for N octets, then the same name as a `Name`, and then that
 /// without its root label.
-pub fn put_room(out: &mut Answer, message: &[u8], offset: usize, room: usize) {
+pub fn put_room(out: &Answer, message: &[u8], offset: usize, room: usize) {
     let Some(name) = name_at(message, offset) else {
         return out.fail(Fail::Bad);
     };
@@ -72,13 +72,13 @@ pub fn put_room(out: &mut Answer, message: &[u8], offset: usize, room: usize) {
         return out.fail(Fail::Bad);
     }
     put_appended(out, &name, room);
-    if let Some(flat) = flat_of(out, name) {
+    if let Some(flat) = flat_of(out, &name) {
         put_flat_room(out, flat.for_slice(), room);
     }
 }
 
 /// `sized MSG PLACE N`: the name and its canonical form made over an array of N octets.
-pub fn put_sized(out: &mut Answer, message: &[u8], offset: usize, size: usize) {
+pub fn put_sized(out: &Answer, message: &[u8], offset: usize, size: usize) {
     let Some(name) = name_at(message, offset) else {
         return out.fail(Fail::Bad);
     };
@@ -90,7 +90,7 @@ pub fn put_sized(out: &mut Answer, message: &[u8], offset: usize, size: usize) {
     }
 }
 
-fn put_over<Octs: FromBuilder + Drop>(out: &mut Answer, name: ParsedName<&[u8]>)
+fn put_over<Octs: FromBuilder + Drop>(out: &Answer, name: ParsedName<&[u8]>)
 where
     Octs::Builder: EmptyBuilder + Drop,
 {
@@ -106,7 +106,7 @@ where
 }
 
 fn is_made_alike<Octs: Octets + Drop>(
-    out: &mut Answer,
+    out: &Answer,
     made: Result<Name<Octs>, ShortBuf>,
     wanted: Option<&[u8]>,
     call: &[u8],
@@ -121,14 +121,14 @@ fn made_octets<Octs: Octets>(made: &Result<Name<Octs>, ShortBuf>) -> Option<&[u8
     }
 }
 
-fn put_made(out: &mut Answer, octets: Option<&[u8]>) {
+fn put_made(out: &Answer, octets: Option<&[u8]>) {
     match octets {
         Some(octets) => out.put_hex(octets),
         None => out.put_text(ShortBuf),
     }
 }
 
-fn put_flat_room(out: &mut Answer, name: Name<&[u8]>, room: usize) {
+fn put_flat_room(out: &Answer, name: Name<&[u8]>, room: usize) {
     out.put(b" / ");
     put_appended(out, &name, room);
     out.put(b" / ");
@@ -136,7 +136,7 @@ fn put_flat_room(out: &mut Answer, name: Name<&[u8]>, room: usize) {
 }
 
 /// `pcmp MSG P Q`
-pub fn put_pcmp(out: &mut Answer, message: &[u8], left: usize, right: usize) {
+pub fn put_pcmp(out: &Answer, message: &[u8], left: usize, right: usize) {
     let Some(left) = name_at(message, left) else {
         return out.fail(Fail::Bad);
     };
@@ -149,15 +149,15 @@ pub fn put_pcmp(out: &mut Answer, message: &[u8], left: usize, right: usize) {
 }
 
 /// The left name beside the same name as a `Name` of the right one.
-fn put_beside_twin(out: &mut Answer, left: ParsedName<&[u8]>, right: ParsedName<&[u8]>) {
-    if let Some(owned) = flat_of(out, right) {
+fn put_beside_twin(out: &Answer, left: ParsedName<&[u8]>, right: ParsedName<&[u8]>) {
+    if let Some(owned) = flat_of(out, &right) {
         put_beside_flat(out, left, owned.for_slice());
     }
 }
 
 /// Two names, on either side.
 fn put_both_compared<'a, A: AbsoluteLabels<'a> + Hash, B: AbsoluteLabels<'a> + Hash>(
-    out: &mut Answer,
+    out: &Answer,
     a: &'a A,
     b: &'a B,
 ) {
@@ -167,12 +167,12 @@ fn put_both_compared<'a, A: AbsoluteLabels<'a> + Hash, B: AbsoluteLabels<'a> + H
 }
 
 /// A name in a message and a flat one, on either side.
-fn put_beside_flat(out: &mut Answer, parsed: ParsedName<&[u8]>, flat: Name<&[u8]>) {
+fn put_beside_flat(out: &Answer, parsed: ParsedName<&[u8]>, flat: Name<&[u8]>) {
     put_both_compared(out, &parsed, &flat);
 }
 
 /// `pname MSG PLACE NAME`
-pub fn put_pname(out: &mut Answer, message: &[u8], offset: usize, octets: &[u8]) {
+pub fn put_pname(out: &Answer, message: &[u8], offset: usize, octets: &[u8]) {
     let Some(parsed) = name_at(message, offset) else {
         return out.fail(Fail::Bad);
     };
@@ -183,7 +183,7 @@ pub fn put_pname(out: &mut Answer, message: &[u8], offset: usize, octets: &[u8])
 }
 
 /// `prel MSG PLACE RELATIVE`
-pub fn put_prel(out: &mut Answer, message: &[u8], offset: usize, octets: &[u8]) {
+pub fn put_prel(out: &Answer, message: &[u8], offset: usize, octets: &[u8]) {
     let Some(parsed) = name_at(message, offset) else {
         return out.fail(Fail::Bad);
     };
@@ -194,7 +194,7 @@ pub fn put_prel(out: &mut Answer, message: &[u8], offset: usize, octets: &[u8]) 
 }
 
 /// `pcanonical MSG P Q`: of the names in the message and of their flat twins.
-pub fn put_parsed_canonical(out: &mut Answer, message: &[u8], left: usize, right: usize) {
+pub fn put_parsed_canonical(out: &Answer, message: &[u8], left: usize, right: usize) {
     let Some(left) = name_at(message, left) else {
         return out.fail(Fail::Bad);
     };
@@ -205,15 +205,15 @@ pub fn put_parsed_canonical(out: &mut Answer, message: &[u8], left: usize, right
     are_flat_in_order(out, left, right);
 }
 
-fn are_flat_in_order(out: &mut Answer, left: ParsedName<&[u8]>, right: ParsedName<&[u8]>) {
+fn are_flat_in_order(out: &Answer, left: ParsedName<&[u8]>, right: ParsedName<&[u8]>) {
     let order = left.canonical_cmp(&right);
-    if let (Some(a), Some(b)) = (flat_of(out, left), flat_of(out, right)) {
+    if let (Some(a), Some(b)) = (flat_of(out, &left), flat_of(out, &right)) {
         is_in_canonical_order(out, &a, &b, order);
     }
 }
 
 /// `pchain MSG PLACE L R`
-pub fn put_pchain(out: &mut Answer, message: &[u8], offset: usize, left: &[u8], right: &[u8]) {
+pub fn put_pchain(out: &Answer, message: &[u8], offset: usize, left: &[u8], right: &[u8]) {
     let Some(parsed) = name_at(message, offset) else {
         return out.fail(Fail::Bad);
     };

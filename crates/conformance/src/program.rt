@@ -4,7 +4,7 @@ use conformance_answer::{Answer, Fail, is, octets_of};
 use domain_tool::tool::run;
 
 /// `run WORDS INPUT`: the status, what is written, and the reason that is told.
-pub fn put_run(out: &mut Answer, words: &[u8], input: &[u8]) {
+pub fn put_run(out: &Answer, words: &[u8], input: &[u8]) {
     let words = words_of(out, words);
     let mut texts: Vec<&str> = Vec::new(out.alloc());
     for word in words.as_slice() {
@@ -24,7 +24,7 @@ pub fn put_run(out: &mut Answer, words: &[u8], input: &[u8]) {
 }
 
 /// The octets of each word, with commas between, `none` where there is no word.
-fn words_of(out: &mut Answer, field: &[u8]) -> Vec<Vec<u8>> {
+fn words_of(out: &Answer, field: &[u8]) -> Vec<Vec<u8>> {
     let mut words = Vec::new(out.alloc());
     if is(field, b"none") {
         return words;
@@ -42,7 +42,7 @@ fn words_of(out: &mut Answer, field: &[u8]) -> Vec<Vec<u8>> {
     words
 }
 
-fn put_done(out: &mut Answer, words: &[&str], octets: &[u8]) {
+fn put_done(out: &Answer, words: &[&str], octets: &[u8]) {
     let mut input = octets;
     let mut written: Vec<u8> = Vec::new(out.alloc());
     let mut told: Vec<u8> = Vec::new(out.alloc());

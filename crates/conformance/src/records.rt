@@ -19,7 +19,7 @@ fn data_of(rtype: u16, octets: &[u8]) -> Result<Data<'_>, LongRecordData> {
 }
 
 /// `rdata OCTETS`
-pub fn put_rdata(out: &mut Answer, octets: &[u8]) {
+pub fn put_rdata(out: &Answer, octets: &[u8]) {
     let data = match data_of(PRIVATE, octets) {
         Ok(data) => data,
         Err(error) => return out.put_text_after(b"err ", error),
@@ -42,7 +42,7 @@ pub fn put_rdata(out: &mut Answer, octets: &[u8]) {
 }
 
 /// The data over a `Vec` of its own, and a copy of that.
-fn is_copied(out: &mut Answer, data: Data<'_>) {
+fn is_copied(out: &Answer, data: Data<'_>) {
     let held: Result<UnknownRecordData<Vec<u8>>, ShortBuf> = UnknownRecordData::try_octets_from(
         out.alloc(),
         data,
@@ -61,7 +61,7 @@ fn is_copied(out: &mut Answer, data: Data<'_>) {
 }
 
 /// The same over an array of 255 octets, which is refused only what doesn't fit.
-fn is_copied_in_an_array(out: &mut Answer, data: Data<'_>) {
+fn is_copied_in_an_array(out: &Answer, data: Data<'_>) {
     let held: Result<UnknownRecordData<ArrayVec<u8, 255>>, ShortBuf> =
         UnknownRecordData::try_octets_from(out.alloc(), data);
     let Ok(held) = held else {
@@ -77,7 +77,7 @@ fn is_copied_in_an_array(out: &mut Answer, data: Data<'_>) {
 }
 
 /// The canonical form, and a reference to the data, are composed to the same octets.
-fn is_composed_alike(out: &mut Answer, data: Data<'_>, wanted: &[u8]) {
+fn is_composed_alike(out: &Answer, data: Data<'_>, wanted: &[u8]) {
     let mut composed: Vec<u8> = Vec::new(out.alloc());
     if data.compose_canonical_len_rdata(&mut composed).is_err() {
         out.fail(Fail::Memory);
@@ -91,7 +91,7 @@ fn is_composed_alike(out: &mut Answer, data: Data<'_>, wanted: &[u8]) {
 }
 
 /// The length that is told is that of what is composed.
-fn is_measured(out: &mut Answer, data: Data<'_>, wanted: &[u8]) {
+fn is_measured(out: &Answer, data: Data<'_>, wanted: &[u8]) {
     let mut composed: Vec<u8> = Vec::new(out.alloc());
     if data.compose_rdata(&mut composed).is_err() {
         out.fail(Fail::Memory);
@@ -105,7 +105,7 @@ fn is_measured(out: &mut Answer, data: Data<'_>, wanted: &[u8]) {
 
 /// A target takes what fits it, and stays as it was else.
 fn is_composed_where_it_fits<B: EmptyBuilder + Composer + Drop>(
-    out: &mut Answer,
+    out: &Answer,
     data: Data<'_>,
     wanted: &[u8],
 ) {
@@ -131,7 +131,7 @@ fn is_composed_where_it_fits<B: EmptyBuilder + Composer + Drop>(
 }
 
 /// Data of any type is all that is left of a message.
-fn is_read(out: &mut Answer, octets: &[u8]) {
+fn is_read(out: &Answer, octets: &[u8]) {
     let rtype = Rtype::from_int(1);
     let mut parser = Parser::from_ref(octets);
     let read = Data::parse_any_rdata(rtype, &mut parser).ok();
@@ -145,13 +145,7 @@ fn is_read(out: &mut Answer, octets: &[u8]) {
 }
 
 /// What was read is all of the octets, and nothing is left in the parser.
-fn is_all(
-    out: &mut Answer,
-    read: Option<Data<'_>>,
-    parser: Parser<'_>,
-    octets: &[u8],
-    call: &[u8],
-) {
+fn is_all(out: &Answer, read: Option<Data<'_>>, parser: Parser<'_>, octets: &[u8], call: &[u8]) {
     match read {
         Some(data) => out.same(*data.data(), octets, call),
         None => out.wrong(call),
@@ -160,7 +154,7 @@ fn is_all(
 }
 
 /// `rdatacmp A B`: data of two types.
-pub fn put_rdatacmp(out: &mut Answer, a: &[u8], b: &[u8]) {
+pub fn put_rdatacmp(out: &Answer, a: &[u8], b: &[u8]) {
     let Ok(a) = data_of(1, a) else {
         return out.fail(Fail::Bad);
     };
@@ -176,7 +170,7 @@ pub fn put_rdatacmp(out: &mut Answer, a: &[u8], b: &[u8]) {
 }
 
 /// `longdata LEN`: so many octets that are zero as record data.
-pub fn put_longdata(out: &mut Answer, len: usize) {
+pub fn put_longdata(out: &Answer, len: usize) {
     let mut octets: Vec<u8> = Vec::new(out.alloc());
     if len > 100_000 || octets.resize(len, 0).is_err() {
         return out.fail(Fail::Bad);
@@ -196,7 +190,7 @@ pub fn put_longdata(out: &mut Answer, len: usize) {
 }
 
 /// What is composed with its length is two octets that tell it, and the data.
-fn is_after_its_length(out: &mut Answer, data: Data<'_>) {
+fn is_after_its_length(out: &Answer, data: Data<'_>) {
     let mut composed: Vec<u8> = Vec::new(out.alloc());
     if data.compose_len_rdata(&mut composed).is_err() {
         return out.fail(Fail::Memory);
@@ -213,7 +207,7 @@ fn is_after_its_length(out: &mut Answer, data: Data<'_>) {
 }
 
 /// The octets are too many for record data, and the parser stays.
-fn is_refused(out: &mut Answer, octets: &[u8], error: LongRecordData) {
+fn is_refused(out: &Answer, octets: &[u8], error: LongRecordData) {
     let mut parser = Parser::from_ref(octets);
     let read = Data::parse_any_rdata(Rtype::from_int(1), &mut parser);
     out.agree(read == Err(ParseError::from(error)), b"parse_any_rdata");
@@ -227,7 +221,7 @@ fn number_of(digits: &[u8]) -> Option<usize> {
 }
 
 /// `lengths LEN,LEN,LEN`: parts of record data of these lengths.
-pub fn put_lengths(out: &mut Answer, fields: &[u8]) {
+pub fn put_lengths(out: &Answer, fields: &[u8]) {
     let mut lens = ArrayVec::<usize, 3>::new();
     for field in fields.split(|octet| *octet == b',') {
         match number_of(field) {
@@ -254,11 +248,7 @@ pub fn put_lengths(out: &mut Answer, fields: &[u8]) {
     }
 }
 
-fn put_checked(
-    out: &mut Answer,
-    one: Result<(), LongRecordData>,
-    other: Result<(), LongRecordData>,
-) {
+fn put_checked(out: &Answer, one: Result<(), LongRecordData>, other: Result<(), LongRecordData>) {
     out.agree(one.is_ok() == other.is_ok(), b"check_multi_len");
     match one {
         Ok(()) => out.put(b"ok"),

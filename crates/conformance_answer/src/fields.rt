@@ -31,7 +31,7 @@ impl<'a> Fields<'a> {
     }
 
     /// Notes that the line is malformed where it hasn't so many fields.
-    pub fn expect(&self, count: usize, out: &mut Answer) {
+    pub fn expect(&self, count: usize, out: &Answer) {
         if self.count != count {
             out.fail(Fail::Bad);
         }
@@ -46,7 +46,7 @@ impl<'a> Fields<'a> {
     }
 
     /// The octets that a field tells. If it tells none, that is noted.
-    pub fn octets(&self, offset: usize, out: &mut Answer) -> Vec<u8> {
+    pub fn octets(&self, offset: usize, out: &Answer) -> Vec<u8> {
         match octets_of(self.at(offset), out.alloc()) {
             Ok(octets) => octets,
             Err(fail) => {
@@ -57,7 +57,7 @@ impl<'a> Fields<'a> {
     }
 
     /// A decimal number. If the field is none, that is noted.
-    pub fn number(&self, offset: usize, out: &mut Answer) -> usize {
+    pub fn number(&self, offset: usize, out: &Answer) -> usize {
         match decimal(self.at(offset)) {
             Ok(number) => number,
             Err(fail) => {

@@ -5,7 +5,7 @@ use conformance_answer::{Answer, Fail};
 use domain_wire::{IpAddr, Ipv4Addr, Ipv6Addr};
 
 /// `address OCTETS`
-pub fn put_address(out: &mut Answer, octets: &[u8]) {
+pub fn put_address(out: &Answer, octets: &[u8]) {
     if let Ok(four) = <[u8; 4]>::try_from(octets) {
         return put_ipv4(out, four);
     }
@@ -15,7 +15,7 @@ pub fn put_address(out: &mut Answer, octets: &[u8]) {
     }
 }
 
-fn put_ipv4(out: &mut Answer, octets: [u8; 4]) {
+fn put_ipv4(out: &Answer, octets: [u8; 4]) {
     let [a, b, c, d] = octets;
     let address = Ipv4Addr::new(a, b, c, d);
     out.put(b"v4 ");
@@ -41,7 +41,7 @@ fn segments_of(octets: [u8; 16]) -> [u16; 8] {
     segments
 }
 
-fn put_ipv6(out: &mut Answer, octets: [u8; 16]) {
+fn put_ipv6(out: &Answer, octets: [u8; 16]) {
     let segments = segments_of(octets);
     out.put(b"v6 ");
     put_segments(out, segments);
@@ -54,7 +54,7 @@ fn put_ipv6(out: &mut Answer, octets: [u8; 16]) {
     );
 }
 
-fn put_segments(out: &mut Answer, segments: [u16; 8]) {
+fn put_segments(out: &Answer, segments: [u16; 8]) {
     let address = of_segments(&segments);
     put_composed(out, &address, 16);
     out.agree_all(

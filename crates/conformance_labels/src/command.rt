@@ -11,7 +11,7 @@ use crate::split::{put_labelfill, put_labelmut, put_restfill, put_splitlabel, pu
 use conformance_answer::{Answer, Fields, is};
 
 /// Answers a line whose word is one of these; else it is false.
-pub fn answer_labels(fields: Fields<'_>, out: &mut Answer) -> bool {
+pub fn answer_labels(fields: &Fields<'_>, out: &Answer) -> bool {
     answer_octets(fields, out)
         || answer_number(fields, out)
         || answer_pair(fields, out)
@@ -20,14 +20,14 @@ pub fn answer_labels(fields: Fields<'_>, out: &mut Answer) -> bool {
 }
 
 /// `WORD OCTETS`
-fn answer_octets(fields: Fields<'_>, out: &mut Answer) -> bool {
+fn answer_octets(fields: &Fields<'_>, out: &Answer) -> bool {
     fields.expect(2, out);
     let octets = fields.octets(1, out);
     call_on_octets(fields.at(0), octets.as_slice(), out) || out.is_other_word()
 }
 
 /// The calls of `answer_octets`, by the word: false where it names none of them.
-fn call_on_octets(word: &[u8], octets: &[u8], out: &mut Answer) -> bool {
+fn call_on_octets(word: &[u8], octets: &[u8], out: &Answer) -> bool {
     if is(word, b"splitlabel") {
         put_splitlabel(out, octets);
     } else if is(word, b"splitmut") {
@@ -53,7 +53,7 @@ fn call_on_octets(word: &[u8], octets: &[u8], out: &mut Answer) -> bool {
 }
 
 /// `WORD OCTETS NUMBER`
-fn answer_number(fields: Fields<'_>, out: &mut Answer) -> bool {
+fn answer_number(fields: &Fields<'_>, out: &Answer) -> bool {
     fields.expect(3, out);
     let octets = fields.octets(1, out);
     let number = fields.number(2, out);
@@ -61,7 +61,7 @@ fn answer_number(fields: Fields<'_>, out: &mut Answer) -> bool {
 }
 
 /// The calls of `answer_number`, by the word: false where it names none of them.
-fn call_on_number(word: &[u8], octets: &[u8], number: usize, out: &mut Answer) -> bool {
+fn call_on_number(word: &[u8], octets: &[u8], number: usize, out: &Answer) -> bool {
     if is(word, b"slice") {
         put_slice(out, octets, number);
     } else if is(word, b"ints") {
@@ -77,7 +77,7 @@ fn call_on_number(word: &[u8], octets: &[u8], number: usize, out: &mut Answer) -
 }
 
 /// `WORD OCTETS OCTETS`
-fn answer_pair(fields: Fields<'_>, out: &mut Answer) -> bool {
+fn answer_pair(fields: &Fields<'_>, out: &Answer) -> bool {
     fields.expect(3, out);
     let first = fields.octets(1, out);
     let second = fields.octets(2, out);
@@ -85,7 +85,7 @@ fn answer_pair(fields: Fields<'_>, out: &mut Answer) -> bool {
 }
 
 /// The calls of `answer_pair`, by the word: false where it names none of them.
-fn call_on_pair(word: &[u8], first: &[u8], second: &[u8], out: &mut Answer) -> bool {
+fn call_on_pair(word: &[u8], first: &[u8], second: &[u8], out: &Answer) -> bool {
     if is(word, b"label") {
         put_label(out, first, second);
     } else if is(word, b"append") {
@@ -99,7 +99,7 @@ fn call_on_pair(word: &[u8], first: &[u8], second: &[u8], out: &mut Answer) -> b
 }
 
 /// `WORD DIGITS DIGITS`
-fn answer_digits(fields: Fields<'_>, out: &mut Answer) -> bool {
+fn answer_digits(fields: &Fields<'_>, out: &Answer) -> bool {
     fields.expect(3, out);
     let first = fields.at(1);
     let second = fields.at(2);
@@ -121,14 +121,14 @@ fn answer_digits(fields: Fields<'_>, out: &mut Answer) -> bool {
 }
 
 /// `WORD OCTETS NUMBER`, and more
-fn answer_long(fields: Fields<'_>, out: &mut Answer) -> bool {
+fn answer_long(fields: &Fields<'_>, out: &Answer) -> bool {
     let octets = fields.octets(1, out);
     let number = fields.number(2, out);
     call_on_fields(fields, octets.as_slice(), number, out) || out.is_other_word()
 }
 
 /// The calls of `answer_long`, by the word: false where it names none of them.
-fn call_on_fields(fields: Fields<'_>, octets: &[u8], number: usize, out: &mut Answer) -> bool {
+fn call_on_fields(fields: &Fields<'_>, octets: &[u8], number: usize, out: &Answer) -> bool {
     let word = fields.at(0);
     if is(word, b"write") {
         fields.expect(4, out);

@@ -6,7 +6,7 @@ use domain_label::{Label, LabelTypeError, SplitLabelError};
 use domain_wire::ParseError;
 
 /// `labelerrors OCTETS`: what a refusal becomes where it is handed on.
-pub fn put_labelerrors(out: &mut Answer, octets: &[u8]) {
+pub fn put_labelerrors(out: &Answer, octets: &[u8]) {
     match Label::split_from(octets) {
         Ok(_) => out.put(b"ok"),
         Err(error) => {
@@ -25,7 +25,7 @@ pub fn put_labelerrors(out: &mut Answer, octets: &[u8]) {
     }
 }
 
-pub fn put_parse_error(out: &mut Answer, error: ParseError) {
+pub fn put_parse_error(out: &Answer, error: ParseError) {
     match error {
         ParseError::ShortInput => out.put(b"ShortInput"),
         ParseError::Form(form) => {
@@ -35,7 +35,7 @@ pub fn put_parse_error(out: &mut Answer, error: ParseError) {
     }
 }
 
-pub fn put_name_error(out: &mut Answer, error: NameError) {
+pub fn put_name_error(out: &Answer, error: NameError) {
     match error.kind() {
         NameErrorKind::BadLabel(kind) => put_label_type(out, kind),
         NameErrorKind::CompressedName => out.put(b"CompressedName"),
@@ -47,7 +47,7 @@ pub fn put_name_error(out: &mut Answer, error: NameError) {
     out.put_text_after(b" ", error);
 }
 
-pub fn put_relative_kind(out: &mut Answer, kind: RelativeNameErrorKind) {
+pub fn put_relative_kind(out: &Answer, kind: RelativeNameErrorKind) {
     match kind {
         RelativeNameErrorKind::BadLabel(kind) => put_label_type(out, kind),
         RelativeNameErrorKind::CompressedName => out.put(b"CompressedName"),
@@ -57,19 +57,19 @@ pub fn put_relative_kind(out: &mut Answer, kind: RelativeNameErrorKind) {
     }
 }
 
-pub fn put_relative_name_error(out: &mut Answer, error: RelativeNameError) {
+pub fn put_relative_name_error(out: &Answer, error: RelativeNameError) {
     put_relative_kind(out, error.kind());
     out.put_text_after(b" ", error);
     out.agree(RelativeNameError::from(error.kind()) == error, b"from");
 }
 
-pub fn put_label_type(out: &mut Answer, kind: LabelTypeError) {
+pub fn put_label_type(out: &Answer, kind: LabelTypeError) {
     out.put(b"BadLabel(");
     put_label_type_alone(out, kind);
     out.put(b")");
 }
 
-pub fn put_label_type_alone(out: &mut Answer, kind: LabelTypeError) {
+pub fn put_label_type_alone(out: &Answer, kind: LabelTypeError) {
     match kind {
         LabelTypeError::Undefined => out.put(b"Undefined"),
         LabelTypeError::Extended(head) => {

@@ -7,7 +7,7 @@ use octseq::OctetsBuilder;
 use std::hash::{DefaultHasher, Hash, Hasher};
 
 /// `label A B`
-pub fn put_label(out: &mut Answer, a: &[u8], b: &[u8]) {
+pub fn put_label(out: &Answer, a: &[u8], b: &[u8]) {
     match Label::from_slice(a) {
         Ok(left) => match Label::from_slice(b) {
             Ok(right) => put_two_labels(out, left, right),
@@ -17,7 +17,7 @@ pub fn put_label(out: &mut Answer, a: &[u8], b: &[u8]) {
     }
 }
 
-fn put_two_labels(out: &mut Answer, a: Label<'_>, b: Label<'_>) {
+fn put_two_labels(out: &Answer, a: Label<'_>, b: Label<'_>) {
     out.put_bit(b"eq=", a == b);
     out.put_order(b" cmp=", a.cmp(&b));
     out.put_order(b" composed=", a.composed_cmp(&b));
@@ -37,7 +37,7 @@ fn put_two_labels(out: &mut Answer, a: Label<'_>, b: Label<'_>) {
 }
 
 /// A label goes into the room that it just fits, and an octet less refuses it and stays.
-fn is_composed_where_it_fits(out: &mut Answer, label: Label<'_>) {
+fn is_composed_where_it_fits(out: &Answer, label: Label<'_>) {
     let len = usize::from(label.compose_len());
     let mut fits = room_for(out, len);
     let mut full = room_for(out, len);
@@ -56,7 +56,7 @@ fn is_composed_where_it_fits(out: &mut Answer, label: Label<'_>) {
 }
 
 /// An array of 64 octets that has room for so many more.
-fn room_for(out: &mut Answer, len: usize) -> ArrayVec<u8, 64> {
+fn room_for(out: &Answer, len: usize) -> ArrayVec<u8, 64> {
     let mut room = ArrayVec::<u8, 64>::new();
     for _octet in len..64 {
         out.agree(room.append_slice(b"\xee").is_ok(), b"append_slice");
@@ -64,7 +64,7 @@ fn room_for(out: &mut Answer, len: usize) -> ArrayVec<u8, 64> {
     room
 }
 
-fn put_composed(out: &mut Answer, label: Label<'_>) {
+fn put_composed(out: &Answer, label: Label<'_>) {
     let mut wire: Vec<u8> = Vec::new(out.alloc());
     let is_taken = label.compose(&mut wire).is_ok();
     out.took(is_taken);
@@ -73,7 +73,7 @@ fn put_composed(out: &mut Answer, label: Label<'_>) {
     out.same(owned.as_wire_slice(), wire.as_slice(), b"as_wire_slice");
 }
 
-fn put_lowered(out: &mut Answer, label: Label<'_>) {
+fn put_lowered(out: &Answer, label: Label<'_>) {
     let mut lowered: Vec<u8> = Vec::new(out.alloc());
     let is_taken = label.compose_canonical(&mut lowered).is_ok();
     out.took(is_taken);
@@ -110,7 +110,7 @@ fn owned_hash_of(label: OwnedLabel) -> u64 {
 }
 
 /// Owned labels compare and hash as labels, and equal ones hash alike.
-fn is_compared_as_owned(out: &mut Answer, a: Label<'_>, b: Label<'_>) {
+fn is_compared_as_owned(out: &Answer, a: Label<'_>, b: Label<'_>) {
     let left = OwnedLabel::from(a);
     let right = OwnedLabel::from(b);
     let hash = hash_of(a);
@@ -127,7 +127,7 @@ fn is_compared_as_owned(out: &mut Answer, a: Label<'_>, b: Label<'_>) {
 }
 
 /// The octets of a label come from its iterators.
-fn gives_octets(out: &mut Answer, label: Label<'_>) {
+fn gives_octets(out: &Answer, label: Label<'_>) {
     let octets = label.as_slice();
     out.agree_all(
         b"len;is_empty;iter;into_iter",
@@ -141,14 +141,14 @@ fn gives_octets(out: &mut Answer, label: Label<'_>) {
 }
 
 /// An owned label lends the label that it was made from, and is shown as that.
-fn is_owned(out: &mut Answer, label: Label<'_>) {
+fn is_owned(out: &Answer, label: Label<'_>) {
     let owned = OwnedLabel::from_label(label);
     out.same(owned.as_label().as_slice(), label.as_slice(), b"as_label");
     out.shown_alike(owned, label, b"text of owned labels");
 }
 
 /// `slice MSG START`
-pub fn put_slice(out: &mut Answer, message: &[u8], start: usize) {
+pub fn put_slice(out: &Answer, message: &[u8], start: usize) {
     let mut is_first = true;
     for label in Label::iter_slice(message, start) {
         out.put_comma(&mut is_first);

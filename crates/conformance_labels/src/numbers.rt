@@ -10,7 +10,7 @@ use octseq::{OctetsBuilder, Parser};
 use std::fmt::Display;
 
 /// A value that was parsed, or the error, and the parser's position.
-fn put_parsed<T: Display + Drop>(out: &mut Answer, value: Result<T, ParseError>, offset: usize) {
+fn put_parsed<T: Display + Drop>(out: &Answer, value: Result<T, ParseError>, offset: usize) {
     match value {
         Ok(value) => out.put_text(value),
         Err(error) => out.put_text(error),
@@ -18,20 +18,20 @@ fn put_parsed<T: Display + Drop>(out: &mut Answer, value: Result<T, ParseError>,
     put_place(out, offset);
 }
 
-fn put_place(out: &mut Answer, offset: usize) {
+fn put_place(out: &Answer, offset: usize) {
     out.put_number_after(b"@", offset);
     out.put(b";");
 }
 
 /// A number of a type at the parser's position.
-fn put_number<'a, T: Parse<'a> + Display + Drop>(out: &mut Answer, parser: Parser<'a>) {
+fn put_number<'a, T: Parse<'a> + Display + Drop>(out: &Answer, parser: Parser<'a>) {
     let mut parser = parser;
     let value = T::parse(&mut parser);
     put_parsed(out, value, parser.pos());
 }
 
 /// `ints OCTETS PLACE`
-pub fn put_ints(out: &mut Answer, octets: &[u8], offset: usize) {
+pub fn put_ints(out: &Answer, octets: &[u8], offset: usize) {
     let Some(parser) = parser_at(octets, offset, octets.len()) else {
         return out.fail(Fail::Bad);
     };
@@ -48,7 +48,7 @@ pub fn put_ints(out: &mut Answer, octets: &[u8], offset: usize) {
     put_parsed(out, whole, 0);
 }
 
-fn put_addresses(out: &mut Answer, parser: Parser<'_>) {
+fn put_addresses(out: &Answer, parser: Parser<'_>) {
     let mut first = parser;
     match Ipv4Addr::parse(&mut first) {
         Ok(address) => out.put_hex(&address.octets()),
@@ -64,7 +64,7 @@ fn put_addresses(out: &mut Answer, parser: Parser<'_>) {
 }
 
 /// `arrays OCTETS PLACE`: an array of no octets, of 3, and of 16.
-pub fn put_arrays(out: &mut Answer, octets: &[u8], offset: usize) {
+pub fn put_arrays(out: &Answer, octets: &[u8], offset: usize) {
     let Some(parser) = parser_at(octets, offset, octets.len()) else {
         return out.fail(Fail::Bad);
     };
@@ -89,7 +89,7 @@ pub fn put_arrays(out: &mut Answer, octets: &[u8], offset: usize) {
 }
 
 /// `whole OCTETS`: all octets as a number of 16 bits, and as no octets.
-pub fn put_whole(out: &mut Answer, octets: &[u8]) {
+pub fn put_whole(out: &Answer, octets: &[u8]) {
     let number: Result<u16, ParseError> = parse_slice(octets, |p| u16::parse(p));
     match number {
         Ok(value) => out.put_text(value),
@@ -104,7 +104,7 @@ pub fn put_whole(out: &mut Answer, octets: &[u8]) {
 }
 
 /// What a value is composed to, in a room of 16 octets that it fits, and in one that lacks an octet.
-pub fn put_composed<T: FixedLen>(out: &mut Answer, value: &T, len: usize) {
+pub fn put_composed<T: FixedLen>(out: &Answer, value: &T, len: usize) {
     let mut octets: Vec<u8> = Vec::new(out.alloc());
     let is_taken = value.compose(&mut octets).is_ok();
     out.took(is_taken);
@@ -121,7 +121,7 @@ pub fn put_composed<T: FixedLen>(out: &mut Answer, value: &T, len: usize) {
     is_refused_by_a_full_room(out, value, len);
 }
 
-fn is_refused_by_a_full_room<T: Compose>(out: &mut Answer, value: &T, len: usize) {
+fn is_refused_by_a_full_room<T: Compose>(out: &Answer, value: &T, len: usize) {
     let mut fits = room_for(out, len);
     let mut full = room_for(out, len);
     let is_full = full.append_slice(b"\xee").is_ok();
@@ -138,7 +138,7 @@ fn is_refused_by_a_full_room<T: Compose>(out: &mut Answer, value: &T, len: usize
 }
 
 /// An array of 16 octets that has room for so many more.
-fn room_for(out: &mut Answer, len: usize) -> ArrayVec<u8, 16> {
+fn room_for(out: &Answer, len: usize) -> ArrayVec<u8, 16> {
     let mut room = ArrayVec::<u8, 16>::new();
     for _octet in len..16 {
         out.agree(room.append_slice(b"\xee").is_ok(), b"append_slice");
@@ -154,7 +154,7 @@ fn number_of(field: &[u8]) -> Option<i128> {
 }
 
 /// A number in as few as 8 bits, with or without a sign.
-fn put_in_bits<T: FixedLen + Copy>(out: &mut Answer, number: Option<T>, len: usize) {
+fn put_in_bits<T: FixedLen + Copy>(out: &Answer, number: Option<T>, len: usize) {
     match number {
         Some(value) => put_composed(out, &value, len),
         None => out.fail(Fail::Bad),
@@ -162,7 +162,7 @@ fn put_in_bits<T: FixedLen + Copy>(out: &mut Answer, number: Option<T>, len: usi
 }
 
 /// `signed BITS NUMBER`
-pub fn put_signed(out: &mut Answer, bits: usize, digits: &[u8]) {
+pub fn put_signed(out: &Answer, bits: usize, digits: &[u8]) {
     let Some(number) = number_of(digits) else {
         return out.fail(Fail::Bad);
     };
@@ -184,7 +184,7 @@ fn unsigned_number_of(field: &[u8]) -> Option<u128> {
 }
 
 /// `unsigned BITS NUMBER`
-pub fn put_unsigned(out: &mut Answer, bits: usize, digits: &[u8]) {
+pub fn put_unsigned(out: &Answer, bits: usize, digits: &[u8]) {
     let Some(number) = unsigned_number_of(digits) else {
         return out.fail(Fail::Bad);
     };
@@ -199,7 +199,7 @@ pub fn put_unsigned(out: &mut Answer, bits: usize, digits: &[u8]) {
 }
 
 /// `composevec A B`: two runs of octets composed into one `Vec`, each octet as a number.
-pub fn put_composevec(out: &mut Answer, first: &[u8], second: &[u8]) {
+pub fn put_composevec(out: &Answer, first: &[u8], second: &[u8]) {
     let composed = compose_vec(out.alloc(), |target| {
         for octet in first {
             octet.compose(target)?;

@@ -9,7 +9,7 @@ use octseq::{
 use std::borrow::CowSlice;
 
 /// Shortens octets of any kind, and compares what is left.
-fn is_shortened<T: Truncate + Drop>(out: &mut Answer, octets: T, len: usize, left: &[u8]) {
+fn is_shortened<T: Truncate + Drop>(out: &Answer, octets: T, len: usize, left: &[u8]) {
     let mut octets = octets;
     Truncate::truncate(&mut &mut octets, len);
     out.same(Octets::as_slice(&&octets), left, b"truncate");
@@ -18,7 +18,7 @@ fn is_shortened<T: Truncate + Drop>(out: &mut Answer, octets: T, len: usize, lef
 }
 
 /// `truncate OCTETS LEN`
-pub fn put_truncate(out: &mut Answer, octets: &[u8], len: usize) {
+pub fn put_truncate(out: &Answer, octets: &[u8], len: usize) {
     let mut left = octets;
     Truncate::truncate(&mut left, len);
     out.put_hex(left);
@@ -35,7 +35,7 @@ pub fn put_truncate(out: &mut Answer, octets: &[u8], len: usize) {
 }
 
 /// Writes one octet at an offset of octets of any kind.
-fn put_written<T: OctetsMut + Drop>(out: &mut Answer, octets: T, offset: usize, octet: u8) {
+fn put_written<T: OctetsMut + Drop>(out: &Answer, octets: T, offset: usize, octet: u8) {
     let mut octets = octets;
     match octets.as_slice_mut().get_mut(offset) {
         Some(written) => *written = octet,
@@ -45,7 +45,7 @@ fn put_written<T: OctetsMut + Drop>(out: &mut Answer, octets: T, offset: usize, 
 }
 
 /// `write OCTETS PLACE OCTET`: over a `Vec`, and over an array.
-pub fn put_write(out: &mut Answer, octets: &[u8], offset: usize, written: &[u8]) {
+pub fn put_write(out: &Answer, octets: &[u8], offset: usize, written: &[u8]) {
     let [octet] = written else {
         return out.fail(Fail::Bad);
     };
@@ -59,11 +59,7 @@ pub fn put_write(out: &mut Answer, octets: &[u8], offset: usize, written: &[u8])
 }
 
 /// What a builder has when octets were appended to it twice, and whether that was refused.
-fn put_appended<B: EmptyBuilder + FreezeBuilder + Drop>(
-    out: &mut Answer,
-    first: &[u8],
-    second: &[u8],
-) {
+fn put_appended<B: EmptyBuilder + FreezeBuilder + Drop>(out: &Answer, first: &[u8], second: &[u8]) {
     let mut builder = B::empty(out.alloc());
     put_told(
         out,
@@ -74,12 +70,12 @@ fn put_appended<B: EmptyBuilder + FreezeBuilder + Drop>(
     out.put_hex(Octets::as_slice(&builder));
 }
 
-fn put_told(out: &mut Answer, taken: bool) {
+fn put_told(out: &Answer, taken: bool) {
     out.put(if taken { b"ok " } else { b"err " });
 }
 
 /// `append A B`: to an empty array of 8 octets, and to an empty `Vec`.
-pub fn put_append(out: &mut Answer, first: &[u8], second: &[u8]) {
+pub fn put_append(out: &Answer, first: &[u8], second: &[u8]) {
     put_appended::<ArrayVec<u8, 8>>(out, first, second);
     out.put(b" ");
     put_appended::<Vec<u8>>(out, first, second);
@@ -87,7 +83,7 @@ pub fn put_append(out: &mut Answer, first: &[u8], second: &[u8]) {
 }
 
 /// A new builder has its room, and what was appended goes over.
-fn is_frozen(out: &mut Answer, octets: &[u8]) {
+fn is_frozen(out: &Answer, octets: &[u8]) {
     let room: Result<ArrayVec<u8, 8>, ShortBuf> = EmptyBuilder::with_capacity(
         out.alloc(),
         octets.len(),
@@ -107,7 +103,7 @@ fn is_frozen(out: &mut Answer, octets: &[u8]) {
     }
 }
 
-fn is_filled(out: &mut Answer, builder: Vec<u8>, octets: &[u8]) {
+fn is_filled(out: &Answer, builder: Vec<u8>, octets: &[u8]) {
     let mut builder = builder;
     out.agree(builder.capacity() >= octets.len(), b"with_capacity");
     let is_taken = OctetsBuilder::append_slice(&mut builder, octets).is_ok();
@@ -119,7 +115,7 @@ fn is_filled(out: &mut Answer, builder: Vec<u8>, octets: &[u8]) {
 }
 
 /// `from OCTETS`: over an array of 4 octets, and over octets of the other kinds.
-pub fn put_from(out: &mut Answer, octets: &[u8]) {
+pub fn put_from(out: &Answer, octets: &[u8]) {
     match <&[u8]>::try_octets_from(out.alloc(), octets) {
         Ok(made) => out.put_hex(made),
         Err(_) => out.wrong(b"try_octets_from"),
@@ -141,7 +137,7 @@ pub fn put_from(out: &mut Answer, octets: &[u8]) {
     is_made_of_itself(out, octets);
 }
 
-fn is_made_of_itself(out: &mut Answer, octets: &[u8]) {
+fn is_made_of_itself(out: &Answer, octets: &[u8]) {
     match CowSlice::<'_, u8>::try_octets_from(out.alloc(), CowSlice::Borrowed(octets)) {
         Ok(made) => out.same(Octets::as_slice(&made), octets, b"try_octets_from"),
         Err(_) => out.wrong(b"try_octets_from"),
@@ -155,7 +151,7 @@ fn is_made_of_itself(out: &mut Answer, octets: &[u8]) {
     }
 }
 
-fn is_made_of_vec(out: &mut Answer, octets: &[u8]) {
+fn is_made_of_vec(out: &Answer, octets: &[u8]) {
     let Ok(made) = Vec::<u8>::try_octets_from(out.alloc(), octets) else {
         return out.fail(Fail::Memory);
     };

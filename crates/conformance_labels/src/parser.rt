@@ -96,7 +96,7 @@ fn call_of(field: &[u8]) -> Option<(Step, usize)> {
 }
 
 /// `parser OCTETS BEGIN END CALLS`: what each call answers, and where the parser stands then.
-pub fn put_calls(out: &mut Answer, octets: &[u8], begin: usize, end: usize, calls: &[u8]) {
+pub fn put_calls(out: &Answer, octets: &[u8], begin: usize, end: usize, calls: &[u8]) {
     let Some(mut parser) = parser_at(octets, begin, end) else {
         return out.fail(Fail::Bad);
     };
@@ -113,7 +113,7 @@ pub fn put_calls(out: &mut Answer, octets: &[u8], begin: usize, end: usize, call
     }
 }
 
-fn put_call(out: &mut Answer, parser: &mut Parser<'_>, step: Step, n: usize) {
+fn put_call(out: &Answer, parser: &mut Parser<'_>, step: Step, n: usize) {
     match step {
         Step::Number(number) => put_number(out, parser, number),
         Step::Rest => out.put_hex(parser.peek_all()),
@@ -126,7 +126,7 @@ fn put_call(out: &mut Answer, parser: &mut Parser<'_>, step: Step, n: usize) {
     }
 }
 
-fn put_number(out: &mut Answer, parser: &mut Parser<'_>, number: Number) {
+fn put_number(out: &Answer, parser: &mut Parser<'_>, number: Number) {
     match number {
         Number::U8 => put_value(out, parser.parse_u8()),
         Number::I8 => put_value(out, parser.parse_i8()),
@@ -139,21 +139,21 @@ fn put_number(out: &mut Answer, parser: &mut Parser<'_>, number: Number) {
     }
 }
 
-fn put_value<T: Display + Drop>(out: &mut Answer, value: Result<T, ShortInput>) {
+fn put_value<T: Display + Drop>(out: &Answer, value: Result<T, ShortInput>) {
     match value {
         Ok(value) => out.put_text(value),
         Err(error) => out.put_text(error),
     }
 }
 
-fn put_octets(out: &mut Answer, octets: Result<&[u8], ShortInput>) {
+fn put_octets(out: &Answer, octets: Result<&[u8], ShortInput>) {
     match octets {
         Ok(octets) => out.put_hex(octets),
         Err(error) => out.put_text(error),
     }
 }
 
-fn put_done(out: &mut Answer, done: Result<(), ShortInput>) {
+fn put_done(out: &Answer, done: Result<(), ShortInput>) {
     match done {
         Ok(()) => out.put(b"ok"),
         Err(error) => out.put_text(error),
@@ -161,7 +161,7 @@ fn put_done(out: &mut Answer, done: Result<(), ShortInput>) {
 }
 
 /// A parser's offset, and the octets that are left in it.
-fn put_parser(out: &mut Answer, parser: Result<Parser<'_>, ShortInput>) {
+fn put_parser(out: &Answer, parser: Result<Parser<'_>, ShortInput>) {
     match parser {
         Ok(parser) => {
             out.put_number(parser.pos());
@@ -172,7 +172,7 @@ fn put_parser(out: &mut Answer, parser: Result<Parser<'_>, ShortInput>) {
 }
 
 /// Fills a buffer that held octets of 238, of which a refused call leaves each.
-fn put_buffer(out: &mut Answer, parser: &mut Parser<'_>, len: usize) {
+fn put_buffer(out: &Answer, parser: &mut Parser<'_>, len: usize) {
     let mut buffer = [238u8; 32];
     match buffer.get_mut(..len) {
         Some(octets) => {

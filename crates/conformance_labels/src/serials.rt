@@ -14,7 +14,7 @@ fn number_of(digits: &[u8]) -> Option<u32> {
 }
 
 /// `serial A B`
-pub fn put_serial(out: &mut Answer, a: &[u8], b: &[u8]) {
+pub fn put_serial(out: &Answer, a: &[u8], b: &[u8]) {
     let Some(a) = serial_of(a) else {
         return out.fail(Fail::Bad);
     };
@@ -34,7 +34,7 @@ pub fn put_serial(out: &mut Answer, a: &[u8], b: &[u8]) {
 }
 
 /// A serial's octets are those of its number.
-fn is_written(out: &mut Answer, serial: Serial) {
+fn is_written(out: &Answer, serial: Serial) {
     let number = serial.into_int();
     let octets = number.to_be_bytes();
     out.agree_all(
@@ -53,7 +53,7 @@ fn is_written(out: &mut Answer, serial: Serial) {
 }
 
 /// The octets are as many as are told, and are read as the serial number, once.
-fn is_read_back(out: &mut Answer, serial: Serial, octets: &[u8]) {
+fn is_read_back(out: &Answer, serial: Serial, octets: &[u8]) {
     let mut parser = Parser::from_ref(octets);
     out.agree_all(
         b"COMPOSE_LEN;parse;parse",
@@ -66,7 +66,7 @@ fn is_read_back(out: &mut Answer, serial: Serial, octets: &[u8]) {
 }
 
 /// `add SERIAL NUMBER`: `bad` where the number is more than may be added.
-pub fn put_add(out: &mut Answer, serial: &[u8], number: &[u8]) {
+pub fn put_add(out: &Answer, serial: &[u8], number: &[u8]) {
     let Some(serial) = serial_of(serial) else {
         return out.fail(Fail::Bad);
     };

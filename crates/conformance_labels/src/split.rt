@@ -5,7 +5,7 @@ use conformance_answer::Answer;
 use domain_label::{Label, LabelMut, SplitLabelError};
 
 /// `splitlabel OCTETS`
-pub fn put_splitlabel(out: &mut Answer, octets: &[u8]) {
+pub fn put_splitlabel(out: &Answer, octets: &[u8]) {
     match Label::split_from(octets) {
         Ok((label, rest)) => {
             out.put_hex_after(b"ok ", label.as_slice());
@@ -18,7 +18,7 @@ pub fn put_splitlabel(out: &mut Answer, octets: &[u8]) {
     }
 }
 
-fn put_split_error(out: &mut Answer, error: SplitLabelError) {
+fn put_split_error(out: &Answer, error: SplitLabelError) {
     match error {
         SplitLabelError::Pointer(target) => {
             out.put_text_after(b"Pointer(", target);
@@ -36,7 +36,7 @@ fn put_split_error(out: &mut Answer, error: SplitLabelError) {
 }
 
 /// `splitmut OCTETS`
-pub fn put_splitmut(out: &mut Answer, octets: &[u8]) {
+pub fn put_splitmut(out: &Answer, octets: &[u8]) {
     let mut copy = out.copy_of(octets);
     match LabelMut::split_from_mut(copy.as_mut_slice()) {
         Ok((mut label, rest)) => {
@@ -53,7 +53,7 @@ pub fn put_splitmut(out: &mut Answer, octets: &[u8]) {
 }
 
 /// `labelmut OCTETS`
-pub fn put_labelmut(out: &mut Answer, octets: &[u8]) {
+pub fn put_labelmut(out: &Answer, octets: &[u8]) {
     let mut copy = out.copy_of(octets);
     match LabelMut::from_slice_mut(copy.as_mut_slice()) {
         Ok(mut label) => {
@@ -68,13 +68,11 @@ pub fn put_labelmut(out: &mut Answer, octets: &[u8]) {
 }
 
 /// `labelfill OCTETS`: each octet of the label is written over with a star.
-pub fn put_labelfill(out: &mut Answer, octets: &[u8]) {
+pub fn put_labelfill(out: &Answer, octets: &[u8]) {
     let mut copy = out.copy_of(octets);
     match LabelMut::split_from_mut(copy.as_mut_slice()) {
         Ok((label, _rest)) => {
-            for octet in label.as_slice_mut() {
-                *octet = b'*';
-            }
+            label.as_slice_mut().fill(b'*');
             out.put(b"ok ");
         }
         Err(_) => out.put(b"err "),
@@ -83,13 +81,11 @@ pub fn put_labelfill(out: &mut Answer, octets: &[u8]) {
 }
 
 /// `restfill OCTETS`: each octet after the label is written over with a star.
-pub fn put_restfill(out: &mut Answer, octets: &[u8]) {
+pub fn put_restfill(out: &Answer, octets: &[u8]) {
     let mut copy = out.copy_of(octets);
     match LabelMut::split_from_mut(copy.as_mut_slice()) {
         Ok((_label, rest)) => {
-            for octet in rest {
-                *octet = b'*';
-            }
+            rest.fill(b'*');
             out.put(b"ok ");
         }
         Err(_) => out.put(b"err "),

@@ -12,7 +12,7 @@ use domain_wire::ParseError;
 use octseq::{Octets, OctetsBuilder};
 
 /// `compose OCTETS`: the message in a target that compresses no name, and in one that does.
-pub fn put_composed(out: &mut Answer, octets: &[u8]) {
+pub fn put_composed(out: &Answer, octets: &[u8]) {
     let message = match Message::from_octets(octets) {
         Ok(message) => message,
         Err(error) => return out.put_text_after(b"err ", error),
@@ -30,11 +30,7 @@ pub fn put_composed(out: &mut Answer, octets: &[u8]) {
 }
 
 /// Composes the header, the questions and all records. If one can't be read, its error is the answer, and it is false.
-fn compose_message<T: Composer>(
-    out: &mut Answer,
-    message: &Message<&[u8]>,
-    target: &mut T,
-) -> bool {
+fn compose_message<T: Composer>(out: &Answer, message: &Message<&[u8]>, target: &mut T) -> bool {
     let mut header = [0u8; 12];
     let section = HeaderSection::new(message.header(), message.header_counts());
     out.agree(section.write(&mut header).is_ok(), b"HeaderSection::write");
@@ -57,7 +53,7 @@ fn compose_message<T: Composer>(
 }
 
 fn compose_section<T: Composer>(
-    out: &mut Answer,
+    out: &Answer,
     section: Result<RecordSection<'_>, ParseError>,
     target: &mut T,
 ) -> bool {
@@ -78,12 +74,12 @@ fn compose_section<T: Composer>(
     true
 }
 
-fn is_refused(out: &mut Answer, error: ParseError) -> bool {
+fn is_refused(out: &Answer, error: ParseError) -> bool {
     out.put_text_after(b"err ", error);
     false
 }
 
-fn compose_record<T: Composer>(out: &mut Answer, found: &ParsedRecord<'_>, target: &mut T) -> bool {
+fn compose_record<T: Composer>(out: &Answer, found: &ParsedRecord<'_>, target: &mut T) -> bool {
     match found.rtype().to_int() {
         1 => compose_as::<A, T>(out, found, target),
         2 => compose_as::<Ns<Read<'_>>, T>(out, found, target),
@@ -99,7 +95,7 @@ fn compose_record<T: Composer>(out: &mut Answer, found: &ParsedRecord<'_>, targe
 }
 
 fn compose_as<'a, D: ParseRecordData<'a> + ComposeRecordData + Drop, T: Composer>(
-    out: &mut Answer,
+    out: &Answer,
     found: &ParsedRecord<'a>,
     target: &mut T,
 ) -> bool {

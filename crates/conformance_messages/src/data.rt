@@ -15,13 +15,13 @@ use octseq::Parser;
 pub type Read<'a> = ParsedName<&'a [u8]>;
 
 /// Appends a word, and the name with its final dot.
-pub fn put_name(out: &mut Answer, word: &[u8], name: &Read<'_>) {
+pub fn put_name(out: &Answer, word: &[u8], name: &Read<'_>) {
     out.put_text_after(word, name.fmt_with_dot());
 }
 
 /// `data TYPE OCTETS OFFSET LENGTH`: asks each type of data. `typed` with the same words asks the types with strings,
 /// keys and the like, and `any` reads data of any type.
-pub fn put_data(out: &mut Answer, fields: Fields<'_>) {
+pub fn put_data(out: &Answer, fields: &Fields<'_>) {
     let rtype = fields.number(1, out);
     let octets = fields.octets(2, out);
     let offset = fields.number(3, out);
@@ -30,7 +30,7 @@ pub fn put_data(out: &mut Answer, fields: Fields<'_>) {
         return out.fail(Fail::Bad);
     }
     let rtype = Rtype::from_int(rtype as u16);
-    let parser = Parser::with_range(octets.as_slice(), offset..end);
+    let parser = &Parser::with_range(octets.as_slice(), offset..end);
     if is(fields.at(0), b"any") {
         return put_any(out, rtype, parser);
     }
@@ -52,8 +52,8 @@ pub fn put_data(out: &mut Answer, fields: Fields<'_>) {
 }
 
 /// Reads data by its fields where the type is known, else as octets.
-fn put_any(out: &mut Answer, rtype: Rtype, parser: Parser<'_>) {
-    let mut left = parser;
+fn put_any(out: &Answer, rtype: Rtype, parser: &Parser<'_>) {
+    let mut left = *parser;
     match AllRecordData::parse_any_rdata(rtype, &mut left) {
         Ok(data) => {
             out.agree(left.remaining() == 0, b"parse_any_rdata");
@@ -70,11 +70,11 @@ fn put_any(out: &mut Answer, rtype: Rtype, parser: Parser<'_>) {
 
 /// Reads data as of one type, and composes it. `None` if it isn't of that type, or an error was written.
 pub fn read<'a, D: ParseRecordData<'a> + ComposeRecordData + Drop>(
-    out: &mut Answer,
+    out: &Answer,
     rtype: Rtype,
-    parser: Parser<'a>,
+    parser: &Parser<'a>,
 ) -> Option<D> {
-    let mut left = parser;
+    let mut left = *parser;
     match D::parse_rdata(rtype, &mut left) {
         Ok(Some(data)) => {
             out.agree(left.remaining() == 0, b"parse_rdata");
@@ -96,7 +96,7 @@ pub fn read<'a, D: ParseRecordData<'a> + ComposeRecordData + Drop>(
 
 /// The octets with no name compressed, the canonical form, or that it isn't known, and the length if it is known where names are
 /// compressed.
-fn put_forms<D: ComposeRecordData>(out: &mut Answer, data: &D) {
+fn put_forms<D: ComposeRecordData>(out: &Answer, data: &D) {
     let mut composed: Vec<u8> = Vec::new(out.alloc());
     let mut canonical: Vec<u8> = Vec::new(out.alloc());
     if data.compose_rdata(&mut composed).is_err() {
@@ -119,19 +119,19 @@ fn put_forms<D: ComposeRecordData>(out: &mut Answer, data: &D) {
     out.put(b" ");
 }
 
-fn put_a(out: &mut Answer, rtype: Rtype, parser: Parser<'_>) {
+fn put_a(out: &Answer, rtype: Rtype, parser: &Parser<'_>) {
     if let Some(data) = read::<A>(out, rtype, parser) {
         out.put_hex(&data.addr().octets());
     }
 }
 
-fn put_aaaa(out: &mut Answer, rtype: Rtype, parser: Parser<'_>) {
+fn put_aaaa(out: &Answer, rtype: Rtype, parser: &Parser<'_>) {
     if let Some(data) = read::<Aaaa>(out, rtype, parser) {
         out.put_hex(&data.addr().octets());
     }
 }
 
-fn put_ns(out: &mut Answer, rtype: Rtype, parser: Parser<'_>) {
+fn put_ns(out: &Answer, rtype: Rtype, parser: &Parser<'_>) {
     if let Some(data) = read::<Ns<Read<'_>>>(out, rtype, parser) {
         let start = out.len();
         put_name(out, b"", data.nsdname());
@@ -139,7 +139,7 @@ fn put_ns(out: &mut Answer, rtype: Rtype, parser: Parser<'_>) {
     }
 }
 
-fn put_cname(out: &mut Answer, rtype: Rtype, parser: Parser<'_>) {
+fn put_cname(out: &Answer, rtype: Rtype, parser: &Parser<'_>) {
     if let Some(data) = read::<Cname<Read<'_>>>(out, rtype, parser) {
         let start = out.len();
         put_name(out, b"", data.cname());
@@ -147,7 +147,7 @@ fn put_cname(out: &mut Answer, rtype: Rtype, parser: Parser<'_>) {
     }
 }
 
-fn put_ptr(out: &mut Answer, rtype: Rtype, parser: Parser<'_>) {
+fn put_ptr(out: &Answer, rtype: Rtype, parser: &Parser<'_>) {
     if let Some(data) = read::<Ptr<Read<'_>>>(out, rtype, parser) {
         let start = out.len();
         put_name(out, b"", data.ptrdname());
@@ -155,7 +155,7 @@ fn put_ptr(out: &mut Answer, rtype: Rtype, parser: Parser<'_>) {
     }
 }
 
-fn put_dname(out: &mut Answer, rtype: Rtype, parser: Parser<'_>) {
+fn put_dname(out: &Answer, rtype: Rtype, parser: &Parser<'_>) {
     if let Some(data) = read::<Dname<Read<'_>>>(out, rtype, parser) {
         let start = out.len();
         put_name(out, b"", data.dname());
@@ -163,7 +163,7 @@ fn put_dname(out: &mut Answer, rtype: Rtype, parser: Parser<'_>) {
     }
 }
 
-fn put_mx(out: &mut Answer, rtype: Rtype, parser: Parser<'_>) {
+fn put_mx(out: &Answer, rtype: Rtype, parser: &Parser<'_>) {
     if let Some(data) = read::<Mx<Read<'_>>>(out, rtype, parser) {
         let start = out.len();
         out.put_text_after(b"", data.preference());
@@ -172,7 +172,7 @@ fn put_mx(out: &mut Answer, rtype: Rtype, parser: Parser<'_>) {
     }
 }
 
-fn put_srv(out: &mut Answer, rtype: Rtype, parser: Parser<'_>) {
+fn put_srv(out: &Answer, rtype: Rtype, parser: &Parser<'_>) {
     if let Some(data) = read::<Srv<Read<'_>>>(out, rtype, parser) {
         let start = out.len();
         out.put_text_after(b"", data.priority());
@@ -183,7 +183,7 @@ fn put_srv(out: &mut Answer, rtype: Rtype, parser: Parser<'_>) {
     }
 }
 
-fn put_soa(out: &mut Answer, rtype: Rtype, parser: Parser<'_>) {
+fn put_soa(out: &Answer, rtype: Rtype, parser: &Parser<'_>) {
     if let Some(data) = read::<Soa<Read<'_>>>(out, rtype, parser) {
         let start = out.len();
         put_name(out, b"", data.mname());

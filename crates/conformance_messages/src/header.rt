@@ -4,7 +4,7 @@ use conformance_answer::{Answer, Fail, Fields, decimal, is, split_once};
 use domain_header::{Class, Header, HeaderCounts, HeaderSection, Opcode, Rcode, ShortMessage};
 
 /// `header OCTETS`
-pub fn put_header(out: &mut Answer, octets: &[u8]) {
+pub fn put_header(out: &Answer, octets: &[u8]) {
     if octets.len() < 12 {
         return out.put_text_after(b"err ", ShortMessage);
     }
@@ -28,14 +28,14 @@ pub fn put_header(out: &mut Answer, octets: &[u8]) {
     is_written_back(out, octets, header, counts);
 }
 
-fn put_flag(out: &mut Answer, word: &[u8], is_set: bool) {
+fn put_flag(out: &Answer, word: &[u8], is_set: bool) {
     if is_set {
         out.put(word);
     }
 }
 
 /// What was read is written as the octets that it was read from, part by part and at once.
-fn is_written_back(out: &mut Answer, octets: &[u8], header: Header, counts: HeaderCounts) {
+fn is_written_back(out: &Answer, octets: &[u8], header: Header, counts: HeaderCounts) {
     let mut parts = [0u8; 12];
     header.write(&mut parts);
     counts.write(&mut parts);
@@ -46,7 +46,7 @@ fn is_written_back(out: &mut Answer, octets: &[u8], header: Header, counts: Head
 }
 
 /// `write OCTETS CALLS`: the octets, with these parts of their header set.
-pub fn put_written_header(out: &mut Answer, fields: Fields<'_>) {
+pub fn put_written_header(out: &Answer, fields: &Fields<'_>) {
     let mut octets = fields.octets(1, out);
     if octets.len() < 12 {
         let section = HeaderSection::new(Header::new(), HeaderCounts::new());
@@ -72,7 +72,7 @@ pub fn put_written_header(out: &mut Answer, fields: Fields<'_>) {
     out.put_hex(octets.as_slice());
 }
 
-fn set(out: &mut Answer, header: &mut Header, counts: &mut HeaderCounts, word: &[u8], number: u16) {
+fn set(out: &Answer, header: &mut Header, counts: &mut HeaderCounts, word: &[u8], number: u16) {
     if is(word, b"qdcount") {
         counts.set_qdcount(number);
     } else if is(word, b"ancount") {
@@ -100,7 +100,7 @@ fn set(out: &mut Answer, header: &mut Header, counts: &mut HeaderCounts, word: &
     }
 }
 
-fn set_flag(out: &mut Answer, header: &mut Header, word: &[u8], is_set: bool) {
+fn set_flag(out: &Answer, header: &mut Header, word: &[u8], is_set: bool) {
     if is(word, b"qr") {
         header.set_qr(is_set);
     } else if is(word, b"aa") {
@@ -123,7 +123,7 @@ fn set_flag(out: &mut Answer, header: &mut Header, word: &[u8], is_set: bool) {
 }
 
 /// `class TEXT`: the number of the class with this mnemonic.
-pub fn put_class(out: &mut Answer, text: &[u8]) {
+pub fn put_class(out: &Answer, text: &[u8]) {
     let Ok(word) = str::from_utf8(text) else {
         return out.fail(Fail::Bad);
     };

@@ -26,8 +26,8 @@ use std::io::{Read, Write};
 use std::process::ExitCode;
 
 /// Answers a line.
-fn respond(line: &[u8], out: &mut Answer) {
-    let fields = Fields::new(line);
+fn respond(line: &[u8], out: &Answer) {
+    let fields = &Fields::new(line);
     let word = fields.at(0);
     if is(word, b"data") || is(word, b"any") || is(word, b"typed") {
         fields.expect(5, out);
@@ -51,7 +51,7 @@ fn respond(line: &[u8], out: &mut Answer) {
 }
 
 /// A word with octets after it.
-fn respond_to_octets(word: &[u8], octets: &[u8], out: &mut Answer) {
+fn respond_to_octets(word: &[u8], octets: &[u8], out: &Answer) {
     if is(word, b"header") {
         put_header(out, octets);
     } else if is(word, b"message") {
@@ -69,7 +69,7 @@ fn respond_to_octets(word: &[u8], octets: &[u8], out: &mut Answer) {
 
 /// Answers each line of the input. A line that begins with `#` is a heading, and its own answer.
 fn answer_all(alloc: Global, input: &[u8], out: &mut Vec<u8>) -> Result<(), AllocError> {
-    let mut answer = Answer::new(alloc);
+    let answer = Answer::new(alloc);
     for line in input.split(|octet| *octet == b'\n') {
         if line.is_empty() {
             continue;
@@ -78,7 +78,7 @@ fn answer_all(alloc: Global, input: &[u8], out: &mut Vec<u8>) -> Result<(), Allo
         if line.first() == Some(&b'#') {
             answer.put(line);
         } else {
-            respond(line, &mut answer);
+            respond(line, &answer);
         }
         answer.end_line(out)?;
     }

@@ -11,7 +11,7 @@ use domain_wire::ParseError;
 const MOST: u32 = 65_537;
 
 /// `message OCTETS`
-pub fn put_message(out: &mut Answer, octets: &[u8]) {
+pub fn put_message(out: &Answer, octets: &[u8]) {
     let message = match Message::from_octets(octets) {
         Ok(message) => message,
         Err(error) => return out.put_text_after(b"err ", error),
@@ -35,7 +35,7 @@ pub fn put_message(out: &mut Answer, octets: &[u8]) {
 }
 
 /// The questions up to the last, or to the error of the one that is missing, and the offset after them.
-fn put_questions(out: &mut Answer, section: QuestionSection<'_>) {
+fn put_questions(out: &Answer, section: QuestionSection<'_>) {
     let mut left = section;
     out.put(b"question=");
     for _question in 0..MOST {
@@ -54,14 +54,14 @@ fn put_questions(out: &mut Answer, section: QuestionSection<'_>) {
     }
 }
 
-fn put_question(out: &mut Answer, word: &[u8], question: &Question<ParsedName<&[u8]>>) {
+fn put_question(out: &Answer, word: &[u8], question: &Question<ParsedName<&[u8]>>) {
     put_name(out, word, question.qname());
     out.put_text_after(b"/", question.qtype().to_int());
     out.put_text_after(b"/", question.qclass());
 }
 
 /// The records of a section up to the last, or to the error of the one that is missing, and the offset after them.
-fn put_section(out: &mut Answer, word: &[u8], section: Result<RecordSection<'_>, ParseError>) {
+fn put_section(out: &Answer, word: &[u8], section: Result<RecordSection<'_>, ParseError>) {
     out.put(word);
     let section = match section {
         Ok(section) => section,
@@ -92,7 +92,7 @@ fn is_same_section(one: &RecordSection<'_>, other: &RecordSection<'_>) -> bool {
 }
 
 /// A record, with the offset and the length of its data.
-fn put_record(out: &mut Answer, record: &ParsedRecord<'_>) {
+fn put_record(out: &Answer, record: &ParsedRecord<'_>) {
     let data = record.data();
     put_name(out, b"", &record.owner());
     out.put_text_after(b"/", record.rtype().to_int());

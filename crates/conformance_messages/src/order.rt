@@ -19,7 +19,7 @@ type Owned = AllRecordData<Vec<u8>, Name<Vec<u8>>>;
 
 /// `order TYPE OCTETS TYPE OCTETS`: the canonical order of the two, and whether they are equal. Over octets of their own they
 /// must be the same, and what is equal must have one hash.
-pub fn put_order(out: &mut Answer, fields: Fields<'_>) {
+pub fn put_order(out: &Answer, fields: &Fields<'_>) {
     let (first_type, second_type) = (fields.number(1, out), fields.number(3, out));
     let (first, second) = (fields.octets(2, out), fields.octets(4, out));
     if first_type > 65535 || second_type > 65535 {
@@ -33,7 +33,7 @@ pub fn put_order(out: &mut Answer, fields: Fields<'_>) {
 }
 
 /// Data of this type that is all of the octets. `None` if an error was written.
-fn read<'a>(out: &mut Answer, rtype: u16, octets: &'a [u8]) -> Option<Lent<'a>> {
+fn read<'a>(out: &Answer, rtype: u16, octets: &'a [u8]) -> Option<Lent<'a>> {
     let mut parser = Parser::from_ref(octets);
     match AllRecordData::parse_any_rdata(Rtype::from_int(rtype), &mut parser) {
         Ok(data) => Some(data),
@@ -45,7 +45,7 @@ fn read<'a>(out: &mut Answer, rtype: u16, octets: &'a [u8]) -> Option<Lent<'a>> 
 }
 
 /// The order of the two, and whether they are equal.
-fn put_both(out: &mut Answer, first: Lent<'_>, second: Lent<'_>) {
+fn put_both(out: &Answer, first: Lent<'_>, second: Lent<'_>) {
     let order = first.canonical_cmp(&second);
     let is_equal = first == second;
     out.put(match order {

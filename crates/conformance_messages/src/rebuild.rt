@@ -19,13 +19,13 @@ type Target = CompressComposer<Vec<u8>>;
 type AnyData<'a> = AllRecordData<&'a [u8], Read<'a>>;
 
 /// `rebuild OCTETS`: the octets of the message that is built of the entries that are read.
-pub fn put_rebuilt(out: &mut Answer, octets: &[u8]) {
+pub fn put_rebuilt(out: &Answer, octets: &[u8]) {
     if let Some(made) = rebuilt(out, octets) {
         out.put_hex(Octets::as_slice(&made));
     }
 }
 
-fn rebuilt(out: &mut Answer, octets: &[u8]) -> Option<Target> {
+fn rebuilt(out: &Answer, octets: &[u8]) -> Option<Target> {
     let message = match Message::from_octets(octets) {
         Ok(message) => message,
         Err(error) => return nothing(out, error),
@@ -46,13 +46,13 @@ fn rebuilt(out: &mut Answer, octets: &[u8]) -> Option<Target> {
     Some(octets)
 }
 
-fn nothing<E: Display + Drop>(out: &mut Answer, error: E) -> Option<Target> {
+fn nothing<E: Display + Drop>(out: &Answer, error: E) -> Option<Target> {
     out.put_text_after(b"err ", error);
     None
 }
 
 /// Whether each entry was read and pushed. If one wasn't, the error is the answer.
-fn push_all(out: &mut Answer, message: &Message<&[u8]>, made: &mut MessageBuilder<Target>) -> bool {
+fn push_all(out: &Answer, message: &Message<&[u8]>, made: &mut MessageBuilder<Target>) -> bool {
     push_questions(out, message, made)
         && push_section(out, Section::Answer, message.answer(), made)
         && push_section(out, Section::Authority, message.authority(), made)
@@ -60,7 +60,7 @@ fn push_all(out: &mut Answer, message: &Message<&[u8]>, made: &mut MessageBuilde
 }
 
 fn push_questions(
-    out: &mut Answer,
+    out: &Answer,
     message: &Message<&[u8]>,
     made: &mut MessageBuilder<Target>,
 ) -> bool {
@@ -77,7 +77,7 @@ fn push_questions(
 }
 
 fn push_section(
-    out: &mut Answer,
+    out: &Answer,
     section: Section,
     records: Result<RecordSection<'_>, ParseError>,
     made: &mut MessageBuilder<Target>,
@@ -99,14 +99,14 @@ fn push_section(
     true
 }
 
-fn is_refused<E: Display + Drop>(out: &mut Answer, error: E) -> bool {
+fn is_refused<E: Display + Drop>(out: &Answer, error: E) -> bool {
     out.put_text_after(b"err ", error);
     false
 }
 
 /// Pushes a record, its data by its type.
 fn push_record(
-    out: &mut Answer,
+    out: &Answer,
     section: Section,
     found: &ParsedRecord<'_>,
     made: &mut MessageBuilder<Target>,

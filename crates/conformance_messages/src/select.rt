@@ -13,7 +13,7 @@ use std::fmt::Display;
 const MOST: u32 = 65_537;
 
 /// `answers QUERY MESSAGE`: whether the message answers the query.
-pub fn put_is_answer(out: &mut Answer, fields: Fields<'_>) {
+pub fn put_is_answer(out: &Answer, fields: &Fields<'_>) {
     let query = fields.octets(1, out);
     let octets = fields.octets(2, out);
     let query = match Message::from_octets(query.as_slice()) {
@@ -27,7 +27,7 @@ pub fn put_is_answer(out: &mut Answer, fields: Fields<'_>) {
 }
 
 /// `limit WORD MESSAGE`: the answers with data of the type that the word tells, of any class and of the class IN.
-pub fn put_limited(out: &mut Answer, fields: Fields<'_>) {
+pub fn put_limited(out: &Answer, fields: &Fields<'_>) {
     let octets = fields.octets(2, out);
     let message = match Message::from_octets(octets.as_slice()) {
         Ok(message) => message,
@@ -39,7 +39,7 @@ pub fn put_limited(out: &mut Answer, fields: Fields<'_>) {
     }
 }
 
-fn put_of_type<'a>(out: &mut Answer, word: &[u8], message: &'a Message<&'a [u8]>) {
+fn put_of_type<'a>(out: &Answer, word: &[u8], message: &'a Message<&'a [u8]>) {
     if is(word, b"a") {
         put_both::<A>(out, message);
     } else if is(word, b"aaaa") {
@@ -52,7 +52,7 @@ fn put_of_type<'a>(out: &mut Answer, word: &[u8], message: &'a Message<&'a [u8]>
 }
 
 /// The types that have names in their data.
-fn put_of_names<'a>(out: &mut Answer, word: &[u8], message: &'a Message<&'a [u8]>) {
+fn put_of_names<'a>(out: &Answer, word: &[u8], message: &'a Message<&'a [u8]>) {
     if is(word, b"ns") {
         put_both::<Ns<Read<'a>>>(out, message);
     } else if is(word, b"cname") {
@@ -73,7 +73,7 @@ fn put_of_names<'a>(out: &mut Answer, word: &[u8], message: &'a Message<&'a [u8]
 }
 
 fn put_both<'a, D: ParseRecordData<'a> + Display + Drop>(
-    out: &mut Answer,
+    out: &Answer,
     message: &'a Message<&'a [u8]>,
 ) {
     out.put(b"any=");
@@ -84,7 +84,7 @@ fn put_both<'a, D: ParseRecordData<'a> + Display + Drop>(
 
 /// The records up to the last, or to the first error. After that there are no more.
 fn put_records<'a, D: ParseRecordData<'a> + Display + Drop>(
-    out: &mut Answer,
+    out: &Answer,
     message: &'a Message<&'a [u8]>,
     only_in: bool,
 ) {
@@ -107,7 +107,7 @@ fn put_records<'a, D: ParseRecordData<'a> + Display + Drop>(
     out.agree(left.next().is_none(), b"next");
 }
 
-fn put_record<'a, D: Display>(out: &mut Answer, record: &Record<Read<'a>, D>) {
+fn put_record<'a, D: Display>(out: &Answer, record: &Record<Read<'a>, D>) {
     put_name(out, b"", record.owner());
     out.put_text_after(b"/", record.class());
     out.put_text_after(b"/", record.ttl());

@@ -8,7 +8,7 @@ use octseq::Parser;
 use std::fmt;
 
 /// Asks each of these types for the data.
-pub fn put_typed(out: &mut Answer, rtype: Rtype, parser: Parser<'_>) {
+pub fn put_typed(out: &Answer, rtype: Rtype, parser: &Parser<'_>) {
     put_shown::<Hinfo<&[u8]>>(out, rtype, parser);
     put_shown::<Naptr<&[u8], Read<'_>>>(out, rtype, parser);
     put_shown::<Ds<&[u8]>>(out, rtype, parser);
@@ -25,9 +25,9 @@ pub fn put_typed(out: &mut Answer, rtype: Rtype, parser: Parser<'_>) {
 
 /// Reads data as of one type, and puts its forms and its text.
 fn put_shown<'a, D: ParseRecordData<'a> + ComposeRecordData + fmt::Display + Drop>(
-    out: &mut Answer,
+    out: &Answer,
     rtype: Rtype,
-    parser: Parser<'a>,
+    parser: &Parser<'a>,
 ) {
     if let Some(data) = read::<D>(out, rtype, parser) {
         out.put_text_after(b"", data);

@@ -6,7 +6,7 @@ use conformance_labels::put_canonical_order;
 use domain_name::Name;
 
 /// `canonical A B`
-pub fn put_canonical(out: &mut Answer, a: &[u8], b: &[u8]) {
+pub fn put_canonical(out: &Answer, a: &[u8], b: &[u8]) {
     let a = absolute_of(out, a);
     let b = absolute_of(out, b);
     put_canonical_order(out, &a, &b);

@@ -58,7 +58,7 @@ fn relative_chain<'a>(left: &'a [u8], right: &'a [u8]) -> Option<Relatively<'a>>
 }
 
 /// A chain's wire format, its length and its labels from the back.
-fn put_chain_of<'a, N: ToLabelIter<'a>>(out: &mut Answer, chain: &'a N) {
+fn put_chain_of<'a, N: ToLabelIter<'a>>(out: &Answer, chain: &'a N) {
     let labels = chain.iter_labels();
     let wire = wire_of(out, labels);
     out.put_hex_after(b"ok ", wire.as_slice());
@@ -68,7 +68,7 @@ fn put_chain_of<'a, N: ToLabelIter<'a>>(out: &mut Answer, chain: &'a N) {
 }
 
 fn put_absolute_call<'a, N: AbsoluteLabels<'a>, M: AbsoluteLabels<'a>>(
-    out: &mut Answer,
+    out: &Answer,
     chain: &'a N,
     call: &'a AbsoluteCall<'a, M>,
 ) {
@@ -86,7 +86,7 @@ fn put_absolute_call<'a, N: AbsoluteLabels<'a>, M: AbsoluteLabels<'a>>(
 }
 
 fn put_relative_call<'a, N: RelativeLabels<'a>>(
-    out: &mut Answer,
+    out: &Answer,
     chain: &'a N,
     call: &'a RelativeCall<'a>,
 ) {
@@ -101,27 +101,27 @@ fn put_relative_call<'a, N: RelativeLabels<'a>>(
 
 /// The one call that is made at a chain which ends in an absolute name.
 pub fn put_absolute<'a, M: AbsoluteLabels<'a>>(
-    out: &mut Answer,
+    out: &Answer,
     chain: &'a Absolutely<'a>,
     call: &'a AbsoluteCall<'a, M>,
 ) {
     put_absolute_call(out, chain, call);
 }
 
-fn put_asked(out: &mut Answer, chain: Absolutely<'_>, call: AbsoluteCall<'_, Name<&[u8]>>) {
+fn put_asked(out: &Answer, chain: Absolutely<'_>, call: AbsoluteCall<'_, Name<&[u8]>>) {
     put_absolute(out, &chain, &call);
 }
 
-fn put_relative(out: &mut Answer, chain: Relatively<'_>, call: RelativeCall<'_>) {
+fn put_relative(out: &Answer, chain: Relatively<'_>, call: RelativeCall<'_>) {
     put_relative_call(out, &chain, &call);
 }
 
-fn put_refusal(out: &mut Answer, error: LongChainError) {
+fn put_refusal(out: &Answer, error: LongChainError) {
     out.put_text_after(b"err ", error);
 }
 
 /// `chain L R`
-pub fn put_chain(out: &mut Answer, left: &[u8], right: &[u8]) {
+pub fn put_chain(out: &Answer, left: &[u8], right: &[u8]) {
     let left = relative_of(out, left);
     match Name::from_slice(right) {
         Ok(right) => put_absolute_chain(out, left, right),
@@ -132,7 +132,7 @@ pub fn put_chain(out: &mut Answer, left: &[u8], right: &[u8]) {
     }
 }
 
-fn put_absolute_chain(out: &mut Answer, left: RelativeName<&[u8]>, right: Name<&[u8]>) {
+fn put_absolute_chain(out: &Answer, left: RelativeName<&[u8]>, right: Name<&[u8]>) {
     match left.chain(right) {
         Ok(chain) => {
             put_asked(out, chain, AbsoluteCall::Labels);
@@ -150,7 +150,7 @@ fn put_absolute_chain(out: &mut Answer, left: RelativeName<&[u8]>, right: Name<&
     }
 }
 
-fn put_relative_chain(out: &mut Answer, left: RelativeName<&[u8]>, right: RelativeName<&[u8]>) {
+fn put_relative_chain(out: &Answer, left: RelativeName<&[u8]>, right: RelativeName<&[u8]>) {
     match left.chain(right) {
         Ok(chain) => {
             put_relative(out, chain, RelativeCall::Labels);
@@ -169,7 +169,7 @@ fn put_relative_chain(out: &mut Answer, left: RelativeName<&[u8]>, right: Relati
 }
 
 /// `chainforms L R`
-pub fn put_chainforms(out: &mut Answer, left: &[u8], right: &[u8]) {
+pub fn put_chainforms(out: &Answer, left: &[u8], right: &[u8]) {
     let left = relative_of(out, left);
     match Name::from_slice(right) {
         Ok(right) => match left.chain(right) {
@@ -180,7 +180,7 @@ pub fn put_chainforms(out: &mut Answer, left: &[u8], right: &[u8]) {
     }
 }
 
-fn put_relative_chainforms(out: &mut Answer, left: RelativeName<&[u8]>, right: &[u8]) {
+fn put_relative_chainforms(out: &Answer, left: RelativeName<&[u8]>, right: &[u8]) {
     match RelativeName::from_slice(right) {
         Ok(right) => match left.chain(right) {
             Ok(chain) => put_relative(out, chain, RelativeCall::Forms),
@@ -191,7 +191,7 @@ fn put_relative_chainforms(out: &mut Answer, left: RelativeName<&[u8]>, right: &
 }
 
 /// `chainwalk L R`: the labels of a chain of relative names.
-pub fn put_chainwalk(out: &mut Answer, left: &[u8], right: &[u8]) {
+pub fn put_chainwalk(out: &Answer, left: &[u8], right: &[u8]) {
     match relative_chain(left, right) {
         Some(chain) => put_relative(out, chain, RelativeCall::Walk),
         None => out.fail(Fail::Bad),
@@ -199,13 +199,13 @@ pub fn put_chainwalk(out: &mut Answer, left: &[u8], right: &[u8]) {
 }
 
 /// `rooted NAME`: the name with the root after it, and its text.
-pub fn put_rooted(out: &mut Answer, octets: &[u8]) {
+pub fn put_rooted(out: &Answer, octets: &[u8]) {
     let name = relative_of(out, octets);
     put_asked(out, name.chain_root(), AbsoluteCall::Dotted);
 }
 
 /// `chaincmp L R NAME`
-pub fn put_chaincmp(out: &mut Answer, left: &[u8], right: &[u8], octets: &[u8]) {
+pub fn put_chaincmp(out: &Answer, left: &[u8], right: &[u8], octets: &[u8]) {
     let Some(chain) = absolute_chain(left, right) else {
         return out.fail(Fail::Bad);
     };
@@ -214,7 +214,7 @@ pub fn put_chaincmp(out: &mut Answer, left: &[u8], right: &[u8], octets: &[u8]) 
 }
 
 /// `chainrel L R RELATIVE`
-pub fn put_chainrel(out: &mut Answer, left: &[u8], right: &[u8], octets: &[u8]) {
+pub fn put_chainrel(out: &Answer, left: &[u8], right: &[u8], octets: &[u8]) {
     let Some(chain) = relative_chain(left, right) else {
         return out.fail(Fail::Bad);
     };
@@ -223,7 +223,7 @@ pub fn put_chainrel(out: &mut Answer, left: &[u8], right: &[u8], octets: &[u8]) 
 }
 
 /// `chainends L R NAME`
-pub fn put_chainends(out: &mut Answer, left: &[u8], right: &[u8], octets: &[u8]) {
+pub fn put_chainends(out: &Answer, left: &[u8], right: &[u8], octets: &[u8]) {
     let Some(chain) = relative_chain(left, right) else {
         return out.fail(Fail::Bad);
     };
@@ -232,7 +232,7 @@ pub fn put_chainends(out: &mut Answer, left: &[u8], right: &[u8], octets: &[u8])
 }
 
 /// `chainstrip L R NAME`: the name without the chain at its end.
-pub fn put_chainstrip(out: &mut Answer, left: &[u8], right: &[u8], octets: &[u8]) {
+pub fn put_chainstrip(out: &Answer, left: &[u8], right: &[u8], octets: &[u8]) {
     let Some(chain) = absolute_chain(left, right) else {
         return out.fail(Fail::Bad);
     };

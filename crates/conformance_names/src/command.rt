@@ -15,7 +15,7 @@ use crate::relative::{put_rel, put_relpart, put_relshow, put_relsplit, put_relst
 use conformance_answer::{Answer, Fields, is};
 
 /// Answers a line whose word is one of these; else it is false.
-pub fn answer_names(fields: Fields<'_>, out: &mut Answer) -> bool {
+pub fn answer_names(fields: &Fields<'_>, out: &Answer) -> bool {
     answer_octets(fields, out)
         || answer_pair(fields, out)
         || answer_part(fields, out)
@@ -25,14 +25,14 @@ pub fn answer_names(fields: Fields<'_>, out: &mut Answer) -> bool {
 }
 
 /// `WORD OCTETS`
-fn answer_octets(fields: Fields<'_>, out: &mut Answer) -> bool {
+fn answer_octets(fields: &Fields<'_>, out: &Answer) -> bool {
     fields.expect(2, out);
     let octets = fields.octets(1, out);
     call_on_octets(fields.at(0), octets.as_slice(), out) || out.is_other_word()
 }
 
 /// The calls of `answer_octets`, by the word: false where it names none of them.
-fn call_on_octets(word: &[u8], octets: &[u8], out: &mut Answer) -> bool {
+fn call_on_octets(word: &[u8], octets: &[u8], out: &Answer) -> bool {
     if is(word, b"name") {
         put_name(out, octets);
     } else if is(word, b"rel") {
@@ -66,7 +66,7 @@ fn call_on_octets(word: &[u8], octets: &[u8], out: &mut Answer) -> bool {
 }
 
 /// `WORD OCTETS OCTETS`
-fn answer_pair(fields: Fields<'_>, out: &mut Answer) -> bool {
+fn answer_pair(fields: &Fields<'_>, out: &Answer) -> bool {
     fields.expect(3, out);
     let first = fields.octets(1, out);
     let second = fields.octets(2, out);
@@ -74,7 +74,7 @@ fn answer_pair(fields: Fields<'_>, out: &mut Answer) -> bool {
 }
 
 /// The calls of `answer_pair`, by the word: false where it names none of them.
-fn call_on_pair(word: &[u8], first: &[u8], second: &[u8], out: &mut Answer) -> bool {
+fn call_on_pair(word: &[u8], first: &[u8], second: &[u8], out: &Answer) -> bool {
     if is(word, b"cmp") {
         put_cmp(out, first, second);
     } else if is(word, b"relcmp") {
@@ -100,7 +100,7 @@ fn call_on_pair(word: &[u8], first: &[u8], second: &[u8], out: &mut Answer) -> b
 }
 
 /// `WORD OCTETS NUMBER`
-fn answer_part(fields: Fields<'_>, out: &mut Answer) -> bool {
+fn answer_part(fields: &Fields<'_>, out: &Answer) -> bool {
     fields.expect(3, out);
     let octets = fields.octets(1, out);
     let number = fields.number(2, out);
@@ -108,7 +108,7 @@ fn answer_part(fields: Fields<'_>, out: &mut Answer) -> bool {
 }
 
 /// The calls of `answer_part`, by the word: false where it names none of them.
-fn call_on_part(word: &[u8], octets: &[u8], number: usize, out: &mut Answer) -> bool {
+fn call_on_part(word: &[u8], octets: &[u8], number: usize, out: &Answer) -> bool {
     if is(word, b"split") {
         put_split(out, octets, number);
     } else if is(word, b"relsplit") {
@@ -120,7 +120,7 @@ fn call_on_part(word: &[u8], octets: &[u8], number: usize, out: &mut Answer) -> 
 }
 
 /// `WORD OCTETS NUMBER NUMBER`
-fn answer_range(fields: Fields<'_>, out: &mut Answer) -> bool {
+fn answer_range(fields: &Fields<'_>, out: &Answer) -> bool {
     fields.expect(4, out);
     let octets = fields.octets(1, out);
     let begin = fields.number(2, out);
@@ -129,7 +129,7 @@ fn answer_range(fields: Fields<'_>, out: &mut Answer) -> bool {
 }
 
 /// The calls of `answer_range`, by the word: false where it names none of them.
-fn call_on_range(word: &[u8], octets: &[u8], begin: usize, end: usize, out: &mut Answer) -> bool {
+fn call_on_range(word: &[u8], octets: &[u8], begin: usize, end: usize, out: &Answer) -> bool {
     if is(word, b"part") {
         put_part(out, octets, begin, end);
     } else if is(word, b"relpart") {
@@ -141,7 +141,7 @@ fn call_on_range(word: &[u8], octets: &[u8], begin: usize, end: usize, out: &mut
 }
 
 /// `WORD OCTETS OCTETS OCTETS`
-fn answer_three(fields: Fields<'_>, out: &mut Answer) -> bool {
+fn answer_three(fields: &Fields<'_>, out: &Answer) -> bool {
     fields.expect(4, out);
     let first = fields.octets(1, out);
     let second = fields.octets(2, out);
@@ -156,7 +156,7 @@ fn answer_three(fields: Fields<'_>, out: &mut Answer) -> bool {
 }
 
 /// The calls of `answer_three`, by the word: false where it names none of them.
-fn call_on_three(word: &[u8], first: &[u8], second: &[u8], third: &[u8], out: &mut Answer) -> bool {
+fn call_on_three(word: &[u8], first: &[u8], second: &[u8], third: &[u8], out: &Answer) -> bool {
     if is(word, b"chaincmp") {
         put_chaincmp(out, first, second, third);
     } else if is(word, b"chainrel") {
@@ -172,7 +172,7 @@ fn call_on_three(word: &[u8], first: &[u8], second: &[u8], third: &[u8], out: &m
 }
 
 /// `WORD`
-fn answer_nothing(fields: Fields<'_>, out: &mut Answer) -> bool {
+fn answer_nothing(fields: &Fields<'_>, out: &Answer) -> bool {
     fields.expect(1, out);
     let word = fields.at(0);
     if is(word, b"root") {

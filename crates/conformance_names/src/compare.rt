@@ -18,7 +18,7 @@ fn digest(octets: &[u8]) -> u64 {
 }
 
 /// Puts the octets that a name feeds a hasher, which the digest of these tells.
-fn put_fed_octets<N: Hash>(out: &mut Answer, name: &N, octets: &[u8]) {
+fn put_fed_octets<N: Hash>(out: &Answer, name: &N, octets: &[u8]) {
     let mut hasher = DefaultHasher::new();
     name.hash(&mut hasher);
     out.agree(hasher.finish() == digest(octets), b"hash");
@@ -26,14 +26,14 @@ fn put_fed_octets<N: Hash>(out: &mut Answer, name: &N, octets: &[u8]) {
 }
 
 /// A name feeds a hasher its lowered wire format.
-fn put_fed<'a, N: AbsoluteLabels<'a> + Hash>(out: &mut Answer, name: &'a N) {
+fn put_fed<'a, N: AbsoluteLabels<'a> + Hash>(out: &Answer, name: &'a N) {
     let mut octets = Vec::new(out.alloc());
     let is_taken = name.compose_canonical(&mut octets).is_ok();
     out.took(is_taken);
     put_fed_octets(out, name, octets.as_slice());
 }
 
-fn put_relative_fed<'a, N: RelativeLabels<'a> + Hash>(out: &mut Answer, name: &'a N) {
+fn put_relative_fed<'a, N: RelativeLabels<'a> + Hash>(out: &Answer, name: &'a N) {
     let mut octets = Vec::new(out.alloc());
     let is_taken = name.compose_canonical(&mut octets).is_ok();
     out.took(is_taken);
@@ -41,7 +41,7 @@ fn put_relative_fed<'a, N: RelativeLabels<'a> + Hash>(out: &mut Answer, name: &'
 }
 
 /// The operators and calls of one kind of names tell this.
-fn is_ordered<N: Ord>(out: &mut Answer, a: &N, b: &N, same: bool, order: Ordering) {
+fn is_ordered<N: Ord>(out: &Answer, a: &N, b: &N, same: bool, order: Ordering) {
     out.agree_all(
         b"==;cmp;partial_cmp",
         &[
@@ -53,7 +53,7 @@ fn is_ordered<N: Ord>(out: &mut Answer, a: &N, b: &N, same: bool, order: Orderin
 }
 
 pub fn put_related<'a, A: AbsoluteLabels<'a>, B: AbsoluteLabels<'a>>(
-    out: &mut Answer,
+    out: &Answer,
     a: &'a A,
     b: &'a B,
 ) {
@@ -66,7 +66,7 @@ pub fn put_related<'a, A: AbsoluteLabels<'a>, B: AbsoluteLabels<'a>>(
 }
 
 pub fn put_compared<'a, A: AbsoluteLabels<'a> + Hash, B: AbsoluteLabels<'a> + Hash>(
-    out: &mut Answer,
+    out: &Answer,
     a: &'a A,
     b: &'a B,
 ) {
@@ -78,20 +78,20 @@ pub fn put_compared<'a, A: AbsoluteLabels<'a> + Hash, B: AbsoluteLabels<'a> + Ha
 }
 
 /// Two names of one kind, and their operators.
-pub fn put_twins<'a, N: AbsoluteLabels<'a> + Ord + Hash>(out: &mut Answer, a: &'a N, b: &'a N) {
+pub fn put_twins<'a, N: AbsoluteLabels<'a> + Ord + Hash>(out: &Answer, a: &'a N, b: &'a N) {
     put_compared(out, a, b);
     is_ordered(out, a, b, a.name_eq(b), a.name_cmp(b));
 }
 
 /// `cmp A B`
-pub fn put_cmp(out: &mut Answer, a: &[u8], b: &[u8]) {
+pub fn put_cmp(out: &Answer, a: &[u8], b: &[u8]) {
     let a = absolute_of(out, a);
     let b = absolute_of(out, b);
     put_twins(out, &a, &b);
 }
 
 fn put_relative_twins<'a, N: RelativeLabels<'a> + Ord + Hash>(
-    out: &mut Answer,
+    out: &Answer,
     a: &'a N,
     b: &'a N,
 ) {
@@ -104,7 +104,7 @@ fn put_relative_twins<'a, N: RelativeLabels<'a> + Ord + Hash>(
 }
 
 /// `relcmp A B`
-pub fn put_relcmp(out: &mut Answer, a: &[u8], b: &[u8]) {
+pub fn put_relcmp(out: &Answer, a: &[u8], b: &[u8]) {
     let a = relative_of(out, a);
     let b = relative_of(out, b);
     put_relative_twins(out, &a, &b);
@@ -112,7 +112,7 @@ pub fn put_relcmp(out: &mut Answer, a: &[u8], b: &[u8]) {
 
 /// Whether an absolute name begins and ends with a relative one, and the relative one with it.
 pub fn put_ends_of<'a, A: AbsoluteLabels<'a>, R: RelativeLabels<'a>>(
-    out: &mut Answer,
+    out: &Answer,
     a: &'a A,
     r: &'a R,
 ) {
@@ -123,7 +123,7 @@ pub fn put_ends_of<'a, A: AbsoluteLabels<'a>, R: RelativeLabels<'a>>(
 }
 
 /// `ends ABSOLUTE RELATIVE`
-pub fn put_ends(out: &mut Answer, absolute: &[u8], relative: &[u8]) {
+pub fn put_ends(out: &Answer, absolute: &[u8], relative: &[u8]) {
     let a = absolute_of(out, absolute);
     let r = relative_of(out, relative);
     put_ends_of(out, &a, &r);
@@ -131,7 +131,7 @@ pub fn put_ends(out: &mut Answer, absolute: &[u8], relative: &[u8]) {
 
 /// How a relative name compares with another.
 fn put_relative_related<'a, A: RelativeLabels<'a>, B: RelativeLabels<'a>>(
-    out: &mut Answer,
+    out: &Answer,
     a: &'a A,
     b: &'a B,
 ) {
@@ -143,7 +143,7 @@ fn put_relative_related<'a, A: RelativeLabels<'a>, B: RelativeLabels<'a>>(
 
 /// Two absolute names, on either side.
 pub fn put_both_related<'a, A: AbsoluteLabels<'a>, B: AbsoluteLabels<'a>>(
-    out: &mut Answer,
+    out: &Answer,
     a: &'a A,
     b: &'a B,
 ) {
@@ -154,7 +154,7 @@ pub fn put_both_related<'a, A: AbsoluteLabels<'a>, B: AbsoluteLabels<'a>>(
 
 /// Two relative names, on either side.
 pub fn put_both_relative_related<'a, A: RelativeLabels<'a>, B: RelativeLabels<'a>>(
-    out: &mut Answer,
+    out: &Answer,
     a: &'a A,
     b: &'a B,
 ) {

@@ -10,7 +10,7 @@ use domain_traits::{ToName, ToRelativeName};
 use domain_wire::{FormError, ParseError};
 
 /// `name OCTETS`
-pub fn put_name(out: &mut Answer, octets: &[u8]) {
+pub fn put_name(out: &Answer, octets: &[u8]) {
     match Name::from_slice(octets) {
         Ok(name) => {
             out.same(name.as_slice(), octets, b"from_slice");
@@ -24,7 +24,7 @@ pub fn put_name(out: &mut Answer, octets: &[u8]) {
 }
 
 /// `show NAME`
-pub fn put_show(out: &mut Answer, octets: &[u8]) {
+pub fn put_show(out: &Answer, octets: &[u8]) {
     let name = absolute_of(out, octets);
     put_texts(out, name);
     out.put_text_after(b" rrsig=", name.rrsig_label_count());
@@ -44,12 +44,12 @@ pub fn put_show(out: &mut Answer, octets: &[u8]) {
     );
 }
 
-fn put_texts(out: &mut Answer, name: Name<&[u8]>) {
+fn put_texts(out: &Answer, name: Name<&[u8]>) {
     out.put_shown_after(b"text=", &name);
     out.put_shown_after(b" dotted=", name.fmt_with_dot());
 }
 
-fn put_canonical(out: &mut Answer, name: Name<&[u8]>) {
+fn put_canonical(out: &Answer, name: Name<&[u8]>) {
     let made: Result<Name<Vec<u8>>, _> = name.to_canonical_name(out.alloc());
     let Ok(canonical) = made else {
         return out.fail(Fail::Memory);
@@ -62,7 +62,7 @@ fn put_canonical(out: &mut Answer, name: Name<&[u8]>) {
     out.same(again.as_slice(), canonical.as_slice(), b"make_canonical");
 }
 
-fn put_suffixes(out: &mut Answer, name: Name<&[u8]>) {
+fn put_suffixes(out: &Answer, name: Name<&[u8]>) {
     let mut is_first = true;
     for suffix in name.iter_suffixes() {
         out.put_comma(&mut is_first);
@@ -71,7 +71,7 @@ fn put_suffixes(out: &mut Answer, name: Name<&[u8]>) {
 }
 
 /// `flatwalk NAME`
-pub fn put_flatwalk(out: &mut Answer, octets: &[u8]) {
+pub fn put_flatwalk(out: &Answer, octets: &[u8]) {
     let name = absolute_of(out, octets);
     put_orders(out, name.iter());
     out.put(b" ");
@@ -84,13 +84,13 @@ pub fn put_flatwalk(out: &mut Answer, octets: &[u8]) {
 }
 
 /// The labels of a reference to a name, written one after the other, are the name's octets.
-fn gives_labels<'a>(out: &mut Answer, name: &'a Name<&'a [u8]>) {
+fn gives_labels<'a>(out: &Answer, name: &'a Name<&'a [u8]>) {
     let wire = wire_of(out, name.into_iter());
     out.same(wire.as_slice(), name.as_slice(), b"into_iter");
 }
 
 /// The first label and the rest, which is the parent.
-fn put_rest(out: &mut Answer, name: Name<&[u8]>, is_first: &mut bool) {
+fn put_rest(out: &Answer, name: Name<&[u8]>, is_first: &mut bool) {
     match name.split_first() {
         None => out.agree(name.parent().is_none(), b"parent"),
         Some((label, rest)) => {
@@ -103,7 +103,7 @@ fn put_rest(out: &mut Answer, name: Name<&[u8]>, is_first: &mut bool) {
 }
 
 /// `split NAME PLACE`
-pub fn put_split(out: &mut Answer, octets: &[u8], mid: usize) {
+pub fn put_split(out: &Answer, octets: &[u8], mid: usize) {
     let name = absolute_of(out, octets);
     if !name.is_label_start(mid) {
         return out.put(b"no");
@@ -122,7 +122,7 @@ pub fn put_split(out: &mut Answer, octets: &[u8], mid: usize) {
 }
 
 /// `part NAME BEGIN END`
-pub fn put_part(out: &mut Answer, octets: &[u8], begin: usize, end: usize) {
+pub fn put_part(out: &Answer, octets: &[u8], begin: usize, end: usize) {
     let name = absolute_of(out, octets);
     if begin <= end && name.is_label_start(begin) && name.is_label_start(end) {
         let part = name.slice(begin..end);
@@ -134,13 +134,13 @@ pub fn put_part(out: &mut Answer, octets: &[u8], begin: usize, end: usize) {
 }
 
 /// `strip NAME BASE`
-pub fn put_strip(out: &mut Answer, octets: &[u8], base: &[u8]) {
+pub fn put_strip(out: &Answer, octets: &[u8], base: &[u8]) {
     let name = absolute_of(out, octets);
     let base = absolute_of(out, base);
     put_stripped(out, name.strip_suffix(&base));
 }
 
-pub fn put_stripped(out: &mut Answer, stripped: Result<RelativeName<&[u8]>, Name<&[u8]>>) {
+pub fn put_stripped(out: &Answer, stripped: Result<RelativeName<&[u8]>, Name<&[u8]>>) {
     match stripped {
         Ok(rest) => {
             out.put_hex_after(b"ok ", rest.as_slice());
@@ -152,7 +152,7 @@ pub fn put_stripped(out: &mut Answer, stripped: Result<RelativeName<&[u8]>, Name
 }
 
 /// `nameerrors OCTETS`: what the refusal of an absolute name becomes where it is handed on.
-pub fn put_nameerrors(out: &mut Answer, octets: &[u8]) {
+pub fn put_nameerrors(out: &Answer, octets: &[u8]) {
     match Name::from_slice(octets) {
         Ok(_) => out.put(b"ok"),
         Err(error) => {

@@ -8,7 +8,7 @@ use octseq::{Octets, OctetsFrom, ShortBuf};
 use std::borrow::CowSlice;
 
 /// `keep NAME`: the name over a `Vec`, and then without its root label.
-pub fn put_keep(out: &mut Answer, octets: &[u8]) {
+pub fn put_keep(out: &Answer, octets: &[u8]) {
     let owned = out.copy_of(octets);
     match Name::from_octets(owned) {
         Ok(name) => put_kept(out, name, octets),
@@ -18,7 +18,7 @@ pub fn put_keep(out: &mut Answer, octets: &[u8]) {
     is_made_of_slice(out, octets);
 }
 
-fn put_kept(out: &mut Answer, name: Name<Vec<u8>>, octets: &[u8]) {
+fn put_kept(out: &Answer, name: Name<Vec<u8>>, octets: &[u8]) {
     match name.clone(out.alloc()) {
         Ok(copy) => put_copied(out, copy.into_octets(), octets),
         Err(_) => out.fail(Fail::Memory),
@@ -35,12 +35,12 @@ fn put_kept(out: &mut Answer, name: Name<Vec<u8>>, octets: &[u8]) {
 }
 
 /// The octets of a copy are those of the name.
-fn put_copied(out: &mut Answer, copy: Vec<u8>, octets: &[u8]) {
+fn put_copied(out: &Answer, copy: Vec<u8>, octets: &[u8]) {
     out.put_hex(copy.as_slice());
     out.same(copy.as_slice(), octets, b"into_octets");
 }
 
-fn is_kept_in_an_array(out: &mut Answer, octets: &[u8]) {
+fn is_kept_in_an_array(out: &Answer, octets: &[u8]) {
     let Ok(held) = ArrayVec::<u8, 255>::try_from(octets) else {
         return out.fail(Fail::Bad);
     };
@@ -54,7 +54,7 @@ fn is_kept_in_an_array(out: &mut Answer, octets: &[u8]) {
 }
 
 /// The name made over octets of each kind.
-fn is_made_of_slice(out: &mut Answer, octets: &[u8]) {
+fn is_made_of_slice(out: &Answer, octets: &[u8]) {
     let Ok(name) = Name::from_slice(octets) else {
         return out.fail(Fail::Bad);
     };
@@ -77,7 +77,7 @@ fn name_over_vec(out: &Answer, name: Name<&[u8]>) -> Result<Name<Vec<u8>>, Short
 }
 
 /// `relkeep NAME`: the name over a `Vec`.
-pub fn put_relkeep(out: &mut Answer, octets: &[u8]) {
+pub fn put_relkeep(out: &Answer, octets: &[u8]) {
     let owned = out.copy_of(octets);
     match RelativeName::from_octets(owned) {
         Ok(name) => put_relative_kept(out, name, octets),
@@ -86,7 +86,7 @@ pub fn put_relkeep(out: &mut Answer, octets: &[u8]) {
     is_relative_in_an_array(out, octets);
 }
 
-fn put_relative_kept(out: &mut Answer, name: RelativeName<Vec<u8>>, octets: &[u8]) {
+fn put_relative_kept(out: &Answer, name: RelativeName<Vec<u8>>, octets: &[u8]) {
     match name.clone(out.alloc()) {
         Ok(copy) => put_copied(out, copy.into_octets(), octets),
         Err(_) => out.fail(Fail::Memory),
@@ -101,7 +101,7 @@ fn put_relative_kept(out: &mut Answer, name: RelativeName<Vec<u8>>, octets: &[u8
     );
 }
 
-fn is_relative_in_an_array(out: &mut Answer, octets: &[u8]) {
+fn is_relative_in_an_array(out: &Answer, octets: &[u8]) {
     let Ok(name) = RelativeName::from_slice(octets) else {
         return out.fail(Fail::Bad);
     };
@@ -115,7 +115,7 @@ fn is_relative_in_an_array(out: &mut Answer, octets: &[u8]) {
 }
 
 /// `root`
-pub fn put_root(out: &mut Answer) {
+pub fn put_root(out: &Answer) {
     let root = Name::root_ref();
     out.put_hex(root.as_slice());
     out.agree_all(
@@ -144,7 +144,7 @@ pub fn put_root(out: &mut Answer) {
 }
 
 /// `empty`
-pub fn put_empty(out: &mut Answer) {
+pub fn put_empty(out: &Answer) {
     let empty = RelativeName::empty_ref();
     out.put_hex(empty.as_slice());
     out.agree(RelativeName::empty_slice() == empty, b"empty_slice");
@@ -159,7 +159,7 @@ pub fn put_empty(out: &mut Answer) {
 }
 
 /// `wildcard`
-pub fn put_wildcard(out: &mut Answer) {
+pub fn put_wildcard(out: &Answer) {
     let wildcard = RelativeName::wildcard_ref();
     out.put_hex(wildcard.as_slice());
     out.agree(

@@ -16,7 +16,7 @@ use std::borrow::CowSlice;
 pub const SIZE: usize = 17;
 
 /// An array that has room for so many octets after those that it holds.
-fn with_room(out: &mut Answer, room: usize) -> ArrayVec<u8, SIZE> {
+fn with_room(out: &Answer, room: usize) -> ArrayVec<u8, SIZE> {
     let mut target = ArrayVec::new();
     for _held in room..SIZE {
         out.agree(target.append_slice(b"\xaa").is_ok(), b"append_slice");
@@ -24,20 +24,20 @@ fn with_room(out: &mut Answer, room: usize) -> ArrayVec<u8, SIZE> {
     target
 }
 
-fn put_composed(out: &mut Answer, refused: bool, octets: &[u8]) {
+fn put_composed(out: &Answer, refused: bool, octets: &[u8]) {
     out.put(if refused { b"err " } else { b"ok " });
     out.put_hex(octets);
 }
 
 /// Puts octets that were composed into an empty `Vec`.
-fn put_all_composed(out: &mut Answer, word: &[u8], taken: bool, octets: &Vec<u8>) {
+fn put_all_composed(out: &Answer, word: &[u8], taken: bool, octets: &Vec<u8>) {
     out.took(taken);
     out.put_hex_after(word, octets.as_slice());
     out.asked_once(octets, b"memory of compose");
 }
 
 /// A name that was made over a `Vec` is this one.
-fn is_made<E: Drop>(out: &mut Answer, made: Result<Name<Vec<u8>>, E>, wanted: &[u8], call: &[u8]) {
+fn is_made<E: Drop>(out: &Answer, made: Result<Name<Vec<u8>>, E>, wanted: &[u8], call: &[u8]) {
     match made {
         Ok(made) => {
             out.same(made.as_slice(), wanted, call);
@@ -47,7 +47,7 @@ fn is_made<E: Drop>(out: &mut Answer, made: Result<Name<Vec<u8>>, E>, wanted: &[
     }
 }
 
-fn put_cow(out: &mut Answer, octets: &CowSlice<'_, u8>) {
+fn put_cow(out: &Answer, octets: &CowSlice<'_, u8>) {
     match octets {
         CowSlice::Borrowed(_) => out.put(b" cow=lent"),
         CowSlice::Owned(made) => {
@@ -58,7 +58,7 @@ fn put_cow(out: &mut Answer, octets: &CowSlice<'_, u8>) {
 }
 
 /// Puts whether `to_cow` borrowed the octets.
-fn put_cow_name(out: &mut Answer, made: Result<Name<CowSlice<'_, u8>>, ShortBuf>, wanted: &[u8]) {
+fn put_cow_name(out: &Answer, made: Result<Name<CowSlice<'_, u8>>, ShortBuf>, wanted: &[u8]) {
     match made {
         Ok(made) => {
             put_cow(out, made.as_octets());
@@ -68,13 +68,13 @@ fn put_cow_name(out: &mut Answer, made: Result<Name<CowSlice<'_, u8>>, ShortBuf>
     }
 }
 
-fn is_lent(out: &mut Answer, lent: Option<&[u8]>, wanted: &[u8]) {
+fn is_lent(out: &Answer, lent: Option<&[u8]>, wanted: &[u8]) {
     if let Some(lent) = lent {
         out.same(lent, wanted, b"as_flat_slice");
     }
 }
 
-fn put_held(out: &mut Answer, word: &[u8], made: Result<Name<ArrayVec<u8, 17>>, ShortBuf>) {
+fn put_held(out: &Answer, word: &[u8], made: Result<Name<ArrayVec<u8, 17>>, ShortBuf>) {
     out.put(word);
     match made {
         Ok(made) => out.put_hex(made.as_slice()),
@@ -85,7 +85,7 @@ fn put_held(out: &mut Answer, word: &[u8], made: Result<Name<ArrayVec<u8, 17>>, 
 /// The name over a `Vec`, its canonical form, whether `to_cow` lends, the same over 17 octets, and
 /// what is composed into 17 octets after one octet; the text with a final dot, and the labels that a signature
 /// counts.
-pub fn put_forms<'a, N: AbsoluteLabels<'a>>(out: &mut Answer, name: &'a N) {
+pub fn put_forms<'a, N: AbsoluteLabels<'a>>(out: &Answer, name: &'a N) {
     let alloc = out.alloc();
     let mut wire: Vec<u8> = Vec::new(alloc);
     let taken = name.compose(&mut wire).is_ok();
@@ -114,7 +114,7 @@ pub fn put_forms<'a, N: AbsoluteLabels<'a>>(out: &mut Answer, name: &'a N) {
 }
 
 /// What is composed after other octets that leave so much room, and the same of the canonical form.
-pub fn put_appended<'a, N: AbsoluteLabels<'a>>(out: &mut Answer, name: &'a N, room: usize) {
+pub fn put_appended<'a, N: AbsoluteLabels<'a>>(out: &Answer, name: &'a N, room: usize) {
     let mut target = with_room(out, room);
     let refused = name.compose(&mut target).is_err();
     put_composed(out, refused, target.as_slice());
@@ -125,20 +125,20 @@ pub fn put_appended<'a, N: AbsoluteLabels<'a>>(out: &mut Answer, name: &'a N, ro
 }
 
 /// `forms NAME`
-pub fn put_flat_forms(out: &mut Answer, octets: &[u8]) {
+pub fn put_flat_forms(out: &Answer, octets: &[u8]) {
     let name = absolute_of(out, octets);
     put_forms(out, &name);
 }
 
 /// `lentforms NAME`: those of a reference to the name.
-pub fn put_lent_forms(out: &mut Answer, octets: &[u8]) {
+pub fn put_lent_forms(out: &Answer, octets: &[u8]) {
     let name = absolute_of(out, octets);
     put_forms(out, &&name);
 }
 
 /// A relative name that was made over a `Vec` is this one.
 fn is_relative_made(
-    out: &mut Answer,
+    out: &Answer,
     made: Result<RelativeName<Vec<u8>>, ShortBuf>,
     wanted: &[u8],
     call: &[u8],
@@ -153,7 +153,7 @@ fn is_relative_made(
 }
 
 /// A builder that took the labels of the name has them.
-fn is_appended(out: &mut Answer, taken: bool, builder: NameBuilder<Vec<u8>>, wanted: &[u8]) {
+fn is_appended(out: &Answer, taken: bool, builder: NameBuilder<Vec<u8>>, wanted: &[u8]) {
     out.took(taken);
     let made = builder.finish();
     out.same(made.as_slice(), wanted, b"append_name");
@@ -161,7 +161,7 @@ fn is_appended(out: &mut Answer, taken: bool, builder: NameBuilder<Vec<u8>>, wan
 }
 
 fn put_cow_relative(
-    out: &mut Answer,
+    out: &Answer,
     made: Result<RelativeName<CowSlice<'_, u8>>, ShortBuf>,
     wanted: &[u8],
 ) {
@@ -175,7 +175,7 @@ fn put_cow_relative(
 }
 
 fn put_relative_held(
-    out: &mut Answer,
+    out: &Answer,
     word: &[u8],
     made: Result<RelativeName<ArrayVec<u8, 17>>, ShortBuf>,
 ) {
@@ -187,7 +187,7 @@ fn put_relative_held(
 }
 
 /// What `put_forms` tells, of a relative name.
-pub fn put_relative_forms<'a, N: RelativeLabels<'a>>(out: &mut Answer, name: &'a N) {
+pub fn put_relative_forms<'a, N: RelativeLabels<'a>>(out: &Answer, name: &'a N) {
     let alloc = out.alloc();
     let mut wire: Vec<u8> = Vec::new(alloc);
     let taken = name.compose(&mut wire).is_ok();
@@ -227,7 +227,7 @@ pub fn put_relative_forms<'a, N: RelativeLabels<'a>>(out: &mut Answer, name: &'a
 
 /// What `put_appended` tells, of a relative name.
 pub fn put_relative_appended<'a, N: RelativeLabels<'a>>(
-    out: &mut Answer,
+    out: &Answer,
     name: &'a N,
     room: usize,
 ) {
@@ -241,7 +241,7 @@ pub fn put_relative_appended<'a, N: RelativeLabels<'a>>(
 }
 
 /// `relforms NAME`
-pub fn put_relative_flat_forms(out: &mut Answer, octets: &[u8]) {
+pub fn put_relative_flat_forms(out: &Answer, octets: &[u8]) {
     let name = relative_of(out, octets);
     put_relative_forms(out, &name);
 }

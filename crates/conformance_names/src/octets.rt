@@ -4,7 +4,7 @@ use conformance_answer::{Answer, Fail};
 use domain_name::{Name, RelativeName};
 
 /// The absolute name of these octets. If they are none, that is noted, and it is the root.
-pub fn absolute_of<'a>(out: &mut Answer, octets: &'a [u8]) -> Name<&'a [u8]> {
+pub fn absolute_of<'a>(out: &Answer, octets: &'a [u8]) -> Name<&'a [u8]> {
     match Name::from_slice(octets) {
         Ok(name) => name,
         Err(_) => {
@@ -15,7 +15,7 @@ pub fn absolute_of<'a>(out: &mut Answer, octets: &'a [u8]) -> Name<&'a [u8]> {
 }
 
 /// The relative name of these octets. If they are none, that is noted, and it is empty.
-pub fn relative_of<'a>(out: &mut Answer, octets: &'a [u8]) -> RelativeName<&'a [u8]> {
+pub fn relative_of<'a>(out: &Answer, octets: &'a [u8]) -> RelativeName<&'a [u8]> {
     match RelativeName::from_slice(octets) {
         Ok(name) => name,
         Err(_) => {

@@ -5,7 +5,7 @@ use domain_label::Label;
 use domain_list::LabelIterator;
 
 /// Labels taken from two ends in turn, until there is none at the one nor at the other.
-fn put_taken<'a, I: LabelIterator<'a>>(out: &mut Answer, labels: I, one: End, other: End) {
+fn put_taken<'a, I: LabelIterator<'a>>(out: &Answer, labels: I, one: End, other: End) {
     let mut labels = labels;
     let mut is_first = true;
     for time in 0..1000u32 {
@@ -22,12 +22,12 @@ fn put_taken<'a, I: LabelIterator<'a>>(out: &mut Answer, labels: I, one: End, ot
 }
 
 /// Labels from the back.
-pub fn put_turned<'a, I: LabelIterator<'a>>(out: &mut Answer, labels: I) {
+pub fn put_turned<'a, I: LabelIterator<'a>>(out: &Answer, labels: I) {
     put_taken(out, labels, End::Back, End::Back);
 }
 
 /// The labels from the front, from the back and from both ends in turn.
-pub fn put_orders<'a, I: LabelIterator<'a>>(out: &mut Answer, labels: I) {
+pub fn put_orders<'a, I: LabelIterator<'a>>(out: &Answer, labels: I) {
     put_taken(out, labels, End::Front, End::Front);
     out.put(b" ");
     put_turned(out, labels);
@@ -37,7 +37,7 @@ pub fn put_orders<'a, I: LabelIterator<'a>>(out: &mut Answer, labels: I) {
 
 /// What calls give one after another, `f` at the front and `b` at the back. The labels of the other name must be the same.
 pub fn put_mixture<'a, I: LabelIterator<'a>, J: LabelIterator<'a>>(
-    out: &mut Answer,
+    out: &Answer,
     labels: I,
     twins: J,
     calls: &[u8],
@@ -62,7 +62,7 @@ pub fn put_mixture<'a, I: LabelIterator<'a>, J: LabelIterator<'a>>(
 }
 
 /// Labels as they stand on the wire, one after the other.
-pub fn wire_of<'a, I: LabelIterator<'a>>(out: &mut Answer, labels: I) -> Vec<u8> {
+pub fn wire_of<'a, I: LabelIterator<'a>>(out: &Answer, labels: I) -> Vec<u8> {
     let mut octets: Vec<u8> = Vec::new(out.alloc());
     let mut labels = labels;
     for _time in 0..1000u32 {

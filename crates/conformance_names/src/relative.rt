@@ -10,7 +10,7 @@ use domain_name::RelativeName;
 use domain_traits::ToRelativeName;
 
 /// `rel OCTETS`
-pub fn put_rel(out: &mut Answer, octets: &[u8]) {
+pub fn put_rel(out: &Answer, octets: &[u8]) {
     match RelativeName::from_slice(octets) {
         Ok(name) => {
             out.same(name.as_slice(), octets, b"from_slice");
@@ -23,7 +23,7 @@ pub fn put_rel(out: &mut Answer, octets: &[u8]) {
     }
 }
 
-fn put_label_or_none(out: &mut Answer, label: Option<Label<'_>>) {
+fn put_label_or_none(out: &Answer, label: Option<Label<'_>>) {
     match label {
         Some(label) => out.put_hex(label.as_slice()),
         None => out.put(b"none"),
@@ -31,7 +31,7 @@ fn put_label_or_none(out: &mut Answer, label: Option<Label<'_>>) {
 }
 
 /// `relshow NAME`
-pub fn put_relshow(out: &mut Answer, octets: &[u8]) {
+pub fn put_relshow(out: &Answer, octets: &[u8]) {
     let name = relative_of(out, octets);
     out.put_shown_after(b"text=", &name);
     out.put_number_after(b" ndots=", name.ndots());
@@ -51,7 +51,7 @@ pub fn put_relshow(out: &mut Answer, octets: &[u8]) {
     );
 }
 
-fn put_canonical(out: &mut Answer, name: RelativeName<&[u8]>) {
+fn put_canonical(out: &Answer, name: RelativeName<&[u8]>) {
     let made: Result<RelativeName<Vec<u8>>, _> = name.to_canonical_relative_name(out.alloc());
     let Ok(canonical) = made else {
         return out.fail(Fail::Memory);
@@ -65,7 +65,7 @@ fn put_canonical(out: &mut Answer, name: RelativeName<&[u8]>) {
 }
 
 /// `relwalk NAME`
-pub fn put_relwalk(out: &mut Answer, octets: &[u8]) {
+pub fn put_relwalk(out: &Answer, octets: &[u8]) {
     let name = relative_of(out, octets);
     put_orders(out, name.iter());
     out.put(b" ");
@@ -74,13 +74,13 @@ pub fn put_relwalk(out: &mut Answer, octets: &[u8]) {
 }
 
 /// The labels of a reference to a name, written one after the other, are the name's octets.
-fn gives_labels<'a>(out: &mut Answer, name: &'a RelativeName<&'a [u8]>) {
+fn gives_labels<'a>(out: &Answer, name: &'a RelativeName<&'a [u8]>) {
     let wire = wire_of(out, name.into_iter());
     out.same(wire.as_slice(), name.as_slice(), b"into_iter");
 }
 
 /// The first label and the rest, which is the parent.
-fn put_first(out: &mut Answer, name: RelativeName<&[u8]>) {
+fn put_first(out: &Answer, name: RelativeName<&[u8]>) {
     match name.split_first() {
         None => {
             out.put(b"none");
@@ -95,7 +95,7 @@ fn put_first(out: &mut Answer, name: RelativeName<&[u8]>) {
 }
 
 /// `relsplit NAME PLACE`
-pub fn put_relsplit(out: &mut Answer, octets: &[u8], mid: usize) {
+pub fn put_relsplit(out: &Answer, octets: &[u8], mid: usize) {
     let name = relative_of(out, octets);
     if !name.is_label_start(mid) {
         return out.put(b"no");
@@ -109,7 +109,7 @@ pub fn put_relsplit(out: &mut Answer, octets: &[u8], mid: usize) {
 }
 
 /// `relpart NAME BEGIN END`
-pub fn put_relpart(out: &mut Answer, octets: &[u8], begin: usize, end: usize) {
+pub fn put_relpart(out: &Answer, octets: &[u8], begin: usize, end: usize) {
     let name = relative_of(out, octets);
     if begin <= end && name.is_label_start(begin) && name.is_label_start(end) {
         let part = name.slice(begin..end);
@@ -121,7 +121,7 @@ pub fn put_relpart(out: &mut Answer, octets: &[u8], begin: usize, end: usize) {
 }
 
 /// `relstrip NAME BASE`
-pub fn put_relstrip(out: &mut Answer, octets: &[u8], base: &[u8]) {
+pub fn put_relstrip(out: &Answer, octets: &[u8], base: &[u8]) {
     let mut name = relative_of(out, octets);
     let base = relative_of(out, base);
     match name.strip_suffix(&base) {

@@ -1,4 +1,5 @@
 //! Builders: calls one after another, and what they make.
+ghost use Rattle.std.specs.Prelude.{◌≤◌};
 
 use crate::text::{put_text_error, symbols_of};
 use arrayvec::ArrayVec;
@@ -27,7 +28,7 @@ struct Plan<'a> {
 }
 
 /// The octets after the word of each call, none where there is no argument.
-fn arguments_of(out: &mut Answer, line: &[u8]) -> Vec<Vec<u8>> {
+fn arguments_of(out: &Answer, line: &[u8]) -> Vec<Vec<u8>> {
     let mut arguments = Vec::new(out.alloc());
     for field in line.split(|octet| *octet == b';') {
         let (_word, digits) = split_once(field, b':');
@@ -128,7 +129,7 @@ fn argument_at(arguments: &[Vec<u8>], at: usize) -> &[u8] {
 
 /// Adds a call to those of a line, or what ends them.
 fn add_call<'a>(
-    out: &mut Answer,
+    out: &Answer,
     word: &[u8],
     octets: &'a [u8],
     calls: &mut Vec<BuilderCall<'a>>,
@@ -146,7 +147,7 @@ fn add_call<'a>(
 
 /// The calls that stand in a line, whose octets are given, and what ends them.
 fn plan_of<'a>(
-    out: &mut Answer,
+    out: &Answer,
     line: &[u8],
     arguments: &'a [Vec<u8>],
     calls: &mut Vec<BuilderCall<'a>>,
@@ -170,17 +171,17 @@ fn plan_of<'a>(
 }
 
 /// `build CALLS`: over a `Vec`.
-pub fn put_build(out: &mut Answer, line: &[u8]) {
+pub fn put_build(out: &Answer, line: &[u8]) {
     put_line(out, None, line);
 }
 
 /// `buildcap OCTETS CALLS`: over an array of so many octets.
-pub fn put_buildcap(out: &mut Answer, room: usize, line: &[u8]) {
+pub fn put_buildcap(out: &Answer, room: usize, line: &[u8]) {
     put_line(out, Some(room), line);
 }
 
 /// Calls over an array of so many octets, or over a `Vec`.
-fn put_line(out: &mut Answer, room: Option<usize>, line: &[u8]) {
+fn put_line(out: &Answer, room: Option<usize>, line: &[u8]) {
     let arguments = arguments_of(out, line);
     let mut calls = Vec::new(out.alloc());
     let (front, last) = plan_of(out, line, arguments.as_slice(), &mut calls);
@@ -198,16 +199,16 @@ fn put_line(out: &mut Answer, room: Option<usize>, line: &[u8]) {
     }
 }
 
-fn put_built_in_room(out: &mut Answer, plan: Plan<'_>, room: usize) -> bool {
+fn put_built_in_room(out: &Answer, plan: Plan<'_>, room: usize) -> bool {
     match room {
-        0 => put_built::<ArrayVec<u8, 0>>(out, plan),
-        1 => put_built::<ArrayVec<u8, 1>>(out, plan),
-        2 => put_built::<ArrayVec<u8, 2>>(out, plan),
-        3 => put_built::<ArrayVec<u8, 3>>(out, plan),
-        4 => put_built::<ArrayVec<u8, 4>>(out, plan),
-        5 => put_built::<ArrayVec<u8, 5>>(out, plan),
-        8 => put_built::<ArrayVec<u8, 8>>(out, plan),
-        255 => put_built::<ArrayVec<u8, 255>>(out, plan),
+        0 => put_built_in_array::<0>(out, plan),
+        1 => put_built_in_array::<1>(out, plan),
+        2 => put_built_in_array::<2>(out, plan),
+        3 => put_built_in_array::<3>(out, plan),
+        4 => put_built_in_array::<4>(out, plan),
+        5 => put_built_in_array::<5>(out, plan),
+        8 => put_built_in_array::<8>(out, plan),
+        255 => put_built_in_array::<255>(out, plan),
         _ => {
             out.fail(Fail::Bad);
             false
@@ -215,11 +216,15 @@ fn put_built_in_room(out: &mut Answer, plan: Plan<'_>, room: usize) -> bool {
     }
 }
 
+/// The calls over an array of so many octets.
+fn put_built_in_array<const N: usize>(out: &Answer, plan: Plan<'_>) -> bool
+    requires { N ≤ 255 }
+{
+    put_built::<ArrayVec<u8, N>>(out, plan)
+}
+
 /// A builder that begins with these octets, or the reason why there is none.
-fn begun<B: EmptyBuilder + OctetsMut + Drop>(
-    out: &mut Answer,
-    front: &[u8],
-) -> Option<NameBuilder<B>> {
+fn begun<B: EmptyBuilder + OctetsMut + Drop>(out: &Answer, front: &[u8]) -> Option<NameBuilder<B>> {
     if front.is_empty() {
         return Some(NameBuilder::new(out.alloc()));
     }
@@ -240,7 +245,7 @@ fn begun<B: EmptyBuilder + OctetsMut + Drop>(
 
 /// Makes the calls of a plan, and puts what each answers and what is built. Tells whether there was a builder.
 fn put_built<B: EmptyBuilder + OctetsMut + FreezeBuilder + Drop>(
-    out: &mut Answer,
+    out: &Answer,
     plan: Plan<'_>,
 ) -> bool
 where
@@ -258,7 +263,7 @@ where
 
 /// Makes each call, puts what it answers, and counts those that were accepted.
 fn put_calls<B: OctetsBuilder + OctetsMut>(
-    out: &mut Answer,
+    out: &Answer,
     builder: &mut NameBuilder<B>,
     calls: &[BuilderCall<'_>],
 ) -> usize {
@@ -275,7 +280,7 @@ fn put_calls<B: OctetsBuilder + OctetsMut>(
 }
 
 fn put_call<B: OctetsBuilder + OctetsMut>(
-    out: &mut Answer,
+    out: &Answer,
     builder: &mut NameBuilder<B>,
     call: BuilderCall<'_>,
 ) -> bool {
@@ -301,11 +306,11 @@ fn put_call<B: OctetsBuilder + OctetsMut>(
 
 /// A refusal that is told by its kind.
 trait Kind {
-    fn put(&self, out: &mut Answer);
+    fn put(&self, out: &Answer);
 }
 
 impl Kind for PushError {
-    fn put(&self, out: &mut Answer) {
+    fn put(&self, out: &Answer) {
         match self {
             PushError::LongLabel => out.put(b"LongLabel"),
             PushError::LongName => out.put(b"LongName"),
@@ -315,7 +320,7 @@ impl Kind for PushError {
 }
 
 impl Kind for PushNameError {
-    fn put(&self, out: &mut Answer) {
+    fn put(&self, out: &Answer) {
         match self {
             PushNameError::LongName => out.put(b"LongName"),
             PushNameError::ShortBuf => out.put(b"ShortBuf"),
@@ -324,13 +329,13 @@ impl Kind for PushNameError {
 }
 
 impl Kind for FromStrError {
-    fn put(&self, out: &mut Answer) {
+    fn put(&self, out: &Answer) {
         put_text_error(out, *self);
     }
 }
 
 /// Puts whether a call was accepted, or why not, and tells that.
-fn put_done<E: Kind + Copy>(out: &mut Answer, done: Result<(), E>) -> bool {
+fn put_done<E: Kind + Copy>(out: &Answer, done: Result<(), E>) -> bool {
     match done {
         Ok(()) => {
             out.put(b"ok");
@@ -343,7 +348,7 @@ fn put_done<E: Kind + Copy>(out: &mut Answer, done: Result<(), E>) -> bool {
     }
 }
 
-fn is_measured<B: OctetsBuilder + OctetsMut>(out: &mut Answer, builder: &NameBuilder<B>) {
+fn is_measured<B: OctetsBuilder + OctetsMut>(out: &Answer, builder: &NameBuilder<B>) {
     let octets = builder.as_slice();
     out.agree_all(
         b"len;is_empty;as_slice",
@@ -357,7 +362,7 @@ fn is_measured<B: OctetsBuilder + OctetsMut>(out: &mut Answer, builder: &NameBui
 
 /// All calls at once do the same.
 fn is_applied_alike<B: EmptyBuilder + OctetsMut + Drop>(
-    out: &mut Answer,
+    out: &Answer,
     builder: &NameBuilder<B>,
     plan: Plan<'_>,
     accepted: usize,
@@ -377,7 +382,7 @@ fn is_applied_alike<B: EmptyBuilder + OctetsMut + Drop>(
 }
 
 /// Puts the name that was made, or why there is none.
-fn put_name<Octs: Octets + Drop, E: Kind + Drop>(out: &mut Answer, made: Result<Name<Octs>, E>) {
+fn put_name<Octs: Octets + Drop, E: Kind + Drop>(out: &Answer, made: Result<Name<Octs>, E>) {
     match made {
         Ok(name) => out.put_hex_after(b"ok ", name.as_slice()),
         Err(error) => error.put(out),
@@ -385,14 +390,14 @@ fn put_name<Octs: Octets + Drop, E: Kind + Drop>(out: &mut Answer, made: Result<
 }
 
 /// Puts what a builder is left with.
-fn put_left<B: OctetsBuilder + OctetsMut>(out: &mut Answer, builder: &NameBuilder<B>) {
+fn put_left<B: OctetsBuilder + OctetsMut>(out: &Answer, builder: &NameBuilder<B>) {
     out.put_hex_after(b" ", builder.as_slice());
     out.put_bit(b" ", builder.in_label());
 }
 
 /// Puts the name that the calls end in, or what the builder is left with.
 fn put_last<B: OctetsBuilder + OctetsMut + FreezeBuilder + Drop>(
-    out: &mut Answer,
+    out: &Answer,
     builder: NameBuilder<B>,
     plan: Plan<'_>,
 )
@@ -411,7 +416,7 @@ where
 }
 
 /// The symbols of each text do what its characters do, and a copy of the builder goes on as the builder does.
-fn takes_symbols(out: &mut Answer, plan: Plan<'_>) {
+fn takes_symbols(out: &Answer, plan: Plan<'_>) {
     let Some(mut builder) = begun::<Vec<u8>>(out, plan.front) else {
         return;
     };
@@ -426,11 +431,7 @@ fn takes_symbols(out: &mut Answer, plan: Plan<'_>) {
 }
 
 /// A copy that was made before a call takes it as the builder does.
-fn goes_on_as_its_copy(
-    out: &mut Answer,
-    builder: &mut NameBuilder<Vec<u8>>,
-    call: BuilderCall<'_>,
-) {
+fn goes_on_as_its_copy(out: &Answer, builder: &mut NameBuilder<Vec<u8>>, call: BuilderCall<'_>) {
     let Ok(mut copy) = builder.clone(out.alloc()) else {
         return out.fail(Fail::Memory);
     };
@@ -448,7 +449,7 @@ fn goes_on_as_its_copy(
 }
 
 /// A builder over an array of 255 octets that took all calls, and a copy of it.
-fn is_copied_in_an_array(out: &mut Answer, plan: Plan<'_>) {
+fn is_copied_in_an_array(out: &Answer, plan: Plan<'_>) {
     let Some(mut builder) = begun::<ArrayVec<u8, 255>>(out, plan.front) else {
         return;
     };
@@ -468,7 +469,7 @@ fn is_copied_in_an_array(out: &mut Answer, plan: Plan<'_>) {
 }
 
 fn takes_symbols_alike(
-    out: &mut Answer,
+    out: &Answer,
     builder: &NameBuilder<Vec<u8>>,
     text: &str,
     symbols: &[Symbol],
@@ -481,7 +482,7 @@ fn takes_symbols_alike(
 
 /// The symbols are appended to one copy of the builder, and the text's characters to another.
 fn takes_symbols_as(
-    out: &mut Answer,
+    out: &Answer,
     copy: NameBuilder<Vec<u8>>,
     builder: &NameBuilder<Vec<u8>>,
     text: &str,
@@ -504,7 +505,7 @@ fn takes_symbols_as(
 }
 
 /// `absolute NAME`: the root after a relative name, over a `Vec` and over an array of 17 octets.
-pub fn put_absolute(out: &mut Answer, octets: &[u8]) {
+pub fn put_absolute(out: &Answer, octets: &[u8]) {
     let owned = out.copy_of(octets);
     match RelativeName::from_octets(owned) {
         Ok(name) => put_made_absolute(out, name),
@@ -514,14 +515,14 @@ pub fn put_absolute(out: &mut Answer, octets: &[u8]) {
     put_absolute_in_an_array(out, octets);
 }
 
-fn put_made_absolute(out: &mut Answer, name: RelativeName<Vec<u8>>) {
+fn put_made_absolute(out: &Answer, name: RelativeName<Vec<u8>>) {
     match name.into_absolute() {
         Ok(made) => out.put_hex(made.as_slice()),
         Err(_) => out.fail(Fail::Memory),
     }
 }
 
-fn put_absolute_in_an_array(out: &mut Answer, octets: &[u8]) {
+fn put_absolute_in_an_array(out: &Answer, octets: &[u8]) {
     let Ok(held) = ArrayVec::<u8, 17>::try_from(octets) else {
         return out.put(b"none");
     };

@@ -6,7 +6,7 @@ use domain_name::NameBuilder;
 use octseq::{EmptyBuilder, Octets, OctetsBuilder, OctetsMut, ShortBuf};
 
 /// `capacity LEN`: `ok` where the room was given, over a `Vec` and over an array of 8 octets; and so for builders.
-pub fn put_capacity(out: &mut Answer, digits: &[u8]) {
+pub fn put_capacity(out: &Answer, digits: &[u8]) {
     let Some(len) = number_of(digits) else {
         return out.fail(Fail::Bad);
     };
@@ -25,7 +25,7 @@ fn number_of(digits: &[u8]) -> Option<usize> {
     str::from_utf8(digits).ok()?.parse::<usize>().ok()
 }
 
-fn put_vec(out: &mut Answer, len: usize) {
+fn put_vec(out: &Answer, len: usize) {
     match <Vec<u8> as EmptyBuilder>::with_capacity(out.alloc(), len) {
         Ok(made) => {
             out.agree(made.is_empty() && made.capacity() >= len, b"with_capacity");
@@ -36,7 +36,7 @@ fn put_vec(out: &mut Answer, len: usize) {
 }
 
 /// An array has its own room, whatever number is asked for.
-fn put_array(out: &mut Answer, len: usize) {
+fn put_array(out: &Answer, len: usize) {
     match <ArrayVec<u8, 8> as EmptyBuilder>::with_capacity(out.alloc(), len) {
         Ok(made) => {
             out.agree(made.is_empty() && made.capacity() == 8, b"with_capacity");
@@ -48,7 +48,7 @@ fn put_array(out: &mut Answer, len: usize) {
 
 /// A builder begins with nothing, and takes an octet.
 fn put_builder<B: OctetsBuilder + OctetsMut + Drop>(
-    out: &mut Answer,
+    out: &Answer,
     made: Result<NameBuilder<B>, ShortBuf>,
 ) {
     match made {

@@ -8,19 +8,19 @@ use crate::text::{put_labeltext, put_reltext, put_reltextroom, put_text, put_tex
 use conformance_answer::{Answer, Fields, is};
 
 /// Answers a line whose word is one of these; else it is false.
-pub fn answer_texts(fields: Fields<'_>, out: &mut Answer) -> bool {
+pub fn answer_texts(fields: &Fields<'_>, out: &Answer) -> bool {
     answer_octets(fields, out) || answer_room(fields, out) || answer_calls(fields, out)
 }
 
 /// `WORD OCTETS`
-fn answer_octets(fields: Fields<'_>, out: &mut Answer) -> bool {
+fn answer_octets(fields: &Fields<'_>, out: &Answer) -> bool {
     fields.expect(2, out);
     let octets = fields.octets(1, out);
     call_on_octets(fields.at(0), octets.as_slice(), out) || out.is_other_word()
 }
 
 /// The calls of `answer_octets`, by the word: false where it names none of them.
-fn call_on_octets(word: &[u8], octets: &[u8], out: &mut Answer) -> bool {
+fn call_on_octets(word: &[u8], octets: &[u8], out: &Answer) -> bool {
     if is(word, b"text") {
         put_text(out, octets);
     } else if is(word, b"reltext") {
@@ -38,7 +38,7 @@ fn call_on_octets(word: &[u8], octets: &[u8], out: &mut Answer) -> bool {
 }
 
 /// `WORD OCTETS NUMBER`
-fn answer_room(fields: Fields<'_>, out: &mut Answer) -> bool {
+fn answer_room(fields: &Fields<'_>, out: &Answer) -> bool {
     fields.expect(3, out);
     let octets = fields.octets(1, out);
     let number = fields.number(2, out);
@@ -46,7 +46,7 @@ fn answer_room(fields: Fields<'_>, out: &mut Answer) -> bool {
 }
 
 /// The calls of `answer_room`, by the word: false where it names none of them.
-fn call_on_room(word: &[u8], octets: &[u8], number: usize, out: &mut Answer) -> bool {
+fn call_on_room(word: &[u8], octets: &[u8], number: usize, out: &Answer) -> bool {
     if is(word, b"textroom") {
         put_textroom(out, octets, number);
     } else if is(word, b"reltextroom") {
@@ -58,7 +58,7 @@ fn call_on_room(word: &[u8], octets: &[u8], number: usize, out: &mut Answer) -> 
 }
 
 /// `WORD` with fields that aren't octets
-fn answer_calls(fields: Fields<'_>, out: &mut Answer) -> bool {
+fn answer_calls(fields: &Fields<'_>, out: &Answer) -> bool {
     let word = fields.at(0);
     if is(word, b"build") {
         fields.expect(2, out);

@@ -14,13 +14,13 @@ use octseq::ShortBuf;
 use std::fmt::Display;
 
 /// What an error is shown as, and a semicolon.
-fn put_error<D: Display + Drop>(out: &mut Answer, error: D) {
+fn put_error<D: Display + Drop>(out: &Answer, error: D) {
     out.put_text(error);
     out.put(b";");
 }
 
 /// `errors`: each text, and what the errors become where they are handed on.
-pub fn put_errors(out: &mut Answer) {
+pub fn put_errors(out: &Answer) {
     put_push_errors(out);
     put_symbol_errors(out);
     put_label_errors(out);
@@ -28,7 +28,7 @@ pub fn put_errors(out: &mut Answer) {
     put_data_errors(out);
 }
 
-fn put_push_errors(out: &mut Answer) {
+fn put_push_errors(out: &Answer) {
     for error in [
         PushError::LongLabel,
         PushError::LongName,
@@ -50,7 +50,7 @@ fn put_push_errors(out: &mut Answer) {
     );
 }
 
-fn put_symbol_errors(out: &mut Answer) {
+fn put_symbol_errors(out: &Answer) {
     for error in [SymbolCharsError::ShortInput, SymbolCharsError::BadEscape] {
         put_error(out, error);
         put_error(out, LabelFromStrError::from(error));
@@ -63,7 +63,7 @@ fn put_symbol_errors(out: &mut Answer) {
     put_error(out, FromStrError::from(BadSymbol));
 }
 
-fn put_label_errors(out: &mut Answer) {
+fn put_label_errors(out: &Answer) {
     for kind in [
         LabelFromStrErrorKind::BinaryLabel,
         LabelFromStrErrorKind::LongLabel,
@@ -75,7 +75,7 @@ fn put_label_errors(out: &mut Answer) {
     }
 }
 
-fn put_presentation_errors(out: &mut Answer) {
+fn put_presentation_errors(out: &Answer) {
     for kind in [
         PresentationErrorKind::EmptyLabel,
         PresentationErrorKind::LongName,
@@ -89,7 +89,7 @@ fn put_presentation_errors(out: &mut Answer) {
     put_error(out, RelativeFromStrError::AbsoluteName);
 }
 
-fn put_data_errors(out: &mut Answer) {
+fn put_data_errors(out: &Answer) {
     put_error(out, LongRecordData);
     put_error(out, ParseError::from(LongRecordData));
     put_error(out, ComposeRdataError::<ShortBuf>::Append(ShortBuf));

@@ -7,7 +7,7 @@ use domain_name::Name;
 use domain_wire::IpAddr;
 
 /// `rev OCTETS`: the name of an address.
-pub fn put_rev(out: &mut Answer, octets: &[u8]) {
+pub fn put_rev(out: &Answer, octets: &[u8]) {
     if let Ok(four) = <[u8; 4]>::try_from(octets) {
         return put_reverse(out, IpAddr::from(four));
     }
@@ -17,7 +17,7 @@ pub fn put_rev(out: &mut Answer, octets: &[u8]) {
     }
 }
 
-fn put_reverse(out: &mut Answer, address: IpAddr) {
+fn put_reverse(out: &Answer, address: IpAddr) {
     let made: Result<Name<Vec<u8>>, PushError> = Name::reverse_from_addr(out.alloc(), address);
     let Ok(name) = made else {
         return out.fail(Fail::Memory);

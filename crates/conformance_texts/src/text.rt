@@ -28,7 +28,7 @@ fn relative_read<Octs: Octets>(
 }
 
 /// The text that octets are in UTF-8. If they are none, that is noted, and there is no text.
-fn text_of<'a>(out: &mut Answer, octets: &'a [u8]) -> &'a str {
+fn text_of<'a>(out: &Answer, octets: &'a [u8]) -> &'a str {
     match str::from_utf8(octets) {
         Ok(text) => text,
         Err(_) => {
@@ -38,7 +38,7 @@ fn text_of<'a>(out: &mut Answer, octets: &'a [u8]) -> &'a str {
     }
 }
 
-fn put_read(out: &mut Answer, read: Read<'_>) {
+fn put_read(out: &Answer, read: Read<'_>) {
     match read {
         Ok(octets) => out.put_hex_after(b"ok ", octets),
         Err(error) => {
@@ -49,7 +49,7 @@ fn put_read(out: &mut Answer, read: Read<'_>) {
 }
 
 /// `text TEXT`
-pub fn put_text(out: &mut Answer, octets: &[u8]) {
+pub fn put_text(out: &Answer, octets: &[u8]) {
     let text = text_of(out, octets);
     let read: Result<Name<Vec<u8>>, FromStrError> = Name::from_chars(out.alloc(), text.chars());
     put_read(out, absolute_read(&read));
@@ -58,14 +58,14 @@ pub fn put_text(out: &mut Answer, octets: &[u8]) {
 }
 
 /// Memory for a name that was read was asked for once.
-fn is_asked_once(out: &mut Answer, read: &Result<Name<Vec<u8>>, FromStrError>, call: &[u8]) {
+fn is_asked_once(out: &Answer, read: &Result<Name<Vec<u8>>, FromStrError>, call: &[u8]) {
     if let Ok(name) = read {
         out.asked_once(name.as_octets(), call);
     }
 }
 
 /// The other calls that read an absolute name answer the same.
-fn is_read_alike(out: &mut Answer, text: &str, wanted: Read<'_>) {
+fn is_read_alike(out: &Answer, text: &str, wanted: Read<'_>) {
     let read = Name::vec_from_str(out.alloc(), text);
     out.agree(absolute_read(&read) == wanted, b"vec_from_str");
     is_asked_once(out, &read, b"memory of vec_from_str");
@@ -76,7 +76,7 @@ fn is_read_alike(out: &mut Answer, text: &str, wanted: Read<'_>) {
     }
 }
 
-fn is_read_of_symbols(out: &mut Answer, symbols: &[Symbol], wanted: Read<'_>) {
+fn is_read_of_symbols(out: &Answer, symbols: &[Symbol], wanted: Read<'_>) {
     let read: Result<Name<Vec<u8>>, FromStrError> = Name::from_symbols(
         out.alloc(),
         symbols.iter().copied(),
@@ -86,7 +86,7 @@ fn is_read_of_symbols(out: &mut Answer, symbols: &[Symbol], wanted: Read<'_>) {
 }
 
 /// The symbols of a text, where no escape is broken.
-pub fn symbols_of(out: &mut Answer, text: &str) -> Option<Vec<Symbol>> {
+pub fn symbols_of(out: &Answer, text: &str) -> Option<Vec<Symbol>> {
     let mut symbols = Vec::new(out.alloc());
     for item in Symbols::new(text.chars()) {
         match item {
@@ -101,7 +101,7 @@ pub fn symbols_of(out: &mut Answer, text: &str) -> Option<Vec<Symbol>> {
 }
 
 /// `reltext TEXT`
-pub fn put_reltext(out: &mut Answer, octets: &[u8]) {
+pub fn put_reltext(out: &Answer, octets: &[u8]) {
     let text = text_of(out, octets);
     let read: Result<RelativeName<Vec<u8>>, RelativeFromStrError> = RelativeName::from_chars(
         out.alloc(),
@@ -112,7 +112,7 @@ pub fn put_reltext(out: &mut Answer, octets: &[u8]) {
 }
 
 /// The other calls that read a relative name answer the same.
-fn is_relative_read_alike(out: &mut Answer, text: &str, wanted: Read<'_>) {
+fn is_relative_read_alike(out: &Answer, text: &str, wanted: Read<'_>) {
     let read = RelativeName::vec_from_str(out.alloc(), text);
     out.agree(relative_read(&read) == wanted, b"vec_from_str");
     if let Ok(name) = &read {
@@ -123,7 +123,7 @@ fn is_relative_read_alike(out: &mut Answer, text: &str, wanted: Read<'_>) {
 }
 
 /// `labeltext TEXT`
-pub fn put_labeltext(out: &mut Answer, octets: &[u8]) {
+pub fn put_labeltext(out: &Answer, octets: &[u8]) {
     let text = text_of(out, octets);
     let twin: Result<OwnedLabel, LabelFromStrError> = text.parse();
     match OwnedLabel::from_chars(text.chars()) {
@@ -140,21 +140,21 @@ pub fn put_labeltext(out: &mut Answer, octets: &[u8]) {
     }
 }
 
-pub fn put_text_error(out: &mut Answer, error: FromStrError) {
+pub fn put_text_error(out: &Answer, error: FromStrError) {
     match error {
         FromStrError::Presentation(error) => put_presentation(out, error.kind()),
         FromStrError::ShortBuf => out.put(b"ShortBuf"),
     }
 }
 
-fn put_relative_text_error(out: &mut Answer, error: RelativeFromStrError) {
+fn put_relative_text_error(out: &Answer, error: RelativeFromStrError) {
     match error {
         RelativeFromStrError::FromStr(error) => put_text_error(out, error),
         RelativeFromStrError::AbsoluteName => out.put(b"AbsoluteName"),
     }
 }
 
-fn put_presentation(out: &mut Answer, kind: PresentationErrorKind) {
+fn put_presentation(out: &Answer, kind: PresentationErrorKind) {
     match kind {
         PresentationErrorKind::BadLabel(error) => {
             out.put(b"BadLabel(");
@@ -166,7 +166,7 @@ fn put_presentation(out: &mut Answer, kind: PresentationErrorKind) {
     }
 }
 
-fn put_label_text_error(out: &mut Answer, error: LabelFromStrError) {
+fn put_label_text_error(out: &Answer, error: LabelFromStrError) {
     match error.kind() {
         LabelFromStrErrorKind::SymbolChars(SymbolCharsError::ShortInput) => {
             out.put(b"SymbolChars(ShortInput)");
@@ -182,7 +182,7 @@ fn put_label_text_error(out: &mut Answer, error: LabelFromStrError) {
 
 /// A text read over octets of a kind, and what another call read.
 fn put_in_room<Octs: FromBuilder + Drop>(
-    out: &mut Answer,
+    out: &Answer,
     text: &str,
     twin: Result<Name<Octs>, FromStrError>,
 )
@@ -195,7 +195,7 @@ where
 }
 
 /// `textroom TEXT OCTETS`
-pub fn put_textroom(out: &mut Answer, octets: &[u8], room: usize) {
+pub fn put_textroom(out: &Answer, octets: &[u8], room: usize) {
     let text = text_of(out, octets);
     match room {
         0 => put_in_room::<ArrayVec<u8, 0>>(out, text, text.parse()),
@@ -207,7 +207,7 @@ pub fn put_textroom(out: &mut Answer, octets: &[u8], room: usize) {
 }
 
 fn put_relative_in_room<Octs: FromBuilder + Drop>(
-    out: &mut Answer,
+    out: &Answer,
     text: &str,
     twin: Result<RelativeName<Octs>, RelativeFromStrError>,
 )
@@ -223,7 +223,7 @@ where
 }
 
 /// `reltextroom TEXT OCTETS`
-pub fn put_reltextroom(out: &mut Answer, octets: &[u8], room: usize) {
+pub fn put_reltextroom(out: &Answer, octets: &[u8], room: usize) {
     let text = text_of(out, octets);
     match room {
         0 => put_relative_in_room::<ArrayVec<u8, 0>>(out, text, text.parse()),
