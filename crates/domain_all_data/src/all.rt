@@ -1,9 +1,8 @@
 //! Data of records of any type.
-ghost use Rattle.std.specs.Prelude.{◌≡◌, true, Some, IfOk, IfErr, OnOk, OnErr};
-ghost use Rattle.octseq.specs.Parsing.{message, position, MovesTo};
-ghost use Rattle.domain_rdata.specs.Rtypes.{rtype_number};
-ghost use Rattle.domain_all_data.specs.AllData.{AllFields, AllDataAt, NoAllData, MakesErrorOf, all_data_reading, fields_text};
+ghost use Rattle.std.specs.Prelude.{◌≡◌, true, Some};
+ghost use Rattle.domain_all_data.specs.AllData.{AllFields, AllDataAt, NoAllData, all_data_reading, fields_text};
 
+use crate::read::{read_a_to_mr, read_ds_to_caa, read_ptr_to_afsdb, read_rt_to_dname};
 use crate::variants::each_variant;
 use crate::visit::{Compose, ComposeCanonical, DataVisitor, Measure};
 use domain_data::{
@@ -487,37 +486,6 @@ impl<'a> ComposeRecordData for AllRecordData<&'a [u8], ParsedName<&'a [u8]>> {
     ] };
 }
 
-/// Reads data of a type that has such data.
-fn read<'a, D: ParseRecordData<'a>, E: From<ParseError>>(
-    rtype: Rtype,
-    parser: &mut Parser<'a>,
-) -> Result<D, E>
-    requires { D.reads_type (rtype_number rtype) ≡ true }
-    ensures ok { IfOk result
-        (λ it. D.encodes (rtype_number rtype) (message parser.old) (position parser.old)
-        (D.model it) (position parser.new)) }
-    ensures of_type { IfOk result (λ it. D.type_number it ≡ rtype_number rtype) }
-    ensures moves { OnOk result (MovesTo parser.old parser.new (position parser.new)) }
-    ensures err { IfErr result
-        (MakesErrorOf (D.fails_with (rtype_number rtype)) E.from_gives parser.old) }
-    ensures unchanged { OnErr result (parser.new ≡ parser.old) }
-{
-    match D::parse_rdata(rtype, parser) {
-        Ok(Some(it)) => Ok(it),
-        Ok(None) => unreachable!(),
-        Err(e) => Err(E::from(e)),
-    }
-}
-
-macro_rules! read_as {
-    ($variant:ident, $data:ty, $rtype:ident, $parser:ident) => {
-        match read::<$data, ParseError>($rtype, $parser) {
-            Ok(it) => Ok(AllRecordData::$variant(it)),
-            Err(e) => Err(e),
-        }
-    };
-}
-
 /// Data of a type that is known is read by its type, and is all that is left; of any other all that is left is taken.
 impl<'a> ParseAnyRecordData<'a> for AllRecordData<&'a [u8], ParsedName<&'a [u8]>> {
     ghost use Rattle.domain_all_data.specs.AllTypes.{all_fields};
@@ -535,39 +503,10 @@ impl<'a> ParseAnyRecordData<'a> for AllRecordData<&'a [u8], ParsedName<&'a [u8]>
         parser: &mut Parser<'a>,
     ) -> Result<AllRecordData<&'a [u8], ParsedName<&'a [u8]>>, ParseError> {
         match rtype.to_int() {
-            1 => read_as!(A, A, rtype, parser),
-            2 => read_as!(Ns, Ns<ParsedName<&'a [u8]>>, rtype, parser),
-            3 => read_as!(Md, Md<ParsedName<&'a [u8]>>, rtype, parser),
-            4 => read_as!(Mf, Mf<ParsedName<&'a [u8]>>, rtype, parser),
-            5 => read_as!(Cname, Cname<ParsedName<&'a [u8]>>, rtype, parser),
-            6 => read_as!(Soa, Soa<ParsedName<&'a [u8]>>, rtype, parser),
-            7 => read_as!(Mb, Mb<ParsedName<&'a [u8]>>, rtype, parser),
-            8 => read_as!(Mg, Mg<ParsedName<&'a [u8]>>, rtype, parser),
-            9 => read_as!(Mr, Mr<ParsedName<&'a [u8]>>, rtype, parser),
-            12 => read_as!(Ptr, Ptr<ParsedName<&'a [u8]>>, rtype, parser),
-            13 => read_as!(Hinfo, Hinfo<&'a [u8]>, rtype, parser),
-            14 => read_as!(Minfo, Minfo<ParsedName<&'a [u8]>>, rtype, parser),
-            15 => read_as!(Mx, Mx<ParsedName<&'a [u8]>>, rtype, parser),
-            16 => read_as!(Txt, Txt<&'a [u8]>, rtype, parser),
-            17 => read_as!(Rp, Rp<ParsedName<&'a [u8]>>, rtype, parser),
-            18 => read_as!(Afsdb, Afsdb<ParsedName<&'a [u8]>>, rtype, parser),
-            21 => read_as!(Rt, Rt<ParsedName<&'a [u8]>>, rtype, parser),
-            26 => read_as!(Px, Px<ParsedName<&'a [u8]>>, rtype, parser),
-            28 => read_as!(Aaaa, Aaaa, rtype, parser),
-            33 => read_as!(Srv, Srv<ParsedName<&'a [u8]>>, rtype, parser),
-            35 => read_as!(Naptr, Naptr<&'a [u8], ParsedName<&'a [u8]>>, rtype, parser),
-            36 => read_as!(Kx, Kx<ParsedName<&'a [u8]>>, rtype, parser),
-            39 => read_as!(Dname, Dname<ParsedName<&'a [u8]>>, rtype, parser),
-            43 => read_as!(Ds, Ds<&'a [u8]>, rtype, parser),
-            44 => read_as!(Sshfp, Sshfp<&'a [u8]>, rtype, parser),
-            46 => read_as!(Rrsig, Rrsig<&'a [u8], ParsedName<&'a [u8]>>, rtype, parser),
-            47 => read_as!(Nsec, Nsec<&'a [u8], ParsedName<&'a [u8]>>, rtype, parser),
-            48 => read_as!(Dnskey, Dnskey<&'a [u8]>, rtype, parser),
-            52 => read_as!(Tlsa, Tlsa<&'a [u8]>, rtype, parser),
-            257 => read_as!(Caa, Caa<&'a [u8]>, rtype, parser),
-            64 => read_as!(Svcb, Svcb<&'a [u8], ParsedName<&'a [u8]>>, rtype, parser),
-            65 => read_as!(Https, Https<&'a [u8], ParsedName<&'a [u8]>>, rtype, parser),
-            _ => read_as!(Unknown, UnknownRecordData<&'a [u8]>, rtype, parser),
+            0..=9 => read_a_to_mr(rtype, parser),
+            10..=18 => read_ptr_to_afsdb(rtype, parser),
+            19..=39 => read_rt_to_dname(rtype, parser),
+            _ => read_ds_to_caa(rtype, parser),
         }
     }
 

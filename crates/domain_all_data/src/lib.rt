@@ -6,6 +6,7 @@ pub mod flatten;
 pub mod order;
 mod owned;
 mod owned_compose;
+mod read;
 mod variants;
 mod visit;
 
