@@ -15,8 +15,8 @@ use conformance_answer::{Answer, Fields, is};
 /// Answers a line whose word is one of these; else it is false.
 pub fn answer_parsed(fields: &Fields<'_>, out: &Answer) -> bool {
     answer_message(fields, out)
-        || answer_place(fields, out)
-        || answer_places(fields, out)
+        || answer_offset(fields, out)
+        || answer_offsets(fields, out)
         || answer_beside(fields, out)
         || answer_long(fields, out)
         || answer_data(fields, out)
@@ -50,15 +50,15 @@ fn call_on_message(word: &[u8], octets: &[u8], offset: usize, end: usize, out: &
 }
 
 /// `WORD OCTETS NUMBER`
-fn answer_place(fields: &Fields<'_>, out: &Answer) -> bool {
+fn answer_offset(fields: &Fields<'_>, out: &Answer) -> bool {
     fields.expect(3, out);
     let octets = fields.octets(1, out);
     let offset = fields.number(2, out);
-    call_on_place(fields.at(0), octets.as_slice(), offset, out) || out.is_other_word()
+    call_at_offset(fields.at(0), octets.as_slice(), offset, out) || out.is_other_word()
 }
 
-/// The calls of `answer_place`, by the word: false where it names none of them.
-fn call_on_place(word: &[u8], octets: &[u8], offset: usize, out: &Answer) -> bool {
+/// The calls of `answer_offset`, by the word: false where it names none of them.
+fn call_at_offset(word: &[u8], octets: &[u8], offset: usize, out: &Answer) -> bool {
     if is(word, b"walk") {
         put_walk(out, octets, offset);
     } else if is(word, b"parentswalk") {
@@ -74,16 +74,16 @@ fn call_on_place(word: &[u8], octets: &[u8], offset: usize, out: &Answer) -> boo
 }
 
 /// `WORD OCTETS NUMBER NUMBER`
-fn answer_places(fields: &Fields<'_>, out: &Answer) -> bool {
+fn answer_offsets(fields: &Fields<'_>, out: &Answer) -> bool {
     fields.expect(4, out);
     let octets = fields.octets(1, out);
     let first = fields.number(2, out);
     let second = fields.number(3, out);
-    call_on_places(fields.at(0), octets.as_slice(), first, second, out) || out.is_other_word()
+    call_at_offsets(fields.at(0), octets.as_slice(), first, second, out) || out.is_other_word()
 }
 
-/// The calls of `answer_places`, by the word: false where it names none of them.
-fn call_on_places(word: &[u8], octets: &[u8], first: usize, second: usize, out: &Answer) -> bool {
+/// The calls of `answer_offsets`, by the word: false where it names none of them.
+fn call_at_offsets(word: &[u8], octets: &[u8], first: usize, second: usize, out: &Answer) -> bool {
     if is(word, b"parselimit") {
         put_limited(out, octets, first, second);
     } else if is(word, b"rest") {

@@ -15,7 +15,7 @@ mod slow_reader;
 
 use crate::command::answer_parsed;
 use crate::program::put_run;
-use conformance_answer::{Answer, Fail, Fields};
+use conformance_answer::{Answer, Fail, Fields, is_heading};
 use conformance_labels::answer_labels;
 use conformance_names::answer_names;
 use conformance_texts::answer_texts;
@@ -62,10 +62,6 @@ fn answer_all(alloc: Global, input: &[u8], out: &mut Vec<u8>) -> Result<(), Allo
         answer.end_line(out)?;
     }
     Ok(())
-}
-
-fn is_heading(line: &[u8]) -> bool {
-    line.first() == Some(&b'#')
 }
 
 fn main(rt: HostRuntime) -> ExitCode {

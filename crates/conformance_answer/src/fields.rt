@@ -3,6 +3,11 @@
 use crate::answer::{Answer, Fail};
 use std::alloc::Global;
 
+/// Whether a line is a heading, which is its own answer.
+pub fn is_heading(line: &[u8]) -> bool {
+    line.first() == Some(&b'#')
+}
+
 /// The most zero octets that a field has.
 const MOST: usize = 100_000;
 

@@ -5,4 +5,4 @@ mod answer;
 mod fields;
 
 pub use answer::{Answer, Fail};
-pub use fields::{Fields, decimal, is, octets_of, split_once};
+pub use fields::{Fields, decimal, is, is_heading, octets_of, split_once};

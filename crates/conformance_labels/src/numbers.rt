@@ -15,10 +15,10 @@ fn put_parsed<T: Display + Drop>(out: &Answer, value: Result<T, ParseError>, off
         Ok(value) => out.put_text(value),
         Err(error) => out.put_text(error),
     }
-    put_place(out, offset);
+    put_position(out, offset);
 }
 
-fn put_place(out: &Answer, offset: usize) {
+fn put_position(out: &Answer, offset: usize) {
     out.put_number_after(b"@", offset);
     out.put(b";");
 }
@@ -54,13 +54,13 @@ fn put_addresses(out: &Answer, parser: Parser<'_>) {
         Ok(address) => out.put_hex(&address.octets()),
         Err(error) => out.put_text(error),
     }
-    put_place(out, first.pos());
+    put_position(out, first.pos());
     let mut second = parser;
     match Ipv6Addr::parse(&mut second) {
         Ok(address) => out.put_hex(&address.octets()),
         Err(error) => out.put_text(error),
     }
-    put_place(out, second.pos());
+    put_position(out, second.pos());
 }
 
 /// `arrays OCTETS PLACE`: an array of no octets, of 3, and of 16.
@@ -73,19 +73,19 @@ pub fn put_arrays(out: &Answer, octets: &[u8], offset: usize) {
         Ok(octets) => out.put_hex(&octets),
         Err(error) => out.put_text(error),
     }
-    put_place(out, none.pos());
+    put_position(out, none.pos());
     let mut three = parser;
     match <[u8; 3]>::parse(&mut three) {
         Ok(octets) => out.put_hex(&octets),
         Err(error) => out.put_text(error),
     }
-    put_place(out, three.pos());
+    put_position(out, three.pos());
     let mut sixteen = parser;
     match <[u8; 16]>::parse(&mut sixteen) {
         Ok(octets) => out.put_hex(&octets),
         Err(error) => out.put_text(error),
     }
-    put_place(out, sixteen.pos());
+    put_position(out, sixteen.pos());
 }
 
 /// `whole OCTETS`: all octets as a number of 16 bits, and as no octets.

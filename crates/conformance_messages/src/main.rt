@@ -20,7 +20,7 @@ use crate::message::put_message;
 use crate::order::put_order;
 use crate::rebuild::put_rebuilt;
 use crate::select::{put_is_answer, put_limited};
-use conformance_answer::{Answer, Fail, Fields, is};
+use conformance_answer::{Answer, Fail, Fields, is, is_heading};
 use std::alloc::{AllocError, Global};
 use std::io::{Read, Write};
 use std::process::ExitCode;
@@ -75,7 +75,7 @@ fn answer_all(alloc: Global, input: &[u8], out: &mut Vec<u8>) -> Result<(), Allo
             continue;
         }
         answer.clear();
-        if line.first() == Some(&b'#') {
+        if is_heading(line) {
             answer.put(line);
         } else {
             respond(line, &answer);

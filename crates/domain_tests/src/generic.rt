@@ -4,6 +4,7 @@ ghost use Rattle.domain_label.specs.Lowercase.{lowercase_labels};
 ghost use Rattle.domain_label.specs.Labels.{label_octets};
 ghost use Rattle.domain_label.specs.Wire.{wire};
 ghost use Rattle.domain_list.specs.Count.{rrsig_labels};
+ghost use Rattle.domain_list.specs.Order.{SameLabels};
 ghost use Rattle.domain_parsed.specs.ParsedNames.{parsed_labels};
 
 use crate::names::{LOWER_WWW, SCATTERED, WWW, absolute, parsed};
@@ -81,9 +82,8 @@ fn all_same<'a, A: AbsoluteLabels<'a>, B: AbsoluteLabels<'a>, C: AbsoluteLabels<
     b: &'a B,
     c: &'a C,
 ) -> bool
-    ensures { IsTrue result
-        ↔ ((lowercase_labels (A.labels a.now) ≡ lowercase_labels (B.labels b.now))
-        × (lowercase_labels (B.labels b.now) ≡ lowercase_labels (C.labels c.now))) }
+    ensures { IsTrue result ↔ (SameLabels (A.labels a.now) (B.labels b.now)
+        × SameLabels (B.labels b.now) (C.labels c.now)) }
 {
     a.name_eq(b) && b.name_eq(c)
 }
