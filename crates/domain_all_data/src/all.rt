@@ -169,11 +169,14 @@ impl<'a> AllRecordData<&'a [u8], ParsedName<&'a [u8]>> {
 impl<'a> ComposeRecordData for AllRecordData<&'a [u8], ParsedName<&'a [u8]>> {
     ghost use Rattle.domain_parsed.proofs.ParsedFields.{parsed_absolute};
     ghost use Rattle.domain_data.specs.Views.{fields_of};
-    ghost use Rattle.domain_all_data.specs.Written.{one_of_octets, two_of_octets, three_of_octets, four_of_octets, six_of_octets, nine_of_octets, a_name, two_names, octets_and_name, names_and_octets};
+    ghost use Rattle.domain_all_data.specs.Written.{one_of_octets, two_of_octets, three_of_octets, four_of_octets, six_of_octets, nine_of_octets};
+    ghost use Rattle.domain_all_data.specs.Written.{a_name, two_names, octets_and_name, names_and_octets};
     ghost use Rattle.std.specs.Prelude.{◌∷◌, []};
     ghost use Rattle.domain_rdata.specs.OctetsAlone.{octets_written, name_written};
     ghost use Rattle.domain_all_data.specs.Written.{fields_written, names_written, octets_and_name_written, names_and_octets_written};
-    ghost use Rattle.domain_all_data.specs.declared.all.AllRecordData.TheVariants.{A, Aaaa, Ns, Cname, Ptr, Dname, Mx, Soa, Srv, Mb, Md, Mf, Mg, Mr, Minfo, Rp, Afsdb, Rt, Px, Kx, Hinfo, Naptr, Ds, Sshfp, Rrsig, Nsec, Dnskey, Tlsa, Caa, Svcb, Https, Txt, Unknown};
+    ghost use Rattle.domain_all_data.specs.declared.all.AllRecordData.TheVariants.{A, Aaaa, Ns, Cname, Ptr, Dname, Mx, Soa, Srv, Mb, Md, Mf, Mg, Mr};
+    ghost use Rattle.domain_all_data.specs.declared.all.AllRecordData.TheVariants.{Minfo, Rp, Afsdb, Rt, Px, Kx, Hinfo, Naptr, Ds, Sshfp, Rrsig};
+    ghost use Rattle.domain_all_data.specs.declared.all.AllRecordData.TheVariants.{Nsec, Dnskey, Tlsa, Caa, Svcb, Https, Txt, Unknown};
 
     ghost composed = { elim [
       | A it ↦ ⟦<A as ComposeRecordData>⟧.composed it
