@@ -90,11 +90,7 @@ pub fn put_cmp(out: &Answer, a: &[u8], b: &[u8]) {
     put_twins(out, &a, &b);
 }
 
-fn put_relative_twins<'a, N: RelativeLabels<'a> + Ord + Hash>(
-    out: &Answer,
-    a: &'a N,
-    b: &'a N,
-) {
+fn put_relative_twins<'a, N: RelativeLabels<'a> + Ord + Hash>(out: &Answer, a: &'a N, b: &'a N) {
     put_relative_related(out, a, b);
     is_ordered(out, a, b, a.name_eq(b), a.name_cmp(b));
     out.put(b" hash=");

@@ -226,11 +226,7 @@ pub fn put_relative_forms<'a, N: RelativeLabels<'a>>(out: &Answer, name: &'a N) 
 }
 
 /// What `put_appended` tells, of a relative name.
-pub fn put_relative_appended<'a, N: RelativeLabels<'a>>(
-    out: &Answer,
-    name: &'a N,
-    room: usize,
-) {
+pub fn put_relative_appended<'a, N: RelativeLabels<'a>>(out: &Answer, name: &'a N, room: usize) {
     let mut target = with_room(out, room);
     let refused = name.compose(&mut target).is_err();
     put_composed(out, refused, target.as_slice());
