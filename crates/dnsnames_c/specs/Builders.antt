@@ -11,7 +11,7 @@ use Rattle.domain_message_builder.specs.Opt.{Opt, opt_head}
 use Rattle.domain_message_builder.specs.Pushes.{record_count, PushesQuestion}
 use Rattle.domain_message_builder.specs.Reading.{IsMessageOf}
 use Rattle.domain_buffer.specs.Puts.{PutsAt}
-use Rattle.domain_buffer.specs.Builders.{header_of, counts_of, state, IsUsable, Enters, TooBig, asked, PushesData}
+use Rattle.domain_buffer.specs.Builders.{header_of, counts_of, builder_state, IsUsable, Enters, TooBig, asked_by_wire, PushesData}
 use Rattle.domain_buffer.specs.Data.{Fields, whole, IsNamed}
 use Rattle.domain_buffer.specs.Named.{PushesNamed}
 use Rattle.domain_buffer.specs.Pushing.{RefusesData, RefusesNamed}
@@ -25,7 +25,7 @@ abbrev pub BeginsMessage : ℕ → ℕ → ℕ → List ℕ → Builder → List
 BeginsMessage id flags status o b o' b' =
     ((status ≡ 0) × PutsAt 0 blank_header o o' × (b'.limit ≡ min (length o) 65535) × (b'.id ≡ id)
     × (b'.flags ≡ flags) × (b'.len ≡ 12) × (b'.table_len ≡ 0)
-    × Holds true (state o' b') no_content × IsUsable o' b')
+    × Holds true (builder_state o' b') no_content × IsUsable o' b')
     ⊎ ((status ≡ 8) × (length o < 12) × (o' ≡ o) × (b' ≡ b))
 
 -- Why a question isn't pushed: the builder isn't usable (23), the name is no absolute name (9), a record was pushed (24),
@@ -45,7 +45,7 @@ abbrev pub AsksFor : List ℕ → ℕ → ℕ → ℕ → List ℕ → Builder �
 AsksFor name rtype class status o b o' b' =
     ((status ≡ 0) × IsUsable o b × IsAbsoluteWire name
     × Enters o b name (type_and_class rtype class) o' b'
-    × PushesQuestion true (asked name rtype class) (state o b) (state o' b') × IsUsable o' b')
+    × PushesQuestion true (asked_by_wire name rtype class) (builder_state o b) (builder_state o' b') × IsUsable o' b')
     ⊎ (RefusesQuestion o b name status × (o' ≡ o) × (b' ≡ b))
 
 -- the section of a number: answers (1), authority (2), additional (3)
@@ -117,7 +117,7 @@ GivesOpt opt status o b o' b' =
 -- The records were taken away again, and TC was set (RFC 2181, 9); or the builder isn't usable (23), and nothing changed.
 abbrev pub Cuts : ℕ → List ℕ → Builder → Builder → Type 0
 Cuts status o b b' =
-    ((status ≡ 0) × IsUsable o b × Truncates true (state o b) (state o b') × IsUsable o b')
+    ((status ≡ 0) × IsUsable o b × Truncates true (builder_state o b) (builder_state o b') × IsUsable o b')
     ⊎ ((status ≡ 23) × (IsUsable o b → ⊥) × (b' ≡ b))
 
 -- The header was written, and the size of the message was given, which is read as what was pushed (0); or the builder isn't
@@ -126,5 +126,5 @@ abbrev pub Finishes : ℕ → List ℕ → Builder → List ℕ → ℕ → ℕ 
 Finishes status o b o' old_len len =
     ((status ≡ 0) × IsUsable o b × (len ≡ b.len)
     × (o' ≡ header_octets (header_of b) ++ (counts_octets (counts_of b) ++ drop 12 o))
-    × ((it : Content) → Holds true (state o b) it → IsMessageOf (header_of b) it (take b.len o')))
+    × ((it : Content) → Holds true (builder_state o b) it → IsMessageOf (header_of b) it (take b.len o')))
     ⊎ ((status ≡ 23) × (IsUsable o b → ⊥) × (o' ≡ o) × (len ≡ old_len))

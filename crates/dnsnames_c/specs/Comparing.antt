@@ -20,10 +20,10 @@ abbrev pub EndsInName : List ℕ → List ℕ → Type 0
 EndsInName name suffix = EndsWith (labels_in name) (labels_in suffix)
 
 -- the canonical form of the name, A to Z as a to z (RFC 4034, 6.2)
-abbrev pub canonical_wire : List ℕ → List ℕ
-canonical_wire name = wire (lowercase_labels (labels_in name))
+abbrev pub canonical_name_octets : List ℕ → List ℕ
+canonical_name_octets name = wire (lowercase_labels (labels_in name))
 
 -- It was given; or the octets are no absolute name (9), and nothing changed.
 abbrev pub GivesCanonicalForm : List ℕ → ℕ → List ℕ → List ℕ → ℕ → ℕ → Type 0
 GivesCanonicalForm name status old new old_len len =
-    GivesOf name (canonical_wire name) status old new old_len len
+    GivesOf name (canonical_name_octets name) status old new old_len len

@@ -5,7 +5,7 @@ use Rattle.domain_wire.specs.declared.error.ParseError.TheVariants.{ShortInput, 
 use Rattle.domain_record.specs.Entries.{RecordFields, RecordAt, NoRecord}
 use Rattle.domain_lines.specs.Records.{IsRecordLine}
 use Rattle.domain_lines.specs.Putting.{IsTextOf}
-use Rattle.domain_lines.specs.Rooms.{Holds}
+use Rattle.domain_lines.specs.Rooms.{HoldsText}
 
 -- of octets that end too soon, or haven't the form of what is read
 abbrev pub error_number : ParseError → ℕ
@@ -18,13 +18,13 @@ end_number None = 0
 end_number (Some why) = error_number why
 
 -- of a text of so many octets: 8 where it doesn't fit
-abbrev pub text_number : ℕ → Option ParseError → ℕ → ℕ
-text_number len why capacity = cond (nat_lt capacity len) 8 (end_number why)
+abbrev pub shown_text_number : ℕ → Option ParseError → ℕ → ℕ
+shown_text_number len why capacity = cond (nat_lt capacity len) 8 (end_number why)
 
 -- The text is in the buffer, as far as it fits, and its size was given.
 abbrev pub GivesText : List ℕ → Option ParseError → ℕ → List ℕ → List ℕ → ℕ → Type 0
 GivesText text why status old new len =
-    Holds old text new len × (status ≡ text_number len why (length old))
+    HoldsText old text new len × (status ≡ shown_text_number len why (length old))
 
 -- The text that shows the message was given; or it wasn't made (29).
 abbrev pub GivesMessageText : List ℕ → ℕ → List ℕ → List ℕ → ℕ → ℕ → Type 0

@@ -1,8 +1,8 @@
 //! Messages that are built in the caller's buffer (RFC 1035, 4.1).
 ghost use Rattle.std.specs.Prelude.{◌≡◌, ◌≤◌, length};
 ghost use Rattle.domain_label.specs.Wire.{IsAbsoluteWire};
-ghost use Rattle.domain_buffer.specs.Builders.{headed, headed_by, IsUsable};
-ghost use Rattle.domain_buffer.specs.Data.{fields_of, IsNamed};
+ghost use Rattle.domain_buffer.specs.Builders.{headed_by_wire, headed_by, IsUsable};
+ghost use Rattle.domain_buffer.specs.Data.{found_fields, IsNamed};
 ghost use Rattle.dnsnames_c.specs.Builders.{section_of, opt_with, BeginsMessage, AsksFor, GivesData, GivesNamed, GivesInSection, GivesOpt, Cuts, Finishes};
 ghost use Rattle.dnsnames_c.specs.Status.{push_number};
 
@@ -139,10 +139,10 @@ fn push_names(
 ) -> u32
     requires usable { IsUsable octets.old builder.old }
     requires owner { IsAbsoluteWire owner.now }
-    requires named { IsNamed head.rtype (fields_of fields) }
+    requires named { IsNamed head.rtype (found_fields fields) }
     requires before { length fields.before.now ≤ 6 }
     requires after { length fields.after.now ≤ 20 }
-    ensures { GivesNamed section owner.now (headed_by owner.now head) (fields_of fields.entry)
+    ensures { GivesNamed section owner.now (headed_by owner.now head) (found_fields fields.entry)
         result octets.old builder.old octets.new builder.new }
 {
     match push_named(octets, builder, section, owner, head, fields) {
@@ -170,7 +170,7 @@ pub extern "C" fn dnsnames_builder_record(
     ttl: u32,
     data: &[u8],
 ) -> u32
-    ensures { GivesInSection section owner.now (headed owner.now rtype class ttl) data.now result
+    ensures { GivesInSection section owner.now (headed_by_wire owner.now rtype class ttl) data.now result
         octets.old builder.old octets.new builder.new }
 {
     if !is_usable(octets, builder) {

@@ -2,7 +2,7 @@
 ghost use Rattle.std.specs.Prelude.{◌≡◌, ◌≢◌, ◌≤◌, length, IsSome, IfSome, ◌↔◌};
 ghost use Rattle.domain_label.specs.Wire.{IsAbsoluteWire};
 ghost use Rattle.domain_siphash.specs.SipHash.{siphash};
-ghost use Rattle.dnsnames_c.specs.Comparing.{EqualNames, name_order, EndsInName, canonical_wire, GivesCanonicalForm};
+ghost use Rattle.dnsnames_c.specs.Comparing.{EqualNames, name_order, EndsInName, canonical_name_octets, GivesCanonicalForm};
 ghost use Rattle.dnsnames_c.specs.Status.{order_number};
 
 use crate::put::give;
@@ -72,7 +72,7 @@ pub extern "C" fn dnsnames_ends_with(name: &[u8], suffix: &[u8], ends: &mut u32)
 /// The canonical form of a name, A to Z as a to z (RFC 4034, 6.2). `None` where the octets are no name.
 fn canonical_form(octets: &[u8]) -> Option<ArrayVec<u8, 255>>
     ensures named { IsSome result ↔ IsAbsoluteWire octets.now }
-    ensures some { IfSome result (λ form. form.items ≡ canonical_wire octets.now) }
+    ensures some { IfSome result (λ form. form.items ≡ canonical_name_octets octets.now) }
 {
     let Ok(name) = Name::from_slice(octets) else {
         return None;
@@ -89,7 +89,7 @@ fn canonical_form(octets: &[u8]) -> Option<ArrayVec<u8, 255>>
 #[unsafe(no_mangle)]
 pub extern "C" fn dnsnames_hash(key: &[u8; 16], name: &[u8], hash: &mut u64) -> u32
     ensures named { (result ≡ 0) ↔ IsAbsoluteWire name.now }
-    ensures hash { result ≡ 0 → hash.new ≡ siphash key.now (canonical_wire name.now) }
+    ensures hash { result ≡ 0 → hash.new ≡ siphash key.now (canonical_name_octets name.now) }
     ensures err { result ≢ 0 → (result ≡ 9) × (hash.new ≡ hash.old) }
 {
     let Some(form) = canonical_form(name) else {

@@ -1,7 +1,7 @@
 //! Messages and records as text, as `dig` shows them.
 ghost use Rattle.std.specs.Prelude.{◌≡◌};
 ghost use Rattle.domain_wire.specs.declared.error.ParseError.{ParseError};
-ghost use Rattle.dnsnames_c.specs.Shown.{error_number, text_number, GivesMessageText, GivesLine};
+ghost use Rattle.dnsnames_c.specs.Shown.{error_number, shown_text_number, GivesMessageText, GivesLine};
 
 use domain_lines::{PutText, put_message, put_record};
 use domain_wire::ParseError;
@@ -18,7 +18,7 @@ fn number_of_error(error: ParseError) -> u32
 
 /// The number of a text that was put into a buffer of this size.
 fn number_of_text(put: PutText, capacity: usize) -> u32
-    ensures { result ≡ text_number put.len put.why capacity }
+    ensures { result ≡ shown_text_number put.len put.why capacity }
 {
     if capacity < put.len {
         return 8;

@@ -30,7 +30,7 @@ use Rattle.domain_header.specs.Headers.{header_octets, counts_octets}
 use Rattle.domain_header.specs.declared.counts.HeaderCounts.{HeaderCounts}
 use Rattle.domain_header.specs.declared.flags.Header.{Header}
 use Rattle.domain_buffer.specs.Puts.{PutsAt}
-use Rattle.domain_buffer.specs.Builders.{state, header_of, starts_of, counts_of, table_of, questioned, with_one_more, entered, asked, after_owner, Exactly, IsUsable, Enters, PushesData}
+use Rattle.domain_buffer.specs.Builders.{builder_state, header_of, starts_of, counts_of, table_of, questioned, with_one_more, entered, asked_by_wire, octets_after_owner, Exactly, IsUsable, Enters, PushesData}
 use Rattle.domain_buffer.proofs.Puts.{puts_take, puts_size, puts_first}
 use Rattle.domain_buffer.specs.Plans.{IsTable, Spells, more_of_table}
 use Rattle.domain_buffer.specs.declared.builder.Builder.{Builder}
@@ -127,7 +127,7 @@ enters_same o b name rest o' b' x e len count table = record {
 
 -- A question was pushed.
 pub question_pushed : (o : List ℕ) (b : Builder) (name : List ℕ) (rtype class : ℕ) (o' : List ℕ) (b' x : Builder) → rtype < 2 ^ 16 → class < 2 ^ 16 → IsUsable o b → IsAbsoluteWire name → record_count (counts_of b) ≡ 0 → Enters o b name (type_and_class rtype class) o' b' → b' ≡ entered b b' → x ≡ questioned b'
-    → PushesQuestion true (asked name rtype class) (state o b) (state o' x) × IsUsable o' x × Enters o b name (type_and_class rtype class) o' x
+    → PushesQuestion true (asked_by_wire name rtype class) (builder_state o b) (builder_state o' x) × IsUsable o' x × Enters o b name (type_and_class rtype class) o' x
 question_pushed o b name rtype class o' b' x small_type small_class u wired none e others counted =
     let rest = type_and_class rtype class in
     let t = take b.len o in
@@ -135,22 +135,22 @@ question_pushed o b name rtype class o' b' x small_type small_class u wired none
     let same : y ≡ x = ap questioned (sym others) ∙ sym counted in
     let made = take b'.len o' in
     let ends = entered_size o b name rest o' b' u e in
-    let added : Appended (AsksIn true (asked name rtype class) t) t made = record {
+    let added : Appended (AsksIn true (asked_by_wire name rtype class) t) t made = record {
       octets = e.named ++ rest;
       allowed = record { named = e.named; name_allowed = name_octets t (table_of b) name e.named (labels_in (take e.begin name)) wired e.compresses; all = refl };
       all = entered_octets o b name rest o' b' u e;
     } in
     let counts : CountsQuestion (counts_of b) (counts_of y) = record { questions = refl; answers = refl; authority = refl; additional = refl } in
-    let pushes = pushes_question true (asked name rtype class) (state o b) (counts_of y) (starts_of y) made b'.len small_type small_class (λ h. absurd (omega (arith, h, none))) counts refl ends (omega (arith, ends, e.within)) added in
+    let pushes = pushes_question true (asked_by_wire name rtype class) (builder_state o b) (counts_of y) (starts_of y) made b'.len small_type small_class (λ h. absurd (omega (arith, h, none))) counts refl ends (omega (arith, ends, e.within)) added in
     let low : 12 ≤ b'.len = omega (arith, e.ends, u.ordered.0, u.ordered.1, u.ordered.2, u.ordered.3) in
     let usable = still_usable o b name rest o' b' y u e refl refl refl refl (ordered_all b'.len b'.len low (omega arith)) in
-    subst (λ z. PushesQuestion true (asked name rtype class) (state o b) (state o' z) × IsUsable o' z × Enters o b name rest o' z) same (pushes, usable, enters_same o b name rest o' b' y e refl refl refl)
+    subst (λ z. PushesQuestion true (asked_by_wire name rtype class) (builder_state o b) (builder_state o' z) × IsUsable o' z × Enters o b name rest o' z) same (pushes, usable, enters_same o b name rest o' b' y e refl refl refl)
 
 -- A record with data that `May` allows was added.
-pub record_added : (section : Section) (o : List ℕ) (b : Builder) (owner : List ℕ) (head : RecordHead) (May : List ℕ → List ℕ → Type 0) (rdata o' : List ℕ) (b' y : Builder) → head.rtype < 2 ^ 16 → head.class < 2 ^ 16 → head.ttl < 2 ^ 32 → head.owner ≡ labels_in owner → IsUsable o b → IsAbsoluteWire owner → (0 < later_count section (counts_of b) → ⊥) → (e : Enters o b owner (after_owner head rdata) o' b')
-    → May (take b.len o ++ e.named ++ before_length head.rtype head.class head.ttl ++ to_be_bytes w16 (length rdata)) rdata → CountsRecord section (counts_of b) (counts_of y) → starts_of y ≡ starts_after section b'.len (starts_of b) → PushesRecord true section head May (state o b) (record (state o b) { counts = counts_of y; starts = starts_of y; octets = take b'.len o' })
+pub record_added : (section : Section) (o : List ℕ) (b : Builder) (owner : List ℕ) (head : RecordHead) (May : List ℕ → List ℕ → Type 0) (rdata o' : List ℕ) (b' y : Builder) → head.rtype < 2 ^ 16 → head.class < 2 ^ 16 → head.ttl < 2 ^ 32 → head.owner ≡ labels_in owner → IsUsable o b → IsAbsoluteWire owner → (0 < later_count section (counts_of b) → ⊥) → (e : Enters o b owner (octets_after_owner head rdata) o' b')
+    → May (take b.len o ++ e.named ++ before_length head.rtype head.class head.ttl ++ to_be_bytes w16 (length rdata)) rdata → CountsRecord section (counts_of b) (counts_of y) → starts_of y ≡ starts_after section b'.len (starts_of b) → PushesRecord true section head May (builder_state o b) (record (builder_state o b) { counts = counts_of y; starts = starts_of y; octets = take b'.len o' })
 record_added section o b owner head May rdata o' b' y small_type small_class small_ttl named u wired none e allowed counts at =
-    let rest = after_owner head rdata in
+    let rest = octets_after_owner head rdata in
     let t = take b.len o in
     let made = take b'.len o' in
     let ends = entered_size o b owner rest o' b' u e in
@@ -167,37 +167,37 @@ record_added section o b owner head May rdata o' b' y small_type small_class sma
       };
       all = entered_octets o b owner rest o' b' u e;
     } in
-    pushes_record section true head May (state o b) (counts_of y) (starts_of y) made b'.len small_type small_class small_ttl none counts at ends (omega (arith, ends, e.within)) added
+    pushes_record section true head May (builder_state o b) (counts_of y) (starts_of y) made b'.len small_type small_class small_ttl none counts at ends (omega (arith, ends, e.within)) added
 
 -- A record was pushed.
-pub record_pushed : (section : Section) (o : List ℕ) (b : Builder) (owner : List ℕ) (head : RecordHead) (rdata o' : List ℕ) (b' x : Builder) → head.rtype < 2 ^ 16 → head.class < 2 ^ 16 → head.ttl < 2 ^ 32 → head.owner ≡ labels_in owner → IsUsable o b → IsAbsoluteWire owner → (0 < later_count section (counts_of b) → ⊥) → Enters o b owner (after_owner head rdata) o' b'
+pub record_pushed : (section : Section) (o : List ℕ) (b : Builder) (owner : List ℕ) (head : RecordHead) (rdata o' : List ℕ) (b' x : Builder) → head.rtype < 2 ^ 16 → head.class < 2 ^ 16 → head.ttl < 2 ^ 32 → head.owner ≡ labels_in owner → IsUsable o b → IsAbsoluteWire owner → (0 < later_count section (counts_of b) → ⊥) → Enters o b owner (octets_after_owner head rdata) o' b'
     → b' ≡ entered b b' → x ≡ with_one_more section b' → PushesData section owner head rdata o b o' x
 record_pushed Answer o b owner head rdata o' b' x small_type small_class small_ttl named u wired none e others counts =
     let y : Builder = with_one_more Answer (entered b b') in
     let same : y ≡ x = ap (with_one_more Answer) (sym others) ∙ sym counts in
     let ordered = ordered_after Answer (starts_of b) b.len b'.len (omega (arith, e.ends)) u.ordered in
     subst (λ z. PushesData Answer owner head rdata o b o' z) same (record {
-      enters = enters_same o b owner (after_owner head rdata) o' b' y e refl refl refl;
+      enters = enters_same o b owner (octets_after_owner head rdata) o' b' y e refl refl refl;
       pushes = record_added Answer o b owner head (Exactly rdata) rdata o' b' y small_type small_class small_ttl named u wired none e refl (refl, refl, refl, refl) refl;
-      usable = still_usable o b owner (after_owner head rdata) o' b' y u e refl refl refl refl ordered;
+      usable = still_usable o b owner (octets_after_owner head rdata) o' b' y u e refl refl refl refl ordered;
     })
 record_pushed Authority o b owner head rdata o' b' x small_type small_class small_ttl named u wired none e others counts =
     let y : Builder = with_one_more Authority (entered b b') in
     let same : y ≡ x = ap (with_one_more Authority) (sym others) ∙ sym counts in
     let ordered = ordered_after Authority (starts_of b) b.len b'.len (omega (arith, e.ends)) u.ordered in
     subst (λ z. PushesData Authority owner head rdata o b o' z) same (record {
-      enters = enters_same o b owner (after_owner head rdata) o' b' y e refl refl refl;
+      enters = enters_same o b owner (octets_after_owner head rdata) o' b' y e refl refl refl;
       pushes = record_added Authority o b owner head (Exactly rdata) rdata o' b' y small_type small_class small_ttl named u wired none e refl (refl, refl, refl, refl) refl;
-      usable = still_usable o b owner (after_owner head rdata) o' b' y u e refl refl refl refl ordered;
+      usable = still_usable o b owner (octets_after_owner head rdata) o' b' y u e refl refl refl refl ordered;
     })
 record_pushed Additional o b owner head rdata o' b' x small_type small_class small_ttl named u wired none e others counts =
     let y : Builder = with_one_more Additional (entered b b') in
     let same : y ≡ x = ap (with_one_more Additional) (sym others) ∙ sym counts in
     let ordered = ordered_after Additional (starts_of b) b.len b'.len (omega (arith, e.ends)) u.ordered in
     subst (λ z. PushesData Additional owner head rdata o b o' z) same (record {
-      enters = enters_same o b owner (after_owner head rdata) o' b' y e refl refl refl;
+      enters = enters_same o b owner (octets_after_owner head rdata) o' b' y e refl refl refl;
       pushes = record_added Additional o b owner head (Exactly rdata) rdata o' b' y small_type small_class small_ttl named u wired none e refl (refl, refl, refl, refl) refl;
-      usable = still_usable o b owner (after_owner head rdata) o' b' y u e refl refl refl refl ordered;
+      usable = still_usable o b owner (octets_after_owner head rdata) o' b' y u e refl refl refl refl ordered;
     })
 
 -- the builder whose records were taken away, with other flags
@@ -211,13 +211,13 @@ tc_added f clear = record { set = omega (arith, clear); below = omega (arith, cl
 pub tc_kept : (f : ℕ) → (f / 512 % 2 ≡ 0 → ⊥) → SetsBits 2 2 1 (f / 256) (f / 256)
 tc_kept f set = record { set = omega (arith, set); below = refl; above = refl }
 
-pub cuts : (o : List ℕ) (b : Builder) (flags : ℕ) → IsUsable o b → SetsBits 2 2 1 (b.flags / 256) (flags / 256) → flags % 256 ≡ b.flags % 256 → Truncates true (state o b) (state o (cut b flags)) × IsUsable o (cut b flags)
+pub cuts : (o : List ℕ) (b : Builder) (flags : ℕ) → IsUsable o b → SetsBits 2 2 1 (b.flags / 256) (flags / 256) → flags % 256 ≡ b.flags % 256 → Truncates true (builder_state o b) (builder_state o (cut b flags)) × IsUsable o (cut b flags)
 cuts o b flags u tc low =
     let inside : b.answer_start ≤ b.len = omega (arith, u.ordered.1, u.ordered.2, u.ordered.3) in
     let header = header_of (cut b flags) in (
       record {
         header = record { id = refl; high = tc; low = low };
-        rewinds = rewinds Answer true (with_header header (state o b)) (counts_of (cut b flags)) (starts_of (cut b flags)) b.answer_start (take b.answer_start o) (refl, refl, refl, refl) refl refl (sym (take-take b.answer_start b.len o inside));
+        rewinds = rewinds Answer true (with_header header (builder_state o b)) (counts_of (cut b flags)) (starts_of (cut b flags)) b.answer_start (take b.answer_start o) (refl, refl, refl, refl) refl refl (sym (take-take b.answer_start b.len o inside));
       },
       record {
         room = u.room;
@@ -242,7 +242,7 @@ taken_under x o n twelve more =
 
 -- The message is read as what was pushed.
 pub finishes : (o : List ℕ) (b : Builder) (o' : List ℕ) (it : Content) → IsUsable o b → b.id < 2 ^ 16 → b.questions < 2 ^ 16 → b.answers < 2 ^ 16 → b.authority < 2 ^ 16 → b.additional < 2 ^ 16
-    → o' ≡ header_octets (header_of b) ++ (counts_octets (counts_of b) ++ drop 12 o) → Holds true (state o b) it → IsMessageOf (header_of b) it (take b.len o')
+    → o' ≡ header_octets (header_of b) ++ (counts_octets (counts_of b) ++ drop 12 o) → Holds true (builder_state o b) it → IsMessageOf (header_of b) it (take b.len o')
 finishes o b o' it u id questions answers authority additional written holds =
     let h = header_octets (header_of b) in
     let n = counts_octets (counts_of b) in
@@ -250,4 +250,4 @@ finishes o b o' it u id questions answers authority additional written holds =
     let twelve : length (h ++ n) ≡ 12 = refl in
     let made : take b.len o' ≡ h ++ (n ++ drop 12 (take b.len o)) =
     ap (take b.len) (written ∙ sym (append_assoc h n (drop 12 o))) ∙ (taken_under (h ++ n) o b.len twelve low ∙ append_assoc h n (drop 12 (take b.len o))) in
-    finished true (state o b) it (take b.len o') id questions answers authority additional holds made
+    finished true (builder_state o b) it (take b.len o') id questions answers authority additional holds made

@@ -14,7 +14,7 @@ use Rattle.domain_message_builder.specs.SectionStarts.{IsInOrder, starts_after}
 use Rattle.domain_message_builder.proofs.Ordering.{ordered_after}
 use Rattle.domain_buffer.specs.Puts.{PutsAt}
 use Rattle.domain_buffer.specs.Plans.{IsTable, Spells, more_of_table}
-use Rattle.domain_buffer.specs.Builders.{state, starts_of, counts_of, table_of, with_one_more, entered, after_owner, IsUsable, Enters}
+use Rattle.domain_buffer.specs.Builders.{builder_state, starts_of, counts_of, table_of, with_one_more, entered, octets_after_owner, IsUsable, Enters}
 use Rattle.domain_buffer.specs.Data.{Fields, IsSecond, IsNamed}
 use Rattle.domain_buffer.specs.Named.{SpelledNames, SpellsAny, SpellsNames, written_data, names_remembered, owner_remembered, EntersNamed, NamedTooBig, WritesAfterOwner, HasNoRoomAfterOwner, SameNames, PushesNamed}
 use Rattle.domain_buffer.specs.declared.builder.Builder.{Builder}
@@ -80,7 +80,7 @@ pub named_entered : (o : List ℕ) (b : Builder) (owner : List ℕ) (head : Reco
     → WritesAfterOwner m at b.limit table (before_length head.rtype head.class head.ttl) f end count o' table' → b'.len ≡ end → b'.table_len ≡ count → b'.table ≡ table' → EntersNamed o b owner head f o' b'
 named_entered o b owner head f begin named m o' table table' at end count b' u spelled at_is room puts is w ends few remembers =
     let octets = written_data f w.names in
-    let rest = after_owner head octets in
+    let rest = octets_after_owner head octets in
     let front = before_length head.rtype head.class head.ttl in
     let size : length rest ≡ 10 + length octets = omega (arith, length-append front (to_be_bytes w16 (length octets) ++ octets), length-append (to_be_bytes w16 (length octets)) octets) in
     let message : take at m ≡ take b.len o ++ named = ap (λ k. take k m) at_is ∙ puts_take b.len named o m (omega (arith, at_is, room, u.room)) puts in
@@ -129,7 +129,7 @@ same_names rtype t front size table f s n spelled = record {
 abbrev plain : Builder → List ℕ → Builder
 plain b table = record b { table_len = 128; table = table }
 
-abbrev plainly : (o : List ℕ) (b : Builder) (owner : List ℕ) (head : RecordHead) (f : Fields) (o' : List ℕ) (b' : Builder) → (e : EntersNamed o b owner head f o' b') → Enters o b owner (after_owner head (written_data f e.names)) o' (plain b' (owner_remembered b owner e.begin))
+abbrev plainly : (o : List ℕ) (b : Builder) (owner : List ℕ) (head : RecordHead) (f : Fields) (o' : List ℕ) (b' : Builder) → (e : EntersNamed o b owner head f o' b') → Enters o b owner (octets_after_owner head (written_data f e.names)) o' (plain b' (owner_remembered b owner e.begin))
 plainly o b owner head f o' b' e = record {
   begin = e.begin;
   named = e.named;
@@ -158,10 +158,10 @@ named_usable : (o : List ℕ) (b : Builder) (owner : List ℕ) (head : RecordHea
 named_usable o b owner head f o' x u e limit ordered =
     let own = more_is_table (table_of b) b.len (labels_in (take e.begin owner)) u.table in
     let is = subst IsTable (sym e.remembers) (names_are_table (owner_remembered b owner e.begin) f e.names (b.len + length e.named + 10) own) in
-    usable_after o b (e.named ++ after_owner head (written_data f e.names)) o' x u e.puts e.ends e.within limit e.few is ordered
+    usable_after o b (e.named ++ octets_after_owner head (written_data f e.names)) o' x u e.puts e.ends e.within limit e.few is ordered
 
 named_made : (section : Section) (o : List ℕ) (b : Builder) (owner : List ℕ) (head : RecordHead) (f : Fields) (o' : List ℕ) (b' y : Builder) → head.rtype < 2 ^ 16 → head.class < 2 ^ 16 → head.ttl < 2 ^ 32 → head.owner ≡ labels_in owner → IsUsable o b → IsAbsoluteWire owner → (0 < later_count section (counts_of b) → ⊥) → IsNamed head.rtype f → EntersNamed o b owner head f o' b'
-    → CountsRecord section (counts_of b) (counts_of y) → starts_of y ≡ starts_after section b'.len (starts_of b) → PushesRecord true section head (SameNames f) (state o b) (record (state o b) { counts = counts_of y; starts = starts_of y; octets = take b'.len o' })
+    → CountsRecord section (counts_of b) (counts_of y) → starts_of y ≡ starts_after section b'.len (starts_of b) → PushesRecord true section head (SameNames f) (builder_state o b) (record (builder_state o b) { counts = counts_of y; starts = starts_of y; octets = take b'.len o' })
 named_made section o b owner head f o' b' y small_type small_class small_ttl named u wired none n e counts at =
     let octets = written_data f e.names in
     let allowed = same_names head.rtype (take b.len o ++ e.named) (before_length head.rtype head.class head.ttl) (to_be_bytes w16 (length octets)) (owner_remembered b owner e.begin) f e.names n e.spells.names_spelled in

@@ -38,8 +38,8 @@ abbrev pub starts_of : Builder → SectionStarts
 starts_of b = record { answer = b.answer_start; authority = b.authority_start; additional = b.additional_start }
 
 -- The same as what is seen of a `MessageBuilder`: what it holds, and what its calls do, is said of this.
-abbrev pub state : List ℕ → Builder → State
-state o b = record { header = header_of b; limit = b.limit; reserved = 0; counts = counts_of b; starts = starts_of b; octets = take b.len o }
+abbrev pub builder_state : List ℕ → Builder → State
+builder_state o b = record { header = header_of b; limit = b.limit; reserved = 0; counts = counts_of b; starts = starts_of b; octets = take b.len o }
 
 -- These are as the calls leave them, and the message isn't finished.
 pub record IsUsable (o : List ℕ) (b : Builder) : Type 0 where
@@ -104,30 +104,30 @@ with_one_more Authority b = record b { authority = b.authority + 1; additional_s
 with_one_more Additional b = record b { additional = b.additional + 1 }
 
 -- what a question says whose name has this wire format
-abbrev pub asked : List ℕ → ℕ → ℕ → QuestionFields
-asked name rtype class = record { name = labels_in name; rtype = rtype; class = class }
+abbrev pub asked_by_wire : List ℕ → ℕ → ℕ → QuestionFields
+asked_by_wire name rtype class = record { name = labels_in name; rtype = rtype; class = class }
 
 -- what a record says before its data
-abbrev pub headed : List ℕ → ℕ → ℕ → ℕ → RecordHead
-headed owner rtype class ttl =
+abbrev pub headed_by_wire : List ℕ → ℕ → ℕ → ℕ → RecordHead
+headed_by_wire owner rtype class ttl =
     record { owner = labels_in owner; rtype = rtype; class = class; ttl = ttl }
 
 -- what a record says before its data, by the owner's octets and the numbers after them
 abbrev pub headed_by : List ℕ → Head → RecordHead
-headed_by owner head = headed owner head.rtype head.class head.ttl
+headed_by owner head = headed_by_wire owner head.rtype head.class head.ttl
 
 -- these octets of data, as they are
 abbrev pub Exactly : List ℕ → List ℕ → List ℕ → Type 0
 Exactly rdata before data_octets = data_octets ≡ rdata
 
 -- the octets of a record after its owner's name (RFC 1035, 4.1.3)
-abbrev pub after_owner : RecordHead → List ℕ → List ℕ
-after_owner head rdata =
+abbrev pub octets_after_owner : RecordHead → List ℕ → List ℕ
+octets_after_owner head rdata =
     before_length head.rtype head.class head.ttl ++ (to_be_bytes w16 (length rdata) ++ rdata)
 
 -- The record was pushed into the section.
 pub record PushesData (section : Section) (owner : List ℕ) (head : RecordHead) (rdata : List ℕ)
     (o : List ℕ) (b : Builder) (o' : List ℕ) (b' : Builder) : Type 0 where
-  pub enters : Enters o b owner (after_owner head rdata) o' b'
-  pub pushes : PushesRecord true section head (Exactly rdata) (state o b) (state o' b')
+  pub enters : Enters o b owner (octets_after_owner head rdata) o' b'
+  pub pushes : PushesRecord true section head (Exactly rdata) (builder_state o b) (builder_state o' b')
   pub usable : IsUsable o' b'

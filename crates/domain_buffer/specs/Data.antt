@@ -17,8 +17,8 @@ pub record Fields : Type 0 where
   pub after : List ℕ
 
 -- the fields as they were found
-abbrev pub fields_of : NamedData → Fields
-fields_of d =
+abbrev pub found_fields : NamedData → Fields
+found_fields d =
     record {
       before = d.before.now;
       first = d.first.now;
@@ -71,4 +71,4 @@ FindsSecondFront found names octets =
 
 -- The octets are data of this type with these fields.
 abbrev pub AreDataOf : ℕ → List ℕ → NamedData → Type 0
-AreDataOf rtype octets d = IsNamed rtype (fields_of d) × (whole (fields_of d) ≡ octets)
+AreDataOf rtype octets d = IsNamed rtype (found_fields d) × (whole (found_fields d) ≡ octets)

@@ -12,8 +12,8 @@ use Rattle.domain_record.specs.Composing.{before_length}
 use Rattle.domain_reading.specs.Grammar.{EncodingEnds}
 use Rattle.domain_buffer.specs.Puts.{PutsAt}
 use Rattle.domain_buffer.specs.Plans.{Spells, more_of_table}
-use Rattle.domain_buffer.specs.Data.{Fields, fields_of}
-use Rattle.domain_buffer.specs.Builders.{state, table_of, headed, entered, after_owner, IsUsable}
+use Rattle.domain_buffer.specs.Data.{Fields, found_fields}
+use Rattle.domain_buffer.specs.Builders.{builder_state, table_of, headed_by_wire, entered, octets_after_owner, IsUsable}
 use Rattle.domain_buffer.specs.declared.builder.Builder.{Builder}
 use Rattle.domain_buffer.specs.declared.builder.Head.{Head}
 use Rattle.domain_buffer.specs.declared.data.NamedData.{NamedData}
@@ -77,8 +77,8 @@ pub record EntersNamed (o : List ℕ) (b : Builder) (owner : List ℕ) (head : R
   pub named : List ℕ
   pub names : SpelledNames
   pub spells : SpellsRecord o b owner f begin named names
-  pub puts : PutsAt b.len (named ++ after_owner head (written_data f names)) o o'
-  pub ends : b'.len ≡ b.len + length (named ++ after_owner head (written_data f names))
+  pub puts : PutsAt b.len (named ++ octets_after_owner head (written_data f names)) o o'
+  pub ends : b'.len ≡ b.len + length (named ++ octets_after_owner head (written_data f names))
   pub within : b'.len ≤ b.limit
   pub few : b'.table_len ≤ 128
   pub remembers : table_of b' ≡ names_remembered (owner_remembered b owner begin) f names
@@ -116,19 +116,19 @@ pub record HasNoRoomAfterOwner (o : List ℕ) (start limit : ℕ) (table : List 
 -- What follows the owner's name was written so.
 abbrev pub EndsRecord : List ℕ → (start limit : ℕ) → (table : List ℕ) → Head → NamedData → List ℕ → List ℕ → RecordEnd → Type 0
 EndsRecord o start limit table head d o' table' e =
-    WritesAfterOwner o start limit table (before_length head.rtype head.class head.ttl) (fields_of d) e.end e.count o' table'
+    WritesAfterOwner o start limit table (before_length head.rtype head.class head.ttl) (found_fields d) e.end e.count o' table'
 
 -- It exceeds the limit, and the octets are unchanged.
 abbrev pub EndExceedsLimit : List ℕ → (start limit : ℕ) → (table : List ℕ) → NamedData → List ℕ → Type 0
 EndExceedsLimit o start limit table d o' =
-    HasNoRoomAfterOwner o start limit table (fields_of d) × (o' ≡ o)
+    HasNoRoomAfterOwner o start limit table (found_fields d) × (o' ≡ o)
 
 -- The record was written, or exceeds the limit, and nothing is changed.
 abbrev pub EntersNamedIfRoom : (told : Bool) → List ℕ → Builder → (owner : List ℕ) → Head → NamedData → List ℕ → Builder → Type 0
 EntersNamedIfRoom told o b owner head d o' b' =
     MatchBool told
-    (EntersNamed o b owner (headed owner head.rtype head.class head.ttl) (fields_of d) o' b' × (b' ≡ entered b b'))
-    (NamedTooBig o b owner (fields_of d) × (o' ≡ o) × (b' ≡ b))
+    (EntersNamed o b owner (headed_by_wire owner head.rtype head.class head.ttl) (found_fields d) o' b' × (b' ≡ entered b b'))
+    (NamedTooBig o b owner (found_fields d) × (o' ≡ o) × (b' ≡ b))
 
 -- These octets of data, after those before: the numbers as they are, and for each name some that are read as an equal one.
 pub record SameNames (f : Fields) (before octets : List ℕ) : Type 0 where
@@ -157,5 +157,5 @@ NamesReadBack =
 pub record PushesNamed (section : Section) (owner : List ℕ) (head : RecordHead) (f : Fields)
     (o : List ℕ) (b : Builder) (o' : List ℕ) (b' : Builder) : Type 0 where
   pub enters : EntersNamed o b owner head f o' b'
-  pub pushes : PushesRecord true section head (SameNames f) (state o b) (state o' b')
+  pub pushes : PushesRecord true section head (SameNames f) (builder_state o b) (builder_state o' b')
   pub usable : IsUsable o' b'

@@ -3,7 +3,7 @@ ghost use Rattle.std.specs.Prelude.{◌≡◌, ◌⊎◌, ◌<◌, ◌≤◌, �
 ghost use Rattle.domain_label.specs.Wire.{IsAbsoluteWire};
 ghost use Rattle.domain_buffer.specs.Plans.{IsTable};
 ghost use Rattle.domain_buffer.specs.Builders.{IsUsable};
-ghost use Rattle.domain_buffer.specs.Data.{fields_of, IsNamed};
+ghost use Rattle.domain_buffer.specs.Data.{found_fields, IsNamed};
 ghost use Rattle.domain_buffer.specs.Named.{SpellsAny, len_after_owner, PutsData, EndsRecord, EndExceedsLimit, EntersNamedIfRoom, NamesReadBack};
 
 use crate::builder::{Builder, Head, head_octets, put_entry};
@@ -68,7 +68,7 @@ fn write_after_owner(
     requires small { limit ≤ 65535 }
     requires count { count ≤ 128 }
     requires table { IsTable (take count table.old) }
-    requires named { IsNamed head.rtype (fields_of fields) }
+    requires named { IsNamed head.rtype (found_fields fields) }
     requires before { length fields.before.now ≤ 6 }
     requires after { length fields.after.now ≤ 20 }
     ensures some { IfSome result
@@ -120,7 +120,7 @@ pub fn enter_named(
 ) -> bool
     requires usable { IsUsable octets.old builder.old }
     requires owner { IsAbsoluteWire owner.now }
-    requires named { IsNamed head.rtype (fields_of fields) }
+    requires named { IsNamed head.rtype (found_fields fields) }
     requires before { length fields.before.now ≤ 6 }
     requires after { length fields.after.now ≤ 20 }
     ensures done { EntersNamedIfRoom result octets.old builder.old owner.now head fields.entry

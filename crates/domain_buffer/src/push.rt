@@ -2,7 +2,7 @@
 ghost use Rattle.std.specs.Prelude.{◌≡◌, ◌≤◌, length, IfErr, OnOk, OnErr};
 ghost use Rattle.domain_label.specs.Wire.{IsAbsoluteWire};
 ghost use Rattle.domain_buffer.specs.Builders.{headed_by, IsUsable, PushesData};
-ghost use Rattle.domain_buffer.specs.Data.{fields_of, IsNamed};
+ghost use Rattle.domain_buffer.specs.Data.{found_fields, IsNamed};
 ghost use Rattle.domain_buffer.specs.Named.{PushesNamed};
 ghost use Rattle.domain_buffer.specs.Pushing.{RefusesData, RefusesNamed};
 
@@ -65,13 +65,13 @@ pub fn push_named(
 ) -> Result<(), PushFault>
     requires usable { IsUsable octets.old builder.old }
     requires owner { IsAbsoluteWire owner.now }
-    requires named { IsNamed head.rtype (fields_of fields) }
+    requires named { IsNamed head.rtype (found_fields fields) }
     requires before { length fields.before.now ≤ 6 }
     requires after { length fields.after.now ≤ 20 }
     ensures ok { OnOk result (PushesNamed section owner.now (headed_by owner.now head)
-        (fields_of fields.entry) octets.old builder.old octets.new builder.new) }
+        (found_fields fields.entry) octets.old builder.old octets.new builder.new) }
     ensures err { IfErr result
-        (RefusesNamed section owner.now (fields_of fields.entry) octets.old builder.old) }
+        (RefusesNamed section owner.now (found_fields fields.entry) octets.old builder.old) }
     ensures unchanged { OnErr result ((octets.new ≡ octets.old) × (builder.new ≡ builder.old)) }
 {
     if has_later(section, builder) {

@@ -24,8 +24,8 @@ abbrev pub rrsig_algorithm : {t text : ℕ} {O N : Type 0} {g : Ghosts O} → Rr
 rrsig_algorithm it = (fields_of it).rest.first
 
 -- the number of labels of the owner, without the root and without `*` (RFC 4034, 3.1.3)
-abbrev pub rrsig_labels : {t text : ℕ} {O N : Type 0} {g : Ghosts O} → RrsigData t text O g N → ℕ
-rrsig_labels it = (fields_of it).rest.rest.first
+abbrev pub rrsig_label_count : {t text : ℕ} {O N : Type 0} {g : Ghosts O} → RrsigData t text O g N → ℕ
+rrsig_label_count it = (fields_of it).rest.rest.first
 
 -- the TTL of the records in the zone (RFC 4034, 3.1.4)
 abbrev pub rrsig_original_ttl : {t text : ℕ} {O N : Type 0} {g : Ghosts O} → RrsigData t text O g N → ℕ

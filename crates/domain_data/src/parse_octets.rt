@@ -231,7 +231,7 @@ impl<'a, const TYPE: u16, const TEXT: u8> ParseRecordData<'a>
         >,
     > {
     ghost use Rattle.domain_data.specs.OctetShapes.{SignatureAt, NoSignature, signature_data};
-    ghost use Rattle.domain_data.specs.SignatureFields.{rrsig_type_covered, rrsig_algorithm, rrsig_labels, rrsig_original_ttl, rrsig_expiration};
+    ghost use Rattle.domain_data.specs.SignatureFields.{rrsig_type_covered, rrsig_algorithm, rrsig_label_count, rrsig_original_ttl, rrsig_expiration};
     ghost use Rattle.domain_data.specs.SignatureFields.{rrsig_inception, rrsig_key_tag, rrsig_signer_name, rrsig_signature};
 
     ghost View = { ℕ × (ℕ × (ℕ × (ℕ × (ℕ × (ℕ × (ℕ × (List (List ℕ) × List ℕ))))))) };
@@ -241,7 +241,7 @@ impl<'a, const TYPE: u16, const TEXT: u8> ParseRecordData<'a>
       (
         rrsig_algorithm it,
         (
-          rrsig_labels it,
+          rrsig_label_count it,
           (
             rrsig_original_ttl it,
             (

@@ -34,7 +34,7 @@ pub type Rrsig<Octs, N> = FieldsData<46, Sequence<RtypeField, SignatureFields<Oc
 
 impl<Octs: Octets, N> Rrsig<Octs, N> {
     ghost use Rattle.domain_data.specs.Views.{type_of};
-    ghost use Rattle.domain_data.specs.SignatureFields.{rrsig_type_covered, rrsig_algorithm, rrsig_labels, rrsig_original_ttl, rrsig_expiration};
+    ghost use Rattle.domain_data.specs.SignatureFields.{rrsig_type_covered, rrsig_algorithm, rrsig_label_count, rrsig_original_ttl, rrsig_expiration};
     ghost use Rattle.domain_data.specs.SignatureFields.{rrsig_inception, rrsig_key_tag, rrsig_signer_name, rrsig_signature};
     ghost use Rattle.domain_header.specs.Values.{ttl_seconds};
 
@@ -52,7 +52,7 @@ impl<Octs: Octets, N> Rrsig<Octs, N> {
     ) -> Rrsig<Octs, N>
         ensures type_covered { rrsig_type_covered result ≡ type_covered }
         ensures algorithm { rrsig_algorithm result ≡ algorithm }
-        ensures labels { rrsig_labels result ≡ labels }
+        ensures labels { rrsig_label_count result ≡ labels }
         ensures original_ttl { rrsig_original_ttl result ≡ ttl_seconds original_ttl }
         ensures expiration { rrsig_expiration result ≡ expiration.0 }
         ensures inception { rrsig_inception result ≡ inception.0 }
@@ -114,7 +114,7 @@ impl<Octs: Octets, N> Rrsig<Octs, N> {
 
     /// How many labels the owner has where no wildcard was put for some: without the root, and without `*`.
     pub fn labels(&self) -> u8
-        ensures { result ≡ rrsig_labels self.now }
+        ensures { result ≡ rrsig_label_count self.now }
     {
         self.fields.rest.rest.first
     }

@@ -1,7 +1,7 @@
 -- What fits of a text is put behind what was put before.
 use Rattle.std.proofs.Common.{◌≡◌, ◌∙◌, ℕ, ◌+◌, ◌-◌, ◌<◌, List, [], ◌++◌, length, take, drop, refl, sym, ap, arith, append_assoc, length-append}
 use Rattle.std.proofs.lemmas.List.{append-nil, length-take, length-drop, length-take-le, take_all, take_at, take-append-le, take-append-drop, drop_all}
-use Rattle.domain_lines.specs.Rooms.{laid, Holds}
+use Rattle.domain_lines.specs.Rooms.{laid, HoldsText}
 
 -- The beginning of it fits.
 pub laid_cut : (old before s buffer new : List ℕ) (p room : ℕ) → p ≡ length before → buffer ≡ laid old before → p < length buffer → room ≡ length buffer - p → room < length s → new ≡ take p buffer ++ take room s ++ drop (p + length (take room s)) buffer → new ≡ laid old (before ++ s)
@@ -21,5 +21,5 @@ laid_cut old before s buffer new p room at is inside left long put =
     ours ∙ sym theirs
 
 -- A buffer in which nothing was put yet.
-pub holds_nothing : (old : List ℕ) → Holds old [] old 0
+pub holds_nothing : (old : List ℕ) → HoldsText old [] old 0
 holds_nothing old = record { octets = sym (take_all (length old) old (omega arith)); many = refl }

@@ -4,7 +4,7 @@ use Rattle.domain_wire.specs.declared.error.ParseError.{ParseError}
 use Rattle.domain_record.specs.Entries.{RecordFields, RecordAt, NoRecord}
 use Rattle.domain_lines.specs.Messages.{ShowsMessage, StopsShowing}
 use Rattle.domain_lines.specs.Records.{IsRecordLine}
-use Rattle.domain_lines.specs.Rooms.{Holds}
+use Rattle.domain_lines.specs.Rooms.{HoldsText}
 use Rattle.domain_lines.specs.declared.put.PutText.{PutText}
 
 -- The text shows the message, to its end (None), or up to what can't be shown, and why.
@@ -14,11 +14,11 @@ IsTextOf m (Some why) text = StopsShowing m text why
 
 -- The buffer has such a text, as far as it fits.
 abbrev pub PutsShown : List ℕ → Option ParseError → List ℕ → List ℕ → ℕ → Type 0
-PutsShown m why old new len = (text : List ℕ) × IsTextOf m why text × Holds old text new len
+PutsShown m why old new len = (text : List ℕ) × IsTextOf m why text × HoldsText old text new len
 
 -- The buffer has the line of the record at p, and a newline.
 abbrev pub PutsRecord : List ℕ → ℕ → List ℕ → List ℕ → ℕ → Type 0
-PutsRecord m p old new len = (it : RecordFields) × (end : ℕ) × (line : List ℕ) × RecordAt m p it end × IsRecordLine it line × Holds old (line ++ 10 ∷ []) new len
+PutsRecord m p old new len = (it : RecordFields) × (end : ℕ) × (line : List ℕ) × RecordAt m p it end × IsRecordLine it line × HoldsText old (line ++ 10 ∷ []) new len
 
 -- What a record at p came to: its line was put (None); or there is none, and why, and the buffer is unchanged.
 abbrev pub PutsRecordOrNot : List ℕ → ℕ → Option ParseError → List ℕ → List ℕ → ℕ → Type 0

@@ -1,11 +1,11 @@
 -- Texts that are put into a room one after another.
 use Rattle.std.proofs.Common.{◌≡◌, ◌∙◌, ℕ, List, [], ◌++◌, refl, sym, subst, append_assoc}
 use Rattle.std.proofs.lemmas.List.{append-nil}
-use Rattle.domain_lines.specs.Rooms.{Holds, takes}
+use Rattle.domain_lines.specs.Rooms.{HoldsText, takes}
 use Rattle.domain_lines.specs.declared.room.Room.{Room}
 
-holds_said : (old text other buffer : List ℕ) (len : ℕ) → text ≡ other → Holds old text buffer len → Holds old other buffer len
-holds_said old text other buffer len same x = subst (λ t. Holds old t buffer len) same x
+holds_said : (old text other buffer : List ℕ) (len : ℕ) → text ≡ other → HoldsText old text buffer len → HoldsText old other buffer len
+holds_said old text other buffer len same x = subst (λ t. HoldsText old t buffer len) same x
 
 pub takes_nothing : (a : Room) → takes a a []
 takes_nothing a = record { same = refl; behind = λ old before x. holds_said old before (before ++ []) a.buffer.now a.len (sym (append-nil before)) x }

@@ -16,11 +16,11 @@ LaysBehind offset octets old new =
     (first before : List ℕ) → offset ≡ length before → old ≡ laid first before → new ≡ laid first (before ++ octets)
 
 -- The buffer, which was old, has the text, and this is how many octets the text has.
-pub record Holds (old text buffer : List ℕ) (len : ℕ) : Type 0 where
+pub record HoldsText (old text buffer : List ℕ) (len : ℕ) : Type 0 where
   pub octets : buffer ≡ laid old text
   pub many : len ≡ length text
 
 -- b is the room a after a text was put into it: of the same buffer, with the text behind what was put before.
 pub record takes (a b : Room) (text : List ℕ) : Type 0 where
   pub same : b.buffer.ghost_name ≡ a.buffer.ghost_name
-  pub behind : (old before : List ℕ) → Holds old before a.buffer.now a.len → Holds old (before ++ text) b.buffer.now b.len
+  pub behind : (old before : List ℕ) → HoldsText old before a.buffer.now a.len → HoldsText old (before ++ text) b.buffer.now b.len

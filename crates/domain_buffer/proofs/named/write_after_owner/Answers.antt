@@ -3,7 +3,7 @@ use Rattle.std.proofs.lemmas.List.{length-take-le}
 use Rattle.domain_label.specs.Wire.{labels_in}
 use Rattle.domain_record.specs.Composing.{before_length}
 use Rattle.domain_buffer.specs.Puts.{PutsAt}
-use Rattle.domain_buffer.specs.Data.{fields_of}
+use Rattle.domain_buffer.specs.Data.{found_fields}
 use Rattle.domain_buffer.specs.Named.{SpelledNames, written_data}
 use Rattle.domain_buffer.proofs.Naming.{data_size, head_and_data, more_table, names_added}
 use Rattle.domain_buffer.proofs.named.write_after_owner.Goals as goal
@@ -12,7 +12,7 @@ pub returns-then-limit-start-clause-none : goal.returns-then-limit-start-clause-
 returns-then-limit-start-clause-none c none =
     let first = take c.spell-first.result.len c.spell-first.new.text in
     let second = take c.spell_any-second.result.len c.spell_any-second.new.text in
-    let f = fields_of c.args.fields in
+    let f = found_fields c.args.fields in
     let first_size : length first ≡ c.spell-first.result.len = length-take-le c.spell-first.result.len c.spell-first.new.text (omega (arith, c.spell-first.ensures.fits)) in
     let second_size : length second ≡ c.spell_any-second.result.len = length-take-le c.spell_any-second.result.len c.spell_any-second.new.text (omega (arith, c.spell_any-second.ensures.fits)) in (
       record {
@@ -32,7 +32,7 @@ pub returns-clause-some : goal.returns-clause-some
 returns-clause-some c =
     let first = take c.spell-first.result.len c.spell-first.new.text in
     let second = take c.spell_any-second.result.len c.spell_any-second.new.text in
-    let f = fields_of c.args.fields in
+    let f = found_fields c.args.fields in
     let first_size : length first ≡ c.spell-first.result.len = length-take-le c.spell-first.result.len c.spell-first.new.text (omega (arith, c.spell-first.ensures.fits)) in
     let second_size : length second ≡ c.spell_any-second.result.len = length-take-le c.spell_any-second.result.len c.spell_any-second.new.text (omega (arith, c.spell_any-second.ensures.fits)) in
     let names : SpelledNames = record { first_begin = c.spell-first.result.begin; first = first; second_begin = c.spell_any-second.result.begin; second = second } in
