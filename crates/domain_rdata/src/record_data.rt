@@ -198,7 +198,8 @@ pub trait ComposeRecordData: RecordData {
         target: &mut Target,
     ) -> Result<(), CanonicalError<Target::AppendError>>
         ensures ok { OnOk result
-            (GrowsByLengthAndForm Target.Composer Self.ComposeRecordData self.now target.old target.new) }
+            (GrowsByLengthAndForm Target.Composer Self.ComposeRecordData self.now target.old
+            target.new) }
         ensures memory { RemembersAsBefore Target.Composer target.old target.new }
         ensures unchanged { OnErr result (Target.octets target.new ≡ Target.octets target.old) }
         ensures why { IfErr result
