@@ -101,7 +101,7 @@ root_flat t ws name w one =
     flat (λ xs ys parts more. absurd (omega (arith, ap length parts, length-append xs ys, more, few_labels name w one)))
 
 -- and none of its labels is remembered.
-pub adds_root : (t : List ℕ) (ws : List RememberedLabel) (name t' : List ℕ) → IsAbsoluteWire name → length name ≡ 1 → length ws ≤ 128 → t' ≡ t ++ name → Adds t ws (labels_in name) t' ws
+pub adds_root : (t : List ℕ) (ws : List RememberedLabel) (name t' : List ℕ) → IsAbsoluteWire name → length name ≡ 1 → length ws ≤ 128 → t' ≡ t ++ name → AddsCompressed t ws (labels_in name) t' ws
 adds_root t ws name t' w one few all =
     let none : remembered_from (length t) (length t') (labels_in name) ≡ [] = none_from (length t) (length t') (labels_in name) w.1.0 (few_labels name w one) in
     let same : take 128 (ws ++ remembered_from (length t) (length t') (labels_in name)) ≡ ws = ap (λ r. take 128 (ws ++ r)) none ∙ (ap (take 128) (append-nil ws) ∙ take_all 128 ws few) in
