@@ -6,7 +6,8 @@ use crate::memory::MOST_REFUSED;
 use crate::names::relative;
 use domain::base::name::*;
 use domain::base::rdata::{ComposeRdataError, ComposeRecordData, Rtype, UnknownRecordData};
-use octseq::{EmptyBuilder, Octets, OctetsBuilder, OctetsFrom, ShortBuf};
+use domain::rdata::Txt;
+use octseq::{EmptyBuilder, Octets, OctetsBuilder, OctetsFrom, Parser, ShortBuf};
 use std::alloc::Global;
 use std::process::Abort;
 
@@ -43,6 +44,27 @@ fn copy_data(rt: &impl Abort, alloc: Global) -> bool {
 #[test]
 fn record_data_is_copied_or_refused(rt: HostRuntime) {
     assert!(rt; u8::from(copy_data(&rt, rt.alloc())) <= MOST_REFUSED);
+}
+
+/// Whether the text of two strings was refused.
+fn text_is_refused(rt: &impl Abort, alloc: Global) -> bool {
+    let mut parser = Parser::from_ref(b"\x02ab\x01c".as_slice());
+    let txt = match Txt::parse(&mut parser) {
+        Ok(txt) => txt,
+        Err(_) => panic!(rt; "no strings"),
+    };
+    match txt.text(alloc) {
+        Ok(text) => {
+            assert!(rt; text.as_slice() == b"abc".as_slice());
+            false
+        }
+        Err(_) => true,
+    }
+}
+
+#[test]
+fn text_of_strings_is_given_or_refused(rt: HostRuntime) {
+    assert!(rt; u8::from(text_is_refused(&rt, rt.alloc())) <= MOST_REFUSED);
 }
 
 /// Record data is appended with its length to the same octets again where it was refused, which leaves them.
