@@ -170,8 +170,8 @@ pub extern "C" fn dnsnames_builder_record(
     ttl: u32,
     data: &[u8],
 ) -> u32
-    ensures { GivesInSection section owner.now (headed_by_wire owner.now rtype class ttl) data.now result
-        octets.old builder.old octets.new builder.new }
+    ensures { GivesInSection section owner.now (headed_by_wire owner.now rtype class ttl) data.now
+        result octets.old builder.old octets.new builder.new }
 {
     if !is_usable(octets, builder) {
         return 23;

@@ -44,8 +44,8 @@ pub extern "C" fn dnsnames_read(
     end: &mut usize,
     compressed: &mut u32,
 ) -> u32
-    ensures { ReadsNameAt limit message.now offset result buffer.old buffer.new length.old length.new
-        end.old end.new compressed.old compressed.new }
+    ensures { ReadsNameAt limit message.now offset result buffer.old buffer.new length.old
+        length.new end.old end.new compressed.old compressed.new }
 {
     let mut octets = [0; 255];
     let found = match read_into(message, offset, limit, &mut octets) {

@@ -61,7 +61,8 @@ impl fmt::Display for RefusedLine {
 /// Writes a line for each label and pointer that reading the name at an offset of a message comes to, and a last line with
 /// the name or the reason why there is none. Returns whether there is a name.
 fn follow_in<W: Sink>(message: &[u8], output: &mut W, offset: u32) -> Result<bool, WriteFault>
-    ensures written { IfOk result (FollowsName W.contents message.now offset output.old output.new) }
+    ensures written { IfOk result
+        (FollowsName W.contents message.now offset output.old output.new) }
     ensures failed { OnErr result (W.failed output.new) }
 {
     let count = write_lines(message, offset as usize, output)?;
@@ -215,7 +216,8 @@ fn answer<W: Sink, E: Write>(
 
 /// Follows the name, and flushes the output.
 fn follow<W: Sink>(message: &[u8], output: &mut W, offset: u32) -> Result<bool, ToolError>
-    ensures written { IfOk result (FollowsName W.contents message.now offset output.old output.new) }
+    ensures written { IfOk result
+        (FollowsName W.contents message.now offset output.old output.new) }
     ensures failed { OnErr result (W.failed output.new) }
 {
     let found = follow_in(message, output, offset)?;
