@@ -29,13 +29,14 @@ use octseq::{Octets, OctetsBuilder, OctetsMut, Truncate};
 /// name is written uncompressed. Either way it is read back as an equal name.
 ///
 /// What the target held before is never pointed to. Octets that are written over through `as_slice_mut` are
-/// read anew for each name, so a pointer is right whatever they are; names that were written before may be no
-/// longer.
+/// read anew for the next name that is searched for, so a pointer is right whatever they are; names that were written
+/// before may be no longer.
 #[derive(Drop)]
 pub struct CompressComposer<T: Composer> {
     target: T,
     written: ArrayVec<Written, 128>,
-    /// Whether the hashes count, which they don't once octets were lent for writing, nor before a name was searched for.
+    /// Whether the hashes count: from a search or a cut on, until octets are lent for writing, and while nothing is
+    /// remembered.
     hashed: bool,
     ghost known: { IsKnown hashed (T.octets target) written.items } by { Prim.hlevel props },
     ghost inside: { AllWithin (length (T.octets target)) written.items } by { Prim.hlevel props },

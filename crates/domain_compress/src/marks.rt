@@ -26,7 +26,7 @@ pub(crate) fn hash(label: &[u8]) -> u16
     (sum.wrapping_mul(SPREAD) / 281474976710656) as u16
 }
 
-/// The same where the hashes count, and else 0.
+/// The same where the hashes count; else nothing looks at it.
 #[inline(always)]
 pub(crate) fn hash_if(hashed: bool, label: &[u8]) -> u16
     ensures { hashed ≡ true → result ≡ label_hash label.now }

@@ -1,4 +1,4 @@
-//! What is asked for, and how it went: the two codes of four bits in a header.
+//! What is asked for, and how it went: the two codes of four bits in a header, and their mnemonics.
 ghost use Rattle.std.specs.Prelude.{◌≡◌, ◌≤◌, ◌<◌, ◌%◌, ◌↔◌, IfSome, IsNone, Some};
 ghost use Rattle.domain_header.specs.Mnemonics.{rows_of};
 ghost use Rattle.domain_header.specs.Tables.{opcode_rows, rcode_rows, response_rows};
@@ -102,8 +102,8 @@ const RCODES: [Mnemonic; 14] = [
     },
 ];
 
-/// Returns the table of the mnemonics of response codes, of those too that have the eight bits more of an OPT record
-/// (RFC 6891, 6.1.3).
+/// Returns the table of the mnemonics of response codes, with two of those that need the eight bits more of an OPT
+/// record (RFC 6891, 6.1.3).
 pub fn extended_rcodes() -> &'static [Mnemonic]
     ensures { rows_of result.now ≡ response_rows }
 {

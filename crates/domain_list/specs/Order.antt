@@ -37,7 +37,7 @@ lowercase_composed_order = on lowercase_labels composed_order
 abbrev pub same_name : List (List ℕ) → List (List ℕ) → Bool
 same_name = on from_right (eq_by_cmp (slice_cmp (slice_cmp nat_cmp)))
 
--- The labels are the same ignoring case.
+-- The labels are the same ignoring case (RFC 4343).
 abbrev pub SameLabels : List (List ℕ) → List (List ℕ) → Type 0
 SameLabels xs ys = lowercase_labels xs ≡ lowercase_labels ys
 

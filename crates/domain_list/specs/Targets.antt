@@ -12,7 +12,7 @@ NameFollows g labels old new = g.octets new ≡ g.octets old ++ wire labels
 abbrev pub NameLacksRoom : {T : Type 0} → Ghosts T → List (List ℕ) → T → Type 0
 NameLacksRoom g labels old = g.capacity old < length (g.octets old) + length (wire labels)
 
--- The wire format of the name in lower case was appended.
+-- The wire format of the name in lower case was appended (RFC 4034, 6.2).
 abbrev pub LowercaseFollows : {T : Type 0} → Ghosts T → List (List ℕ) → T → T → Type 0
 LowercaseFollows g labels = NameFollows g (lowercase_labels labels)
 
