@@ -13,7 +13,7 @@ use Rattle.domain_reading.specs.Grammar.{EncodingEnds}
 use Rattle.domain_buffer.specs.Puts.{PutsAt}
 use Rattle.domain_buffer.specs.Plans.{Spells, more_of_table}
 use Rattle.domain_buffer.specs.Data.{Fields, found_fields}
-use Rattle.domain_buffer.specs.Builders.{builder_state, table_of, headed_by_wire, entered, octets_after_owner, IsUsable}
+use Rattle.domain_buffer.specs.Builders.{builder_state, table_of, headed_by_wire, headed_by, entered, octets_after_owner, IsUsable}
 use Rattle.domain_buffer.specs.declared.builder.Builder.{Builder}
 use Rattle.domain_buffer.specs.declared.builder.Head.{Head}
 use Rattle.domain_buffer.specs.declared.data.NamedData.{NamedData}
@@ -159,3 +159,7 @@ pub record PushesNamed (section : Section) (owner : List ℕ) (head : RecordHead
   pub enters : EntersNamed o b owner head f o' b'
   pub pushes : PushesRecord true section head (SameNames f) (builder_state o b) (builder_state o' b')
   pub usable : IsUsable o' b'
+
+-- It was pushed with the fields as they were found, and with what its head says.
+abbrev pub PushesFound : Section → List ℕ → Head → NamedData → List ℕ → Builder → List ℕ → Builder → Type 0
+PushesFound section owner head d o b o' b' = PushesNamed section owner (headed_by owner head) (found_fields d) o b o' b'

@@ -3,7 +3,7 @@ ghost use Rattle.std.specs.Prelude.{◌≡◌, ◌≤◌, length, IfErr, OnOk, O
 ghost use Rattle.domain_label.specs.Wire.{IsAbsoluteWire};
 ghost use Rattle.domain_buffer.specs.Builders.{headed_by, IsUsable, PushesData};
 ghost use Rattle.domain_buffer.specs.Data.{found_fields, IsNamed};
-ghost use Rattle.domain_buffer.specs.Named.{PushesNamed};
+ghost use Rattle.domain_buffer.specs.Named.{PushesFound};
 ghost use Rattle.domain_buffer.specs.Pushing.{RefusesData, RefusesNamed};
 
 use crate::builder::{Builder, Head, count_of, count_record, enter, has_later, head_octets};
@@ -68,8 +68,8 @@ pub fn push_named(
     requires named { IsNamed head.rtype (found_fields fields) }
     requires before { length fields.before.now ≤ 6 }
     requires after { length fields.after.now ≤ 20 }
-    ensures ok { OnOk result (PushesNamed section owner.now (headed_by owner.now head)
-        (found_fields fields.entry) octets.old builder.old octets.new builder.new) }
+    ensures ok { OnOk result (PushesFound section owner.now head fields.entry octets.old
+        builder.old octets.new builder.new) }
     ensures err { IfErr result
         (RefusesNamed section owner.now (found_fields fields.entry) octets.old builder.old) }
     ensures unchanged { OnErr result ((octets.new ≡ octets.old) × (builder.new ≡ builder.old)) }

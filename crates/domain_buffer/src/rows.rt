@@ -81,7 +81,8 @@ fn take_entry(
     requires short { taken.names ≤ 255 * taken.count }
     requires rows { 8 * taken.count ≤ length rows.old }
     requires names { taken.names ≤ length names.old }
-    ensures ok { IfOk result (AddsRow limit message.now taken rows.old rows.new names.old names.new) }
+    ensures ok { IfOk result
+        (AddsRow limit message.now taken rows.old rows.new names.old names.new) }
     ensures short { IfOk result (λ next. next.names ≤ taken.names + 255) }
     ensures err { IfErr result (NotTakenAfter limit message.now taken rows.old names.old) }
     ensures unchanged { OnErr result ((rows.new ≡ rows.old) × (names.new ≡ names.old)) }

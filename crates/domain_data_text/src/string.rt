@@ -102,7 +102,8 @@ fn without_quotes(text: &[u8]) -> Option<&[u8]>
 /// The octets that are spelled. The text is in a word at this column.
 fn spelled(alloc: Global, text: &[u8], column: usize) -> Result<Vec<u8>, Stop>
     ensures ok { IfOk result (λ octets. IsSpelled text.now octets.items) }
-    ensures err { IfErr result (λ e. IfFault e (TellsMissing (IsSpelled text.now) Fault.Text column)) }
+    ensures err { IfErr result
+        (λ e. IfFault e (TellsMissing (IsSpelled text.now) Fault.Text column)) }
 {
     let mut octets = Vec::new(alloc);
     let mut at = 0;

@@ -47,12 +47,14 @@ impl Model for NameBuffer {
 fn push(octets: &mut [u8; 255], ends: &mut Ends, c: u8) -> Result<(), TextFault>
     requires inside { IsHeld octets.old ends.old }
     ensures inside { IsHeld octets.new ends.new }
-    ensures taken { OnOk result (too_long (with_octet (buffer_state octets.old ends.old) c) ≡ None) }
+    ensures taken { OnOk result
+        (too_long (with_octet (buffer_state octets.old ends.old) c) ≡ None) }
     ensures made { OnOk result
         (buffer_state octets.new ends.new ≡ with_octet (buffer_state octets.old ends.old) c) }
     ensures err { IfErr result
         (λ f. too_long (with_octet (buffer_state octets.old ends.old) c) ≡ Some f) }
-    ensures unchanged { OnErr result (buffer_state octets.new ends.new ≡ buffer_state octets.old ends.old) }
+    ensures unchanged { OnErr result
+        (buffer_state octets.new ends.new ≡ buffer_state octets.old ends.old) }
 {
     if ends.head + ends.open_len > 252 {
         return Err(TextFault::LongName);
@@ -85,9 +87,12 @@ fn add_symbol(octets: &mut [u8; 255], ends: &mut Ends, part: NameSymbol) -> Resu
     requires inside { IsHeld octets.old ends.old }
     ensures inside { IsHeld octets.new ends.new }
     ensures taken { OnOk result (symbol_fault (buffer_state octets.old ends.old) part ≡ None) }
-    ensures made { OnOk result (buffer_state octets.new ends.new ≡ after (buffer_state octets.old ends.old) part) }
-    ensures err { IfErr result (λ f. symbol_fault (buffer_state octets.old ends.old) part ≡ Some f) }
-    ensures unchanged { OnErr result (buffer_state octets.new ends.new ≡ buffer_state octets.old ends.old) }
+    ensures made { OnOk result
+        (buffer_state octets.new ends.new ≡ after (buffer_state octets.old ends.old) part) }
+    ensures err { IfErr result
+        (λ f. symbol_fault (buffer_state octets.old ends.old) part ≡ Some f) }
+    ensures unchanged { OnErr result
+        (buffer_state octets.new ends.new ≡ buffer_state octets.old ends.old) }
 {
     match part {
         NameSymbol::Octet(c) => push(octets, ends, c),
@@ -149,7 +154,8 @@ fn add_symbols<I: Iterator<Item = Result<Symbol, SymbolCharsError>> + Drop>(
     requires ends { IsFinite (I.remaining items) }
     ensures inside { IsHeld octets.new ends.new }
     ensures read { IfYieldsParts I.next_gives items
-        (λ ps. TakesParts (buffer_state octets.old ends.old) ps result (buffer_state octets.new ends.new)) }
+        (λ ps. TakesParts (buffer_state octets.old ends.old) ps result
+        (buffer_state octets.new ends.new)) }
 {
     for item in items {
         add_symbol(octets, ends, name_symbol_of(item))?;

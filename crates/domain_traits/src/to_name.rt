@@ -181,7 +181,8 @@ pub trait ToName<'a>: AbsoluteLabels<'a> {
         ensures ok { OnOk result
             (LowercaseFollows Target.Octets (Self.labels self.now) target.old target.new) }
         ensures extends { OnOk result
-            (Target.extends target.old (wire (lowercase_labels (Self.labels self.now))) target.new) }
+            (Target.extends target.old (wire (lowercase_labels (Self.labels self.now)))
+            target.new) }
         ensures unchanged { OnErr result (Target.octets target.new ≡ Target.octets target.old) }
         ensures nothing { OnErr result (Target.extends target.old [] target.new) }
         ensures full { OnErr result
