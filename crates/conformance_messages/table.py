@@ -6,8 +6,8 @@
 
 ANSWERER is a command that answers the lines of README.md beside this file; those of `answers`, `limit`, `any`, `typed`
 and `order` are answered by second.py, those of `rebuild` by rebuild.rows or, where the message can't be read, by
-second.py. No answer comes from the program itself. Parts of answers that stand here beside their line must be in what
-is answered.
+second.py. The rows `text` are those of text_rows.py, which it calls last. No answer comes from the program itself.
+Parts of answers that stand here beside their line must be in what is answered.
 
 With --random it prints lines of so many random and mutated messages, always the same for a SEED.
 """
@@ -19,6 +19,7 @@ import subprocess
 import sys
 
 import second
+import text_rows
 
 FOLDER = os.path.dirname(os.path.abspath(__file__))
 rows = []  # (line, what must be in its answer, or None)
@@ -831,6 +832,7 @@ def main():
     lines = sum(not line.startswith("#") for line in table)
     by_hand = sum(told is not None for told in table.values())
     print(f"{lines} rows, {by_hand} of them with a part of the answer beside them; {wrong} different")
+    wrong += text_rows.write()
     sys.exit(wrong > 0)
 
 

@@ -11,6 +11,7 @@ mod message;
 mod order;
 mod rebuild;
 mod select;
+mod text;
 mod typed;
 
 use crate::compose::put_composed;
@@ -20,6 +21,7 @@ use crate::message::put_message;
 use crate::order::put_order;
 use crate::rebuild::put_rebuilt;
 use crate::select::{put_is_answer, put_limited};
+use crate::text::put_from_text;
 use conformance_answer::{Answer, Fail, Fields, is, is_heading};
 use std::alloc::{AllocError, Global};
 use std::io::{Read, Write};
@@ -38,6 +40,9 @@ fn respond(line: &[u8], out: &Answer) {
     } else if is(word, b"write") {
         fields.expect(3, out);
         put_written_header(out, fields);
+    } else if is(word, b"text") {
+        fields.expect(4, out);
+        put_from_text(out, fields);
     } else if is(word, b"answers") {
         fields.expect(3, out);
         put_is_answer(out, fields);
