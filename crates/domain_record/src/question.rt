@@ -19,7 +19,7 @@ use domain_rdata::{Composer, Rtype};
 use domain_traits::{FlattenInto, ToName};
 use domain_wire::ParseError;
 use domain_wire::parse::Parse;
-use octseq::{Octets, OctetsBuilder, Parser, ShortBuf, Truncate};
+use octseq::{Octets, OctetsBuilder, OctetsFrom, Parser, ShortBuf, Truncate};
 use std::alloc::Global;
 use std::fmt;
 
@@ -185,5 +185,22 @@ impl<N: FlattenInto<Made>, Made> FlattenInto<Question<Made>> for Question<N> {
 
     fn flatten_into(self, alloc: Global) -> Result<Question<Made>, ShortBuf> {
         self.try_flatten_into(alloc)
+    }
+}
+
+/// The same as [`FlattenInto`]: the name is converted; type and class stay.
+impl<N: FlattenInto<Made>, Made> OctetsFrom<Question<N>> for Question<Made> {
+    ghost use Rattle.domain_record.specs.Views.{question_name, question_type, question_class};
+
+    type Error = ShortBuf;
+
+    ghost same = { λ source made. N.same (question_name source) (question_name made)
+        × (question_type made ≡ question_type source)
+        × (question_class made ≡ question_class source) };
+
+    ghost may_refuse = { λ source. N.may_refuse (question_name source) };
+
+    fn try_octets_from(alloc: Global, source: Question<N>) -> Result<Question<Made>, ShortBuf> {
+        source.try_flatten_into(alloc)
     }
 }

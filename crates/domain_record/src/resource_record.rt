@@ -1,8 +1,11 @@
 //! Records of a name, a class, a TTL and data.
-ghost use Rattle.std.specs.Prelude.{◌≡◌, ◌≤◌, ◌==◌, ◌⊎◌, Some, OnOk, OnErr, IfErr, true};
+ghost use Rattle.std.specs.Prelude.{◌≡◌, ◌≤◌, ◌==◌, ◌++◌, ◌⊎◌, Some, OnOk, OnErr, IfErr, true};
+ghost use Rattle.std.specs.Cmp.{unsigned_Decides};
 ghost use Rattle.std.specs.Cmp.{partial_equiv_from_equiv, nat_eq_equiv, nat_cmp_total, on_per, and_per, on_equiv, and_equiv, on_total, then_total};
 ghost use Rattle.std.specs.Ordering.{on, eq_of_both, then_cmp, nat_cmp};
 ghost use Rattle.std.specs.Fmt.{◌++?◌};
+ghost use Rattle.std.specs.Hash as fed;
+ghost use Rattle.std.specs.Hash.{and-Alike, on_Alike, same_Alike};
 ghost use Rattle.domain_parsed.specs.ParsedNames.{parsed_labels};
 ghost use Rattle.std.specs.Int.{to_be_bytes};
 ghost use Rattle.domain_rdata.specs.Rtypes.{rtype_number};
@@ -23,10 +26,11 @@ use domain_rdata::{
 };
 use domain_traits::{FlattenInto, ToName};
 use domain_wire::CanonicalOrd;
-use octseq::{Octets, OctetsBuilder, ShortBuf, Truncate};
+use octseq::{Octets, OctetsBuilder, OctetsFrom, ShortBuf, Truncate};
 use std::alloc::Global;
 use std::cmp::Ordering;
 use std::fmt;
+use std::hash::{Hash, Hasher};
 
 /// Type, class and TTL in eight octets.
 fn octets_before_length(rtype: Rtype, class: Class, ttl: Ttl) -> [u8; 8]
@@ -133,6 +137,27 @@ impl<N: Eq, D: RecordData + Eq> Eq for Record<N, D> {
         (and_equiv (on_equiv (λ r. class_number (class_of r)) nat_eq_equiv)
         (and_equiv (on_equiv (λ r. D.type_number (data_of r)) nat_eq_equiv)
         (on_equiv data_of D.Eq.laws))) };
+}
+
+/// Writes to the hasher what is compared, so that equal records write the same: the owner's name as names are written,
+/// the class and the type as a `u16` each, and then the data. The TTL isn't written.
+impl<N: Hash, D: RecordData + Hash> Hash for Record<N, D> {
+    ghost use Rattle.domain_record.specs.RecordParts.{owner_of, class_of, data_of};
+
+    ghost hash_input = { λ r. N.hash_input (owner_of r) ++ (fed.u16 (class_number (class_of r))
+        ++ (fed.u16 (D.type_number (data_of r)) ++ D.hash_input (data_of r))) };
+
+    ghost respects_eq = { (and-Alike (on_Alike owner_of (record { fed = N.respects_eq }))
+        (and-Alike (on_Alike (λ r. class_number (class_of r)) (same_Alike fed.u16 unsigned_Decides))
+        (and-Alike (on_Alike (λ r. D.type_number (data_of r)) (same_Alike fed.u16 unsigned_Decides))
+        (on_Alike data_of (record { fed = D.respects_eq }))))).fed };
+
+    fn hash<H: Hasher>(&self, state: &mut H) {
+        self.owner.hash(state);
+        state.write_u16(self.class.to_int());
+        state.write_u16(self.rdata.rtype().to_int());
+        self.rdata.hash(state);
+    }
 }
 
 /// The order of class, owner, type and data: within an RRset that of the data (RFC 4034, 6.3), and the RRsets of a class in
@@ -293,5 +318,38 @@ impl<N: FlattenInto<Owner>, D: FlattenInto<Data> + Drop, Owner: Drop, Data> Flat
 
     fn flatten_into(self, alloc: Global) -> Result<Record<Owner, Data>, ShortBuf> {
         self.try_flatten_into(alloc)
+    }
+}
+
+/// The owner's name is converted as [`FlattenInto`] converts it, and then the data by its own [`OctetsFrom`]; class and
+/// TTL stay.
+impl<N: FlattenInto<Owner>, D: Drop, Owner: Drop, Data: OctetsFrom<D>> OctetsFrom<Record<N, D>>
+    for Record<Owner, Data> {
+    ghost use Rattle.domain_record.specs.RecordParts.{owner_of, class_of, ttl_of, data_of};
+
+    type Error = ShortBuf;
+
+    ghost same = { λ source made. N.same (owner_of source) (owner_of made)
+        × Data.same (data_of source) (data_of made)
+        × (class_of made ≡ class_of source) × (ttl_of made ≡ ttl_of source) };
+
+    ghost may_refuse = { λ source. N.may_refuse (owner_of source)
+        ⊎ Data.may_refuse (data_of source) };
+
+    fn try_octets_from(
+        alloc: Global,
+        source: Record<N, D>,
+    ) -> Result<Record<Owner, Data>, ShortBuf> {
+        let Record {
+            owner,
+            class,
+            ttl,
+            rdata,
+        } = source;
+        let owner = owner.try_flatten_into(alloc)?;
+        match Data::try_octets_from(alloc, rdata) {
+            Ok(rdata) => Ok(Record::new(owner, class, ttl, rdata)),
+            Err(e) => Err(e.into()),
+        }
     }
 }
