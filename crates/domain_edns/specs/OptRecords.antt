@@ -81,3 +81,9 @@ abbrev pub opt_error_text : OptError → List ℕ
 opt_error_text (Parse why) = refusal_text (refusal why)
 opt_error_text Another = codes "more than one OPT record"
 opt_error_text Owner = codes "OPT record whose owner is not the root"
+
+-- the response code of a query that this is wrong with: FORMERR (6.1.1; RFC 1035, 4.1.1)
+abbrev pub opt_error_rcode : OptError → ℕ
+opt_error_rcode (Parse _) = 1
+opt_error_rcode Another = 1
+opt_error_rcode Owner = 1

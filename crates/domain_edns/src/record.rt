@@ -2,8 +2,9 @@
 ghost use Rattle.std.specs.Prelude.{◌≡◌, ◌↔◌, ◌+◌, ◌*◌, IfOk, IfErr, IsTrue, Some};
 ghost use Rattle.domain_header.specs.Values.{rcode_number};
 ghost use Rattle.domain_message.specs.Messages.{message_octets};
-ghost use Rattle.domain_edns.specs.OptRecords.{IsTheOpt, HasOptFault, opt_error_text, taken_size, opt_class};
-ghost use Rattle.domain_edns.specs.OptRecords.{opt_ttl, opt_data, edns_version, upper_code, dnssec_ok_bit};
+ghost use Rattle.domain_edns.specs.OptRecords.{IsTheOpt, HasOptFault, opt_error_text, opt_error_rcode};
+ghost use Rattle.domain_edns.specs.OptRecords.{taken_size, opt_class, opt_ttl, opt_data, edns_version};
+ghost use Rattle.domain_edns.specs.OptRecords.{upper_code, dnssec_ok_bit};
 
 use crate::data::OptData;
 use crate::options::OptIter;
@@ -16,6 +17,9 @@ use octseq::Octets;
 use std::error::Error;
 use std::fmt;
 
+/// FORMERR (RFC 1035, 4.1.1).
+const FORMAT_ERROR: u8 = 1;
+
 /// Why a message has no OPT record that can be read.
 #[derive(Clone, Copy, Debug, PartialEq, Eq)]
 pub enum OptError {
@@ -25,6 +29,23 @@ pub enum OptError {
     Another,
     /// The owner of the first OPT record isn't the root, as it must be (RFC 6891, 6.1.2).
     Owner,
+}
+
+impl OptError {
+    /// The response code by which a server answers such a query: FORMERR, 1, whichever error it is. RFC 6891, 6.1.1, asks
+    /// for it where there are two OPT records; a message that ends too soon, or whose OPT record isn't of the root
+    /// (6.1.2), isn't of its form either (RFC 1035, 4.1.1).
+    ///
+    /// BADVERS, 16, is of no error here: by it a server answers an OPT record that it read, and whose
+    /// [`version`](OptRecord::version) it doesn't know (6.1.3).
+    pub fn rcode(self) -> Rcode
+        ensures { rcode_number result ≡ opt_error_rcode self }
+    {
+        let number = match self {
+            OptError::Parse(_) | OptError::Another | OptError::Owner => FORMAT_ERROR,
+        };
+        Rcode::masked_from_int(number)
+    }
 }
 
 impl fmt::Display for OptError {
