@@ -1244,6 +1244,18 @@ ran(["list"], b"\0" * 11, 1, b"", ENDED)
 ran(["list"], b"\0" * 12, 0)
 ran(["list"], ANSWER[:4] + b"\xff" * 8, 1, b"", ENDED)
 ran(["list"], ANSWER[:4] + b"\0\1" + b"\0" * 6 + b"\xc0\x0c\0\1\0\1", 1, b"", MANY)
+COUNTED = b"\0" * 5 + b"\1\0\1\0\1\0\2"
+ENTRIES = (
+    (b"\1a\0\0\1\0\1", b"question a. 1 1\n"), (b"\xc0\x0c\0\5\0\1\0\0\0\x3c\0\2\xc0\x0c", b"answer a. 5 1 60 \\# 2 c0 0c\n"),
+    (b"\1b\xc0\x0c\0\2\xff\xff\0\0\0\0\0\1\0", b"authority b.a. 2 65535 0 \\# 1 00\n"), (b"\0\0\x29\x10\0\xff\xff\xff\xff\0\0", b"additional . 41 4096 4294967295 \\# 0\n"),
+    (b"\2 .\xc0\x0c\xff\xff\0\0\x80\0\0\0\0\3\1\2\xff", b"additional \\ \\..a. 65535 0 2147483648 \\# 3 01 02 ff\n"),
+)
+for count in range(5):
+    before = COUNTED + b"".join(octets for octets, _line in ENTRIES[:count])
+    lines = b"".join(line for _octets, line in ENTRIES[:count])
+    ran(["list"], before + ENTRIES[count][0][:-1], 1, lines, ENDED)
+    ran(["list"], before + b"\xc0\xff" + ENTRIES[count][0][1:], 1, lines, MANY)
+ran(["list"], COUNTED + b"".join(octets for octets, _line in ENTRIES), 0, b"".join(line for _octets, line in ENTRIES))
 
 
 topic("names read slowly, at each offset")
