@@ -329,7 +329,7 @@ def any_answer(fields, shapes):
         return f"err {why}"
     shown = [it.hex() or "-" for it in (composed, canonical or b"")]
     if canonical is None:
-        shown[1] = "unknown"
+        shown[1] = "unknown:" + shown[0]
     return f"ok {shown[0]} {shown[1]} {length} {text}"
 
 

@@ -14,7 +14,7 @@ use domain_compress::CompressComposer;
 use domain_list::NameLabels;
 use domain_name::Name;
 use domain_parsed::ParsedName;
-use domain_rdata::{CanonicalError, ComposeRecordData, Composer, RecordData, Rtype};
+use domain_rdata::{ComposeRecordData, Composer, RecordData, Rtype};
 use domain_traits::ToName;
 use octseq::{EmptyBuilder, Octets, OctetsBuilder, OctetsMut, Parser, Truncate};
 
@@ -185,11 +185,8 @@ impl<'a> ComposeRecordData for NameData<'a> {
     fn compose_canonical_rdata<Target: Composer>(
         &self,
         target: &mut Target,
-    ) -> Result<(), CanonicalError<Target::AppendError>> {
-        match self.name.compose_canonical(target) {
-            Ok(()) => Ok(()),
-            Err(e) => Err(CanonicalError::Append(e)),
-        }
+    ) -> Result<(), Target::AppendError> {
+        self.name.compose_canonical(target)
     }
 
     ghost plain = { λ it c t. record { read = wire_reads_back t (name_labels it.name) (flat_absolute it.name); flat = λ _. refl } };

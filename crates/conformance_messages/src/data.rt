@@ -5,9 +5,7 @@ use conformance_answer::{Answer, Fail, Fields, is};
 use domain_all_data::AllRecordData;
 use domain_data::{A, Aaaa, Cname, Dname, Mx, Ns, Ptr, Soa, Srv};
 use domain_parsed::ParsedName;
-use domain_rdata::{
-    CanonicalError, ComposeRecordData, ParseAnyRecordData, ParseRecordData, RecordData, Rtype,
-};
+use domain_rdata::{CanonicalRecordData, ParseAnyRecordData, ParseRecordData, RecordData, Rtype};
 use domain_traits::ToName;
 use octseq::Parser;
 
@@ -69,7 +67,7 @@ fn put_any(out: &Answer, rtype: Rtype, parser: &Parser<'_>) {
 }
 
 /// Reads data as of one type, and composes it. `None` if it isn't of that type, or an error was written.
-pub fn read<'a, D: ParseRecordData<'a> + ComposeRecordData + Drop>(
+pub fn read<'a, D: ParseRecordData<'a> + CanonicalRecordData + Drop>(
     out: &Answer,
     rtype: Rtype,
     parser: &Parser<'a>,
@@ -94,9 +92,9 @@ pub fn read<'a, D: ParseRecordData<'a> + ComposeRecordData + Drop>(
     }
 }
 
-/// The octets with no name compressed, the canonical form, or that it isn't known, and the length if it is known where names are
-/// compressed.
-fn put_forms<D: ComposeRecordData>(out: &Answer, data: &D) {
+/// The octets with no name compressed, what the canonical call appends, with a word before it where that isn't the canonical
+/// form, and the length if it is known where names are compressed.
+fn put_forms<D: CanonicalRecordData>(out: &Answer, data: &D) {
     let mut composed: Vec<u8> = Vec::new(out.alloc());
     let mut canonical: Vec<u8> = Vec::new(out.alloc());
     if data.compose_rdata(&mut composed).is_err() {
@@ -105,11 +103,13 @@ fn put_forms<D: ComposeRecordData>(out: &Answer, data: &D) {
     out.put(b"ok ");
     out.put_hex(composed.as_slice());
     out.put(b" ");
-    match data.compose_canonical_rdata(&mut canonical) {
-        Ok(()) => out.put_hex(canonical.as_slice()),
-        Err(CanonicalError::UnknownNames) => out.put(b"unknown"),
-        Err(_) => out.fail(Fail::Memory),
+    if data.compose_canonical_rdata(&mut canonical).is_err() {
+        out.fail(Fail::Memory);
     }
+    if !data.knows_names() {
+        out.put(b"unknown:");
+    }
+    out.put_hex(canonical.as_slice());
     match data.rdlen(true) {
         Some(len) => out.put_text_after(b" ", len),
         None => out.put(b" -"),

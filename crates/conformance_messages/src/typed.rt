@@ -3,7 +3,7 @@
 use crate::data::{Read, read};
 use conformance_answer::Answer;
 use domain_data::{Caa, Dnskey, Ds, Hinfo, Naptr, Nsec, Rrsig, Sshfp, Tlsa};
-use domain_rdata::{ComposeRecordData, ParseRecordData, Rtype};
+use domain_rdata::{CanonicalRecordData, ParseRecordData, Rtype};
 use octseq::Parser;
 use std::fmt;
 
@@ -24,7 +24,7 @@ pub fn put_typed(out: &Answer, rtype: Rtype, parser: &Parser<'_>) {
 }
 
 /// Reads data as of one type, and puts its forms and its text.
-fn put_shown<'a, D: ParseRecordData<'a> + ComposeRecordData + fmt::Display + Drop>(
+fn put_shown<'a, D: ParseRecordData<'a> + CanonicalRecordData + fmt::Display + Drop>(
     out: &Answer,
     rtype: Rtype,
     parser: &Parser<'a>,

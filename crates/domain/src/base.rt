@@ -84,8 +84,8 @@ pub mod compress {
 /// Record data.
 pub mod rdata {
     pub use domain_rdata::{
-        CanonicalError, ComposeRdataError, ComposeRecordData, LongRecordData, ParseAnyRecordData,
-        ParseRecordData, RecordData, Rtype, UnknownRecordData,
+        CanonicalError, CanonicalRecordData, ComposeRdataError, ComposeRecordData, LongRecordData,
+        ParseAnyRecordData, ParseRecordData, RecordData, Rtype, UnknownRecordData,
     };
 }
 

@@ -1,10 +1,9 @@
 -- What is known of data, whichever type it has, and what a call ensures by that.
-use Rattle.std.specs.Prelude.{◌≡◌, ◌↔◌, ◌≤◌, ℕ, Bool, false, List, length, Option, OnOk, OnErr, IfErr, IfSome, IsNone}
+use Rattle.std.specs.Prelude.{◌≡◌, ◌↔◌, ◌≤◌, ℕ, Bool, false, List, length, Option, OnOk, OnErr, IfSome, IsNone}
 use Rattle.std.specs.declared.result.Result.{Result}
-use Rattle.domain_rdata.specs.Canonical.{canonical_form, WithForm, FormRefused}
+use Rattle.domain_rdata.specs.Canonical.{canonical_form, WithForm, FormExceeds}
 use Rattle.domain_rdata.specs.Members.{ComposerMembers, DataMembers, Writing}
 use Rattle.domain_rdata.specs.ReadBack.{Appended, Exceeds}
-use Rattle.domain_rdata.specs.declared.record_data.CanonicalError.{CanonicalError}
 
 -- what is known of data
 pub record DataFacts : Type 1 where
@@ -26,15 +25,15 @@ facts_of it d = record {
   knows_len = d.knows_len it;
 }
 
--- the canonical form, where the names are known
-abbrev pub canonical_of : DataFacts → Option (List ℕ)
+-- what the canonical call appends
+abbrev pub canonical_of : DataFacts → List ℕ
 canonical_of it = canonical_form it.type_number it.uncompressed it.lowercase
 
 -- What `rdlen` ensures.
 pub record LengthTold (it : DataFacts) (compress : Bool) (result : Option ℕ) : Type 0 where
   pub known : IsNone result ↔ (it.knows_len compress ≡ false)
   pub composed : IfSome result (λ n. (t s : List ℕ) → it.composed compress t s → length s ≡ n)
-  pub canonical : compress ≡ false → IfSome result (λ n. IfSome (canonical_of it) (λ octets. length octets ≡ n))
+  pub canonical : compress ≡ false → IfSome result (λ n. length (canonical_of it) ≡ n)
 
 -- What `compose_rdata` ensures.
 pub record DataAppended {T E : Type 0} (g : ComposerMembers T) (it : DataFacts) (old new : T) (result : Result (Unit {0}) E) : Type 0 where
@@ -46,9 +45,9 @@ pub record DataAppended {T E : Type 0} (g : ComposerMembers T) (it : DataFacts) 
   pub capacity : g.capacity old ≤ g.capacity new
 
 -- What `compose_canonical_rdata` ensures.
-pub record FormAppended {T E : Type 0} (g : ComposerMembers T) (it : DataFacts) (old new : T) (result : Result (Unit {0}) (CanonicalError E)) : Type 0 where
+pub record FormAppended {T E : Type 0} (g : ComposerMembers T) (it : DataFacts) (old new : T) (result : Result (Unit {0}) E) : Type 0 where
   pub ok : OnOk result (WithForm (canonical_of it) (g.octets old) (g.octets new))
   pub memory : g.kept_within (length (g.octets old)) (g.memory new) ≡ g.memory old
   pub unchanged : OnErr result (g.octets new ≡ g.octets old)
-  pub why : IfErr result (λ e. FormRefused (canonical_of it) (g.octets old) (g.capacity old) e)
+  pub full : OnErr result (FormExceeds (canonical_of it) (g.octets old) (g.capacity old))
   pub capacity : g.capacity old ≤ g.capacity new

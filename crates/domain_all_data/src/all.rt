@@ -4,15 +4,15 @@ ghost use Rattle.domain_all_data.specs.AllData.{AllFields, AllDataAt, NoAllData,
 
 use crate::read::{read_a_to_mr, read_ds_to_caa, read_ptr_to_afsdb, read_rt_to_dname};
 use crate::variants::each_variant;
-use crate::visit::{Compose, ComposeCanonical, DataVisitor, Measure};
+use crate::visit::{Compose, ComposeCanonical, DataVisitor, KnowNames, Measure};
 use domain_data::{
     A, Aaaa, Afsdb, Caa, Cname, Dname, Dnskey, Ds, Hinfo, Kx, Mb, Md, Mf, Mg, Minfo, Mr, Mx, Naptr,
     Ns, Nsec, Ptr, Px, Rp, Rrsig, Rt, Soa, Srv, Sshfp, Tlsa,
 };
 use domain_parsed::ParsedName;
 use domain_rdata::{
-    CanonicalError, ComposeRecordData, Composer, ParseAnyRecordData, ParseRecordData, RecordData,
-    Rtype, UnknownRecordData,
+    CanonicalRecordData, ComposeRecordData, Composer, ParseAnyRecordData, ParseRecordData,
+    RecordData, Rtype, UnknownRecordData,
 };
 use domain_svcb::{Https, Svcb};
 use domain_txt::Txt;
@@ -372,7 +372,7 @@ impl<'a> ComposeRecordData for AllRecordData<&'a [u8], ParsedName<&'a [u8]>> {
     fn compose_canonical_rdata<Target: Composer>(
         &self,
         target: &mut Target,
-    ) -> Result<(), CanonicalError<Target::AppendError>> {
+    ) -> Result<(), Target::AppendError> {
         self.visit(&ComposeCanonical, target)
     }
 
@@ -487,6 +487,12 @@ impl<'a> ComposeRecordData for AllRecordData<&'a [u8], ParsedName<&'a [u8]>> {
       | Txt it ↦ octets_written _
       | Unknown it ↦ octets_written _
     ] };
+}
+
+impl<'a> CanonicalRecordData for AllRecordData<&'a [u8], ParsedName<&'a [u8]>> {
+    fn knows_names(&self) -> bool {
+        self.visit(&KnowNames, &mut ())
+    }
 }
 
 /// Data of a type that is known is read by its type, and is all that is left; of any other all that is left is taken.

@@ -3,13 +3,13 @@ ghost use Rattle.std.specs.Prelude.{◌≡◌};
 
 use crate::all::AllRecordData;
 use crate::variants::each_variant;
-use crate::visit::{Compose, ComposeCanonical, DataVisitor, Measure};
+use crate::visit::{Compose, ComposeCanonical, DataVisitor, KnowNames, Measure};
 use domain_data::{
     A, Aaaa, Afsdb, Caa, Cname, Dname, Dnskey, Ds, Hinfo, Kx, Mb, Md, Mf, Mg, Minfo, Mr, Mx, Naptr,
     Ns, Nsec, Ptr, Px, Rp, Rrsig, Rt, Soa, Srv, Sshfp, Tlsa,
 };
 use domain_name::Name;
-use domain_rdata::{CanonicalError, ComposeRecordData, Composer, UnknownRecordData};
+use domain_rdata::{CanonicalRecordData, ComposeRecordData, Composer, UnknownRecordData};
 use domain_svcb::{Https, Svcb};
 use domain_txt::Txt;
 
@@ -237,7 +237,7 @@ impl ComposeRecordData for AllRecordData<Vec<u8>, Name<Vec<u8>>> {
     fn compose_canonical_rdata<Target: Composer>(
         &self,
         target: &mut Target,
-    ) -> Result<(), CanonicalError<Target::AppendError>> {
+    ) -> Result<(), Target::AppendError> {
         self.visit(&ComposeCanonical, target)
     }
 
@@ -352,4 +352,10 @@ impl ComposeRecordData for AllRecordData<Vec<u8>, Name<Vec<u8>>> {
       | Txt it ↦ octets_written _
       | Unknown it ↦ octets_written _
     ] };
+}
+
+impl CanonicalRecordData for AllRecordData<Vec<u8>, Name<Vec<u8>>> {
+    fn knows_names(&self) -> bool {
+        self.visit(&KnowNames, &mut ())
+    }
 }

@@ -3,12 +3,12 @@ use Rattle.std.proofs.Common.{◌≡◌, ℕ, Bool, true, false, if◌then◌els
 use Rattle.domain_rdata.specs.Canonical.{canonical_form}
 use Rattle.domain_rdata.specs.Rtypes.{has_lowercase_names}
 
-picked : (b : Bool) (form : Bool → List ℕ) → (if b then Some (form true) else Some (form false)) ≡ Some (form b)
+picked : (b : Bool) (form : Bool → List ℕ) → (if b then form true else form false) ≡ form b
 picked true form = refl
 picked false form = refl
 
 -- Where a length is known of fields with no name compressed, in lowercase or not, it is that of the canonical form.
-pub form_len : (t : ℕ) (form : Bool → List ℕ) (known : Bool → Option ℕ) (compress : Bool) (told : Option ℕ) → told ≡ known compress → ((lowercase : Bool) (n : ℕ) → known false ≡ Some n → length (form lowercase) ≡ n) → compress ≡ false → IfSome told (λ n. IfSome (canonical_form t (form false) (Some (form true))) (λ octets. length octets ≡ n))
+pub form_len : (t : ℕ) (form : Bool → List ℕ) (known : Bool → Option ℕ) (compress : Bool) (told : Option ℕ) → told ≡ known compress → ((lowercase : Bool) (n : ℕ) → known false ≡ Some n → length (form lowercase) ≡ n) → compress ≡ false → IfSome told (λ n. length (canonical_form t (form false) (Some (form true))) ≡ n)
 form_len t form known compress None same sized flat = tt
 form_len t form known compress (Some n) same sized flat =
-    subst (λ f. IfSome f (λ octets. length octets ≡ n)) (sym (picked (has_lowercase_names t) form)) (sized (has_lowercase_names t) n (ap known (sym flat) ∙ sym same))
+    subst (λ f. length f ≡ n) (sym (picked (has_lowercase_names t) form)) (sized (has_lowercase_names t) n (ap known (sym flat) ∙ sym same))

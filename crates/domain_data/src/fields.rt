@@ -5,7 +5,7 @@ ghost use Rattle.domain_rdata.specs.Rtypes.{rtype_number};
 ghost use Rattle.domain_fields.specs.Data.{is_known};
 
 use domain_fields::{DataField, FieldError, ReadField, read_all};
-use domain_rdata::{CanonicalError, ComposeRecordData, Composer, RecordData, Rtype};
+use domain_rdata::{CanonicalRecordData, ComposeRecordData, Composer, RecordData, Rtype};
 use octseq::Parser;
 
 /// Data of the type with this number that has these fields: a name, a number, an address, or a
@@ -89,12 +89,9 @@ impl<const TYPE: u16, F: DataField> ComposeRecordData for FieldsData<TYPE, F> {
     fn compose_canonical_rdata<Target: Composer>(
         &self,
         target: &mut Target,
-    ) -> Result<(), CanonicalError<Target::AppendError>> {
+    ) -> Result<(), Target::AppendError> {
         let lowercase = Rtype::from_int(TYPE).has_lowercase_names();
-        match self.fields.compose_canonical_field(lowercase, target) {
-            Ok(()) => Ok(()),
-            Err(e) => Err(CanonicalError::Append(e)),
-        }
+        self.fields.compose_canonical_field(lowercase, target)
     }
 
     ghost plain = { λ it. F.plain (fields_of it) };
@@ -102,4 +99,10 @@ impl<const TYPE: u16, F: DataField> ComposeRecordData for FieldsData<TYPE, F> {
     ghost flat = { λ it. F.flat (fields_of it) };
 
     ghost writes_composed = { λ it. F.writes_composed (fields_of it) };
+}
+
+impl<const TYPE: u16, F: DataField> CanonicalRecordData for FieldsData<TYPE, F> {
+    fn knows_names(&self) -> bool {
+        true
+    }
 }

@@ -2,12 +2,11 @@
 -- and `d` is `D.ComposeRecordData`. `may` tells the octets that may be composed after others, into a target that may write
 -- names shorter or not; `written` what becomes of any target by its own calls.
 use Rattle.std.specs.Prelude.{◌≡◌, ℕ, Bool, true, false, List, length, Option, Result, OnOk, IfSome}
-use Rattle.domain_rdata.specs.Canonical.{canonical_form, WithForm, WithLengthAndForm, FormRefused, CanonicalRefused}
+use Rattle.domain_rdata.specs.Canonical.{canonical_form, WithForm, WithLengthAndForm, FormExceeds, CanonicalRefused}
 use Rattle.domain_rdata.specs.LeavingNames.{WrittenBehind, LeavesNames}
 use Rattle.domain_rdata.specs.Members.{Writing, ComposerMembers, DataMembers}
 use Rattle.domain_rdata.specs.ReadBack.{Appended, Exceeds}
 use Rattle.domain_rdata.specs.RecordData.{DataAfterLength, LengthAndData, ExceedsWithLength, ComposeRefused}
-use Rattle.domain_rdata.specs.declared.record_data.CanonicalError.{CanonicalError}
 use Rattle.domain_rdata.specs.declared.record_data.ComposeRdataError.{ComposeRdataError}
 
 -- Cut to the octets that were there before, the target remembers what it did then.
@@ -65,16 +64,16 @@ OverflowsWithLength g may old = ExceedsWithLength (may g.compresses) (g.octets o
 abbrev pub AllHaveLength : (List ℕ → List ℕ → Type 0) → ℕ → Type 0
 AllHaveLength may n = (t s : List ℕ) → may t s → length s ≡ n
 
--- the canonical form of the data, where its names are known
-abbrev pub form_of : {D : Type 0} → DataMembers D → D → Option (List ℕ)
+-- what the canonical call appends for the data
+abbrev pub form_of : {D : Type 0} → DataMembers D → D → List ℕ
 form_of d it = canonical_form (d.type_number it) (d.uncompressed it) (d.lowercase it)
 
--- A length that is told for a target that doesn't write names shorter is that of the canonical form, where this is known.
+-- A length that is told for a target that doesn't write names shorter is that of the canonical form.
 abbrev pub TellsFormLength : {D : Type 0} → DataMembers D → D → Bool → Option ℕ → Type 0
 TellsFormLength d it compress told =
-    compress ≡ false → IfSome told (λ n. IfSome (form_of d it) (λ octets. length octets ≡ n))
+    compress ≡ false → IfSome told (λ n. length (form_of d it) ≡ n)
 
--- The target grew by the canonical form of the data, which is known,
+-- The target grew by the canonical form of the data,
 abbrev pub GrowsByForm : {T D : Type 0} → ComposerMembers T → DataMembers D → D → T → T → Type 0
 GrowsByForm g d it old new = WithForm (form_of d it) (g.octets old) (g.octets new)
 
@@ -82,10 +81,10 @@ GrowsByForm g d it old new = WithForm (form_of d it) (g.octets old) (g.octets ne
 abbrev pub GrowsByLengthAndForm : {T D : Type 0} → ComposerMembers T → DataMembers D → D → T → T → Type 0
 GrowsByLengthAndForm g d it old new = WithLengthAndForm (form_of d it) (g.octets old) (g.octets new)
 
--- Why the canonical form of the data wasn't appended,
-abbrev pub NoForm : {T D E : Type 0} → ComposerMembers T → DataMembers D → D → T → CanonicalError E → Type 0
-NoForm g d it old e = FormRefused (form_of d it) (g.octets old) (g.capacity old) e
+-- The canonical form of the data exceeds the spare capacity.
+abbrev pub FormOverflows : {T D : Type 0} → ComposerMembers T → DataMembers D → D → T → Type 0
+FormOverflows g d it old = FormExceeds (form_of d it) (g.octets old) (g.capacity old)
 
--- or not with its length.
-abbrev pub NoLengthAndForm : {T D E : Type 0} → ComposerMembers T → DataMembers D → D → T → CanonicalError E → Type 0
+-- Why it wasn't appended with its length.
+abbrev pub NoLengthAndForm : {T D E : Type 0} → ComposerMembers T → DataMembers D → D → T → ComposeRdataError E → Type 0
 NoLengthAndForm g d it old e = CanonicalRefused (form_of d it) (g.octets old) (g.capacity old) e

@@ -10,8 +10,8 @@ pub mod unknown;
 pub use composer::Composer;
 pub use long::LongRecordData;
 pub use record_data::{
-    CanonicalError, ComposeRdataError, ComposeRecordData, ParseAnyRecordData, ParseRecordData,
-    RecordData,
+    CanonicalError, CanonicalRecordData, ComposeRdataError, ComposeRecordData, ParseAnyRecordData,
+    ParseRecordData, RecordData,
 };
 pub use rtype::Rtype;
 pub use unknown::UnknownRecordData;

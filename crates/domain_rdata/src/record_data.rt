@@ -4,6 +4,7 @@ ghost use Rattle.std.specs.Prelude.{IfOk, OnOk, IfErr, OnErr, IfSome, IsNone};
 ghost use Rattle.octseq.specs.Parsing.{message, position, MovesTo};
 ghost use Rattle.domain_wire.specs.Values.{IsReading};
 ghost use Rattle.domain_wire.specs.declared.error.ParseError.{ParseError};
+ghost use Rattle.domain_rdata.specs.Canonical.{names_known};
 ghost use Rattle.domain_rdata.specs.RecordData.{with_length_at};
 ghost use Rattle.domain_rdata.specs.Rtypes.{rtype_number};
 ghost use Rattle.domain_rdata.specs.Members.{Writing};
@@ -11,7 +12,7 @@ ghost use Rattle.domain_rdata.specs.OctetsAlone.{WritesComposed};
 ghost use Rattle.domain_rdata.specs.Parsers.{IsOfType, ReadsData, ReadsIfSome, HasNoData};
 ghost use Rattle.domain_rdata.specs.Targets.{RemembersAsBefore, Grows, Overflows, LeftTo, FollowsOwn, NotComposed, LeavesTo};
 ghost use Rattle.domain_rdata.specs.Targets.{Follows, FollowsLeft, OverflowsWithLength, AllHaveLength, TellsFormLength};
-ghost use Rattle.domain_rdata.specs.Targets.{GrowsByForm, GrowsByLengthAndForm, NoForm, NoLengthAndForm};
+ghost use Rattle.domain_rdata.specs.Targets.{GrowsByForm, GrowsByLengthAndForm, FormOverflows, NoLengthAndForm};
 
 use crate::composer::Composer;
 use crate::long::LongRecordData;
@@ -46,7 +47,7 @@ impl<E> fmt::Display for ComposeRdataError<E> {
 
 impl<E: fmt::Debug + Drop> Error for ComposeRdataError<E> {}
 
-/// Why the canonical form of record data couldn't be appended.
+/// Why the canonical form of a record couldn't be appended.
 #[derive(Clone, Copy, Debug, Drop)]
 pub enum CanonicalError<E> {
     /// The target refused octets.
@@ -115,7 +116,8 @@ pub trait ComposeRecordData: RecordData {
 
     /// The same with each name in lowercase. `None` where it isn't known which of the octets are names.
     ///
-    /// The canonical form is by `canonical_form` the one or the other, as the type of the record tells (RFC 4034, 6.2).
+    /// What the canonical call appends is by `canonical_form` the one or the other, as the type of the record tells (RFC 4034,
+    /// 6.2), and the octets as they stand where the names aren't known.
     ghost lowercase: { Self → Option (List ℕ) };
 
     /// Whether the number of the octets is known, for a target that may write names shorter or for one
@@ -146,20 +148,20 @@ pub trait ComposeRecordData: RecordData {
         ensures capacity { Target.capacity target.old ≤ Target.capacity target.new };
 
     /// Appends the canonical form of the data, or nothing (RFC 4034, 6.2): no name is compressed, and names are in lowercase
-    /// exactly where [`Rtype::has_lowercase_names`] tells so of the type.
+    /// exactly where [`Rtype::has_lowercase_names`] tells so of the type. Of data that is held as octets it isn't known which
+    /// of them are names: they are appended as they stand ([`CanonicalRecordData::knows_names`]).
     ///
-    /// `Append` only where its octets exceed the spare capacity of the target, and `UnknownNames` exactly where the type
-    /// has names in lowercase and the data is held as octets. Neither changes the target's octets. It is never `Long`.
+    /// It is refused only where its octets exceed the spare capacity of the target, and leaves the target's octets then.
     fn compose_canonical_rdata<Target: Composer>(
         &self,
         target: &mut Target,
-    ) -> Result<(), CanonicalError<Target::AppendError>>
+    ) -> Result<(), Target::AppendError>
         ensures ok { OnOk result
             (GrowsByForm Target.Composer Self.ComposeRecordData self.now target.old target.new) }
         ensures memory { RemembersAsBefore Target.Composer target.old target.new }
         ensures unchanged { OnErr result (Target.octets target.new ≡ Target.octets target.old) }
-        ensures why { IfErr result
-            (NoForm Target.Composer Self.ComposeRecordData self.now target.old) }
+        ensures full { OnErr result
+            (FormOverflows Target.Composer Self.ComposeRecordData self.now target.old) }
         ensures capacity { Target.capacity target.old ≤ Target.capacity target.new };
 
     /// Appends the length of the data in two octets, and the data, or nothing.
@@ -190,13 +192,12 @@ pub trait ComposeRecordData: RecordData {
 
     /// Appends the length of the canonical form in two octets, and the canonical form, or nothing.
     ///
-    /// `Long` only where it has more than 65,535 octets, `Append` only where it exceeds, with its length, the spare
-    /// capacity, and `UnknownNames` where [`compose_canonical_rdata`](ComposeRecordData::compose_canonical_rdata) is, but
-    /// where there is no room for the length either: that is `Append`. The target's octets are then as before.
+    /// `Long` only where it has more than 65,535 octets, and `Append` only where it exceeds, with its length, the spare
+    /// capacity. The target's octets are then as before.
     final fn compose_canonical_len_rdata<Target: Composer>(
         &self,
         target: &mut Target,
-    ) -> Result<(), CanonicalError<Target::AppendError>>
+    ) -> Result<(), ComposeRdataError<Target::AppendError>>
         ensures ok { OnOk result
             (GrowsByLengthAndForm Target.Composer Self.ComposeRecordData self.now target.old
             target.new) }
@@ -209,26 +210,26 @@ pub trait ComposeRecordData: RecordData {
         let start = target.as_slice().len();
         if let Some(len) = self.rdlen(false) {
             if let Err(e) = target.append_slice(&len.to_be_bytes()) {
-                return Err(CanonicalError::Append(e));
+                return Err(ComposeRdataError::Append(e));
             }
             if let Err(e) = self.compose_canonical_rdata(target) {
                 target.truncate(start);
-                return Err(e);
+                return Err(ComposeRdataError::Append(e));
             }
             return Ok(());
         }
         if let Err(e) = target.append_slice(&[0, 0]) {
-            return Err(CanonicalError::Append(e));
+            return Err(ComposeRdataError::Append(e));
         }
         if let Err(e) = self.compose_canonical_rdata(target) {
             target.truncate(start);
-            return Err(e);
+            return Err(ComposeRdataError::Append(e));
         }
         let data = start + 2;
         let len = target.as_slice().len() - data;
         if len > 65535 {
             target.truncate(start);
-            return Err(CanonicalError::Long(LongRecordData));
+            return Err(ComposeRdataError::Long(LongRecordData));
         }
         write_length(target.as_slice_mut(), start, len as u16);
         Ok(())
@@ -243,6 +244,14 @@ pub trait ComposeRecordData: RecordData {
 
     /// What is written to a target that is its octets alone is what may be composed.
     ghost writes_composed: { (it : Self) → WritesComposed (written it) (composed it) };
+}
+
+/// Record data that tells whether its canonical form is known.
+pub trait CanonicalRecordData: ComposeRecordData {
+    /// Whether the canonical call appends the canonical form: the type has no names in lowercase there, or it is known
+    /// which octets of the data are names.
+    fn knows_names(&self) -> bool
+        ensures { result ≡ names_known (Self.type_number self.now) (Self.lowercase self.now) };
 }
 
 /// Appends a length, and after it the data, or nothing; and tells how many octets the data has.
@@ -376,7 +385,7 @@ impl<T: ComposeRecordData> ComposeRecordData for &T {
     fn compose_canonical_rdata<Target: Composer>(
         &self,
         target: &mut Target,
-    ) -> Result<(), CanonicalError<Target::AppendError>> {
+    ) -> Result<(), Target::AppendError> {
         (**self).compose_canonical_rdata(target)
     }
 
@@ -385,6 +394,12 @@ impl<T: ComposeRecordData> ComposeRecordData for &T {
     ghost flat = { λ it. T.flat it.now };
 
     ghost writes_composed = { λ it. T.writes_composed it.now };
+}
+
+impl<T: CanonicalRecordData> CanonicalRecordData for &T {
+    fn knows_names(&self) -> bool {
+        (**self).knows_names()
+    }
 }
 
 /// Record data that is read from a message, of the types that it is made for.

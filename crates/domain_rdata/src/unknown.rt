@@ -16,7 +16,7 @@ ghost use Rattle.domain_rdata.specs.UnknownReading.{all_that_is_left};
 use crate::composer::Composer;
 use crate::long::LongRecordData;
 use crate::record_data::{
-    CanonicalError, ComposeRecordData, ParseAnyRecordData, ParseRecordData, RecordData,
+    CanonicalRecordData, ComposeRecordData, ParseAnyRecordData, ParseRecordData, RecordData,
 };
 use crate::rtype::Rtype;
 use arrayvec::ArrayVec;
@@ -150,8 +150,8 @@ impl<Octs: Octets> RecordData for UnknownRecordData<Octs> {
 
 /// The octets of the data, whatever the target.
 ///
-/// They are the canonical form too (RFC 3597, 7), but of the types whose names are in lowercase there (RFC 4034, 6.2): it is
-/// refused by `UnknownNames`. Data of a type of RFC 1035 that was read from a message may have pointers to names
+/// They are the canonical form too (RFC 3597, 7), but of the types whose names are in lowercase there (RFC 4034, 6.2), as
+/// `knows_names` tells. Data of a type of RFC 1035 that was read from a message may have pointers to names
 /// of that message (RFC 3597, 4). They are octets like others here, and lead elsewhere in another message: read data
 /// of these types by their fields.
 impl<Octs: Octets> ComposeRecordData for UnknownRecordData<Octs> {
@@ -182,14 +182,8 @@ impl<Octs: Octets> ComposeRecordData for UnknownRecordData<Octs> {
     fn compose_canonical_rdata<Target: Composer>(
         &self,
         target: &mut Target,
-    ) -> Result<(), CanonicalError<Target::AppendError>> {
-        if self.rtype.has_lowercase_names() {
-            return Err(CanonicalError::UnknownNames);
-        }
-        match target.append_slice(self.octets.as_slice()) {
-            Ok(()) => Ok(()),
-            Err(e) => Err(CanonicalError::Append(e)),
-        }
+    ) -> Result<(), Target::AppendError> {
+        self.compose_rdata(target)
     }
 
     ghost plain = { λ _ _ _. refl };
@@ -197,6 +191,12 @@ impl<Octs: Octets> ComposeRecordData for UnknownRecordData<Octs> {
     ghost flat = { λ _ _ _ h. h };
 
     ghost writes_composed = { λ it. octets_written (data_octets it) };
+}
+
+impl<Octs: Octets> CanonicalRecordData for UnknownRecordData<Octs> {
+    fn knows_names(&self) -> bool {
+        !self.rtype.has_lowercase_names()
+    }
 }
 
 impl<'a> UnknownRecordData<&'a [u8]> {

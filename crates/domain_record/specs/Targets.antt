@@ -1,9 +1,9 @@
 -- What a target becomes where a question or a record is composed into it, and why none is. `g` is `Target.Composer`,
 -- `labels` tells the labels of a name, and `d` is `D.ComposeRecordData`.
-use Rattle.std.specs.Prelude.{◌≡◌, ℕ, List, ◌++◌, Option}
+use Rattle.std.specs.Prelude.{◌≡◌, ℕ, Bool, true, List, ◌++◌}
 use Rattle.domain_header.specs.Values.{class_number, ttl_seconds}
 use Rattle.domain_header.specs.declared.ttl.Ttl.{Ttl}
-use Rattle.domain_rdata.specs.Canonical.{canonical_form, WithLengthAndForm}
+use Rattle.domain_rdata.specs.Canonical.{canonical_form, names_known, WithLengthAndForm}
 use Rattle.domain_rdata.specs.Members.{ComposerMembers, DataMembers}
 use Rattle.domain_rdata.specs.ReadBack.{Appended, Exceeds}
 use Rattle.domain_rdata.specs.RecordData.{ComposeRefused}
@@ -79,8 +79,12 @@ TargetRefuses g labels d r old e =
     (λ a b. g.appends a (labels (owner_of r)) b) (after_owner d.type_number r)
     (λ t. ComposeRefused (d.composed (data_of r) g.compresses) t) old (g.capacity old) e
 
+-- whether it is known which octets of the record's data are names, where the canonical form asks for it
+abbrev pub names_known_of : {N D : Type 0} → DataMembers D → Record N D → Bool
+names_known_of d r = names_known (d.type_number (data_of r)) (d.lowercase (data_of r))
+
 -- the canonical form of the record's data, where its names are known
-abbrev pub form_of_data : {N D : Type 0} → DataMembers D → Record N D → Option (List ℕ)
+abbrev pub form_of_data : {N D : Type 0} → DataMembers D → Record N D → List ℕ
 form_of_data d r =
     canonical_form (d.type_number (data_of r)) (d.uncompressed (data_of r)) (d.lowercase (data_of r))
 
@@ -89,12 +93,13 @@ abbrev pub canonical_head_of : {N D : Type 0} → (N → List (List ℕ)) → Da
 canonical_head_of labels d r ttl =
     canonical_head (labels (owner_of r)) (d.type_number (data_of r)) (class_number (class_of r)) (ttl_seconds ttl)
 
--- The canonical form of the record with this TTL was appended.
+-- The names are known, and the canonical form of the record with this TTL was appended.
 abbrev pub ComposesForm : {T N D : Type 0} → ComposerMembers T → (N → List (List ℕ)) → DataMembers D → Record N D → Ttl → T → T → Type 0
 ComposesForm g labels d r ttl old new =
-    WithLengthAndForm (form_of_data d r) (g.octets old ++ canonical_head_of labels d r ttl) (g.octets new)
+    (names_known_of d r ≡ true)
+    × WithLengthAndForm (form_of_data d r) (g.octets old ++ canonical_head_of labels d r ttl) (g.octets new)
 
 -- Why the canonical form of the record with this TTL wasn't appended.
 abbrev pub FormNotComposed : {T N D E : Type 0} → ComposerMembers T → (N → List (List ℕ)) → DataMembers D → Record N D → Ttl → T → CanonicalError E → Type 0
 FormNotComposed g labels d r ttl old e =
-    CanonicalRecordRefused (form_of_data d r) (canonical_head_of labels d r ttl) (g.octets old) (g.capacity old) e
+    CanonicalRecordRefused (names_known_of d r) (form_of_data d r) (canonical_head_of labels d r ttl) (g.octets old) (g.capacity old) e

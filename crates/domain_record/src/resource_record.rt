@@ -22,7 +22,8 @@ use domain_list::AbsoluteLabels;
 use domain_list::composing::compose_canonical_name;
 use domain_parsed::ParsedName;
 use domain_rdata::{
-    CanonicalError, ComposeRdataError, ComposeRecordData, Composer, RecordData, Rtype,
+    CanonicalError, CanonicalRecordData, ComposeRdataError, ComposeRecordData, Composer,
+    RecordData, Rtype,
 };
 use domain_traits::{FlattenInto, ToName};
 use domain_wire::CanonicalOrd;
@@ -250,14 +251,16 @@ impl<'a, N: AbsoluteLabels<'a>, D: ComposeRecordData> Record<N, D> {
         }
         Ok(())
     }
+}
 
+impl<'a, N: AbsoluteLabels<'a>, D: CanonicalRecordData> Record<N, D> {
     /// Appends the canonical form of the record with this TTL, or nothing (RFC 4034, 6.2): no name is compressed, the
     /// owner's is in lowercase, and those in the data where the type asks for it. The TTL is the original one, which an
     /// RRSIG record tells (RFC 4034, 3.1.4), and not what a cache has left of it.
     ///
-    /// `Append` only where it exceeds the spare capacity, `Long` only where the data has more than 65,535 octets, and
-    /// `UnknownNames` where its names aren't known ([`ComposeRecordData`]). The target's octets, and what it remembers, are
-    /// then unchanged.
+    /// `UnknownNames` exactly where the type has names in lowercase and it isn't known where they are in the data
+    /// ([`CanonicalRecordData::knows_names`]); else `Append` only where the form exceeds the spare capacity, and `Long` only
+    /// where the data has more than 65,535 octets. The target's octets, and what it remembers, are then unchanged.
     pub fn compose_canonical<Target: Composer>(
         &'a self,
         original_ttl: Ttl,
@@ -275,6 +278,9 @@ impl<'a, N: AbsoluteLabels<'a>, D: ComposeRecordData> Record<N, D> {
             target.old) }
         ensures capacity { Target.capacity target.old ≤ Target.capacity target.new }
     {
+        if !self.rdata.knows_names() {
+            return Err(CanonicalError::UnknownNames);
+        }
         let start = target.as_slice().len();
         if let Err(e) = compose_canonical_name(&self.owner, target) {
             return Err(CanonicalError::Append(e));
@@ -286,7 +292,10 @@ impl<'a, N: AbsoluteLabels<'a>, D: ComposeRecordData> Record<N, D> {
         }
         if let Err(e) = self.rdata.compose_canonical_len_rdata(target) {
             target.truncate(start);
-            return Err(e);
+            return Err(match e {
+                ComposeRdataError::Append(e) => CanonicalError::Append(e),
+                ComposeRdataError::Long(e) => CanonicalError::Long(e),
+            });
         }
         Ok(())
     }

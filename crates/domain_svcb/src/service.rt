@@ -19,7 +19,7 @@ use domain_fields::{
 };
 use domain_parsed::ParsedName;
 use domain_rdata::{
-    CanonicalError, ComposeRecordData, Composer, ParseRecordData, RecordData, Rtype,
+    CanonicalRecordData, ComposeRecordData, Composer, ParseRecordData, RecordData, Rtype,
 };
 use domain_traits::FlattenInto;
 use domain_wire::{CanonicalOrd, ParseError};
@@ -161,12 +161,9 @@ impl<const TYPE: u16, F: DataField> ComposeRecordData for ServiceData<TYPE, F> {
     fn compose_canonical_rdata<Target: Composer>(
         &self,
         target: &mut Target,
-    ) -> Result<(), CanonicalError<Target::AppendError>> {
+    ) -> Result<(), Target::AppendError> {
         let lowercase = Rtype::from_int(TYPE).has_lowercase_names();
-        match self.fields.compose_canonical_field(lowercase, target) {
-            Ok(()) => Ok(()),
-            Err(e) => Err(CanonicalError::Append(e)),
-        }
+        self.fields.compose_canonical_field(lowercase, target)
     }
 
     ghost plain = { λ it. F.plain (service_fields it) };
@@ -174,6 +171,12 @@ impl<const TYPE: u16, F: DataField> ComposeRecordData for ServiceData<TYPE, F> {
     ghost flat = { λ it. F.flat (service_fields it) };
 
     ghost writes_composed = { λ it. F.writes_composed (service_fields it) };
+}
+
+impl<const TYPE: u16, F: DataField> CanonicalRecordData for ServiceData<TYPE, F> {
+    fn knows_names(&self) -> bool {
+        true
+    }
 }
 
 /// The order of the octets of the canonical forms from the left; a missing octet comes before any (RFC 4034, 6.3).

@@ -5,7 +5,8 @@ use arrayvec::ArrayVec;
 use domain::base::iana::Class;
 use domain::base::name::Name;
 use domain::base::rdata::{
-    CanonicalError, ComposeRdataError, ComposeRecordData, RecordData, Rtype, UnknownRecordData,
+    CanonicalError, CanonicalRecordData, ComposeRdataError, ComposeRecordData, RecordData, Rtype,
+    UnknownRecordData,
 };
 use domain::base::record::{Record, Ttl};
 use domain::base::wire::Composer;
@@ -62,11 +63,8 @@ impl<'a> ComposeRecordData for Unmeasured<'a> {
     fn compose_canonical_rdata<Target: Composer>(
         &self,
         target: &mut Target,
-    ) -> Result<(), CanonicalError<Target::AppendError>> {
-        match target.append_slice(self.octets) {
-            Ok(()) => Ok(()),
-            Err(e) => Err(CanonicalError::Append(e)),
-        }
+    ) -> Result<(), Target::AppendError> {
+        target.append_slice(self.octets)
     }
 
     ghost plain = { λ _ _ _. refl };
@@ -74,6 +72,13 @@ impl<'a> ComposeRecordData for Unmeasured<'a> {
     ghost flat = { λ _ _ _ all. all };
 
     ghost writes_composed = { λ it. octets_written it.octets.now };
+}
+
+/// Its octets are those of no name.
+impl<'a> CanonicalRecordData for Unmeasured<'a> {
+    fn knows_names(&self) -> bool {
+        true
+    }
 }
 
 /// So many octets that are zero.
@@ -94,7 +99,7 @@ fn data_that_is_too_long_leaves_the_target(rt: HostRuntime) {
     assert!(rt; matches!(composed, Err(ComposeRdataError::Long(_))));
     assert!(rt; target.as_slice() == [0].as_slice());
     let composed = data.compose_canonical_len_rdata(&mut target);
-    assert!(rt; matches!(composed, Err(CanonicalError::Long(_))));
+    assert!(rt; matches!(composed, Err(ComposeRdataError::Long(_))));
     assert!(rt; target.as_slice() == [0].as_slice());
     assert!(rt; UnknownRecordData::from_octets(Rtype::from_int(PRIVATE), octets).is_err());
 }
@@ -129,6 +134,27 @@ fn a_canonical_record_has_the_original_ttl(rt: HostRuntime) {
     assert!(rt; target.as_slice() == expected);
 }
 
+/// Of data that is held as octets it isn't known which of them are names: the type NS has its names in lowercase, and what
+/// the octets are is appended as they stand, but a record of it has no canonical form (RFC 4034, 6.2).
+#[test]
+fn a_canonical_record_of_unknown_names_leaves_the_target(rt: HostRuntime) {
+    let (Ok(owner), Ok(data)) = (
+        Name::from_slice(b"\x02eX\0"),
+        UnknownRecordData::from_octets(Rtype::from_int(2), b"\x02NS\0".as_slice()),
+    ) else {
+        panic!(rt; "no name or no data");
+    };
+    let mut target = Vec::new(rt.alloc());
+    assert!(rt; data.compose_canonical_rdata(&mut target).is_ok());
+    assert!(rt; target.as_slice() == b"\x02NS\0".as_slice());
+    assert!(rt; data.compose_canonical_len_rdata(&mut target).is_ok());
+    assert!(rt; target.as_slice() == b"\x02NS\0\0\x04\x02NS\0".as_slice());
+    let record = Record::new(owner, Class::from_int(1), Ttl::from_secs(7), data);
+    let composed = record.compose_canonical(Ttl::from_secs(7), &mut target);
+    assert!(rt; matches!(composed, Err(CanonicalError::UnknownNames)));
+    assert!(rt; target.as_slice() == b"\x02NS\0\0\x04\x02NS\0".as_slice());
+}
+
 #[test]
 fn data_that_does_not_fit_leaves_the_target(rt: HostRuntime) {
     let data = Unmeasured { octets: &[1, 2, 3] };
@@ -138,6 +164,6 @@ fn data_that_does_not_fit_leaves_the_target(rt: HostRuntime) {
     assert!(rt; matches!(composed, Err(ComposeRdataError::Append(_))));
     assert!(rt; target.as_slice() == [9].as_slice());
     let composed = data.compose_canonical_len_rdata(&mut target);
-    assert!(rt; matches!(composed, Err(CanonicalError::Append(_))));
+    assert!(rt; matches!(composed, Err(ComposeRdataError::Append(_))));
     assert!(rt; target.as_slice() == [9].as_slice());
 }

@@ -18,7 +18,8 @@ ghost use Rattle.domain_txt.specs.TxtViews.{strings_left};
 use crate::txt_iter::{TxtIter, check_strings, first_string};
 use domain_fields::{OrderedData, hash_octets};
 use domain_rdata::{
-    CanonicalError, ComposeRecordData, Composer, LongRecordData, ParseRecordData, RecordData, Rtype,
+    CanonicalRecordData, ComposeRecordData, Composer, LongRecordData, ParseRecordData, RecordData,
+    Rtype,
 };
 use domain_strings::Quoted;
 use domain_traits::FlattenInto;
@@ -251,11 +252,8 @@ impl<Octs: Octets> ComposeRecordData for Txt<Octs> {
     fn compose_canonical_rdata<Target: Composer>(
         &self,
         target: &mut Target,
-    ) -> Result<(), CanonicalError<Target::AppendError>> {
-        match self.compose_rdata(target) {
-            Ok(()) => Ok(()),
-            Err(e) => Err(CanonicalError::Append(e)),
-        }
+    ) -> Result<(), Target::AppendError> {
+        self.compose_rdata(target)
     }
 
     ghost plain = { λ _ _ _. refl };
@@ -263,6 +261,12 @@ impl<Octs: Octets> ComposeRecordData for Txt<Octs> {
     ghost flat = { λ _ _ _ h. h };
 
     ghost writes_composed = { λ it. octets_written (txt_octets it) };
+}
+
+impl<Octs: Octets> CanonicalRecordData for Txt<Octs> {
+    fn knows_names(&self) -> bool {
+        true
+    }
 }
 
 /// One character string or more, which are all that is left.

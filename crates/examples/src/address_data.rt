@@ -56,11 +56,8 @@ impl ComposeRecordData for AddressData {
     fn compose_canonical_rdata<Target: Composer>(
         &self,
         target: &mut Target,
-    ) -> Result<(), CanonicalError<Target::AppendError>> {
-        match self.address.compose(target) {
-            Ok(()) => Ok(()),
-            Err(e) => Err(CanonicalError::Append(e)),
-        }
+    ) -> Result<(), Target::AppendError> {
+        self.address.compose(target)
     }
 
     ghost plain = { λ _ _ _. refl };
