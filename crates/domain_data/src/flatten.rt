@@ -2,7 +2,7 @@
 use crate::fields::FieldsData;
 use domain_fields::{DataField, FlattenField};
 use domain_traits::FlattenInto;
-use octseq::ShortBuf;
+use octseq::{OctetsFrom, ShortBuf};
 use std::alloc::Global;
 
 /// Names are converted, and numbers stay.
@@ -20,5 +20,24 @@ impl<const TYPE: u16, F: FlattenField<Made>, Made: DataField> FlattenInto<Fields
 
     fn flatten_into(self, alloc: Global) -> Result<FieldsData<TYPE, Made>, ShortBuf> {
         self.try_flatten_into(alloc)
+    }
+}
+
+/// The same as [`FlattenInto`]: names are converted, octets are made over, and numbers stay.
+impl<const TYPE: u16, F: FlattenField<Made>, Made: DataField> OctetsFrom<FieldsData<TYPE, F>>
+    for FieldsData<TYPE, Made> {
+    ghost use Rattle.domain_data.specs.Views.{fields_of};
+
+    type Error = ShortBuf;
+
+    ghost same = { λ source made. F.same (fields_of source) (fields_of made) };
+
+    ghost may_refuse = { λ source. F.may_refuse (fields_of source) };
+
+    fn try_octets_from(
+        alloc: Global,
+        source: FieldsData<TYPE, F>,
+    ) -> Result<FieldsData<TYPE, Made>, ShortBuf> {
+        source.try_flatten_into(alloc)
     }
 }
