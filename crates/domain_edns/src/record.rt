@@ -32,8 +32,8 @@ pub enum OptError {
 }
 
 impl OptError {
-    /// The response code by which a server answers such a query: FORMERR, 1, whichever error it is. RFC 6891, 6.1.1, asks
-    /// for it where there are two OPT records; a message that ends too soon, or whose OPT record isn't of the root
+    /// The response code by which a server answers such a query: FORMERR, 1, whichever error it is. RFC 6891, 6.1.1,
+    /// asks for it where there are two OPT records; a message that ends too soon, or whose OPT record isn't of the root
     /// (6.1.2), isn't of its form either (RFC 1035, 4.1.1).
     ///
     /// BADVERS, 16, is of no error here: by it a server answers an OPT record that it read, and whose

@@ -330,8 +330,8 @@ impl<N: FlattenInto<Owner>, D: FlattenInto<Data> + Drop, Owner: Drop, Data> Flat
     }
 }
 
-/// The owner's name is converted as [`FlattenInto`] converts it, and then the data by its own [`OctetsFrom`]; class and
-/// TTL stay.
+/// The owner's name is converted as [`FlattenInto`] converts it, and then the data by its own [`OctetsFrom`]; class
+/// and TTL stay.
 impl<N: FlattenInto<Owner>, D: Drop, Owner: Drop, Data: OctetsFrom<D>> OctetsFrom<Record<N, D>>
     for Record<Owner, Data> {
     ghost use Rattle.domain_record.specs.RecordParts.{owner_of, class_of, ttl_of, data_of};
