@@ -23,7 +23,7 @@ use domain_rdata::{
 };
 use domain_traits::FlattenInto;
 use domain_wire::{CanonicalOrd, ParseError};
-use octseq::{Octets, Parser, ShortBuf};
+use octseq::{Octets, OctetsFrom, Parser, ShortBuf};
 use std::alloc::Global;
 use std::cmp::Ordering;
 use std::fmt;
@@ -241,6 +241,23 @@ impl<const TYPE: u16, F: FlattenField<Made>, Made: DataField> FlattenInto<Servic
 
     fn flatten_into(self, alloc: Global) -> Result<ServiceData<TYPE, Made>, ShortBuf> {
         self.try_flatten_into(alloc)
+    }
+}
+
+/// The same as [`FlattenInto`]: the name and the octets of the parameters are converted, and the priority stays.
+impl<const TYPE: u16, F: FlattenField<Made>, Made: DataField> OctetsFrom<ServiceData<TYPE, F>>
+    for ServiceData<TYPE, Made> {
+    type Error = ShortBuf;
+
+    ghost same = { λ source made. F.same (service_fields source) (service_fields made) };
+
+    ghost may_refuse = { λ source. F.may_refuse (service_fields source) };
+
+    fn try_octets_from(
+        alloc: Global,
+        source: ServiceData<TYPE, F>,
+    ) -> Result<ServiceData<TYPE, Made>, ShortBuf> {
+        source.try_flatten_into(alloc)
     }
 }
 
