@@ -1,15 +1,17 @@
 -- What is held from one call to the next, and why a call was refused.
-use Rattle.std.proofs.Common.{◌≡◌, ℕ, ◌+◌, ◌-◌, ◌≤◌, inl, inr, Bool, List, ◌++◌, length, sym, ap, subst, arith, ◌∙◌}
+use Rattle.std.proofs.Common.{◌≡◌, ℕ, ◌+◌, ◌-◌, ◌≤◌, inl, inr, Bool, List, ◌++◌, length, drop, sym, ap, subst, arith, ◌∙◌}
 use Rattle.std.specs.Prelude.{Some}
 use Rattle.domain_header.specs.Headers.{question_count, answer_count, authority_count, additional_count}
 use Rattle.domain_header.specs.declared.flags.Header.{Header}
 use Rattle.domain_record.specs.Entries.{QuestionFields}
 use Rattle.domain_record.specs.Composing.RecordExceeds.{no_name, no_numbers, no_data}
+use Rattle.domain_message.specs.declared.section.Section.{Section}
 use Rattle.domain_message.specs.declared.section.Section.TheVariants.{Answer, Additional}
 use Rattle.domain_rdata.specs.ReadBack.{Appended, Exceeds}
 use Rattle.domain_message_builder.specs.Answers.{CannotAsk}
 use Rattle.domain_message_builder.specs.Contents.{blank_header, Content, RecordHead, no_content, question_added, AsksIn, RecordsIn, Holds}
 use Rattle.domain_message_builder.specs.Cuts.{PushesOpt, CannotAddOpt, HasNoRoomFor, with_opt}
+use Rattle.domain_message_builder.specs.Finished.{finished_octets}
 use Rattle.domain_message_builder.specs.Opt.{Opt, opt_head}
 use Rattle.domain_message_builder.specs.Pushes.{with_header, record_added, record_count, IsBegun, PushesQuestion, PushesRecord}
 use Rattle.domain_message_builder.specs.Reading.{IsMessageOf}
@@ -44,14 +46,32 @@ asks c h q limit begun set s is same pushed = record {
 pub is_query : (c : Bool) (h : Header) (q : QuestionFields) (limit : ℕ) (s : State) (m : List ℕ) → Asks c h q limit s → ((it : Content) → Holds c s it → IsMessageOf s.header it m) → IsQuery h q m
 is_query c h q limit s m asked made = subst (λ k. IsMessageOf k (question_added no_content q) m) asked.header (made (question_added no_content q) asked.holds)
 
-pub is_answer : (c : Bool) (h : Header) (q : QuestionFields) (head : RecordHead) (May : List ℕ → List ℕ → Type 0) (s t : State) (m : List ℕ) → Asks c h q 512 s → PushesRecord c Answer head May s t → ((it : Content) → Holds c t it → IsMessageOf t.header it m) → length m ≤ t.limit → IsAnswer h q head May m
-is_answer c h q head May s t m asked pushed made within =
-    let it = record_added Answer (question_added no_content q) (record { head = head; rdata = pushed.octets.allowed.rdata }) in
+-- A record was pushed after the octets o.
+pub record PushedAfter (c : Bool) (section : Section) (head : RecordHead) (May : List ℕ → List ℕ → Type 0) (o : List ℕ) (s t : State) : Type 0 where
+  pub octets : List ℕ
+  pub allowed : RecordsIn c head May o octets
+  pub all : t.octets ≡ o ++ octets
+  pub holds : (it : Content) → Holds c s it → Holds c t (record_added section it (record { head = head; rdata = allowed.rdata }))
+
+pub pushed_after : (c : Bool) (section : Section) (head : RecordHead) (May : List ℕ → List ℕ → Type 0) (o : List ℕ) (s t : State) → s.octets ≡ o → PushesRecord c section head May s t → PushedAfter c section head May o s t
+pushed_after c section head May o s t same pushed =
+    subst (λ x. PushedAfter c section head May x s t) same (record { octets = pushed.octets.octets; allowed = pushed.octets.allowed; all = pushed.octets.all; holds = pushed.holds })
+
+-- what follows the header of a message that was finished
+pub body_is : (u : State) (m b : List ℕ) → m ≡ finished_octets u → u.octets ≡ blank_header ++ b → drop 12 m ≡ b
+body_is u m b made octets = ap (drop 12) made ∙ ap (drop 12) octets
+
+pub is_answer : (c : Bool) (h : Header) (q : QuestionFields) (head : RecordHead) (May : List ℕ → List ℕ → Type 0) (s t : State) (m : List ℕ) → Asks c h q 512 s → PushesRecord c Answer head May s t → ((it : Content) → Holds c t it → IsMessageOf t.header it m) → m ≡ finished_octets t → length m ≤ t.limit → IsAnswer c h q head May m
+is_answer c h q head May s t m asked pushed made octets within =
+    let one = pushed_after c Answer head May (blank_header ++ asked.octets.octets) s t asked.octets.all pushed in
+    let it = record_added Answer (question_added no_content q) (record { head = head; rdata = one.allowed.rdata }) in
     record {
-      rdata = pushed.octets.allowed.rdata;
-      before = _;
-      allowed = pushed.octets.allowed.data_allowed;
-      message = subst (λ k. IsMessageOf k it m) (pushed.settings.header ∙ asked.header) (made it (pushed.holds (question_added no_content q) asked.holds));
+      question = asked.octets.octets;
+      is_question = asked.octets.allowed;
+      answer = one.octets;
+      is_answer = one.allowed;
+      message = subst (λ k. IsMessageOf k it m) (pushed.settings.header ∙ asked.header) (made it (one.holds (question_added no_content q) asked.holds));
+      octets = body_is t m (asked.octets.octets ++ one.octets) octets one.all;
       short = omega (arith, within, pushed.settings.limit, asked.limit_is);
     }
 
@@ -66,10 +86,10 @@ is_sized c h q size limit o s t m same asked pushed made =
 
 -- ---- and why a call was refused
 
-exceeds_less : (May : List ℕ → Type 0) (t : List ℕ) (small big : ℕ) → small ≤ big → Exceeds May t big → Exceeds May t small
+pub exceeds_less : (May : List ℕ → Type 0) (t : List ℕ) (small big : ℕ) → small ≤ big → Exceeds May t big → Exceeds May t small
 exceeds_less May t small big less x = record { octets = x.octets; allowed = x.allowed; full = omega (arith, less, x.full) }
 
-too_big_less : (c : Bool) (head : RecordHead) (May : List ℕ → List ℕ → Type 0) (t : List ℕ) (small big : ℕ) → small ≤ big → RecordTooBig c head May t big → RecordTooBig c head May t small
+pub too_big_less : (c : Bool) (head : RecordHead) (May : List ℕ → List ℕ → Type 0) (t : List ℕ) (small big : ℕ) → small ≤ big → RecordTooBig c head May t big → RecordTooBig c head May t small
 too_big_less c head May t small big less (no_name x) = no_name (exceeds_less _ t small big less x)
 too_big_less c head May t small big less (no_numbers named allowed x) = no_numbers named allowed (omega (arith, less, x))
 too_big_less c head May t small big less (no_data named room allowed under x) = no_data named room allowed (omega (arith, less, under)) x
@@ -121,7 +141,7 @@ not_answered c h q head May octets capacity room limit s Order asked less why =
     let additional : additional_count s.counts ≡ 0 = asked.holds.additional_count in
     absurd (omega (arith, why, authority, additional))
 
-no_room_less : (o : Opt) (n small big limit : ℕ) → small ≤ big → HasNoRoomFor o n big limit → HasNoRoomFor o n small limit
+pub no_room_less : (o : Opt) (n small big limit : ℕ) → small ≤ big → HasNoRoomFor o n big limit → HasNoRoomFor o n small limit
 no_room_less o n small big limit less (inl x) = inl (omega (arith, less, x))
 no_room_less o n small big limit less (inr x) = inr x
 

@@ -1,5 +1,5 @@
 -- Messages that are built.
-use Rattle.std.specs.Prelude.{ℕ, ◌<◌, ◌≤◌, Bool, List, [], ◌∷◌, ◌++◌, length}
+use Rattle.std.specs.Prelude.{◌≡◌, ℕ, ◌<◌, ◌≤◌, Bool, List, [], ◌∷◌, ◌++◌, length, drop}
 use Rattle.domain_header.specs.declared.flags.Header.{Header}
 use Rattle.domain_record.specs.Entries.{QuestionFields}
 use Rattle.domain_rdata.specs.ReadBack.{Exceeds}
@@ -21,17 +21,19 @@ sized_opt size = with_size size (bare_opt [])
 abbrev pub IsSizedQuery : Header → QuestionFields → ℕ → List ℕ → Type 0
 IsSizedQuery header q size m = IsMessageOf header (record { questions = q ∷ []; answers = []; authority = []; additional = opt_record (sized_opt size) ∷ [] }) m
 
--- The message has this header, this question and an answer with this head, and nothing else. The data of the answer is what
--- may be composed after some octets.
-pub record IsAnswer (header : Header) (q : QuestionFields) (head : RecordHead) (May : List ℕ → List ℕ → Type 0) (m : List ℕ) : Type 0 where
-  pub rdata : List ℕ
-  pub before : List ℕ
-  pub allowed : May before rdata
-  pub message : IsMessageOf header (record { questions = q ∷ []; answers = record { head = head; rdata = rdata } ∷ []; authority = []; additional = [] }) m
+-- The message has this header, this question and an answer with this head, and nothing else. After the header are the
+-- octets that each may be composed into after what is before it.
+pub record IsAnswer (compresses : Bool) (header : Header) (q : QuestionFields) (head : RecordHead) (May : List ℕ → List ℕ → Type 0) (m : List ℕ) : Type 0 where
+  pub question : List ℕ
+  pub is_question : AsksIn compresses q blank_header question
+  pub answer : List ℕ
+  pub is_answer : RecordsIn compresses head May (blank_header ++ question) answer
+  pub message : IsMessageOf header (record { questions = q ∷ []; answers = record { head = head; rdata = is_answer.rdata } ∷ []; authority = []; additional = [] }) m
+  pub octets : drop 12 m ≡ question ++ answer
   pub short : length m ≤ 512
 
--- Why a target of these octets and this capacity has no message with a question: it isn't empty, it has no room for a header,
--- or octets that may be composed for the question after a header exceed its capacity, or the limit.
+-- Why a target of these octets and this capacity has no message with a question: it isn't empty, it has no room for a
+-- header, or octets that may be composed for the question after a header exceed its capacity, or the limit.
 pub data NotAsked (compresses : Bool) (q : QuestionFields) (octets : List ℕ) (capacity limit : ℕ) : Type 0 where
   not_empty : 0 < length octets → NotAsked compresses q octets capacity limit
   no_header : capacity < 12 → NotAsked compresses q octets capacity limit

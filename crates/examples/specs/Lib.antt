@@ -10,3 +10,4 @@ pub mod Parsed
 pub mod FlatNames
 pub mod Appending
 pub mod Targets
+pub mod Zones

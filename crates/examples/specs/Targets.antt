@@ -15,7 +15,7 @@ use Rattle.domain_message_builder.specs.OptViews.{opt_of}
 use Rattle.domain_message_builder.specs.Pushes.{asked, headed}
 use Rattle.domain_message_builder.specs.declared.opt.OptBuilder.{OptBuilder}
 use Rattle.examples.specs.Built.{IsQuery, IsSizedQuery, IsAnswer, NotAsked, NotSized, NotAnswered}
-use Rattle.examples.specs.Served.{IsReferral, IsErrorAnswer, IsWholeOrCut}
+use Rattle.examples.specs.Served.{IsReferral, LacksRecord, IsErrorAnswer, IsWholeOrCut, NotEvenCut}
 
 -- The message, if there is one, asks this question.
 abbrev pub AsksQuestion : {T N : Type 0} → (T → List ℕ) → (N → List (List ℕ)) → Header → Question N → Option T → Type 0
@@ -39,7 +39,7 @@ NoSizedQueryFits g labels q size target =
 -- The message, if there is one, has at most 512 octets, and answers this question with this record.
 abbrev pub AnswersWith : {T N D : Type 0} → ComposerMembers T → (N → List (List ℕ)) → DataMembers D → Header → Question N → Record N D → Option T → Type 0
 AnswersWith g labels d header q it r =
-    IfSome r (λ made. IsAnswer header (asked labels q) (headed labels d.type_number it) (d.composed (data_of it) g.compresses) (g.octets made))
+    IfSome r (λ made. IsAnswer g.compresses header (asked labels q) (headed labels d.type_number it) (d.composed (data_of it) g.compresses) (g.octets made))
 
 -- The target can't hold a message that does.
 abbrev pub NoAnswerFits : {T N D : Type 0} → ComposerMembers T → (N → List (List ℕ)) → DataMembers D → Question N → Record N D → T → Type 0
@@ -53,16 +53,33 @@ CannotBegin g target = (0 < length (g.octets target)) ⊎ (g.capacity target < 1
 -- The message, if there is one, refers the query to this server of this address.
 abbrev pub Refers : {T N S G O : Type 0} {m : Ghosts O} → ComposerMembers T → (N → List (List ℕ)) → DataMembers S → DataMembers G → Message O m → Record N S → Record N G → Option T → Type 0
 Refers g labels d e query server glue r =
-    IfSome r (λ made. IsReferral (message_octets query)
+    IfSome r (λ made. IsReferral g.compresses (message_octets query)
     (headed labels d.type_number server) (d.composed (data_of server) g.compresses)
     (headed labels e.type_number glue) (e.composed (data_of glue) g.compresses) (g.octets made))
+
+-- The target can't hold a message that does.
+abbrev pub NoReferralFits : {T N S G O : Type 0} {m : Ghosts O} → ComposerMembers T → (N → List (List ℕ)) → DataMembers S → DataMembers G → Message O m → Record N S → Record N G → T → Type 0
+NoReferralFits g labels d e query server glue target =
+    LacksRecord g.compresses (message_octets query)
+    (headed labels d.type_number server) (d.composed (data_of server) g.compresses)
+    (headed labels e.type_number glue) (e.composed (data_of glue) g.compresses)
+    (g.octets target) (g.capacity target) 65535
 
 -- The message, if there is one, tells the query this error.
 abbrev pub TellsError : {T O : Type 0} {m : Ghosts O} → ComposerMembers T → Message O m → Rcode → T → Option T → Type 0
 TellsError g query rcode target r =
     IfSome r (λ made. IsErrorAnswer g.compresses (message_octets query) (g.octets target) (g.capacity target) (rcode_number rcode) (g.octets made))
 
--- The message, if there is one, answers the query with this record, or is cut, and has this OPT record.
-abbrev pub AnswersOrCuts : {T N D O P : Type 0} {m : Ghosts O} {n : Ghosts P} → ComposerMembers T → (N → List (List ℕ)) → DataMembers D → Message O m → Record N D → OptBuilder P n → Option T → Type 0
-AnswersOrCuts g labels d query it opt r =
-    IfSome r (λ made. IsWholeOrCut (message_octets query) (headed labels d.type_number it) (d.composed (data_of it) g.compresses) (opt_of opt) (g.octets made))
+-- The message, if there is one, answers the query with this record, or must be cut, and has this OPT record.
+abbrev pub AnswersOrCuts : {T N D O P : Type 0} {m : Ghosts O} {n : Ghosts P} → ComposerMembers T → (N → List (List ℕ)) → DataMembers D → Message O m → Record N D → OptBuilder P n → T → Option T → Type 0
+AnswersOrCuts g labels d query it opt target r =
+    IfSome r (λ made. IsWholeOrCut g.compresses (message_octets query)
+    (headed labels d.type_number it) (d.composed (data_of it) g.compresses) (opt_of opt)
+    (g.capacity target) 512 (g.octets made))
+
+-- The target can't hold even one that is cut, or the data is too long for any message.
+abbrev pub NotEvenCutFits : {T N D O P : Type 0} {m : Ghosts O} {n : Ghosts P} → ComposerMembers T → (N → List (List ℕ)) → DataMembers D → Message O m → Record N D → OptBuilder P n → T → Type 0
+NotEvenCutFits g labels d query it opt target =
+    NotEvenCut g.compresses (message_octets query)
+    (headed labels d.type_number it) (d.composed (data_of it) g.compresses) (opt_of opt)
+    (g.octets target) (g.capacity target) 512

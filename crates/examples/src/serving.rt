@@ -1,6 +1,6 @@
 //! Answers to queries.
 ghost use Rattle.std.specs.Prelude.{◌<◌, ◌≤◌, length, IfSome, IsNone};
-ghost use Rattle.examples.specs.Targets.{Refers, TellsError, CannotBegin, AnswersOrCuts};
+ghost use Rattle.examples.specs.Targets.{Refers, NoReferralFits, TellsError, CannotBegin, AnswersOrCuts, NotEvenCutFits};
 
 use domain::base::iana::Rcode;
 use domain::base::message::{Message, Section};
@@ -11,7 +11,9 @@ use domain::base::record::Record;
 use domain::base::wire::Composer;
 use octseq::Octets;
 
-/// A referral: a server of a zone below in the authority section, and its address in the additional section.
+/// A referral: a server of a zone below in the authority section, and its address in the additional section. `None`
+/// only if the target isn't empty, or what may be composed exceeds its capacity, 65,535 octets, or those of a
+/// record's data.
 pub fn referral<'a, N, S, G, Octs: Octets, Target: Composer + Drop>(
     target: Target,
     query: &Message<Octs>,
@@ -22,8 +24,11 @@ where
     N: AbsoluteLabels<'a>,
     S: ComposeRecordData,
     G: ComposeRecordData,
-    ensures { Refers Target.Composer N.labels S.ComposeRecordData G.ComposeRecordData query.now
+    ensures ok { Refers Target.Composer N.labels S.ComposeRecordData G.ComposeRecordData query.now
         server.now glue.now result }
+    ensures none { IsNone result → NoReferralFits Target.Composer N.labels S.ComposeRecordData
+        G.ComposeRecordData query.now server.now glue.now target }
+    ensures not_empty { 0 < length (Target.octets target) → IsNone result }
 {
     let mut message = match MessageBuilder::from_target(target) {
         Ok(message) => message,
@@ -41,7 +46,7 @@ where
     Some(message.finish())
 }
 
-/// An answer that tells an error alone. `None` exactly if the target isn't empty or has no room for a header.
+/// An answer that tells an error alone. `None` only if the target isn't empty or has no room for a header.
 pub fn error_answer<Octs: Octets, Target: Composer + Drop>(
     target: Target,
     query: &Message<Octs>,
@@ -59,7 +64,8 @@ pub fn error_answer<Octs: Octets, Target: Composer + Drop>(
     Some(message.finish())
 }
 
-/// An answer of at most 512 octets: a record, or TC where it doesn't fit, and an OPT record.
+/// An answer of at most 512 octets: a record, or TC where it doesn't fit, and an OPT record. `None` only if the
+/// target isn't empty, the question and the OPT record don't fit, or the record's data is too long for any message.
 pub fn short_answer<'a, N, D, Octs: Octets, Options: Octets, Target: Composer + Drop>(
     target: Target,
     query: &Message<Octs>,
@@ -70,8 +76,11 @@ where
     N: AbsoluteLabels<'a>,
     D: ComposeRecordData,
     ensures whole_or_cut { AnswersOrCuts Target.Composer N.labels D.ComposeRecordData query.now
-        resource.now opt.now result }
+        resource.now opt.now target result }
     ensures short { IfSome result (λ made. length (Target.octets made) ≤ 512) }
+    ensures none { IsNone result → NotEvenCutFits Target.Composer N.labels D.ComposeRecordData
+        query.now resource.now opt.now target }
+    ensures not_empty { 0 < length (Target.octets target) → IsNone result }
 {
     let mut message = match MessageBuilder::with_limit(target, 512) {
         Ok(message) => message,

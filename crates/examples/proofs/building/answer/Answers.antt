@@ -17,4 +17,4 @@ returns-in-Err-push-clause-none g c none =
     (omega (arith, c.in-Ok.ensures.capacity, ap g.Target.Octets.capacity c.set_header.ensures.target, c.push_question.ensures.capacity)) c.in-Err-push.ensures.why
 
 pub returns-clause-ok : goal.returns-clause-ok
-returns-clause-ok g c = is_answer _ _ _ _ _ _ _ _ (asks _ _ _ 512 _ _ _ c.in-Ok.ensures.ok c.set_header.ensures.header c.in_default.ensures.ok) c.in_default-push.ensures.ok c.finish.ensures.message c.finish.ensures.within
+returns-clause-ok g c = is_answer _ _ _ _ _ _ _ _ (asks _ _ _ 512 _ _ _ c.in-Ok.ensures.ok c.set_header.ensures.header c.in_default.ensures.ok) c.in_default-push.ensures.ok c.finish.ensures.message c.finish.ensures.octets c.finish.ensures.within

@@ -40,4 +40,4 @@ returns-clause-ok g c =
     let asks_first = asks _ _ _ 512 _ _ _ begun set c.in_default.ensures.ok in
     let moved = ap (λ b. state_of octets b) c.answer-answers.ensures in
     let asks_then = subst (λ s. Asks g.Target.Composer.compresses c.args.header (asked g.N.NameLabels.labels c.args.question.now) 512 s) (sym moved) asks_first in
-    is_answer _ _ _ _ _ _ _ _ asks_then c.in_default-push.ensures.ok c.finish.ensures.message c.finish.ensures.within
+    is_answer _ _ _ _ _ _ _ _ asks_then c.in_default-push.ensures.ok c.finish.ensures.message c.finish.ensures.octets c.finish.ensures.within
