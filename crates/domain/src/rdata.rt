@@ -12,7 +12,7 @@ pub use domain_rdata::UnknownRecordData;
 pub use domain_svcb::{
     Https, ServiceData, SvcParam, SvcParams, SvcParamsError, SvcParamsIter, Svcb,
 };
-pub use domain_txt::{Txt, TxtError, TxtIter};
+pub use domain_txt::{Refusals, Txt, TxtError, TxtIter};
 
 /// The types of RFC 1035, in whose data names may be compressed.
 pub mod rfc1035 {

@@ -2,8 +2,10 @@
 #![tactic(auto)]
 
 mod read_back;
+pub mod refusals;
 pub mod txt;
 pub mod txt_iter;
 
+pub use refusals::Refusals;
 pub use txt::{Txt, TxtError};
 pub use txt_iter::TxtIter;

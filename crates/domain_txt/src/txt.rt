@@ -1,5 +1,5 @@
 //! Data of TXT records.
-ghost use Rattle.std.specs.Prelude.{◌≡◌, ◌==◌, ◌<◌, ◌≤◌, ◌++◌, ◌∷◌, [], ℕ, List, nat_eq, length, IfOk, IfErr, OnOk, OnErr, Some, MatchOption, true, refl};
+ghost use Rattle.std.specs.Prelude.{◌≡◌, ◌==◌, ◌<◌, ◌≤◌, ◌++◌, ◌∷◌, ◌+◌, [], ℕ, List, nat_eq, length, IfOk, IfErr, OnOk, OnErr, Some, MatchOption, MatchResult, true, refl};
 ghost use Rattle.std.proofs.Common.{rules};
 ghost use Rattle.std.specs.Cmp.Lexicographic.{pointwise, slice_cmp};
 ghost use Rattle.std.specs.Cmp.Rules.{comparing};
@@ -15,6 +15,7 @@ ghost use Rattle.domain_txt.specs.TxtReadingLaws.{text_reading};
 ghost use Rattle.domain_txt.specs.Strings.{HasStrings};
 ghost use Rattle.domain_txt.specs.TxtViews.{strings_left};
 
+use crate::refusals::Refusals;
 use crate::txt_iter::{TxtIter, check_strings, first_string};
 use domain_fields::{OrderedData, hash_octets};
 use domain_rdata::{
@@ -30,6 +31,8 @@ use std::cmp::Ordering;
 use std::error::Error;
 use std::fmt;
 use std::hash::Hasher;
+use std::marker::Brand;
+use std::sync::ledger::{Blank, Ledger};
 
 /// The number of the type (RFC 1035, 3.2.2).
 const TXT: u16 = 16;
@@ -174,15 +177,41 @@ impl<Octs: Octets> Txt<Octs> {
     }
 
     /// The text: the octets of all strings, with nothing between them. `AllocError` only where memory was refused, and so
-    /// never of strings without an octet.
+    /// never of strings without an octet: `text_counted` says so of each request.
     pub fn text(&self, alloc: Global) -> Result<Vec<u8>, AllocError>
         ensures same { IfOk result (λ text. text.items ≡ concat (txt_strings self.now)) }
         ensures err { OnErr result (0 < length (concat (txt_strings self.now))) }
     {
+        self.text_with::<Brand>(alloc, Blank::new(1))
+    }
+
+    /// `text_counted` with a new count, which is dropped: only a function that is generic over ledgers can begin one.
+    fn text_with<L: Ledger>(&self, alloc: Global, blank: Blank) -> Result<Vec<u8>, AllocError>
+        requires ledger { blank.name ≡ L.name }
+        requires parts { blank.parts ≡ L.parts }
+        requires some { 0 < blank.parts }
+        ensures same { IfOk result (λ text. text.items ≡ concat (txt_strings self.now)) }
+        ensures err { OnErr result (0 < length (concat (txt_strings self.now))) }
+    {
+        self.text_counted(alloc, &mut Refusals::<L>::new(blank))
+    }
+
+    /// The same as `text`, and counts in `refusals`, which contracts alone see, the requests for memory that were
+    /// refused: none where the text is returned, and exactly one where `AllocError` is.
+    pub fn text_counted<L: Ledger>(
+        &self,
+        alloc: Global,
+        refusals: &mut Refusals<L>,
+    ) -> Result<Vec<u8>, AllocError>
+        ensures same { IfOk result (λ text. text.items ≡ concat (txt_strings self.now)) }
+        ensures err { OnErr result (0 < length (concat (txt_strings self.now))) }
+        ensures counted { MatchResult result (λ _. refusals.new ≡ refusals.old)
+            (λ _. refusals.new ≡ refusals.old + 1) }
+    {
         let mut text = Vec::new(alloc);
         let mut rest = self.octets.as_slice();
         while let Some((string, after)) = first_string(rest) {
-            text.extend_from_slice(string)?;
+            refusals.append(&mut text, string)?;
             rest = after;
         }
         Ok(text)

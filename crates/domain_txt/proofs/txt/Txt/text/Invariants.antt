@@ -1,14 +1,4 @@
-use Rattle.std.proofs.Common.{◌≡◌, ◌++◌, length}
-use Rattle.std.specs.List.{concat}
-use Rattle.domain_txt.specs.Strings.{strings_in, HasStrings}
-use Rattle.domain_txt.specs.Txts.{txt_strings}
 use Rattle.domain_txt.proofs.txt.Txt.text.Given as goal
 
-abbrev pub invariant-loop-string : goal.invariant-loop-string
-invariant-loop-string g l = record {
-  strings : HasStrings l.rest;
-  text : l.text.items ++ concat (strings_in l.rest) ≡ concat (txt_strings l.fn.self);
-}
-
-abbrev pub decreases-loop-string : goal.decreases-loop-string
-decreases-loop-string g l = length l.rest
+abbrev pub ghosts-text_with : goal.ghosts-text_with
+ghosts-text_with g a = record { name = a.blank.name; parts = a.blank.parts }
