@@ -98,7 +98,7 @@ pub mod header {
 pub mod message {
     pub use domain_header::ShortMessage;
     pub use domain_message::{
-        Message, QuestionSection, RecordIter, RecordSection, Section, section_laws,
+        Message, Passes, QuestionSection, RecordIter, RecordSection, Section, section_laws,
     };
     pub use domain_record::{entry_laws, reads_back_laws};
 }

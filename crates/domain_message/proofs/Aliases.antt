@@ -242,7 +242,7 @@ canonical_end m answers name target end looks it alias leads = of_first m answer
     ends (leads_then rs name target end (0 + 1) rest.0 (goes stays (alias rs given)) rest.2) rest.3)
 
 -- More lead on than there are.
-pub canonical_round : (m : List ℕ) (answers : RecordSection) (name target : List (List ℕ)) (count looks : ℕ) → Asked m answers name → GivesAlias answers name (Some target) → GivesCnames answers count → looks ≡ count → LeadsOn answers looks target → IsCanonical m None
+pub canonical_round : (m : List ℕ) (answers : RecordSection) (name target : List (List ℕ)) (count looks : ℕ) → Asked m answers name → GivesAlias answers name (Some target) → GivesCnames answers count → count ≤ looks → LeadsOn answers looks target → IsCanonical m None
 canonical_round m answers name target count looks it alias counted many leads = of_first m answers name (λ rs from. ChainEnd rs from None) it (λ rs given.
     let rest = leads rs given in
     let all = counted rs given in
@@ -258,6 +258,10 @@ pub within_on : (m : List ℕ) (answers : RecordSection) (name : List (List ℕ)
 within_on m answers name limit looks it many leads = of_first m answers name (λ rs from. ChainEndWithin limit rs from None) it (λ rs given.
     let rest = leads rs given in
     leads_on (subst (λ n. Leads rs name n rest.0) many rest.1))
+
+-- As many passes as there are CNAME records, and one.
+pub few_passes : (m : List ℕ) (answers : RecordSection) (name : List (List ℕ)) (count before total : ℕ) → Asked m answers name → GivesCnames answers count → total ≤ before + (count + 1) → OfFirstQuestion m (λ rs _. total ≤ before + (cname_count rs + 1))
+few_passes m answers name count before total it counted few = of_first m answers name (λ rs _. total ≤ before + (cname_count rs + 1)) it (λ rs given. let all = counted rs given in omega (arith, all, few))
 
 -- the first question is missing
 pub no_first : (m : List ℕ) (k : ℕ) (why : ParseError) → number16 m 4 ≡ k + 1 → NoQuestion m 12 why → NoQuestions m why

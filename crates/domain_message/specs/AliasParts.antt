@@ -1,9 +1,9 @@
 -- What the parts of `canonical_name` say.
-use Rattle.std.specs.Prelude.{◌≡◌, ◌<◌, ◌⊎◌, ℕ, List, Option, Some, None}
+use Rattle.std.specs.Prelude.{◌≡◌, ◌<◌, ◌≤◌, ◌+◌, ◌⊎◌, ℕ, List, Option, Some, None}
 use Rattle.octseq.specs.declared.octets.Octets.{Ghosts}
 use Rattle.domain_parsed.specs.ParsedNames.{parsed_labels}
 use Rattle.domain_parsed.specs.declared.parsed.ParsedName.{ParsedName}
-use Rattle.domain_message.specs.Aliases.{IsAlias, FirstAlias, Leads, IsCanonical, IsCanonicalWithin, cname_count}
+use Rattle.domain_message.specs.Aliases.{IsAlias, FirstAlias, Leads, OfFirstQuestion, IsCanonical, IsCanonicalWithin, cname_count}
 use Rattle.domain_record.specs.Entries.{QuestionFields, QuestionAt, RecordFields, RecordAt}
 use Rattle.domain_record.specs.RecordModel.{record_fields}
 use Rattle.domain_record.specs.declared.record.ParsedRecord.{ParsedRecord}
@@ -88,3 +88,9 @@ HasCanonicalNameWithin m limit name =
 abbrev pub HasNoCanonicalNameWithin : {O : Type 0} {g : Ghosts O} → Message O g → ℕ → Type 0
 HasNoCanonicalNameWithin m limit =
     HasMissingQuestion m ⊎ (CountsNoQuestion m ⊎ IsCanonicalWithin (message_octets m) limit None)
+
+-- The answers were passed over at most once more often than there are CNAME records among them; not once where a question
+-- that the header counts is missing, or it counts none.
+abbrev pub PassesFew : {O : Type 0} {g : Ghosts O} → Message O g → ℕ → ℕ → Type 0
+PassesFew m before now = ((HasMissingQuestion m ⊎ CountsNoQuestion m) × (now ≡ before))
+    ⊎ OfFirstQuestion (message_octets m) (λ answers _. now ≤ before + (cname_count answers + 1))

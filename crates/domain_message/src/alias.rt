@@ -1,17 +1,20 @@
 //! The canonical name of a question: the end of a chain of CNAME records.
-ghost use Rattle.std.specs.Prelude.{◌⊎◌, IfSome, IsNone, None};
+ghost use Rattle.std.specs.Prelude.{◌≡◌, ◌<◌, ◌≤◌, ◌+◌, ◌⊎◌, IfSome, IsNone, None};
 ghost use Rattle.domain_parsed.specs.ParsedNames.{parsed_labels};
 ghost use Rattle.domain_message.specs.AliasParts.{LeadsTo, LeadsNowhere, GivesAlias, FirstLeadsTo, GivesCnames, ChainEndsAt, LeadsOn, AskedIn};
-ghost use Rattle.domain_message.specs.AliasParts.{HasCanonicalName, HasNoCanonicalName, HasCanonicalNameWithin, HasNoCanonicalNameWithin};
+ghost use Rattle.domain_message.specs.AliasParts.{HasCanonicalName, HasNoCanonicalName, HasCanonicalNameWithin, HasNoCanonicalNameWithin, PassesFew};
 ghost use Rattle.domain_message.specs.MessageParts.{CountsNoQuestion, HasMissingQuestion};
 
 use crate::message::Message;
+use crate::passes::Passes;
 use crate::section::RecordSection;
 use domain_parsed::ParsedName;
 use domain_record::ParsedRecord;
 use domain_traits::ToName;
 use domain_wire::parse::Parse;
 use octseq::Octets;
+use std::marker::Brand;
+use std::sync::ledger::{Blank, Ledger};
 
 /// The type of a CNAME record (RFC 1035, 3.2.2).
 const CNAME: u16 = 5;
@@ -42,14 +45,17 @@ fn alias_of<'a>(
     Some(target)
 }
 
-/// Returns the target of the first CNAME record of this name among the records that are left.
-fn first_alias<'a>(
+/// Returns the target of the first CNAME record of this name among the records that are left, in one pass over them.
+fn first_alias<'a, L: Ledger>(
     records: RecordSection<'a>,
     name: &ParsedName<&'a [u8]>,
+    passes: &mut Passes<L>,
 ) -> Option<ParsedName<&'a [u8]>>
     ensures some { IfSome result (FirstLeadsTo records.entry name.now) }
     ensures none { IsNone result → GivesAlias records.entry (parsed_labels name.now) None }
+    ensures one_pass { passes.new ≡ passes.old + 1 }
 {
+    passes.count();
     for item in records {
         let Ok(found) = item else {
             return None;
@@ -63,14 +69,17 @@ fn first_alias<'a>(
 }
 
 /// Returns the same, and how many CNAME records are left, of any name.
-fn first_alias_and_count<'a>(
+fn first_alias_and_count<'a, L: Ledger>(
     records: RecordSection<'a>,
     name: &ParsedName<&'a [u8]>,
+    passes: &mut Passes<L>,
 ) -> (Option<ParsedName<&'a [u8]>>, u16)
     ensures some { IfSome result.0 (FirstLeadsTo records.entry name.now) }
     ensures none { IsNone result.0 → GivesAlias records.entry (parsed_labels name.now) None }
     ensures count { GivesCnames records.entry result.1 }
+    ensures one_pass { passes.new ≡ passes.old + 1 }
 {
+    passes.count();
     let (mut parser, left) = records.left();
     let mut first = None;
     let mut count = 0;
@@ -91,17 +100,19 @@ fn first_alias_and_count<'a>(
 
 /// Follows CNAME records from a name to one that has none, with at most so many looks at the answers. `None` exactly if
 /// each look found one.
-fn end_of_chain<'a>(
+fn end_of_chain<'a, L: Ledger>(
     answers: RecordSection<'a>,
     from: ParsedName<&'a [u8]>,
     looks: u32,
+    passes: &mut Passes<L>,
 ) -> Option<ParsedName<&'a [u8]>>
     ensures some { IfSome result (ChainEndsAt answers.entry looks from.entry) }
     ensures none { IsNone result → LeadsOn answers.entry looks (parsed_labels from.entry) }
+    ensures few_passes { passes.new ≤ passes.old + looks }
 {
     let mut name = from;
     for _look in 0..looks {
-        match first_alias(answers, &name) {
+        match first_alias(answers, &name, passes) {
             Some(target) => name = target,
             None => return Some(name),
         }
@@ -143,12 +154,38 @@ impl<Octs: Octets> Message<Octs> {
         ensures some { IfSome result (HasCanonicalName self.now) }
         ensures none { IsNone result → HasNoCanonicalName self.now }
     {
+        self.canonical_name_with::<Brand>(Blank::new(1))
+    }
+
+    /// `canonical_name_counted` with a new count, which is dropped: only a function that is generic over ledgers can
+    /// begin one.
+    fn canonical_name_with<L: Ledger>(&self, blank: Blank) -> Option<ParsedName<&[u8]>>
+        requires ledger { blank.name ≡ L.name }
+        requires parts { blank.parts ≡ L.parts }
+        requires more { 0 < blank.parts }
+        ensures some { IfSome result (HasCanonicalName self.now) }
+        ensures none { IsNone result → HasNoCanonicalName self.now }
+    {
+        self.canonical_name_counted(&mut Passes::<L>::new(blank))
+    }
+
+    /// The same as `canonical_name`, and counts in `passes`, which contracts alone see, how often the answers are read.
+    /// The count grows by at most one more than there are CNAME records among the answers, up to the first answer that
+    /// is missing, however many the header counts; and by none where there is no question, or one is missing.
+    pub fn canonical_name_counted<L: Ledger>(
+        &self,
+        passes: &mut Passes<L>,
+    ) -> Option<ParsedName<&[u8]>>
+        ensures some { IfSome result (HasCanonicalName self.now) }
+        ensures none { IsNone result → HasNoCanonicalName self.now }
+        ensures few_passes { PassesFew self.now passes.old passes.new }
+    {
         let Some((answers, name)) = self.asked() else {
             return None;
         };
-        let (first, count) = first_alias_and_count(answers, &name);
+        let (first, count) = first_alias_and_count(answers, &name, passes);
         match first {
-            Some(target) => end_of_chain(answers, target, u32::from(count)),
+            Some(target) => end_of_chain(answers, target, u32::from(count), passes),
             None => Some(name),
         }
     }
@@ -162,9 +199,34 @@ impl<Octs: Octets> Message<Octs> {
         ensures some { IfSome result (HasCanonicalNameWithin self.now limit) }
         ensures none { IsNone result → HasNoCanonicalNameWithin self.now limit }
     {
+        self.limited_name_with::<Brand>(limit, Blank::new(1))
+    }
+
+    /// `canonical_name_with_limit_counted` with a new count, which is dropped.
+    fn limited_name_with<L: Ledger>(&self, limit: u16, blank: Blank) -> Option<ParsedName<&[u8]>>
+        requires ledger { blank.name ≡ L.name }
+        requires parts { blank.parts ≡ L.parts }
+        requires more { 0 < blank.parts }
+        ensures some { IfSome result (HasCanonicalNameWithin self.now limit) }
+        ensures none { IsNone result → HasNoCanonicalNameWithin self.now limit }
+    {
+        self.canonical_name_with_limit_counted(limit, &mut Passes::<L>::new(blank))
+    }
+
+    /// The same as `canonical_name_with_limit`, and counts in `passes`, which contracts alone see, how often the answers
+    /// are read. The count grows by at most one more than the limit.
+    pub fn canonical_name_with_limit_counted<L: Ledger>(
+        &self,
+        limit: u16,
+        passes: &mut Passes<L>,
+    ) -> Option<ParsedName<&[u8]>>
+        ensures some { IfSome result (HasCanonicalNameWithin self.now limit) }
+        ensures none { IsNone result → HasNoCanonicalNameWithin self.now limit }
+        ensures few_passes { passes.new ≤ passes.old + limit + 1 }
+    {
         let Some((answers, name)) = self.asked() else {
             return None;
         };
-        end_of_chain(answers, name, u32::from(limit) + 1)
+        end_of_chain(answers, name, u32::from(limit) + 1, passes)
     }
 }

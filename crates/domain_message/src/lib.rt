@@ -6,10 +6,12 @@ mod answering;
 pub mod kept;
 pub mod laws;
 pub mod message;
+pub mod passes;
 pub mod section;
 
 pub use domain_header::{Header, HeaderCounts, HeaderSection, Opcode, Rcode, ShortMessage};
 pub use kept::RecordIter;
 pub use laws::section_laws;
 pub use message::Message;
+pub use passes::Passes;
 pub use section::{QuestionSection, RecordSection, Section};

@@ -7,22 +7,22 @@ use Rattle.domain_message.proofs.alias.first_alias_and_count.Goals.{then-to_int-
 use Rattle.domain_message.proofs.alias.first_alias_and_count.Goals as goal
 
 pub returns-in_default-clause-some : goal.returns-in_default-clause-some
-returns-in_default-clause-some c =
+returns-in_default-clause-some g c =
     let at : IsAtSection c.args.records c.left-left.result.0 c.left-left.result.1 = record { octets = c.left-left.ensures.message; offset = c.left-left.ensures.offset; many = c.left-left.ensures.count } in
     found_some (λ t. parsed_labels t) c.args.records (parsed_labels c.args.name.now) c.loop-record.first (counting_missing c.args.records _ _ _ _ _ _ _ _ at c.loop-record.invariant c.in_default.ensures.err).0
 
 pub returns-in_default-clause-none : goal.returns-in_default-clause-none
-returns-in_default-clause-none c = λ none.
+returns-in_default-clause-none g c = λ none.
     let at : IsAtSection c.args.records c.left-left.result.0 c.left-left.result.1 = record { octets = c.left-left.ensures.message; offset = c.left-left.ensures.offset; many = c.left-left.ensures.count } in
     found_none (λ t. parsed_labels t) c.args.records (parsed_labels c.args.name.now) c.loop-record.first (counting_missing c.args.records _ _ _ _ _ _ _ _ at c.loop-record.invariant c.in_default.ensures.err).0 none
 
 pub returns-in_default-clause-count : goal.returns-in_default-clause-count
-returns-in_default-clause-count c =
+returns-in_default-clause-count g c =
     let at : IsAtSection c.args.records c.left-left.result.0 c.left-left.result.1 = record { octets = c.left-left.ensures.message; offset = c.left-left.ensures.offset; many = c.left-left.ensures.count } in
     (counting_missing c.args.records _ _ _ _ _ _ _ _ at c.loop-record.invariant c.in_default.ensures.err).1
 
 pub loop-record-preserved : goal.loop-record-preserved
-loop-record-preserved c =
+loop-record-preserved g c =
     let name = parsed_labels c.args.name.now in
     let first = c.loop-record.first in
     let count = c.loop-record.count in
@@ -40,19 +40,19 @@ loop-record-preserved c =
     ]
 
 pub returns-clause-some : goal.returns-clause-some
-returns-clause-some c =
+returns-clause-some g c =
     let at : IsAtSection c.args.records c.left-left.result.0 c.left-left.result.1 = record { octets = c.left-left.ensures.message; offset = c.left-left.ensures.offset; many = c.left-left.ensures.count } in
     let all : c.left-left.result.1 ≤ c.loop-record._record = omega (arith, c.loop-record-test.false) in
     found_some (λ t. parsed_labels t) c.args.records (parsed_labels c.args.name.now) c.loop-record.first (counting_all c.args.records _ _ _ _ _ _ _ at c.loop-record.invariant all).0
 
 pub returns-clause-none : goal.returns-clause-none
-returns-clause-none c = λ none.
+returns-clause-none g c = λ none.
     let at : IsAtSection c.args.records c.left-left.result.0 c.left-left.result.1 = record { octets = c.left-left.ensures.message; offset = c.left-left.ensures.offset; many = c.left-left.ensures.count } in
     let all : c.left-left.result.1 ≤ c.loop-record._record = omega (arith, c.loop-record-test.false) in
     found_none (λ t. parsed_labels t) c.args.records (parsed_labels c.args.name.now) c.loop-record.first (counting_all c.args.records _ _ _ _ _ _ _ at c.loop-record.invariant all).0 none
 
 pub returns-clause-count : goal.returns-clause-count
-returns-clause-count c =
+returns-clause-count g c =
     let at : IsAtSection c.args.records c.left-left.result.0 c.left-left.result.1 = record { octets = c.left-left.ensures.message; offset = c.left-left.ensures.offset; many = c.left-left.ensures.count } in
     let all : c.left-left.result.1 ≤ c.loop-record._record = omega (arith, c.loop-record-test.false) in
     (counting_all c.args.records _ _ _ _ _ _ _ at c.loop-record.invariant all).1

@@ -3,7 +3,7 @@ use Rattle.std.proofs.lemmas.Option.{IfSome_then}
 use Rattle.domain_parsed.specs.ParsedNames.{parsed_labels}
 use Rattle.domain_message.specs.Messages.{message_octets}
 use Rattle.domain_message.proofs.Aliases.{or_more, within_end, within_on}
-use Rattle.domain_message.proofs.message.Message.canonical_name_with_limit.Goals as goal
+use Rattle.domain_message.proofs.message.Message.canonical_name_with_limit_counted.Goals as goal
 
 pub returns-in_default-clause-none : goal.returns-in_default-clause-none
 returns-in_default-clause-none g c = λ _. or_more (c.in_default.ensures.none refl)
