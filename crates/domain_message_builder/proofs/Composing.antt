@@ -22,15 +22,15 @@ composed_after May t u (x ∷ xs) all =
     let rest = composed_after May (t ++ all.0) u xs all.2 in
     (all.0 ++ rest.0, rest.1 ∙ append_assoc t all.0 rest.0)
 
--- The same entries may be composed after another header of twelve octets.
-pub composed_under : {V : Type 0} (May : V → List ℕ → List ℕ → Type 0) (h : List ℕ) → ((x : V) (b s : List ℕ) → May x (blank_header ++ b) s → May x (h ++ b) s)
-    → (xs : List V) (t b u : List ℕ) → t ≡ blank_header ++ b → Composed May t xs u → (c : List ℕ) × (u ≡ blank_header ++ c) × Composed May (h ++ b) xs (h ++ c)
-composed_under May h any [] t b u begins all = (b, all ∙ begins, refl)
-composed_under May h any (x ∷ xs) t b u begins all =
+-- The same entries stand after another header of twelve octets, as `Under` tells each of them.
+pub composed_under : {V : Type 0} (May Under : V → List ℕ → List ℕ → Type 0) (h : List ℕ) → ((x : V) (b s : List ℕ) → May x (blank_header ++ b) s → Under x (h ++ b) s)
+    → (xs : List V) (t b u : List ℕ) → t ≡ blank_header ++ b → Composed May t xs u → (c : List ℕ) × (u ≡ blank_header ++ c) × Composed Under (h ++ b) xs (h ++ c)
+composed_under May Under h any [] t b u begins all = (b, all ∙ begins, refl)
+composed_under May Under h any (x ∷ xs) t b u begins all =
     let s = all.0 in
     let next : t ++ s ≡ blank_header ++ (b ++ s) = ap (λ o. o ++ s) begins ∙ append_assoc blank_header b s in
-    let rest = composed_under May h any xs (t ++ s) (b ++ s) u next all.2 in
-    (rest.0, rest.1, (s, any x b s (subst (λ o. May x o s) begins all.1), subst (λ o. Composed May o xs (h ++ rest.0)) (sym (append_assoc h b s)) rest.2))
+    let rest = composed_under May Under h any xs (t ++ s) (b ++ s) u next all.2 in
+    (rest.0, rest.1, (s, any x b s (subst (λ o. May x o s) begins all.1), subst (λ o. Composed Under o xs (h ++ rest.0)) (sym (append_assoc h b s)) rest.2))
 
 pub question_under : (c : Bool) (h : List ℕ) → length h ≡ 12 → (q : QuestionFields) (b s : List ℕ) → QuestionMay c q (blank_header ++ b) s → QuestionMay c q (h ++ b) s
 question_under c h twelve q b s may = record {

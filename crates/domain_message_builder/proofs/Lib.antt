@@ -5,6 +5,7 @@ pub mod Cutting
 pub mod Ending
 pub mod Finishing
 pub mod Ordering
+pub mod Pointing
 pub mod Pushing
 pub mod ReadingBack
 pub mod Rewinding

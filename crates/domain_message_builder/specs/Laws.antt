@@ -1,5 +1,5 @@
 -- The statements of the laws for callers.
-use Rattle.std.specs.Prelude.{◌≡◌, ℕ, Bool, List, [], ◌∷◌, ◌++◌, ◌+◌, length, drop, ⊤}
+use Rattle.std.specs.Prelude.{◌≡◌, ℕ, Bool, List, [], ◌∷◌, ◌++◌, ◌+◌, ◌<◌, ◌≤◌, length, drop, ⊤}
 use Rattle.domain_label.specs.Lowercase.{lowercase_labels}
 use Rattle.domain_header.specs.Numbers.{number16}
 use Rattle.domain_header.specs.declared.flags.Header.{Header}
@@ -8,9 +8,13 @@ use Rattle.domain_message.specs.Runs.{Given}
 use Rattle.domain_message.specs.Sections.{QuestionsTo, AnswersTo, AuthorityTo, RecordsTo}
 use Rattle.domain_message.specs.declared.section.Section.TheVariants.{Additional}
 use Rattle.domain_rdata.specs.RecordData.{NameOctets}
-use Rattle.domain_message_builder.specs.Contents.{blank_header, PushedRecord, Content}
+use Rattle.domain_reading.specs.Grammar.{Reads}
+use Rattle.domain_message_builder.specs.Contents.{blank_header, PushedRecord, Content, Holds}
+use Rattle.domain_message_builder.specs.Finished.{finished_octets}
 use Rattle.domain_message_builder.specs.Members.{ReadBackMembers}
-use Rattle.domain_message_builder.specs.Reading.{IsMessageOf}
+use Rattle.domain_message_builder.specs.Pointers.{PointsBehind, EntryPointsBehind}
+use Rattle.domain_message_builder.specs.Reading.{IsMessageOf, QuestionReadAt, RecordReadAt, EntriesAt}
+use Rattle.domain_message_builder.specs.State.{State}
 
 -- As many of the one as of the other, and each is like the one with the same number.
 abbrev pub Alike : {A B : Type 0} → (A → B → Type 0) → List A → List B → Type 0
@@ -61,6 +65,23 @@ IsSeenAfter {Seen} At Alike t s = (it : Seen) × At (t ++ s) (length t) it (leng
 -- What may be composed for a name after a blank header may be after any header of twelve octets.
 abbrev pub NamesUnderAnyHeader : Type 0
 NamesUnderAnyHeader = (h b s : List ℕ) (ls : List (List ℕ)) (compresses : Bool) → length h ≡ 12 → NameOctets ls compresses (blank_header ++ b) s → NameOctets ls compresses (h ++ b) s
+
+-- While the header is blank no name is read at any of its twelve octets (RFC 1035, 4.1.1 and 4.1.4).
+abbrev pub NoNameInHeader : Type 0
+NoNameInHeader = (b : List ℕ) (p k : ℕ) (ls : List (List ℕ)) → p < 12 → Reads (blank_header ++ b) p k ls → ⊥
+
+-- So no pointer leads into the header: where a name is read behind a blank header, the one that is read there under any
+-- header is read through pointers to offsets of 12 or more alone.
+abbrev pub NoPointerIntoHeader : Type 0
+NoPointerIntoHeader = (h b : List ℕ) (p k : ℕ) (ls : List (List ℕ)) → length h ≡ 12 → 12 ≤ p → Reads (blank_header ++ b) p k ls → PointsBehind 12 (h ++ b) p
+
+-- So is each name that may be composed after a blank header, in an entry or in data, whatever octets u follow it.
+abbrev pub NamesPointBehindHeader : Type 0
+NamesPointBehindHeader = (h b s u : List ℕ) (ls : List (List ℕ)) (compresses : Bool) → length h ≡ 12 → NameOctets ls compresses (blank_header ++ b) s → PointsBehind 12 (h ++ b ++ s ++ u) (length (h ++ b))
+
+-- And in a message that was finished so is the name of each question and each owner's, from offset 12 to the end.
+abbrev pub EntriesPointBehindHeader : Type 0
+EntriesPointBehindHeader = (compresses : Bool) (s : State) (it : Content) → Holds compresses s it → EntriesAt (EntryPointsBehind 12 QuestionReadAt) (EntryPointsBehind 12 RecordReadAt) it (finished_octets s)
 
 -- Whatever the header is: octets that data may be composed into after a blank header, and octets behind that, are read as what is like
 -- the data where they stand in the message. `May compresses t s`: it may be composed into s after t.

@@ -11,6 +11,7 @@ pub mod Laws
 pub mod Members
 pub mod Opt
 pub mod OptViews
+pub mod Pointers
 pub mod Pushes
 pub mod Reading
 pub mod Refusals
