@@ -1,6 +1,6 @@
 -- What a target becomes where an entry is appended up to a limit. `g` is `Target.Composer`, `labels` tells the labels of a
 -- name, and `d` is `D.ComposeRecordData`.
-use Rattle.std.specs.Prelude.{ℕ, List}
+use Rattle.std.specs.Prelude.{◌≡◌, ℕ, List, []}
 use Rattle.domain_rdata.specs.Members.{ComposerMembers, DataMembers}
 use Rattle.domain_rdata.specs.ReadBack.{Appended}
 use Rattle.domain_rdata.specs.RecordData.{ComposeRefused}
@@ -8,7 +8,7 @@ use Rattle.domain_record.specs.LeftToTarget.{WritesQuestion, WritesRecord}
 pub use Rattle.domain_record.specs.Targets.{TakesQuestion, Takes}
 use Rattle.domain_record.specs.declared.question.Question.{Question}
 use Rattle.domain_record.specs.declared.resource_record.Record.{Record}
-use Rattle.domain_message_builder.specs.Contents.{AsksIn, RecordsIn}
+use Rattle.domain_message_builder.specs.Contents.{blank_header, AsksIn, RecordsIn}
 use Rattle.domain_message_builder.specs.Members.{head_of, data_octets_of}
 use Rattle.domain_message_builder.specs.Pushes.{asked}
 use Rattle.domain_message_builder.specs.Refusals.{NotBegun, QuestionNotAppended, RecordNotAppended}
@@ -19,6 +19,14 @@ use Rattle.domain_message_builder.specs.declared.error.StartError.{StartError}
 -- Why no message of at most so many octets was begun on the target.
 abbrev pub NotBegunOn : {T E : Type 0} → ComposerMembers T → T → ℕ → StartError E → Type 0
 NotBegunOn g target limit e = NotBegun (g.octets target) (g.capacity target) limit e
+
+-- The target became what it is by its own call for the twelve octets that stand for the header.
+abbrev pub BeginsOn : {T : Type 0} → ComposerMembers T → T → T → Type 0
+BeginsOn g target made = g.extends target blank_header made
+
+-- It became so where it had no octets.
+abbrev pub BeginsOnNew : {T : Type 0} → ComposerMembers T → T → Type 0
+BeginsOnNew {T = T} g made = (empty : T) × (g.octets empty ≡ []) × BeginsOn g empty made
 
 -- Octets that the question may be composed into were appended.
 abbrev pub AppendsQuestion : {T N : Type 0} → ComposerMembers T → (N → List (List ℕ)) → Question N → T → T → Type 0

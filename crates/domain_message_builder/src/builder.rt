@@ -1,11 +1,11 @@
 //! A builder of messages.
-ghost use Rattle.std.specs.Prelude.{◌≡◌, ◌≤◌, ◌<◌, ◌+◌, ◌↔◌, true, length, take, IfOk, IfErr, IsErr, OnOk, OnErr};
+ghost use Rattle.std.specs.Prelude.{◌≡◌, ◌≤◌, ◌<◌, ◌+◌, ◌↔◌, true, length, take, IfOk, IfErr, IsOk, IsErr, IfSome, OnOk, OnErr};
 ghost use Rattle.std.proofs.Props.{props};
 ghost use Rattle.domain_message_builder.specs.Contents.{blank_header};
 ghost use Rattle.domain_message_builder.specs.Errors.{IsEarly};
 ghost use Rattle.domain_message_builder.specs.Finished.{finished_octets};
 ghost use Rattle.domain_message_builder.specs.SectionStarts.{IsInOrder};
-ghost use Rattle.domain_message_builder.specs.Targets.{NotBegunOn};
+ghost use Rattle.domain_message_builder.specs.Targets.{NotBegunOn, BeginsOn, BeginsOnNew};
 
 use crate::appending::{append_question, append_record};
 use crate::counting::{
@@ -19,7 +19,8 @@ use domain_list::AbsoluteLabels;
 use domain_message::Section;
 use domain_rdata::{ComposeRecordData, Composer, RecordData};
 use domain_record::{Question, Record};
-use octseq::{Octets, OctetsBuilder, OctetsMut, Truncate};
+use octseq::{EmptyBuilder, Octets, OctetsBuilder, OctetsMut, ShortBuf, Truncate};
+use std::alloc::Global;
 
 /// A message that is built: questions, and then the records of the three sections, in their order (RFC 1035, 4.1).
 ///
@@ -41,15 +42,42 @@ pub struct MessageBuilder<Target: Composer> {
     ghost ordered: { IsInOrder starts (length (Target.octets target)) } by { Prim.hlevel props },
 }
 
-impl<Target: Composer + Drop> MessageBuilder<Target> {
+impl<Target: Composer + EmptyBuilder + Drop> MessageBuilder<Target> {
     ghost use Rattle.domain_message_builder.specs.Builders.{state, target_room};
     ghost use Rattle.domain_message_builder.specs.Pushes.{IsBegun};
+    ghost use Rattle.domain_message_builder.specs.Views.{target_of};
+
+    /// Begins a message of at most 65,535 octets in a new target, as `from_target` does in an empty one.
+    ///
+    /// `ShortBuf` only where twelve octets, the header's, exceed the room that is fixed for the target's type, or, where
+    /// none is fixed, an allocation failed.
+    pub fn new(alloc: Global) -> Result<Self, ShortBuf>
+        ensures ok { IfOk result (λ it. IsBegun Target.compresses 65535 (state it)) }
+        ensures written { IfOk result (λ it. BeginsOnNew Target.Composer (target_of it)) }
+        ensures room { IfSome Target.ROOM (λ n. 12 ≤ n → IsOk result) }
+        ensures capacity { IfSome Target.ROOM (λ n. IfOk result (λ it. n ≤ target_room it)) }
+    {
+        match MessageBuilder::from_target(Target::empty(alloc)) {
+            Ok(begun) => Ok(begun),
+            Err(_refused) => Err(ShortBuf),
+        }
+    }
+}
+
+impl<Target: Composer + Drop> MessageBuilder<Target> {
+    ghost use Rattle.domain_message_builder.specs.Builders.{state, target_room, target_memory};
+    ghost use Rattle.domain_message_builder.specs.Pushes.{IsBegun};
+    ghost use Rattle.domain_message_builder.specs.Views.{target_of};
     ghost use Rattle.domain_message_builder.specs.declared.error.StartError.TheVariants.{NotEmpty, ShortLimit};
 
     /// Begins a message of at most 65,535 octets, as `with_limit` does.
     pub fn from_target(target: Target) -> Result<Self, StartError<Target::AppendError>>
         ensures ok { IfOk result (λ it. IsBegun Target.compresses 65535 (state it)) }
+        ensures written { IfOk result (λ it. BeginsOn Target.Composer target (target_of it)) }
+        ensures memory { IfOk result (λ it. target_memory it ≡ Target.memory target) }
         ensures why { IfErr result (NotBegunOn Target.Composer target 65535) }
+        ensures room { length (Target.octets target) ≡ 0 → 12 ≤ Target.capacity target
+            → IsOk result }
         ensures capacity { IfOk result (λ it. Target.capacity target ≤ target_room it) }
         ensures not_empty { 0 < length (Target.octets target) → IsErr result }
         ensures first { 0 < length (Target.octets target) → result ≡ Err NotEmpty }
@@ -60,10 +88,14 @@ impl<Target: Composer + Drop> MessageBuilder<Target> {
     /// Begins a message of at most `limit` octets, with a header of zeros.
     ///
     /// `NotEmpty` exactly if the target isn't empty, else `ShortLimit` exactly if the limit is below the twelve octets of
-    /// the header, and else `Append` only if the target has no room for these.
+    /// the header, and else `Append` only if the target has no room for these. The target is then dropped.
     pub fn with_limit(target: Target, limit: u16) -> Result<Self, StartError<Target::AppendError>>
         ensures ok { IfOk result (λ it. IsBegun Target.compresses limit (state it)) }
+        ensures written { IfOk result (λ it. BeginsOn Target.Composer target (target_of it)) }
+        ensures memory { IfOk result (λ it. target_memory it ≡ Target.memory target) }
         ensures why { IfErr result (NotBegunOn Target.Composer target limit) }
+        ensures room { length (Target.octets target) ≡ 0 → 12 ≤ limit
+            → 12 ≤ Target.capacity target → IsOk result }
         ensures capacity { IfOk result (λ it. Target.capacity target ≤ target_room it) }
         ensures short { limit < 12 → IsErr result }
         ensures not_empty { 0 < length (Target.octets target) → IsErr result }
@@ -306,6 +338,8 @@ impl<Target: Composer> MessageBuilder<Target> {
     pub fn finish(self) -> Target
         ensures message { FinishesAs self (Target.octets result) }
         ensures octets { Target.octets result ≡ finished_octets (state self) }
+        ensures target { result ≡
+            Target.with_octets (target_of self) (finished_octets (state self)) }
         ensures memory { Target.memory result ≡ Target.memory (target_of self) }
         ensures within { length (Target.octets result) ≤ (state self).limit }
     {

@@ -3,6 +3,7 @@ ghost use Rattle.std.specs.Prelude.{◌≡◌, ◌≤◌, ◌<◌, ◌+◌, leng
 ghost use Rattle.domain_message_builder.specs.Builders.{state, message_len, FinishesAs};
 ghost use Rattle.domain_message_builder.specs.Finished.{finished_octets};
 ghost use Rattle.domain_message_builder.specs.Streams.{Streams, StreamsFrom, StreamFull};
+ghost use Rattle.domain_message_builder.specs.Views.{target_of};
 
 use crate::builder::MessageBuilder;
 use domain_rdata::Composer;
@@ -47,6 +48,8 @@ impl<Target: Composer + Drop> MessageBuilder<Target> {
             (StreamsFrom Stream.octets Target.octets stream.old stream.new) }
         ensures message { IfOk result (λ made. FinishesAs self (Target.octets made)) }
         ensures octets { IfOk result (λ made. Target.octets made ≡ finished_octets (state self)) }
+        ensures target { IfOk result (λ made. made ≡
+            Target.with_octets (target_of self) (finished_octets (state self))) }
         ensures within { IfOk result (λ made. length (Target.octets made) ≤ (state self).limit) }
         ensures unchanged { OnErr result (Stream.octets stream.new ≡ Stream.octets stream.old) }
         ensures full { OnErr result (Stream.capacity stream.old < length
