@@ -1,20 +1,24 @@
 -- The header of an answer, and its question.
-use Rattle.std.proofs.Common.{◌≡◌, ℕ, ◌<◌, inl, inr, Bool, List, slice_index, refl, sym, ap, subst, arith, ◌∙◌}
+use Rattle.std.proofs.Common.{◌≡◌, ℕ, ◌-◌, ◌<◌, inl, inr, Bool, List, slice_index, refl, sym, ap, subst, arith, ◌∙◌}
 use Rattle.std.specs.Prelude.{true, false, IsTrue, ◌↔◌}
 use Rattle.std.proofs.lemmas.Bool.{false≢true}
 use Rattle.domain_header.specs.Bits.{bit, bits, bit_of, SetsBits}
 use Rattle.domain_record.specs.Composing.{type_and_class}
 use Rattle.domain_record.specs.Entries.{QuestionFields}
 use Rattle.domain_record.specs.LeftToTarget.{NameThen}
+use Rattle.domain_record.specs.MayCompose.{IsNameThen}
+use Rattle.domain_record.specs.Readings.{question_reading}
+use Rattle.domain_rdata.specs.ReadBack.{Exceeds}
 use Rattle.domain_header.specs.Numbers.{number16}
 use Rattle.domain_header.specs.declared.flags.Header.{Header}
-use Rattle.domain_message_builder.specs.Answers.{IsAnswerHeader, AnswersHeaderOf, HasNoQuestion, BeginsWithQuestion, RepeatsQuestion, StartsAnswer, NotStarted, CannotAsk, StartsError}
+use Rattle.domain_message_builder.specs.Answers.{IsAnswerHeader, AnswersHeaderOf, HasQuestion, HasNoQuestion, DoesNotFit, BeginsWithQuestion, RepeatsQuestion, StartsAnswer, NotStarted, CannotAsk, StartsError}
 use Rattle.domain_message_builder.specs.Answers.StartsAnswer.{repeats, nothing}
 use Rattle.domain_message_builder.specs.Answers.RepeatsQuestion.{repeats as given}
 use Rattle.domain_message_builder.specs.Answers.StartsError.{bare}
 use Rattle.domain_message_builder.specs.Pushes.{with_header, PushesQuestion}
 use Rattle.domain_message_builder.specs.Refusals.{QuestionRefused}
 use Rattle.domain_message_builder.specs.State.{State}
+use Rattle.domain_message_builder.specs.Tight.{Surpasses, RefusedAsWritten}
 use Rattle.domain_message_builder.specs.declared.error.PushError.{PushError}
 use Rattle.domain_message_builder.specs.declared.error.PushError.TheVariants.{Append, Long, Count, Limit, Order}
 
@@ -119,3 +123,17 @@ bare_after c m rcode old mid new h capacity room e is set stays same q begins wh
 -- the target was given the question, whose header was set before
 pub given_after : {T : Type 0} (extends : T → List ℕ → T → Type 0) (appends : T → List (List ℕ) → T → Type 0) (m : List ℕ) (old mid new : T) (q : QuestionFields) → BeginsWithQuestion m q → mid ≡ old → NameThen extends (λ c d. appends c q.name d) (type_and_class q.rtype q.class) mid new → RepeatsQuestion extends appends m old new
 given_after extends appends m old mid new q begins same writes = given q begins (subst (λ t. NameThen extends (λ c d. appends c q.name d) (type_and_class q.rtype q.class) t new) same writes)
+
+-- a message has a first question, or none
+pub asks_or_not : (m : List ℕ) → HasQuestion m → HasNoQuestion m → ⊥
+asks_or_not m (q, begins) (inl none) = omega (arith, begins.counted, none)
+asks_or_not m (q, begins) (inr (why, missing)) = question_reading.not_both m 12 q begins.end why begins.at missing
+
+-- the question has no room, whatever the header
+pub does_not_fit : {T E : Type 0} (octets : T → List ℕ) (capacity : T → ℕ) (may : T → List (List ℕ) → List ℕ → Type 0) (extends : T → List ℕ → T → Type 0) (appends : T → List (List ℕ) → T → Type 0) (m : List ℕ) (h : Header) (old : T) (mid : T) (before after : State) (q : QuestionFields) (e : PushError E)
+    → mid ≡ old → after ≡ with_header h before → BeginsWithQuestion m q
+    → RefusedAsWritten (λ _. Exceeds (IsNameThen (may mid q.name) (type_and_class q.rtype q.class)) (octets mid) (capacity mid)) (Surpasses octets (NameThen extends (λ c d. appends c q.name d) (type_and_class q.rtype q.class)) mid (after.limit - after.reserved)) e
+    → DoesNotFit octets capacity may extends appends m (before.limit - before.reserved) old e
+does_not_fit {T = T} octets capacity may extends appends m h old mid before after q e same set begins refused =
+    let At : T → ℕ → Type 0 = λ t n. RefusedAsWritten (λ _. Exceeds (IsNameThen (may t q.name) (type_and_class q.rtype q.class)) (octets t) (capacity t)) (Surpasses octets (NameThen extends (λ c d. appends c q.name d) (type_and_class q.rtype q.class)) t n) e in
+    (q, begins, subst (λ n. At old n) (ap (λ s. s.limit - s.reserved) set) (subst (λ t. At t (after.limit - after.reserved)) same refused))

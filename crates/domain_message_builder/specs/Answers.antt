@@ -9,12 +9,14 @@ use Rattle.domain_header.specs.declared.flags.Header.{Header}
 use Rattle.domain_record.specs.Composing.{type_and_class}
 use Rattle.domain_record.specs.Entries.{QuestionFields, QuestionAt, NoQuestion}
 use Rattle.domain_record.specs.LeftToTarget.{NameThen}
+use Rattle.domain_record.specs.MayCompose.{IsNameThen}
 use Rattle.domain_wire.specs.declared.error.ParseError.{ParseError}
 use Rattle.domain_rdata.specs.ReadBack.{Exceeds}
 use Rattle.domain_message_builder.specs.Contents.{AsksIn}
 use Rattle.domain_message_builder.specs.Pushes.{with_header, record_count, PushesQuestion}
 use Rattle.domain_message_builder.specs.Refusals.{QuestionRefused}
 use Rattle.domain_message_builder.specs.State.{State}
+use Rattle.domain_message_builder.specs.Tight.{Surpasses, RefusedAsWritten}
 use Rattle.domain_message_builder.specs.declared.error.PushError.{PushError}
 
 -- The header of an answer to a query that has this identifier and these two octets of flags: the opcode, RD and CD are those
@@ -56,6 +58,25 @@ pub record BeginsWithQuestion (m : List ℕ) (q : QuestionFields) : Type 0 where
 pub data RepeatsQuestion {T : Type 0} (extends : T → List ℕ → T → Type 0) (appends : T → List (List ℕ) → T → Type 0) (m : List ℕ) (old new : T) : Type 0 where
   repeats : (q : QuestionFields) → BeginsWithQuestion m q → NameThen extends (λ c d. appends c q.name d) (type_and_class q.rtype q.class) old new → RepeatsQuestion extends appends m old new
   nothing : HasNoQuestion m → new ≡ old → RepeatsQuestion extends appends m old new
+
+-- The message has a first question.
+abbrev pub HasQuestion : List ℕ → Type 0
+HasQuestion m = (q : QuestionFields) × BeginsWithQuestion m q
+
+-- The first question of the message, if it was composed, has no room in the target, or the message would have more octets
+-- than `most`, as the target writes it: the name as the question has it, and four octets (RFC 1035, 4.1.2 and 4.1.4).
+-- `may` tells what a target may append for a name.
+abbrev pub DoesNotFit : {T E : Type 0} → (T → List ℕ) → (T → ℕ) → (T → List (List ℕ) → List ℕ → Type 0) → (T → List ℕ → T → Type 0) → (T → List (List ℕ) → T → Type 0) → List ℕ → ℕ → T → PushError E → Type 0
+DoesNotFit octets capacity may extends appends m most old e =
+    (q : QuestionFields) × BeginsWithQuestion m q
+    × RefusedAsWritten (λ _. Exceeds (IsNameThen (may old q.name) (type_and_class q.rtype q.class)) (octets old) (capacity old))
+    (Surpasses octets (NameThen extends (λ c d. appends c q.name d) (type_and_class q.rtype q.class)) old most) e
+
+-- The target was given the question; or it was refused, and the target has the octets that it had, and remembers the names that
+-- it did.
+pub data GivenOrRefused {T M : Type 0} (octets : T → List ℕ) (memory : T → M) (given refused : Type 0) (old new : T) : Type 0 where
+  was_given : given → GivenOrRefused octets memory given refused old new
+  was_refused : refused → octets new ≡ octets old → memory new ≡ memory old → GivenOrRefused octets memory given refused old new
 
 -- An answer to the message was begun: its header was set, and its first question was pushed, if it has one.
 pub data StartsAnswer (compresses : Bool) (m : List ℕ) (rcode : ℕ) (old new : State) : Type 0 where

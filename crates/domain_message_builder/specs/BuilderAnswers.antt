@@ -1,6 +1,6 @@
 -- What contracts say of a builder of an answer, and of its OPT record. `g` to `l` are as in `Builders`, and `m` is what `Octets`
 -- tells of the query or of the options.
-use Rattle.std.specs.Prelude.{ℕ, List, Option, Result, option_copied}
+use Rattle.std.specs.Prelude.{◌≡◌, ℕ, List, ◌++◌, Option, Result, option_copied}
 use denote.Bor.{Bor}
 use Rattle.octseq.specs.declared.octets.Octets.{Ghosts}
 use Rattle.domain_header.specs.Values.{rcode_number}
@@ -8,10 +8,13 @@ use Rattle.domain_header.specs.declared.code.Rcode.{Rcode}
 use Rattle.domain_message.specs.Messages.{message_octets}
 use Rattle.domain_message.specs.declared.message.Message.{Message}
 use Rattle.domain_message_builder.specs.Answers.{StartsAnswer, StartsError, NotStarted, RepeatsQuestion}
+use Rattle.domain_message_builder.specs.Answers.{HasQuestion, HasNoQuestion, DoesNotFit, GivenOrRefused}
+use Rattle.domain_message_builder.specs.BuilderEntries.{most_octets}
 use Rattle.domain_message_builder.specs.Builders.{state, target_room}
-use Rattle.domain_message_builder.specs.Cuts.{PushesOpt, OptRefused, CannotAddOpt, is_cut, EndsAnswer, NotEnded}
+use Rattle.domain_message_builder.specs.Cuts.{PushesOpt, WritesOpt, OptRefused, CannotAddOpt, is_cut, EndsAnswer, NotEnded}
 use Rattle.domain_message_builder.specs.Ends.{KeepsOpt, KeepsOpts, LosesOpt, LosesOpts}
 use Rattle.domain_message_builder.specs.Finished.{EndsIn}
+use Rattle.domain_message_builder.specs.Opt.{opt_record_octets}
 use Rattle.domain_message_builder.specs.OptViews.{opt_of, opt_given}
 use Rattle.domain_message_builder.specs.Views.{target_of}
 use Rattle.domain_message_builder.specs.declared.builder.MessageBuilder.{MessageBuilder}
@@ -43,10 +46,47 @@ abbrev pub LeavesQuery : {T E O : Type 0} {g : _} {h : _} {i : _} {j : _} {k : _
 LeavesQuery {g = g} {h = h} query old new =
     RepeatsQuestion h.extends g.appends (message_octets query) (target_of old) (target_of new)
 
+-- The query has a first question.
+abbrev pub QueryAsks : {O : Type 0} {m : Ghosts O} → Message O m → Type 0
+QueryAsks query = HasQuestion (message_octets query)
+
+-- It has none, or it is missing.
+abbrev pub QueryAsksNothing : {O : Type 0} {m : Ghosts O} → Message O m → Type 0
+QueryAsksNothing query = HasNoQuestion (message_octets query)
+
+-- If the query's question was composed, it has no room in the target, or surpasses the limit, as the target writes it.
+abbrev pub QueryDoesNotFit : {T E O : Type 0} {g : _} {h : _} {i : _} {j : _} {k : _} {l : _} {m : Ghosts O}
+    → Message O m → MessageBuilder T E g h i j k l → PushError E → Type 0
+QueryDoesNotFit {g = g} {h = h} {j = j} query b e =
+    DoesNotFit j.octets j.capacity g.may_append h.extends g.appends (message_octets query) (most_octets b) (target_of b) e
+
+-- A push of the query's question is refused, with an error that has its reason.
+abbrev pub QueryRefused : {T E O : Type 0} {g : _} {h : _} {i : _} {j : _} {k : _} {l : _} {m : Ghosts O}
+    → Message O m → MessageBuilder T E g h i j k l → Type 0
+QueryRefused {E = E} query b = (e : PushError E) × QueryNotAnswered query b e × QueryDoesNotFit query b e
+
+-- The target was given the query's question, if it has one; or that was refused, and the target has the octets that it had, and
+-- remembers the names that it did.
+abbrev pub LeavesQueryOrNone : {T E O : Type 0} {g : _} {h : _} {i : _} {j : _} {k : _} {l : _} {m : Ghosts O}
+    → Message O m → MessageBuilder T E g h i j k l → MessageBuilder T E g h i j k l → Type 0
+LeavesQueryOrNone {g = g} {j = j} query old new =
+    GivenOrRefused j.octets g.memory (LeavesQuery query old new) (QueryRefused query old) (target_of old) (target_of new)
+
 -- The OPT record was pushed as an additional record, and nothing is set aside any more.
 abbrev pub AddsOpt : {T E O : Type 0} {g : _} {h : _} {i : _} {j : _} {k : _} {l : _} {m : Ghosts O}
     → OptBuilder O m → MessageBuilder T E g h i j k l → MessageBuilder T E g h i j k l → Type 0
 AddsOpt {g = g} opt old new = PushesOpt g.compresses (opt_of opt) (state old) (state new)
+
+-- The message has the octets of the OPT record after those that it had.
+abbrev pub AppendsOpt : {T E O : Type 0} {g : _} {h : _} {i : _} {j : _} {k : _} {l : _} {m : Ghosts O}
+    → OptBuilder O m → MessageBuilder T E g h i j k l → MessageBuilder T E g h i j k l → Type 0
+AppendsOpt opt old new = (state new).octets ≡ (state old).octets ++ opt_record_octets (opt_of opt)
+
+-- The target became what it is by its own calls for the root, and for the octets of the OPT record after it.
+abbrev pub LeavesOpt : {T E O : Type 0} {g : _} {h : _} {i : _} {j : _} {k : _} {l : _} {m : Ghosts O}
+    → OptBuilder O m → MessageBuilder T E g h i j k l → MessageBuilder T E g h i j k l → Type 0
+LeavesOpt {g = g} {h = h} {i = i} {j = j} opt old new =
+    WritesOpt j.octets h.extends i.cuts g.appends (opt_of opt) (target_of old) (target_of new)
 
 -- Why the OPT record wasn't pushed.
 abbrev pub OptNotAdded : {T E O : Type 0} {g : _} {h : _} {i : _} {j : _} {k : _} {l : _} {m : Ghosts O}

@@ -2,10 +2,13 @@
 use Rattle.std.specs.Prelude.{◌≡◌, ℕ, ◌+◌, ◌<◌, ◌⊎◌, Bool, true, false, List, length, Option, None, Some, Result, Ok, Err}
 use Rattle.domain_header.specs.Headers.{SetsHigh, additional_count}
 use Rattle.domain_header.specs.declared.flags.Header.{Header}
+use Rattle.domain_label.specs.Wire.{Root}
 use Rattle.domain_message.specs.declared.section.Section.TheVariants.{Answer, Additional}
+use Rattle.domain_record.specs.Composing.{before_length}
+use Rattle.domain_record.specs.LeftToTarget.{NameThenData}
 use Rattle.domain_message_builder.specs.Contents.{PushedRecord, Content, Holds}
 use Rattle.domain_message_builder.specs.Errors.{is_for_room}
-use Rattle.domain_message_builder.specs.Opt.{Opt, opt_head}
+use Rattle.domain_message_builder.specs.Opt.{Opt, opt_head, packed_opt_ttl}
 use Rattle.domain_message_builder.specs.SectionStarts.{start_of}
 use Rattle.domain_message_builder.specs.Pushes.{with_header, with_reserved, record_added, emptied, PushesRecord, Rewinds}
 use Rattle.domain_message_builder.specs.Reading.{IsMessageOf}
@@ -20,6 +23,13 @@ OnlyOptions o before data_octets = data_octets ≡ o.options
 -- The OPT record was pushed into the additional section, and nothing is set aside any more.
 abbrev pub PushesOpt : Bool → Opt → State → State → Type 0
 PushesOpt compresses o old new = PushesRecord compresses Additional (opt_head o) (OnlyOptions o) (with_reserved 0 old) new
+
+-- The target was given the root by its own call for a name, and after it by its calls for octets the numbers of the OPT record, and
+-- the options with their length before them.
+abbrev pub WritesOpt : {T : Type 0} → (T → List ℕ) → (T → List ℕ → T → Type 0) → (T → ℕ → T → Type 0) → (T → List (List ℕ) → T → Type 0) → Opt → T → T → Type 0
+WritesOpt octets extends cuts appends o =
+    NameThenData octets extends cuts (λ c d. appends c Root d) (λ c d. extends c o.options d)
+    (before_length 41 o.udp_payload_size (packed_opt_ttl o.rcode_ext o.version o.dnssec_ok))
 
 -- Why it wasn't.
 abbrev pub OptRefused : {E : Type 0} → Bool → Opt → State → ℕ → PushError E → Type 0

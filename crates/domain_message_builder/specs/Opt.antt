@@ -1,8 +1,9 @@
 -- OPT records (RFC 6891).
-use Rattle.std.specs.Prelude.{◌≡◌, ℕ, ◌+◌, ◌*◌, ◌<◌, ◌≤◌, Bool, false, List, ◌++◌, length}
+use Rattle.std.specs.Prelude.{◌≡◌, ℕ, ◌+◌, ◌*◌, ◌<◌, ◌≤◌, Bool, false, List, ◌∷◌, ◌++◌, length}
 use Rattle.std.specs.Int.{w16, to_be_bytes}
 use Rattle.domain_header.specs.Bits.{bit_of}
 use Rattle.domain_label.specs.Wire.{Root}
+use Rattle.domain_record.specs.Composing.{before_length}
 use Rattle.domain_rdata.specs.declared.record_data.ComposeRdataError.{ComposeRdataError}
 use Rattle.domain_rdata.specs.declared.record_data.ComposeRdataError.TheVariants.{Append, Long}
 use Rattle.domain_message_builder.specs.Contents.{RecordHead}
@@ -47,6 +48,11 @@ packed_opt_ttl rcode_ext version dnssec_ok = rcode_ext * 16777216 + version * 65
 -- the record before the length of its options: the root, the type 41, the size in the place of the class (6.1.2)
 abbrev pub opt_head : Opt → RecordHead
 opt_head o = record { owner = Root; rtype = 41; class = o.udp_payload_size; ttl = packed_opt_ttl o.rcode_ext o.version o.dnssec_ok }
+
+-- the record in wire format: the octet 0 of the root, the type 41, the size, the TTL, the length of the options, and the
+-- options in their order (6.1.2)
+abbrev pub opt_record_octets : Opt → List ℕ
+opt_record_octets o = 0 ∷ (before_length 41 o.udp_payload_size (packed_opt_ttl o.rcode_ext o.version o.dnssec_ok) ++ (to_be_bytes w16 (length o.options) ++ o.options))
 
 -- an option: its code, the length of its data, and the data (6.1.2)
 abbrev pub option_octets : ℕ → List ℕ → List ℕ

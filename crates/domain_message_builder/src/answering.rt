@@ -1,8 +1,10 @@
 //! Messages that answer others.
-ghost use Rattle.std.specs.Prelude.{◌≡◌, ◌≤◌, true, IfErr, OnOk, OnErr};
+ghost use Rattle.std.specs.Prelude.{◌≡◌, ◌≤◌, true, IsOk, IfErr, OnOk, OnErr, Err};
 ghost use Rattle.domain_message_builder.specs.Answers.{AnswersHeader};
 ghost use Rattle.domain_message_builder.specs.BuilderAnswers.{AnswersQuery, AnswersInError, QueryNotAnswered, LeavesQuery};
+ghost use Rattle.domain_message_builder.specs.BuilderAnswers.{QueryAsks, QueryAsksNothing, QueryDoesNotFit, LeavesQueryOrNone};
 ghost use Rattle.domain_message_builder.specs.Builders.{state, target_room, target_memory, KeepsMemory};
+ghost use Rattle.domain_message_builder.specs.Builders.{HasRecords, HasNoRecords, HasMostQuestions};
 ghost use Rattle.domain_message_builder.specs.Errors.{IsEarly};
 ghost use Rattle.domain_message_builder.specs.Views.{target_of};
 
@@ -29,11 +31,14 @@ fn answer_header(query: Header, rcode: Rcode) -> Header
 }
 
 impl<Target: Composer> MessageBuilder<Target> {
+    ghost use Rattle.domain_message_builder.specs.declared.error.PushError.TheVariants.{Count, Order};
+
     /// Begins an answer to a query: sets the header, and pushes the query's first question as it stands there.
     ///
     /// The header has the identifier, the opcode and the bits RD and CD of the query, QR, this response code, and no
-    /// other bit. Where the query has no question, or it can't be read, none is pushed. The errors are those of
-    /// `push_question`. Nothing is then changed. The target is given the name with its case.
+    /// other bit. Where the query has no question, or it can't be read, none is pushed, and nothing is refused. The
+    /// errors are those of `push_question`, in its order. Nothing is then changed. The target is given the name with
+    /// its case.
     pub fn start_answer<Octs: Octets>(
         &mut self,
         query: &Message<Octs>,
@@ -44,6 +49,11 @@ impl<Target: Composer> MessageBuilder<Target> {
         ensures unchanged { OnErr result (state self.new ≡ state self.old) }
         ensures memory_unchanged { OnErr result (target_memory self.new ≡ target_memory self.old) }
         ensures why { IfErr result (QueryNotAnswered query.now self.old) }
+        ensures tight { IfErr result (QueryDoesNotFit query.now self.old) }
+        ensures none { QueryAsksNothing query.now → IsOk result }
+        ensures order { HasRecords self.old → QueryAsks query.now → result ≡ Err Order }
+        ensures count { HasNoRecords self.old → HasMostQuestions self.old → QueryAsks query.now
+            → result ≡ Err Count }
         ensures written { OnOk result (LeavesQuery query.now self.old self.new) }
         ensures early { IfErr result
             (λ e. IsEarly e → target_of self.new ≡ target_of self.old) }
@@ -62,9 +72,11 @@ impl<Target: Composer> MessageBuilder<Target> {
     }
 
     /// Begins an answer as `start_answer` does, but for the question where that is refused. It is for errors, which are
-    /// told even so.
+    /// told even so. Only where no question can be pushed, or it has no room as the target writes it, is it left out;
+    /// but for the header nothing is then changed, nor what the target remembers.
     pub fn start_error<Octs: Octets>(&mut self, query: &Message<Octs>, rcode: Rcode)
         ensures starts { AnswersInError query.now rcode self.old self.new }
+        ensures written { LeavesQueryOrNone query.now self.old self.new }
         ensures memory { KeepsMemory self.old self.new }
         ensures capacity { target_room self.old ≤ target_room self.new }
     {

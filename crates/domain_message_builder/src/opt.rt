@@ -119,6 +119,7 @@ fn append_option<Octs: OctetsBuilder>(
     ensures unchanged { OnErr result (Octs.octets options.new ≡ Octs.octets options.old) }
     ensures full { OnErr result
         (OptionsAreFull Octs.capacity Octs.octets octets.now options.old) }
+    ensures capacity { Octs.capacity options.old ≤ Octs.capacity options.new }
 {
     let start = options.as_slice().len();
     let [a, b] = code.to_be_bytes();
@@ -135,7 +136,7 @@ fn append_option<Octs: OctetsBuilder>(
 
 impl<Octs: OctetsBuilder> OptBuilder<Octs> {
     ghost use Rattle.domain_message_builder.specs.Opt.{with_option};
-    ghost use Rattle.domain_message_builder.specs.OptViews.{opt_of, OptionNotAdded};
+    ghost use Rattle.domain_message_builder.specs.OptViews.{opt_of, options_room, OptionNotAdded};
 
     /// Pushes an option of this code, or nothing (6.1.2).
     ///
@@ -149,6 +150,7 @@ impl<Octs: OctetsBuilder> OptBuilder<Octs> {
         ensures ok { OnOk result (opt_of self.new ≡ with_option code octets.now (opt_of self.old)) }
         ensures unchanged { OnErr result (opt_of self.new ≡ opt_of self.old) }
         ensures why { IfErr result (OptionNotAdded octets.now self.old) }
+        ensures capacity { options_room self.old ≤ options_room self.new }
     {
         let len = self.options.as_slice().len();
         if octets.len() > 65535 || len + octets.len() > 65531 {

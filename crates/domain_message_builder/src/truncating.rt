@@ -2,7 +2,7 @@
 ghost use Rattle.std.specs.Prelude.{◌≡◌, ◌≤◌, true, false, length, IfOk, IfErr, OnOk, OnErr};
 ghost use Rattle.domain_message.specs.declared.section.Section.TheVariants.{Answer, Additional};
 ghost use Rattle.domain_header.specs.Headers.{SetsHigh};
-ghost use Rattle.domain_message_builder.specs.BuilderAnswers.{AddsOpt, OptNotAdded, HasNoRoomForOpt};
+ghost use Rattle.domain_message_builder.specs.BuilderAnswers.{AddsOpt, AppendsOpt, LeavesOpt, OptNotAdded, HasNoRoomForOpt};
 ghost use Rattle.domain_message_builder.specs.BuilderAnswers.{EndsWithOpt, EndsWithOpts, LeavesNoRoomFor, LeavesNoRoomForAny};
 ghost use Rattle.domain_message_builder.specs.BuilderAnswers.{EndsAs, ClosesIn, EndRefused};
 ghost use Rattle.domain_message_builder.specs.Builders.{state, target_room, target_memory, KeepsMemory, IsFull, CutsToSection};
@@ -34,13 +34,18 @@ impl<Target: Composer> MessageBuilder<Target> {
     /// Pushes an OPT record into the additional section, or nothing, into the octets that were set aside too: none are
     /// after it (RFC 6891, 6.1.1).
     ///
-    /// The errors are those of `push`, and only where the record has no room or 65,535 are there. Nothing is then changed.
+    /// The octets are the root, the type 41, the size, the TTL with the code, the version and the flags, the length of the
+    /// options, and the options in their order (6.1.2). The errors are those of `push`, and only where the record has no
+    /// room or 65,535 are there. Nothing is then changed.
     /// A message has one OPT record (6.1.1), so it is pushed once: whether one is there isn't looked at.
     pub fn push_opt<Octs: Octets>(
         &mut self,
         opt: &OptBuilder<Octs>,
     ) -> Result<(), PushError<Target::AppendError>>
         ensures ok { OnOk result (AddsOpt opt.now self.old self.new) }
+        ensures octets { OnOk result (AppendsOpt opt.now self.old self.new) }
+        ensures written { Target.compresses ≡ true →
+            OnOk result (LeavesOpt opt.now self.old self.new) }
         ensures memory { KeepsMemory self.old self.new }
         ensures unchanged { OnErr result (state self.new ≡ state self.old) }
         ensures memory_unchanged { OnErr result (target_memory self.new ≡ target_memory self.old) }
