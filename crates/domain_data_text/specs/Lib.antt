@@ -6,3 +6,4 @@ pub mod Strings
 pub mod Fields
 pub mod Data
 pub mod Faults
+pub mod FaultTexts

@@ -1,5 +1,6 @@
 //! Why words aren't taken.
 ghost use Rattle.std.specs.Prelude.{Some};
+ghost use Rattle.domain_data_text.specs.FaultTexts.{fault_text};
 
 use std::fmt;
 
@@ -68,6 +69,8 @@ pub enum Stop {
 }
 
 impl fmt::Display for Fault {
+    ghost output = { λ fault. Some (fault_text fault) };
+
     fn fmt<W: fmt::Write>(&self, f: &mut fmt::Formatter<W>) -> fmt::Result {
         match self {
             Fault::OpenQuote => write!(f, "a quote without a second one"),
