@@ -37,3 +37,22 @@ impl<'a> FlattenInto<AllRecordData<Vec<u8>, Name<Vec<u8>>>>
         self.try_flatten_into(alloc)
     }
 }
+
+/// The same as [`FlattenInto`]: names are made uncompressed and octets are copied; addresses stay.
+impl<'a> OctetsFrom<AllRecordData<&'a [u8], ParsedName<&'a [u8]>>>
+    for AllRecordData<Vec<u8>, Name<Vec<u8>>> {
+    type Error = ShortBuf;
+
+    ghost same = { λ source made. (all_type made ≡ all_type source)
+        × (all_held made ≡ all_held source) × ((lowercase : Bool) →
+        cased_octets name_labels made lowercase ≡ cased_octets parsed_labels source lowercase) };
+
+    ghost may_refuse = { owns_memory };
+
+    fn try_octets_from(
+        alloc: Global,
+        source: AllRecordData<&'a [u8], ParsedName<&'a [u8]>>,
+    ) -> Result<AllRecordData<Vec<u8>, Name<Vec<u8>>>, ShortBuf> {
+        source.try_flatten_into(alloc)
+    }
+}
