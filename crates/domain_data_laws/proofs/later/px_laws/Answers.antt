@@ -1,0 +1,14 @@
+use Rattle.std.specs.Prelude.{refl}
+use Rattle.domain_fields.specs.Names.{NameFieldAt}
+use Rattle.domain_data.specs.Shapes.{NamesAt, NoNumberNames, NumberNamesAt, number_names_data}
+use Rattle.domain_data.specs.Views.{fields_of}
+use Rattle.domain_data_laws.proofs.Fields.{last_whole_name, number16_before, whole_name_before}
+use Rattle.domain_data_laws.proofs.Reading.{fields_read_as}
+use Rattle.domain_data_laws.proofs.later.px_laws.Goals as goal
+
+pub returns-clause-read : goal.returns-clause-read
+returns-clause-read g c = λ it fits.
+    let labels = g.N.NameLabels.labels in
+    let absolute = g.met.N.Absolute.absolute in
+    let names = whole_name_before _ NameFieldAt _ (labels (fields_of it).rest.first.name) (absolute (fields_of it).rest.first.name) (last_whole_name (labels (fields_of it).rest.rest.name) (absolute (fields_of it).rest.rest.name)) in
+    (refl, fields_read_as _ NumberNamesAt NoNumberNames _ _ number_names_data (number16_before _ NamesAt _ (fields_of it).first fits names))

@@ -1,0 +1,5 @@
+pub mod Composed
+pub mod Fitting
+pub mod Laws
+pub mod Members
+pub mod SameData
