@@ -2,7 +2,7 @@
 ghost use Rattle.std.specs.Prelude.{◌≡◌, ◌≤◌, length, IfErr, OnOk, OnErr, Err};
 ghost use Rattle.domain_message.specs.declared.section.Section.TheVariants.{Answer};
 ghost use Rattle.domain_message_builder.specs.Builders.{target_room, HasRecords, HasNoRecords, HasMostQuestions};
-ghost use Rattle.domain_message_builder.specs.Builders.{KeepsMemory, CutsTo, RewindsTo, RewindsToHeader, FinishesAs};
+ghost use Rattle.domain_message_builder.specs.Builders.{KeepsMemory, CutsTo, CutsToSection, RewindsTo, RewindsToHeader, FinishesAs};
 ghost use Rattle.domain_message_builder.specs.Finished.{finished_octets};
 ghost use Rattle.domain_message_builder.specs.Pushes.{with_header};
 
@@ -33,6 +33,7 @@ impl<Target: Composer> QuestionBuilder<Target> {
     pub fn from_builder(builder: MessageBuilder<Target>) -> Self
         ensures same { HasNoRecords builder → question_builder result ≡ builder }
         ensures rewinds { HasRecords builder → RewindsTo Answer builder (question_builder result) }
+        ensures cut { HasRecords builder → CutsToSection Answer builder (question_builder result) }
         ensures capacity { question_room result ≡ target_room builder }
     {
         let builder = without_records(builder);
@@ -103,6 +104,7 @@ impl<Target: Composer> QuestionBuilder<Target> {
     /// Goes back to a message without entries: the questions are taken away again.
     pub fn builder(self) -> MessageBuilder<Target>
         ensures rewinds { RewindsToHeader (question_builder self) result }
+        ensures cut { CutsTo 12 (question_builder self) result }
         ensures capacity { target_room result ≡ question_room self }
     {
         let mut builder = self.into_builder();
@@ -114,6 +116,7 @@ impl<Target: Composer> QuestionBuilder<Target> {
     pub fn finish(self) -> Target
         ensures message { FinishesAs (question_builder self) (Target.octets result) }
         ensures octets { Target.octets result ≡ finished_octets (question_state self) }
+        ensures memory { Target.memory result ≡ question_memory self }
         ensures within { length (Target.octets result) ≤ (question_state self).limit }
     {
         self.builder.finish()

@@ -1,7 +1,8 @@
 //! The sections of records.
 ghost use Rattle.std.specs.Prelude.{◌≡◌, ◌≤◌, true, length, IfErr, OnOk, OnErr, Err};
 ghost use Rattle.domain_message_builder.specs.Builders.{target_room, HasLater, HasNoLater, IsFull};
-ghost use Rattle.domain_message_builder.specs.Builders.{KeepsMemory, CutsToSection, RewindsTo, RewindsToNext, RewindsToHeader, FinishesAs};
+ghost use Rattle.domain_message_builder.specs.Builders.{KeepsMemory, CutsTo, CutsToSection, CutsToNext};
+ghost use Rattle.domain_message_builder.specs.Builders.{RewindsTo, RewindsToNext, RewindsToHeader, FinishesAs};
 ghost use Rattle.domain_message_builder.specs.Finished.{finished_octets};
 ghost use Rattle.domain_message_builder.specs.Pushes.{with_header};
 
@@ -46,6 +47,8 @@ impl<Target: Composer, S: RecordSection> RecordBuilder<Target, S> {
         ensures same { HasNoLater S.SECTION builder → record_builder result ≡ builder }
         ensures rewinds { HasLater S.SECTION builder
             → RewindsToNext S.SECTION builder (record_builder result) }
+        ensures cut { HasLater S.SECTION builder
+            → CutsToNext S.SECTION builder (record_builder result) }
         ensures capacity { record_room result ≡ target_room builder }
     {
         RecordBuilder::at(without_later(S::SECTION, builder))
@@ -129,6 +132,7 @@ impl<Target: Composer, S: RecordSection> RecordBuilder<Target, S> {
     /// Goes back to a message without entries: all are taken away again.
     pub fn builder(self) -> MessageBuilder<Target>
         ensures rewinds { RewindsToHeader (record_builder self) result }
+        ensures cut { CutsTo 12 (record_builder self) result }
         ensures capacity { target_room result ≡ record_room self }
     {
         let mut builder = self.into_builder();

@@ -1,7 +1,7 @@
 //! The steps from one section to another.
 ghost use Rattle.std.specs.Prelude.{◌≡◌};
 ghost use Rattle.domain_message.specs.declared.section.Section.TheVariants.{Answer, Authority, Additional};
-ghost use Rattle.domain_message_builder.specs.Builders.{target_room, RewindsTo};
+ghost use Rattle.domain_message_builder.specs.Builders.{target_room, CutsToSection, RewindsTo};
 ghost use Rattle.domain_sections.specs.Views.{question_builder, question_room, record_builder, record_room};
 
 use crate::question::QuestionBuilder;
@@ -45,6 +45,7 @@ impl<Target: Composer, S: RecordSection> RecordBuilder<Target, S> {
     /// Goes back to the questions: all records are taken away again.
     pub fn question(self) -> QuestionBuilder<Target>
         ensures rewinds { RewindsTo Answer (record_builder self) (question_builder result) }
+        ensures cut { CutsToSection Answer (record_builder self) (question_builder result) }
         ensures capacity { question_room result ≡ record_room self }
     {
         let mut builder = self.into_builder();
@@ -80,6 +81,7 @@ impl<Target: Composer> RecordBuilder<Target, AuthoritySection> {
     /// Goes back to the answers: the records of the authority section are taken away again.
     pub fn answer(self) -> AnswerBuilder<Target>
         ensures rewinds { RewindsTo Authority (record_builder self) (record_builder result) }
+        ensures cut { CutsToSection Authority (record_builder self) (record_builder result) }
         ensures capacity { record_room result ≡ record_room self }
     {
         back_to_answers(self.into_builder())
@@ -104,6 +106,7 @@ impl<Target: Composer> RecordBuilder<Target, AdditionalSection> {
     /// Goes back to the answers: the records of the authority section and the additional ones are taken away again.
     pub fn answer(self) -> AnswerBuilder<Target>
         ensures rewinds { RewindsTo Authority (record_builder self) (record_builder result) }
+        ensures cut { CutsToSection Authority (record_builder self) (record_builder result) }
         ensures capacity { record_room result ≡ record_room self }
     {
         back_to_answers(self.into_builder())
@@ -112,6 +115,7 @@ impl<Target: Composer> RecordBuilder<Target, AdditionalSection> {
     /// Goes back to the authority section: the additional records are taken away again.
     pub fn authority(self) -> AuthorityBuilder<Target>
         ensures rewinds { RewindsTo Additional (record_builder self) (record_builder result) }
+        ensures cut { CutsToSection Additional (record_builder self) (record_builder result) }
         ensures capacity { record_room result ≡ record_room self }
     {
         let mut builder = self.into_builder();
@@ -130,6 +134,7 @@ impl<Target: Composer> RecordBuilder<Target, AdditionalSection> {
 /// The answers, without what comes after them.
 fn back_to_answers<Target: Composer>(builder: MessageBuilder<Target>) -> AnswerBuilder<Target>
     ensures rewinds { RewindsTo Authority builder (record_builder result) }
+    ensures cut { CutsToSection Authority builder (record_builder result) }
     ensures capacity { record_room result ≡ target_room builder }
 {
     let mut builder = builder;
