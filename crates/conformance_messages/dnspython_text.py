@@ -38,7 +38,8 @@ class Text:
     def read(self):
         """The octets that dnspython makes of it, None where it refuses it."""
         try:
-            return dns.rdata.from_text(self.rclass, self.rtype, self.octets.decode("latin-1"), relativize=False).to_wire()
+            text = self.octets.decode("utf-8", "surrogateescape")
+            return dns.rdata.from_text(self.rclass, self.rtype, text, relativize=False).to_wire()
         except Exception:  # of many kinds
             return None
 
@@ -54,6 +55,17 @@ def respelled(text):
             word = re.sub(rb'\\.|[ \t\r"();]', lambda it: it[0] if it[0][:1] == b"\\" else b"\\" + it[0], word, flags=re.S)
         words.append(word)
     return text.said(octets=b" ".join(words))
+
+
+def numbered(text):
+    """The same words, with a line feed and each octet past ASCII by its number."""
+    words = (re.sub(rb"\\?([\n\x80-\xff])|\\.", lambda it: b"\\%03d" % it[1][0] if it[1] else it[0], it, flags=re.S) for it in text.words)
+    return text.said(octets=b" ".join(words))
+
+
+def names(text):
+    """The words that are names."""
+    return figures(text, "n") if is_typed(text) else []
 
 
 def has(pattern):
@@ -88,14 +100,16 @@ TURNS = (
      respelled),
     ("a text is of one line: a parenthesis is an octet like another", "RFC 1035, 5.1", has(rb"[()]"), respelled),
     ("a semicolon begins a comment only where a word would begin", "RFC 1035, 5.1", has(rb";"), respelled),
+    ("a text is octets and not characters in UTF-8, and of one line: a line feed is one of them", "RFC 1035, 3.3",
+     lambda text: any(re.search(rb"[\n\x80-\xff]", it) for it in text.words), numbered),
     ("words have white space between; a quote that doesn't begin one is an octet of it", "RFC 1035, 5.1", has(rb'"'),
      respelled),
 )
 # Why a text is refused here, and not there.
 STRICT = (
     ("data of this type is read behind \\# alone", "RFC 3597, 5", lambda text: not is_typed(text) and not text.is_generic),
-    ("octets other than those from space to tilde are written as numbers", "RFC 1035, 5.1",
-     lambda text: any(re.search(rb"[^ -~]", word) for word in text.words)),
+    ("octets of names other than those from space to tilde are written as numbers", "RFC 1035, 5.1; RFC 4343, 2.1",
+     lambda text: any(re.search(rb"[^ -~]", it) for it in names(text))),
     ("a string is a word, with both quotes or without one: one that follows another has white space before it",
      "RFC 1035, 5.1", lambda text: is_typed(text) and any(re.search(rb'.".|^[^"].*"', re.sub(rb"\\.", b"..", it, flags=re.S), re.S)
                                                         or re.match(rb'"[^"]*$', it) for it in text.words)),

@@ -32,7 +32,7 @@ WITHOUT_DATA = (254, 255)
 # A backslash with the octet after it, a string between quotes, or any other octet that isn't white space
 PARTS = re.compile(rb'\\.|"(?:\\.|[^\\"])*"|[^ \t\r\\"]', re.S)
 # An octet as it is spelled: its number in three digits, itself after a backslash, or itself
-SPELLED = re.compile(rb"\\([0-9]{3})|\\([ -/:-~])|([^\\])", re.S)
+SPELLED = re.compile(rb"\\([0-9]{3})|\\([^0-9])|([^\\])", re.S)
 OPEN_QUOTE, LONE_BACKSLASH = "a quote without a second one", "a backslash at the end of the line"
 NO_DOT, NO_NAME, NO_NUMBER = "a name without a final dot", "no name", "no number, or too large a one"
 NO_IPV4, NO_IPV6, NO_STRING = "no IPv4 address", "no IPv6 address", "no character string"
@@ -72,19 +72,18 @@ def spelled(text):
         found = SPELLED.match(text, at)
         if not found or found[1] and int(found[1]) > 255:
             return None
-        if found[3] and not 32 <= found[3][0] <= 126:
-            return None
         octets.append((int(found[1]), "number") if found[1] else (found[2][0], "escaped") if found[2] else (found[3][0], "itself"))
         at = found.end()
     return octets
 
 
 def name(column, word):
-    """A name with its final dot: RFC 1035, 5.1 and 2.3.4. `\\[` began a label of another kind (RFC 2673, historic)."""
+    """A name with its final dot: RFC 1035, 5.1 and 2.3.4. What isn't from space to tilde is written by its number. `\\[` began
+    a label of another kind (RFC 2673, historic)."""
     if not re.fullmatch(rb"(?:\\.|[^\\])*\.", word, re.S):
         raise Refused(column, NO_DOT)
     parts = spelled(word)
-    if parts is None:
+    if parts is None or any(how != "number" and not 32 <= octet <= 126 for octet, how in parts):
         raise Refused(column, NO_NAME)
     labels = [[]]
     for part in parts:

@@ -175,13 +175,13 @@ def string_rows():
     topic("character strings: each octet by itself, after a backslash and by its number, and strings about the limits")
     for octet in range(256):
         it = bytes([octet])
-        plain = 32 <= octet < 127 and it not in b'"\\'
+        plain = it not in b'"\\'
         row(TXT, b"\\%03d" % octet, strings(it))
         row(TXT, b'"a\\%03db"' % octet, strings(b"a" + it + b"b"))
         row(TXT, b'"' + it + b'"', strings(it) if plain else None)
-        row(TXT, b"a" + it + b"b", strings(b"a" + it + b"b") if plain and it != b" " else None)
+        row(TXT, b"a" + it + b"b", strings(b"a" + it + b"b") if plain and it not in b" \t\r" else None)
         row(SPF, it)
-        row(TXT, b"\\" + it, strings(it) if 32 <= octet < 127 and it not in b"#0123456789" else None)
+        row(TXT, b"\\" + it, strings(it) if it not in b"#0123456789" else None)
         row(HINFO, b'"\\' + it + b'" "' + it + it + b'"')
     for size in (0, 1, 2, 254, 255, 256, 257, 300):
         told = strings(b"a" * size) if size < 256 else None
@@ -292,13 +292,16 @@ def class_rows():
     rows["text 1 1"] = rows["text 1 1 - -"] = rows["text"] = "bad"
 
 
-def spelled_octet(rng, octet, special):
+NOT_PRINTABLE = bytes([*range(32), *range(127, 256)])
+
+
+def spelled_octet(rng, octet, special, unescaped=b"0123456789"):
     """An octet by itself, after a backslash or by its number, where it may be."""
     ways = [b"\\%03d" % octet]
     it = bytes([octet])
-    if 32 <= octet < 127 and not it.isdigit():
+    if it not in unescaped:
         ways.append(b"\\" + it)
-    if 32 <= octet < 127 and it not in special:
+    if it not in special:
         ways += [it] * 6
     return rng.choice(ways)
 
@@ -312,8 +315,8 @@ def random_string(rng):
     octets = random_octets(rng, rng.choice((1, 4, 12, 40)))
     if octets and rng.random() < 0.4:
         # A semicolon would begin a comment there, and white space end the word.
-        start = spelled_octet(rng, octets[0], b'"\\ ;')
-        return start + b"".join(spelled_octet(rng, octet, b'"\\ ') for octet in octets[1:]), strings(octets)
+        start = spelled_octet(rng, octets[0], b'"\\ \t\r;')
+        return start + b"".join(spelled_octet(rng, octet, b'"\\ \t\r') for octet in octets[1:]), strings(octets)
     return b'"' + b"".join(spelled_octet(rng, octet, b'"\\') for octet in octets) + b'"', strings(octets)
 
 
@@ -322,11 +325,11 @@ def random_name(rng):
     for _label in range(rng.choice((0, 1, 1, 2, 3, 5))):
         octets = rng.choice((b"www", b"a", b"Example", b"xn--a", b"_sip", b"*", random_octets(rng, 12))) or b"b"
         labels.append(octets)
-    text = b""
+    text, unescaped = b"", NOT_PRINTABLE + b"0123456789"
     for label in labels:
         # No label begins with `\[`, and quotes would make a word of several.
-        start = b"\\091" if label[0] == ord("[") else spelled_octet(rng, label[0], b'"\\. ;')
-        text += start + b"".join(spelled_octet(rng, octet, b'"\\. ') for octet in label[1:]) + b"."
+        start = b"\\091" if label[0] == ord("[") else spelled_octet(rng, label[0], NOT_PRINTABLE + b'"\\. ;', unescaped)
+        text += start + b"".join(spelled_octet(rng, octet, NOT_PRINTABLE + b'"\\. ', unescaped) for octet in label[1:]) + b"."
     return text or b".", wire(*labels)
 
 

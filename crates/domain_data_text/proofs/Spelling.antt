@@ -3,7 +3,7 @@ use Rattle.std.proofs.Common.{◌≡◌, ℕ, ◌+◌, ◌-◌, ◌<◌, ◌≤�
 use Rattle.std.specs.Prelude.{◌≢◌, ◌⊎◌, slice_index}
 use Rattle.std.proofs.lemmas.Bool.{cases_eq}
 use Rattle.std.proofs.lemmas.List.{get_or_past, get_or_at, append_cancel_right}
-use Rattle.domain_label.specs.Spelling.{IsDigit, IsNoDigit, IsPrintable, number}
+use Rattle.domain_label.specs.Spelling.{IsDigit, IsNoDigit, number}
 use Rattle.domain_data_text.specs.Parts.{IsHexDigit, AreDigitsAt, DigitsStep, DigitsTo, IsDigitsWord}
 use Rattle.domain_data_text.specs.Steps.Reaches.{begins}
 use Rattle.domain_data_text.specs.Strings.{StandsForItself, SpellsAt, SpellStep, SpelledTo, IsSpelled, IsStringText}
@@ -17,30 +17,30 @@ use Rattle.domain_data_text.proofs.Stepping.{IsSingle, IsLast, one_end}
 -- ---- strings
 
 -- After a backslash there is neither a character that is no digit, nor a number of three digits.
-pub no_escape : (text : List ℕ) (at : ℕ) → slice_index text at ≡ 92 → (IsPrintable (slice_index text (at + 1)) → IsNoDigit (slice_index text (at + 1)) → ⊥)
+pub no_escape : (text : List ℕ) (at : ℕ) → slice_index text at ≡ 92 → (at + 1 < length text → IsNoDigit (slice_index text (at + 1)) → ⊥)
     → (IsDigit (slice_index text (at + 1)) → IsDigit (slice_index text (at + 2)) → IsDigit (slice_index text (at + 3)) → number (slice_index text (at + 1)) (slice_index text (at + 2)) (slice_index text (at + 3)) < 256 → ⊥)
     → (octet next : ℕ) → SpellsAt text at octet next → ⊥
-no_escape text at is no_simple no_decimal octet next (itself a plain e) = plain.2 (a ∙ is)
-no_escape text at is no_simple no_decimal octet next (simple a b printable digit e) = no_simple (subst IsPrintable b printable) (subst IsNoDigit b digit)
+no_escape text at is no_simple no_decimal octet next (itself in_text a plain e) = plain.1 (a ∙ is)
+no_escape text at is no_simple no_decimal octet next (simple a in_text b digit e) = no_simple in_text (subst IsNoDigit b digit)
 no_escape text at is no_simple no_decimal octet next (decimal a x y z b small e) = no_decimal x y z (omega (arith, sym b))
 
 pub no_plain : (text : List ℕ) (at : ℕ) → slice_index text at ≢ 92 → (StandsForItself (slice_index text at) → ⊥) → (octet next : ℕ) → SpellsAt text at octet next → ⊥
-no_plain text at other dark octet next (itself a plain e) = dark (subst StandsForItself a plain)
-no_plain text at other dark octet next (simple a b printable digit e) = other a
+no_plain text at other dark octet next (itself in_text a plain e) = dark (subst StandsForItself a plain)
+no_plain text at other dark octet next (simple a in_text b digit e) = other a
 no_plain text at other dark octet next (decimal a x y z b small e) = other a
 
 both : (c : ℕ) → IsDigit c → IsNoDigit c → ⊥
 both c digit no_digit = elim no_digit [ inl h ↦ absurd (omega (arith, digit.0)) | inr h ↦ absurd (omega (arith, digit.1)) ]
 
 spells_once : (text : List ℕ) (at o n p m : ℕ) → SpellsAt text at o n → SpellsAt text at p m → (o ≡ p) × (n ≡ m)
-spells_once text at o n p m (itself a plain e) (itself x clear f) = (a ∙ sym x, e ∙ sym f)
-spells_once text at o n p m (itself a plain e) (simple x y printable digit f) = absurd (plain.2 (a ∙ x))
-spells_once text at o n p m (itself a plain e) (decimal x d g h y small f) = absurd (plain.2 (a ∙ x))
-spells_once text at o n p m (simple a b printable digit e) (itself x clear f) = absurd (clear.2 (x ∙ a))
-spells_once text at o n p m (simple a b printable digit e) (simple x y also other f) = (b ∙ sym y, e ∙ sym f)
-spells_once text at o n p m (simple a b printable digit e) (decimal x d g h y small f) = absurd (both (slice_index text (at + 1)) d (subst IsNoDigit b digit))
-spells_once text at o n p m (decimal a d g h b small e) (itself x clear f) = absurd (clear.2 (x ∙ a))
-spells_once text at o n p m (decimal a d g h b small e) (simple x y also other f) = absurd (both (slice_index text (at + 1)) d (subst IsNoDigit y other))
+spells_once text at o n p m (itself in_text a plain e) (itself within x clear f) = (a ∙ sym x, e ∙ sym f)
+spells_once text at o n p m (itself in_text a plain e) (simple x within y digit f) = absurd (plain.1 (a ∙ x))
+spells_once text at o n p m (itself in_text a plain e) (decimal x d g h y small f) = absurd (plain.1 (a ∙ x))
+spells_once text at o n p m (simple a in_text b digit e) (itself within x clear f) = absurd (clear.1 (x ∙ a))
+spells_once text at o n p m (simple a in_text b digit e) (simple x within y other f) = (b ∙ sym y, e ∙ sym f)
+spells_once text at o n p m (simple a in_text b digit e) (decimal x d g h y small f) = absurd (both (slice_index text (at + 1)) d (subst IsNoDigit b digit))
+spells_once text at o n p m (decimal a d g h b small e) (itself within x clear f) = absurd (clear.1 (x ∙ a))
+spells_once text at o n p m (decimal a d g h b small e) (simple x within y other f) = absurd (both (slice_index text (at + 1)) d (subst IsNoDigit y other))
 spells_once text at o n p m (decimal a d g h b small e) (decimal x i j k y few f) = (b ∙ sym y, e ∙ sym f)
 
 spell_single : (text : List ℕ) → IsSingle (SpellStep text)
@@ -49,8 +49,8 @@ spell_single text s t u a b =
     a.after ∙ (ap (λ (k : ℕ). (s.0 ++ k ∷ [], a.next)) same.0 ∙ (ap (λ (k : ℕ). (s.0 ++ b.octet ∷ [], k)) same.1 ∙ sym b.after))
 
 spells_inside : (text : List ℕ) (at o n : ℕ) → SpellsAt text at o n → length text ≤ at → ⊥
-spells_inside text at o n (itself a plain e) all = absurd (omega (arith, get_or_past text at 0 all, a, plain.0.0))
-spells_inside text at o n (simple a b printable digit e) all = absurd (omega (arith, get_or_past text at 0 all, a))
+spells_inside text at o n (itself in_text a plain e) all = absurd (omega (arith, in_text, all))
+spells_inside text at o n (simple a in_text b digit e) all = absurd (omega (arith, get_or_past text at 0 all, a))
 spells_inside text at o n (decimal a x y z b small e) all = absurd (omega (arith, get_or_past text at 0 all, a))
 
 spelled_ended : (text octets : List ℕ) → IsLast (SpellStep text) (octets, length text)
@@ -79,7 +79,7 @@ inner_once inner also e = append_cancel_right inner also (34 ∷ []) (ap (λ (t 
 pub quote_not_spelled : (text also : List ℕ) → slice_index text 0 ≡ 34 → IsSpelled text also → ⊥
 quote_not_spelled text also is there =
     let inside : 0 < length text = spelled_some text is in
-    not_spelled text [] 0 begins inside (no_plain text 0 (λ e. absurd (omega arith)) (λ plain. plain.1 is)) also there
+    not_spelled text [] 0 begins inside (no_plain text 0 (λ e. absurd (omega arith)) (λ plain. plain.0 is)) also there
 
 -- A text between quotes has both.
 pub quoted_ends : (text inner : List ℕ) → text ≡ 34 ∷ (inner ++ 34 ∷ []) → (2 ≤ length text) × (slice_index text (length text - 1) ≡ 34)

@@ -1,17 +1,17 @@
 -- The texts of character strings (RFC 1035, 3.3 and 5.1).
 use Rattle.std.specs.Prelude.{◌≡◌, ◌≢◌, ◌⊎◌, ℕ, ◌+◌, ◌<◌, ◌≤◌, List, [], ◌∷◌, ◌++◌, length, slice_index}
 use Rattle.domain_data_text.specs.Steps.{Reaches}
-use Rattle.domain_label.specs.Spelling.{IsDigit, IsNoDigit, IsPrintable, number}
+use Rattle.domain_label.specs.Spelling.{IsDigit, IsNoDigit, number}
 
--- The octet stands for itself: from space to tilde, and neither a quote nor a backslash.
+-- The octet stands for itself: it is neither a quote nor a backslash.
 abbrev pub StandsForItself : ℕ → Type 0
-StandsForItself c = IsPrintable c × (c ≢ 34) × (c ≢ 92)
+StandsForItself c = (c ≢ 34) × (c ≢ 92)
 
--- An octet is spelled at an offset, and its spelling ends before next: by itself, by a backslash and a character that is no
--- digit, or by a backslash and its number in three digits.
+-- An octet is spelled at an offset, and its spelling ends before next: by itself, by a backslash and itself, if it is no digit,
+-- or by a backslash and its number in three digits.
 pub data SpellsAt (text : List ℕ) (at octet next : ℕ) : Type 0 where
-  itself : octet ≡ slice_index text at → StandsForItself octet → next ≡ at + 1 → SpellsAt text at octet next
-  simple : slice_index text at ≡ 92 → octet ≡ slice_index text (at + 1) → IsPrintable octet → IsNoDigit octet → next ≡ at + 2 → SpellsAt text at octet next
+  itself : at < length text → octet ≡ slice_index text at → StandsForItself octet → next ≡ at + 1 → SpellsAt text at octet next
+  simple : slice_index text at ≡ 92 → at + 1 < length text → octet ≡ slice_index text (at + 1) → IsNoDigit octet → next ≡ at + 2 → SpellsAt text at octet next
   decimal : slice_index text at ≡ 92 → IsDigit (slice_index text (at + 1)) → IsDigit (slice_index text (at + 2)) → IsDigit (slice_index text (at + 3))
       → octet ≡ number (slice_index text (at + 1)) (slice_index text (at + 2)) (slice_index text (at + 3)) → octet < 256 → next ≡ at + 4 → SpellsAt text at octet next
 

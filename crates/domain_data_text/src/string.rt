@@ -13,11 +13,11 @@ use crate::error::{Fault, Stop};
 use crate::words::Word;
 use std::alloc::Global;
 
-/// Whether the octet stands for itself in a string: from space to tilde, and neither a quote nor a backslash.
+/// Whether the octet stands for itself in a string: it is neither a quote nor a backslash.
 fn is_plain(octet: u8) -> bool
     ensures { IsTrue result ↔ StandsForItself octet }
 {
-    b' ' <= octet && octet <= b'~' && octet != b'"' && octet != b'\\'
+    octet != b'"' && octet != b'\\'
 }
 
 /// Whether the octet is a decimal digit.
@@ -42,9 +42,6 @@ fn escape_at(text: &[u8], at: usize) -> Option<(u8, usize)>
     }
     let first = text[at + 1];
     if !is_digit(first) {
-        if first < b' ' || b'~' < first {
-            return None;
-        }
         return Some((first, at + 2));
     }
     if text.len() - at < 4 {
