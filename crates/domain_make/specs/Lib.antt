@@ -5,3 +5,4 @@ pub mod Drafts
 pub mod Refusals
 pub mod Made
 pub mod Taking
+pub mod Reasons

@@ -1,5 +1,6 @@
 //! Why no message is made.
 ghost use Rattle.std.specs.Prelude.{Some};
+ghost use Rattle.domain_make.specs.Reasons.{line_error_text, make_error_text};
 
 pub use domain_data_text::error::Fault;
 use std::error::Error;
@@ -28,6 +29,8 @@ pub enum MakeError {
 }
 
 impl fmt::Display for LineError {
+    ghost output = { λ e. Some (line_error_text e) };
+
     fn fmt<W: fmt::Write>(&self, f: &mut fmt::Formatter<W>) -> fmt::Result {
         let (line, column, fault) = (self.line, self.column, self.fault);
         write!(f, "line {line}, column {column}: {fault}")
@@ -37,6 +40,8 @@ impl fmt::Display for LineError {
 impl Error for LineError {}
 
 impl fmt::Display for MakeError {
+    ghost output = { λ e. Some (make_error_text e) };
+
     fn fmt<W: fmt::Write>(&self, f: &mut fmt::Formatter<W>) -> fmt::Result {
         match self {
             MakeError::Line(e) => write!(f, "{e}"),
