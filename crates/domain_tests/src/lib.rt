@@ -42,4 +42,6 @@ mod records;
 #[cfg(test)]
 mod refused;
 #[cfg(test)]
+mod values;
+#[cfg(test)]
 mod words;
