@@ -119,6 +119,24 @@ fn messages_are_not_begun(rt: HostRuntime) {
     assert!(rt; begun.is_ok());
 }
 
+/// A message in a new target begins with a header of zeros, and isn't begun only where twelve octets have no room.
+#[test]
+fn a_message_begins_in_a_new_target(rt: HostRuntime) {
+    let short = MessageBuilder::<ArrayVec<u8, 11>>::new(rt.alloc());
+    assert!(rt; short.is_err());
+    let (Ok(fixed), Ok(grown)) = (
+        MessageBuilder::<ArrayVec<u8, 12>>::new(rt.alloc()),
+        MessageBuilder::<Vec<u8>>::new(rt.alloc()),
+    ) else {
+        panic!(rt; "not begun");
+    };
+    assert!(rt; fixed.finish().as_slice() == [0; HEADER].as_slice());
+    let mut grown = grown;
+    assert!(rt; grown.push_question(&question()).is_ok());
+    let expected = b"\0\0\0\0\0\x01\0\0\0\0\0\0\0\0\x01\0\x01".as_slice();
+    assert!(rt; grown.finish().as_slice() == expected);
+}
+
 /// After each entry that is out of order, one in order is pushed.
 #[test]
 fn entries_out_of_order_change_nothing(rt: HostRuntime) {
