@@ -3,6 +3,8 @@
 from __future__ import annotations
 
 from ctypes import byref, c_size_t, create_string_buffer
+from threading import Lock
+from typing import Any, Callable
 
 from ._library import BuilderFields, Octets, as_octets, as_size, library, refuse
 from ._mnemonic import Class, Type
@@ -20,7 +22,7 @@ def _word(number: int, bits: int) -> int:
 class MessageBuilder:
     """A message that is built (RFC 1035, 4.1): questions, and then records, section by section. Each is pushed whole, or
     not at all: after a refusal all is as it was. Names of questions and owners of records are compressed, and names in
-    data of the types of RFC 1035.
+    data of the types of RFC 1035. Threads may share it: each call waits until that of another thread has ended.
 
     >>> from dnsnames import Flags, Message, Name, NoRoom, Type
     >>> query = MessageBuilder(id=0x1234, flags=Flags.RD)
@@ -30,7 +32,8 @@ class MessageBuilder:
     Header(id=4660, flags=256, questions=1, answers=0, authority=0, additional=1)
     """
 
-    __slots__ = ("_buffer", "_fields")
+    # A call of the library lets other threads run, so the lock is held while it reads or writes fields and buffer.
+    __slots__ = ("_buffer", "_fields", "_lock")
 
     def __init__(self, capacity: int = 65535, id: int = 0, flags: int = 0) -> None:
         """Begins a message of at most so many octets, and 65,535. `flags` are the header's 16 bits, with the opcode at bit
@@ -38,54 +41,62 @@ class MessageBuilder:
         capacity = as_size(capacity)
         self._buffer = create_string_buffer(max(1, capacity))
         self._fields = BuilderFields()
-        status = library.dnsnames_builder_start(
-            byref(self._fields), self._buffer, capacity, _word(id, 16), _word(flags, 16)
-        )
+        self._lock = Lock()
+        self._call(library.dnsnames_builder_start, self._buffer, capacity, _word(id, 16), _word(flags, 16))
+
+    def _call(self, call: Callable[..., int], *arguments: Any) -> None:
+        with self._lock:
+            status = call(byref(self._fields), *arguments)
         if status:
             refuse(status)
 
     @property
     def id(self) -> int:
         """The identifier; it may be set until the message is finished."""
-        return self._fields.state.id
+        with self._lock:
+            return self._fields.state.id
 
     @id.setter
     def id(self, number: int) -> None:
-        self._fields.state.id = _word(number, 16)
+        number = _word(number, 16)
+        with self._lock:
+            self._fields.state.id = number
 
     @property
     def flags(self) -> int:
         """The header's 16 bits of flags; they may be set until the message is finished."""
-        return self._fields.state.flags
+        with self._lock:
+            return self._fields.state.flags
 
     @flags.setter
     def flags(self, number: int) -> None:
-        self._fields.state.flags = _word(number, 16)
+        number = _word(number, 16)
+        with self._lock:
+            self._fields.state.flags = number
 
     @property
     def limit(self) -> int:
         """How many octets the message has at most. A smaller limit sets octets aside, as for an OPT record: eleven, and
         those of its options. Set to what it was before, it gives them back."""
-        return self._fields.state.limit
+        with self._lock:
+            return self._fields.state.limit
 
     @limit.setter
     def limit(self, octets: int) -> None:
-        if not len(self) <= octets <= min(self._fields.capacity, 65535):
-            raise ValueError("the limit is from the message's octets to the capacity and 65,535")
-        self._fields.state.limit = octets
+        with self._lock:
+            if not self._fields.state.len <= octets <= min(self._fields.capacity, 65535):
+                raise ValueError("the limit is from the message's octets to the capacity and 65,535")
+            self._fields.state.limit = octets
 
     def __len__(self) -> int:
         """How many octets the message has, with its header."""
-        return self._fields.state.len
+        with self._lock:
+            return self._fields.state.len
 
     def question(self, name: Name, type: int, class_: int = Class.IN) -> None:
         """Pushes a question. Raises WrongOrder where a record was pushed, NoRoom, TooManyEntries, NoBuilder."""
         octets = bytes(name)
-        status = library.dnsnames_builder_question(
-            byref(self._fields), octets, len(octets), _word(type, 16), _word(class_, 16)
-        )
-        if status:
-            refuse(status)
+        self._call(library.dnsnames_builder_question, octets, len(octets), _word(type, 16), _word(class_, 16))
 
     def record(
         self, section: str, name: Name, type: int, data: Octets, ttl: int = 0, class_: int = Class.IN
@@ -109,12 +120,10 @@ class MessageBuilder:
         if section not in _SECTIONS:
             raise ValueError('the sections are "answer", "authority" and "additional"')
         owner, octets = bytes(name), as_octets(data)
-        status = library.dnsnames_builder_record(
-            byref(self._fields), _SECTIONS[section], owner, len(owner), _word(type, 16), _word(class_, 16),
+        self._call(
+            library.dnsnames_builder_record, _SECTIONS[section], owner, len(owner), _word(type, 16), _word(class_, 16),
             _word(ttl, 32), octets, len(octets),
         )
-        if status:
-            refuse(status)
 
     def opt(
         self, size: int = 1232, rcode: int = 0, version: int = 0, dnssec_ok: bool = False, options: Octets = b""
@@ -123,12 +132,10 @@ class MessageBuilder:
         taken, and options in wire format. Of a response code of twelve bits the upper eight are written here; the lower
         four are those of `flags`. A message has one at most. Raises NoRoom, TooManyEntries, NoBuilder."""
         octets = as_octets(options)
-        status = library.dnsnames_builder_opt(
-            byref(self._fields), _word(size, 16), _word(rcode, 12) >> 4, _word(version, 8), bool(dnssec_ok), octets,
-            len(octets),
+        self._call(
+            library.dnsnames_builder_opt, _word(size, 16), _word(rcode, 12) >> 4, _word(version, 8), bool(dnssec_ok),
+            octets, len(octets),
         )
-        if status:
-            refuse(status)
 
     def truncate(self) -> None:
         """Takes all records away again, and sets the flag TC (RFC 2181, 9). Raises NoBuilder.
@@ -142,14 +149,11 @@ class MessageBuilder:
         >>> Message(answer.finish()).header.is_truncated
         True
         """
-        status = library.dnsnames_builder_truncate(byref(self._fields))
-        if status:
-            refuse(status)
+        self._call(library.dnsnames_builder_truncate)
 
     def finish(self) -> bytes:
         """Writes the header, and returns the message. It can be changed no more: then each call raises NoBuilder."""
         length = c_size_t()
-        status = library.dnsnames_builder_finish(byref(self._fields), byref(length))
-        if status:
-            refuse(status)
+        self._call(library.dnsnames_builder_finish, byref(length))
+        # A finished message is written no more.
         return self._buffer[: length.value]

@@ -6,6 +6,7 @@ from ctypes import byref, c_size_t, c_uint16, c_uint32, create_string_buffer
 from ipaddress import IPv4Address, IPv6Address
 from itertools import chain, islice
 from struct import Struct
+from threading import Lock
 from typing import Any, Callable, Dict, Iterator, List, NamedTuple, Optional, Tuple, Union
 
 from ._library import (
@@ -449,7 +450,8 @@ class Message:
 
 class Composer:
     """Octets to which names are appended with compression (RFC 1035, 4.1.4): of a name that was written before, or
-    of its longest such end, a pointer is written.
+    of its longest such end, a pointer is written. Threads may share it: each call waits until that of another thread
+    has ended.
 
     >>> composer = Composer(64)
     >>> composer.append(Name("example.com"))
@@ -458,41 +460,49 @@ class Composer:
     b'\\x07example\\x03com\\x00\\x03www\\xc0\\x00'
     """
 
-    __slots__ = ("_buffer", "_capacity", "_length", "_table", "_table_length")
+    # A call of the library lets other threads run, so the lock is held while it reads or writes what is here.
+    __slots__ = ("_buffer", "_capacity", "_length", "_table", "_table_length", "_lock")
 
     def __init__(self, capacity: int = 65535) -> None:
         self._capacity = as_size(capacity)
         self._buffer = create_string_buffer(max(1, self._capacity))
         self._length, self._table_length = c_size_t(), c_size_t()
         self._table = (c_uint16 * MAX_TABLE)()
+        self._lock = Lock()
 
     def append(self, name: Name) -> None:
         """Appends a name. Raises NoRoom where the octets don't fit, and changes nothing then."""
         octets = bytes(name)
-        status = library.dnsnames_append(
-            self._buffer, self._capacity, byref(self._length), self._table, MAX_TABLE, byref(self._table_length),
-            octets, len(octets),
-        )
+        with self._lock:
+            status = library.dnsnames_append(
+                self._buffer, self._capacity, byref(self._length), self._table, MAX_TABLE, byref(self._table_length),
+                octets, len(octets),
+            )
         if status:
             refuse(status)
 
     def append_octets(self, octets: Octets) -> None:
         """Appends octets that aren't a name's as they are. Raises NoRoom, and changes nothing then."""
-        octets, length = as_octets(octets), self._length.value
-        if self._capacity - length < len(octets):
-            refuse(8)
-        self._buffer[length : length + len(octets)] = octets
-        self._length.value += len(octets)
+        octets = as_octets(octets)
+        with self._lock:
+            length = self._length.value
+            if self._capacity - length < len(octets):
+                refuse(NoRoom.status)
+            self._buffer[length : length + len(octets)] = octets
+            self._length.value += len(octets)
 
     def set16(self, offset: int, number: int) -> None:
         """The two octets at an offset of what was composed become this number, the high one first: a count of the
         header, or the length of data behind it. Raises IndexError where they aren't there."""
-        if not 0 <= offset <= self._length.value - 2:
-            raise IndexError("no two octets were composed there")
-        self._buffer[offset : offset + 2] = number.to_bytes(2, "big")
+        with self._lock:
+            if not 0 <= offset <= self._length.value - 2:
+                raise IndexError("no two octets were composed there")
+            self._buffer[offset : offset + 2] = number.to_bytes(2, "big")
 
     def __len__(self) -> int:
-        return self._length.value
+        with self._lock:
+            return self._length.value
 
     def __bytes__(self) -> bytes:
-        return self._buffer[: self._length.value]
+        with self._lock:
+            return self._buffer[: self._length.value]

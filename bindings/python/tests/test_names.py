@@ -53,6 +53,12 @@ class Reading(unittest.TestCase):
         with self.assertRaises(TypeError):
             Name.from_wire("com")
 
+    def test_octets_are_copied(self):
+        octets = bytearray(RESPONSE)
+        message, view = Message(octets), Message(memoryview(octets))
+        octets[:] = bytes(len(octets))
+        self.assertEqual((bytes(message), bytes(view)), (RESPONSE, RESPONSE))
+
     def test_each_fault(self):
         for octets, offset, fault in (
             (b"\3ww", 0, dnsnames.ShortInput), (b"", 0, dnsnames.ShortInput), (b"\0", 1, dnsnames.ShortInput),
