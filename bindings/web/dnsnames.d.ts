@@ -101,7 +101,7 @@ export interface MessageBuilder {
  *  64-bit memory. */
 export function load(source: BufferSource | Response | PromiseLike<BufferSource | Response>): Promise<DnsNames>;
 
-/** The calls of one module. */
+/** The calls of one module. A number that isn't whole, or is out of the range of its argument, throws RangeError. */
 export class DnsNames {
     constructor(exports: WebAssembly.Exports);
     readName(message: Uint8Array, offset?: number, limit?: number): NameRead & { end: number; compressed: boolean };

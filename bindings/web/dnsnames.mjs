@@ -4,8 +4,9 @@
 //     const dns = await load(fetch("dnsnames_c.wasm"));
 //     dns.readName(message, 12).text          // "www.example.com."
 //
-// Octets go in as Uint8Array and come back as new ones. A refusal throws NameFault. What octets and texts spell is
-// decided by the module; this file passes them on, and isn't proved.
+// Octets go in as Uint8Array and come back as new ones. A refusal throws NameFault; a number that isn't whole or is out of
+// range throws RangeError, and what is no number TypeError, which name it. What octets and texts spell is decided by the
+// module; this file passes them on, and isn't proved.
 
 const MAX_LEN = 255;
 const MAX_TEXT = 1020;
@@ -101,10 +102,10 @@ export class DnsNames {
     /** The name at an offset of a message, through at most `limit` pointers: its octets without compression, its text
      *  and labels, the offset after it, and whether a pointer follows a label. */
     readName(message, offset = 12, limit = 255) {
-        if (!Number.isInteger(limit) || limit < 0 || limit > 255) throw new RangeError("the limit is from 0 to 255");
         const [slice, room] = this.#begin(message, MAX_LEN);
         const [length, end, compressed] = this.#results(3);
-        this.#call("read", offset, ...slice, toSize(offset), limit, ...room, length, end, compressed);
+        const from = [toSize("offset", offset), whole("limit", limit, 8)];
+        this.#call("read", offset, ...slice, ...from, ...room, length, end, compressed);
         const found = {
             octets: this.#octets(room, length), end: this.#size(end),
             compressed: this.#view().getUint32(Number(compressed), true) === 1,
@@ -116,7 +117,7 @@ export class DnsNames {
     skipName(message, offset = 12) {
         const [slice] = this.#begin(message);
         const [end] = this.#results(1);
-        this.#call("skip", offset, ...slice, toSize(offset), end);
+        this.#call("skip", offset, ...slice, toSize("offset", offset), end);
         return this.#size(end);
     }
 
@@ -196,16 +197,24 @@ export class DnsNames {
     /** The question at an offset, without its name. */
     question(message, offset = 12) {
         const [slice] = this.#begin(message);
+        return this.#question(slice, offset);
+    }
+
+    #question(slice, offset) {
         const [type, class_, end] = this.#results(3);
-        this.#call("question", offset, ...slice, toSize(offset), type, class_, end);
+        this.#call("question", offset, ...slice, toSize("offset", offset), type, class_, end);
         return { offset, type: this.#number16(type), class: this.#number16(class_), end: this.#size(end) };
     }
 
     /** The record at an offset, without its name: `data` are its octets, and `dataOffset` where they begin. */
     record(message, offset) {
         const [slice] = this.#begin(message);
+        return this.#record(message, slice, offset);
+    }
+
+    #record(message, slice, offset) {
         const [type, class_, ttl, data, dataLen, end] = this.#results(6);
-        this.#call("record", offset, ...slice, toSize(offset), type, class_, ttl, data, dataLen, end);
+        this.#call("record", offset, ...slice, toSize("offset", offset), type, class_, ttl, data, dataLen, end);
         const dataOffset = this.#size(data);
         return {
             offset, type: this.#number16(type), class: this.#number16(class_),
@@ -219,9 +228,8 @@ export class DnsNames {
     nameInData(message, record, index = 0) {
         const [slice, room] = this.#begin(message, MAX_LEN);
         const [length] = this.#results(1);
-        const { dataOffset, data, type } = record;
         this.#call(
-            "data_name", dataOffset, ...slice, toSize(dataOffset), BigInt(data.length), type, toSize(index), ...room, length,
+            "data_name", record.dataOffset, ...slice, ...dataOf(record), toSize("index", index), ...room, length,
         );
         const octets = this.#octets(room, length);
         return { octets, text: this.toText(octets), labels: labelsOf(octets) };
@@ -233,7 +241,7 @@ export class DnsNames {
     numberInData(message, record, index = 0) {
         const [slice] = this.#begin(message);
         const [value] = this.#results(1);
-        this.#call("data_number", record.dataOffset, ...slice, ...dataOf(record), toSize(index), value);
+        this.#call("data_number", record.dataOffset, ...slice, ...dataOf(record), toSize("index", index), value);
         return this.#view().getUint32(Number(value), true);
     }
 
@@ -249,24 +257,18 @@ export class DnsNames {
     /** The character strings of a TXT or SPF record of this message, each as its octets. NoField for another type, ShortInput
      *  where the data have no string or end in one. */
     *stringsInData(message, record) {
-        for (let passed = 0n; ;) {
-            const [slice] = this.#begin(message);
-            const [at, string, length] = this.#results(3);
-            this.#view().setBigUint64(Number(at), passed, true);
-            const more = this.#more("data_string", record, ...slice, ...dataOf(record), at, string, length);
-            if (!more) return;
-            passed = BigInt(this.#size(at));
-            const begin = this.#size(string);
-            yield message.slice(begin, begin + this.#size(length));
+        const read = ([string, length]) => [this.#size(string), this.#size(length)];
+        for (const [begin, length] of this.#each("data_string", message, record, 2, read)) {
+            yield message.slice(begin, begin + length);
         }
     }
 
     /** What an OPT record says, of the message whose header has these flags (RFC 6891, 6.1). NoField for another type. */
     opt(record, flags = 0) {
-        const { type, class: class_, ttl } = record;
+        const fields = [whole("type", record.type, 16), whole("class", record.class, 16), whole("ttl", record.ttl, 32)];
         this.#begin();
         const [size, rcode, version, dnssecOk] = this.#results(4);
-        this.#call("opt", record.offset, type, class_, ttl, flags, size, rcode, version, dnssecOk);
+        this.#call("opt", record.offset, ...fields, whole("flags", flags, 16), size, rcode, version, dnssecOk);
         return {
             size: this.#number16(size), rcode: this.#number16(rcode), version: this.#view().getUint8(Number(version)),
             dnssecOk: this.#view().getUint32(Number(dnssecOk), true) !== 0,
@@ -276,23 +278,25 @@ export class DnsNames {
     /** The options of an OPT record of this message, each a code and octets (RFC 6891, 6.1.2). NoField for another type,
      *  ShortInput where the data end in an option. */
     *optionsInData(message, record) {
-        for (let passed = 0n; ;) {
-            const [slice] = this.#begin(message);
-            const [at, code, option, length] = this.#results(4);
-            this.#view().setBigUint64(Number(at), passed, true);
-            const more = this.#more("data_option", record, ...slice, ...dataOf(record), at, code, option, length);
-            if (!more) return;
-            passed = BigInt(this.#size(at));
-            const begin = this.#size(option);
-            yield { code: this.#number16(code), data: message.slice(begin, begin + this.#size(length)) };
+        const read = ([code, option, length]) => [this.#number16(code), this.#size(option), this.#size(length)];
+        for (const [code, begin, length] of this.#each("data_option", message, record, 3, read)) {
+            yield { code, data: message.slice(begin, begin + length) };
         }
     }
 
-    // Whether a call gave a string or an option: not where all were given.
-    #more(call, record, ...values) {
-        const status = this.#exports["dnsnames_" + call](...values) >>> 0;
-        if (status !== 0 && status !== NO_MORE) throw new NameFault(status, record.dataOffset);
-        return status === 0;
+    // What `read` finds in so many results of a call for each string or option of data, up to its fault. All are read before the
+    // first is given, as other calls use the same memory: the message is copied once.
+    *#each(call, message, record, count, read) {
+        const [slice] = this.#begin(message), values = [...slice, ...dataOf(record)], found = [];
+        const [passed, ...results] = this.#results(1 + count);
+        this.#view().setBigUint64(Number(passed), 0n, true);
+        let status;
+        do {
+            status = this.#exports["dnsnames_" + call](...values, passed, ...results) >>> 0;
+            if (status === 0) found.push(read(results));
+        } while (status === 0);
+        yield* found;
+        if (status !== NO_MORE) throw new NameFault(status, record.dataOffset);
     }
 
     /** Whether a message answers a query: a response with the query's identifier and the query's questions. ShortInput. */
@@ -306,10 +310,9 @@ export class DnsNames {
     /** The name to which at most `limit` CNAME records of the answers lead from the first question's (RFC 1034, 3.6.2): its
      *  octets and its text. Null where more of them lead on, as they do in a ring, or a question is missing. */
     canonicalName(message, limit = 16) {
-        if (!Number.isInteger(limit) || limit < 0 || limit > 65535) throw new RangeError("the limit is from 0 to 65,535");
         const [slice, room] = this.#begin(message, MAX_LEN);
         const [length] = this.#results(1);
-        const status = this.#exports.dnsnames_canonical_name(...slice, limit, ...room, length) >>> 0;
+        const status = this.#exports.dnsnames_canonical_name(...slice, whole("limit", limit, 16), ...room, length) >>> 0;
         if (status === NO_END) return null;
         if (status !== 0) throw new NameFault(status, 0);
         const octets = this.#octets(room, length);
@@ -326,7 +329,7 @@ export class DnsNames {
 
     /** The line of the record at an offset of a message: owner, time to live, class, type and data. ShortInput, BadForm. */
     recordText(message, offset) {
-        return this.#text("record_text", offset, message, [toSize(offset)]).slice(0, -1);
+        return this.#text("record_text", offset, message, [toSize("offset", offset)]).slice(0, -1);
     }
 
     // The text that a call gives, with as much room as it needs.
@@ -350,17 +353,32 @@ export class DnsNames {
      *  and all names before it can be read. Throws the fault of the first question or record that can't be read; a name that
      *  can't be stops nothing. */
     *entries(message) {
-        const header = this.header(message), found = this.#rows(message, this.#table(message));
-        let offset = 12;
-        for (const section of ["questions", ...SECTIONS]) {
-            for (let i = 0; i < header[section]; i++) {
-                const entry = found.next().value ?? {
-                    section, ...(section === "questions" ? this.question(message, offset) : this.record(message, offset)),
-                };
-                yield entry;
-                offset = entry.end;
+        this.header(message);
+        const found = this.#table(message);
+        const { entries, fault } = found.status === 0 ? { entries: [] } : this.#rest(message, found.numbers);
+        yield* this.#rows(message, found);
+        yield* entries;
+        if (fault) throw fault;
+    }
+
+    // The questions and records behind these rows, and the fault of the first that can't be read. The message is copied once.
+    #rest(message, numbers) {
+        const [slice] = this.#begin(message), counts = countsOf(message), entries = [];
+        let offset = numbers.at(-1) ?? 12, passed = numbers.length / ROW_LEN;
+        try {
+            for (const [i, section] of ["questions", ...SECTIONS].entries()) {
+                for (let left = counts[i]; left > 0; left--) {
+                    if (passed-- > 0) continue;
+                    const entry = section === "questions" ? this.#question(slice, offset) : this.#record(message, slice, offset);
+                    entries.push({ section, ...entry });
+                    offset = entry.end;
+                }
             }
+        } catch (fault) {
+            if (!(fault instanceof NameFault)) throw fault;
+            return { entries, fault };
         }
+        return { entries };
     }
 
     /** All questions and records of a message in an array, each with its `section` and the octets of its `name`, read in one
@@ -408,10 +426,9 @@ export class DnsNames {
     /** The text of a number: of a "type", a "class", an "opcode" or an "rcode" its mnemonic, or a word and the number (RFC
      *  3597, 5). */
     mnemonic(kind, number) {
-        if (!Number.isInteger(number) || number < 0 || number > 65535) throw new RangeError("a number of 16 bits");
         const [room] = this.#begin(MAX_MNEMONIC);
         const [length] = this.#results(1);
-        this.#call(`${kind}_text`, undefined, number, ...room, length);
+        this.#call(`${kind}_text`, undefined, whole("number", number, 16), ...room, length);
         return new TextDecoder().decode(this.#octets(room, length));
     }
 
@@ -427,28 +444,33 @@ export class DnsNames {
      *  section. Each is pushed whole, or throws and changes nothing. Names of questions and owners of records are
      *  compressed, and names in data of the types of RFC 1035. */
     builder({ capacity = 65535, id = 0, flags = 0 } = {}) {
-        const octets = new Uint8Array(capacity), state = new Uint8Array(BUILDER.size);
+        const octets = new Uint8Array(whole("capacity", capacity, 53)), state = new Uint8Array(BUILDER.size);
         const view = new DataView(state.buffer);
         const push = (call, parts, values) => this.#build(call, octets, state, parts, values);
-        push("start", [], () => [id, flags]);
+        push("start", [], () => [whole("id", id, 16), whole("flags", flags, 16)]);
         return {
             /** Pushes a question. WrongOrder where a record was pushed, NoRoom, TooManyEntries, NoBuilder. */
-            question: (name, type, class_ = 1) => push("question", [name], ([slice]) => [...slice, type, class_]),
+            question: (name, type, class_ = 1) =>
+                push("question", [name], ([slice]) => [...slice, whole("type", type, 16), whole("class", class_, 16)]),
             /** Pushes a record into "answers", "authority" or "additional". A name in its data is its octets without
              *  compression; it is compressed where the type is one of RFC 1035, 3.3, and the data are exactly its fields.
              *  All other data are written as they are. */
             record: (section, owner, type, data, { ttl = 0, class: class_ = 1 } = {}) =>
                 push("record", [owner, data], ([slice, rest]) => [
-                    SECTIONS.indexOf(section) + 1, ...slice, type, class_, ttl, ...rest,
+                    SECTIONS.indexOf(section) + 1, ...slice, whole("type", type, 16), whole("class", class_, 16),
+                    whole("ttl", ttl, 32), ...rest,
                 ]),
             /** Pushes an OPT record (RFC 6891, 6.1): the size of messages over UDP, the upper eight bits of a response code of
              *  twelve, the bit DO, options in wire format. */
             opt: ({ size = 1232, rcode = 0, version = 0, dnssecOk = false, options = new Uint8Array(0) } = {}) =>
-                push("opt", [options], ([slice]) => [size, rcode >> 4, version, dnssecOk ? 1 : 0, ...slice]),
+                push("opt", [options], ([slice]) => [
+                    whole("size", size, 16), whole("rcode", rcode, 12) >> 4, whole("version", version, 8),
+                    dnssecOk ? 1 : 0, ...slice,
+                ]),
             /** Takes all records away again, and sets the flag TC (RFC 2181, 9). */
             truncate: () => push("truncate", [], () => []),
             /** Sets the header's 16 bits of flags. */
-            setFlags: (bits) => view.setUint16(BUILDER.flags, bits, true),
+            setFlags: (bits) => view.setUint16(BUILDER.flags, whole("bits", bits, 16), true),
             /** How many octets the message has. */
             length: () => Number(view.getBigUint64(BUILDER.len, true)),
             /** Writes the header, and gives the message; it can be changed no more. */
@@ -471,7 +493,7 @@ export class DnsNames {
 
     /** A writer of names with compression into at most so many octets. */
     composer(capacity = 65535) {
-        const octets = new Uint8Array(capacity), table = new Uint16Array(MAX_TABLE);
+        const octets = new Uint8Array(whole("capacity", capacity, 53)), table = new Uint16Array(MAX_TABLE);
         let length = 0, tableLength = 0;
         return {
             /** Appends a name; throws NoRoom, and changes nothing then. */
@@ -480,13 +502,17 @@ export class DnsNames {
             },
             /** Appends octets as they are, as a header or the fields between names; throws NoRoom, and changes nothing then. */
             appendOctets: (more) => {
+                if (!(more instanceof Uint8Array)) throw new TypeError("octets are a Uint8Array");
                 if (more.length > capacity - length) throw new NameFault(NO_ROOM);
                 octets.set(more, length);
                 length += more.length;
             },
             /** The two octets at an offset of what was composed become this number, the high one first: a count of the
              *  header, or the length of data behind it. Throws RangeError where they aren't there. */
-            setUint16: (offset, number) => new DataView(octets.buffer, 0, length).setUint16(offset, number),
+            setUint16: (offset, number) => {
+                const view = new DataView(octets.buffer, 0, length);
+                view.setUint16(whole("offset", offset, 53), whole("number", number, 16));
+            },
             /** What was composed. */
             octets: () => octets.slice(0, length),
         };
@@ -525,11 +551,11 @@ export class DnsNames {
     // for each.
     #begin(...parts) {
         const starts = [];
-        let next = (Number(this.#exports.__heap_base.value) + 15) & ~15;
+        let next = aligned(Number(this.#exports.__heap_base.value) + 15);
         for (const part of parts) {
             if (typeof part !== "number" && !(part instanceof Uint8Array)) throw new TypeError("octets are a Uint8Array");
             starts.push(next);
-            next = (next + (typeof part === "number" ? part : part.length) + 31) & ~15;
+            next = aligned(next + (typeof part === "number" ? part : part.length) + 31);
         }
         this.#next = next;
         this.#grow(next + 128);
@@ -580,11 +606,12 @@ function countsOf(message) {
     return [4, 6, 8, 10].map((at) => view.getUint16(at));
 }
 
+const aligned = (address) => address - address % 16;
 const sum = (numbers) => numbers.reduce((left, right) => left + right, 0);
 
 // Where the data of a record are, and of which type.
 function dataOf({ dataOffset, data, type }) {
-    return [toSize(dataOffset), BigInt(data.length), type];
+    return [toSize("dataOffset", dataOffset), BigInt(data.length), whole("type", type, 16)];
 }
 
 // The labels of octets that are a name.
@@ -598,7 +625,16 @@ function isWellFormed(text) {
     return !/[\ud800-\udbff](?![\udc00-\udfff])|(?<![\ud800-\udbff])[\udc00-\udfff]/.test(text);
 }
 
-function toSize(number) {
-    if (!Number.isSafeInteger(number) || number < 0) throw new RangeError("an offset is a whole number, not negative");
-    return BigInt(number);
+// The number of this name, if it is a whole one of so many bits: the module would take the lower bits of any other.
+function whole(name, number, bits) {
+    if (typeof number !== "number") throw new TypeError(`${name} isn't a number`);
+    if (!Number.isInteger(number) || number < 0 || number >= 2 ** bits) {
+        throw new RangeError(`${name} isn't a whole number from 0 to ${2 ** bits - 1}`);
+    }
+    return number;
+}
+
+// An offset, an index or a size: as many bits as numbers have that are exact.
+function toSize(name, number) {
+    return BigInt(whole(name, number, 53));
 }

@@ -129,6 +129,100 @@ assert.equal(dataOf(15, "000a" + "026d78" + "076578616d706c6503636f6d00"), "000a
 assert.equal(dataOf(33, "000000000000" + "076578616d706c6503636f6d00"), "000000000000" + "076578616d706c6503636f6d00");
 assert.equal(dataOf(15, "000a"), "000a");
 
+// A number that isn't whole, or is out of its argument's range, isn't cut: it is told by name, and nothing is changed.
+const numbered = dns.builder({ capacity: 200, id: 65535, flags: 65535 }), placed = dns.composer(12);
+placed.appendOctets(new Uint8Array(12));
+for (const [name, bits, call] of [
+    ["offset", 53, (number) => dns.readName(message, number)], ["limit", 8, (number) => dns.readName(message, 12, number)],
+    ["offset", 53, (number) => dns.skipName(message, number)], ["offset", 53, (number) => dns.question(message, number)],
+    ["offset", 53, (number) => dns.record(message, number)], ["offset", 53, (number) => dns.recordText(message, number)],
+    ["index", 53, (number) => dns.nameInData(message, alias, number)],
+    ["index", 53, (number) => dns.numberInData(message, alias, number)],
+    ["dataOffset", 53, (number) => dns.nameInData(message, { ...alias, dataOffset: number })],
+    ["type", 16, (number) => dns.nameInData(message, { ...alias, type: number })],
+    ["type", 16, (number) => dns.numberInData(message, { ...alias, type: number })],
+    ["type", 16, (number) => dns.addressInData(message, { ...alias, type: number })],
+    ["type", 16, (number) => [...dns.stringsInData(message, { ...alias, type: number })]],
+    ["type", 16, (number) => [...dns.optionsInData(message, { ...alias, type: number })]],
+    ["type", 16, (number) => dns.opt({ ...edns[1], type: number })], ["class", 16, (number) => dns.opt({ ...edns[1], class: number })],
+    ["ttl", 32, (number) => dns.opt({ ...edns[1], ttl: number })], ["flags", 16, (number) => dns.opt(edns[1], number)],
+    ["limit", 16, (number) => dns.canonicalName(message, number)], ["number", 16, (number) => dns.mnemonic("type", number)],
+    ["capacity", 53, (number) => dns.builder({ capacity: number })], ["id", 16, (number) => dns.builder({ id: number })],
+    ["flags", 16, (number) => dns.builder({ flags: number })], ["bits", 16, (number) => numbered.setFlags(number)],
+    ["type", 16, (number) => numbered.question(owner, number)], ["class", 16, (number) => numbered.question(owner, 1, number)],
+    ["type", 16, (number) => numbered.record("answers", owner, number, new Uint8Array(4))],
+    ["class", 16, (number) => numbered.record("answers", owner, 1, new Uint8Array(4), { class: number })],
+    ["ttl", 32, (number) => numbered.record("answers", owner, 1, new Uint8Array(4), { ttl: number })],
+    ["size", 16, (number) => numbered.opt({ size: number })], ["rcode", 12, (number) => numbered.opt({ rcode: number })],
+    ["version", 8, (number) => numbered.opt({ version: number })], ["capacity", 53, (number) => dns.composer(number)],
+    ["offset", 53, (number) => placed.setUint16(number, 1)], ["number", 16, (number) => placed.setUint16(4, number)],
+]) {
+    const tells = (kind, number) => assert.throws(() => call(number), (error) => {
+        return error instanceof kind && error.message.startsWith(`${name} isn't a `);
+    }, `${name} ${String(number)}`);
+    for (const number of [-1, 2 ** bits, 2 ** bits + 70000, 2 ** 64, 0.5, NaN, Infinity, -Infinity]) tells(RangeError, number);
+    for (const other of ["1", null, true, 1n, {}]) tells(TypeError, other);
+}
+assert.throws(() => placed.appendOctets([256]), TypeError);
+assert.deepEqual(placed.octets(), new Uint8Array(12));
+assert.equal(numbered.length(), 12);
+// The largest are written as they are; an offset past all octets is past the end.
+numbered.record("answers", owner, 65535, new Uint8Array(0), { ttl: 0xffffffff, class: 65535 });
+numbered.opt({ size: 65535, rcode: 4095, version: 255, dnssecOk: true });
+const largest = numbered.finish(), [record, largestOpt] = dns.table(largest);
+assert.deepEqual(dns.header(largest), { id: 65535, flags: 65535, questions: 0, answers: 1, authority: 0, additional: 1 });
+assert.deepEqual([record.type, record.class, record.ttl], [65535, 65535, 0xffffffff]);
+assert.deepEqual(dns.opt(largestOpt, 65535), { size: 65535, rcode: 4095, version: 255, dnssecOk: true });
+assert.deepEqual([dns.mnemonic("type", 65535), dns.canonicalName(query, 65535).text], ["TYPE65535", "A."]);
+for (const past of [2 ** 32, 2 ** 32 + 12, Number.MAX_SAFE_INTEGER]) {
+    assert.equal(faultOf(() => dns.readName(message, past)), "ShortInput");
+    assert.equal(faultOf(() => dns.record(message, past)), "ShortInput");
+}
+
+// Strings, options and entries copy the message once, however many there are, and not at each step. What is called between
+// steps, and memory that grows there, disturb nothing.
+const copiesOf = (octets, call) => {
+    const { set } = Uint8Array.prototype;
+    let copies = 0;
+    Uint8Array.prototype.set = function (source, ...more) {
+        copies += source === octets ? 1 : 0;
+        return set.call(this, source, ...more);
+    };
+    try {
+        call();
+    } finally {
+        delete Uint8Array.prototype.set;
+    }
+    return copies;
+};
+let grown = 1 << 20;
+const stepped = (steps) => {
+    const found = [];
+    for (const step of steps) {
+        grown += 1 << 13;
+        assert.equal(dns.readName(new Uint8Array(grown), grown - 1).text, ".");
+        found.push(step);
+    }
+    return found;
+};
+for (const count of [1, 2, 40]) {
+    const strung = ofData(16, octets("026162".repeat(count))), opted = ofData(41, octets("000a0000".repeat(count)));
+    assert.equal(copiesOf(strung[0], () => assert.equal(stepped(dns.stringsInData(...strung)).length, count)), 1);
+    assert.equal(copiesOf(opted[0], () => assert.equal(stepped(dns.optionsInData(...opted)).length, count)), 1);
+    assert.deepEqual(stepped(dns.stringsInData(...strung)), new Array(count).fill(Uint8Array.of(97, 98)));
+    assert.deepEqual(stepped(dns.optionsInData(...opted)), new Array(count).fill({ code: 10, data: new Uint8Array(0) }));
+    // Questions whose names lead to themselves: the header, the table, and the entries each copy it once.
+    const looped = Uint8Array.of(0, 7, 0, 0, 0, count, 0, 0, 0, 0, 0, 0, ...new Array(count).fill([192, 12, 0, 1, 0, 1]).flat());
+    assert.equal(copiesOf(looped, () => assert.equal(stepped(dns.entries(looped)).length, count)), 3);
+}
+// What stands before a fault is given first.
+const broken = dns.stringsInData(...ofData(16, octets("026162" + "0361")));
+assert.deepEqual(broken.next().value, Uint8Array.of(97, 98));
+assert.equal(faultOf(() => broken.next()), "ShortInput");
+const missing = dns.entries(Uint8Array.of(0, 7, 0, 0, 0, 2, 0, 0, 0, 0, 0, 0, 192, 12, 0, 1, 0, 1, 0));
+assert.deepEqual(missing.next().value, { section: "questions", offset: 12, type: 1, class: 1, end: 18 });
+assert.equal(faultOf(() => missing.next()), "ShortInput");
+
 // A message that is composed by hand: a header, a CNAME record with compressed data, whose length is set behind them.
 const composer = dns.composer(47);
 composer.appendOctets(Uint8Array.of(0, 7, 128, 0, 0, 0, 0, 1, 0, 0, 0, 0));
