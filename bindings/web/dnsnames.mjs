@@ -4,9 +4,9 @@
 //     const dns = await load(fetch("dnsnames_c.wasm"));
 //     dns.readName(message, 12).text          // "www.example.com."
 //
-// Octets go in as Uint8Array and come back as new ones. A refusal throws NameFault; a number that isn't whole or is out of
-// range throws RangeError, and what is no number TypeError, which name it. What octets and texts spell is decided by the
-// module; this file passes them on, and isn't proved.
+// Octets go in as Uint8Array and come back as new ones. A refusal throws NameFault; a number that isn't whole or is out
+// of range throws RangeError, and what is no number TypeError, which name it. What octets and texts spell is decided by
+// the module; this file passes them on, and isn't proved.
 
 const MAX_LEN = 255;
 const MAX_TEXT = 1020;
@@ -284,8 +284,8 @@ export class DnsNames {
         }
     }
 
-    // What `read` finds in so many results of a call for each string or option of data, up to its fault. All are read before the
-    // first is given, as other calls use the same memory: the message is copied once.
+    // What `read` finds in so many results of a call for each string or option of data, up to its fault. All are
+    // read before the first is given, as other calls use the same memory: the message is copied once.
     *#each(call, message, record, count, read) {
         const [slice] = this.#begin(message), values = [...slice, ...dataOf(record)], found = [];
         const [passed, ...results] = this.#results(1 + count);
@@ -361,7 +361,8 @@ export class DnsNames {
         if (fault) throw fault;
     }
 
-    // The questions and records behind these rows, and the fault of the first that can't be read. The message is copied once.
+    // The questions and records behind these rows, and the fault of the first that can't be read: read at once, so
+    // the message is copied once.
     #rest(message, numbers) {
         const [slice] = this.#begin(message), counts = countsOf(message), entries = [];
         let offset = numbers.at(-1) ?? 12, passed = numbers.length / ROW_LEN;

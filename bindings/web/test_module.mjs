@@ -179,8 +179,8 @@ for (const past of [2 ** 32, 2 ** 32 + 12, Number.MAX_SAFE_INTEGER]) {
     assert.equal(faultOf(() => dns.record(message, past)), "ShortInput");
 }
 
-// Strings, options and entries copy the message once, however many there are, and not at each step. What is called between
-// steps, and memory that grows there, disturb nothing.
+// Strings, options and entries copy the message once, however many there are, and not at each step. What is called
+// between steps, and memory that grows there, disturb nothing.
 const copiesOf = (octets, call) => {
     const { set } = Uint8Array.prototype;
     let copies = 0;

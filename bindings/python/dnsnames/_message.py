@@ -470,6 +470,14 @@ class Composer:
         self._table = (c_uint16 * MAX_TABLE)()
         self._lock = Lock()
 
+    def __deepcopy__(self, memo: Dict[int, Any]) -> Composer:
+        """A composer of its own, with what was composed. A lock isn't copied."""
+        other = Composer(self._capacity)
+        with self._lock:
+            other._buffer[:], other._table[:] = self._buffer[:], self._table[:]
+            other._length.value, other._table_length.value = self._length.value, self._table_length.value
+        return other
+
     def append(self, name: Name) -> None:
         """Appends a name. Raises NoRoom where the octets don't fit, and changes nothing then."""
         octets = bytes(name)

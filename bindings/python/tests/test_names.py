@@ -337,6 +337,15 @@ class Messages(unittest.TestCase):
         with self.assertRaises(dnsnames.NoRoom):
             Composer(0).append(Name("."))
 
+    def test_a_composer_is_copied(self):
+        composer = Composer(64)
+        composer.append(Name("example.com"))
+        other = copy.deepcopy(composer)
+        other.append(Name("www.example.com"))
+        self.assertEqual((len(composer), bytes(other)), (13, bytes(composer) + b"\3www\xc0\0"))
+        composer.append(Name("example.com"))
+        self.assertEqual(bytes(composer)[13:], b"\xc0\0")
+
 
 def of_data(type_, data, class_=1, ttl=0, flags=0x8183):
     """A message of one record, of the root."""
