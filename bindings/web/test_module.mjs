@@ -215,6 +215,22 @@ for (const count of [1, 2, 40]) {
     const looped = Uint8Array.of(0, 7, 0, 0, 0, count, 0, 0, 0, 0, 0, 0, ...new Array(count).fill([192, 12, 0, 1, 0, 1]).flat());
     assert.equal(copiesOf(looped, () => assert.equal(stepped(dns.entries(looped)).length, count)), 3);
 }
+// A record whose owner leads to itself, behind a question that can be read, and more behind it.
+const mixed = octets(
+    "000780000001000200000001" + "0161000001" + "0001" + "c01300010001000000000000" + "c00c00010001000000000000" +
+    "00002904d0000000000000",
+);
+const mixedEntries = stepped(dns.entries(mixed));
+assert.deepEqual(mixedEntries.map(({ section, offset }) => [section, offset]), [
+    ["questions", 12], ["answers", 19], ["answers", 31], ["additional", 43],
+]);
+assert.deepEqual(mixedEntries.map(({ name }) => name?.length), [3, undefined, undefined, undefined]);
+const { section, ...last } = mixedEntries.at(-1);
+assert.deepEqual([section, last], ["additional", dns.record(mixed, 43)]);
+assert.equal(copiesOf(mixed, () => stepped(dns.entries(mixed))), 3);
+const ending = dns.entries(mixed.slice(0, -1));
+for (const { offset } of mixedEntries.slice(0, -1)) assert.equal(ending.next().value.offset, offset);
+assert.throws(() => ending.next(), ({ fault, offset }) => fault === "ShortInput" && offset === 43);
 // What stands before a fault is given first.
 const broken = dns.stringsInData(...ofData(16, octets("026162" + "0361")));
 assert.deepEqual(broken.next().value, Uint8Array.of(97, 98));
