@@ -8,3 +8,4 @@ pub mod Putting
 pub mod RoomLaws
 pub mod Streams
 pub mod Writing
+pub mod Listed

@@ -5,10 +5,12 @@
 
 mod edns;
 mod flags;
+pub mod laws;
 pub mod message;
 pub mod put;
 pub mod record;
 mod room;
 pub mod streams;
 
+pub use laws::listed_laws;
 pub use put::{PutText, put_message, put_record};

@@ -1,6 +1,6 @@
 //! A buffer that text is put into as far as it fits.
-ghost use Rattle.std.specs.Prelude.{◌≡◌, ◌≤◌, ◌+◌, length, None};
-ghost use Rattle.domain_lines.specs.Rooms.{placed, LaysBehind};
+ghost use Rattle.std.specs.Prelude.{◌≡◌, ◌≤◌, ◌+◌, length, None, OnOk};
+ghost use Rattle.domain_lines.specs.Rooms.{placed, LaysBehind, takes};
 
 use crate::streams::Sink;
 use domain_tool::tool::WriteFault;
@@ -36,14 +36,11 @@ fn put_fitting(octets: &[u8], buffer: &mut [u8], offset: usize)
     }
 }
 
-impl<'a> fmt::Write for Room<'a> {
-    ghost use Rattle.domain_lines.specs.Rooms.{takes};
-
-    ghost write_str_gives = { λ a text b. takes a b text };
-
-    /// It fails only where there are more octets than a `usize` counts.
-    fn write_str(&mut self, s: &str) -> fmt::Result {
-        let octets = s.as_bytes();
+impl<'a> Room<'a> {
+    /// Puts what fits of the octets behind what was put. It fails only where there are more octets than a `usize` counts.
+    fn put(&mut self, octets: &[u8]) -> fmt::Result
+        ensures { OnOk result (takes self.old self.new octets.now) }
+    {
         let Some(len) = self.len.checked_add(octets.len()) else {
             return Err(fmt::Error);
         };
@@ -53,8 +50,16 @@ impl<'a> fmt::Write for Room<'a> {
     }
 }
 
+impl<'a> fmt::Write for Room<'a> {
+    ghost write_str_gives = { λ a text b. takes a b text };
+
+    /// It fails only where there are more octets than a `usize` counts.
+    fn write_str(&mut self, s: &str) -> fmt::Result {
+        self.put(s.as_bytes())
+    }
+}
+
 impl<'a> Sink for Room<'a> {
-    ghost use Rattle.domain_lines.specs.Rooms.{takes};
     ghost use Rattle.domain_lines.specs.RoomLaws.{takes_nothing, takes_both};
 
     ghost contents = { λ _. None };
@@ -62,6 +67,15 @@ impl<'a> Sink for Room<'a> {
     ghost takes = { takes };
 
     ghost failed = { λ _. Unit {0} };
+
+    ghost sent = { λ _. Unit {0} };
+
+    fn put_octets(&mut self, octets: &[u8]) -> Result<(), WriteFault> {
+        match self.put(octets) {
+            Ok(()) => Ok(()),
+            Err(_) => Err(WriteFault::Refused),
+        }
+    }
 
     fn put_line<D: fmt::Display + Drop>(&mut self, text: D) -> Result<(), WriteFault> {
         match fmt::Write::writeln(self, text) {

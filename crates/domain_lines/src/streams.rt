@@ -1,5 +1,5 @@
 //! What is read to its end, and what lines are written to.
-ghost use Rattle.std.specs.Prelude.{◌≡◌, ◌++◌, ◌⊎◌, [], ℕ, List, Option, OnOk, OnErr, IfOk, IfErr, IfSome};
+ghost use Rattle.std.specs.Prelude.{◌≡◌, ◌++◌, ◌⊎◌, ◌↔◌, [], ℕ, List, Option, IsOk, OnOk, OnErr, IfOk, IfErr, IfSome};
 ghost use Rattle.std.specs.Io.KnownBytes.{Appends, Keeps, IsAtEnd};
 ghost use Rattle.domain_lines.specs.Streams.{PutsTextLine};
 ghost use Rattle.domain_tool.specs.Outputs.{AppendsLine};
@@ -8,6 +8,7 @@ ghost use Rattle.domain_tool.specs.declared.tool.ToolError.{ToolError};
 use domain_tool::tool::{ToolError, WriteFault, read_all, write_line};
 use std::alloc::Global;
 use std::fmt::Display;
+use std::io;
 use std::io::{Read, Write};
 
 /// A stream that is read to its end: any `Read`.
@@ -42,7 +43,10 @@ impl<R: Read> Source for R {
     }
 }
 
-/// A stream that lines are written to: any `Write`. `failed` is as that of `Source`.
+/// A stream that lines and octets are written to: any `Write`. `failed` is as that of `Source`.
+///
+/// A contract tells by `sent` that all was sent on, of which a function over any `Sink` knows nothing but that a `send`
+/// that returned `Ok` left it so. So it can't tell so where it didn't send, or passed over an error.
 pub trait Sink {
     /// What it holds, where that is known.
     ghost contents: { Self → Option (List ℕ) };
@@ -53,6 +57,16 @@ pub trait Sink {
     /// The last call failed.
     ghost failed: { Self → Type 0 };
 
+    /// All that was put was sent on: the last call was a `send` that returned `Ok`.
+    ghost sent: { Self → Type 0 };
+
+    /// Writes octets.
+    fn put_octets(&mut self, octets: &[u8]) -> Result<(), WriteFault>
+        ensures written { OnOk result
+            (Appends (contents self.old) (contents self.new) octets.now) }
+        ensures taken { OnOk result (takes self.old self.new octets.now) }
+        ensures failed { OnErr result (failed self.new) };
+
     /// Writes a text and a newline.
     fn put_line<D: Display + Drop>(&mut self, text: D) -> Result<(), WriteFault>
         ensures written { OnOk result (AppendsLine contents (D.output text) self.old self.new) }
@@ -62,6 +76,7 @@ pub trait Sink {
     /// Sends on what was written.
     fn send(&mut self) -> Result<(), WriteFault>
         ensures kept { OnOk result (Keeps (contents self.old) (contents self.new)) }
+        ensures sent { OnOk result (sent self.new) }
         ensures failed { OnErr result (failed self.new) };
 
     /// A text that was put stands behind what it held, where that is known.
@@ -76,6 +91,16 @@ pub trait Sink {
         takes b c second → takes a c (first ++ second) };
 }
 
+/// What flushing came to, as `send` returns it. The contract of `flush` says the same of `Ok` and `Err`.
+fn sent_on(flushed: io::Result<()>) -> Result<(), WriteFault>
+    ensures { IsOk result ↔ IsOk flushed }
+{
+    match flushed {
+        Ok(()) => Ok(()),
+        Err(_) => Err(WriteFault::Refused),
+    }
+}
+
 impl<W: Write> Sink for W {
     ghost use Rattle.std.proofs.KnownBytes.{Appends-nil, Appends-trans};
 
@@ -85,6 +110,13 @@ impl<W: Write> Sink for W {
 
     ghost failed = { λ _. Unit {0} };
 
+    ghost sent = { λ _. Unit {0} };
+
+    fn put_octets(&mut self, octets: &[u8]) -> Result<(), WriteFault> {
+        self.write_all(octets)?;
+        Ok(())
+    }
+
     fn put_line<D: Display + Drop>(&mut self, text: D) -> Result<(), WriteFault> {
         match write_line(self, text) {
             Ok(()) => Ok(()),
@@ -93,10 +125,7 @@ impl<W: Write> Sink for W {
     }
 
     fn send(&mut self) -> Result<(), WriteFault> {
-        match self.flush() {
-            Ok(()) => Ok(()),
-            Err(_) => Err(WriteFault::Refused),
-        }
+        sent_on(self.flush())
     }
 
     ghost appends = { λ a b text put. put };
