@@ -16,3 +16,7 @@ EitherFailed ReadingFailed input WritingFailed old new =
 abbrev pub IfEitherFailed : {R W : Type 0} → Result (Unit {0}) ToolError → (R → Type 0) → R → (W → Type 0) → W → W → Type 0
 IfEitherFailed result ReadingFailed input WritingFailed old new =
     IfStreamFailed result (EitherFailed ReadingFailed input WritingFailed old new)
+
+-- All that was put into the output was sent on; or nothing was put, and it is as it was.
+abbrev pub IsSentIfPut : {W : Type 0} → (W → Type 0) → W → W → Type 0
+IsSentIfPut Sent old new = Sent new ⊎ (new ≡ old)

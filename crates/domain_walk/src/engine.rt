@@ -2,7 +2,7 @@
 ghost use Rattle.std.specs.Prelude.{◌≡◌, ◌≤◌, ◌↔◌, true, false, Some, IfOk, IfErr, IfSome, IsNone, OnOk, OnErr};
 ghost use Rattle.std.specs.Bool.{OnTrue};
 ghost use Rattle.std.specs.Io.KnownBytes.{IsAtEnd};
-ghost use Rattle.domain_lines.specs.Streams.{EitherFailed};
+ghost use Rattle.domain_lines.specs.Streams.{EitherFailed, IsSentIfPut};
 ghost use Rattle.domain_tool.specs.WordParts.{texts};
 ghost use Rattle.domain_walk.specs.Asked.{IsOfStream, AsksTo, AsksForSomething, WordAsks, IsMessage};
 ghost use Rattle.domain_walk.specs.Asked.{LacksDigits, WritesOf, ShowsOf, Answers, AnswersWords};
@@ -138,6 +138,8 @@ pub fn run<R: Source, W: Sink, E: Write>(
     ensures untouched { result ≡ 2 → (input.new ≡ input.old) × (output.new ≡ output.old) }
     ensures failed { result ≡ 3 →
         EitherFailed R.failed input.new W.failed output.old output.new }
+    ensures sent { result ≡ 0 → W.sent output.new }
+    ensures none_kept { result ≡ 1 → IsSentIfPut W.sent output.old output.new }
     ensures quiet { result ≡ 0 → errors.new ≡ errors.old }
 {
     let Some((asked, hex)) = asked_for(words) else {
@@ -168,6 +170,8 @@ fn carry_out<R: Source, W: Sink, E: Write>(
         output.old output.new) }
     ensures failed { OnErr result
         (EitherFailed R.failed input.new W.failed output.old output.new) }
+    ensures sent { IfOk result (λ found. OnTrue found (W.sent output.new)) }
+    ensures none_kept { OnOk result (IsSentIfPut W.sent output.old output.new) }
     ensures quiet { IfOk result (λ found. OnTrue found (errors.new ≡ errors.old)) }
 {
     let mut octets = match input.read_whole(alloc) {
@@ -205,6 +209,7 @@ fn answer<W: Sink, E: Write>(
     errors: &mut E,
 ) -> Result<bool, ToolError>
     ensures written { IfOk result (WritesOf W.contents asked message.now output.old output.new) }
+    ensures sent { OnOk result (W.sent output.new) }
     ensures failed { OnErr result (W.failed output.new) }
     ensures quiet { IfOk result (λ found. OnTrue found (errors.new ≡ errors.old)) }
 {
@@ -218,6 +223,7 @@ fn answer<W: Sink, E: Write>(
 fn follow<W: Sink>(message: &[u8], output: &mut W, offset: u32) -> Result<bool, ToolError>
     ensures written { IfOk result
         (FollowsName W.contents message.now offset output.old output.new) }
+    ensures sent { OnOk result (W.sent output.new) }
     ensures failed { OnErr result (W.failed output.new) }
 {
     let found = follow_in(message, output, offset)?;
@@ -232,6 +238,7 @@ fn show<W: Sink, E: Write>(
     errors: &mut E,
 ) -> Result<bool, ToolError>
     ensures written { IfOk result (ShowsOf W.contents message.now output.old output.new) }
+    ensures sent { OnOk result (W.sent output.new) }
     ensures failed { OnErr result (W.failed output.new) }
     ensures quiet { IfOk result (λ whole. OnTrue whole (errors.new ≡ errors.old)) }
 {
