@@ -6,3 +6,4 @@ pub mod Refusals
 pub mod Made
 pub mod Taking
 pub mod Reasons
+pub mod Telling

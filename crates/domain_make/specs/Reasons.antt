@@ -1,4 +1,4 @@
--- What errors show.
+-- What errors show, and the usage.
 use Rattle.std.specs.Prelude.{ℕ, List, ◌++◌, codes}
 use Rattle.std.specs.Fmt.{decimal}
 use Rattle.domain_data_text.specs.FaultTexts.{fault_text}
@@ -16,3 +16,7 @@ make_error_text (Line e) = line_error_text e
 make_error_text Read = codes "reading failed"
 make_error_text Write = codes "writing failed"
 make_error_text Memory = codes "out of memory"
+
+-- which words the program takes
+abbrev pub usage_text : List ℕ
+usage_text = codes "usage: dnswalk make [--hex]"

@@ -4,18 +4,21 @@ ghost use Rattle.std.specs.Io.KnownBytes.{IsAtEnd};
 ghost use Rattle.domain_tool.specs.WireText.{octet_digits, hexadecimal};
 ghost use Rattle.domain_tool.specs.WordParts.{texts};
 ghost use Rattle.domain_make.specs.Made.{IsMade, WritesOctets, MakesOf, AsksToMake, MakesAsked, IfLine};
+ghost use Rattle.domain_make.specs.Reasons.{usage_text};
 ghost use Rattle.domain_make.specs.Refusals.{StopsAtLine, NotMade, StopsSomewhere, StopsAtGiven, GivenNotMade};
+ghost use Rattle.domain_make.specs.Telling.{TellsReason, TellsText, TellsLine, TellsFailure};
 
 use crate::error::MakeError;
 use crate::line::take_lines;
 use domain_compress::CompressComposer;
 use domain_label::hex::hex_character;
+use domain_lines::streams::Sink;
 use domain_message_builder::MessageBuilder;
 use domain_rdata::Composer;
-use domain_tool::tool::{ToolError, WriteFault, read_all, write_line};
+use domain_tool::tool::{ToolError, WriteFault, read_all};
 use std::alloc::Global;
 use std::fmt;
-use std::io::{Read, Write};
+use std::io::Read;
 
 /// Appends to an empty target the message that the lines of a text say.
 ///
@@ -85,25 +88,22 @@ impl fmt::Display for Digits {
 }
 
 /// Writes octets as they are, or in hexadecimal digits and with a newline.
-fn write_octets<W: Write>(octets: &[u8], hex: bool, output: &mut W) -> Result<(), WriteFault>
+fn write_octets<W: Sink>(octets: &[u8], hex: bool, output: &mut W) -> Result<(), WriteFault>
     ensures { OnOk result (WritesOctets W.contents octets.now hex output.old output.new) }
 {
     if hex {
-        return write_line(output, Hexadecimal { octets });
+        return output.put_line(Hexadecimal { octets });
     }
-    output.write_all(octets)?;
-    Ok(())
+    output.put_octets(octets)
 }
 
 /// Writes octets as `write_octets` does, and flushes the output.
-fn send_octets<W: Write>(octets: &[u8], hex: bool, output: &mut W) -> Result<(), WriteFault>
-    ensures { OnOk result (WritesOctets W.contents octets.now hex output.old output.new) }
+fn send_octets<W: Sink>(octets: &[u8], hex: bool, output: &mut W) -> Result<(), WriteFault>
+    ensures written { OnOk result (WritesOctets W.contents octets.now hex output.old output.new) }
+    ensures sent { OnOk result (W.sent output.new) }
 {
     write_octets(octets, hex, output)?;
-    match output.flush() {
-        Ok(()) => Ok(()),
-        Err(_) => Err(WriteFault::Refused),
-    }
+    output.send()
 }
 
 /// Reads the input to its end, writes the message that its lines say, as it is or in hexadecimal digits and with a
@@ -111,7 +111,7 @@ fn send_octets<W: Write>(octets: &[u8], hex: bool, output: &mut W) -> Result<(),
 ///
 /// `Line` has the first line that isn't taken, and why, as of `make_message`; nothing is written then. `Read`, `Write`
 /// or `Memory` where one of these failed.
-pub fn make<R: Read, W: Write>(
+pub fn make<R: Read, W: Sink>(
     alloc: Global,
     input: &mut R,
     output: &mut W,
@@ -120,6 +120,7 @@ pub fn make<R: Read, W: Write>(
     ensures whole { OnOk result (IsAtEnd (R.remaining input.new)) }
     ensures written { OnOk result (MakesOf (R.remaining input.old) hex
         W.contents output.old output.new) }
+    ensures sent { OnOk result (W.sent output.new) }
     ensures refused { IfErr result (λ e. IfLine e (StopsAtGiven true (R.remaining input.old))) }
     ensures accepted { IfErr result (λ e. IfLine e (λ _.
         GivenNotMade true (R.remaining input.old))) }
@@ -154,10 +155,21 @@ fn asked(words: &[&str]) -> Option<bool>
     }
 }
 
+/// Tells a reason, and a newline. That this fails is no error.
+fn tell<D: fmt::Display + Drop, E: Sink>(reason: D, errors: &mut E)
+    ensures { TellsText E.Sink (D.output reason) errors.old errors.new }
+{
+    let _ = errors.put_line(reason);
+}
+
 /// Carries out the words that follow the program's name, where the first of them is `make`. The answer is the status to
 /// end with: 0 where the message was written, 1 where a line isn't taken, 2 for other words than `make`,
-/// and `--hex` or not; 3 where reading, writing or memory failed. The reasons are on `errors`.
-pub fn run<R: Read, W: Write, E: Write>(
+/// and `--hex` or not; 3 where reading, writing or memory failed.
+///
+/// The reason is written to `errors`, and a newline: of status 1 the line, the column and the fault, of 2 the usage, of 3
+/// `reading failed`, `writing failed` or `out of memory`. That this fails changes no status. Where all is done nothing is
+/// written there.
+pub fn run<R: Read, W: Sink, E: Sink>(
     alloc: Global,
     words: &[&str],
     input: &mut R,
@@ -172,16 +184,21 @@ pub fn run<R: Read, W: Write, E: Write>(
     ensures accepted { result ≡ 1 → GivenNotMade true (R.remaining input.old) }
     ensures usage { result ≡ 2 ↔ ((hex : Bool) → AsksToMake (texts words.now) hex → ⊥) }
     ensures untouched { result ≡ 2 → (input.new ≡ input.old) × (output.new ≡ output.old) }
+    ensures sent { result ≡ 0 → W.sent output.new }
     ensures quiet { result ≡ 0 → errors.new ≡ errors.old }
+    ensures line_told { result ≡ 1 →
+        TellsLine (R.remaining input.old) E.Sink errors.old errors.new }
+    ensures usage_told { result ≡ 2 → TellsReason E.Sink usage_text errors.old errors.new }
+    ensures failure_told { result ≡ 3 → TellsFailure E.Sink errors.old errors.new }
 {
     let Some(hex) = asked(words) else {
-        let _ = write_line(errors, USAGE);
+        tell(USAGE, errors);
         return 2;
     };
     let Err(e) = make(alloc, input, output, hex) else {
         return 0;
     };
-    let _ = write_line(errors, e);
+    tell(e, errors);
     match e {
         MakeError::Line(_) => 1,
         MakeError::Read | MakeError::Write | MakeError::Memory => 3,
