@@ -25,7 +25,7 @@ CHAIN = 1100  # the longest row of pointers that is tried
 STATED = {
     "256 pointers in a row": "it follows at most 255 pointers",
     "1000 pointers in a row": "it follows at most 255 pointers",
-    r"\[x.com.": r"it refuses `\[` at the beginning of a label, as the Rust crate does, since that began a label of "
+    r"\[x.com.": r"it refuses `\[` at the start of a label, as the Rust crate does, since that started a label of "
                  "bits (RFC 2673, historic)",
 }
 YES, OTHER, NO, NONE, UNASKED = "yes", "other", "no", "-", "?"
@@ -81,7 +81,7 @@ def is_right(case, cell):
 
 def standard(case):
     """What the standard says of a case, as a part of a sentence."""
-    says = {ACCEPT: "accepts" if case.group in ("read", "text") else "wants it so", REFUSE: "refuses",
+    says = {ACCEPT: "accepts" if case.group in ("read", "text") else "requires it", REFUSE: "refuses",
             UNSAID: "doesn't say"}
     return f"the standard {says[case.expect]} (RFC {RULES[case.rule][0].replace(' ', ', ')})"
 
@@ -91,7 +91,7 @@ def verb(group, cell, many):
     s = "" if many else "s"
     return {YES: {"show": f"show{s} a text of it", "order": f"sort{s} so"}.get(group, f"accept{s}"),
             OTHER: {"read": f"read{s} other labels or another end", "text": f"read{s} another name",
-                    "show": f"show{s} a text of another name", "order": f"sort{s} otherwise"}[group],
+                    "show": f"show{s} a text of another name", "order": f"sort{s} differently"}[group],
             NO: f"refuse{s}", DIED: "died", HUNG: "gave no answer in 5 seconds",
             NONE: "have no such call" if many else "has no such call",
             UNASKED: "weren't asked" if many else "wasn't asked"}[cell]
@@ -179,20 +179,18 @@ class Report:
     # The page.
 
     def head(self):
-        self.say("# Beside other libraries", "", filled(
+        self.say("# Comparison with other libraries", "", filled(
             "What DNS libraries accept as a name in a message and as a name's text, how they order names, and what "
-            "the standard says of it. `evidence/compare/run.sh WORK docs` builds a driver for each library that "
-            "is there, "
-            f"asks all of them the same {len(self.cases)} cases (`evidence/compare/corpus.py`, which takes what "
-            f"is expected "
-            "from the standard's text alone), and writes this page and [the table of all "
-            f"cases](../evidence/compare/{CASES}): here on "
-            f"{datetime.date.today().isoformat()}, {platform.system()} {platform.machine()}. Nothing is said of a "
-            "library but what that run saw of the version below. What hostile messages cost in each: "
-            "[COST.md](COST.md). How 300 messages of dnspython and libknot come out when this project reads and writes "
-            "them: [CONFORMANCE.md](CONFORMANCE.md#messages-of-other-writers). Whether the types, classes, codes and "
-            "options here have IANA's numbers and words: `evidence/compare/registries` compares each with the copy of "
-            "the registry that Net::DNS has, and prints what is later than that copy."), "")
+            "the standard says. `evidence/compare/run.sh WORK docs` builds a driver for each library that is "
+            f"installed, and asks all of them the same {len(self.cases)} cases (`evidence/compare/corpus.py`, whose "
+            "expected answers come from the standard's text alone). It writes this page and [the table of all "
+            f"cases](../evidence/compare/{CASES}): here on {datetime.date.today().isoformat()}, {platform.system()} "
+            f"{platform.machine()}. The page reports only what that run saw of the versions below."), "", filled(
+            "What hostile messages cost in each: [COST.md](COST.md). How 300 messages of dnspython and libknot come "
+            "out when this project reads and writes them: [CONFORMANCE.md](CONFORMANCE.md#messages-of-other-writers). "
+            "`evidence/compare/registries` checks whether the types, classes, codes and options here have IANA's "
+            "numbers and words. It compares each with the copy of the registry that Net::DNS has, and prints what is "
+            "later than that copy."), "")
 
     def differences(self):
         self.say("## Where this project differs", "")
@@ -226,11 +224,9 @@ class Report:
         told = {group: [case for case in self.cases if case.group == group and case.expect != UNSAID]
                 for group in WHERE}
         self.say("## How often each differs from the standard's text", "", filled(
-            "Of the cases of which it says something. The random messages are held against a reader of twenty lines "
-            f"([its rules](../evidence/compare/{CASES}#random-messages)); the last column is how many pointers "
-            f"in a row a "
-            "library "
-            f"follows, of up to {CHAIN:,}."), "",
+            "Of the cases that the standard decides. The random messages are compared with a reader of twenty lines "
+            f"([its rules](../evidence/compare/{CASES}#random-messages)). The last column is how many pointers in a "
+            f"row a library follows, of up to {CHAIN:,}."), "",
             "| | " + " | ".join(f"{WHERE[group]}, {len(cases)}" for group, cases in told.items())
             + f" | random messages, {RANDOM_MESSAGES:,} | pointers |", "|---|" + "--:|" * (len(told) + 2))
         for key in self.keys:
@@ -248,8 +244,8 @@ class Report:
 
     def sentences(self):
         self.say("## Where they differ", "", filled(
-            "Those that aren't named do what the standard says. cares, libc and both of Go's give names as text, "
-            "which their drivers take apart into labels. The call of cares that makes a name of a text makes a query "
+            "Libraries that aren't named do what the standard says. cares, libc and both of Go's return names as "
+            "text, which their drivers split into labels. The call of cares that makes a name from text makes a query "
             "of it, and that of gonet knows no escapes: neither claims to read texts of zone files."), "")
         for group, title in TITLES.items():
             alike = {}

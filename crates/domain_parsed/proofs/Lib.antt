@@ -5,4 +5,3 @@ pub mod NoNamePastEnd
 pub mod Dropping
 pub mod Splitting
 pub mod ParsedFields
-pub mod Running

@@ -7,7 +7,6 @@ mod iter;
 mod labels;
 mod order;
 mod parsed;
-mod runs;
 mod suffixes;
 
 pub use domain_reading::heads::Heads;

@@ -10,7 +10,6 @@ ghost use Rattle.domain_reading.specs.Progress.{end_offset, labels_found};
 
 use crate::flat::read_flat;
 use crate::iter::ParsedNameIter;
-use crate::runs::put_runs;
 use crate::suffixes::ParsedSuffixIter;
 use arrayvec::ArrayVec;
 use domain_label::Label;
@@ -24,7 +23,7 @@ use domain_reading::read::read_name_counted;
 use domain_reading::table::{MAX_LABELS, entry_offset};
 use domain_reading::uncounted::{encoding_end, label_at_offset, read_name};
 use domain_wire::ParseError;
-use octseq::{Octets, OctetsBuilder, OctetsFrom, Parser, ShortBuf};
+use octseq::{Octets, OctetsFrom, Parser, ShortBuf};
 use std::alloc::{AllocError, Global};
 use std::marker::Brand;
 use std::ops::Range;
@@ -497,57 +496,6 @@ impl<Octs: Octets> ParsedName<Octs> {
         ensures { result ≡ length (wire (parsed_labels self.now)) }
     {
         self.name_len
-    }
-
-    /// Appends the wire format, without compression (RFC 1035, 3.1), with the clauses of `ToName::compose`. Labels that
-    /// are contiguous in the message are copied at once; `ToName::compose` copies those of a compressed name one by one.
-    ///
-    /// The target's error where the octets don't fit, or where there was no memory for them; nothing is appended then.
-    /// Where they fit its spare capacity, there is no error.
-    #[inline(always)]
-    pub fn compose<Target: OctetsBuilder>(
-        &self,
-        target: &mut Target,
-    ) -> Result<(), Target::AppendError>
-        ensures ok { OnOk result
-            (Target.octets target.new ≡ Target.octets target.old ++ wire (parsed_labels self.now)) }
-        ensures extends { OnOk result
-            (Target.extends target.old (wire (parsed_labels self.now)) target.new) }
-        ensures unchanged { OnErr result (Target.octets target.new ≡ Target.octets target.old) }
-        ensures nothing { OnErr result (Target.extends target.old [] target.new) }
-        ensures full { OnErr result (Target.capacity target.old
-            < length (Target.octets target.old) + length (wire (parsed_labels self.now))) }
-        ensures capacity { Target.capacity target.old ≤ Target.capacity target.new }
-        ensures within { IfSome Target.limit (λ n. length (Target.octets target.new) ≤ n) }
-        ensures fixed { IfSome Target.limit (λ n. Target.capacity target.old ≡ n) }
-    {
-        if let Some(flat) = self.flat_octets() {
-            return target.append_slice(flat);
-        }
-        let mut octets = [0; 255];
-        let len = self.put_labels::<Brand>(&mut octets, Blank::new(1));
-        target.append_slice(&octets[..len])
-    }
-
-    /// Puts the wire format at the beginning of a buffer, and returns how many octets it has.
-    #[inline(always)]
-    fn put_labels<L: Ledger>(&self, octets: &mut [u8; 255], blank: Blank) -> usize
-        requires ledger { blank.name ≡ L.name }
-        requires parts { blank.parts ≡ L.parts }
-        requires some { 0 < blank.parts }
-        ensures size { result ≡ length (wire (parsed_labels self.now)) }
-        ensures wire { take result octets.new ≡ wire (parsed_labels self.now) }
-        ensures fits { result ≤ max_name }
-    {
-        let entries = self.remaining_entries();
-        let mut heads = Heads::<L>::new(blank);
-        put_runs(
-            self.octets.as_slice(),
-            self.base,
-            entries,
-            octets,
-            &mut heads,
-        )
     }
 
     /// The octets of a name that are contiguous, from its first label on. `None` where it may be compressed.
