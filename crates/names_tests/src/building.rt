@@ -153,3 +153,28 @@ fn in_room_that_was_given_nothing_is_refused(rt: HostRuntime) {
         Err(_) => panic!(rt; "no room"),
     }
 }
+
+/// Appends a text by `apply_all` to a builder without labels. Where that is refused, it isn't counted, and the symbols
+/// that stay are followed by the others of the text.
+fn insist_on_text(rt: &impl Abort, builder: &mut NameBuilder<Vec<u8>>, text: &str) -> u8 {
+    if builder.apply_all(&[BuilderCall::AppendChars(text)]) == 1 {
+        return 0;
+    }
+    let open = usize::from(builder.in_label());
+    let taken = builder.len().saturating_sub(open);
+    for (at, char) in text.chars().enumerate() {
+        if at >= taken {
+            assert!(rt; builder.push_symbol(Symbol::Char(char)).is_ok());
+        }
+    }
+    1
+}
+
+#[test]
+fn a_text_goes_on_after_a_refused_symbol(rt: HostRuntime) {
+    let mut builder = NameBuilder::new_vec(rt.alloc());
+    let count = insist_on_text(&rt, &mut builder, "www.Example.com");
+    assert!(rt; builder.in_label());
+    assert!(rt; builder.finish().as_slice() == b"\x03www\x07Example\x03com".as_slice());
+    assert!(rt; count <= MOST_REFUSED);
+}
