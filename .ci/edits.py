@@ -1,4 +1,4 @@
-"""Reads the edits in crates/*/must-fail and crates/*/wrong-bodies, and tells which of them can't show what they are for.
+"""Reads edits, crates/*/must-fail and crates/*/wrong-bodies, and says which of them can't show what they are for.
 
 An edit has a line 'file:', in wrong-bodies a line 'function:' behind it, and then pairs of lines 'old:' and 'new:'; in
 must-fail a further line 'file:' may stand before a pair. Each pair applies to what those before it made, and its old
@@ -51,7 +51,8 @@ class Edit:
             if text.count(old) != 1:
                 return [f"its old text is in {file} {text.count(old)} times, and not once: {old.strip()[:60]}"]
             texts[file] = text.replace(old, new)
-        found = [] if any((self.crate / it).read_text() != text for it, text in texts.items()) else ["it changes nothing"]
+        is_change = any((self.crate / it).read_text() != text for it, text in texts.items())
+        found = [] if is_change else ["it changes nothing"]
         if self.function and not is_there(self.crate, self.function):
             what = "" if self.function.startswith("impl ") else "function "
             found.append(f"the crate has no {what}{self.function}")
