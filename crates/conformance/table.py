@@ -464,6 +464,41 @@ told("chainforms", rel(b"www"), absolute(b"com"), "made={0} canonical={0} cow=ow
 row("forms", absolute(b"www", b"examples", b"com"))
 row("pforms", b"\3com\0\7exampleS\xc0\0\3www\xc0\5".replace(b"\7exampleS", b"\10exampleS"), 16)
 
+topic("names one after another into one array, which refuses those that it has no room for")
+
+
+def onto(size, message, calls):
+    """Each call adds its octets where there is room for all of them; the next one goes on with what is there."""
+    held, answers = b"", []
+    for word, given in calls:
+        octets = given if isinstance(given, bytes) else rel(*read_slowly(message, given)[0])
+        octets = octets.lower() if word.startswith("lower") else octets
+        fits = len(held + octets) <= size
+        held += octets if fits else b""
+        answers.append(("ok " if fits else "err ") + hx(held))
+    own("onto", size, message, ";".join("%s:%s" % (word, hx(given) if isinstance(given, bytes) else given) for word, given in calls), ";".join(answers))
+
+
+COM = absolute(b"com")
+for word in ("at", "lowerat"):
+    own("onto", 17, SCATTERED, "octets:aa;%s:15;%s:0" % (word, word), "ok aa;err aa;ok aa03636f6d00")
+    for size in range(17):
+        own("onto", size, SCATTERED, "%s:15" % word, "err -")
+    own("onto", 17, SCATTERED, "%s:15" % word, "ok " + hx(WWW))
+for size in range(18):
+    for message in (SCATTERED, SCATTERED.replace(b"example", b"EXaMPLE").replace(b"com", b"Com")):
+        for long, short, root in (
+            (("at", 15), ("at", 0), ("at", 4)), (("lowerat", 15), ("lowerat", 0), ("lowerat", 4)),
+            (("name", MIXED), ("name", COM), ("name", b"\0")), (("lower", MIXED), ("lower", b"\3COM\0"), ("lower", b"\0")),
+            (("rel", MIXED[:-1]), ("rel", COM[:-1]), ("rel", b"")), (("lowerrel", MIXED[:-1]), ("lowerrel", b"\3cOM"), ("lowerrel", b"")),
+        ):
+            onto(size, message, [long, short, long, root])
+            onto(size, message, [("octets", b"\xaa"), long, short, ("octets", b"\xbb\xcc"), short, root, root])
+            onto(size, message, [("octets", b"\xaa" * (size - min(size, 5))), long, short, long, root])
+for line in ("onto 18 00 at:0", "onto 5 00 at:1", "onto 5 00 at:x", "onto 5 00 at:", "onto 5 00 nothing:00", "onto 5 00 name:01", "onto 5 00 rel:00", "onto 5 00 -", "onto 5 00", "onto x 00 at:0",
+             "onto 5 00 at:0;", "onto 5 0 at:0"):
+    own(line, "bad")
+
 topic("names in rooms of each size")
 for message, place, name in ((SCATTERED, 15, WWW), (WWW, 0, WWW), (SCATTERED, 0, absolute(b"com")), (b"\0", 0, b"\0"), (MIXED, 0, MIXED)):
     for size in range(18):
@@ -517,6 +552,12 @@ told("split", WWW, 17, "no")
 told("relsplit", RELATIVE, 16, "yes %s -" % hx(RELATIVE))
 told("relsplit", RELATIVE, 4, "yes 03777777 " + hx(RELATIVE[4:]))
 told("relsplit", RELATIVE, 17, "no")
+own("parents", RELATIVE, "076578616d706c6503636f6d,03636f6d,-,none")
+for labels in ((), (b"com",), (b"example", b"com"), (b"www", b"example", b"com"), (b"a", b"B", b"\0", b"\xff" * 63), (b"a", b"b", b"c", b"d", b"e"), (b"1",) * 127):
+    rests = [hx(rel(*labels[at:])) for at in range(1, len(labels) + 1)] + ["none"]
+    own("parents", rel(*labels), ",".join(rests[:4]))
+own("parents", b"\0", "bad")
+own("parents", b"\3ab", "bad")
 for begin in (0, 1, 4, 5, 11, 12, 16, 17):
     for end in (0, 3, 4, 12, 13, 16, 17, 18):
         row("part", WWW, begin, end)
@@ -649,6 +690,23 @@ told("chain", LONG, b"\x03123", "ok %s 254 %s" % (hx(LONG + b"\x03123"), ",".joi
 told("chain", LONG, b"\0041234", "err long domain name")
 told("rooted", LONG + b"\x03123", "ok %s 255 %s %s" % (hx(LONG + b"\x03123\0"), ",".join(["-", "313233"] + [hx(b"123456789")] * 25), hx(b"123456789." * 25 + b"123.")))
 told("chain", rel(b"www"), absolute(b"com"), "ok 0377777703636f6d00 9 -,636f6d,777777")
+
+
+def rooted_chain(left, right):
+    """The labels of both and the root, where these are at most 255 octets."""
+    wire, text = absolute(*left, *right), b".".join([*left, *right, b""]) or b"."
+    labels = ",".join(hx(label) for label in [b"", *right[::-1], *left[::-1]])
+    own("rootedchain", rel(*left), rel(*right), "ok %s %d %s %s" % (hx(wire), len(wire), labels, hx(text)) if len(wire) < 256 else "err long domain name")
+
+
+own("rootedchain", LONG, b"\x03123", "ok %s 255 %s %s" % (hx(LONG + b"\x03123\0"), ",".join(["-", "313233"] + [hx(b"123456789")] * 25), hx(b"123456789." * 25 + b"123.")))
+own("rootedchain", LONG, b"\x041234", "err long domain name")
+own("rootedchain", b"", b"", "ok 00 1 - 2e")
+for left in ((), (b"www",), (b"www", b"Example"), (b"123456789",) * 25, (b"1",) * 126, (b"1",) * 127):
+    for right in ((), (b"com",), (b"Example", b"com"), (b"12",), (b"123",), (b"1234",), (b"1", b"2"), (b"a" * 63,), (b"x" * 63, b"y" * 63, b"z" * 63, b"z" * 60), (b"x" * 63, b"y" * 63, b"z" * 63, b"z" * 61)):
+        rooted_chain(left, right)
+own("rootedchain", b"\0", b"", "bad")
+own("rootedchain", b"", b"\0", "bad")
 for total in (252, 253, 254, 255, 256, 257):
     for left in (2, 128, 250):
         right = total - left
@@ -775,6 +833,33 @@ for message, place in LEFT[:-2] + [LEFT[-1]]:
         if 0 <= dropped < len(labels):
             for calls in ["".join(mixtures.choice("fb") for _call in range(len(labels) - dropped + 3)) for _time in range(4)]:
                 told("mixture", message, place, dropped, calls, from_ends(labels[dropped:], calls))
+
+topic("what is left of names by either call that leaves out a label, from both ends")
+
+
+def after(message, place, steps, calls):
+    """Each step leaves out the first label, but never the root."""
+    labels = read_slowly(message, place)[0]
+    own("after", message, place, steps or "-", calls, from_ends(labels[min(len(steps), len(labels) - 1):], calls))
+
+
+own("after", SCATTERED, 15, "s", "bfff", "-,6578616d706c65,636f6d,none")
+own("after", MOST, 509, "s" * 126, "bff", "-,61,none")
+own("after", SCATTERED, 15, "x", "f", "bad")
+own("after", SCATTERED, 15, "s", "x", "bad")
+own("after", SCATTERED, 21, "s", "f", "bad")
+for message, place in PLACED:
+    for steps in ("", "s", "p", "ss", "sp", "ps", "pp", "sss", "sps", "psp", "ssss", "spspsp"):
+        left = max(4 - len(steps), 1)
+        for number in range(2 ** (left + 1)):
+            after(message, place, steps, "".join("fb"[number >> at & 1] for at in range(left + 1)))
+for message, place in LEFT[:-2] + [LEFT[-1]]:
+    count = len(read_slowly(message, place)[0])
+    for dropped in sorted({1, 2, 3, count // 2, count - 2, count - 1, count, count + 2}):
+        if 0 < dropped:
+            for _time in range(3):
+                steps = "".join(mixtures.choice("sssp") for _step in range(dropped))
+                after(message, place, steps, "".join(mixtures.choice("fb") for _call in range(max(count - dropped, 1) + 2)))
 
 topic("names parsed without pointers")
 told("nparse", b"\3com\0\3www\7example\3com\0af", 0, "ok 03636f6d00 5")
@@ -1002,6 +1087,17 @@ told("build", called(*FILLED, ("slice", b"1234"), ("slice", b"12"), ("push", b"3
 told("build", called(*FILLED, ("label", b"123"), "finish"), "ok;LongLabel;LongLabel;ok;ok;ok " + hx(rel(b"\0" * 63, b"\0" * 60, b"123")))
 told("build", called(*[NINE] * 25, ("label", b"12345"), ("slice", b"12345"), ("slice", b"12"), ("slice", b"34"), ("push", b"3"), ("push", b"4"), "finish"),
      "ok;" * 25 + "LongName;LongName;ok;LongName;ok;LongName;ok " + hx(LONG + b"\x03123"))
+own("buildaside", called(*FILLED), called(("label", b"123")), called(("slice", b"1234"), ("slice", b"12"), ("push", b"3"), ("push", b"4")),
+    "ok;LongLabel;LongLabel;ok %s 1 / ok %s 0 / LongLabel;ok;ok;LongLabel %s 1" % (
+        hx(rel(b"\0" * 63) + b"\0" + b"\0" * 60), hx(rel(b"\0" * 63, b"\0" * 60, b"123")), hx(rel(b"\0" * 63) + b"\0" + b"\0" * 60 + b"123")))
+own("buildaside", called(*[NINE] * 25), called(("label", b"1234"), ("label", b"123")),
+    called(("label", b"12345"), ("slice", b"12345"), ("slice", b"12"), ("slice", b"34"), ("push", b"3"), ("push", b"4")),
+    "ok;" * 24 + "ok %s 0 / LongName;ok %s 0 / LongName;LongName;ok;LongName;ok;LongName %s 1" % (hx(LONG), hx(LONG + b"\x03123"), hx(LONG + b"\x00123")))
+own("buildaside", called(("slice", b"ab")), called(("push", b"c"), "end"), called(("name", b"\1d")), "ok 006162 1 / ok;ok 03616263 0 / ok 0261620164 0")
+own("buildaside", "end", "end", "end", "ok - 0 / ok - 0 / ok - 0")
+for last in ("finish", "into_name", "origin:00", "from:0161", "x", ""):
+    own("buildaside", "end", last, "end", "bad")
+own("buildaside", "end", "end", "bad")
 told("build", called(*[NINE] * 25, ("label", b"1234")), "ok;" * 25 + "LongName %s 0" % hx(LONG))
 told("build", called(*[NINE] * 25, ("label", b"123")), "ok;" * 25 + "ok %s 0" % hx(LONG + b"\x03123"))
 told("build", called(("slice", b"\0" * 60), ("slice", b"123"), ("slice", b"1"), "finish"), "ok;ok;LongLabel;ok " + hx(rel(b"\0" * 60 + b"123")))
@@ -1083,6 +1179,13 @@ told("buildcap", 5, called(("label", b"abc"), ("label", b"d"), ("push", b"d"), "
 told("buildcap", 3, called(("dec", b"\xc0")), "ShortBuf - 0")
 told("buildcap", 3, called(("dec", b"\xc0"), ("dec", b"\x5c")), "ShortBuf;ok 023932 0")
 told("buildcap", 5, called(("chars", "a.b.c")), "ShortBuf 01610162 0")
+own("buildcap", 5, called(("chars", "a.b.c"), "finish"), "ShortBuf;ok 01610162")
+own("buildcap", 5, called(("chars", "a.b.c"), ("push", b"c"), "into_name"), "ShortBuf;ShortBuf;ok 0161016200")
+own("buildcap", 5, called(("chars", "a.b.c"), ("origin", b"\0")), "ShortBuf;ok 0161016200")
+own("buildcap", 5, called(("chars", "a.b.c"), ("origin", b"\1c\0")), "ShortBuf;ShortBuf")
+own("buildcap", 8, called(("chars", "abc.de.fg"), ("push", b"f"), ("char", "."), "into_name"), "ShortBuf;ShortBuf;EmptyLabel;ok 0361626302646500")
+own("buildcap", 8, called(("chars", "abc.d.fg"), ("push", b"h"), "finish"), "ShortBuf;ShortBuf;ok 0361626301640166")
+own("buildcap", 8, called(("chars", "abcd.efg"), ("chars", "."), ("push", b"h"), "finish"), "ShortBuf;ok;ShortBuf;ok 0461626364026566")
 told("buildcap", 5, called(("label", b"abc"), ("label", b"d"), "end", "finish"), "ok;ShortBuf;ok;ok 03616263")
 ROOMS = (0, 1, 2, 3, 4, 5, 8, 255)
 for calls in (

@@ -3,12 +3,14 @@
 use crate::compress::{put_compressed, put_compressedcap};
 use crate::everywhere::put_everywhere;
 use crate::message::{
-    put_limited, put_mixture, put_nparse, put_parentswalk, put_parse, put_rest, put_skip, put_walk,
+    put_after, put_limited, put_mixture, put_nparse, put_parentswalk, put_parse, put_rest,
+    put_skip, put_walk,
 };
 use crate::names::{
     put_fromflat, put_parsed_canonical, put_parsed_forms, put_pchain, put_pcmp, put_pname,
     put_prel, put_room, put_sized,
 };
+use crate::onto::put_onto;
 use crate::records::{put_lengths, put_longdata, put_rdata, put_rdatacmp};
 use conformance_answer::{Answer, Fields, is};
 
@@ -143,6 +145,8 @@ fn call_on_fields(fields: &Fields<'_>, octets: &[u8], offset: usize, out: &Answe
     if is(word, b"mixture") {
         let labels = fields.number(3, out);
         put_mixture(out, octets, offset, labels, fields.at(4));
+    } else if is(word, b"after") {
+        put_after(out, octets, offset, fields.at(3), fields.at(4));
     } else if is(word, b"pchain") {
         let left = fields.octets(3, out);
         let right = fields.octets(4, out);
@@ -188,6 +192,11 @@ fn answer_calls(fields: &Fields<'_>, out: &Answer) -> bool {
         fields.expect(3, out);
         let room = fields.number(1, out);
         put_compressedcap(out, room, fields.at(2));
+    } else if is(word, b"onto") {
+        fields.expect(4, out);
+        let size = fields.number(1, out);
+        let message = fields.octets(2, out);
+        put_onto(out, size, message.as_slice(), fields.at(3));
     } else if is(word, b"longdata") {
         fields.expect(2, out);
         let len = fields.number(1, out);

@@ -135,11 +135,12 @@ fn put_resized<T: Composer>(
     }
 }
 
+/// So many zero octets, in one append.
 fn pad<T: Composer>(out: &Answer, target: &mut CompressComposer<T>, count: usize) {
-    for _time in 0..count {
-        if target.append_slice(&[0]).is_err() {
-            out.fail(Fail::Memory);
-        }
+    let mut zeros: Vec<u8> = Vec::new(out.alloc());
+    let is_made = zeros.resize(count, 0).is_ok();
+    if !is_made || target.append_slice(zeros.as_slice()).is_err() {
+        out.fail(Fail::Memory);
     }
 }
 

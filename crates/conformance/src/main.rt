@@ -9,6 +9,7 @@ mod compress;
 mod everywhere;
 mod message;
 mod names;
+mod onto;
 mod program;
 mod records;
 mod slow_reader;

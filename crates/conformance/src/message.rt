@@ -342,7 +342,37 @@ pub fn put_mixture(out: &Answer, message: &[u8], offset: usize, labels: usize, c
         return out.fail(Fail::Bad);
     };
     leave_out(&mut rest, labels);
-    if let Some(flat) = flat_of(out, &rest) {
-        put_mixed(out, rest.iter(), flat.iter(), calls);
+    put_taken(out, &rest, calls);
+}
+
+/// What calls on either end give, also on the same name as a `Name`.
+fn put_taken(out: &Answer, name: &ParsedName<&[u8]>, calls: &[u8]) {
+    if let Some(flat) = flat_of(out, name) {
+        put_mixed(out, name.iter(), flat.iter(), calls);
     }
+}
+
+/// Leaves out the first label of a name, unless that is the root, by the call that a step names.
+fn step_down(out: &Answer, name: &mut ParsedName<&[u8]>, step: u8) {
+    match step {
+        b'-' => {}
+        b'p' => {
+            let _is_less = name.parent();
+        }
+        b's' => {
+            let _first = name.split_first();
+        }
+        _ => out.fail(Fail::Bad),
+    }
+}
+
+/// `after MSG PLACE STEPS CALLS`: as `mixture`, after one call for each step, `p` for `parent` and `s` for `split_first`.
+pub fn put_after(out: &Answer, message: &[u8], offset: usize, steps: &[u8], calls: &[u8]) {
+    let Some(mut rest) = name_at(message, offset) else {
+        return out.fail(Fail::Bad);
+    };
+    for step in steps {
+        step_down(out, &mut rest, *step);
+    }
+    put_taken(out, &rest, calls);
 }

@@ -11,11 +11,14 @@ use crate::orders::{put_orders, put_turned, wire_of};
 use conformance_answer::{Answer, Fail};
 use domain_list::{AbsoluteLabels, Chain, LongChainError, NameLabels, RelativeLabels, ToLabelIter};
 use domain_name::{Name, RelativeName};
-use domain_traits::ToName;
+use domain_traits::{ToName, ToRelativeName};
 
 pub type Absolutely<'a> = Chain<RelativeName<&'a [u8]>, Name<&'a [u8]>>;
 
 type Relatively<'a> = Chain<RelativeName<&'a [u8]>, RelativeName<&'a [u8]>>;
+
+/// A chain of two relative names, and the root after it.
+type Rooted<'a> = Chain<Relatively<'a>, Name<&'a [u8]>>;
 
 /// What is asked of a chain that ends in an absolute name.
 #[derive(Clone, Copy)]
@@ -202,6 +205,27 @@ pub fn put_chainwalk(out: &Answer, left: &[u8], right: &[u8]) {
 pub fn put_rooted(out: &Answer, octets: &[u8]) {
     let name = relative_of(out, octets);
     put_asked(out, name.chain_root(), AbsoluteCall::Dotted);
+}
+
+/// A name of any kind with the root after it.
+fn with_root<'a, L: RelativeLabels<'a> + Drop>(name: L) -> Chain<L, Name<&'a [u8]>> {
+    name.chain_root()
+}
+
+/// `rootedchain L R`: the chain of two relative names with the root after it, and its text.
+pub fn put_rootedchain(out: &Answer, left: &[u8], right: &[u8]) {
+    let left = relative_of(out, left);
+    let right = relative_of(out, right);
+    match left.chain(right) {
+        Ok(chain) => put_rooted_chain(out, with_root(chain)),
+        Err(error) => put_refusal(out, error),
+    }
+}
+
+fn put_rooted_chain(out: &Answer, chain: Rooted<'_>) {
+    out.agree(chain.is_absolute(), b"is_absolute");
+    put_chain_of(out, &chain);
+    out.put_shown_after(b" ", chain.fmt_with_dot());
 }
 
 /// `chaincmp L R NAME`

@@ -3,7 +3,7 @@
 use crate::canonical::put_canonical;
 use crate::chains::{
     put_chain, put_chaincmp, put_chainends, put_chainforms, put_chainrel, put_chainstrip,
-    put_chainwalk, put_rooted,
+    put_chainwalk, put_rooted, put_rootedchain,
 };
 use crate::compare::{put_cmp, put_ends, put_relcmp};
 use crate::flat::{
@@ -11,7 +11,9 @@ use crate::flat::{
 };
 use crate::kept::{put_empty, put_keep, put_relkeep, put_root, put_wildcard};
 use crate::made::{put_flat_forms, put_lent_forms, put_relative_flat_forms};
-use crate::relative::{put_rel, put_relpart, put_relshow, put_relsplit, put_relstrip, put_relwalk};
+use crate::relative::{
+    put_parents, put_rel, put_relpart, put_relshow, put_relsplit, put_relstrip, put_relwalk,
+};
 use conformance_answer::{Answer, Fields, is};
 
 /// Answers a line whose word is one of these; else it is false.
@@ -28,33 +30,45 @@ pub fn answer_names(fields: &Fields<'_>, out: &Answer) -> bool {
 fn answer_octets(fields: &Fields<'_>, out: &Answer) -> bool {
     fields.expect(2, out);
     let octets = fields.octets(1, out);
-    call_on_octets(fields.at(0), octets.as_slice(), out) || out.is_other_word()
+    call_on_octets(fields.at(0), octets.as_slice(), out)
+        || call_on_relative(fields.at(0), octets.as_slice(), out)
+        || out.is_other_word()
 }
 
 /// The calls of `answer_octets`, by the word: false where it names none of them.
 fn call_on_octets(word: &[u8], octets: &[u8], out: &Answer) -> bool {
     if is(word, b"name") {
         put_name(out, octets);
-    } else if is(word, b"rel") {
-        put_rel(out, octets);
     } else if is(word, b"show") {
         put_show(out, octets);
-    } else if is(word, b"relshow") {
-        put_relshow(out, octets);
     } else if is(word, b"flatwalk") {
         put_flatwalk(out, octets);
-    } else if is(word, b"relwalk") {
-        put_relwalk(out, octets);
     } else if is(word, b"nameerrors") {
         put_nameerrors(out, octets);
     } else if is(word, b"keep") {
         put_keep(out, octets);
-    } else if is(word, b"relkeep") {
-        put_relkeep(out, octets);
     } else if is(word, b"forms") {
         put_flat_forms(out, octets);
     } else if is(word, b"lentforms") {
         put_lent_forms(out, octets);
+    } else {
+        return false;
+    }
+    true
+}
+
+/// The calls of `answer_octets` on relative names, by the word: false where it names none of them.
+fn call_on_relative(word: &[u8], octets: &[u8], out: &Answer) -> bool {
+    if is(word, b"rel") {
+        put_rel(out, octets);
+    } else if is(word, b"relshow") {
+        put_relshow(out, octets);
+    } else if is(word, b"relwalk") {
+        put_relwalk(out, octets);
+    } else if is(word, b"parents") {
+        put_parents(out, octets);
+    } else if is(word, b"relkeep") {
+        put_relkeep(out, octets);
     } else if is(word, b"relforms") {
         put_relative_flat_forms(out, octets);
     } else if is(word, b"rooted") {
@@ -93,6 +107,8 @@ fn call_on_pair(word: &[u8], first: &[u8], second: &[u8], out: &Answer) -> bool 
         put_chainwalk(out, first, second);
     } else if is(word, b"chainforms") {
         put_chainforms(out, first, second);
+    } else if is(word, b"rootedchain") {
+        put_rootedchain(out, first, second);
     } else {
         return false;
     }

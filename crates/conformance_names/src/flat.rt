@@ -4,6 +4,7 @@ use crate::octets::absolute_of;
 use crate::orders::{put_orders, wire_of};
 use conformance_answer::{Answer, Fail};
 use conformance_labels::{put_name_error, put_parse_error};
+use domain_flat::NameError;
 use domain_list::NameLabels;
 use domain_name::{Name, RelativeName};
 use domain_traits::{ToName, ToRelativeName};
@@ -155,10 +156,12 @@ pub fn put_stripped(out: &Answer, stripped: Result<RelativeName<&[u8]>, Name<&[u
 pub fn put_nameerrors(out: &Answer, octets: &[u8]) {
     match Name::from_slice(octets) {
         Ok(_) => out.put(b"ok"),
-        Err(error) => {
-            out.put_text_after(b"form=", FormError::from(error));
-            out.put(b" parse=");
-            put_parse_error(out, ParseError::from(error));
-        }
+        Err(error) => put_handed_on(out, error),
     }
+}
+
+fn put_handed_on(out: &Answer, error: NameError) {
+    out.put_text_after(b"form=", FormError::from(error));
+    out.put(b" parse=");
+    put_parse_error(out, ParseError::from(error));
 }

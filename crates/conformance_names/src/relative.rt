@@ -94,6 +94,27 @@ fn put_first(out: &Answer, name: RelativeName<&[u8]>) {
     }
 }
 
+/// `parents NAME`: what `parent` leaves, of the name, then of that, four times at most.
+pub fn put_parents(out: &Answer, octets: &[u8]) {
+    let name = relative_of(out, octets);
+    let Some(second) = name.parent() else {
+        return out.put(b"none");
+    };
+    out.put_hex(second.as_slice());
+    let Some(third) = second.parent() else {
+        return out.put(b",none");
+    };
+    out.put_hex_after(b",", third.as_slice());
+    let Some(fourth) = third.parent() else {
+        return out.put(b",none");
+    };
+    out.put_hex_after(b",", fourth.as_slice());
+    match fourth.parent() {
+        Some(fifth) => out.put_hex_after(b",", fifth.as_slice()),
+        None => out.put(b",none"),
+    }
+}
+
 /// `relsplit NAME PLACE`
 pub fn put_relsplit(out: &Answer, octets: &[u8], mid: usize) {
     let name = relative_of(out, octets);

@@ -180,6 +180,33 @@ pub fn put_buildcap(out: &Answer, room: usize, line: &[u8]) {
     put_line(out, Some(room), line);
 }
 
+/// `buildaside CALLS ASIDE CALLS`: calls over a `Vec`, then those of ASIDE on a copy of the builder, and then more on the
+/// builder itself.
+pub fn put_buildaside(out: &Answer, before: &[u8], aside: &[u8], after: &[u8]) {
+    let mut builder = NameBuilder::new_vec(out.alloc());
+    put_more(out, &mut builder, before);
+    out.put(b" / ");
+    match builder.clone(out.alloc()) {
+        Ok(mut copy) => put_more(out, &mut copy, aside),
+        Err(_) => out.fail(Fail::Memory),
+    }
+    out.put(b" / ");
+    put_more(out, &mut builder, after);
+}
+
+/// Makes the calls of a line, which neither begin nor end a builder, and puts what each answers and what the builder is
+/// left with.
+fn put_more(out: &Answer, builder: &mut NameBuilder<Vec<u8>>, line: &[u8]) {
+    let arguments = arguments_of(out, line);
+    let mut calls = Vec::new(out.alloc());
+    let (front, last) = plan_of(out, line, arguments.as_slice(), &mut calls);
+    if !front.is_empty() || !matches!(last, Last::Nothing) {
+        out.fail(Fail::Bad);
+    }
+    let _accepted = put_calls(out, builder, calls.as_slice());
+    put_left(out, builder);
+}
+
 /// Calls over an array of so many octets, or over a `Vec`.
 fn put_line(out: &Answer, room: Option<usize>, line: &[u8]) {
     let arguments = arguments_of(out, line);

@@ -1,6 +1,6 @@
 //! The words of these calls, by what comes after them.
 
-use crate::building::{put_absolute, put_build, put_buildcap};
+use crate::building::{put_absolute, put_build, put_buildaside, put_buildcap};
 use crate::capacity::put_capacity;
 use crate::errors::put_errors;
 use crate::reverse::put_rev;
@@ -67,6 +67,9 @@ fn answer_calls(fields: &Fields<'_>, out: &Answer) -> bool {
         fields.expect(3, out);
         let room = fields.number(1, out);
         put_buildcap(out, room, fields.at(2));
+    } else if is(word, b"buildaside") {
+        fields.expect(4, out);
+        put_buildaside(out, fields.at(1), fields.at(2), fields.at(3));
     } else if is(word, b"capacity") {
         fields.expect(2, out);
         put_capacity(out, fields.at(1));

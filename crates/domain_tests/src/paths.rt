@@ -1,4 +1,4 @@
-//! Public paths, by the names that callers use, of what neither the other tests nor the table's program name.
+//! Traits, iterators and names at work, by the public paths of names alone.
 
 use domain::base::name::{
     AbsoluteLabels, Chain, ChainIter, DisplayWithDot, FlattenInto, LongLabelError, Name, NameIter,

@@ -1,13 +1,5 @@
 pub mod CharacterStrings
-pub mod EdnsSizes
 pub mod Hosts
-pub mod Built
-pub mod MessageHosts
-pub mod Responses
-pub mod Served
-pub mod Services
 pub mod Parsed
 pub mod FlatNames
 pub mod Appending
-pub mod Targets
-pub mod Zones

@@ -4,11 +4,7 @@ use Rattle.std.specs.Int.{w16, from_be_bytes}
 use Rattle.octseq.specs.declared.octets.Octets.{Ghosts}
 use Rattle.octseq.specs.declared.parse.Parser.{Parser}
 use Rattle.octseq.specs.Parsing.{message, position, MovesTo}
-use Rattle.domain_wire.specs.Values.{FixedAt}
 use Rattle.domain_wire.specs.declared.error.ParseError.{ParseError}
-use Rattle.domain_data.specs.Data.{AllAt}
-use Rattle.domain_data.specs.Names.{NameFieldAt}
-use Rattle.domain_data.specs.Sequences.{BothAt}
 use Rattle.domain_reading.specs.Faults.{Skips, SkipFault}
 use Rattle.domain_reading.specs.Grammar.{EncodingEnds}
 use Rattle.domain_reading.specs.declared.fault.NameFault.{NameFault}
@@ -54,8 +50,3 @@ abbrev pub NotInTurn : {A : Type 0} → (List ℕ → ℕ → A → ℕ → Type
 NotInTurn {A = A} first no_first no_second p why =
     no_first (message p) (position p) why
     ⊎ ((seen : A) × (between : ℕ) × first (message p) (position p) seen between × no_second (message p) between why)
-
--- A number and the name of a host stand there, and end where the octets do and the parser was moved to.
-abbrev pub HasExchanger : Parser → (number : ℕ) → (host : List (List ℕ)) → Parser → Type 0
-HasExchanger old number host new =
-    AllAt (BothAt (FixedAt 2 (from_be_bytes w16)) NameFieldAt) (message old) (position old) (number, host) (position new)

@@ -2,7 +2,8 @@
 ghost use Rattle.std.specs.Prelude.{◌≡◌, IfOk, IsOk, IsErr, OnErr};
 ghost use Rattle.examples.specs.Appending.{IfFits, IfPasses};
 
-use domain::base::name::*;
+use domain_list::AbsoluteLabels;
+use domain_traits::ToName;
 use octseq::{OctetsBuilder, SameOctets, ShortBuf};
 use std::alloc::Global;
 

@@ -3,7 +3,7 @@ ghost use Rattle.std.specs.Prelude.{◌≡◌, ◌↔◌, IsNone, IfSome};
 ghost use Rattle.domain_list.specs.ChainParts.{left_part, right_part};
 ghost use Rattle.examples.specs.FlatNames.{CannotChain};
 
-use domain::base::name::*;
+use domain_list::{Chain, NameLabels};
 
 /// The labels of a name of any type and then those of another, where the first turns out to be relative
 /// and both fit.

@@ -2,7 +2,7 @@
 ghost use Rattle.std.specs.Prelude.{◌≡◌, ◌≤◌, ℕ, List, length};
 ghost use Rattle.examples.specs.CharacterStrings.{StringAt, StringTooShort, string_reading};
 
-use domain::base::wire::{Parse, ParseError};
+use domain_wire::{Parse, ParseError};
 use octseq::Parser;
 
 /// A character string: at most 255 octets (RFC 1035, 3.3).

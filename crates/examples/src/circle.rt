@@ -6,7 +6,10 @@ ghost use Rattle.domain_name.specs.Names.{name_labels};
 ghost use Rattle.examples.specs.FlatNames.{GivesShown};
 
 use arrayvec::ArrayVec;
-use domain::base::name::*;
+use domain_builder::{FromStrError, text_laws};
+use domain_name::Name;
+use domain_parsed::ParsedName;
+use domain_traits::ToName;
 use octseq::{OctetsBuilder, Parser};
 use std::alloc::Global;
 

@@ -7,7 +7,10 @@ ghost use Rattle.domain_list.specs.Order.{canonical_order};
 ghost use Rattle.domain_name.specs.Names.{name_labels};
 ghost use Rattle.domain_parsed.specs.ParsedNames.{parsed_labels};
 
-use domain::base::name::*;
+use domain_list::AbsoluteLabels;
+use domain_name::Name;
+use domain_parsed::ParsedName;
+use domain_traits::ToName;
 use std::cmp::Ordering;
 use std::hash::{Hash, Hasher};
 

@@ -3,7 +3,9 @@ ghost use Rattle.std.specs.Prelude.{◌≡◌, IfOk};
 ghost use Rattle.domain_name.specs.Names.{name_labels};
 ghost use Rattle.domain_parsed.specs.ParsedNames.{parsed_labels};
 
-use domain::base::name::*;
+use domain_name::Name;
+use domain_parsed::ParsedName;
+use domain_traits::{FlattenInto, FlattenName};
 use octseq::ShortBuf;
 use std::alloc::Global;
 

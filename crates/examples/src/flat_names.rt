@@ -5,7 +5,8 @@ ghost use Rattle.domain_label.specs.Wire.{IsAbsoluteWire};
 ghost use Rattle.domain_name.specs.Names.{name_octets};
 ghost use Rattle.examples.specs.FlatNames.{NameBeginsWith, HasFront, IsAsLongAsFirst, TellsSecond};
 
-use domain::base::name::*;
+use domain_label::Label;
+use domain_name::{Name, RelativeName};
 
 /// A name that is kept as octets in wire format, as `\x07example\x03com\0`. `None` where the octets are no
 /// such form.

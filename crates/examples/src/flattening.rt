@@ -6,7 +6,10 @@ ghost use Rattle.domain_name.specs.Names.{name_labels};
 ghost use Rattle.domain_parsed.specs.ParsedNames.{parsed_labels};
 
 use arrayvec::ArrayVec;
-use domain::base::name::*;
+use domain_list::AbsoluteLabels;
+use domain_name::Name;
+use domain_parsed::ParsedName;
+use domain_traits::{FlattenInto, ToName};
 use octseq::{OctetsBuilder, ShortBuf};
 use std::alloc::Global;
 

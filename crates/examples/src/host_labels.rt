@@ -4,7 +4,8 @@ ghost use Rattle.std.specs.Iterator.{YieldsFirstBy, YieldsLastBy, item_count};
 ghost use Rattle.domain_label.specs.Labels.{label_octets};
 ghost use Rattle.examples.specs.Hosts.{labels_left_of};
 
-use domain::base::name::*;
+use domain_label::Label;
+use domain_list::LabelIterator;
 
 /// A label, and then those that another iterator gives, from either end.
 #[derive(Clone, Copy)]

@@ -8,7 +8,10 @@ ghost use Rattle.examples.specs.FlatNames.{with_zone, MakesNoHost, IsInZone};
 
 use crate::comparing::is_in_zone;
 use crate::host_labels::HostLabels;
-use domain::base::name::*;
+use domain_flat::NameIter;
+use domain_label::OwnedLabel;
+use domain_list::{Absolute, AbsoluteLabels, NameLabels, ToLabelIter};
+use domain_name::Name;
 
 /// A host of a zone: the first label of its name, and the zone's name.
 #[derive(Drop)]

@@ -4,7 +4,7 @@ ghost use Rattle.domain_label.specs.Lowercase.{lowercase};
 ghost use Rattle.domain_label.specs.Labels.{label_octets};
 ghost use Rattle.domain_label.specs.Wire.{wire_label};
 
-use domain::base::name::Label;
+use domain_label::Label;
 use octseq::OctetsBuilder;
 
 /// Appends a label as DNSSEC signs it. A refused call leaves the octets.

@@ -6,7 +6,9 @@ ghost use Rattle.domain_name.specs.Names.{name_labels};
 ghost use Rattle.examples.specs.FlatNames.{one_label};
 
 use arrayvec::ArrayVec;
-use domain::base::name::*;
+use domain_builder::FromStrError;
+use domain_list::AbsoluteLabels;
+use domain_name::{Name, NameBuilder};
 
 /// The name of a host in a zone: a label, if it has octets, and after it the labels of the zone.
 ///

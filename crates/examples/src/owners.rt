@@ -4,7 +4,9 @@ ghost use Rattle.std.proofs.Common.{inl};
 ghost use Rattle.domain_name.specs.Names.{name_labels};
 ghost use Rattle.domain_name.proofs.NameFields.{flat_absolute};
 
-use domain::base::name::*;
+use domain_flat::NameIter;
+use domain_list::{Absolute, AbsoluteLabels, NameLabels, ToLabelIter};
+use domain_name::Name;
 
 /// The owner of records, and how many records it has.
 #[derive(Drop)]

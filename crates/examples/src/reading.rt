@@ -8,8 +8,10 @@ ghost use Rattle.domain_reading.specs.Grammar.{Names};
 ghost use Rattle.octseq.specs.Parsing.{message, position};
 ghost use Rattle.examples.specs.Parsed.{HasTypeAndClass, PassesQuestion, CannotPass, IsTopLabel};
 
-use domain::base::name::*;
-use domain::base::wire::{ParseError, parse_slice};
+use domain_label::Label;
+use domain_parsed::{Heads, ParsedName};
+use domain_traits::ToName;
+use domain_wire::{ParseError, parse_slice};
 use octseq::Parser;
 use std::alloc::{AllocError, Global};
 use std::sync::ledger::Ledger;

@@ -7,7 +7,9 @@ ghost use Rattle.domain_name.specs.Names.{name_labels};
 ghost use Rattle.examples.specs.FlatNames.{IsLongFault};
 
 use arrayvec::ArrayVec;
-use domain::base::name::*;
+use domain_builder::{FromStrError, PresentationErrorKind};
+use domain_label::LabelFromStrErrorKind;
+use domain_name::Name;
 use std::str::FromStr;
 
 /// The name that a user wrote. The array has room for each, so an error tells a fault of the text.

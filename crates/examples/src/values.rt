@@ -6,7 +6,7 @@ ghost use Rattle.domain_wire.specs.declared.error.ParseError.{ParseError};
 ghost use Rattle.octseq.specs.Parsing.{position, next, MovesOver, MovesTo};
 ghost use Rattle.examples.specs.Parsed.{second_two, InTurn, NotInTurn};
 
-use domain::base::wire::{Compose, Parse, ParseError, compose_vec, parse_slice};
+use domain_wire::{Compose, Parse, ParseError, compose_vec, parse_slice};
 use octseq::{OctetsBuilder, Parser, ShortBuf};
 use std::alloc::Global;
 

@@ -3,7 +3,8 @@
 ghost use Rattle.std.specs.Prelude.{◌≡◌, ◌↔◌, IsTrue};
 ghost use Rattle.domain_label.specs.Lowercase.{lowercase_labels};
 
-use domain::base::name::*;
+use domain_list::{Absolute, AbsoluteLabels, NameLabels, Relative, RelativeLabels, ToLabelIter};
+use domain_traits::ToName;
 
 /// A name, and how many seconds it may be kept.
 #[derive(Clone, Copy, Drop)]

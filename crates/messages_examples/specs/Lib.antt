@@ -1,0 +1,10 @@
+pub mod EdnsSizes
+pub mod Built
+pub mod MessageHosts
+pub mod Responses
+pub mod Served
+pub mod Services
+pub mod Exchangers
+pub mod Appending
+pub mod Targets
+pub mod Zones
