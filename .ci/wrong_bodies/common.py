@@ -1,0 +1,27 @@
+"""Where the repository and the passes of this machine lie, and how a run that can't go on ends."""
+
+import os
+import pathlib
+import sys
+
+TOP = pathlib.Path(__file__).resolve().parents[2]
+STORE = pathlib.Path(os.environ.get("XDG_CACHE_HOME") or pathlib.Path.home() / ".cache") / "wrong-bodies"
+# What passed under other rules counts for nothing: raise it when they change.
+RULES = 6
+
+
+def stop(why):
+    print(f"wrong-bodies: {why}", file=sys.stderr)
+    raise SystemExit(2)
+
+
+def read_crates():
+    """The crates of crates.txt, each with what stands before the colon, and with what it uses."""
+    lines = [it.partition("#")[0].partition(":") for it in (TOP / "crates.txt").read_text().split("\n")]
+    return {head.split()[0]: (head, uses.split()) for head, _, uses in lines if head.strip()}
+
+
+def below(name, listed):
+    """The repository's crates that this one stands on, each after those that it stands on itself."""
+    deps = [it for it in listed[name][1] if it in listed]
+    return [*dict.fromkeys(it for dep in deps for it in [*below(dep, listed), dep])]
