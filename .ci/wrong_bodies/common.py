@@ -7,7 +7,7 @@ import sys
 TOP = pathlib.Path(__file__).resolve().parents[2]
 STORE = pathlib.Path(os.environ.get("XDG_CACHE_HOME") or pathlib.Path.home() / ".cache") / "wrong-bodies"
 # What passed under other rules counts for nothing: raise it when they change.
-RULES = 6
+RULES = 7
 
 
 def stop(why):
@@ -17,8 +17,15 @@ def stop(why):
 
 def read_crates():
     """The crates of crates.txt, each with what stands before the colon, and with what it uses."""
-    lines = [it.partition("#")[0].partition(":") for it in (TOP / "crates.txt").read_text().split("\n")]
-    return {head.split()[0]: (head, uses.split()) for head, _, uses in lines if head.strip()}
+    listed = {}
+    for number, line in enumerate((TOP / "crates.txt").read_text().split("\n"), 1):
+        head, colon, uses = line.partition("#")[0].partition(":")
+        name = next(iter(head.split()), "")
+        if colon and (not name or name in listed) or name and not colon:
+            stop(f"crates.txt:{number} is no line of a crate that no other line lists")
+        if name:
+            listed[name] = head, uses.split()
+    return listed
 
 
 def below(name, listed):

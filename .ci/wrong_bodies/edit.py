@@ -53,18 +53,19 @@ def passes(head, name):
 class Edit:
     """A wrong body, and what it came to."""
 
-    def __init__(self, path, read):
+    def __init__(self, path, key):
         octets = path.read_bytes()
         fits = EDIT.fullmatch(octets.decode(errors="replace"))
         if not fits:
             stop(f"{path.relative_to(TOP)} hasn't lines 'file:', 'function:', 'old:' and 'new:' in this order")
-        self.name, self.file, self.function = f"{path.parts[-3]}/{path.name}", fits[1].strip(), fits[3]
+        self.name, self.file_name = f"{path.parts[-3]}/{path.name}", path.name
+        self.file, self.function = fits[1].strip(), fits[3]
         # The laws of an impl are proved for what passes it for a bound, so the copy has a function that does.
         self.block, self.law, self.lines = fits[2] and fits[3], "", set()
         if self.block:
             self.function = "wrong_bodies_law_" + re.sub(r"\W", "_", path.stem)
         self.changes = re.findall("old: (.*)\nnew: ?(.*)", fits[4])
-        self.kept = STORE / hashlib.sha256(read + octets).hexdigest()
+        self.kept = STORE / hashlib.sha256(key + octets).hexdigest()
         self.came, self.tries = ("refused", "by an earlier run") if self.kept.exists() else None, 0
 
     def applied(self, texts):
