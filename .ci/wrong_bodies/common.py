@@ -11,7 +11,7 @@ RULES = 7
 
 
 def stop(why):
-    print(f"wrong-bodies: {why}", file=sys.stderr)
+    print(f"{pathlib.Path(sys.argv[0]).name}: {why}", file=sys.stderr)
     raise SystemExit(2)
 
 
