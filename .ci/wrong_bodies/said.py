@@ -11,7 +11,7 @@ UNKNOWN = re.compile(r"has no function `|several functions are named `")
 UNREAD = re.compile(r"\berror\[[\w-]+\]|^(\./)?(src|specs)/\S+:\d+:\d+: error")
 # A law of an impl that the prover refuses, where it stands, and the impl that is refused for it.
 LAW = re.compile(r"(?:\./)?(src/\S+):(\d+):\d+: error: ")
-BLOCK = re.compile(r"no proof: it passes the block `\w+::(\S+)`, which is not proved")
+BLOCK = re.compile(r"no proof: .*\bit passes the block `\w+::(\S+)`, which is not proved")
 
 
 def ends(name, end):
