@@ -1,4 +1,4 @@
-"""A wrong body: the text of an edit, the bodies that it is in, and the function that shows whether its laws are proved."""
+"""A wrong body: the text of an edit, the bodies that it is in, and the function that shows whether laws are proved."""
 
 import hashlib
 import re
@@ -44,9 +44,11 @@ def passes(head, name):
     given = [it for it in given if it]
     names = [re.sub("^const |:.*", "", it) for it in given if it[0] != "'"]
     where = f" where {where} " if where else " "
+    call = f"{name}_bound::<{', '.join([*names, kind])}>()"
+    generics = f"<{', '.join(given)}>" if given else ""
     return (
         f"\nfn {name}_bound<{', '.join([*given, f'Passed: {bound}'])}>(){where}{{}}\n"
-        f"\nfn {name}{given and '<' + ', '.join(given) + '>' or ''}(){where}{{ {name}_bound::<{', '.join([*names, kind])}>() }}\n"
+        f"\nfn {name}{generics}(){where}{{ {call} }}\n"
     )
 
 

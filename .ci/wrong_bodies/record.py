@@ -14,9 +14,10 @@ from .common import RULES, TOP, stop
 # What a check reads of a library below: what callers see of it, and what is stated and proved beside it.
 CALLED = ("interface", "lang/antt/specs", "lang/antt/specs.antt", "lang/antt/proofs", "lang/antt/proofs.antt")
 MADE = "lang/antt/made.json"
-# The lines of MADE that a body alone changes: itself, its proof, and what it calls, by which the links have their order.
-# No proof in a crate above rests on them.
-OF_A_BODY = re.compile(rb'^\{"(Mir|Lts|MadeProof|Close|Code|LinkOfFunction|LinkOfCrate)":.*\n|^".*TheLinks"\n.*\n', re.M)
+# The lines of MADE that a body alone changes: itself, its proof, and what it calls, by which the links have their
+# order. No proof in a crate above rests on them.
+KINDS = "Mir|Lts|MadeProof|Close|Code|LinkOfFunction|LinkOfCrate"
+OF_A_BODY = re.compile(rf'^\{{"({KINDS})":.*\n|^".*TheLinks"\n.*\n'.encode(), re.M)
 LINE = re.compile(r"([0-9a-f]{64})  (\S+\.edit)")
 DRAWN = 3
 
@@ -38,10 +39,13 @@ def sum_of_file(path):
 @functools.cache
 def contracts_of(rlib):
     """The sum of what a check reads of a built library, which stays the same where only a body has changed."""
-    paths = [it for part in CALLED for it in [rlib / part, *(rlib / part).rglob("*")] if it.is_file()]
+    is_known = (rlib / MADE).is_file() and (rlib / CALLED[0]).is_dir()
+    # Of a library that is laid out otherwise it isn't known what a check leaves out.
+    parts = [rlib / it for it in (*CALLED, MADE)] if is_known else [rlib]
+    paths = [it for part in parts for it in [part, *part.rglob("*")] if it.is_file()]
     files = {str(it.relative_to(rlib)): it.read_bytes() for it in paths}
-    if (rlib / MADE).is_file():
-        files[MADE] = OF_A_BODY.sub(b"", (rlib / MADE).read_bytes())
+    if is_known:
+        files[MADE] = OF_A_BODY.sub(b"", files[MADE])
     return sum_of(files)
 
 
