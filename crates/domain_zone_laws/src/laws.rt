@@ -1,0 +1,22 @@
+//! Laws of the definitions, proved as the contracts of calls that do nothing.
+ghost use Rattle.domain_zone_laws.specs.Laws.{HasOneOutcome, NothingBelowNameError};
+ghost use Rattle.domain_zone_laws.specs.Neighbours.{NeighboursTellEncloser, PredecessorTellsCut};
+
+use domain_list::laws::order_laws;
+
+/// Each question to a zone has exactly one outcome. Below a name error there are only name errors.
+pub fn answer_laws()
+    ensures one { HasOneOutcome }
+    ensures below { NothingBelowNameError }
+{}
+
+/// What a name's neighbours in canonical order tell.
+///
+/// The first cut on the way to a name is over the RRset before it, and the closest encloser is what the name has in
+/// common with the RRset before it or the one after it.
+pub fn neighbour_laws()
+    ensures encloser { NeighboursTellEncloser }
+    ensures cut { PredecessorTellsCut }
+{
+    order_laws();
+}
