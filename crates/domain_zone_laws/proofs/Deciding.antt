@@ -15,32 +15,32 @@ use Rattle.domain_zone_laws.proofs.Ending.{ends_step, ends_none, same_ends, ends
 abbrev pub Decided : Type 0 → Type 0
 Decided P = P ⊎ (P → ⊥)
 
-from_test : (b : Bool) {P : Type 0} → Decides b P → Decided P
+unfoldable pub from_test : (b : Bool) {P : Type 0} → Decides b P → Decided P
 from_test true d = inl (d.0 refl)
 from_test false d = inr (λ p. true≢false (sym (d.1 p)))
 
-pub dec_number : (m n : ℕ) → Decided (m ≡ n)
+unfoldable pub dec_number : (m n : ℕ) → Decided (m ≡ n)
 dec_number m n = from_test (m == n) (Decides-eqb m n)
 
-dec_octets : (x y : List ℕ) → Decided (x ≡ y)
+unfoldable pub dec_octets : (x y : List ℕ) → Decided (x ≡ y)
 dec_octets x y = from_test (bytes_eq x y) (bytes_eq-Decides x y)
 
-joined : (x y : List ℕ) (xs ys : List (List ℕ)) → x ≡ y → xs ≡ ys → x ∷ xs ≡ y ∷ ys
+pub joined : (x y : List ℕ) (xs ys : List (List ℕ)) → x ≡ y → xs ≡ ys → x ∷ xs ≡ y ∷ ys
 joined x y xs ys p q = cc
 
-first_same : (x y : List ℕ) (xs ys : List (List ℕ)) → x ∷ xs ≡ y ∷ ys → x ≡ y
+pub first_same : (x y : List ℕ) (xs ys : List (List ℕ)) → x ∷ xs ≡ y ∷ ys → x ≡ y
 first_same x y xs ys e = cc
 
-rest_same : (x y : List ℕ) (xs ys : List (List ℕ)) → x ∷ xs ≡ y ∷ ys → xs ≡ ys
+pub rest_same : (x y : List ℕ) (xs ys : List (List ℕ)) → x ∷ xs ≡ y ∷ ys → xs ≡ ys
 rest_same x y xs ys e = cc
 
-nil_no_cons : (x : List ℕ) (xs : List (List ℕ)) → [] ≡ x ∷ xs → ⊥
+pub nil_no_cons : (x : List ℕ) (xs : List (List ℕ)) → [] ≡ x ∷ xs → ⊥
 nil_no_cons x xs e = cc
 
-cons_no_nil : (x : List ℕ) (xs : List (List ℕ)) → x ∷ xs ≡ [] → ⊥
+pub cons_no_nil : (x : List ℕ) (xs : List (List ℕ)) → x ∷ xs ≡ [] → ⊥
 cons_no_nil x xs e = cc
 
-dec_labels : (x y : List (List ℕ)) → Decided (x ≡ y)
+unfoldable pub dec_labels : (x y : List (List ℕ)) → Decided (x ≡ y)
 dec_labels [] [] = inl refl
 dec_labels [] (y ∷ ys) = inr (nil_no_cons y ys)
 dec_labels (x ∷ xs) [] = inr (cons_no_nil x xs)
@@ -53,10 +53,10 @@ dec_labels (x ∷ xs) (y ∷ ys) =
       | inr n ↦ inr (λ e. n (first_same x y xs ys e))
     ]
 
-pub dec_same : (x y : List (List ℕ)) → Decided (SameLabels x y)
+unfoldable pub dec_same : (x y : List (List ℕ)) → Decided (SameLabels x y)
 dec_same x y = dec_labels (lowercase_labels x) (lowercase_labels y)
 
-pub dec_ends : (x y : List (List ℕ)) → Decided (EndsWith x y)
+unfoldable pub dec_ends : (x y : List (List ℕ)) → Decided (EndsWith x y)
 dec_ends [] y = elim (dec_same [] y) [
   | inl e ↦ inl (same_ends [] y e)
   | inr n ↦ inr (λ h. n (ends_none y h))
@@ -69,16 +69,16 @@ dec_ends (l ∷ x) y = elim (dec_same (l ∷ x) y) [
   ]
 ]
 
-pub dec_and : {P Q : Type 0} → Decided P → Decided Q → Decided (P × Q)
+unfoldable pub dec_and : {P Q : Type 0} → Decided P → Decided Q → Decided (P × Q)
 dec_and (inl p) (inl q) = inl (p, q)
 dec_and (inl p) (inr m) = inr (λ h. m h.1)
 dec_and (inr n) q = inr (λ h. n h.0)
 
-only_one : {A : Type 0} (x y : A) → Contains (x ∷ []) y → x ≡ y
+pub only_one : {A : Type 0} (x y : A) → Contains (x ∷ []) y → x ≡ y
 only_one x y c = let e : c.0 ≡ 0 = omega (arith, c.1) in subst (λ k. get_or (x ∷ []) k y ≡ y) e c.2
 
 -- an element of which P holds, or none
-pub dec_some : {A : Type 0} (P : A → Type 0) → ((a : A) → Decided (P a)) → (xs : List A) → Decided ((a : A) × Contains xs a × P a)
+unfoldable pub dec_some : {A : Type 0} (P : A → Type 0) → ((a : A) → Decided (P a)) → (xs : List A) → Decided ((a : A) × Contains xs a × P a)
 dec_some P d [] = inr (λ h. omega (arith, h.1.1))
 dec_some P d (x ∷ xs) = elim (d x) [
   | inl p ↦ inl (x, Contains-append_left (x ∷ []) xs x (0, omega arith, refl), p)

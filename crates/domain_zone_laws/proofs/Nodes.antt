@@ -21,20 +21,20 @@ NoneAbove P q = (a : List (List ℕ)) → P a → EndsWith q a → ⊥
 abbrev pub Caseless : (List (List ℕ) → Type 0) → Type 0
 Caseless P = (m n : List (List ℕ)) → SameLabels m n → P m → P n
 
-none_at_root : (P : List (List ℕ) → Type 0) → Caseless P → (P [] → ⊥) → NoneAbove P []
+pub none_at_root : (P : List (List ℕ) → Type 0) → Caseless P → (P [] → ⊥) → NoneAbove P []
 none_at_root P k n a p h = n (k a [] (sym (ends_none a h)) p)
 
-none_step : (P : List (List ℕ) → Type 0) → Caseless P → (l : List ℕ) (x : List (List ℕ)) → (P (l ∷ x) → ⊥) → NoneAbove P x → NoneAbove P (l ∷ x)
+pub none_step : (P : List (List ℕ) → Type 0) → Caseless P → (l : List ℕ) (x : List (List ℕ)) → (P (l ∷ x) → ⊥) → NoneAbove P x → NoneAbove P (l ∷ x)
 none_step P k l x n m a p h = ⊎_elim (λ e. n (k a (l ∷ x) (sym e) p)) (λ g. m a p g) (ends_step l x a h)
 
-longest_here : (P : List (List ℕ) → Type 0) (q : List (List ℕ)) → P q → IsLongest P q q
+pub longest_here : (P : List (List ℕ) → Type 0) (q : List (List ℕ)) → P q → IsLongest P q q
 longest_here P q p = (p, ends_itself q, λ a _ h. h)
 
-longest_step : (P : List (List ℕ) → Type 0) → Caseless P → (l : List ℕ) (x e : List (List ℕ)) → (P (l ∷ x) → ⊥) → IsLongest P x e → IsLongest P (l ∷ x) e
+pub longest_step : (P : List (List ℕ) → Type 0) → Caseless P → (l : List ℕ) (x e : List (List ℕ)) → (P (l ∷ x) → ⊥) → IsLongest P x e → IsLongest P (l ∷ x) e
 longest_step P k l x e n h =
     (h.0, ends_after (l ∷ x) x e (ends_below l x) h.1, λ a p g. ⊎_elim (λ s. absurd (n (k a (l ∷ x) (sym s) p))) (λ b. h.2 a p b) (ends_step l x a g))
 
-pub longest : (P : List (List ℕ) → Type 0) → Caseless P → ((n : List (List ℕ)) → Decided (P n)) → (q : List (List ℕ)) → ((e : List (List ℕ)) × IsLongest P q e) ⊎ NoneAbove P q
+unfoldable pub longest : (P : List (List ℕ) → Type 0) → Caseless P → ((n : List (List ℕ)) → Decided (P n)) → (q : List (List ℕ)) → ((e : List (List ℕ)) × IsLongest P q e) ⊎ NoneAbove P q
 longest P k d [] = elim (d []) [ inl p ↦ inl ([], longest_here P [] p) | inr n ↦ inr (none_at_root P k n) ]
 longest P k d (l ∷ x) = elim (d (l ∷ x)) [
   | inl p ↦ inl (l ∷ x, longest_here P (l ∷ x) p)
@@ -44,18 +44,18 @@ longest P k d (l ∷ x) = elim (d (l ∷ x)) [
   ]
 ]
 
-shortest_root : (P : List (List ℕ) → Type 0) → P [] → IsShortest P [] []
+unfoldable pub shortest_root : (P : List (List ℕ) → Type 0) → P [] → IsShortest P [] []
 shortest_root P p = (p, ends_itself [], λ d _ h. same_ends d [] (sym (ends_none d h)))
 
-shortest_first : (P : List (List ℕ) → Type 0) (l : List ℕ) (x : List (List ℕ)) → P (l ∷ x) → NoneAbove P x → IsShortest P (l ∷ x) (l ∷ x)
+unfoldable pub shortest_first : (P : List (List ℕ) → Type 0) (l : List ℕ) (x : List (List ℕ)) → P (l ∷ x) → NoneAbove P x → IsShortest P (l ∷ x) (l ∷ x)
 shortest_first P l x p m = (p, ends_itself (l ∷ x), λ d o g. ⊎_elim (λ s. same_ends d (l ∷ x) (sym s)) (λ b. absurd (m d o b)) (ends_step l x d g))
 
-shortest_step : (P : List (List ℕ) → Type 0) (l : List ℕ) (x c : List (List ℕ)) → IsShortest P x c → IsShortest P (l ∷ x) c
+unfoldable pub shortest_step : (P : List (List ℕ) → Type 0) (l : List ℕ) (x c : List (List ℕ)) → IsShortest P x c → IsShortest P (l ∷ x) c
 shortest_step P l x c h =
     let up : EndsWith (l ∷ x) c = ends_after (l ∷ x) x c (ends_below l x) h.1 in
     (h.0, up, λ d o g. ⊎_elim (λ s. same_then d (l ∷ x) c (sym s) up) (λ b. h.2 d o b) (ends_step l x d g))
 
-pub shortest : (P : List (List ℕ) → Type 0) → Caseless P → ((n : List (List ℕ)) → Decided (P n)) → (q : List (List ℕ)) → ((c : List (List ℕ)) × IsShortest P q c) ⊎ NoneAbove P q
+unfoldable pub shortest : (P : List (List ℕ) → Type 0) → Caseless P → ((n : List (List ℕ)) → Decided (P n)) → (q : List (List ℕ)) → ((c : List (List ℕ)) × IsShortest P q c) ⊎ NoneAbove P q
 shortest P k d [] = elim (d []) [ inl p ↦ inl ([], shortest_root P p) | inr n ↦ inr (none_at_root P k n) ]
 shortest P k d (l ∷ x) = elim (shortest P k d x) [
   | inl h ↦ inl (h.0, shortest_step P l x h.0 h.1)
@@ -86,35 +86,35 @@ exists_same z m n e h = (same_then n m z.apex (sym e) h.0, (h.1.0, h.1.1, ends_s
 pub cut_same : (z : Zone) → Caseless (IsCut z)
 cut_same z m n e h = (same_then n m z.apex (sym e) h.0, λ s. h.1 (e ∙ s), has_same z NS m n e h.2)
 
-pub dec_has : (z : Zone) (n : List (List ℕ)) (t : ℕ) → Decided (HasType z n t)
+unfoldable pub dec_has : (z : Zone) (n : List (List ℕ)) (t : ℕ) → Decided (HasType z n t)
 dec_has z n t =
     elim (dec_some (λ s. SameLabels s.owner n × (s.rtype ≡ t)) (λ s. dec_and (dec_same s.owner n) (dec_number s.rtype t)) z.rrsets) [
       | inl h ↦ inl (h.0, (h.1, h.2.0, h.2.1))
       | inr m ↦ inr (λ h. m (h.0, h.1.0, (h.1.1, h.1.2)))
     ]
 
-pub dec_owns : (z : Zone) (n : List (List ℕ)) → Decided (OwnsRecords z n)
+unfoldable pub dec_owns : (z : Zone) (n : List (List ℕ)) → Decided (OwnsRecords z n)
 dec_owns z n = dec_some (λ s. SameLabels s.owner n) (λ s. dec_same s.owner n) z.rrsets
 
-pub dec_exists : (z : Zone) (n : List (List ℕ)) → Decided (Exists z n)
+unfoldable pub dec_exists : (z : Zone) (n : List (List ℕ)) → Decided (Exists z n)
 dec_exists z n = dec_and (dec_ends n z.apex) (dec_some (λ s. EndsWith s.owner n) (λ s. dec_ends s.owner n) z.rrsets)
 
-dec_not : {P : Type 0} → Decided P → Decided (P → ⊥)
+unfoldable pub dec_not : {P : Type 0} → Decided P → Decided (P → ⊥)
 dec_not (inl p) = inr (λ n. n p)
 dec_not (inr n) = inl n
 
-pub dec_cut : (z : Zone) (n : List (List ℕ)) → Decided (IsCut z n)
+unfoldable pub dec_cut : (z : Zone) (n : List (List ℕ)) → Decided (IsCut z n)
 dec_cut z n = elim (dec_and (dec_ends n z.apex) (dec_and (dec_not (dec_same n z.apex)) (dec_has z n NS))) [
   | inl h ↦ inl (h.0, h.1.0, h.1.1)
   | inr m ↦ inr (λ h. m (h.0, (h.1, h.2)))
 ]
 
 -- the first cut on the way to q, or none
-pub first_cut : (z : Zone) (q : List (List ℕ)) → ((c : List (List ℕ)) × IsFirstCut z q c) ⊎ NoneAbove (IsCut z) q
+unfoldable pub first_cut : (z : Zone) (q : List (List ℕ)) → ((c : List (List ℕ)) × IsFirstCut z q c) ⊎ NoneAbove (IsCut z) q
 first_cut z = shortest (IsCut z) (cut_same z) (dec_cut z)
 
 -- the closest encloser, or no name above q exists
-pub encloser : (z : Zone) (q : List (List ℕ)) → ((e : List (List ℕ)) × IsClosestEncloser z q e) ⊎ NoneAbove (Exists z) q
+unfoldable pub encloser : (z : Zone) (q : List (List ℕ)) → ((e : List (List ℕ)) × IsClosestEncloser z q e) ⊎ NoneAbove (Exists z) q
 encloser z = longest (Exists z) (exists_same z) (dec_exists z)
 
 pub one_cut : (z : Zone) (q b c : List (List ℕ)) → IsFirstCut z q b → IsFirstCut z q c → SameLabels b c

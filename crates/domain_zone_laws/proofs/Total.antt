@@ -19,7 +19,7 @@ fits_or_not n = ⊎_elim (λ h. inl h.1) (λ h. inr h.1) (leb_tells n 255)
 
 -- ---- what is found at a name
 
-pub some_reply : (z : Zone) (n : List (List ℕ)) (t : ℕ) → (r : Reply) × Replies z n t r
+unfoldable pub some_reply : (z : Zone) (n : List (List ℕ)) (t : ℕ) → (r : Reply) × Replies z n t r
 some_reply z n t = elim (dec_has z n t) [
   | inl h ↦ (records h.0, h.1)
   | inr m ↦ elim (dec_number t ANY) [
@@ -75,7 +75,7 @@ first_cut_same z q m n e h = (cut_same z m n e h.0, ends_same q m n e h.1, λ d 
 pub source_same : (m n : List (List ℕ)) → SameLabels m n → SameLabels (source_of_synthesis m) (source_of_synthesis n)
 source_same m n e = ap (λ l. lowercase (42 ∷ []) ∷ l) e
 
-pub dec_referred : (z : Zone) (q : List (List ℕ)) (t : ℕ) → ((s : RRset) × IsReferred z q t s) ⊎ ((s : RRset) → IsReferred z q t s → ⊥)
+unfoldable pub dec_referred : (z : Zone) (q : List (List ℕ)) (t : ℕ) → ((s : RRset) × IsReferred z q t s) ⊎ ((s : RRset) → IsReferred z q t s → ⊥)
 dec_referred z q t = elim (first_cut z q) [
   | inr none ↦ inr (λ s h. none s.owner h.0.0 h.0.1)
   | inl c ↦ elim (dec_and (dec_number t DS) (dec_same q c.0)) [

@@ -4,3 +4,4 @@ pub mod Laws
 pub mod Sorted
 pub mod Neighbours
 pub mod Views
+pub mod Examples

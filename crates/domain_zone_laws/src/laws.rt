@@ -1,4 +1,5 @@
 //! Laws of the definitions, proved as the contracts of calls that do nothing.
+ghost use Rattle.domain_zone_laws.specs.Examples.{Rfc4592Rows};
 ghost use Rattle.domain_zone_laws.specs.Laws.{HasOneOutcome, NothingBelowNameError};
 ghost use Rattle.domain_zone_laws.specs.Neighbours.{NeighboursTellEncloser, PredecessorTellsCut};
 
@@ -20,3 +21,8 @@ pub fn neighbour_laws()
 {
     order_laws();
 }
+
+/// The questions of RFC 4592, 2.2.1, have the outcomes that it tells.
+pub fn rfc4592_rows()
+    ensures { Rfc4592Rows }
+{}
