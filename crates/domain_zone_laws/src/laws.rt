@@ -1,5 +1,5 @@
 //! Laws of the definitions, proved as the contracts of calls that do nothing.
-ghost use Rattle.domain_zone_laws.specs.Examples.{Rfc4592Rows};
+ghost use Rattle.domain_zone_laws.specs.Examples.{Rfc1034Rows, Rfc4592Rows};
 ghost use Rattle.domain_zone_laws.specs.Laws.{HasOneOutcome, NothingBelowNameError};
 ghost use Rattle.domain_zone_laws.specs.Neighbours.{NeighboursTellEncloser, PredecessorTellsCut};
 
@@ -25,4 +25,9 @@ pub fn neighbour_laws()
 /// The questions of RFC 4592, 2.2.1, have the outcomes that it tells.
 pub fn rfc4592_rows()
     ensures { Rfc4592Rows }
+{}
+
+/// The questions of RFC 1034, 6.2, to the root zone there have the outcomes that it tells.
+pub fn rfc1034_rows()
+    ensures { Rfc1034Rows }
 {}
