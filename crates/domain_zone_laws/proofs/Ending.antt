@@ -1,4 +1,4 @@
--- How names that end with others are related.
+-- Laws of `EndsWith`, which `domain_list` defines: how names that end with others are related.
 use Rattle.std.proofs.Common.{◌≡◌, ℕ, ◌⊎◌, List, [], ◌∷◌, ◌++◌, length, refl, sym, ap, ◌∙◌, arith, inl, inr, append_assoc, length-append}
 use Rattle.domain_label.specs.Lowercase.{lowercase, lowercase_labels}
 use Rattle.domain_list.specs.Ends.{EndsWith}
