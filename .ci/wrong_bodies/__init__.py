@@ -1,0 +1,1 @@
+"""The parts of ./wrong-bodies at the top of the repository."""
