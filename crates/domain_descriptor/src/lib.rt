@@ -11,6 +11,7 @@ pub mod form;
 pub mod kind;
 pub mod laws;
 pub mod octets;
+pub mod rdata;
 pub mod table;
 
 pub use data::{check_data, known_fields};
@@ -18,4 +19,8 @@ pub use fault::DataFault;
 pub use field::{field_end, fields_end};
 pub use form::{FieldForm, form_of};
 pub use kind::FieldKind;
+pub use rdata::{Field, Rdata};
 pub use table::{compresses_names, fields_of, is_of_internet};
+
+#[cfg(test)]
+mod tests;
