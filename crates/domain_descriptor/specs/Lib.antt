@@ -2,3 +2,4 @@ pub mod Forms
 pub mod Fields
 pub mod Rdatas
 pub mod Table
+pub mod Values

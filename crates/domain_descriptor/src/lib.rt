@@ -13,6 +13,7 @@ pub mod laws;
 pub mod octets;
 pub mod rdata;
 pub mod table;
+pub mod value;
 
 pub use data::{check_data, known_fields};
 pub use fault::DataFault;

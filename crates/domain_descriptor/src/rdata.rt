@@ -1,13 +1,19 @@
 //! Record data in a message.
-ghost use Rattle.std.specs.Prelude.{◌≡◌, ◌≤◌, length, slice_range, IfSome, IfNone, IfOk, IfErr};
+ghost use Rattle.std.specs.Prelude.{◌≡◌, ◌≤◌, ◌-◌, length, slice_range, IfSome, IfNone, IfOk, IfErr};
 ghost use Rattle.domain_descriptor.specs.Fields.{AreData, AreNoData};
 ghost use Rattle.domain_descriptor.specs.Table.{known_fields};
+ghost use Rattle.domain_descriptor.specs.Values.{size_of};
 ghost use Rattle.domain_descriptor.specs.declared.fault.DataFault.{DataFault};
+ghost use Rattle.domain_descriptor.specs.declared.kind.FieldKind.TheVariants.{Name};
+ghost use Rattle.domain_reading.specs.Faults.{NameFaultAt};
+ghost use Rattle.domain_reading.specs.declared.fault.NameFault.{NameFault};
 
 use crate::data::{check_data, known_fields};
 use crate::fault::DataFault;
 use crate::field::{field_end, fields_end};
 use crate::kind::FieldKind;
+use crate::value::{name_at, number_at};
+use domain_parsed::ParsedName;
 
 /// The data of a record in a message: octets that are the fields of its type, and no more. No octet is copied.
 ///
@@ -107,10 +113,16 @@ pub struct Field<'m> {
     end: usize,
     ghost ordered: { begin ≤ end },
     ghost inside: { end ≤ length message.now },
+    ghost sized: { size_of kind ≤ end - begin },
+    ghost named: { kind ≡ Name → (f : NameFault) → NameFaultAt 255 message.now begin f → ⊥ },
 }
 
 impl<'m> Field<'m> {
     ghost use Rattle.domain_descriptor.specs.Rdatas.{field_kind, field_message, field_begin, field_after};
+    ghost use Rattle.domain_descriptor.specs.Values.{number_in};
+    ghost use Rattle.domain_parsed.specs.ParsedNames.{parsed_labels};
+    ghost use Rattle.domain_reading.specs.Grammar.{Names};
+    ghost use Rattle.domain_descriptor.specs.declared.kind.FieldKind.TheVariants.{Name};
 
     /// What the field is.
     pub fn kind(&self) -> FieldKind
@@ -139,5 +151,28 @@ impl<'m> Field<'m> {
             ≡ slice_range (field_message self.now) (field_begin self.now) (field_after self.now) }
     {
         &self.message[self.begin..self.end]
+    }
+
+    /// The number that it is: of 8 to 64 bits, a time to live, a serial number, a time or a type. `None` exactly where it is
+    /// none.
+    pub fn number(&self) -> Option<u64>
+        ensures { result ≡ number_in (field_kind self.now) (field_message self.now) (field_begin self.now) }
+    {
+        number_at(self.kind, self.message, self.begin)
+    }
+
+    /// The name that it is. `None` exactly where it is none.
+    pub fn name(&self) -> Option<ParsedName<&'m [u8]>>
+        ensures some { IfSome result (λ name. (field_kind self.now ≡ Name)
+            × Names 255 (field_message self.now) (field_begin self.now) (parsed_labels name)) }
+        ensures none { IfNone result (field_kind self.now ≡ Name → ⊥) }
+    {
+        match self.kind {
+            FieldKind::Name => match name_at(self.message, self.begin) {
+                Some(name) => Some(name),
+                None => unreachable!(),
+            },
+            _ => None,
+        }
     }
 }

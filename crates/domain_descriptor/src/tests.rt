@@ -38,9 +38,38 @@ fn mail_exchange(rt: HostRuntime) {
     assert_eq!(rt; name.kind(), FieldKind::Name);
     assert_eq!(rt; name.begin(), 2);
     assert_eq!(rt; name.end(), 20);
+    assert!(rt; name.name().is_some());
+    assert_eq!(rt; name.number(), None);
     assert!(rt; data.field(2).is_none());
+    let Some(preference) = data.field(0) else {
+        return assert!(rt; false);
+    };
+    assert_eq!(rt; preference.number(), Some(10));
+    assert!(rt; preference.name().is_none());
     assert!(rt; compresses_names(15));
     assert!(rt; !compresses_names(33));
+}
+
+/// The number that the first field of data of class IN is.
+fn number_of(rtype: u16, octets: &[u8]) -> Option<u64> {
+    let Ok(data) = Rdata::parse(rtype, 1, octets, 0) else {
+        return None;
+    };
+    data.field(0)?.number()
+}
+
+/// The examples of RFC 7043, 3.2 and 4.2, and an algorithm's number (RFC 4255, 3.1).
+#[test]
+fn numbers(rt: HostRuntime) {
+    assert_eq!(rt;
+        number_of(108, b"\x00\x00\x5e\x00\x53\x2a"),
+        Some(0x00005e00532a)
+    );
+    assert_eq!(rt;
+        number_of(109, b"\x00\x00\x5e\xef\x10\x00\x00\x2a"),
+        Some(0x00005eef1000002a)
+    );
+    assert_eq!(rt; number_of(44, b"\x02\x01\x12"), Some(2));
 }
 
 /// A pointer that leads to itself (RFC 1035, 4.1.4).
