@@ -1,0 +1,5 @@
+pub mod Forms
+pub mod Fields
+pub mod Rdatas
+pub mod Table
+pub mod Values

@@ -1,0 +1,260 @@
+//! Which fields record data has, type by type.
+ghost use Rattle.std.specs.Prelude.{◌≡◌, option_map};
+ghost use Rattle.domain_descriptor.specs.Table.{compresses_names, fields_of_type, fields_of_middle_type, fields_of_late_type, fields_in_class, is_of_internet};
+
+use crate::kind::FieldKind;
+
+/// The class of the Internet, IN (RFC 1035, 3.2.4).
+pub const CLASS_IN: u16 = 1;
+
+/// Whether data of this type has its fields in class IN alone.
+pub fn is_of_internet(rtype: u16) -> bool
+    ensures { result ≡ is_of_internet rtype }
+{
+    matches!(rtype, 1 | 11 | 26 | 28 | 33 | 36 | 42 | 49 | 64 | 65)
+}
+
+/// The fields of data of this type, where its class has them: of types up to 24.
+fn fields_of_type(rtype: u16) -> Option<&'static [FieldKind]>
+    ensures { option_map (λ kinds. kinds.now) result ≡ fields_of_type rtype }
+{
+    let kinds: &'static [FieldKind] = match rtype {
+        1 => &[FieldKind::Ipv4],
+        2 => &[FieldKind::Name],
+        3 => &[FieldKind::Name],
+        4 => &[FieldKind::Name],
+        5 => &[FieldKind::Name],
+        6 => &[
+            FieldKind::Name,
+            FieldKind::Name,
+            FieldKind::Serial,
+            FieldKind::Ttl,
+            FieldKind::Ttl,
+            FieldKind::Ttl,
+            FieldKind::Ttl,
+        ],
+        7 => &[FieldKind::Name],
+        8 => &[FieldKind::Name],
+        9 => &[FieldKind::Name],
+        11 => &[FieldKind::Octets],
+        12 => &[FieldKind::Name],
+        13 => &[FieldKind::CharString, FieldKind::CharString],
+        14 => &[FieldKind::Name, FieldKind::Name],
+        15 => &[FieldKind::Number16, FieldKind::Name],
+        16 => &[FieldKind::CharStrings],
+        17 => &[FieldKind::Name, FieldKind::Name],
+        18 => &[FieldKind::Number16, FieldKind::Name],
+        19 => &[FieldKind::CharString],
+        20 => &[FieldKind::CharString, FieldKind::OptionalString],
+        21 => &[FieldKind::Number16, FieldKind::Name],
+        24 => &[
+            FieldKind::Rtype,
+            FieldKind::Number8,
+            FieldKind::Number8,
+            FieldKind::Ttl,
+            FieldKind::Time,
+            FieldKind::Time,
+            FieldKind::Number16,
+            FieldKind::Name,
+            FieldKind::Base64,
+        ],
+        _ => return fields_of_middle_type(rtype),
+    };
+    Some(kinds)
+}
+
+/// The same of types up to 50.
+fn fields_of_middle_type(rtype: u16) -> Option<&'static [FieldKind]>
+    ensures { option_map (λ kinds. kinds.now) result ≡ fields_of_middle_type rtype }
+{
+    let kinds: &'static [FieldKind] = match rtype {
+        25 => &[
+            FieldKind::Number16,
+            FieldKind::Number8,
+            FieldKind::Number8,
+            FieldKind::Base64,
+        ],
+        26 => &[FieldKind::Number16, FieldKind::Name, FieldKind::Name],
+        27 => &[
+            FieldKind::CharString,
+            FieldKind::CharString,
+            FieldKind::CharString,
+        ],
+        28 => &[FieldKind::Ipv6],
+        29 => &[FieldKind::Octets],
+        30 => &[FieldKind::Name, FieldKind::Octets],
+        33 => &[
+            FieldKind::Number16,
+            FieldKind::Number16,
+            FieldKind::Number16,
+            FieldKind::Name,
+        ],
+        35 => &[
+            FieldKind::Number16,
+            FieldKind::Number16,
+            FieldKind::CharString,
+            FieldKind::CharString,
+            FieldKind::CharString,
+            FieldKind::Name,
+        ],
+        36 => &[FieldKind::Number16, FieldKind::Name],
+        37 => &[
+            FieldKind::Number16,
+            FieldKind::Number16,
+            FieldKind::Number8,
+            FieldKind::Base64,
+        ],
+        39 => &[FieldKind::Name],
+        42 => &[FieldKind::Octets],
+        43 => &[
+            FieldKind::Number16,
+            FieldKind::Number8,
+            FieldKind::Number8,
+            FieldKind::Base16,
+        ],
+        44 => &[FieldKind::Number8, FieldKind::Number8, FieldKind::Base16],
+        45 => &[FieldKind::Octets],
+        46 => &[
+            FieldKind::Rtype,
+            FieldKind::Number8,
+            FieldKind::Number8,
+            FieldKind::Ttl,
+            FieldKind::Time,
+            FieldKind::Time,
+            FieldKind::Number16,
+            FieldKind::Name,
+            FieldKind::Base64,
+        ],
+        47 => &[FieldKind::Name, FieldKind::TypeBitmaps],
+        48 => &[
+            FieldKind::Number16,
+            FieldKind::Number8,
+            FieldKind::Number8,
+            FieldKind::Base64,
+        ],
+        49 => &[FieldKind::Base64],
+        50 => &[
+            FieldKind::Number8,
+            FieldKind::Number8,
+            FieldKind::Number16,
+            FieldKind::CountedBase16,
+            FieldKind::CountedBase32,
+            FieldKind::OptionalTypeBitmaps,
+        ],
+        _ => return fields_of_late_type(rtype),
+    };
+    Some(kinds)
+}
+
+/// The same of later types.
+fn fields_of_late_type(rtype: u16) -> Option<&'static [FieldKind]>
+    ensures { option_map (λ kinds. kinds.now) result ≡ fields_of_late_type rtype }
+{
+    let kinds: &'static [FieldKind] = match rtype {
+        51 => &[
+            FieldKind::Number8,
+            FieldKind::Number8,
+            FieldKind::Number16,
+            FieldKind::CountedBase16,
+        ],
+        52 => &[
+            FieldKind::Number8,
+            FieldKind::Number8,
+            FieldKind::Number8,
+            FieldKind::Base16,
+        ],
+        53 => &[
+            FieldKind::Number8,
+            FieldKind::Number8,
+            FieldKind::Number8,
+            FieldKind::Base16,
+        ],
+        55 => &[FieldKind::Octets],
+        58 => &[FieldKind::Name, FieldKind::Name],
+        59 => &[
+            FieldKind::Number16,
+            FieldKind::Number8,
+            FieldKind::Number8,
+            FieldKind::Base16,
+        ],
+        60 => &[
+            FieldKind::Number16,
+            FieldKind::Number8,
+            FieldKind::Number8,
+            FieldKind::Base64,
+        ],
+        61 => &[FieldKind::Base64],
+        62 => &[
+            FieldKind::Serial,
+            FieldKind::Number16,
+            FieldKind::OptionalTypeBitmaps,
+        ],
+        63 => &[
+            FieldKind::Serial,
+            FieldKind::Number8,
+            FieldKind::Number8,
+            FieldKind::Base16,
+        ],
+        64 => &[FieldKind::Number16, FieldKind::Name, FieldKind::SvcParams],
+        65 => &[FieldKind::Number16, FieldKind::Name, FieldKind::SvcParams],
+        99 => &[FieldKind::CharStrings],
+        104 => &[FieldKind::Number16, FieldKind::Number64],
+        105 => &[FieldKind::Number16, FieldKind::Ipv4],
+        106 => &[FieldKind::Number16, FieldKind::Number64],
+        107 => &[FieldKind::Number16, FieldKind::Name],
+        108 => &[FieldKind::Number48],
+        109 => &[FieldKind::Number64],
+        249 => &[
+            FieldKind::Name,
+            FieldKind::Time,
+            FieldKind::Time,
+            FieldKind::Number16,
+            FieldKind::Number16,
+            FieldKind::CountedBase64,
+            FieldKind::CountedBase64,
+        ],
+        250 => &[
+            FieldKind::Name,
+            FieldKind::Number48,
+            FieldKind::Number16,
+            FieldKind::CountedBase64,
+            FieldKind::Number16,
+            FieldKind::Number16,
+            FieldKind::CountedBase64,
+        ],
+        256 => &[
+            FieldKind::Number16,
+            FieldKind::Number16,
+            FieldKind::QuotedText,
+        ],
+        257 => &[FieldKind::Number8, FieldKind::Tag, FieldKind::QuotedText],
+        258 => &[FieldKind::CharStrings],
+        260 => &[FieldKind::Octets],
+        32769 => &[
+            FieldKind::Number16,
+            FieldKind::Number8,
+            FieldKind::Number8,
+            FieldKind::Base16,
+        ],
+        _ => return None,
+    };
+    Some(kinds)
+}
+
+/// Whether the names in data of this type may be compressed: of the types of RFC 1035 alone (RFC 3597, 4).
+pub fn compresses_names(rtype: u16) -> bool
+    ensures { result ≡ compresses_names rtype }
+{
+    matches!(rtype, 2 | 3 | 4 | 5 | 6 | 7 | 8 | 9 | 12 | 14 | 15)
+}
+
+/// The fields of data of this type in this class, in their order. `None` exactly where nothing is known of such data:
+/// where the type isn't in the table, and where its data has fields in class IN alone and the class is another.
+pub fn fields_of(rtype: u16, class: u16) -> Option<&'static [FieldKind]>
+    ensures { option_map (λ kinds. kinds.now) result ≡ fields_in_class rtype class }
+{
+    if class != CLASS_IN && is_of_internet(rtype) {
+        return None;
+    }
+    fields_of_type(rtype)
+}
