@@ -6,12 +6,11 @@ text is once in the file. An edit with other lines can't be read."""
 
 import re
 
+from wrong_bodies.edit import EDIT
+
 FORMS = {
     "must-fail": (r"(?:file: .*\n(?:old: .*\nnew:.*\n?)+)+\s*", "'file:', 'old:' and 'new:'"),
-    "wrong-bodies": (
-        r"file: .*\nfunction: (?:impl )?\S+\n(?:old: .*\nnew:.*\n?)+\s*",
-        "'file:', 'function:', 'old:' and 'new:'",
-    ),
+    "wrong-bodies": (EDIT.pattern, "'file:', 'function:', 'old:' and 'new:'"),
 }
 KIND = re.compile(r"^(?:pub(?:\([^)]*\))? )?(?:struct|enum|trait) (\w+)", re.MULTILINE)
 IMPL = re.compile(r"^(?:unsafe )?impl\b([^{;]*)", re.MULTILINE)

@@ -131,7 +131,7 @@ class Crate:
             fits = [it for it in said.functions if ends(it, edit.function)]
             if not fits:
                 stop(f"{edit.name}: '{edit.function}' is no function")
-            # The prover takes no end of a name that several have, but for a whole name.
+            # Where several names end in these words, the prover takes the one that is these words.
             edit.function = min(fits, key=len)
         came = {it: said.of(it, {other.function for other in batch}) for it in batch}
         for edit, (kind, why) in came.items():
@@ -139,7 +139,7 @@ class Crate:
                 edit.kept.touch()
             if kind == "refused" or len(batch) == 1:
                 edit.came = kind, why
-            # What waits for the proof of another edit's function in one batch is told by the next.
+            # An edit that waits for the proof of another edit's function is tried again in the next batch.
             edit.tries += 1 if any(it == "refused" for it, _ in came.values()) else 2
 
     def tell(self, is_told):
