@@ -1,5 +1,5 @@
 //! Appending labels to octets.
-ghost use Rattle.std.specs.Prelude.{◌≡◌, ◌≤◌, length, OnOk, OnErr, IfSome};
+ghost use Rattle.std.specs.Prelude.{◌≡◌, ◌≤◌, [], length, OnOk, OnErr, IfSome};
 ghost use Rattle.octseq.specs.Appending.{GrowsBy, TooFull};
 ghost use Rattle.domain_label.specs.Lowercase.{lowercase};
 ghost use Rattle.domain_label.specs.Labels.{label_octets, owned_octets, wire_of, canonical_wire, owned_wire};
@@ -34,19 +34,15 @@ impl<'a> Label<'a> {
         target: &mut Target,
     ) -> Result<(), Target::AppendError>
         ensures ok { OnOk result (GrowsBy Target.Octets target.old (wire_of self.now) target.new) }
+        ensures extends { OnOk result (Target.extends target.old (wire_of self.now) target.new) }
         ensures unchanged { OnErr result (Target.octets target.new ≡ Target.octets target.old) }
+        ensures nothing { OnErr result (Target.extends target.old [] target.new) }
         ensures full { OnErr result (TooFull Target.Octets target.old (wire_of self.now)) }
         ensures capacity { Target.capacity target.old ≤ Target.capacity target.new }
         ensures within { IfSome Target.limit (λ n. length (Target.octets target.new) ≤ n) }
         ensures fixed { IfSome Target.limit (λ n. Target.capacity target.old ≡ n) }
     {
-        let start = target.as_slice().len();
-        target.append_slice(&[self.len() as u8])?;
-        if let Err(e) = target.append_slice(self.as_slice()) {
-            target.truncate(start);
-            return Err(e);
-        }
-        Ok(())
+        append_wire(&OwnedLabel::from_label(*self), target)
     }
 
     /// Appends the wire format with A to Z as a to z (RFC 4034, 6.2), else as `compose`.
@@ -56,7 +52,10 @@ impl<'a> Label<'a> {
     ) -> Result<(), Target::AppendError>
         ensures ok { OnOk result
             (GrowsBy Target.Octets target.old (canonical_wire self.now) target.new) }
+        ensures extends { OnOk result
+            (Target.extends target.old (canonical_wire self.now) target.new) }
         ensures unchanged { OnErr result (Target.octets target.new ≡ Target.octets target.old) }
+        ensures nothing { OnErr result (Target.extends target.old [] target.new) }
         ensures full { OnErr result (TooFull Target.Octets target.old (wire_of self.now)) }
         ensures capacity { Target.capacity target.old ≤ Target.capacity target.new }
         ensures within { IfSome Target.limit (λ n. length (Target.octets target.new) ≤ n) }
@@ -72,7 +71,9 @@ fn append_wire<Target: OctetsBuilder>(
     target: &mut Target,
 ) -> Result<(), Target::AppendError>
     ensures ok { OnOk result (GrowsBy Target.Octets target.old (owned_wire label.now) target.new) }
+    ensures extends { OnOk result (Target.extends target.old (owned_wire label.now) target.new) }
     ensures unchanged { OnErr result (Target.octets target.new ≡ Target.octets target.old) }
+    ensures nothing { OnErr result (Target.extends target.old [] target.new) }
     ensures full { OnErr result (TooFull Target.Octets target.old (owned_wire label.now)) }
     ensures capacity { Target.capacity target.old ≤ Target.capacity target.new }
     ensures within { IfSome Target.limit (λ n. length (Target.octets target.new) ≤ n) }

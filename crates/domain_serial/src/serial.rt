@@ -1,6 +1,6 @@
 //! Serial numbers.
 ghost use Rattle.std.specs.Int.{int_rem_euclid};
-ghost use Rattle.std.specs.Prelude.{pos, int_div, ◌≡◌, ◌+◌, ◌≤◌, ◌<◌, ◌%◌, ◌^◌, length, IfOk, IfErr, OnOk, OnErr, IfSome, Some, codes};
+ghost use Rattle.std.specs.Prelude.{pos, int_div, ◌≡◌, ◌+◌, ◌≤◌, ◌<◌, ◌%◌, ◌^◌, [], length, IfOk, IfErr, OnOk, OnErr, IfSome, Some, codes};
 ghost use Rattle.std.specs.Int.{w32, to_be_bytes, from_be_bytes};
 ghost use Rattle.std.specs.Fmt.{decimal};
 ghost use Rattle.std.specs.Result.{result_map_both};
@@ -95,7 +95,10 @@ impl Serial {
     ) -> Result<(), Target::AppendError>
         ensures ok { OnOk result
             (GrowsBy Target.Octets target.old (to_be_bytes w32 self.now.0) target.new) }
+        ensures extends { OnOk result
+            (Target.extends target.old (to_be_bytes w32 self.now.0) target.new) }
         ensures unchanged { OnErr result (Target.octets target.new ≡ Target.octets target.old) }
+        ensures nothing { OnErr result (Target.extends target.old [] target.new) }
         ensures full { OnErr result (LacksSpare Target.Octets target.old 4) }
         ensures capacity { Target.capacity target.old ≤ Target.capacity target.new }
         ensures within { IfSome Target.limit (λ n. length (Target.octets target.new) ≤ n) }
