@@ -41,8 +41,8 @@ abbrev pub CompressedNumber : List ℕ → ℕ → ℕ → Type 0
 CompressedNumber m p compressed =
     ((compressed ≡ 0) × IsContiguous m p) ⊎ ((compressed ≡ 1) × (IsContiguous m p → ⊥))
 
--- The name at p in m, through at most n pointers, was given, with the offset after its root or first pointer and whether
--- it is compressed (RFC 1035, 4.1.4); or there is none, the number is that of its fault, and nothing changed.
+-- The name at p in m, through at most n pointers, was given, with the offset after its root or first pointer and
+-- whether it is compressed (RFC 1035, 4.1.4); or there is none, the number is that of its fault, and nothing changed.
 abbrev pub ReadsNameAt : ℕ → List ℕ → ℕ → ℕ → List ℕ → List ℕ → ℕ → ℕ → ℕ → ℕ → ℕ → ℕ → Type 0
 ReadsNameAt n m p status old new old_len len old_end end old_compressed compressed =
     ((ls : List (List ℕ)) × Names n m p ls × EncodingEnds m p end × CompressedNumber m p compressed
@@ -50,8 +50,8 @@ ReadsNameAt n m p status old new old_len len old_end end old_compressed compress
     ⊎ ((f : NameFault) × NameFaultAt n m p f × (status ≡ fault_number f) × (new ≡ old)
     × (len ≡ old_len) × (end ≡ old_end) × (compressed ≡ old_compressed))
 
--- The offset after the root or first pointer of the name at p in m was given (0); or the number is that of the fault, and
--- nothing changed.
+-- The offset after the root or first pointer of the name at p in m was given (0); or the number is that of the fault,
+-- and nothing changed.
 abbrev pub ReturnsEnd : List ℕ → ℕ → ℕ → ℕ → ℕ → Type 0
 ReturnsEnd m p status old new =
     ((status ≡ 0) × Skips m p new)
@@ -61,8 +61,8 @@ ReturnsEnd m p status old new =
 abbrev pub HasFaultNumber : List ℕ → ℕ → Type 0
 HasFaultNumber cs status = (f : TextFault) × IsTextOfNoName cs f × (status ≡ text_number f)
 
--- The wire format of the name that the text t spells was given (RFC 1035, 5.1); or the number is that of the text's fault,
--- and nothing changed. A text that isn't UTF-8 has the number of a character that is no octet (12).
+-- The wire format of the name that the text t spells was given (RFC 1035, 5.1); or the number is that of the text's
+-- fault, and nothing changed. A text that isn't UTF-8 has the number of a character that is no octet (12).
 abbrev pub ReadsText : List ℕ → ℕ → List ℕ → List ℕ → ℕ → ℕ → Type 0
 ReadsText t status old new old_len len =
     (IsUtf8 t × (ls : List (List ℕ)) × IsTextOfName (chars t) ls

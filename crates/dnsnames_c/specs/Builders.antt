@@ -1,4 +1,5 @@
--- Messages that are built in the caller's buffer (RFC 1035, 4.1). `o` is the list of its octets, `b` the builder beside it.
+-- Messages that are built in the caller's buffer (RFC 1035, 4.1). `o` is the list of its octets, `b` the builder
+-- beside it.
 use Rattle.std.specs.Prelude.{◌≡◌, ◌⊎◌, ℕ, zero, suc, ◌+◌, ◌<◌, Bool, true, false, List, [], ◌∷◌, ◌++◌, length, take, drop, min, Option, Some, None, IsSome, nat_eq, if◌then◌else◌}
 use Rattle.domain_header.specs.Headers.{header_octets, counts_octets}
 use Rattle.domain_label.specs.Wire.{IsAbsoluteWire}
@@ -19,8 +20,8 @@ use Rattle.domain_buffer.specs.declared.builder.Builder.{Builder}
 use Rattle.domain_buffer.specs.declared.push.PushFault.{PushFault}
 use Rattle.dnsnames_c.specs.Status.{push_number}
 
--- A message was begun with this identifier and these flags, and nothing in it; it has as many octets as the buffer at most, and
--- 65,535 (0). Or the buffer has no room for a header (8), and nothing changed.
+-- A message was begun with this identifier and these flags, and nothing in it; it has as many octets as the buffer at
+-- most, and 65,535 (0). Or the buffer has no room for a header (8), and nothing changed.
 abbrev pub BeginsMessage : ℕ → ℕ → ℕ → List ℕ → Builder → List ℕ → Builder → Type 0
 BeginsMessage id flags status o b o' b' =
     ((status ≡ 0) × PutsAt 0 blank_header o o' × (b'.limit ≡ min (length o) 65535) × (b'.id ≡ id)
@@ -28,8 +29,8 @@ BeginsMessage id flags status o b o' b' =
     × Holds true (builder_state o' b') no_content × IsUsable o' b')
     ⊎ ((status ≡ 8) × (length o < 12) × (o' ≡ o) × (b' ≡ b))
 
--- Why a question isn't pushed: the builder isn't usable (23), the name is no absolute name (9), a record was pushed (24),
--- 65,535 questions were (25), or it doesn't fit (8).
+-- Why a question isn't pushed: the builder isn't usable (23), the name is no absolute name (9), a record was pushed
+-- (24), 65,535 questions were (25), or it doesn't fit (8).
 abbrev pub RefusesQuestion : List ℕ → Builder → List ℕ → ℕ → Type 0
 RefusesQuestion o b name status =
     ((status ≡ 23) × (IsUsable o b → ⊥))
@@ -70,8 +71,8 @@ GivesNamed section owner head f status o b o' b' =
     ⊎ ((why : PushFault) × RefusesNamed section owner f o b why × (status ≡ push_number why)
     × (o' ≡ o) × (b' ≡ b))
 
--- These are the fields of data of a type in which names may be compressed, and so they are written; or data are no such fields,
--- and are written as they are.
+-- These are the fields of data of a type in which names may be compressed, and so they are written; or data are no
+-- such fields, and are written as they are.
 abbrev pub GivesEither : Section → List ℕ → RecordHead → List ℕ → ℕ → List ℕ → Builder → List ℕ
     → Builder → Type 0
 GivesEither section owner head rdata status o b o' b' =
@@ -80,8 +81,8 @@ GivesEither section owner head rdata status o b o' b' =
     ⊎ (((f : Fields) → IsNamed head.rtype f → whole f ≡ rdata → ⊥)
     × GivesData section owner head rdata status o b o' b')
 
--- The same of a section by its number; or the builder isn't usable (23), there is no such section (26), or the owner's name
--- is no absolute name (9).
+-- The same of a section by its number; or the builder isn't usable (23), there is no such section (26), or the owner's
+-- name is no absolute name (9).
 abbrev pub GivesInSection : ℕ → List ℕ → RecordHead → List ℕ → ℕ → List ℕ → Builder → List ℕ → Builder
     → Type 0
 GivesInSection number owner head rdata status o b o' b' =
@@ -114,14 +115,15 @@ GivesOpt opt status o b o' b' =
     (IsUsable o b × GivesData Additional (0 ∷ []) (opt_head opt) opt.options status o b o' b')
     ⊎ ((status ≡ 23) × (IsUsable o b → ⊥) × (o' ≡ o) × (b' ≡ b))
 
--- The records were taken away again, and TC was set (RFC 2181, 9); or the builder isn't usable (23), and nothing changed.
+-- The records were taken away again, and TC was set (RFC 2181, 9); or the builder isn't usable (23), and nothing
+-- changed.
 abbrev pub Cuts : ℕ → List ℕ → Builder → Builder → Type 0
 Cuts status o b b' =
     ((status ≡ 0) × IsUsable o b × Truncates true (builder_state o b) (builder_state o b') × IsUsable o b')
     ⊎ ((status ≡ 23) × (IsUsable o b → ⊥) × (b' ≡ b))
 
--- The header was written, and the size of the message was given, which is read as what was pushed (0); or the builder isn't
--- usable (23), and nothing changed.
+-- The header was written, and the size of the message was given, which is read as what was pushed (0); or the builder
+-- isn't usable (23), and nothing changed.
 abbrev pub Finishes : ℕ → List ℕ → Builder → List ℕ → ℕ → ℕ → Type 0
 Finishes status o b o' old_len len =
     ((status ≡ 0) × IsUsable o b × (len ≡ b.len)

@@ -19,8 +19,8 @@ GivesNameAt m q status old new old_len len =
     ⊎ ((f : NameFault) × NameFaultAt max_pointers m q f × (status ≡ fault_number f) × (new ≡ old)
     × (len ≡ old_len))
 
--- The name with `index` names before it in the data of this type was given, where the data are the octets of the message
--- from p on, so many. Or the data have no such name, and nothing changed.
+-- The name with `index` names before it in the data of this type was given, where the data are the octets of the
+-- message from p on, so many. Or the data have no such name, and nothing changed.
 abbrev pub GivesDataName : List ℕ → ℕ → ℕ → ℕ → ℕ → ℕ → List ℕ → List ℕ → ℕ → ℕ → Type 0
 GivesDataName message p data_len rtype index status old new old_len len =
     ((q : ℕ) × HasName message p data_len rtype index q

@@ -6,8 +6,8 @@ use Rattle.dnsnames_c.specs.Status.{fault_number}
 use Rattle.domain_offsets.specs.Entries.{LacksParts, EntryAt}
 use Rattle.domain_offsets.specs.declared.entry.Parts.{Parts}
 
--- No question (true) or record (false) is at p, and this is the number of the fault: no name can be skipped there, or the
--- message ends in the parts after it.
+-- No question (true) or record (false) is at p, and this is the number of the fault: no name can be skipped there, or
+-- the message ends in the parts after it.
 abbrev pub NoEntryAt : List ℕ → Bool → ℕ → ℕ → Type 0
 NoEntryAt m question p status =
     ((f : NameFault) × SkipFault m p f × (status ≡ fault_number f))

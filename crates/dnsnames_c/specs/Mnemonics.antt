@@ -10,8 +10,8 @@ use Rattle.dnsnames_c.specs.Answers.{Gives}
 abbrev pub GivesTextOf : List Row → List ℕ → ℕ → ℕ → List ℕ → List ℕ → ℕ → Type 0
 GivesTextOf rows word n status old new len = Gives (text_of rows word n) status old new len
 
--- The number below the bound was given that the text t names, by a row or by the word and its digits (0). Or it names none
--- below it, or isn't UTF-8 (22), and nothing changed.
+-- The number below the bound was given that the text t names, by a row or by the word and its digits (0). Or it names
+-- none below it, or isn't UTF-8 (22), and nothing changed.
 abbrev pub GivesNumber : List Row → List ℕ → ℕ → List ℕ → ℕ → ℕ → ℕ → Type 0
 GivesNumber rows word bound t status old new =
     ((status ≡ 0) × IsUtf8 t × Named rows word t (Some new) × (new < bound))

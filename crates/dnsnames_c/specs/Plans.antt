@@ -27,8 +27,8 @@ pub record PutsNameAndOffsets (o : List ℕ) (len : ℕ) (table : List ℕ) (cou
       (labels_in (take begin name))
   pub rest : drop count' table' ≡ drop count' table
 
--- Why a name isn't written: a length is too large (20), the table is no table (16), the name is no absolute name (9) or
--- doesn't fit (8).
+-- Why a name isn't written: a length is too large (20), the table is no table (16), the name is no absolute name (9)
+-- or doesn't fit (8).
 abbrev pub RefusesName : List ℕ → ℕ → List ℕ → ℕ → List ℕ → ℕ → Type 0
 RefusesName o len table count name status =
     ((status ≡ 20) × ((length o < len) ⊎ (length table < count)))

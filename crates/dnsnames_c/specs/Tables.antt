@@ -1,5 +1,5 @@
--- Tables of all that a message has: a row of numbers for each question and record, and their names (RFC 1035, 4.1). `m` is
--- the message: the list of its octets.
+-- Tables of all that a message has: a row of numbers for each question and record, and their names (RFC 1035, 4.1).
+-- `m` is the message: the list of its octets.
 use Rattle.std.specs.Prelude.{◌≡◌, ℕ, ◌^◌, ◌≤◌, ◌<◌, List, length, Option}
 use Rattle.domain_buffer.specs.Rows.{HoldsRows, Stops}
 use Rattle.domain_buffer.specs.declared.rows.RowFault.{RowFault}

@@ -15,8 +15,8 @@ use domain_buffer::put::put_at;
 use domain_message::Section;
 use domain_name::Name;
 
-/// Begins a message in the buffer, with an identifier and flags, and nothing in it. It has as many octets as the buffer at
-/// most, and 65,535; a smaller limit may be set, and a larger one again.
+/// Begins a message in the buffer, with an identifier and flags, and nothing in it. It has as many octets as the
+/// buffer at most, and 65,535; a smaller limit may be set, and a larger one again.
 ///
 /// 8 where the buffer has no room for the twelve octets of the header: nothing is changed.
 #[unsafe(no_mangle)]
@@ -53,8 +53,8 @@ pub extern "C" fn dnsnames_builder_start(
 
 /// Pushes a question, or nothing.
 ///
-/// 23 where the builder and the octets aren't as these calls leave them, or the message is finished; 9 where the name is
-/// none; 24 where a record was pushed; 25 where 65,535 questions were; 8 where it doesn't fit: nothing is changed.
+/// 23 where the builder and the octets aren't as these calls leave them, or the message is finished; 9 where the name
+/// is none; 24 where a record was pushed; 25 where 65,535 questions were; 8 where it doesn't fit: nothing is changed.
 #[unsafe(no_mangle)]
 pub extern "C" fn dnsnames_builder_question(
     octets: &mut [u8],
@@ -151,14 +151,14 @@ fn push_names(
     }
 }
 
-/// Pushes a record into a section, or nothing: 1 is that of answers, 2 authority, 3 additional. The owner's name is written
-/// as `dnsnames_plan` tells. So are the names in the data, over the message up to the owner's name, and this too, where the
-/// type is one of RFC 1035 (3.3) that has names, and the data are exactly its fields, with no pointer in a name. All other
-/// data are written as they are.
+/// Pushes a record into a section, or nothing: 1 is that of answers, 2 authority, 3 additional. The owner's name is
+/// written as `dnsnames_plan` tells. So are the names in the data, over the message up to the owner's name, and this
+/// too, where the type is one of RFC 1035 (3.3) that has names, and the data are exactly its fields, with no pointer
+/// in a name. All other data are written as they are.
 ///
-/// 23 where the builder and the octets aren't as these calls leave them, or the message is finished; 26 where there is no
-/// such section; 9 where the owner's name is none; 24 where a later section has a record; 25 where this one has 65,535; 8
-/// where it doesn't fit: nothing is changed.
+/// 23 where the builder and the octets aren't as these calls leave them, or the message is finished; 26 where there is
+/// no such section; 9 where the owner's name is none; 24 where a later section has a record; 25 where this one has
+/// 65,535; 8 where it doesn't fit: nothing is changed.
 #[unsafe(no_mangle)]
 pub extern "C" fn dnsnames_builder_record(
     octets: &mut [u8],
@@ -189,9 +189,9 @@ pub extern "C" fn dnsnames_builder_record(
     }
 }
 
-/// Pushes an OPT record into the additional section, or nothing (RFC 6891, 6.1): how many octets of a message over UDP its
-/// sender takes, the upper eight bits of a response code of twelve, the version, the bit DO where `dnssec_ok` isn't 0, and
-/// options in wire format, as they are.
+/// Pushes an OPT record into the additional section, or nothing (RFC 6891, 6.1): how many octets of a message over UDP
+/// its sender takes, the upper eight bits of a response code of twelve, the version, the bit DO where `dnssec_ok`
+/// isn't 0, and options in wire format, as they are.
 ///
 /// 23, 25 and 8 as `dnsnames_builder_record` has them: nothing is changed.
 #[unsafe(no_mangle)]

@@ -33,9 +33,10 @@ fn number_of_relative(kind: RelativeNameErrorKind) -> u32
     }
 }
 
-/// Whether the octets are an absolute name with no pointer (RFC 1035, 3.1): 0. 4 where there are more than 255; otherwise
-/// the first fault from the left: 1 where they end inside a label, or there are none, 2 at a length octet of a type that
-/// is not in use, 5 at a pointer, 6 where they end after a label that isn't the root, 7 where more follow the root.
+/// Whether the octets are an absolute name with no pointer (RFC 1035, 3.1): 0. 4 where there are more than 255;
+/// otherwise the first fault from the left: 1 where they end inside a label, or there are none, 2 at a length octet of
+/// a type that is not in use, 5 at a pointer, 6 where they end after a label that isn't the root, 7 where more follow
+/// the root.
 #[unsafe(no_mangle)]
 pub extern "C" fn dnsnames_check(octets: &[u8]) -> u32
     ensures { ChecksAbsolute octets.now result }
@@ -46,9 +47,9 @@ pub extern "C" fn dnsnames_check(octets: &[u8]) -> u32
     }
 }
 
-/// Whether the octets are a relative name with no pointer, which may have no label: 0. 4 where there are more than 254;
-/// otherwise the first fault from the left: 1 where they end inside a label, 2 at a length octet of a type that is not in
-/// use, 5 at a pointer, 19 at a root label.
+/// Whether the octets are a relative name with no pointer, which may have no label: 0. 4 where there are more than
+/// 254; otherwise the first fault from the left: 1 where they end inside a label, 2 at a length octet of a type that
+/// is not in use, 5 at a pointer, 19 at a root label.
 #[unsafe(no_mangle)]
 pub extern "C" fn dnsnames_check_relative(octets: &[u8]) -> u32
     ensures { ChecksRelative octets.now result }

@@ -32,13 +32,14 @@ fn give_name(octets: &[u8], begin: usize, buffer: &mut [u8], length: &mut usize)
 }
 
 /// The name with `index` names before it in the data of a record of this type, which are the `data_len` octets of the
-/// message from `data_at` on, into the buffer with no pointer in it; `length` becomes its size. Its octets end inside the
-/// data; its pointers lead before, as far as the message goes.
+/// message from `data_at` on, into the buffer with no pointer in it; `length` becomes its size. Its octets end inside
+/// the data; its pointers lead before, as far as the message goes.
 ///
-/// 21 where data of this type have no such name (those of the types of RFC 1035, 3.3, that have names, and of DNAME, RP,
-/// AFSDB, RT, PX, KX and SRV are known); 1 where the data end past the message, or in a name or what is after it; 7 where
-/// they go on after it; 2 and 4 as `dnsnames_skip` has them for any of their names; 3 and 4 as `dnsnames_read` has them for
-/// the one that is asked for: nothing is changed. 8 where it doesn't fit into the buffer, which then stays.
+/// 21 where data of this type have no such name (those of the types of RFC 1035, 3.3, that have names, and of DNAME,
+/// RP, AFSDB, RT, PX, KX and SRV are known); 1 where the data end past the message, or in a name or what is after it;
+/// 7 where they go on after it; 2 and 4 as `dnsnames_skip` has them for any of their names; 3 and 4 as `dnsnames_read`
+/// has them for the one that is asked for: nothing is changed. 8 where it doesn't fit into the buffer, which then
+/// stays.
 #[unsafe(no_mangle)]
 pub extern "C" fn dnsnames_data_name(
     message: &[u8],
@@ -59,12 +60,12 @@ pub extern "C" fn dnsnames_data_name(
     give_name(&message[..data_at + data_len], begin, buffer, length)
 }
 
-/// The number with `index` numbers before it in the data of a record of this type, which are the `data_len` octets of the
-/// message from `data_at` on: the preference of MX, RT, PX and KX, the subtype of AFSDB, the priority, weight and port of
-/// SRV, of 16 bits each, and serial, refresh, retry, expire and minimum of SOA, of 32, in the order of these.
+/// The number with `index` numbers before it in the data of a record of this type, which are the `data_len` octets of
+/// the message from `data_at` on: the preference of MX, RT, PX and KX, the subtype of AFSDB, the priority, weight and
+/// port of SRV, of 16 bits each, and serial, refresh, retry, expire and minimum of SOA, of 32, in the order of these.
 ///
-/// 21 where data of this type have no such number, and 1, 2, 4 and 7 as `dnsnames_data_name` has them of the data: nothing
-/// is changed.
+/// 21 where data of this type have no such number, and 1, 2, 4 and 7 as `dnsnames_data_name` has them of the data:
+/// nothing is changed.
 #[unsafe(no_mangle)]
 pub extern "C" fn dnsnames_data_number(
     message: &[u8],
@@ -85,9 +86,9 @@ pub extern "C" fn dnsnames_data_number(
     }
 }
 
-/// The address that is the data of a record of this type and of class `IN`, which are the `data_len` octets of the message
-/// from `data_at` on, into the buffer: 4 octets for A (RFC 1035, 3.4.1), 16 for AAAA (RFC 3596, 2.2). `length` becomes its
-/// size.
+/// The address that is the data of a record of this type and of class `IN`, which are the `data_len` octets of the
+/// message from `data_at` on, into the buffer: 4 octets for A (RFC 1035, 3.4.1), 16 for AAAA (RFC 3596, 2.2). `length`
+/// becomes its size.
 ///
 /// 21 where the type is another; 1 where the data end past the message or have fewer octets, 7 where they have more:
 /// nothing is changed. 8 where it doesn't fit into the buffer, which then stays.

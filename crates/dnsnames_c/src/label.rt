@@ -71,8 +71,8 @@ pub extern "C" fn dnsnames_label_back(name: &[u8], index: usize, offset: &mut us
     0
 }
 
-/// The offset in a name of its second label, where its parent begins. 10 for the root, which has none; 9 where it is no
-/// name.
+/// The offset in a name of its second label, where its parent begins. 10 for the root, which has none; 9 where it is
+/// no name.
 #[unsafe(no_mangle)]
 pub extern "C" fn dnsnames_parent(name: &[u8], offset: &mut usize) -> u32
     ensures { GivesOffset name.now 1 result offset.old offset.new }

@@ -9,8 +9,9 @@ use domain_header::numbers::number_of_16_bits;
 use domain_offsets::entry::{question_after, record_after};
 use domain_reading::uncounted::encoding_end;
 
-/// The twelve octets that a message begins with, as six numbers (RFC 1035, 4.1.1): its identifier, its flags, and how many
-/// questions, answers, records of authority and further records it says to have. 1 where it has fewer: nothing is changed.
+/// The twelve octets that a message begins with, as six numbers (RFC 1035, 4.1.1): its identifier, its flags, and how
+/// many questions, answers, records of authority and further records it says to have. 1 where it has fewer: nothing is
+/// changed.
 #[unsafe(no_mangle)]
 pub extern "C" fn dnsnames_header(
     message: &[u8],
@@ -41,8 +42,8 @@ pub extern "C" fn dnsnames_header(
     0
 }
 
-/// The question at an offset of a message (RFC 1035, 4.1.2), whose name begins there: its type, its class and the offset
-/// after it. A pointer in the name is not followed.
+/// The question at an offset of a message (RFC 1035, 4.1.2), whose name begins there: its type, its class and the
+/// offset after it. A pointer in the name is not followed.
 ///
 /// The faults of `dnsnames_skip`, and 1 where fewer than four octets follow the name: nothing is changed.
 #[unsafe(no_mangle)]
@@ -71,12 +72,12 @@ pub extern "C" fn dnsnames_question(
     0
 }
 
-/// The record at an offset of a message (RFC 1035, 4.1.3), whose name begins there: its type, its class, its time to live
-/// in seconds, where its data begin and how many octets they have, and the offset after it. A pointer in the name is not
-/// followed.
+/// The record at an offset of a message (RFC 1035, 4.1.3), whose name begins there: its type, its class, its time to
+/// live in seconds, where its data begin and how many octets they have, and the offset after it. A pointer in the name
+/// is not followed.
 ///
-/// The faults of `dnsnames_skip`, and 1 where the ten octets after the name or the data end past the message: nothing is
-/// changed.
+/// The faults of `dnsnames_skip`, and 1 where the ten octets after the name or the data end past the message: nothing
+/// is changed.
 #[unsafe(no_mangle)]
 pub extern "C" fn dnsnames_record(
     message: &[u8],

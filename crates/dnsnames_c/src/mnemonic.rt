@@ -53,8 +53,8 @@ fn give_number(table: &[Mnemonic], word: &str, bound: u32, text: &[u8], number: 
     0
 }
 
-/// The text of a type into the buffer: its mnemonic, or `TYPE` and its number in decimal digits where there is none (RFC
-/// 3597, 5). `length` becomes its size, at most 10. 8 where it doesn't fit.
+/// The text of a type into the buffer: its mnemonic, or `TYPE` and its number in decimal digits where there is none
+/// (RFC 3597, 5). `length` becomes its size, at most 10. 8 where it doesn't fit.
 #[unsafe(no_mangle)]
 pub extern "C" fn dnsnames_type_text(rtype: u16, buffer: &mut [u8], length: &mut usize) -> u32
     ensures { Gives (rtype_text rtype) result buffer.old buffer.new length.new }
@@ -62,8 +62,8 @@ pub extern "C" fn dnsnames_type_text(rtype: u16, buffer: &mut [u8], length: &mut
     give_text(rtypes(), "TYPE", rtype, buffer, length)
 }
 
-/// The number of the type that a text names: by its mnemonic, or by `TYPE` immediately followed by the number in decimal
-/// digits (RFC 3597, 5), ignoring ASCII case. 22 where it names none: nothing is changed.
+/// The number of the type that a text names: by its mnemonic, or by `TYPE` immediately followed by the number in
+/// decimal digits (RFC 3597, 5), ignoring ASCII case. 22 where it names none: nothing is changed.
 #[unsafe(no_mangle)]
 pub extern "C" fn dnsnames_type_from_text(text: &[u8], rtype: &mut u16) -> u32
     ensures { GivesNumber rtype_rows (codes "TYPE") 65536 text.now result rtype.old rtype.new }
@@ -71,8 +71,8 @@ pub extern "C" fn dnsnames_type_from_text(text: &[u8], rtype: &mut u16) -> u32
     give_number(rtypes(), "TYPE", 65536, text, rtype)
 }
 
-/// The text of a class into the buffer: its mnemonic, or `CLASS` and its number in decimal digits where there is none (RFC
-/// 3597, 5). `length` becomes its size, at most 10. 8 where it doesn't fit.
+/// The text of a class into the buffer: its mnemonic, or `CLASS` and its number in decimal digits where there is none
+/// (RFC 3597, 5). `length` becomes its size, at most 10. 8 where it doesn't fit.
 #[unsafe(no_mangle)]
 pub extern "C" fn dnsnames_class_text(class: u16, buffer: &mut [u8], length: &mut usize) -> u32
     ensures { Gives (class_text class) result buffer.old buffer.new length.new }
@@ -98,8 +98,8 @@ pub extern "C" fn dnsnames_opcode_text(opcode: u16, buffer: &mut [u8], length: &
     give_text(opcodes(), "OPCODE", opcode, buffer, length)
 }
 
-/// The number of the kind of query that a text names: by its mnemonic, or by `OPCODE` immediately followed by the number
-/// in decimal digits, ignoring ASCII case. 22 where it names none of four bits: nothing is changed.
+/// The number of the kind of query that a text names: by its mnemonic, or by `OPCODE` immediately followed by the
+/// number in decimal digits, ignoring ASCII case. 22 where it names none of four bits: nothing is changed.
 #[unsafe(no_mangle)]
 pub extern "C" fn dnsnames_opcode_from_text(text: &[u8], opcode: &mut u16) -> u32
     ensures { GivesNumber opcode_rows (codes "OPCODE") 16 text.now result opcode.old opcode.new }
@@ -107,9 +107,9 @@ pub extern "C" fn dnsnames_opcode_from_text(text: &[u8], opcode: &mut u16) -> u3
     give_number(opcodes(), "OPCODE", 16, text, opcode)
 }
 
-/// The text of a response code into the buffer, of a header (RFC 1035, 4.1.1) or with the eight bits more of an OPT record
-/// (RFC 6891, 6.1.3): its mnemonic, or `RCODE` and its number in decimal digits where there is none. `length` becomes its
-/// size, at most 10. 8 where it doesn't fit.
+/// The text of a response code into the buffer, of a header (RFC 1035, 4.1.1) or with the eight bits more of an OPT
+/// record (RFC 6891, 6.1.3): its mnemonic, or `RCODE` and its number in decimal digits where there is none. `length`
+/// becomes its size, at most 10. 8 where it doesn't fit.
 #[unsafe(no_mangle)]
 pub extern "C" fn dnsnames_rcode_text(rcode: u16, buffer: &mut [u8], length: &mut usize) -> u32
     ensures { Gives (response_text rcode) result buffer.old buffer.new length.new }
@@ -117,8 +117,8 @@ pub extern "C" fn dnsnames_rcode_text(rcode: u16, buffer: &mut [u8], length: &mu
     give_text(extended_rcodes(), "RCODE", rcode, buffer, length)
 }
 
-/// The number of the response code that a text names: by its mnemonic, or by `RCODE` immediately followed by the number in
-/// decimal digits, ignoring ASCII case. 22 where it names none of twelve bits: nothing is changed.
+/// The number of the response code that a text names: by its mnemonic, or by `RCODE` immediately followed by the
+/// number in decimal digits, ignoring ASCII case. 22 where it names none of twelve bits: nothing is changed.
 #[unsafe(no_mangle)]
 pub extern "C" fn dnsnames_rcode_from_text(text: &[u8], rcode: &mut u16) -> u32
     ensures { GivesNumber response_rows (codes "RCODE") 4096 text.now result rcode.old rcode.new }

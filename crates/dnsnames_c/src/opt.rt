@@ -39,11 +39,12 @@ pub extern "C" fn dnsnames_opt(
 }
 
 /// The next option in the data of an OPT record, which are the `data_len` octets of the message from `data_at` on (RFC
-/// 6891, 6.1.2). `passed` is how many octets of the data were passed: 0 for the first option, and then as the call leaves
-/// it. `code` becomes its code, `option` the offset of its data in the message, `option_len` how many octets these have.
+/// 6891, 6.1.2). `passed` is how many octets of the data were passed: 0 for the first option, and then as the call
+/// leaves it. `code` becomes its code, `option` the offset of its data in the message, `option_len` how many octets
+/// these have.
 ///
-/// 27 where all options were passed; 21 where the type isn't OPT; 1 where the data end past the message or in the option:
-/// nothing is changed.
+/// 27 where all options were passed; 21 where the type isn't OPT; 1 where the data end past the message or in the
+/// option: nothing is changed.
 #[unsafe(no_mangle)]
 pub extern "C" fn dnsnames_data_option(
     message: &[u8],

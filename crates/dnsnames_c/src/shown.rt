@@ -53,11 +53,11 @@ pub extern "C" fn dnsnames_message_text(
 }
 
 /// The line of the record at an offset of a message into the buffer, as far as it fits: owner, time to live, class,
-/// type and data, as `dig` writes it, with a newline. `length` becomes the size of the line. Data that can't be read by
-/// its type, and that of an OPT record, are shown as octets (RFC 3597, 5).
+/// type and data, as `dig` writes it, with a newline. `length` becomes the size of the line. Data that can't be read
+/// by its type, and that of an OPT record, are shown as octets (RFC 3597, 5).
 ///
-/// 8 where the line doesn't fit: the buffer has its beginning. 1 where the message ends in the record, and 28 where its
-/// owner hasn't the form of a name: nothing is changed. 29 as `dnsnames_message_text` has it.
+/// 8 where the line doesn't fit: the buffer has its beginning. 1 where the message ends in the record, and 28 where
+/// its owner hasn't the form of a name: nothing is changed. 29 as `dnsnames_message_text` has it.
 #[unsafe(no_mangle)]
 pub extern "C" fn dnsnames_record_text(
     message: &[u8],

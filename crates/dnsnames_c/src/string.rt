@@ -5,12 +5,12 @@ use crate::data::number_of_data;
 use domain_offsets::string_in;
 
 /// The next character string in the data of a record of this type, which are the `data_len` octets of the message from
-/// `data_at` on: TXT (RFC 1035, 3.3.14), SPF (RFC 4408, 3.1.1). `passed` is how many octets of the data were passed: 0 for
-/// the first string, and then as the call leaves it. `string` becomes the offset of its octets in the message, `string_len`
-/// how many there are.
+/// `data_at` on: TXT (RFC 1035, 3.3.14), SPF (RFC 4408, 3.1.1). `passed` is how many octets of the data were passed: 0
+/// for the first string, and then as the call leaves it. `string` becomes the offset of its octets in the message,
+/// `string_len` how many there are.
 ///
-/// 27 where all strings were passed; 21 where the type is another; 1 where the data end past the message, where they end in
-/// the string, or where they have no octet, since there is one string at least: nothing is changed.
+/// 27 where all strings were passed; 21 where the type is another; 1 where the data end past the message, where they
+/// end in the string, or where they have no octet, since there is one string at least: nothing is changed.
 #[unsafe(no_mangle)]
 pub extern "C" fn dnsnames_data_string(
     message: &[u8],

@@ -55,9 +55,9 @@ fn name_of(text: &str) -> Result<Name<ArrayVec<u8, 255>>, u32>
 /// Reads the text of an absolute name (RFC 1035, 5.1) into the buffer with no pointer; a final dot may be left out.
 /// `length` becomes its size.
 ///
-/// 1 where the text is empty or ends in an escape, 4 where the name has more than 255 octets, 11 at a broken escape, 12
-/// at a character that is no octet, 13 where a label begins with `\[`, 14 where one has more than 63 octets, 15 at an
-/// empty one: nothing is changed. 8 where it doesn't fit into the buffer.
+/// 1 where the text is empty or ends in an escape, 4 where the name has more than 255 octets, 11 at a broken escape,
+/// 12 at a character that is no octet, 13 where a label begins with `\[`, 14 where one has more than 63 octets, 15 at
+/// an empty one: nothing is changed. 8 where it doesn't fit into the buffer.
 #[unsafe(no_mangle)]
 pub extern "C" fn dnsnames_from_text(text: &[u8], buffer: &mut [u8], length: &mut usize) -> u32
     ensures { ReadsText text.now result buffer.old buffer.new length.old length.new }
@@ -82,9 +82,9 @@ fn without_final_dot<'a>(text: &'a [u8]) -> &'a [u8]
     }
 }
 
-/// The text of a name (RFC 1035, 5.1) into the buffer; `length` becomes its size, at most 1,004. Labels have dots between
-/// them, and where `final_dot` isn't 0 also after the last; the root alone is a dot. There is no zero octet after it. 8
-/// where it doesn't fit, 9 where the name is none.
+/// The text of a name (RFC 1035, 5.1) into the buffer; `length` becomes its size, at most 1,004. Labels have dots
+/// between them, and where `final_dot` isn't 0 also after the last; the root alone is a dot. There is no zero octet
+/// after it. 8 where it doesn't fit, 9 where the name is none.
 #[unsafe(no_mangle)]
 pub extern "C" fn dnsnames_to_text(
     name: &[u8],

@@ -1,4 +1,5 @@
--- What may be appended for data: always its octets with no name compressed, and where no name is written shorter nothing else.
+-- What may be appended for data: always its octets with no name compressed, and where no name is written shorter
+-- nothing else.
 use Rattle.std.specs.Prelude.{◌≡◌, ℕ, Bool, false, List, [], ◌∷◌, ◌++◌, refl}
 use Rattle.std.proofs.Common.{ap, ◌∙◌}
 use Rattle.domain_label.specs.Wire.{wire, IsAbsoluteName}

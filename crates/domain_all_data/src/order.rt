@@ -93,8 +93,8 @@ impl<'a> TypedData for AllRecordData<&'a [u8], ParsedName<&'a [u8]>> {
     }
 }
 
-/// Data is equal where the types are the same, and the octets with no name compressed and names in lowercase. Data that is
-/// held as octets alone equals no data that is read by its fields.
+/// Data is equal where the types are the same, and the octets with no name compressed and names in lowercase. Data
+/// that is held as octets alone equals no data that is read by its fields.
 impl<'a> PartialEq for AllRecordData<&'a [u8], ParsedName<&'a [u8]>> {
     ghost eq = { on (λ it. typed_octets parsed_labels it true) (pointwise ◌==◌) };
 
@@ -109,8 +109,8 @@ impl<'a> Eq for AllRecordData<&'a [u8], ParsedName<&'a [u8]>> {
     ghost laws = { Prim.search (comparing, rules) };
 }
 
-/// The order of types and then that of the octets of the canonical forms from the left; a missing octet comes before any
-/// (RFC 4034, 6.3). Data that is held as octets alone comes after other data of the type.
+/// The order of types and then that of the octets of the canonical forms from the left; a missing octet comes before
+/// any (RFC 4034, 6.3). Data that is held as octets alone comes after other data of the type.
 impl<'a> CanonicalOrd for AllRecordData<&'a [u8], ParsedName<&'a [u8]>> {
     ghost value_order = { on (canonical_octets parsed_labels) (slice_cmp nat_cmp) };
 

@@ -51,8 +51,8 @@ impl TypedData for AllRecordData<Vec<u8>, Name<Vec<u8>>> {
     }
 }
 
-/// Data is equal where the types are the same, and the octets with no name compressed and names in lowercase. Data that is
-/// held as octets alone equals no data that is read by its fields.
+/// Data is equal where the types are the same, and the octets with no name compressed and names in lowercase. Data
+/// that is held as octets alone equals no data that is read by its fields.
 impl PartialEq for AllRecordData<Vec<u8>, Name<Vec<u8>>> {
     ghost eq = { on (λ it. typed_octets name_labels it true) (pointwise ◌==◌) };
 
@@ -67,8 +67,8 @@ impl Eq for AllRecordData<Vec<u8>, Name<Vec<u8>>> {
     ghost laws = { Prim.search (comparing, rules) };
 }
 
-/// The order of types and then that of the octets of the canonical forms from the left; a missing octet comes before any
-/// (RFC 4034, 6.3). Data that is held as octets alone comes after other data of the type.
+/// The order of types and then that of the octets of the canonical forms from the left; a missing octet comes before
+/// any (RFC 4034, 6.3). Data that is held as octets alone comes after other data of the type.
 impl CanonicalOrd for AllRecordData<Vec<u8>, Name<Vec<u8>>> {
     ghost value_order = { on (canonical_octets name_labels) (slice_cmp nat_cmp) };
 

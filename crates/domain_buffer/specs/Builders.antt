@@ -1,4 +1,5 @@
--- Messages that are built in the caller's buffer (RFC 1035, 4.1). `o` is the list of its octets, `b` the builder beside it.
+-- Messages that are built in the caller's buffer (RFC 1035, 4.1). `o` is the list of its octets, `b` the builder
+-- beside it.
 use Rattle.std.specs.Prelude.{◌≡◌, ℕ, ◌+◌, ◌/◌, ◌%◌, ◌≤◌, ◌<◌, Bool, true, List, ◌++◌, length, take, MatchBool}
 use Rattle.std.specs.Int.{w16, to_be_bytes}
 use Rattle.domain_header.specs.Headers.{header_octets, counts_octets}
@@ -55,7 +56,8 @@ pub record IsUsable (o : List ℕ) (b : Builder) : Type 0 where
 abbrev pub table_of : Builder → List ℕ
 table_of b = take b.table_len b.table
 
--- After the message the name is written as `dnsnames_plan` tells, and then these octets; the offsets of its labels are remembered.
+-- After the message the name is written as `dnsnames_plan` tells, and then these octets; the offsets of its labels are
+-- remembered.
 pub record Enters (o : List ℕ) (b : Builder) (name rest : List ℕ) (o' : List ℕ)
     (b' : Builder) : Type 0 where
   pub begin : ℕ

@@ -1,5 +1,5 @@
--- Records whose data have names, which are written with compression (RFC 1035, 4.1.4). `o` is the list of the octets, `b`
--- the builder beside it, `f` the fields of the data.
+-- Records whose data have names, which are written with compression (RFC 1035, 4.1.4). `o` is the list of the octets,
+-- `b` the builder beside it, `f` the fields of the data.
 use Rattle.std.specs.Prelude.{◌≡◌, ◌⊎◌, ℕ, ◌+◌, ◌≤◌, ◌<◌, Bool, true, List, [], ◌++◌, length, take, MatchBool}
 use Rattle.std.specs.Int.{w16, to_be_bytes}
 use Rattle.domain_label.specs.Wire.{labels_in, IsAbsoluteWire}
@@ -63,8 +63,8 @@ abbrev pub owner_remembered : Builder → List ℕ → ℕ → List ℕ
 owner_remembered b owner begin =
     more_of_table 128 (table_of b) b.len (labels_in (take begin owner))
 
--- What is to be written for the names of a record after the message: for the owner's name, and for those of the data over
--- the message and the owner's name as it is written.
+-- What is to be written for the names of a record after the message: for the owner's name, and for those of the data
+-- over the message and the owner's name as it is written.
 pub record SpellsRecord (o : List ℕ) (b : Builder) (owner : List ℕ) (f : Fields) (begin : ℕ)
     (named : List ℕ) (s : SpelledNames) : Type 0 where
   pub owner_spelled : Spells (take b.len o) (table_of b) owner begin named
@@ -93,8 +93,8 @@ NamedTooBig o b owner f =
     × SpellsRecord o b owner f begin named names
     × (b.limit < b.len + length named + 10 + length (written_data f names)))
 
--- These octets after the first ones of o, up to start, within the limit, end a record whose owner's name ends before start.
--- They end at end, and the first offsets of the table, so many, are those that are remembered then.
+-- These octets after the first ones of o, up to start, within the limit, end a record whose owner's name ends before
+-- start. They end at end, and the first offsets of the table, so many, are those that are remembered then.
 pub record WritesAfterOwner (o : List ℕ) (start limit : ℕ) (table before : List ℕ) (f : Fields)
     (end count : ℕ) (o' table' : List ℕ) : Type 0 where
   pub names : SpelledNames
@@ -130,7 +130,8 @@ EntersNamedIfRoom told o b owner head d o' b' =
     (EntersNamed o b owner (headed_by_wire owner head.rtype head.class head.ttl) (found_fields d) o' b' × (b' ≡ entered b b'))
     (NamedTooBig o b owner (found_fields d) × (o' ≡ o) × (b' ≡ b))
 
--- These octets of data, after those before: the numbers as they are, and for each name some that are read as an equal one.
+-- These octets of data, after those before: the numbers as they are, and for each name some that are read as an equal
+-- one.
 pub record SameNames (f : Fields) (before octets : List ℕ) : Type 0 where
   pub first : List ℕ
   pub first_read : NameOctets (labels_in f.first) true (before ++ f.before) first

@@ -4,7 +4,8 @@ use Rattle.domain_label.specs.Wire.{wire}
 use Rattle.domain_reading.specs.Grammar.{Names, EncodingEnds, IsContiguous}
 use Rattle.domain_buffer.specs.declared.read.Found.{Found}
 
--- The name at p in m, through at most n pointers, was put there: how long it is, and where its encoding ends, was found.
+-- The name at p in m, through at most n pointers, was put there: how long it is, and where its encoding ends, was
+-- found.
 abbrev pub ReadsInto : ℕ → List ℕ → ℕ → Found → List ℕ → Type 0
 ReadsInto n m p found octets =
     (ls : List (List ℕ)) × Names n m p ls × EncodingEnds m p found.end

@@ -1,5 +1,5 @@
--- Tables of all that a message has: a row of numbers for each question and record, and their names (RFC 1035, 4.1). `m` is
--- the message: the list of its octets.
+-- Tables of all that a message has: a row of numbers for each question and record, and their names (RFC 1035, 4.1).
+-- `m` is the message: the list of its octets.
 use Rattle.std.specs.Prelude.{◌≡◌, ◌⊎◌, ℕ, true, false, suc, ◌+◌, ◌*◌, ◌≤◌, ◌<◌, List, [], ◌∷◌, ◌++◌, length, Option, Some, None}
 use Rattle.domain_label.specs.Wire.{wire}
 use Rattle.domain_reading.specs.Grammar.{Names}
@@ -33,8 +33,8 @@ NoPartsAt m n p =
 abbrev pub row : ℕ → ℕ → Parts → List ℕ
 row at len it = at ∷ len ∷ it.rtype ∷ it.class ∷ it.ttl ∷ it.data_at ∷ it.data_len ∷ it.end ∷ []
 
--- The first n entries that the header counts are there, with names of at most k pointers: these are their rows and their
--- names, one after the other, and the next entry is at p.
+-- The first n entries that the header counts are there, with names of at most k pointers: these are their rows and
+-- their names, one after the other, and the next entry is at p.
 pub data Tabled (k : ℕ) (m : List ℕ) : ℕ → List ℕ → List ℕ → ℕ → Type 0 where
   header : 12 ≤ length m → Tabled k m 0 [] [] 12
   entry : {n p : ℕ} {rows names : List ℕ} {ls : List (List ℕ)} {it : Parts}

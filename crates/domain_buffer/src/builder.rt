@@ -12,12 +12,12 @@ use crate::plan::{add_offsets, is_table, spell};
 use crate::put::put_at;
 use domain_message::Section;
 
-/// A message that is built: how many octets it has at most, how many it has, the identifier and the flags that it gets,
-/// how many entries each section has, where the sections of records begin, and the offsets to which pointers lead, of which
-/// the first `table_len` count.
+/// A message that is built: how many octets it has at most, how many it has, the identifier and the flags that it
+/// gets, how many entries each section has, where the sections of records begin, and the offsets to which pointers
+/// lead, of which the first `table_len` count.
 ///
-/// Its octets are the caller's. Until the message is finished the first twelve are 128 each, at which no name can be read
-/// (RFC 1035, 4.1.4), so that names are read the same whatever the header becomes.
+/// Its octets are the caller's. Until the message is finished the first twelve are 128 each, at which no name can be
+/// read (RFC 1035, 4.1.4), so that names are read the same whatever the header becomes.
 #[repr(C)]
 #[derive(Drop)]
 pub struct Builder {
@@ -77,8 +77,8 @@ pub fn put_entry(name: &[u8], head: &[u8], data: &[u8], buffer: &mut [u8], offse
     put_at(data, buffer, after_head);
 }
 
-/// Writes an entry after the message: its name, as `plan` of `domain_compress` tells, and the octets after it; and remembers the
-/// offsets of its labels. False where it exceeds the limit: nothing is changed.
+/// Writes an entry after the message: its name, as `plan` of `domain_compress` tells, and the octets after it; and
+/// remembers the offsets of its labels. False where it exceeds the limit: nothing is changed.
 pub fn enter(
     octets: &mut [u8],
     builder: &mut Builder,

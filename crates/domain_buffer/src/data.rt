@@ -19,8 +19,8 @@ pub struct NamedData<'a> {
     pub after: &'a [u8],
 }
 
-/// The shape of data of a type in which names may be compressed: of the types of RFC 1035, and of no newer one (RFC 3597,
-/// 4).
+/// The shape of data of a type in which names may be compressed: of the types of RFC 1035, and of no newer one (RFC
+/// 3597, 4).
 fn compressed_shape_of(rtype: u16) -> Option<Shape>
     ensures shape { result ≡ compressed_shape rtype }
     ensures small { IfSome result IsSmall }
@@ -52,8 +52,8 @@ fn second_len(octets: &[u8], names: usize) -> Option<usize>
     }
 }
 
-/// The fields of data of this type, where they are exactly those of a type of RFC 1035 that has names, and no name has a
-/// pointer. `None` of all other data: no name in them may be compressed.
+/// The fields of data of this type, where they are exactly those of a type of RFC 1035 that has names, and no name has
+/// a pointer. `None` of all other data: no name in them may be compressed.
 pub fn named_data<'a>(rtype: u16, octets: &'a [u8]) -> Option<NamedData<'a>>
     ensures some { IfSome result (AreDataOf rtype octets.now) }
     ensures short { IfSome result (λ d. (length d.before.now ≤ 6) × (length d.after.now ≤ 20)) }

@@ -1,5 +1,5 @@
-//! What is written into a caller's buffer: octets, names with pointers or without, a message that is built, whose state
-//! is numbers beside its octets, and rows of numbers of all that a message has.
+//! What is written into a caller's buffer: octets, names with pointers or without, a message that is built, whose
+//! state is numbers beside its octets, and rows of numbers of all that a message has.
 #![tactic(auto)]
 
 pub mod builder;

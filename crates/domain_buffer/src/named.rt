@@ -25,8 +25,8 @@ fn spell_any(octets: &[u8], table: &[u16], name: &[u8], text: &mut [u8; 255]) ->
     spell(octets, table, name, text)
 }
 
-/// Puts what follows an owner's name into the buffer from an offset on: a head, and data, whose names are spelled out in
-/// `first` and `second`.
+/// Puts what follows an owner's name into the buffer from an offset on: a head, and data, whose names are spelled out
+/// in `first` and `second`.
 fn put_data(
     head: &[u8],
     fields: NamedData<'_>,
@@ -52,8 +52,8 @@ struct RecordEnd {
 }
 
 /// Writes what follows an owner's name, which ends before `start`: the head, and the data, whose names are written as
-/// `plan` of `domain_compress` tells over what stands before `start`. The offsets of their labels are remembered. `None`
-/// where it exceeds the limit: nothing is changed.
+/// `plan` of `domain_compress` tells over what stands before `start`. The offsets of their labels are remembered.
+/// `None` where it exceeds the limit: nothing is changed.
 fn write_after_owner(
     octets: &mut [u8],
     start: usize,
@@ -109,8 +109,8 @@ fn write_after_owner(
 }
 
 /// Writes a record after the message whose data have names. The owner's name is written as `plan` of `domain_compress`
-/// tells, and each name in the data as it tells over the message up to the owner's name, and this too; the offsets of all
-/// their labels are remembered. False where it exceeds the limit: nothing is changed.
+/// tells, and each name in the data as it tells over the message up to the owner's name, and this too; the offsets of
+/// all their labels are remembered. False where it exceeds the limit: nothing is changed.
 pub fn enter_named(
     octets: &mut [u8],
     builder: &mut Builder,

@@ -29,7 +29,8 @@ pub struct Spelled {
     pub len: usize,
 }
 
-/// Puts what is to be written for a name after the octets, as `plan` of `domain_compress` tells, at the beginning of a text.
+/// Puts what is to be written for a name after the octets, as `plan` of `domain_compress` tells, at the beginning of a
+/// text.
 pub fn spell(octets: &[u8], table: &[u16], name: &[u8], text: &mut [u8; 255]) -> Spelled
     requires table { IsTable table.now }
     requires wire { IsAbsoluteWire name.now }
@@ -58,7 +59,8 @@ pub struct Written {
     pub end: usize,
 }
 
-/// Writes a name from an offset on, as `plan` of `domain_compress` tells. `None` where it doesn't fit: the octets then stay.
+/// Writes a name from an offset on, as `plan` of `domain_compress` tells. `None` where it doesn't fit: the octets then
+/// stay.
 pub fn write_name(octets: &mut [u8], start: usize, table: &[u16], name: &[u8]) -> Option<Written>
     requires start { start ≤ length octets.old }
     requires table { IsTable table.now }
@@ -77,8 +79,8 @@ pub fn write_name(octets: &mut [u8], start: usize, table: &[u16], name: &[u8]) -
     })
 }
 
-/// Adds the offsets of labels that were written from `start` on to the first `count` ones of the table, as far as it has
-/// room for them and a pointer can lead there, up to 128 in all. Tells how many there are then.
+/// Adds the offsets of labels that were written from `start` on to the first `count` ones of the table, as far as it
+/// has room for them and a pointer can lead there, up to 128 in all. Tells how many there are then.
 pub fn add_offsets(table: &mut [u16], count: usize, labels: &[u8], start: usize) -> usize
     requires count { count ≤ length table.old }
     requires few { IsTable (take count table.old) }

@@ -16,8 +16,8 @@ pub struct Found {
     pub compressed: bool,
 }
 
-/// Puts the name at an offset of a message, read through at most `limit` pointers, at the beginning of a buffer, with no
-/// pointer in it.
+/// Puts the name at an offset of a message, read through at most `limit` pointers, at the beginning of a buffer, with
+/// no pointer in it.
 pub fn read_into(
     message: &[u8],
     offset: usize,

@@ -1,4 +1,5 @@
--- What contracts see of a composer that compresses. Its type names what the traits of its target tell: `j` is what `Octets` tells.
+-- What contracts see of a composer that compresses. Its type names what the traits of its target tell: `j` is what
+-- `Octets` tells.
 use Rattle.std.specs.Prelude.{◌≡◌, ℕ, List}
 use Rattle.domain_label.specs.Wire.{labels_in}
 use Rattle.domain_compress.specs.declared.compress.CompressComposer.{CompressComposer}

@@ -33,7 +33,8 @@ StandsWhenWrittenOver =
     (n : ℕ) (t o : List ℕ) (p : ℕ) (c ls : List (List ℕ))
     → ReadsFrom n t p c → drop n o ≡ drop n t → StandsAt t p ls → StandsAt o p ls
 
--- Where each remembered label stands in the octets at n and after, those of the next name do, too, and so does the name.
+-- Where each remembered label stands in the octets at n and after, those of the next name do, too, and so does the
+-- name.
 abbrev pub AddedStands : Type 0
 AddedStands =
     (n : ℕ) (t u : List ℕ) (ws vs : List RememberedLabel) (ls : List (List ℕ)) → IsAbsoluteName ls → n ≤ length t

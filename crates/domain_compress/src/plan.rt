@@ -94,12 +94,12 @@ fn written_at(table: &[u16]) -> ArrayVec<Written, 128>
     written
 }
 
-/// How a name is to be written after octets, for callers that keep octets and offsets themselves: the beginning of
-/// the name before its longest suffix, other than the root, that is read without case at an offset of the table, and the
+/// How a name is to be written after octets, for callers that keep octets and offsets themselves: the beginning of the
+/// name before its longest suffix, other than the root, that is read without case at an offset of the table, and the
 /// first such offset.
 ///
-/// `None` where no suffix is read at any, or more than 255 pointers would lead along the name: it is then to be written
-/// with no pointer. It needs no memory.
+/// `None` where no suffix is read at any, or more than 255 pointers would lead along the name: it is then to be
+/// written with no pointer. It needs no memory.
 pub fn plan(octets: &[u8], table: &[u16], name: &[u8]) -> Option<Beginning>
     requires wire { IsAbsoluteWire name.now }
     requires few { length table.now ≤ 128 }

@@ -115,8 +115,8 @@ fn first_left(written: &[Written], len: usize) -> Option<usize>
     Some(left)
 }
 
-/// Forgets the offsets of names that end past `len`, and reads the hashes of the others anew where they don't count. Tells
-/// whether they are those of the labels in the first `len` octets.
+/// Forgets the offsets of names that end past `len`, and reads the hashes of the others anew where they don't count.
+/// Tells whether they are those of the labels in the first `len` octets.
 #[inline(never)]
 fn forget_each(
     written: &mut ArrayVec<Written, 128>,
@@ -150,8 +150,8 @@ fn forget_each(
     holds
 }
 
-/// Forgets the offsets of names that end past `len`. Tells whether the hashes of the others are those of the labels in the
-/// first `len` octets: where they don't count, they are read anew.
+/// Forgets the offsets of names that end past `len`. Tells whether the hashes of the others are those of the labels in
+/// the first `len` octets: where they don't count, they are read anew.
 ///
 /// Mostly the names that were written last are forgotten, and the entries before them stay as they are.
 pub(crate) fn forget(

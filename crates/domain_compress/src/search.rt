@@ -92,8 +92,8 @@ fn pointers_at_with<L: Ledger>(
     }
 }
 
-/// Whether the name is spelled out at a remembered offset, to the end of the name that it was written for. Its octets are
-/// compared all at once.
+/// Whether the name is spelled out at a remembered offset, to the end of the name that it was written for. Its octets
+/// are compared all at once.
 #[inline(always)]
 fn is_spelled_out(octets: &[u8], written: Written, name: &[u8]) -> bool
     requires { IsAbsoluteWire name.now }
@@ -232,8 +232,8 @@ fn better_suffix(
 
 /// The longest suffix of the name that is read at one of the offsets, in time that no names make longer.
 ///
-/// It goes over the offsets once. What stands at most of them begins with a label of another hash than any suffix of the
-/// name: no more is read there. What stands at the others is read twice at most, whatever was written.
+/// It goes over the offsets once. What stands at most of them begins with a label of another hash than any suffix of
+/// the name: no more is read there. What stands at the others is read twice at most, whatever was written.
 #[inline(never)]
 fn suffix_by_marks(
     octets: &[u8],
@@ -265,8 +265,8 @@ fn suffix_by_marks(
     best
 }
 
-/// Where the name stands first, if at any of the offsets, by the hash of its first label. `None` where the hashes led to
-/// other names too often.
+/// Where the name stands first, if at any of the offsets, by the hash of its first label. `None` where the hashes led
+/// to other names too often.
 fn find_first(octets: &[u8], written: &[Written], name: &[u8]) -> Option<Option<FoundName>>
     requires wire { IsAbsoluteWire name.now }
     requires some { slice_index name.now 0 ≡ 0 → ⊥ }
@@ -296,8 +296,8 @@ fn find_first(octets: &[u8], written: &[Written], name: &[u8]) -> Option<Option<
     Some(None)
 }
 
-/// The longest suffix of the name that stands at one of the offsets, where the hashes count: each suffix is looked for, from
-/// the longest on. `None` where that takes too long.
+/// The longest suffix of the name that stands at one of the offsets, where the hashes count: each suffix is looked
+/// for, from the longest on. `None` where that takes too long.
 fn suffix_by_hashes(
     octets: &[u8],
     written: &[Written],
@@ -329,8 +329,8 @@ fn suffix_by_hashes(
     Some(None)
 }
 
-/// The first offset, where the whole name is spelled out there. It is mostly that of a question, which is often written
-/// again.
+/// The first offset, where the whole name is spelled out there. It is mostly that of a question, which is often
+/// written again.
 #[inline(always)]
 pub(crate) fn first_again(octets: &[u8], written: &[Written], name: &[u8]) -> Option<WrittenSuffix>
     requires wire { IsAbsoluteWire name.now }
@@ -352,8 +352,8 @@ pub(crate) fn first_again(octets: &[u8], written: &[Written], name: &[u8]) -> Op
 /// The longest suffix of the name that is read at one of the offsets, ignoring case, and the first of these. The
 /// root alone is none.
 ///
-/// Each suffix is looked for where the hashes count. If they lead to other names too often, which whoever chooses the names
-/// can bring about, the offsets are gone over once for all of the suffixes.
+/// Each suffix is looked for where the hashes count. If they lead to other names too often, which whoever chooses the
+/// names can bring about, the offsets are gone over once for all of the suffixes.
 pub(crate) fn longest_suffix(
     octets: &[u8],
     written: &[Written],

@@ -6,8 +6,8 @@ use domain_dnssec::TypeBitmaps;
 use domain_fields::{Sequence, UncompressedNameField};
 use octseq::Octets;
 
-/// The next name of the zone that has records, and the types that the owner has. The name is never compressed, and keeps
-/// its case in the canonical form (RFC 4034, 4, and RFC 6840, 5.1).
+/// The next name of the zone that has records, and the types that the owner has. The name is never compressed, and
+/// keeps its case in the canonical form (RFC 4034, 4, and RFC 6840, 5.1).
 pub type Nsec<Octs, N> = FieldsData<47, Sequence<UncompressedNameField<N>, TypeBitmaps<Octs>>>;
 
 impl<Octs: Octets, N> Nsec<Octs, N> {

@@ -60,8 +60,8 @@ impl<const TYPE: u16, F> RecordData for FieldsData<TYPE, F> {
     }
 }
 
-/// The fields, one after the other. In the canonical form names are in lowercase exactly where `TYPE` is one of the types that
-/// RFC 4034, 6.2, lists, whatever fields they stand in ([`Rtype::has_lowercase_names`]).
+/// The fields, one after the other. In the canonical form names are in lowercase exactly where `TYPE` is one of the
+/// types that RFC 4034, 6.2, lists, whatever fields they stand in ([`Rtype::has_lowercase_names`]).
 impl<const TYPE: u16, F: DataField> ComposeRecordData for FieldsData<TYPE, F> {
     ghost use Rattle.domain_data.specs.Views.{fields_of};
 

@@ -108,7 +108,8 @@ impl<'a, const TYPE: u16> ParseRecordData<'a>
     ghost lawful = { λ _. number_name_data };
 }
 
-/// Three numbers of 16 bits and a name that is never compressed: SRV. Octets left after it are a form error "trailing data".
+/// Three numbers of 16 bits and a name that is never compressed: SRV. Octets left after it are a form error "trailing
+/// data".
 impl<'a, const TYPE: u16> ParseRecordData<'a>
     for FieldsData<
         TYPE,

@@ -175,8 +175,8 @@ impl<'a, const TYPE: u16, const TEXT: u8> ParseRecordData<'a>
     ghost lawful = { λ _. association_data };
 }
 
-/// A number of 8 bits, a tag and octets: CAA. A form error "invalid tag" where the tag has other octets than letters and
-/// digits, and "record data too long" of more than 65,535 octets after it.
+/// A number of 8 bits, a tag and octets: CAA. A form error "invalid tag" where the tag has other octets than letters
+/// and digits, and "record data too long" of more than 65,535 octets after it.
 impl<'a, const TYPE: u16, const TEXT: u8> ParseRecordData<'a>
     for FieldsData<TYPE, Sequence<u8, Sequence<Tag<&'a [u8]>, LastOctets<TEXT, &'a [u8]>>>> {
     ghost use Rattle.domain_data.specs.OctetShapes.{PropertyAt, NoProperty, property_data};
@@ -199,8 +199,8 @@ impl<'a, const TYPE: u16, const TEXT: u8> ParseRecordData<'a>
     ghost lawful = { λ _. property_data };
 }
 
-/// A type, two numbers of 8 bits, one of 32 bits, two times, one of 16 bits, a name that is never compressed, and octets: RRSIG.
-/// More than 65,535 octets after the name are a form error "record data too long".
+/// A type, two numbers of 8 bits, one of 32 bits, two times, one of 16 bits, a name that is never compressed, and
+/// octets: RRSIG. More than 65,535 octets after the name are a form error "record data too long".
 impl<'a, const TYPE: u16, const TEXT: u8> ParseRecordData<'a>
     for FieldsData<
         TYPE,
@@ -275,8 +275,8 @@ impl<'a, const TYPE: u16, const TEXT: u8> ParseRecordData<'a>
     ghost lawful = { λ _. signature_data };
 }
 
-/// A name that is never compressed, and bitmaps of types: NSEC. Bitmaps that are none are "windows of types out of order",
-/// "invalid length of a type bitmap" or `ShortInput`.
+/// A name that is never compressed, and bitmaps of types: NSEC. Bitmaps that are none are "windows of types out of
+/// order", "invalid length of a type bitmap" or `ShortInput`.
 impl<'a, const TYPE: u16> ParseRecordData<'a>
     for FieldsData<
         TYPE,

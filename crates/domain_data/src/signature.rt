@@ -10,8 +10,8 @@ use domain_serial::Serial;
 use domain_strings::Base64Octets;
 use octseq::Octets;
 
-/// The fields of a signature after the type: algorithm, labels, original TTL, expiration, inception, key tag, signer and
-/// signature.
+/// The fields of a signature after the type: algorithm, labels, original TTL, expiration, inception, key tag, signer
+/// and signature.
 type SignatureFields<Octs, N> = Sequence<
     u8,
     Sequence<

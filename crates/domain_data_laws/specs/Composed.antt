@@ -4,7 +4,8 @@ use Rattle.octseq.specs.Parsing.{message, position}
 use Rattle.octseq.specs.declared.parse.Parser.{Parser}
 use Rattle.domain_rdata.specs.Members.{DataMembers}
 
--- `d` is `⟦<D as ComposeRecordData>⟧`. The parser stands before octets that were composed for the data, which are its last.
+-- `d` is `⟦<D as ComposeRecordData>⟧`. The parser stands before octets that were composed for the data, which are its
+-- last.
 abbrev pub StandsComposed : {D : Type 0} → DataMembers D → D → Parser → Type 0
 StandsComposed d it parser =
     (compresses : Bool) × (t : List ℕ) × (s : List ℕ) × d.composed it compresses t s

@@ -13,15 +13,15 @@ SeesWhatIsRead {View} seen_at encodes = (rtype : ℕ) (m : List ℕ) (p : ℕ) (
 abbrev pub LikeMeansSame : {D R View : Type 0} → (D → View → Type 0) → (R → View) → (D → R → Type 0) → Type 0
 LikeMeansSame {D} {R} like model Same = (it : D) (read : R) → like it (model read) ↔ Same it read
 
--- The octets s, which are the last, stand after the octets t, and are data to their end. `parse_rdata` has no error there, and all
--- that it can read there is the same.
+-- The octets s, which are the last, stand after the octets t, and are data to their end. `parse_rdata` has no error
+-- there, and all that it can read there is the same.
 pub record AreReadAs {R View : Type 0} (At : List ℕ → ℕ → View → ℕ → Type 0) (No : List ℕ → ℕ → ParseError → Type 0) (model : R → View) (Same : R → Type 0) (t s : List ℕ) : Type 0 where
   pub there : (seen : View) × At (t ++ s) (length t) seen (length t + length s)
   pub no_error : (why : ParseError) → No (t ++ s) (length t) why → ⊥
   pub same : (read : R) (e : ℕ) → At (t ++ s) (length t) (model read) e → Same read × (e ≡ length t + length s)
 
--- `d` is `⟦<D as ComposeRecordData>⟧` and `r` is `⟦<R as ParseRecordData<'a>>⟧`. Whatever may be composed for data with numbers that fit, after
--- any octets, is read there as R, by the number of its own type, as the same data.
+-- `d` is `⟦<D as ComposeRecordData>⟧` and `r` is `⟦<R as ParseRecordData<'a>>⟧`. Whatever may be composed for data
+-- with numbers that fit, after any octets, is read there as R, by the number of its own type, as the same data.
 abbrev pub IsReadAs : {D R : Type 0} → DataMembers D → ReadingMembers R → (D → Type 0) → (D → R → Type 0) → Type 0
 IsReadAs {D} d r Fits Same =
     (it : D) → Fits it → (r.reads_type (d.type_number it) ≡ true)

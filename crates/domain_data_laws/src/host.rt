@@ -8,8 +8,8 @@ use domain_data::{Cname, Dname, FieldsData, Mx, NameField, Ns, Ptr, Soa, Srv};
 use domain_fields::{DataName, ReadBackData};
 use domain_rdata::{ComposeRecordData, ParseRecordData};
 
-/// Data of any type that is one name, which may be compressed: it is read as an equal name, ignoring ASCII case (RFC 1035,
-/// 4.1.4).
+/// Data of any type that is one name, which may be compressed: it is read as an equal name, ignoring ASCII case (RFC
+/// 1035, 4.1.4).
 pub fn name_laws<'a, const TYPE: u16, N: DataName>()
     ensures seen { SeesWhatIsRead ⟦<FieldsData<TYPE, NameField<N>> as ReadBackData>⟧.seen_at
         ⟦<FieldsData<TYPE, NameField<ReadName<'a>>> as ParseRecordData<'a>>⟧.encodes }
@@ -69,7 +69,8 @@ pub fn dname_laws<'a, N: DataName>()
         HasNoNumber (SameWholeName WithCase N.labels) }
 {}
 
-/// MX: the preference is read as the same number, and the exchange as an equal name, ignoring ASCII case (RFC 1035, 3.3.9).
+/// MX: the preference is read as the same number, and the exchange as an equal name, ignoring ASCII case (RFC 1035,
+/// 3.3.9).
 pub fn mx_laws<'a, N: DataName>()
     ensures seen { SeesWhatIsRead ⟦<Mx<N> as ReadBackData>⟧.seen_at
         ⟦<Mx<ReadName<'a>> as ParseRecordData<'a>>⟧.encodes }
@@ -89,7 +90,8 @@ pub fn srv_laws<'a, N: DataName>()
         ⟦<Srv<ReadName<'a>> as ParseRecordData<'a>>⟧ FitsSrv (SameSrv WithCase N.labels) }
 {}
 
-/// SOA: the numbers are read as the same numbers, and the names as equal names, ignoring ASCII case (RFC 1035, 3.3.13).
+/// SOA: the numbers are read as the same numbers, and the names as equal names, ignoring ASCII case (RFC 1035,
+/// 3.3.13).
 pub fn soa_laws<'a, N: DataName>()
     ensures seen { SeesWhatIsRead ⟦<Soa<N> as ReadBackData>⟧.seen_at
         ⟦<Soa<ReadName<'a>> as ParseRecordData<'a>>⟧.encodes }

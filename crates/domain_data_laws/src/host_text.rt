@@ -19,7 +19,8 @@ pub fn hinfo_laws<'a, Octs: Octets>()
         ⟦<Hinfo<&'a [u8]> as ParseRecordData<'a>>⟧ HasNoNumber SameHinfo }
 {}
 
-/// NAPTR: the numbers and strings are read as the same, and the replacement as the same name, with its case (RFC 3403, 4.1).
+/// NAPTR: the numbers and strings are read as the same, and the replacement as the same name, with its case (RFC 3403,
+/// 4.1).
 pub fn naptr_laws<'a, Octs: Octets, N: DataName>()
     ensures seen { SeesWhatIsRead ⟦<Naptr<Octs, N> as ReadBackData>⟧.seen_at
         ⟦<Naptr<&'a [u8], ReadName<'a>> as ParseRecordData<'a>>⟧.encodes }

@@ -11,8 +11,8 @@ use domain_rdata::{ComposeRecordData, ParseRecordData};
 /// A number of 16 bits and a name that is never compressed.
 type HostFields<N> = Sequence<u16, UncompressedNameField<N>>;
 
-/// Data of any type that is a number of 16 bits and a name that is never compressed: it is read as the same number and the
-/// same name, with its case.
+/// Data of any type that is a number of 16 bits and a name that is never compressed: it is read as the same number and
+/// the same name, with its case.
 pub fn host_laws<'a, const TYPE: u16, N: DataName>()
     ensures seen { SeesWhatIsRead
         ⟦<FieldsData<TYPE, HostFields<N>> as ReadBackData>⟧.seen_at

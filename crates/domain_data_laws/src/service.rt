@@ -12,8 +12,8 @@ use octseq::Octets;
 /// The fields of data that is read.
 type ReadFields<'a> = ServiceFields<&'a [u8], ReadName<'a>>;
 
-/// Data of any type with the fields of SVCB: the priority and the parameters are read as the same, and the target as the same
-/// name, with its case.
+/// Data of any type with the fields of SVCB: the priority and the parameters are read as the same, and the target as
+/// the same name, with its case.
 pub fn service_laws<'a, const TYPE: u16, Octs: Octets, N: DataName>()
     ensures seen { SeesWhatIsRead
         ⟦<ServiceData<TYPE, ServiceFields<Octs, N>> as ReadBackData>⟧.seen_at
@@ -26,7 +26,8 @@ pub fn service_laws<'a, const TYPE: u16, Octs: Octets, N: DataName>()
         FitsService (SameService WithCase N.labels) }
 {}
 
-/// SVCB: the priority and the parameters are read as the same, and the target as the same name, with its case (RFC 9460, 2.2).
+/// SVCB: the priority and the parameters are read as the same, and the target as the same name, with its case (RFC
+/// 9460, 2.2).
 pub fn svcb_laws<'a, Octs: Octets, N: DataName>()
     ensures seen { SeesWhatIsRead ⟦<Svcb<Octs, N> as ReadBackData>⟧.seen_at
         ⟦<Svcb<&'a [u8], ReadName<'a>> as ParseRecordData<'a>>⟧.encodes }

@@ -9,8 +9,8 @@ use domain_fields::{DataName, ReadBackData};
 use domain_rdata::{ComposeRecordData, ParseRecordData};
 use octseq::Octets;
 
-/// RRSIG: the type, numbers, times and signature are read as the same, and the signer as the same name, with its case (RFC 4034,
-/// 3.1).
+/// RRSIG: the type, numbers, times and signature are read as the same, and the signer as the same name, with its case
+/// (RFC 4034, 3.1).
 pub fn rrsig_laws<'a, Octs: Octets, N: DataName>()
     ensures seen { SeesWhatIsRead ⟦<Rrsig<Octs, N> as ReadBackData>⟧.seen_at
         ⟦<Rrsig<&'a [u8], ReadName<'a>> as ParseRecordData<'a>>⟧.encodes }

@@ -25,8 +25,8 @@ exchange_types = 15 ∷ 18 ∷ 21 ∷ 36 ∷ []
 abbrev pub is_among : List ℕ → ℕ → Bool
 is_among numbers n = list_any (λ m. nat_eq m n) numbers
 
--- the parts of the data of the type with this number: of A, AAAA, HINFO, SOA (RFC 1035, 3.3 and 3.4; RFC 3596, 2.2), SRV (RFC
--- 2782) and those above. None: it is read in no such form
+-- the parts of the data of the type with this number: of A, AAAA, HINFO, SOA (RFC 1035, 3.3 and 3.4; RFC 3596, 2.2),
+-- SRV (RFC 2782) and those above. None: it is read in no such form
 abbrev pub fields_of_type : ℕ → Option (List Field)
 fields_of_type rtype =
     if is_among name_types rtype then Some (Name ∷ [])

@@ -7,8 +7,8 @@ use Rattle.domain_label.specs.Spelling.{IsDigit, IsNoDigit, number}
 abbrev pub StandsForItself : ℕ → Type 0
 StandsForItself c = (c ≢ 34) × (c ≢ 92)
 
--- An octet is spelled at an offset, and its spelling ends before next: by itself, by a backslash and itself, if it is no digit,
--- or by a backslash and its number in three digits.
+-- An octet is spelled at an offset, and its spelling ends before next: by itself, by a backslash and itself, if it is
+-- no digit, or by a backslash and its number in three digits.
 pub data SpellsAt (text : List ℕ) (at octet next : ℕ) : Type 0 where
   itself : at < length text → octet ≡ slice_index text at → StandsForItself octet → next ≡ at + 1 → SpellsAt text at octet next
   simple : slice_index text at ≡ 92 → at + 1 < length text → octet ≡ slice_index text (at + 1) → IsNoDigit octet → next ≡ at + 2 → SpellsAt text at octet next

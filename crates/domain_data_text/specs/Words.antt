@@ -25,8 +25,8 @@ IsBlank c = (c ≡ 32) ⊎ (c ≡ 9) ⊎ (c ≡ 13)
 abbrev pub IsOrdinary : ℕ → Type 0
 IsOrdinary c = (c ≢ 34) × (c ≢ 92)
 
--- After an offset, where a quote is open or not, these octets are of the same word. Between quotes white space is of the word,
--- and a backslash takes the special meaning from the octet after it.
+-- After an offset, where a quote is open or not, these octets are of the same word. Between quotes white space is of
+-- the word, and a backslash takes the special meaning from the octet after it.
 pub data WordStep (line : List ℕ) (s t : Bool × ℕ) : Type 0 where
   escaped : slice_index line s.1 ≡ 92 → s.1 + 2 ≤ length line → t ≡ (s.0, s.1 + 2) → WordStep line s t
   quote : slice_index line s.1 ≡ 34 → t ≡ (not s.0, s.1 + 1) → WordStep line s t

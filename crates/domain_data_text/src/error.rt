@@ -4,8 +4,8 @@ ghost use Rattle.domain_data_text.specs.FaultTexts.{fault_text};
 
 use std::fmt;
 
-/// What is wrong with a line: with a word of it, which is told here, or with the line of a message that it is, which is
-/// told by what reads messages.
+/// What is wrong with a line: with a word of it, which is told here, or with the line of a message that it is, which
+/// is told by what reads messages.
 #[derive(Clone, Copy, Debug, PartialEq, Eq)]
 pub enum Fault {
     /// A quote that no other quote ends.

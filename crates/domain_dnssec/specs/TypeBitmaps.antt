@@ -37,8 +37,8 @@ abbrev pub next_window : ℕ → List (ℕ × List ℕ) → ℕ
 next_window least [] = least
 next_window least (b ∷ bs) = next_window (b.0 + 1) bs
 
--- What is wrong with the first of blocks whose window is `least` or more: the octets end within it, its window is less,
--- or its bitmap has none or more than 32.
+-- What is wrong with the first of blocks whose window is `least` or more: the octets end within it, its window is
+-- less, or its bitmap has none or more than 32.
 abbrev pub block_fault : ℕ → List ℕ → Option TypeBitmapsError
 block_fault least [] = Some ShortInput
 block_fault least (window ∷ []) = Some ShortInput

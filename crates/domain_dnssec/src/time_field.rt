@@ -18,8 +18,8 @@ use std::cmp::Ordering;
 use std::fmt;
 use std::hash::Hasher;
 
-/// A time in seconds since 1970 began, in UTC, of 32 bits: written as a date and a time of day (RFC 4034, 3.2), as of the
-/// years from 1970 to 2106.
+/// A time in seconds since 1970 began, in UTC, of 32 bits: written as a date and a time of day (RFC 4034, 3.2), as of
+/// the years from 1970 to 2106.
 #[derive(Clone, Copy, Debug, PartialEq, Eq)]
 pub struct TimeField {
     pub seconds: u32,

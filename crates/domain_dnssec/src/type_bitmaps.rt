@@ -118,8 +118,8 @@ impl<Octs: Octets + Drop> TypeBitmaps<Octs> {
     /// The bitmaps that these octets are.
     ///
     /// `Long` where they are more than 65,535, and else the first error from the left: `ShortInput` where there is no
-    /// octet, or they end inside of a block, `WindowOrder` where the window of a block isn't more than that of the block
-    /// before it, `BitmapLength` where a block has no octet or more than 32.
+    /// octet, or they end inside of a block, `WindowOrder` where the window of a block isn't more than that of the
+    /// block before it, `BitmapLength` where a block has no octet or more than 32.
     pub fn from_octets(octets: Octs) -> Result<TypeBitmaps<Octs>, TypeBitmapsError>
         ensures held { IfOk result (λ it. bitmaps_holder it ≡ octets) }
         ensures err { IfErr result (HasBitmapsFault (Octs.octets octets)) }

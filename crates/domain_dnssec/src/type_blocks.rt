@@ -68,7 +68,8 @@ pub(crate) fn check_blocks(octets: &[u8]) -> Result<(), TypeBitmapsError>
     }
 }
 
-/// The highest bit of an octet that is a one, counted from 0, and the octet without it. `None` exactly where there is none.
+/// The highest bit of an octet that is a one, counted from 0, and the octet without it. `None` exactly where there is
+/// none.
 fn first_one(octet: u8) -> Option<(u8, u8)>
     ensures bits { MatchOption result (ones octet ≡ []) (λ it. ones octet ≡ it.0 ∷ ones it.1) }
     ensures within { MatchOption result (octet ≡ 0) (λ it. it.0 < 8) }

@@ -26,7 +26,8 @@ pub record IsExtendedError (octets : List ℕ) (info_code : ℕ) (text : List �
   pub code_is : info_code ≡ number16 octets 0
   pub text_is : text ≡ drop 2 octets
 
--- The octets are a client's cookie of 8 octets, and after it nothing or a server's cookie of 8 to 32 octets (RFC 7873, 4).
+-- The octets are a client's cookie of 8 octets, and after it nothing or a server's cookie of 8 to 32 octets (RFC 7873,
+-- 4).
 abbrev pub IsCookie : {S : Type 0} → (S → List ℕ) → List ℕ → List ℕ → Option S → Type 0
 IsCookie octets_of octets client None = (length client ≡ 8) × (octets ≡ client)
 IsCookie octets_of octets client (Some server) = (length client ≡ 8) × (8 ≤ length (octets_of server)) × (length (octets_of server) ≤ 32) × (octets ≡ client ++ octets_of server)
@@ -56,8 +57,8 @@ IsPrefix family source = (most : ℕ) × (family_bits family ≡ Some most) × (
 abbrev pub IsAddress : ℕ → List ℕ → Type 0
 IsAddress source address = (length address ≡ octets_of_prefix source) × EndsInZeros address source
 
--- The octets are a client's subnet: the family of its address, how many bits of it are told, for how many an answer is meant,
--- and these bits (RFC 7871, 6).
+-- The octets are a client's subnet: the family of its address, how many bits of it are told, for how many an answer is
+-- meant, and these bits (RFC 7871, 6).
 pub record IsClientSubnet (octets : List ℕ) (family source scope : ℕ) (address : List ℕ) : Type 0 where
   pub whole : 4 ≤ length octets
   pub family_is : family ≡ number16 octets 0

@@ -67,8 +67,8 @@ IsTheOpt m (Some opt) = (it : RecordFields) × (q : ℕ) × (k : ℕ) × FirstOp
 abbrev pub FirstOfRoot : List ℕ → RecordFields → ℕ → ℕ → Type 0
 FirstOfRoot m it q k = FirstOpt m it q k × (it.header.owner ≡ Root)
 
--- An entry is missing: before the additional section, or of this one before an OPT record, or between that and a second.
--- Or a second OPT record is there, or the first isn't of the root.
+-- An entry is missing: before the additional section, or of this one before an OPT record, or between that and a
+-- second. Or a second OPT record is there, or the first isn't of the root.
 abbrev pub HasOptFault : List ℕ → OptError → Type 0
 HasOptFault m (Parse why) = NoAuthority m why
     ⊎ ((e : ℕ) × AuthorityTo m e × MissesKept is_opt m e (number16 m 10) why)

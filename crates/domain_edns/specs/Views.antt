@@ -15,8 +15,8 @@ opt_octets it = it.octets.now
 abbrev pub options_left : OptIter → List ℕ
 options_left it = it.octets.now
 
--- A call of `next` returned the option that the octets begin with, or the error that they end inside of one, or nothing:
--- no octet was left.
+-- A call of `next` returned the option that the octets begin with, or the error that they end inside of one, or
+-- nothing: no octet was left.
 abbrev pub GivesOption : OptIter → Option (Result EdnsOption ParseError) → OptIter → Type 0
 GivesOption s None t = (options_left s ≡ []) × (t ≡ s)
 GivesOption s (Some (Ok it)) t = BeginsWithOption (options_left s) it.code it.«data».now (options_left t)

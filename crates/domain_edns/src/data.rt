@@ -45,7 +45,8 @@ impl<'a> RecordData for OptData<'a> {
     }
 }
 
-/// Takes all that is left, of the type OPT alone. There is no error: options that are cut off are told by reading them.
+/// Takes all that is left, of the type OPT alone. There is no error: options that are cut off are told by reading
+/// them.
 impl<'a> ParseRecordData<'a> for OptData<'a> {
     ghost use Rattle.domain_edns.specs.Views.{opt_octets};
 

@@ -21,7 +21,8 @@ const COOKIE: u16 = 10;
 
 const EXTENDED_ERROR: u16 = 15;
 
-/// The identifier of the name server that answered (RFC 5001, 2.3), shown as two hexadecimal digits for each octet (2.4).
+/// The identifier of the name server that answered (RFC 5001, 2.3), shown as two hexadecimal digits for each octet
+/// (2.4).
 #[derive(Clone, Copy, Debug, PartialEq, Eq)]
 pub struct Nsid<'a> {
     /// Any octets; none in a query, which asks for it.
@@ -110,8 +111,8 @@ pub struct Cookie<'a> {
 impl<'a> Cookie<'a> {
     /// The cookies that an option is. `None` exactly where its code isn't 10.
     ///
-    /// Where it is: `ShortInput` exactly where the option has fewer than 8 octets, an error of form exactly where it has
-    /// 9 to 15 or more than 40. A server answers either by FORMERR (RFC 7873, 5.2.2).
+    /// Where it is: `ShortInput` exactly where the option has fewer than 8 octets, an error of form exactly where it
+    /// has 9 to 15 or more than 40. A server answers either by FORMERR (RFC 7873, 5.2.2).
     pub fn from_option(option: EdnsOption<'a>) -> Result<Option<Cookie<'a>>, ParseError>
         ensures ok { IfOk result (ReadAs 10 SayCookies option.entry) }
         ensures err { IfErr result (NotReadAs 10 (λ o. IsCookieFault (length o)) option.entry) }
@@ -230,10 +231,10 @@ pub struct ClientSubnet<'a> {
 impl<'a> ClientSubnet<'a> {
     /// The subnet that an option is. `None` exactly where its code isn't 8.
     ///
-    /// Where it is: `ShortInput` where the option has fewer than four octets; else an error of form where the family is
-    /// another one, or more bits are told than its addresses have; else `ShortInput` where it has fewer octets than these
-    /// bits take, and an error of form where it has more, or a bit after them isn't zero. A server answers what is wrong
-    /// with the octets by FORMERR (RFC 7871, 6).
+    /// Where it is: `ShortInput` where the option has fewer than four octets; else an error of form where the family
+    /// is another one, or more bits are told than its addresses have; else `ShortInput` where it has fewer octets than
+    /// these bits take, and an error of form where it has more, or a bit after them isn't zero. A server answers what
+    /// is wrong with the octets by FORMERR (RFC 7871, 6).
     pub fn from_option(option: EdnsOption<'a>) -> Result<Option<ClientSubnet<'a>>, ParseError>
         ensures ok { IfOk result (ReadAs 8 SaySubnet option.entry) }
         ensures err { IfErr result (NotReadAs 8 IsSubnetFault option.entry) }

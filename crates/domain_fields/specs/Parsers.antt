@@ -1,5 +1,5 @@
--- What a parser reads as fields. `encodes` and `fails_with` tell where a value is, and why none is; `model` what is seen of
--- a value.
+-- What a parser reads as fields. `encodes` and `fails_with` tell where a value is, and why none is; `model` what is
+-- seen of a value.
 use Rattle.std.specs.Prelude.{ℕ, List}
 use Rattle.octseq.specs.Parsing.{message, position}
 use Rattle.octseq.specs.declared.parse.Parser.{Parser}

@@ -15,7 +15,8 @@ use Rattle.domain_fields.specs.Data.{AllAt}
 use Rattle.domain_fields.specs.Names.{NameFieldAt}
 use Rattle.domain_fields.specs.Sequences.{BothComposed, BothAt}
 
--- What may be composed is read where it stands, whatever is before it and after it, and what is read is like what was composed.
+-- What may be composed is read where it stands, whatever is before it and after it, and what is read is like what was
+-- composed.
 abbrev pub IsReadBack : {Seen : Type 0} → (Bool → List ℕ → List ℕ → Type 0) → (List ℕ → ℕ → Seen → ℕ → Type 0) → (Seen → Type 0) → Type 0
 IsReadBack {Seen} May At Alike = (compresses : Bool) (t s u : List ℕ) → May compresses t s → (it : Seen) × At (t ++ s ++ u) (length t) it (length t + length s) × Alike it
 

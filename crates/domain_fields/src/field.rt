@@ -28,7 +28,8 @@ pub trait DataField {
     ghost composed: { Self → Bool → List ℕ → List ℕ → Type 0 };
 
     /// What a target becomes where the field was appended, by what it becomes where octets were appended
-    /// ([`OctetsBuilder::extends`](octseq::OctetsBuilder)) and where a name was, as the target may write it ([`Composer::appends`]).
+    /// ([`OctetsBuilder::extends`](octseq::OctetsBuilder)) and where a name was, as the target may write it
+    /// ([`Composer::appends`]).
     ghost written: { Self → Writing };
 
     /// How many octets the field has, where that is known before it is composed.
@@ -52,8 +53,8 @@ pub trait DataField {
         ensures full { OnErr result (Overflows T.Composer (composed self.now) target.old) }
         ensures capacity { T.capacity target.old ≤ T.capacity target.new };
 
-    /// Appends the canonical form of the field, or nothing (RFC 4034, 6.2): no name is compressed, and names are in lowercase
-    /// if `lowercase`, which the type of the record tells.
+    /// Appends the canonical form of the field, or nothing (RFC 4034, 6.2): no name is compressed, and names are in
+    /// lowercase if `lowercase`, which the type of the record tells.
     ///
     /// Fails only where its octets exceed the spare capacity of the target, and leaves its
     /// octets then.
@@ -70,12 +71,13 @@ pub trait DataField {
             (TooFull T.Octets target.old (uncompressed self.now lowercase)) }
         ensures capacity { T.capacity target.old ≤ T.capacity target.new };
 
-    /// In both forms the octets are those of the parts: names in lowercase, or with their case, and other octets as they are.
+    /// In both forms the octets are those of the parts: names in lowercase, or with their case, and other octets as
+    /// they are.
     ghost forms: { (it : Self) (lowercase : Bool) →
         uncompressed it lowercase ≡ parts_octets lowercase (parts it) };
 
-    /// Of the octets before it the field asks for its names alone: where each name that may be composed after the octets t may
-    /// be after u, so may the field.
+    /// Of the octets before it the field asks for its names alone: where each name that may be composed after the
+    /// octets t may be after u, so may the field.
     ghost moves: { (it : Self) (compresses : Bool) (t u s : List ℕ) → NamesMove compresses t u →
         composed it compresses t s → composed it compresses u s };
 

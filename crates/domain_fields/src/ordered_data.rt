@@ -25,7 +25,8 @@ pub trait OrderedData: ComposeRecordData {
     /// With their case they are the octets that are composed where nothing is compressed.
     ghost keeps_case: { (it : Self) → cased it false ≡ Self.uncompressed it };
 
-    /// In lowercase they are those of the data in lowercase, or, where the names aren't known, the same as with their case.
+    /// In lowercase they are those of the data in lowercase, or, where the names aren't known, the same as with their
+    /// case.
     ghost lowers_case: { (it : Self) →
         cased it true ≡ lowercase_where_known (Self.lowercase it) (Self.uncompressed it) };
 }

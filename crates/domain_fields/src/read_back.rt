@@ -229,14 +229,14 @@ impl<A: ReadBackField, B: ReadBackLast> ReadBackLast for Sequence<A, B> {
     }
 }
 
-/// Record data that is read back from what was composed for it, whatever stands before it in the message. It has to end
-/// where the parser ends that reads it, as the data of a record does.
+/// Record data that is read back from what was composed for it, whatever stands before it in the message. It has to
+/// end where the parser ends that reads it, as the data of a record does.
 pub trait ReadBackData: ComposeRecordData {
     /// What contracts see of what is read.
     ghost Seen: { Type 0 };
 
-    /// Data of the type with this number that is seen so is in the octets at the first offset, and the second offset is
-    /// its end: what [`parse_rdata`](domain_rdata::ParseRecordData::parse_rdata) reads.
+    /// Data of the type with this number that is seen so is in the octets at the first offset, and the second offset
+    /// is its end: what [`parse_rdata`](domain_rdata::ParseRecordData::parse_rdata) reads.
     ghost seen_at: { ℕ → List ℕ → ℕ → Seen → ℕ → Type 0 };
 
     /// What is read is like the data: the same but for the case of names.

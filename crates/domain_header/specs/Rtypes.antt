@@ -3,9 +3,9 @@ use Rattle.std.specs.Prelude.{ℕ, List, [], ◌∷◌, codes}
 use Rattle.domain_header.specs.Mnemonics.{Row, mnemonic}
 use Rattle.domain_header.specs.Tables.{text_of}
 
--- types (RFC 1035, 3.2.2 and 3.2.3; the others as IANA registered them). These rows are those of the program once more;
--- the rows of `conformance_messages` test them, and `evidence/compare/registries` compares both with a copy of the
--- registry.
+-- types (RFC 1035, 3.2.2 and 3.2.3; the others as IANA registered them). These rows are those of the program once
+-- more; the rows of `conformance_messages` test them, and `evidence/compare/registries` compares both with a copy of
+-- the registry.
 abbrev pub rtype_rows : List Row
 rtype_rows = mnemonic 1 (codes "A") ∷ mnemonic 2 (codes "NS") ∷ mnemonic 3 (codes "MD") ∷ mnemonic 4 (codes "MF")
     ∷ mnemonic 5 (codes "CNAME") ∷ mnemonic 6 (codes "SOA") ∷ mnemonic 7 (codes "MB") ∷ mnemonic 8 (codes "MG")

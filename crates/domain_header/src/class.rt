@@ -8,9 +8,9 @@ use crate::mnemonic::{Mnemonic, mnemonic_number, mnemonic_word};
 use crate::numbered::named_number;
 use std::fmt;
 
-// The classes of IANA's registry of DNS parameters of 6 December 2022: `evidence/compare/registries` compares them with a
-// copy of that day, and no later one is here.
-// The first row of a number is its text, and each of its words is read.
+// The classes of IANA's registry of DNS parameters of 6 December 2022: `evidence/compare/registries` compares them
+// with a copy of that day, and no later one is here. The first row of a number is its text, and each of its words is
+// read.
 const CLASSES: [Mnemonic; 6] = [
     Mnemonic {
         number: 1,
@@ -78,8 +78,8 @@ impl Class {
         }
     }
 
-    /// Returns the class that this text names: by its mnemonic, or by `CLASS` immediately followed by its number in decimal
-    /// digits (RFC 3597, 5), ignoring ASCII case. `None` exactly if it names none.
+    /// Returns the class that this text names: by its mnemonic, or by `CLASS` immediately followed by its number in
+    /// decimal digits (RFC 3597, 5), ignoring ASCII case. `None` exactly if it names none.
     pub fn from_text(text: &str) -> Option<Class>
         ensures { Named class_rows (codes "CLASS") text.now (option_map class_number result) }
     {

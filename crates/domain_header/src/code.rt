@@ -6,8 +6,8 @@ ghost use Rattle.domain_header.specs.Tables.{opcode_rows, rcode_rows, response_r
 use crate::mnemonic::{Mnemonic, mnemonic_word};
 use std::fmt;
 
-// The codes of IANA's registry of DNS parameters of 6 December 2022: `evidence/compare/registries` compares them with a
-// copy of that day, and no later one is here.
+// The codes of IANA's registry of DNS parameters of 6 December 2022: `evidence/compare/registries` compares them with
+// a copy of that day, and no later one is here.
 const OPCODES: [Mnemonic; 6] = [
     Mnemonic {
         number: 0,

@@ -20,7 +20,8 @@ fn with_bits(octet: u8, weight: u8, values: u8, value: u8) -> u8
     (above + u16::from(value) * u16::from(weight) + below) as u8
 }
 
-/// The first four octets of a message: its identifier and its flags (RFC 1035, 4.1.1; AD and CD RFC 4035, 3.1.6 and 3.2).
+/// The first four octets of a message: its identifier and its flags (RFC 1035, 4.1.1; AD and CD RFC 4035, 3.1.6 and
+/// 3.2).
 #[derive(Clone, Copy, Debug, PartialEq, Eq)]
 pub struct Header {
     id: u16,

@@ -5,8 +5,8 @@ ghost use Rattle.domain_header.specs.Numbered.{IsDecimal, IsNumbered, Named};
 
 use crate::mnemonic::{Mnemonic, mnemonic_number};
 
-/// Returns the number of these decimal digits. `None` exactly if there is none, one isn't a digit, or the number has more
-/// than 16 bits.
+/// Returns the number of these decimal digits. `None` exactly if there is none, one isn't a digit, or the number has
+/// more than 16 bits.
 fn decimal_number(text: &[u8]) -> Option<u16>
     ensures some { IfSome result (λ n. IsDecimal text.now n) }
     ensures none { IsNone result → (n : ℕ) → IsDecimal text.now n → ⊥ }
@@ -27,8 +27,8 @@ fn decimal_number(text: &[u8]) -> Option<u16>
     Some(number as u16)
 }
 
-/// Returns the number after the word (RFC 3597, 5), ignoring ASCII case in the word. `None` exactly if the text doesn't
-/// begin with the word, or what follows isn't a number of at most 16 bits in decimal digits.
+/// Returns the number after the word (RFC 3597, 5), ignoring ASCII case in the word. `None` exactly if the text
+/// doesn't begin with the word, or what follows isn't a number of at most 16 bits in decimal digits.
 pub fn number_after(word: &str, text: &str) -> Option<u16>
     ensures some { IfSome result (λ n. IsNumbered word.now text.now n) }
     ensures none { IsNone result → (n : ℕ) → IsNumbered word.now text.now n → ⊥ }

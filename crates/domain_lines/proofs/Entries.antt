@@ -39,7 +39,8 @@ any_here p xs x passes = sym (list_any-append p xs (x ∷ []) ∙ or_here (list_
 pub any_still : {X : Type 0} (p : X → Bool) (xs : List X) (x : X) (b : Bool) → p x ≡ false → b ≡ list_any p xs → b ≡ list_any p (xs ++ x ∷ [])
 any_still p xs x b fails same = same ∙ sym (list_any-append p xs (x ∷ []) ∙ or_still (list_any p xs) (p x) fails)
 
--- What was put of options so far: the lines of those before the rest, whichever the rest has. `Puts` says so of a text.
+-- What was put of options so far: the lines of those before the rest, whichever the rest has. `Puts` says so of a
+-- text.
 abbrev pub Listed : List ℕ → List ℕ → (List ℕ → Type 0) → Type 0
 Listed octets rest Puts = (text : List ℕ) × Puts text × ((more : List ℕ) → AreOptionLines rest more → AreOptionLines octets (text ++ more))
 

@@ -54,8 +54,8 @@ is_root ((c ∷ l) ∷ ls) = false
 abbrev pub has_opt_head : RecordFields → Bool
 has_opt_head it = cond (nat_eq it.header.rtype 41) (is_root it.header.owner) false
 
--- whether a record of a section is an OPT record: of type 41 and of the root, in the additional section (RFC 6891, 6.1.1
--- and 6.1.2)
+-- whether a record of a section is an OPT record: of type 41 and of the root, in the additional section (RFC 6891,
+-- 6.1.1 and 6.1.2)
 abbrev pub is_opt_in : Section → RecordFields → Bool
 is_opt_in Answer it = false
 is_opt_in Authority it = false

@@ -1,4 +1,5 @@
--- What contracts say of an output: `contents` tells what it holds, where that is known, and `takes` what it becomes by a text.
+-- What contracts say of an output: `contents` tells what it holds, where that is known, and `takes` what it becomes by
+-- a text.
 use Rattle.std.specs.Prelude.{◌≡◌, ◌⊎◌, ℕ, List, [], ◌∷◌, ◌++◌, Option, Result, IfSome}
 use Rattle.domain_tool.specs.declared.tool.ToolError.{ToolError}
 use Rattle.domain_lines.specs.Failures.{IfStreamFailed}

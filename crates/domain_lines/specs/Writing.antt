@@ -1,4 +1,5 @@
--- What contracts say of the lines that were put. `Puts` says so of a text, as `W.takes output.old output.new` does; `g` is `W.Sink`.
+-- What contracts say of the lines that were put. `Puts` says so of a text, as `W.takes output.old output.new` does;
+-- `g` is `W.Sink`.
 use Rattle.std.specs.Prelude.{◌≡◌, ℕ, Bool, List, [], ◌∷◌, ◌++◌, IfSome}
 use Rattle.std.specs.List.{list_any}
 use Rattle.octseq.specs.Parsing.{message, position}
@@ -97,7 +98,8 @@ PutsPart m Puts why = PutsUntil m why Puts
 abbrev pub PutsPartOf : {W : Type 0} → Parser → SinkMembers W → W → W → ParseError → Type 0
 PutsPartOf parser g before after why = PutsUntil (message parser) why (g.takes before after)
 
--- The text that shows the message that there is to read was written, where it is known what is there. `r` is `R.Source`.
+-- The text that shows the message that there is to read was written, where it is known what is there. `r` is
+-- `R.Source`.
 abbrev pub ShowsGiven : {R W : Type 0} → SourceMembers R → R → SinkMembers W → W → W → Type 0
 ShowsGiven r input g before after =
     IfSome (r.remaining input) (λ m. WritesMessage m (g.contents before) (g.contents after))

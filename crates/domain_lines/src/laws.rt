@@ -4,8 +4,8 @@ ghost use Rattle.domain_record.specs.Entries.{QuestionFields, QuestionAt, Record
 ghost use Rattle.domain_tool.specs.Lines.{IsQuestion, IsRecord};
 ghost use Rattle.domain_lines.specs.Listed.{asked_line, listed_line};
 
-/// A question or record that is there is shown with its fields by `dnsnames list`, and what that shows are the fields of
-/// one that is there.
+/// A question or record that is there is shown with its fields by `dnsnames list`, and what that shows are the fields
+/// of one that is there.
 pub fn listed_laws()
     ensures question_listed { (m : List ℕ) (p e : ℕ) (it : QuestionFields) →
         QuestionAt m p it e → IsQuestion m p (asked_line it) e }

@@ -273,8 +273,8 @@ fn write_to_authority<W: Sink>(parser: &mut Parser<'_>, output: &mut W) -> Resul
 
 /// Writes the header, the questions, and the records of each section.
 ///
-/// `Parse` says why the message can't be shown to its end: it has fewer than twelve octets, or a question or record that
-/// the header counts is missing. All lines before that are written. The other errors are of writing.
+/// `Parse` says why the message can't be shown to its end: it has fewer than twelve octets, or a question or record
+/// that the header counts is missing. All lines before that are written. The other errors are of writing.
 pub fn write_message<W: Sink>(message: &[u8], output: &mut W) -> Result<(), ToolError>
     ensures written { OnOk result (PutsMessage message.now (W.takes output.old output.new)) }
     ensures refused { IfRefused result (PutsPart message.now (W.takes output.old output.new)) }
@@ -290,14 +290,16 @@ pub fn write_message<W: Sink>(message: &[u8], output: &mut W) -> Result<(), Tool
     write_section(Section::Additional, &mut parser, output)
 }
 
-/// Reads the input to its end, and writes the message in presentation format: two lines of the header, and for each section
-/// its heading and a line for each question or record.
+/// Reads the input to its end, and writes the message in presentation format: two lines of the header, and for each
+/// section its heading and a line for each question or record.
 ///
-/// Data of a record that can't be read is shown in the form of RFC 3597, 5, with the reason after it. An OPT record of the
-/// root in the additional section has a line of its version, flags and size, and one for each option (RFC 6891, 6.1).
+/// Data of a record that can't be read is shown in the form of RFC 3597, 5, with the reason after it. An OPT record of
+/// the root in the additional section has a line of its version, flags and size, and one for each option (RFC 6891,
+/// 6.1).
 ///
-/// `Parse` says why the message can't be shown to its end: it has fewer than twelve octets, or a question or record that
-/// the header counts is missing. All lines before that are written. `Read`, `Write` or `Memory` where one of these failed.
+/// `Parse` says why the message can't be shown to its end: it has fewer than twelve octets, or a question or record
+/// that the header counts is missing. All lines before that are written. `Read`, `Write` or `Memory` where one of
+/// these failed.
 pub fn show_message<R: Source, W: Sink>(
     alloc: Global,
     input: &mut R,

@@ -37,7 +37,8 @@ fn put_fitting(octets: &[u8], buffer: &mut [u8], offset: usize)
 }
 
 impl<'a> Room<'a> {
-    /// Puts what fits of the octets behind what was put. It fails only where there are more octets than a `usize` counts.
+    /// Puts what fits of the octets behind what was put. It fails only where there are more octets than a `usize`
+    /// counts.
     fn put(&mut self, octets: &[u8]) -> fmt::Result
         ensures { OnOk result (takes self.old self.new octets.now) }
     {

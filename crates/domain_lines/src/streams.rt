@@ -13,8 +13,8 @@ use std::io::{Read, Write};
 
 /// A stream that is read to its end: any `Read`.
 ///
-/// A contract tells that reading failed by `failed`, of which a function over any `Source` knows nothing but that a call
-/// that failed left it so. So it can't tell of a failure that didn't come.
+/// A contract tells that reading failed by `failed`, of which a function over any `Source` knows nothing but that a
+/// call that failed left it so. So it can't tell of a failure that didn't come.
 pub trait Source {
     /// What is left to read, where that is known.
     ghost remaining: { Self → Option (List ℕ) };
@@ -45,8 +45,8 @@ impl<R: Read> Source for R {
 
 /// A stream that lines and octets are written to: any `Write`. `failed` is as that of `Source`.
 ///
-/// A contract tells by `sent` that all was sent on, of which a function over any `Sink` knows nothing but that a `send`
-/// that returned `Ok` left it so. So it can't tell so where it didn't send, or passed over an error.
+/// A contract tells by `sent` that all was sent on, of which a function over any `Sink` knows nothing but that a
+/// `send` that returned `Ok` left it so. So it can't tell so where it didn't send, or passed over an error.
 pub trait Sink {
     /// What it holds, where that is known.
     ghost contents: { Self → Option (List ℕ) };

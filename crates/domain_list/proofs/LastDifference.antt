@@ -1,4 +1,5 @@
--- Two names gone over together from the front, up to what both end with: the last labels before that decide their order.
+-- Two names gone over together from the front, up to what both end with: the last labels before that decide their
+-- order.
 use Rattle.std.proofs.Common.{◌≡◌, ◌≢◌, ℕ, ◌+◌, ◌-◌, ◌≤◌, ◌<◌, List, [], ◌∷◌, ◌++◌, length, reverse, Option, None, Some, refl, sym, ap, ◌∙◌, arith, append_assoc, length-append}
 use Rattle.std.proofs.lemmas.List.{reverse-append, map-append, length-map}
 use Rattle.std.specs.Ordering.{nat_cmp, ordering_then, ordering_reverse}
@@ -31,8 +32,8 @@ Differ None y = Unit {0}
 Differ (Some x) None = Unit {0}
 Differ (Some x) (Some y) = lowercase (label_octets x) ≢ lowercase (label_octets y)
 
--- Of xs and ys, ps and qs are left, of m and n octets. Before those stand zs and ws, which are alike, and before these the
--- labels x and y.
+-- Of xs and ys, ps and qs are left, of m and n octets. Before those stand zs and ws, which are alike, and before these
+-- the labels x and y.
 pub record Met (xs ys ps qs : List (List ℕ)) (x y : Option Label) (m n : ℕ) : Type 0 where
   pub us : List (List ℕ)
   pub vs : List (List ℕ)

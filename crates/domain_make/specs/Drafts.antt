@@ -39,7 +39,8 @@ pub record IsRemark (line : List ℕ) (stage : Stage) : Type 0 where
   pub begins : slice_index line 0 ≡ 59
   pub other : stage ≡ Questions → IsAsked line → ⊥
 
--- What a line adds to what was said: nothing, by a remark another stage and header, a question, or a record of the section.
+-- What a line adds to what was said: nothing, by a remark another stage and header, a question, or a record of the
+-- section.
 pub data LineSays (line : List ℕ) (old new : Draft) : Type 0 where
   empty : slice_index line 0 ≢ 59 → AreWords line 0 [] → new ≡ old → LineSays line old new
   remark : (text : List ℕ) → IsRemark line old.stage → IsTrimmed line text → Remarks text old.stage old.header new.stage new.header → new.content ≡ old.content → LineSays line old new

@@ -33,7 +33,8 @@ pub record IsQuestionWords (words : List WordAt) (q : QuestionFields) : Type 0 w
   pub class_is : IsClassWord class.octets q.class
   pub type_is : IsTypeWord rtype.octets q.rtype
 
--- The words are a record with this head and these octets of data: its owner, its TTL, its class, its type and its data.
+-- The words are a record with this head and these octets of data: its owner, its TTL, its class, its type and its
+-- data.
 pub record IsRecordWords (words : List WordAt) (head : RecordHead) (octets : List ℕ) : Type 0 where
   pub owner : WordAt
   pub ttl : WordAt

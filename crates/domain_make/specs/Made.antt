@@ -22,8 +22,8 @@ written_form hex m = cond hex (hexadecimal m ++ 10 ∷ []) m
 abbrev pub WritesMade : List ℕ → Bool → Option (List ℕ) → Option (List ℕ) → Type 0
 WritesMade text hex old new = (m : List ℕ) × IsMade text m × Appends old new (written_form hex m)
 
--- Octets were written as they are, or in hexadecimal digits and with a newline, and nothing else. `contents` tells what an
--- output holds.
+-- Octets were written as they are, or in hexadecimal digits and with a newline, and nothing else. `contents` tells
+-- what an output holds.
 abbrev pub WritesOctets : {W : Type 0} → (W → Option (List ℕ)) → List ℕ → Bool → W → W → Type 0
 WritesOctets contents octets hex old new = Appends (contents old) (contents new) (written_form hex octets)
 

@@ -72,8 +72,8 @@ records_after Answer it = length it.authority + length it.additional
 records_after Authority it = length it.additional
 records_after Additional it = 0
 
--- An entry isn't pushed: its data has more octets than its length tells (RFC 1035, 3.2.1), a later section was begun, the
--- section has as many entries as its count tells, or the message would exceed its limit.
+-- An entry isn't pushed: its data has more octets than its length tells (RFC 1035, 3.2.1), a later section was begun,
+-- the section has as many entries as its count tells, or the message would exceed its limit.
 pub data NotPushed (size later count : ℕ) (Exceeded : Type 0) (f : Fault) : Type 0 where
   long : 65535 < size → f ≡ fault.Octets → NotPushed size later count Exceeded f
   order : 0 < later → f ≡ fault.Order → NotPushed size later count Exceeded f
@@ -130,8 +130,8 @@ pub data EntryNotPushed (compresses : Bool) (line : List ℕ) (old : Draft) (f :
   entry : (section : Section) (words : List WordAt) (head : RecordHead) (octets : List ℕ) → old.stage ≡ Records section → slice_index line 0 ≢ 59 → AreWords line 0 words
       → IsRecordWords words head octets → RecordNotPushed compresses section head octets old.content f → c ≡ first_column words → EntryNotPushed compresses line old f c
 
--- The line isn't taken after what was said: it says nothing of a message, with this fault in this column; or an entry, which
--- isn't pushed.
+-- The line isn't taken after what was said: it says nothing of a message, with this fault in this column; or an entry,
+-- which isn't pushed.
 pub data IsRefused (compresses : Bool) (line : List ℕ) (old : Draft) (f : Fault) (c : ℕ) : Type 0 where
   says_nothing : IsFaulty line old f c → ((new : Draft) → LineSays line old new → ⊥) → IsRefused compresses line old f c
   no_room : EntryNotPushed compresses line old f c → IsRefused compresses line old f c

@@ -101,7 +101,8 @@ abbrev pub words_before : List (Bool × List ℕ) → List ℕ → List ℕ
 words_before [] rest = rest
 words_before (flag ∷ flags) rest = cond flag.0 flag.1 [] ++ words_before flags rest
 
--- The text begins with flags and a semicolon: ` qr rd; QUESTION: 1`. What follows isn't looked at, but that it isn't the bit Z.
+-- The text begins with flags and a semicolon: ` qr rd; QUESTION: 1`. What follows isn't looked at, but that it isn't
+-- the bit Z.
 pub record BeginsWithFlags (text : List ℕ) (f : Flags) : Type 0 where
   pub rest : List ℕ
   pub text_is : text ≡ words_before (flag_words f) (codes "; " ++ rest)

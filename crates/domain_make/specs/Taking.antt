@@ -1,5 +1,5 @@
--- What contracts say of a builder that takes lines. Its type names what the traits of its target tell, and these words take
--- it from there: `g` is what `Composer` tells, and `h` to `l` are as in `Builders` of `domain_message_builder`.
+-- What contracts say of a builder that takes lines. Its type names what the traits of its target tell, and these words
+-- take it from there: `g` is what `Composer` tells, and `h` to `l` are as in `Builders` of `domain_message_builder`.
 use Rattle.std.specs.Prelude.{◌≡◌, ℕ, List}
 use Rattle.octseq.specs.declared.octets.Octets.{Ghosts}
 use Rattle.domain_name.specs.Names.{name_labels}

@@ -1,5 +1,5 @@
--- A list of records has one first CNAME record of a name, and a chain of them one end. A chain of more records than there
--- are CNAME records goes round.
+-- A list of records has one first CNAME record of a name, and a chain of them one end. A chain of more records than
+-- there are CNAME records goes round.
 use Rattle.std.specs.Prelude.{◌≡◌, ◌==◌, ◌<◌, ◌≤◌, ℕ, zero, suc, ◌+◌, ◌⊎◌, true, false, cond, List, [], ◌∷◌, length, Option, Some, None}
 use Rattle.std.specs.List.{AllByRecursion, IsDistinct, list_any}
 use Rattle.std.proofs.Common.{arith, ap, sym, subst, inl, inr, refl}

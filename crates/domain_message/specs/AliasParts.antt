@@ -89,8 +89,8 @@ abbrev pub HasNoCanonicalNameWithin : {O : Type 0} {g : Ghosts O} → Message O 
 HasNoCanonicalNameWithin m limit =
     HasMissingQuestion m ⊎ (CountsNoQuestion m ⊎ IsCanonicalWithin (message_octets m) limit None)
 
--- The answers were passed over at most once more often than there are CNAME records among them; not once where a question
--- that the header counts is missing, or it counts none.
+-- The answers were passed over at most once more often than there are CNAME records among them; not once where a
+-- question that the header counts is missing, or it counts none.
 abbrev pub PassesFew : {O : Type 0} {g : Ghosts O} → Message O g → ℕ → ℕ → Type 0
 PassesFew m before now = ((HasMissingQuestion m ⊎ CountsNoQuestion m) × (now ≡ before))
     ⊎ OfFirstQuestion (message_octets m) (λ answers _. now ≤ before + (cname_count answers + 1))

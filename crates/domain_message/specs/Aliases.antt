@@ -1,5 +1,5 @@
--- CNAME records that lead from a name to another (RFC 1034, 3.6.2). The class of a record isn't heeded, nor are the class and
--- the type that a question asks for.
+-- CNAME records that lead from a name to another (RFC 1034, 3.6.2). The class of a record isn't heeded, nor are the
+-- class and the type that a question asks for.
 use Rattle.std.specs.Prelude.{◌≡◌, ◌==◌, ◌<◌, ◌≤◌, if◌then◌else◌, ℕ, suc, ◌+◌, List, [], ◌∷◌, length, Option, Some, None}
 use Rattle.domain_label.specs.Lowercase.{lowercase_labels}
 use Rattle.domain_header.specs.Numbers.{number16}
@@ -28,8 +28,8 @@ pub data Leads (records : List RecordFields) (from : List (List ℕ)) : ℕ → 
   goes : {n : ℕ} {name target : List (List ℕ)} → Leads records from n name
       → FirstAlias name records (Some target) → Leads records from (n + 1) target
 
--- What CNAME records lead to from a name: a name that none leads on from. None: they go round, since a name that they lead
--- to leads back to itself.
+-- What CNAME records lead to from a name: a name that none leads on from. None: they go round, since a name that they
+-- lead to leads back to itself.
 pub data ChainEnd (records : List RecordFields) (from : List (List ℕ)) : Option (List (List ℕ)) → Type 0 where
   ends : {n : ℕ} {end : List (List ℕ)} → Leads records from n end → FirstAlias end records None
       → ChainEnd records from (Some end)

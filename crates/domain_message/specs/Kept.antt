@@ -103,8 +103,8 @@ kept_left s = s.count
 abbrev pub kept_class : {D E : Type 0} → RecordIter D E → Bool
 kept_class s = s.only_in
 
--- A call at p, with n records left, returned the first that is kept, or the error of the first that is missing or whose
--- data can't be read, or nothing: none that is left is kept. Then the offset is q, and k are left.
+-- A call at p, with n records left, returned the first that is kept, or the error of the first that is missing or
+-- whose data can't be read, or nothing: none that is left is kept. Then the offset is q, and k are left.
 abbrev pub TakesKept : {W E : Type 0} → (RecordFields → Bool) → (RecordFields → W → Type 0)
     → (RecordFields → E → Type 0) → (ParseError → E → Type 0) → List ℕ → ℕ → ℕ → Option (Result W E)
     → ℕ → ℕ → Type 0
@@ -154,7 +154,8 @@ KeepsAs d only_in it made = KeepsRecord d only_in it × IsReadOf d it made
 abbrev pub KeepsButFails : {D E : Type 0} → (ParseError → E → Type 0) → ParseMembers D → Bool → ParsedRecord → E → Type 0
 KeepsButFails Becomes d only_in it e = KeepsRecord d only_in it × DataFails Becomes d it e
 
--- A call at a parser, with n records left, took the next that is kept, as `TakesKept` says; then the parser is the other, and k are left.
+-- A call at a parser, with n records left, took the next that is kept, as `TakesKept` says; then the parser is the
+-- other, and k are left.
 abbrev pub TakesNext : {O D E : Type 0} {g : Ghosts O} → (ParseError → E → Type 0) → ParseMembers D → Bool → Parser → ℕ → Option (Result (Record (ParsedName O g) D) E) → Parser → ℕ → Type 0
 TakesNext {g = g} Becomes d only_in from n r to k =
     TakesKept (keeps d.reads_type only_in) (IsMadeOf {g = g} d.type_number d.model d.encodes)

@@ -12,7 +12,8 @@ pub record GivesOneList {V : Type 0} (At : List ℕ → ℕ → V → ℕ → Ty
   pub once : (m : List ℕ) (p n : ℕ) (xs ys : List V) → Given At m p n xs → Given At m p n ys
       → xs ≡ ys
 
--- The first record that is kept is the first of the section's list that is, and the others that are kept come after it.
+-- The first record that is kept is the first of the section's list that is, and the others that are kept come after
+-- it.
 abbrev pub FirstIsKept : Type 0
 FirstIsKept =
     (keep : RecordFields → Bool) (m : List ℕ) (p n q k : ℕ) (it : RecordFields)
@@ -38,8 +39,8 @@ LongChainGoesRound =
     (rs : List RecordFields) (name : List (List ℕ)) (n : ℕ) (to : List (List ℕ))
     → cname_count rs < n → Leads rs name n to → ChainEnd rs name None
 
--- A chain with a limit has one end, or more records lead on. Its end is the end without a limit; so is what it comes to
--- within as many records as there are CNAME records.
+-- A chain with a limit has one end, or more records lead on. Its end is the end without a limit; so is what it comes
+-- to within as many records as there are CNAME records.
 pub record ChainsWithin : Type 0 where
   pub once : (rs : List RecordFields) (limit : ℕ) (name : List (List ℕ))
       (a b : Option (List (List ℕ))) → ChainEndWithin limit rs name a

@@ -36,8 +36,8 @@ abbrev pub entries_left : Result ℕ ParseError → ℕ
 entries_left (Ok n) = n
 entries_left (Err e) = 0
 
--- A call at p, with c entries left, returned the entry there, or the error that it is missing, or nothing: after the last
--- one, or after an error. Then the offset is q, and d are left.
+-- A call at p, with c entries left, returned the entry there, or the error that it is missing, or nothing: after the
+-- last one, or after an error. Then the offset is q, and d are left.
 abbrev pub TakesEntry : {V W : Type 0} → (W → V) → (List ℕ → ℕ → V → ℕ → Type 0)
     → (List ℕ → ℕ → ParseError → Type 0) → List ℕ → ℕ → Result ℕ ParseError
     → Option (Result W ParseError) → ℕ → Result ℕ ParseError → Type 0

@@ -19,8 +19,8 @@ use std::sync::ledger::{Blank, Ledger};
 /// The type of a CNAME record (RFC 1035, 3.2.2).
 const CNAME: u16 = 5;
 
-/// Returns the target of the record if it is a CNAME record of this name. `None` exactly if it isn't one, or its data isn't
-/// one name.
+/// Returns the target of the record if it is a CNAME record of this name. `None` exactly if it isn't one, or its data
+/// isn't one name.
 fn alias_of<'a>(
     found: &ParsedRecord<'a>,
     name: &ParsedName<&'a [u8]>,
@@ -98,8 +98,8 @@ fn first_alias_and_count<'a, L: Ledger>(
     (first, count)
 }
 
-/// Follows CNAME records from a name to one that has none, with at most so many looks at the answers. `None` exactly if
-/// each look found one.
+/// Follows CNAME records from a name to one that has none, with at most so many looks at the answers. `None` exactly
+/// if each look found one.
 fn end_of_chain<'a, L: Ledger>(
     answers: RecordSection<'a>,
     from: ParsedName<&'a [u8]>,
@@ -121,8 +121,8 @@ fn end_of_chain<'a, L: Ledger>(
 }
 
 impl<Octs: Octets> Message<Octs> {
-    /// Returns the answers and the name of the first question. `None` if there is no question, or one that the header counts
-    /// is missing.
+    /// Returns the answers and the name of the first question. `None` if there is no question, or one that the header
+    /// counts is missing.
     fn asked(&self) -> Option<(RecordSection<'_>, ParsedName<&[u8]>)>
         ensures some { IfSome result (λ it. AskedIn self.now it.0 it.1) }
         ensures none { IsNone result → HasMissingQuestion self.now ⊎ CountsNoQuestion self.now }
@@ -139,17 +139,19 @@ impl<Octs: Octets> Message<Octs> {
         Some((answers, *question.qname()))
     }
 
-    /// Returns the canonical name of the first question: the name to which CNAME records of the answer section lead from
-    /// the question's, and from which none leads on (RFC 1034, 3.6.2). `None` if one of these names leads back to itself,
-    /// there is no question, or one that the header counts is missing.
+    /// Returns the canonical name of the first question: the name to which CNAME records of the answer section lead
+    /// from the question's, and from which none leads on (RFC 1034, 3.6.2). `None` if one of these names leads back to
+    /// itself, there is no question, or one that the header counts is missing.
     ///
-    /// The records may be in any order; of two of one name the first is followed. Case of ASCII letters is ignored, and so
-    /// are the classes, and the question's type: a query for CNAME or ANY isn't restarted at the target, but its canonical
-    /// name is still the end. A CNAME record whose data isn't one name is passed over. Where an answer is missing, as in a
-    /// message that was cut, those before it are all, so the name may not be the one that was meant: see `tc` of the header.
+    /// The records may be in any order; of two of one name the first is followed. Case of ASCII letters is ignored,
+    /// and so are the classes, and the question's type: a query for CNAME or ANY isn't restarted at the target, but
+    /// its canonical name is still the end. A CNAME record whose data isn't one name is passed over. Where an answer
+    /// is missing, as in a message that was cut, those before it are all, so the name may not be the one that was
+    /// meant: see `tc` of the header.
     ///
-    /// The answers are read at most once more often than there are CNAME records among them. In 65,535 octets that are made
-    /// to be dear these are thousands of times: of messages that anyone may send take `canonical_name_with_limit`.
+    /// The answers are read at most once more often than there are CNAME records among them. In 65,535 octets that are
+    /// made to be dear these are thousands of times: of messages that anyone may send take
+    /// `canonical_name_with_limit`.
     pub fn canonical_name(&self) -> Option<ParsedName<&[u8]>>
         ensures some { IfSome result (HasCanonicalName self.now) }
         ensures none { IsNone result → HasNoCanonicalName self.now }
@@ -169,9 +171,10 @@ impl<Octs: Octets> Message<Octs> {
         self.canonical_name_counted(&mut Passes::<L>::new(blank))
     }
 
-    /// The same as `canonical_name`, and counts in `passes`, which contracts alone see, how often the answers are read.
-    /// The count grows by at most one more than there are CNAME records among the answers, up to the first answer that
-    /// is missing, however many the header counts; and by none where there is no question, or one is missing.
+    /// The same as `canonical_name`, and counts in `passes`, which contracts alone see, how often the answers are
+    /// read. The count grows by at most one more than there are CNAME records among the answers, up to the first
+    /// answer that is missing, however many the header counts; and by none where there is no question, or one is
+    /// missing.
     pub fn canonical_name_counted<L: Ledger>(
         &self,
         passes: &mut Passes<L>,
@@ -190,9 +193,9 @@ impl<Octs: Octets> Message<Octs> {
         }
     }
 
-    /// Returns the canonical name as `canonical_name` does, if at most `limit` CNAME records lead to it. `None` if more of
-    /// them lead on, as they do where a name leads back to itself, there is no question, or one that the header counts is
-    /// missing.
+    /// Returns the canonical name as `canonical_name` does, if at most `limit` CNAME records lead to it. `None` if
+    /// more of them lead on, as they do where a name leads back to itself, there is no question, or one that the
+    /// header counts is missing.
     ///
     /// The answers are read at most once more often than the limit says. Resolvers follow 11 to 16.
     pub fn canonical_name_with_limit(&self, limit: u16) -> Option<ParsedName<&[u8]>>
@@ -213,8 +216,8 @@ impl<Octs: Octets> Message<Octs> {
         self.canonical_name_with_limit_counted(limit, &mut Passes::<L>::new(blank))
     }
 
-    /// The same as `canonical_name_with_limit`, and counts in `passes`, which contracts alone see, how often the answers
-    /// are read. The count grows by at most one more than the limit.
+    /// The same as `canonical_name_with_limit`, and counts in `passes`, which contracts alone see, how often the
+    /// answers are read. The count grows by at most one more than the limit.
     pub fn canonical_name_with_limit_counted<L: Ledger>(
         &self,
         limit: u16,

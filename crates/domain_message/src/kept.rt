@@ -20,8 +20,8 @@ const IN: u16 = 1;
 
 /// The records of a section that have data of the type `D`, in their order.
 ///
-/// `next` skips the others. It returns the first error: a record that the header counts is missing, or the data of a record
-/// of the type can't be read. After that, as after the last record, it returns `None`.
+/// `next` skips the others. It returns the first error: a record that the header counts is missing, or the data of a
+/// record of the type can't be read. After that, as after the last record, it returns `None`.
 #[derive(Clone, Copy, Drop)]
 pub struct RecordIter<'a, D, E = ParseError> {
     parser: Parser<'a>,

@@ -138,8 +138,8 @@ impl<Octs: Octets> Message<Octs> {
         self.question().answer()
     }
 
-    /// The records of the authority section, which follows the answers. The error says why a question or a record before
-    /// them is missing.
+    /// The records of the authority section, which follows the answers. The error says why a question or a record
+    /// before them is missing.
     pub fn authority(&self) -> Result<RecordSection<'_>, ParseError>
         ensures ok { IfOk result (IsAuthoritySection self.now) }
         ensures err { IfErr result (λ e. NoAnswers (message_octets self.now) e) }

@@ -192,8 +192,8 @@ impl<'a> RecordSection<'a> {
         self.section
     }
 
-    /// Skips the records that are left, and returns the next section. After the last one it is `None`, and no record is
-    /// looked at. The error says why one of them is missing.
+    /// Skips the records that are left, and returns the next section. After the last one it is `None`, and no record
+    /// is looked at. The error says why one of them is missing.
     pub fn next_section(self) -> Result<Option<RecordSection<'a>>, ParseError>
         ensures none { IfOk result (λ read. IsNone read ↔ IsLastSection self.entry) }
         ensures ok { IfOk result (λ read. IfSome read (BeginsAfterRecords self.entry)) }

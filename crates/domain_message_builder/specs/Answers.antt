@@ -19,8 +19,8 @@ use Rattle.domain_message_builder.specs.State.{State}
 use Rattle.domain_message_builder.specs.Tight.{Surpasses, RefusedAsWritten}
 use Rattle.domain_message_builder.specs.declared.error.PushError.{PushError}
 
--- The header of an answer to a query that has this identifier and these two octets of flags: the opcode, RD and CD are those
--- of the query, QR is set, and no other bit is (RFC 1035, 4.1.1; RFC 4035, 3.2.2).
+-- The header of an answer to a query that has this identifier and these two octets of flags: the opcode, RD and CD are
+-- those of the query, QR is set, and no other bit is (RFC 1035, 4.1.1; RFC 4035, 3.2.2).
 pub record IsAnswerHeader (id high low rcode : ℕ) (answer : Header) : Type 0 where
   pub id_is : header_id answer ≡ id
   pub qr : bit 128 (header_high answer) ≡ 1
@@ -53,8 +53,8 @@ pub record BeginsWithQuestion (m : List ℕ) (q : QuestionFields) : Type 0 where
   pub end : ℕ
   pub at : QuestionAt m 12 q end
 
--- How a target becomes where an answer to the message was begun: by its own calls it appended the name of the first question, as
--- that stands there, and type and class; or there is none, and the target is as it was.
+-- How a target becomes where an answer to the message was begun: by its own calls it appended the name of the first
+-- question, as that stands there, and type and class; or there is none, and the target is as it was.
 pub data RepeatsQuestion {T : Type 0} (extends : T → List ℕ → T → Type 0) (appends : T → List (List ℕ) → T → Type 0) (m : List ℕ) (old new : T) : Type 0 where
   repeats : (q : QuestionFields) → BeginsWithQuestion m q → NameThen extends (λ c d. appends c q.name d) (type_and_class q.rtype q.class) old new → RepeatsQuestion extends appends m old new
   nothing : HasNoQuestion m → new ≡ old → RepeatsQuestion extends appends m old new
@@ -63,17 +63,17 @@ pub data RepeatsQuestion {T : Type 0} (extends : T → List ℕ → T → Type 0
 abbrev pub HasQuestion : List ℕ → Type 0
 HasQuestion m = (q : QuestionFields) × BeginsWithQuestion m q
 
--- The first question of the message, if it was composed, has no room in the target, or the message would have more octets
--- than `most`, as the target writes it: the name as the question has it, and four octets (RFC 1035, 4.1.2 and 4.1.4).
--- `may` tells what a target may append for a name.
+-- The first question of the message, if it was composed, has no room in the target, or the message would have more
+-- octets than `most`, as the target writes it: the name as the question has it, and four octets (RFC 1035, 4.1.2 and
+-- 4.1.4). `may` tells what a target may append for a name.
 abbrev pub DoesNotFit : {T E : Type 0} → (T → List ℕ) → (T → ℕ) → (T → List (List ℕ) → List ℕ → Type 0) → (T → List ℕ → T → Type 0) → (T → List (List ℕ) → T → Type 0) → List ℕ → ℕ → T → PushError E → Type 0
 DoesNotFit octets capacity may extends appends m most old e =
     (q : QuestionFields) × BeginsWithQuestion m q
     × RefusedAsWritten (λ _. Exceeds (IsNameThen (may old q.name) (type_and_class q.rtype q.class)) (octets old) (capacity old))
     (Surpasses octets (NameThen extends (λ c d. appends c q.name d) (type_and_class q.rtype q.class)) old most) e
 
--- The target was given the question; or it was refused, and the target has the octets that it had, and remembers the names that
--- it did.
+-- The target was given the question; or it was refused, and the target has the octets that it had, and remembers the
+-- names that it did.
 pub data GivenOrRefused {T M : Type 0} (octets : T → List ℕ) (memory : T → M) (given refused : Type 0) (old new : T) : Type 0 where
   was_given : given → GivenOrRefused octets memory given refused old new
   was_refused : refused → octets new ≡ octets old → memory new ≡ memory old → GivenOrRefused octets memory given refused old new
@@ -87,7 +87,8 @@ pub data StartsAnswer (compresses : Bool) (m : List ℕ) (rcode : ℕ) (old new 
 abbrev pub NotStarted : {E : Type 0} → Bool → List ℕ → State → ℕ → PushError E → Type 0
 NotStarted compresses m s capacity e = (q : QuestionFields) × BeginsWithQuestion m q × QuestionRefused compresses q s capacity e
 
--- A question can't be pushed: it exceeds the target's room or the limit, or there are too many, or a record was pushed.
+-- A question can't be pushed: it exceeds the target's room or the limit, or there are too many, or a record was
+-- pushed.
 abbrev pub CannotAsk : Bool → QuestionFields → State → ℕ → Type 0
 CannotAsk compresses q s capacity = Exceeds (AsksIn compresses q s.octets) s.octets capacity ⊎ ((question_count s.counts ≡ 65535) ⊎ (Exceeds (AsksIn compresses q s.octets) s.octets (s.limit - s.reserved) ⊎ (0 < record_count s.counts)))
 

@@ -1,5 +1,5 @@
--- What contracts say of a builder of an answer, and of its OPT record. `g` to `l` are as in `Builders`, and `m` is what `Octets`
--- tells of the query or of the options.
+-- What contracts say of a builder of an answer, and of its OPT record. `g` to `l` are as in `Builders`, and `m` is
+-- what `Octets` tells of the query or of the options.
 use Rattle.std.specs.Prelude.{◌≡◌, ℕ, List, ◌++◌, Option, Result, option_copied}
 use denote.Bor.{Bor}
 use Rattle.octseq.specs.declared.octets.Octets.{Ghosts}
@@ -39,8 +39,8 @@ abbrev pub QueryNotAnswered : {T E O : Type 0} {g : _} {h : _} {i : _} {j : _} {
 QueryNotAnswered {g = g} query b e =
     NotStarted g.compresses (message_octets query) (state b) (target_room b) e
 
--- The target was given the name of the query's first question as it stands there, and type and class; or there is none, and the target
--- is as it was.
+-- The target was given the name of the query's first question as it stands there, and type and class; or there is
+-- none, and the target is as it was.
 abbrev pub LeavesQuery : {T E O : Type 0} {g : _} {h : _} {i : _} {j : _} {k : _} {l : _} {m : Ghosts O}
     → Message O m → MessageBuilder T E g h i j k l → MessageBuilder T E g h i j k l → Type 0
 LeavesQuery {g = g} {h = h} query old new =
@@ -65,8 +65,8 @@ abbrev pub QueryRefused : {T E O : Type 0} {g : _} {h : _} {i : _} {j : _} {k : 
     → Message O m → MessageBuilder T E g h i j k l → Type 0
 QueryRefused {E = E} query b = (e : PushError E) × QueryNotAnswered query b e × QueryDoesNotFit query b e
 
--- The target was given the query's question, if it has one; or that was refused, and the target has the octets that it had, and
--- remembers the names that it did.
+-- The target was given the query's question, if it has one; or that was refused, and the target has the octets that it
+-- had, and remembers the names that it did.
 abbrev pub LeavesQueryOrNone : {T E O : Type 0} {g : _} {h : _} {i : _} {j : _} {k : _} {l : _} {m : Ghosts O}
     → Message O m → MessageBuilder T E g h i j k l → MessageBuilder T E g h i j k l → Type 0
 LeavesQueryOrNone {g = g} {j = j} query old new =
@@ -120,7 +120,8 @@ abbrev pub LeavesNoRoomForAny : {T E O : Type 0} {g : _} {h : _} {i : _} {j : _}
     → Option (Bor (OptBuilder O m)) → MessageBuilder T E g h i j k l → PushError E → Type 0
 LeavesNoRoomForAny opt b e = LosesOpts (opt_given (option_copied opt)) (target_room b) (state b) e
 
--- The octets are the answer that was held, cut if a push of it was refused, with the OPT record at its end, if there is one.
+-- The octets are the answer that was held, cut if a push of it was refused, with the OPT record at its end, if there
+-- is one.
 abbrev pub EndsAs : {T E O A : Type 0} {g : _} {h : _} {i : _} {j : _} {k : _} {l : _} {m : Ghosts O}
     → Result A (PushError E) → Option (Bor (OptBuilder O m)) → MessageBuilder T E g h i j k l → List ℕ → Type 0
 EndsAs {g = g} pushed opt b made =

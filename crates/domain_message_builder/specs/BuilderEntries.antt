@@ -1,5 +1,5 @@
--- What contracts say of a push to a builder. `labels` tells the labels of a name, `d` is `D.ComposeRecordData`, and `g` to `l`
--- are as in `Builders`.
+-- What contracts say of a push to a builder. `labels` tells the labels of a name, `d` is `D.ComposeRecordData`, and
+-- `g` to `l` are as in `Builders`.
 use Rattle.std.specs.Prelude.{ℕ, ◌-◌, List}
 use Rattle.domain_message.specs.declared.section.Section.{Section}
 use Rattle.domain_rdata.specs.Members.{DataMembers}

@@ -1,5 +1,6 @@
--- What contracts say of a builder. Its type names what the traits of its target tell, and these words take it from there:
--- `g` what `Composer` tells, `h` `OctetsBuilder`, `i` `Truncate`, `j` `Octets`, `k` `Into` of the error, and `l` `OctetsMut`.
+-- What contracts say of a builder. Its type names what the traits of its target tell, and these words take it from
+-- there: `g` what `Composer` tells, `h` `OctetsBuilder`, `i` `Truncate`, `j` `Octets`, `k` `Into` of the error, and
+-- `l` `OctetsMut`.
 use Rattle.std.specs.Prelude.{◌≡◌, ℕ, ◌<◌, List, length, IfSome}
 use Rattle.domain_header.specs.Headers.{question_count}
 use Rattle.domain_message.specs.SectionOrder.{section_after}

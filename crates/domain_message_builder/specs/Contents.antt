@@ -66,8 +66,8 @@ pub record RecordMay (compresses : Bool) (r : PushedRecord) (t s : List ℕ) : T
   pub small_ttl : r.head.ttl < 2 ^ 32
   pub octets : RecordsIn compresses r.head (λ before data_octets. data_octets ≡ r.rdata) t s
 
--- These octets are a blank header and what was composed for this, these counts are the numbers of its entries, and its sections
--- begin at these offsets.
+-- These octets are a blank header and what was composed for this, these counts are the numbers of its entries, and its
+-- sections begin at these offsets.
 pub record HoldsIn (compresses : Bool) (octets : List ℕ) (counts : HeaderCounts) (starts : SectionStarts) (it : Content) : Type 0 where
   pub after_questions : List ℕ
   pub after_answers : List ℕ

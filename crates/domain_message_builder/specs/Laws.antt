@@ -29,7 +29,8 @@ pub record LikeQuestion (pushed read : QuestionFields) : Type 0 where
   pub rtype : read.rtype ≡ pushed.rtype
   pub class : read.class ≡ pushed.class
 
--- The record that was pushed and the one that is read, its owner's name ignoring ASCII case, and the octets of its data.
+-- The record that was pushed and the one that is read, its owner's name ignoring ASCII case, and the octets of its
+-- data.
 pub record LikeRecord (pushed : PushedRecord) (read : RecordFields) : Type 0 where
   pub owner : lowercase_labels read.header.owner ≡ lowercase_labels pushed.head.owner
   pub rtype : read.header.rtype ≡ pushed.head.rtype
@@ -38,8 +39,8 @@ pub record LikeRecord (pushed : PushedRecord) (read : RecordFields) : Type 0 whe
   pub rdlen : read.header.rdlen ≡ length pushed.rdata
   pub data_is : drop read.start read.octets ≡ pushed.rdata
 
--- What a reader of the message gives, section by section, is what was pushed: all of it, in its order, and the message ends
--- after it.
+-- What a reader of the message gives, section by section, is what was pushed: all of it, in its order, and the message
+-- ends after it.
 pub record ReadsAs (it : Content) (m : List ℕ) : Type 0 where
   pub question_end : ℕ
   pub answer_end : ℕ
@@ -57,8 +58,8 @@ pub record ReadsAs (it : Content) (m : List ℕ) : Type 0 where
 abbrev pub MessagesReadBack : Type 0
 MessagesReadBack = (header : Header) (it : Content) (m : List ℕ) → IsMessageOf header it m → ReadsAs it m
 
--- The octets s are read where they stand after the octets t, to their end, as what is like the data. `At m p it e`: what is seen so is in
--- the octets m at p, and ends before e.
+-- The octets s are read where they stand after the octets t, to their end, as what is like the data. `At m p it e`:
+-- what is seen so is in the octets m at p, and ends before e.
 abbrev pub IsSeenAfter : {Seen : Type 0} → (List ℕ → ℕ → Seen → ℕ → Type 0) → (Seen → Type 0) → List ℕ → List ℕ → Type 0
 IsSeenAfter {Seen} At Alike t s = (it : Seen) × At (t ++ s) (length t) it (length t + length s) × Alike it
 
@@ -70,8 +71,8 @@ NamesUnderAnyHeader = (h b s : List ℕ) (ls : List (List ℕ)) (compresses : Bo
 abbrev pub NoNameInHeader : Type 0
 NoNameInHeader = (b : List ℕ) (p k : ℕ) (ls : List (List ℕ)) → p < 12 → Reads (blank_header ++ b) p k ls → ⊥
 
--- So no pointer leads into the header: where a name is read behind a blank header, the one that is read there under any
--- header is read through pointers to offsets of 12 or more alone.
+-- So no pointer leads into the header: where a name is read behind a blank header, the one that is read there under
+-- any header is read through pointers to offsets of 12 or more alone.
 abbrev pub NoPointerIntoHeader : Type 0
 NoPointerIntoHeader = (h b : List ℕ) (p k : ℕ) (ls : List (List ℕ)) → length h ≡ 12 → 12 ≤ p → Reads (blank_header ++ b) p k ls → PointsBehind 12 (h ++ b) p
 
@@ -83,8 +84,8 @@ NamesPointBehindHeader = (h b s u : List ℕ) (ls : List (List ℕ)) (compresses
 abbrev pub EntriesPointBehindHeader : Type 0
 EntriesPointBehindHeader = (compresses : Bool) (s : State) (it : Content) → Holds compresses s it → EntriesAt (EntryPointsBehind 12 QuestionReadAt) (EntryPointsBehind 12 RecordReadAt) it (finished_octets s)
 
--- Whatever the header is: octets that data may be composed into after a blank header, and octets behind that, are read as what is like
--- the data where they stand in the message. `May compresses t s`: it may be composed into s after t.
+-- Whatever the header is: octets that data may be composed into after a blank header, and octets behind that, are read
+-- as what is like the data where they stand in the message. `May compresses t s`: it may be composed into s after t.
 abbrev pub IsSeenUnderAnyHeader : {Seen : Type 0} → (Bool → List ℕ → List ℕ → Type 0) → (List ℕ → ℕ → Seen → ℕ → Type 0) → (Seen → Type 0) → Type 0
 IsSeenUnderAnyHeader May At Alike = (compresses : Bool) (header b s : List ℕ) → length header ≡ 12 → May compresses (blank_header ++ b) s → IsSeenAfter At Alike (header ++ b) s
 

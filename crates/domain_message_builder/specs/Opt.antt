@@ -8,8 +8,8 @@ use Rattle.domain_rdata.specs.declared.record_data.ComposeRdataError.{ComposeRda
 use Rattle.domain_rdata.specs.declared.record_data.ComposeRdataError.TheVariants.{Append, Long}
 use Rattle.domain_message_builder.specs.Contents.{RecordHead}
 
--- what an OPT record says: how many octets of a message over UDP its sender takes, the upper bits of the response code, the
--- version, the bit DO, and the options in wire format (6.1.2 and 6.1.3)
+-- what an OPT record says: how many octets of a message over UDP its sender takes, the upper bits of the response
+-- code, the version, the bit DO, and the options in wire format (6.1.2 and 6.1.3)
 pub record Opt : Type 0 where
   pub udp_payload_size : ℕ
   pub rcode_ext : ℕ
@@ -49,8 +49,8 @@ packed_opt_ttl rcode_ext version dnssec_ok = rcode_ext * 16777216 + version * 65
 abbrev pub opt_head : Opt → RecordHead
 opt_head o = record { owner = Root; rtype = 41; class = o.udp_payload_size; ttl = packed_opt_ttl o.rcode_ext o.version o.dnssec_ok }
 
--- the record in wire format: the octet 0 of the root, the type 41, the size, the TTL, the length of the options, and the
--- options in their order (6.1.2)
+-- the record in wire format: the octet 0 of the root, the type 41, the size, the TTL, the length of the options, and
+-- the options in their order (6.1.2)
 abbrev pub opt_record_octets : Opt → List ℕ
 opt_record_octets o = 0 ∷ (before_length 41 o.udp_payload_size (packed_opt_ttl o.rcode_ext o.version o.dnssec_ok) ++ (to_be_bytes w16 (length o.options) ++ o.options))
 

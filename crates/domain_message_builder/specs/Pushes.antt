@@ -106,8 +106,8 @@ pub record PushesQuestion (compresses : Bool) (q : QuestionFields) (old new : St
   pub settings : SameSettings old new
   pub holds : (it : Content) → Holds compresses old it → Holds compresses new (question_added it q)
 
--- Whatever was pushed before, a record with this head, and data that `May` allows, was pushed after it into this section, and
--- no later section had a record.
+-- Whatever was pushed before, a record with this head, and data that `May` allows, was pushed after it into this
+-- section, and no later section had a record.
 pub record PushesRecord (compresses : Bool) (section : Section) (head : RecordHead) (May : List ℕ → List ℕ → Type 0) (old new : State) : Type 0 where
   pub in_order : later_count section old.counts ≡ 0
   pub octets : Appended (RecordsIn compresses head May old.octets) old.octets new.octets

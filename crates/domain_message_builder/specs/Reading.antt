@@ -14,8 +14,8 @@ pub record QuestionReadAt (m : List ℕ) (p : ℕ) (q : QuestionFields) (e : ℕ
   pub at : QuestionAt m p (record { name = name; rtype = q.rtype; class = q.class }) e
   pub same : lowercase_labels name ≡ lowercase_labels q.name
 
--- A record is at p and ends before e that is the one which was pushed, its owner's name ignoring ASCII case, and the octets of
--- its data.
+-- A record is at p and ends before e that is the one which was pushed, its owner's name ignoring ASCII case, and the
+-- octets of its data.
 pub record RecordReadAt (m : List ℕ) (p : ℕ) (r : PushedRecord) (e : ℕ) : Type 0 where
   pub it : RecordFields
   pub at : RecordAt m p it e
@@ -43,8 +43,8 @@ pub record IsMessageOf (header : Header) (it : Content) (m : List ℕ) : Type 0 
   pub authority : Run RecordReadAt m answer_end it.authority authority_end
   pub additional : Run RecordReadAt m authority_end it.additional (length m)
 
--- What was pushed is in the message m from its header on, section by section, and m ends after it. `AsksAt m p q e`: the
--- question q is at p and ends before e, and `SaysAt` tells the same of a record.
+-- What was pushed is in the message m from its header on, section by section, and m ends after it. `AsksAt m p q e`:
+-- the question q is at p and ends before e, and `SaysAt` tells the same of a record.
 pub record EntriesAt (AsksAt : List ℕ → ℕ → QuestionFields → ℕ → Type 0) (SaysAt : List ℕ → ℕ → PushedRecord → ℕ → Type 0) (it : Content) (m : List ℕ) : Type 0 where
   pub question_end : ℕ
   pub answer_end : ℕ

@@ -1,5 +1,5 @@
--- What a target becomes where an entry is appended up to a limit. `g` is `Target.Composer`, `labels` tells the labels of a
--- name, and `d` is `D.ComposeRecordData`.
+-- What a target becomes where an entry is appended up to a limit. `g` is `Target.Composer`, `labels` tells the labels
+-- of a name, and `d` is `D.ComposeRecordData`.
 use Rattle.std.specs.Prelude.{◌≡◌, ℕ, List, []}
 use Rattle.domain_rdata.specs.Members.{ComposerMembers, DataMembers}
 use Rattle.domain_rdata.specs.ReadBack.{Appended}

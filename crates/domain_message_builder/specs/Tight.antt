@@ -1,4 +1,5 @@
--- That an entry is refused only where it doesn't fit as the target writes it, which may write names shorter (RFC 1035, 4.1.4).
+-- That an entry is refused only where it doesn't fit as the target writes it, which may write names shorter (RFC 1035,
+-- 4.1.4).
 use Rattle.std.specs.Prelude.{ℕ, ◌<◌, ⊤, List, length}
 use Rattle.domain_record.specs.MayCompose.{IsNameThen, RefusesRecord, after_qname, after_owner}
 use Rattle.domain_record.specs.RecordParts.{owner_of}
@@ -25,8 +26,8 @@ RefusedAsWritten Refuses over Limit = over
 RefusedAsWritten Refuses over Count = ⊤
 RefusedAsWritten Refuses over Order = ⊤
 
--- The question has no room in the target: its name, as the target may write it, and the four octets after it. `may` tells what
--- a target may append for a name.
+-- The question has no room in the target: its name, as the target may write it, and the four octets after it. `may`
+-- tells what a target may append for a name.
 abbrev pub QuestionHasNoRoom : {N T E : Type 0} → (N → List (List ℕ)) → (T → List ℕ) → (T → ℕ) → (T → List (List ℕ) → List ℕ → Type 0) → Question N → T → E → Type 0
 QuestionHasNoRoom labels octets capacity may q old e = Exceeds (IsNameThen (may old (labels (question_name q))) (after_qname q)) (octets old) (capacity old)
 

@@ -71,9 +71,9 @@ impl<Target: Composer> MessageBuilder<Target> {
         Ok(())
     }
 
-    /// Begins an answer as `start_answer` does, but for the question where that is refused. It is for errors, which are
-    /// told even so. Only where no question can be pushed, or it has no room as the target writes it, is it left out;
-    /// but for the header nothing is then changed, nor what the target remembers.
+    /// Begins an answer as `start_answer` does, but for the question where that is refused. It is for errors, which
+    /// are told even so. Only where no question can be pushed, or it has no room as the target writes it, is it left
+    /// out; but for the header nothing is then changed, nor what the target remembers.
     pub fn start_error<Octs: Octets>(&mut self, query: &Message<Octs>, rcode: Rcode)
         ensures starts { AnswersInError query.now rcode self.old self.new }
         ensures written { LeavesQueryOrNone query.now self.old self.new }

@@ -24,8 +24,8 @@ use std::alloc::Global;
 
 /// A message that is built: questions, and then the records of the three sections, in their order (RFC 1035, 4.1).
 ///
-/// An entry is pushed as a whole or not at all. The message never has more octets than its limit, and its counts are the
-/// numbers of the entries. `finish` gives it: `Message` reads from it what was pushed.
+/// An entry is pushed as a whole or not at all. The message never has more octets than its limit, and its counts are
+/// the numbers of the entries. `finish` gives it: `Message` reads from it what was pushed.
 ///
 /// The target's first twelve octets are the header's. Until `finish` writes it they are 128, at which no name can be
 /// read: so no pointer leads to them, and names are read the same whatever the header becomes.
@@ -49,8 +49,8 @@ impl<Target: Composer + EmptyBuilder + Drop> MessageBuilder<Target> {
 
     /// Begins a message of at most 65,535 octets in a new target, as `from_target` does in an empty one.
     ///
-    /// `ShortBuf` only where twelve octets, the header's, exceed the room that is fixed for the target's type, or, where
-    /// none is fixed, an allocation failed.
+    /// `ShortBuf` only where twelve octets, the header's, exceed the room that is fixed for the target's type, or,
+    /// where none is fixed, an allocation failed.
     pub fn new(alloc: Global) -> Result<Self, ShortBuf>
         ensures ok { IfOk result (λ it. IsBegun Target.compresses 65535 (state it)) }
         ensures written { IfOk result (λ it. BeginsOnNew Target.Composer (target_of it)) }
@@ -87,8 +87,8 @@ impl<Target: Composer + Drop> MessageBuilder<Target> {
 
     /// Begins a message of at most `limit` octets, with a header of zeros.
     ///
-    /// `NotEmpty` exactly if the target isn't empty, else `ShortLimit` exactly if the limit is below the twelve octets of
-    /// the header, and else `Append` only if the target has no room for these. The target is then dropped.
+    /// `NotEmpty` exactly if the target isn't empty, else `ShortLimit` exactly if the limit is below the twelve octets
+    /// of the header, and else `Append` only if the target has no room for these. The target is then dropped.
     pub fn with_limit(target: Target, limit: u16) -> Result<Self, StartError<Target::AppendError>>
         ensures ok { IfOk result (λ it. IsBegun Target.compresses limit (state it)) }
         ensures written { IfOk result (λ it. BeginsOn Target.Composer target (target_of it)) }
@@ -237,10 +237,10 @@ impl<Target: Composer> MessageBuilder<Target> {
 
     /// Pushes a record into a section, or nothing.
     ///
-    /// `Order` exactly if a later section has a record, else `Count` exactly if this one has 65,535; else `Long` only if
-    /// data that may be composed for it has over 65,535 octets, and `Limit` or `Append` only if octets that may be
-    /// composed exceed the limit, less what is set aside, or the target's room. Nothing is then changed, nor what the target
-    /// remembers.
+    /// `Order` exactly if a later section has a record, else `Count` exactly if this one has 65,535; else `Long` only
+    /// if data that may be composed for it has over 65,535 octets, and `Limit` or `Append` only if octets that may be
+    /// composed exceed the limit, less what is set aside, or the target's room. Nothing is then changed, nor what the
+    /// target remembers.
     pub fn push<'a, N: AbsoluteLabels<'a>, D: ComposeRecordData>(
         &mut self,
         section: Section,

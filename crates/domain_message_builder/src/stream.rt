@@ -37,9 +37,9 @@ impl<Target: Composer + Drop> MessageBuilder<Target> {
     /// Finishes the message and appends it to a stream, or nothing, with its length before it in two octets (RFC 1035,
     /// 4.2.2), and returns the target.
     ///
-    /// The message was composed in a target of its own: its pointers count from its first octet, whatever the stream has
-    /// before it. It fails only if the two octets and the message exceed the stream's spare capacity. The stream's octets
-    /// are then unchanged, and the target is dropped.
+    /// The message was composed in a target of its own: its pointers count from its first octet, whatever the stream
+    /// has before it. It fails only if the two octets and the message exceed the stream's spare capacity. The stream's
+    /// octets are then unchanged, and the target is dropped.
     pub fn finish_stream<Stream: OctetsBuilder>(
         self,
         stream: &mut Stream,

@@ -1,5 +1,5 @@
--- What contracts say of names that are read of the characters that the iterator `it` always gives: `gives` is what a call of
--- its `next` gives. `room` is how many octets fit, where that is fixed for the type.
+-- What contracts say of names that are read of the characters that the iterator `it` always gives: `gives` is what a
+-- call of its `next` gives. `room` is how many octets fit, where that is fixed for the type.
 use Rattle.std.specs.Prelude.{◌≡◌, ℕ, List, Option, Result, IfOk, IfErr, MatchResult}
 use Rattle.std.specs.Iterator.{AlwaysYields}
 use Rattle.octseq.specs.declared.octets.Octets.{Ghosts}

@@ -80,8 +80,8 @@ impl NameBuilder<Vec<u8>> {
         NameBuilder::with_capacity(alloc, capacity)
     }
 
-    /// The same builder over new octets, an open label too. `ShortBuf` only where an allocation failed, which a copy of
-    /// an empty builder doesn't make.
+    /// The same builder over new octets, an open label too. `ShortBuf` only where an allocation failed, which a copy
+    /// of an empty builder doesn't make.
     pub fn clone(&self, alloc: Global) -> Result<Self, ShortBuf>
         ensures built { IfOk result (λ copy. built copy ≡ built self.now) }
         ensures err { OnErr result (0 < size (built self.now)) }

@@ -456,8 +456,8 @@ impl RelativeName<Vec<u8>> {
         RelativeName::wildcard(alloc)
     }
 
-    /// The same name over new octets. `ShortBuf` only where an allocation failed, which a copy of the empty name doesn't
-    /// make.
+    /// The same name over new octets. `ShortBuf` only where an allocation failed, which a copy of the empty name
+    /// doesn't make.
     pub fn clone(&self, alloc: Global) -> Result<RelativeName<Vec<u8>>, ShortBuf>
         ensures ok { IfOk result (λ name. relative_labels name ≡ relative_labels self.now) }
         ensures err { OnErr result (0 < length (relative_octets self.now)) }

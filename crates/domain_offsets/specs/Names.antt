@@ -5,7 +5,8 @@ use Rattle.domain_offsets.specs.declared.fault.DataFault.{DataFault}
 use Rattle.domain_offsets.specs.declared.fault.DataFault.TheVariants.{NoField}
 use Rattle.domain_offsets.specs.declared.shape.Shape.{Shape}
 
--- The octets of the message from p on, so many, are data of this type, and the name with i names before it begins at q.
+-- The octets of the message from p on, so many, are data of this type, and the name with i names before it begins at
+-- q.
 pub record HasName (message : List ℕ) (p len rtype i q : ℕ) : Type 0 where
   pub form : Shape
   pub known : shape rtype ≡ Some form

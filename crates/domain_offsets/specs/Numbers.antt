@@ -6,7 +6,8 @@ use Rattle.domain_offsets.specs.declared.fault.DataFault.{DataFault}
 use Rattle.domain_offsets.specs.declared.fault.DataFault.TheVariants.{NoField}
 use Rattle.domain_offsets.specs.declared.shape.Shape.{Shape}
 
--- The number with i numbers before it, in data at p whose names end before e: of 16 bits before the names, of 32 after them.
+-- The number with i numbers before it, in data at p whose names end before e: of 16 bits before the names, of 32 after
+-- them.
 abbrev pub IsNumber : List ℕ → ℕ → ℕ → Shape → ℕ → ℕ → Type 0
 IsNumber m p e s i value =
     ((i < s.shorts) × (value ≡ number16 m (p + 2 * i)))

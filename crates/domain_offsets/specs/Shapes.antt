@@ -1,5 +1,5 @@
--- Names in record data, and the numbers before and after them (RFC 1035, 3.3 and 4.1.4). `m` is the message up to the end of
--- the data.
+-- Names in record data, and the numbers before and after them (RFC 1035, 3.3 and 4.1.4). `m` is the message up to the
+-- end of the data.
 use Rattle.std.specs.Prelude.{◌≡◌, ◌⊎◌, ℕ, zero, suc, ◌+◌, ◌*◌, ◌≤◌, ◌<◌, List, [], ◌∷◌, length, take, Option, Some, None, nat_eq, if◌then◌else◌}
 use Rattle.std.specs.List.{list_any}
 use Rattle.domain_reading.specs.Faults.{Skips, SkipFault}
@@ -12,10 +12,10 @@ use Rattle.domain_offsets.specs.declared.shape.Shape.{Shape}
 abbrev pub shape_with : ℕ → ℕ → ℕ → Option Shape
 shape_with shorts names longs = Some (record { shorts = shorts; names = names; longs = longs })
 
--- What data of a type are: NS, MD, MF, CNAME, MB, MG, MR, PTR (RFC 1035, 3.3) and DNAME (RFC 6672, 2.1) a name; MINFO (RFC
--- 1035, 3.3.7) and RP (RFC 1183, 2.2) two; SOA (RFC 1035, 3.3.13) two and five numbers of 32 bits; MX (RFC 1035, 3.3.9),
--- AFSDB, RT (RFC 1183, 1 and 3.3) and KX (RFC 2230, 3.1) a number of 16 bits and a name, PX (RFC 2163, 4) a number and two
--- names, SRV (RFC 2782) three numbers and a name.
+-- What data of a type are: NS, MD, MF, CNAME, MB, MG, MR, PTR (RFC 1035, 3.3) and DNAME (RFC 6672, 2.1) a name; MINFO
+-- (RFC 1035, 3.3.7) and RP (RFC 1183, 2.2) two; SOA (RFC 1035, 3.3.13) two and five numbers of 32 bits; MX (RFC 1035,
+-- 3.3.9), AFSDB, RT (RFC 1183, 1 and 3.3) and KX (RFC 2230, 3.1) a number of 16 bits and a name, PX (RFC 2163, 4) a
+-- number and two names, SRV (RFC 2782) three numbers and a name.
 abbrev pub shape : ℕ → Option Shape
 shape rtype =
     if list_any (nat_eq rtype) (2 ∷ 3 ∷ 4 ∷ 5 ∷ 7 ∷ 8 ∷ 9 ∷ 12 ∷ 39 ∷ []) then shape_with 0 1 0
@@ -45,8 +45,8 @@ NamesEnd m p s e = NameBegins m (p + 2 * s.shorts) s.names e
 abbrev pub NameUnskipped : List ℕ → ℕ → ℕ → NameFault → Type 0
 NameUnskipped m p n f = (i : ℕ) × (q : ℕ) × (i < n) × NameBegins m p i q × SkipFault m q f
 
--- m doesn't end where data of this shape do that begin at p, and why: a name can't be skipped, or the numbers after the
--- names end past m or before its end.
+-- m doesn't end where data of this shape do that begin at p, and why: a name can't be skipped, or the numbers after
+-- the names end past m or before its end.
 abbrev pub BreaksShape : List ℕ → ℕ → Shape → DataFault → Type 0
 BreaksShape m p s NoField = ⊥
 BreaksShape m p s ShortInput = (e : ℕ) × NamesEnd m p s e × (length m < e + 4 * s.longs)

@@ -7,8 +7,8 @@ use Rattle.std.proofs.Math.Seq.{drop-append_seam}
 use Rattle.domain_strings.specs.CharStrings.{counted}
 use Rattle.domain_offsets.specs.Texts.{NoStringLeft, HasString}
 
--- Each string with its length before it, as data of TXT have them: the `string_octets` of `domain_txt`, whose `TextAt` says
--- of what data are read as text that they are this.
+-- Each string with its length before it, as data of TXT have them: the `string_octets` of `domain_txt`, whose `TextAt`
+-- says of what data are read as text that they are this.
 abbrev pub counted_all : List (List ℕ) → List ℕ
 counted_all [] = []
 counted_all (s ∷ ss) = counted s ++ counted_all ss

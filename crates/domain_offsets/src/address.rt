@@ -15,11 +15,11 @@ fn address_len(rtype: u16) -> Option<usize>
     }
 }
 
-/// The address that is the data of a record of this type, of class `IN`: the 4 octets of A (RFC 1035, 3.4.1), or the 16 of
-/// AAAA (RFC 3596, 2.2). The data are the `data_len` octets of the message from `data_at` on.
+/// The address that is the data of a record of this type, of class `IN`: the 4 octets of A (RFC 1035, 3.4.1), or the
+/// 16 of AAAA (RFC 3596, 2.2). The data are the `data_len` octets of the message from `data_at` on.
 ///
-/// `NoField` where the type is another. `ShortInput` where the data end past the message, or have fewer octets than the
-/// address; `TrailingData` where they have more.
+/// `NoField` where the type is another. `ShortInput` where the data end past the message, or have fewer octets than
+/// the address; `TrailingData` where they have more.
 pub fn address_in<'a>(
     message: &'a [u8],
     data_at: usize,

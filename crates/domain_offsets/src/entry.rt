@@ -4,8 +4,8 @@ ghost use Rattle.domain_offsets.specs.Entries.{HasParts, LacksParts};
 
 use domain_header::numbers::{number_of_16_bits, number_of_32_bits};
 
-/// What follows the name of a question or a record, and the offset after that. A question has no time to live and no data:
-/// these are 0, and no octets at its end.
+/// What follows the name of a question or a record, and the offset after that. A question has no time to live and no
+/// data: these are 0, and no octets at its end.
 #[derive(Clone, Copy)]
 pub struct Parts {
     pub rtype: u16,
@@ -16,7 +16,8 @@ pub struct Parts {
     pub end: usize,
 }
 
-/// What follows the name of a question that ends before `after` (RFC 1035, 4.1.2): nothing where the message ends in it.
+/// What follows the name of a question that ends before `after` (RFC 1035, 4.1.2): nothing where the message ends in
+/// it.
 pub fn question_after(message: &[u8], after: usize) -> Option<Parts>
     requires { after ≤ length message.now }
     ensures some { IfSome result (HasParts message.now true after) }
@@ -35,8 +36,8 @@ pub fn question_after(message: &[u8], after: usize) -> Option<Parts>
     })
 }
 
-/// What follows the name of a record that ends before `after` (RFC 1035, 4.1.3): nothing where the message ends in it or in
-/// the data.
+/// What follows the name of a record that ends before `after` (RFC 1035, 4.1.3): nothing where the message ends in it
+/// or in the data.
 pub fn record_after(message: &[u8], after: usize) -> Option<Parts>
     requires { after ≤ length message.now }
     ensures some { IfSome result (HasParts message.now false after) }

@@ -5,9 +5,9 @@ ghost use Rattle.domain_offsets.specs.Opts.{FindsOption, LacksOption};
 use crate::fault::DataFault;
 use domain_edns::EdnsOption;
 
-/// The next option in the data of an OPT record, which are the `data_len` octets of the message from `data_at` on, where
-/// `passed` of them were passed before: 0, then for each option its data and the four octets before them. Its data are the
-/// octets of the message from `data_at + passed + 4` on. `None` where all options were passed.
+/// The next option in the data of an OPT record, which are the `data_len` octets of the message from `data_at` on,
+/// where `passed` of them were passed before: 0, then for each option its data and the four octets before them. Its
+/// data are the octets of the message from `data_at + passed + 4` on. `None` where all options were passed.
 ///
 /// `NoField` where the type isn't OPT. `ShortInput` where the data end past the message, or in the option.
 pub fn option_in<'a>(

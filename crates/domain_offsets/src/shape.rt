@@ -17,8 +17,8 @@ pub struct Shape {
     pub longs: usize,
 }
 
-/// The shape of data of a type, where these have names: of the types of RFC 1035, 3.3, and of DNAME, RP, AFSDB, RT, PX, KX
-/// and SRV.
+/// The shape of data of a type, where these have names: of the types of RFC 1035, 3.3, and of DNAME, RP, AFSDB, RT,
+/// PX, KX and SRV.
 pub fn shape_of(rtype: u16) -> Option<Shape>
     ensures shape { result ≡ shape rtype }
     ensures small { IfSome result IsSmall }
@@ -79,8 +79,8 @@ fn end_in(octets: &[u8], data_at: usize, shape: Shape) -> Result<usize, DataFaul
 
 /// The offset after the names of data of this shape, which are the `data_len` octets of the message from `data_at` on.
 ///
-/// `ShortInput` where the data end past the message, or in the numbers after the names; `TrailingData` where they go on
-/// after these; `Name` where one of the names can't be skipped.
+/// `ShortInput` where the data end past the message, or in the numbers after the names; `TrailingData` where they go
+/// on after these; `Name` where one of the names can't be skipped.
 pub(crate) fn names_end(
     message: &[u8],
     data_at: usize,

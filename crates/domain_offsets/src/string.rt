@@ -28,8 +28,8 @@ fn string_at(octets: &[u8], offset: usize) -> Option<&[u8]>
 }
 
 /// The next character string in the data of a record of this type, which are the `data_len` octets of the message from
-/// `data_at` on, where `passed` of them were passed before: 0, then for each string its octets and the one before them.
-/// Its octets are those of the message from `data_at + passed + 1` on. `None` where all strings were passed.
+/// `data_at` on, where `passed` of them were passed before: 0, then for each string its octets and the one before
+/// them. Its octets are those of the message from `data_at + passed + 1` on. `None` where all strings were passed.
 ///
 /// `NoField` where data of this type are no character strings. `ShortInput` where the data end past the message, where
 /// they end in the string, or where they have no octet, since there is one string at least.

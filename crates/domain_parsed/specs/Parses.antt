@@ -19,8 +19,8 @@ HasNameHere limit parser = HasNameWithin limit (message parser) (position parser
 abbrev pub IsNameHere : {O : Type 0} {g : Ghosts O} → (limit : ℕ) → Parser → ParsedName O g → Type 0
 IsNameHere limit parser name = Names limit (message parser) (position parser) (parsed_labels name)
 
--- `is_compressed` is false exactly where the octets of the name at the parser's position are contiguous, from its first
--- label on.
+-- `is_compressed` is false exactly where the octets of the name at the parser's position are contiguous, from its
+-- first label on.
 abbrev pub TellsCompression : {O : Type 0} {g : Ghosts O} → Parser → ParsedName O g → Type 0
 TellsCompression parser name = (may_be_compressed name ≡ false) ↔ IsContiguous (message parser) (position parser)
 

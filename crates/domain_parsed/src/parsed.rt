@@ -156,7 +156,8 @@ impl<'a> ParsedName<&'a [u8]> {
         ParsedName::parse_with::<Brand>(parser, limit, Blank::new(1))
     }
 
-    /// `parse_counted` with a new count, which is dropped. Why `Brand` and `Blank`: `uncounted.rt` of `domain_reading`.
+    /// `parse_counted` with a new count, which is dropped. Why `Brand` and `Blank`: `uncounted.rt` of
+    /// `domain_reading`.
     #[inline(always)]
     fn parse_with<L: Ledger>(
         parser: &mut Parser<'a>,

@@ -12,8 +12,9 @@ abbrev pub lowercase_where_known : List ℕ → Option (List ℕ) → List ℕ
 lowercase_where_known octets None = octets
 lowercase_where_known octets (Some lowercase) = lowercase
 
--- What the canonical call appends for data of the type t, whose octets with no name compressed are these, and are those
--- with all names in lowercase where it is known which octets are names. Names of other types keep their case (RFC 3597, 7).
+-- What the canonical call appends for data of the type t, whose octets with no name compressed are these, and are
+-- those with all names in lowercase where it is known which octets are names. Names of other types keep their case
+-- (RFC 3597, 7).
 abbrev pub canonical_form : ℕ → List ℕ → Option (List ℕ) → List ℕ
 canonical_form t uncompressed lowercase =
     if has_lowercase_names t then lowercase_where_known uncompressed lowercase else uncompressed

@@ -1,6 +1,6 @@
 -- How a target becomes where record data was composed into it: names are left to the target, which writes them shorter
--- where it may (RFC 1035, 4.1.4). `octets` are those of a target; `extends` and `cuts` are what it becomes where octets
--- were appended, and where it was cut; and `written` is what it becomes where its own calls appended the data.
+-- where it may (RFC 1035, 4.1.4). `octets` are those of a target; `extends` and `cuts` are what it becomes where
+-- octets were appended, and where it was cut; and `written` is what it becomes where its own calls appended the data.
 use Rattle.std.specs.Prelude.{◌≡◌, ℕ, ◌+◌, List, length}
 use Rattle.std.specs.Int.{w16, to_be_bytes}
 
@@ -17,9 +17,9 @@ pub record Measured {T : Type 0} (octets : T → List ℕ) (extends : T → List
   pub behind_none : WrittenBehind octets extends written old 0 n made
   pub back : cuts made (length (octets old)) new
 
--- The data was appended behind its own length, at once or after it was measured. Or it has no number of octets that stays: where the
--- octets of a target lead names through the length, the data behind a length of 0 has another number of octets than behind that
--- number.
+-- The data was appended behind its own length, at once or after it was measured. Or it has no number of octets that
+-- stays: where the octets of a target lead names through the length, the data behind a length of 0 has another number
+-- of octets than behind that number.
 pub data LeavesNames {T : Type 0} (octets : T → List ℕ) (extends : T → List ℕ → T → Type 0) (cuts : T → ℕ → T → Type 0) (written : T → T → Type 0) (old new : T) : Type 0 where
   at_once : (n : ℕ) → WrittenBehind octets extends written old n n new → LeavesNames octets extends cuts written old new
   measured : (n : ℕ) (again : T) → Measured octets extends cuts written old n again → WrittenBehind octets extends written again n n new → LeavesNames octets extends cuts written old new

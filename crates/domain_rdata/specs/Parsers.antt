@@ -1,5 +1,5 @@
--- What a parser reads as record data. `encodes` and `fails_with` tell where data of a type is, and why none is; `model`
--- what is seen of data.
+-- What a parser reads as record data. `encodes` and `fails_with` tell where data of a type is, and why none is;
+-- `model` what is seen of data.
 use Rattle.std.specs.Prelude.{◌≡◌, ℕ, List, Option, IfSome}
 use Rattle.octseq.specs.Parsing.{message, position}
 use Rattle.octseq.specs.declared.parse.Parser.{Parser}

@@ -1,6 +1,6 @@
--- What a target becomes where names and record data are composed into it, and why nothing was. `g` is `Target.Composer`,
--- and `d` is `D.ComposeRecordData`. `may` tells the octets that may be composed after others, into a target that may write
--- names shorter or not; `written` what becomes of any target by its own calls.
+-- What a target becomes where names and record data are composed into it, and why nothing was. `g` is
+-- `Target.Composer`, and `d` is `D.ComposeRecordData`. `may` tells the octets that may be composed after others, into
+-- a target that may write names shorter or not; `written` what becomes of any target by its own calls.
 use Rattle.std.specs.Prelude.{◌≡◌, ℕ, Bool, true, false, List, length, Option, Result, OnOk, IfSome}
 use Rattle.domain_rdata.specs.Canonical.{canonical_form, WithForm, WithLengthAndForm, FormExceeds, CanonicalRefused}
 use Rattle.domain_rdata.specs.LeavingNames.{WrittenBehind, LeavesNames}

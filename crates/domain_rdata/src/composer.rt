@@ -19,8 +19,8 @@ pub trait Composer: OctetsBuilder + OctetsMut {
     /// Whether names may be written shorter than their wire format. Where it is true they needn't be.
     ghost compresses: { Bool };
 
-    /// What the composer remembers of the names that it wrote, where octets alone don't tell: with the octets it decides
-    /// what may be appended.
+    /// What the composer remembers of the names that it wrote, where octets alone don't tell: with the octets it
+    /// decides what may be appended.
     ghost Memory: { Type 0 };
 
     ghost memory: { Self → Memory };

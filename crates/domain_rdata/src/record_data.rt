@@ -54,8 +54,8 @@ pub enum CanonicalError<E> {
     Append(E),
     /// The data has more than 65,535 octets.
     Long(LongRecordData),
-    /// Names of this type are in lowercase in the canonical form, and where they are isn't known of data that is held as
-    /// octets.
+    /// Names of this type are in lowercase in the canonical form, and where they are isn't known of data that is held
+    /// as octets.
     UnknownNames,
 }
 
@@ -116,8 +116,8 @@ pub trait ComposeRecordData: RecordData {
 
     /// The same with each name in lowercase. `None` where it isn't known which of the octets are names.
     ///
-    /// What the canonical call appends is by `canonical_form` the one or the other, as the type of the record tells (RFC 4034,
-    /// 6.2), and the octets as they stand where the names aren't known.
+    /// What the canonical call appends is by `canonical_form` the one or the other, as the type of the record tells
+    /// (RFC 4034, 6.2), and the octets as they stand where the names aren't known.
     ghost lowercase: { Self → Option (List ℕ) };
 
     /// Whether the number of the octets is known, for a target that may write names shorter or for one
@@ -147,11 +147,12 @@ pub trait ComposeRecordData: RecordData {
         ensures full { OnErr result (Overflows Target.Composer (composed self.now) target.old) }
         ensures capacity { Target.capacity target.old ≤ Target.capacity target.new };
 
-    /// Appends the canonical form of the data, or nothing (RFC 4034, 6.2): no name is compressed, and names are in lowercase
-    /// exactly where [`Rtype::has_lowercase_names`] tells so of the type. Of data that is held as octets it isn't known which
-    /// of them are names: they are appended as they stand ([`CanonicalRecordData::knows_names`]).
+    /// Appends the canonical form of the data, or nothing (RFC 4034, 6.2): no name is compressed, and names are in
+    /// lowercase exactly where [`Rtype::has_lowercase_names`] tells so of the type. Of data that is held as octets it
+    /// isn't known which of them are names: they are appended as they stand ([`CanonicalRecordData::knows_names`]).
     ///
-    /// It is refused only where its octets exceed the spare capacity of the target, and leaves the target's octets then.
+    /// It is refused only where its octets exceed the spare capacity of the target, and leaves the target's octets
+    /// then.
     fn compose_canonical_rdata<Target: Composer>(
         &self,
         target: &mut Target,
@@ -166,9 +167,9 @@ pub trait ComposeRecordData: RecordData {
 
     /// Appends the length of the data in two octets, and the data, or nothing.
     ///
-    /// `Long` only where data that may be appended has more than 65,535 octets, `Append` only where it
-    /// exceeds, with its length, the spare capacity. The target's octets are then as before. A target that writes names
-    /// shorter is left to do so, but where no length is right: there no name is written shorter.
+    /// `Long` only where data that may be appended has more than 65,535 octets, `Append` only where it exceeds, with
+    /// its length, the spare capacity. The target's octets are then as before. A target that writes names shorter is
+    /// left to do so, but where no length is right: there no name is written shorter.
     final fn compose_len_rdata<Target: Composer>(
         &self,
         target: &mut Target,
@@ -192,8 +193,8 @@ pub trait ComposeRecordData: RecordData {
 
     /// Appends the length of the canonical form in two octets, and the canonical form, or nothing.
     ///
-    /// `Long` only where it has more than 65,535 octets, and `Append` only where it exceeds, with its length, the spare
-    /// capacity. The target's octets are then as before.
+    /// `Long` only where it has more than 65,535 octets, and `Append` only where it exceeds, with its length, the
+    /// spare capacity. The target's octets are then as before.
     final fn compose_canonical_len_rdata<Target: Composer>(
         &self,
         target: &mut Target,
@@ -423,8 +424,8 @@ pub trait ParseRecordData<'a>: RecordData + Sized {
 
     /// Reads data from the parser's position on, to its end, and moves the parser after it.
     ///
-    /// `None` exactly where records of this type have other data, so an error comes of a type that has such data alone.
-    /// `None` and a refusal leave the parser where it stood.
+    /// `None` exactly where records of this type have other data, so an error comes of a type that has such data
+    /// alone. `None` and a refusal leave the parser where it stood.
     fn parse_rdata(rtype: Rtype, parser: &mut Parser<'a>) -> Result<Option<Self>, ParseError>
         ensures ok { IfOk result (ReadsIfSome encodes rtype model parser.old parser.new) }
         ensures of_type { IfOk result

@@ -28,9 +28,9 @@ impl Rtype {
         self.0
     }
 
-    /// Whether the names in the data of such records are in lowercase in the canonical form (RFC 4034, 6.2): of the types of
-    /// RFC 1035 NS, CNAME, SOA, PTR, MX, MINFO, MB, MD, MF, MG and MR, of later ones SRV, DNAME, KX, NAPTR, RP, AFSDB, RT,
-    /// PX, A6, RRSIG, SIG and NXT.
+    /// Whether the names in the data of such records are in lowercase in the canonical form (RFC 4034, 6.2): of the
+    /// types of RFC 1035 NS, CNAME, SOA, PTR, MX, MINFO, MB, MD, MF, MG and MR, of later ones SRV, DNAME, KX, NAPTR,
+    /// RP, AFSDB, RT, PX, A6, RRSIG, SIG and NXT.
     ///
     /// The names in data of all other types keep their case, those of NSEC too (RFC 6840, 5.1; RFC 3597, 7).
     pub fn has_lowercase_names(self) -> bool

@@ -150,10 +150,10 @@ impl<Octs: Octets> RecordData for UnknownRecordData<Octs> {
 
 /// The octets of the data, whatever the target.
 ///
-/// They are the canonical form too (RFC 3597, 7), but of the types whose names are in lowercase there (RFC 4034, 6.2), as
-/// `knows_names` tells. Data of a type of RFC 1035 that was read from a message may have pointers to names
-/// of that message (RFC 3597, 4). They are octets like others here, and lead elsewhere in another message: read data
-/// of these types by their fields.
+/// They are the canonical form too (RFC 3597, 7), but of the types whose names are in lowercase there (RFC 4034, 6.2),
+/// as `knows_names` tells. Data of a type of RFC 1035 that was read from a message may have pointers to names of that
+/// message (RFC 3597, 4). They are octets like others here, and lead elsewhere in another message: read data of these
+/// types by their fields.
 impl<Octs: Octets> ComposeRecordData for UnknownRecordData<Octs> {
     ghost use Rattle.domain_rdata.specs.OctetsAlone.{octets_written};
     ghost use Rattle.domain_rdata.specs.Unknown.{data_octets};

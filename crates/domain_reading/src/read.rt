@@ -1,7 +1,7 @@
 //! Reading a name in a message and skipping one, label after label.
 //!
-//! Reading counts the labels and pointers for its caller; skipping doesn't. The module `uncounted` has the functions for
-//! callers without a count.
+//! Reading counts the labels and pointers for its caller; skipping doesn't. The module `uncounted` has the functions
+//! for callers without a count.
 ghost use Rattle.std.specs.Prelude.{◌≡◌, ◌+◌, ◌≤◌, ◌<◌, length, IfOk, IfErr, OnOk};
 ghost use Rattle.domain_reading.specs.Faults.{Skips, SkipFault};
 ghost use Rattle.domain_reading.specs.Limits.{max_labels};

@@ -8,7 +8,8 @@ use Rattle.domain_reading.specs.Grammar.{Names, EncodingEnds}
 use Rattle.domain_reading.specs.ParseResult.{HasNoName}
 use Rattle.domain_header.specs.Numbers.{number16, number32}
 
--- The labels of the name at p are ls, and its encoding ends before e: after the root or the first pointer (RFC 1035, 4.1.4).
+-- The labels of the name at p are ls, and its encoding ends before e: after the root or the first pointer (RFC 1035,
+-- 4.1.4).
 pub record WholeNameAt (m : List ℕ) (p : ℕ) (ls : List (List ℕ)) (e : ℕ) : Type 0 where
   pub labels : Names max_pointers m p ls
   pub encoding : EncodingEnds m p e
@@ -61,8 +62,8 @@ pub record RecordHeaderAt (m : List ℕ) (p : ℕ) (it : HeaderFields) (e : ℕ)
 abbrev pub NoRecordHeader : List ℕ → ℕ → ParseError → Type 0
 NoRecordHeader m p why = NoNameBefore 10 m p why
 
--- What a record says: its header, the offset of its data, and the octets of the message up to the data's end. The data is
--- read from these with the names that it points to.
+-- What a record says: its header, the offset of its data, and the octets of the message up to the data's end. The data
+-- is read from these with the names that it points to.
 pub record RecordFields : Type 0 where
   pub header : HeaderFields
   pub start : ℕ

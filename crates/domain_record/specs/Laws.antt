@@ -14,8 +14,8 @@ QuestionReadsBack =
     (record { name = c; rtype = rtype; class = class }) (length t + length s)
     × (lowercase_labels c ≡ lowercase_labels name)
 
--- The data of a record that was composed is the last of the octets that its data is read from, from the offset of the data
--- on, and may be composed after those before it.
+-- The data of a record that was composed is the last of the octets that its data is read from, from the offset of the
+-- data on, and may be composed after those before it.
 pub record DataStands (May : List ℕ → List ℕ → Type 0) (m : List ℕ) (start : ℕ)
     (rdata : List ℕ) : Type 0 where
   pub before : List ℕ
@@ -23,9 +23,9 @@ pub record DataStands (May : List ℕ → List ℕ → Type 0) (m : List ℕ) (s
   pub allowed : May before rdata
   pub all : m ≡ before ++ rdata
 
--- A record that was composed, whose data may be the octets that May has, is read back, whatever follows it: an equal owner's
--- name, ignoring ASCII case, its type, class and TTL, and its data, which is the octets that were composed for it and stands as
--- it was composed. So what is read back of such data (`ReadBackData`) is read of the record.
+-- A record that was composed, whose data may be the octets that May has, is read back, whatever follows it: an equal
+-- owner's name, ignoring ASCII case, its type, class and TTL, and its data, which is the octets that were composed for
+-- it and stands as it was composed. So what is read back of such data (`ReadBackData`) is read of the record.
 abbrev pub RecordReadsBack : (List ℕ → List ℕ → Type 0) → Bool → Type 0
 RecordReadsBack May compresses =
     (owner : List (List ℕ)) (rtype class ttl : ℕ) (t s u : List ℕ) → rtype < 2 ^ 16 → class < 2 ^ 16

@@ -1,5 +1,5 @@
--- What may be composed of a question and of a record, from what they hold. `labels` gives those of a name, `number` the
--- number of the data's type, and `composed` what may be composed for data.
+-- What may be composed of a question and of a record, from what they hold. `labels` gives those of a name, `number`
+-- the number of the data's type, and `composed` what may be composed for data.
 use Rattle.std.specs.Prelude.{◌≡◌, ℕ, ◌≤◌, Bool, List, ◌++◌}
 use Rattle.domain_rdata.specs.declared.record_data.ComposeRdataError.{ComposeRdataError}
 use Rattle.domain_rdata.specs.ReadBack.{Exceeds}
@@ -19,8 +19,9 @@ after_qname q = type_and_class (rtype_number (question_type q)) (class_number (q
 abbrev pub IsNameThen : (List ℕ → Type 0) → List ℕ → List ℕ → Type 0
 IsNameThen May after s = (named : List ℕ) × May named × (s ≡ named ++ after)
 
--- Nothing of a record was composed: the owner's name, as the target may then write it, and these numbers exceed the spare
--- capacity; or the data was refused after them, with no less room. `Refuses t room e`: after the octets t it is refused so.
+-- Nothing of a record was composed: the owner's name, as the target may then write it, and these numbers exceed the
+-- spare capacity; or the data was refused after them, with no less room. `Refuses t room e`: after the octets t it is
+-- refused so.
 pub data RefusesRecord {T E : Type 0} (octets : T → List ℕ) (May : List ℕ → Type 0)
     (appends : T → T → Type 0) (numbers : List ℕ) (Refuses : List ℕ → ℕ → E → Type 0) (old : T)
     (capacity : ℕ) (e : E) : Type 0 where

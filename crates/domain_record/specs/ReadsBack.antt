@@ -71,8 +71,8 @@ number32_after a c p n start small =
     ap (from_be_bytes w32) (slice_after a (to_be_bytes w32 n) c p (p + 4) start
     (ap (λ k. k + 4) start)) ∙ from_be_bytes-to_be_bytes_4 n small
 
--- A record that was composed is read back: an equal owner's name, ignoring ASCII case, its type, class and TTL, and as many octets
--- of data as were composed.
+-- A record that was composed is read back: an equal owner's name, ignoring ASCII case, its type, class and TTL, and as
+-- many octets of data as were composed.
 pub record_reads_back : (owner : List (List ℕ)) (rtype class ttl : ℕ)
     (May : List ℕ → List ℕ → Type 0) (b : Bool) (t s u : List ℕ) → rtype < 2 ^ 16 → class < 2 ^ 16
     → ttl < 2 ^ 32 → (done : RecordOctets owner rtype class ttl May b t s)

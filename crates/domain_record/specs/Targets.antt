@@ -54,7 +54,8 @@ ComposesRecord g labels d r old new =
     Appended (MayComposeRecord labels d.type_number d.composed r g.compresses (g.octets old))
     (g.octets old) (g.octets new)
 
--- What was appended begins with what the target may append for the owner's name, and with type, class and TTL after it.
+-- What was appended begins with what the target may append for the owner's name, and with type, class and TTL after
+-- it.
 abbrev pub BeginsWithOwner : {T N D : Type 0} → ComposerMembers T → (N → List (List ℕ)) → DataMembers D → Record N D → T → T → Type 0
 BeginsWithOwner g labels d r old new =
     Appended (BeginsWithName (g.may_append old (labels (owner_of r))) (after_owner d.type_number r))
@@ -66,13 +67,14 @@ Takes {T = T} g labels d r old new =
     WritesRecord labels d.type_number g.octets g.extends g.cuts g.appends
     (λ x. d.written x T g.extends g.appends) r old new
 
--- Why the record wasn't composed: octets that it may be composed into exceed the spare capacity, or its data is too long.
+-- Why the record wasn't composed: octets that it may be composed into exceed the spare capacity, or its data is too
+-- long.
 abbrev pub RecordNotComposed : {T N D E : Type 0} → ComposerMembers T → (N → List (List ℕ)) → DataMembers D → Record N D → T → ComposeRdataError E → Type 0
 RecordNotComposed g labels d r old e =
     MayRefuseRecord labels d.type_number d.composed r g.compresses (g.octets old) (g.capacity old) e
 
--- Why the record wasn't composed: its owner's name, as the target may write it, and the numbers after it exceed the spare
--- capacity, or its data was refused after them.
+-- Why the record wasn't composed: its owner's name, as the target may write it, and the numbers after it exceed the
+-- spare capacity, or its data was refused after them.
 abbrev pub TargetRefuses : {T N D E : Type 0} → ComposerMembers T → (N → List (List ℕ)) → DataMembers D → Record N D → T → ComposeRdataError E → Type 0
 TargetRefuses g labels d r old e =
     RefusesRecord g.octets (g.may_append old (labels (owner_of r)))

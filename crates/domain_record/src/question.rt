@@ -25,7 +25,8 @@ use std::fmt;
 
 /// A question: a name, a type and a class (RFC 1035, 4.1.2).
 ///
-/// Questions are equal if all three are, the name without ASCII case, and are ordered by the name, the type and the class.
+/// Questions are equal if all three are, the name without ASCII case, and are ordered by the name, the type and the
+/// class.
 #[derive(Clone, Copy, Drop, PartialEq, Eq, PartialOrd, Ord, Hash)]
 pub struct Question<N> {
     qname: N,

@@ -130,8 +130,9 @@ impl<'a> Parse<'a> for RecordHeader<ParsedName<&'a [u8]>> {
 
 /// A record in a message: its header, and where its data is (RFC 1035, 4.1.3).
 ///
-/// The data isn't read yet. Names in it may point to any offset before them in the message. The owner's name was read to
-/// its end, and is read again where it is asked for: so a record has 80 octets, where a name with its table has 288.
+/// The data isn't read yet. Names in it may point to any offset before them in the message. The owner's name was read
+/// to its end, and is read again where it is asked for: so a record has 80 octets, where a name with its table has
+/// 288.
 #[derive(Clone, Copy)]
 pub struct ParsedRecord<'a> {
     /// A parser at the owner's name.
@@ -220,9 +221,9 @@ impl<'a> ParsedRecord<'a> {
     }
 }
 
-/// Records of messages are equal if their record headers are, the owner's name without ASCII case, and the octets of their
-/// data. Names in the data may be compressed: so equal data need not have equal octets, and of two messages the same
-/// octets need not be the same data. Data that is read is compared by its values.
+/// Records of messages are equal if their record headers are, the owner's name without ASCII case, and the octets of
+/// their data. Names in the data may be compressed: so equal data need not have equal octets, and of two messages the
+/// same octets need not be the same data. Data that is read is compared by its values.
 impl<'a> PartialEq for ParsedRecord<'a> {
     ghost use Rattle.domain_record.specs.HeaderLaws.{header_is_equivalence};
     ghost use Rattle.domain_record.specs.RecordModel.{parsed_data, parsed_header, same_parsed_record};
@@ -237,8 +238,8 @@ impl<'a> PartialEq for ParsedRecord<'a> {
     }
 }
 
-/// Writes the owner's name with its final dot, TTL, class and type, and the data in the form for unknown types (RFC 3597,
-/// 5), with a space between: `www.example.com. 300 IN A \# 4 c0 00 02 01`.
+/// Writes the owner's name with its final dot, TTL, class and type, and the data in the form for unknown types (RFC
+/// 3597, 5), with a space between: `www.example.com. 300 IN A \# 4 c0 00 02 01`.
 impl<'a> fmt::Display for ParsedRecord<'a> {
     ghost use Rattle.domain_record.specs.RecordModel.{record_fields, parsed_data};
 

@@ -161,8 +161,8 @@ impl<N: Hash, D: RecordData + Hash> Hash for Record<N, D> {
     }
 }
 
-/// The order of class, owner, type and data: within an RRset that of the data (RFC 4034, 6.3), and the RRsets of a class in
-/// the order of their owners (RFC 4034, 6.1) and types.
+/// The order of class, owner, type and data: within an RRset that of the data (RFC 4034, 6.3), and the RRsets of a
+/// class in the order of their owners (RFC 4034, 6.1) and types.
 impl<N: CanonicalOrd, D: RecordData + CanonicalOrd> CanonicalOrd for Record<N, D> {
     ghost use Rattle.domain_record.specs.RecordParts.{owner_of, class_of, data_of};
 
@@ -210,10 +210,10 @@ impl<Octs: Octets, D: RecordData + fmt::Display> fmt::Display for Record<ParsedN
 }
 
 impl<'a, N: AbsoluteLabels<'a>, D: ComposeRecordData> Record<N, D> {
-    /// Appends the record, names as the target composes them: owner, type, class, TTL, the length of the data, the data.
-    /// `Long` only if data that may be appended has more than 65,535 octets, `Append` only if the record exceeds the spare
-    /// capacity, its owner's name as the target may then write it. The target's octets, and what it remembers, are then
-    /// unchanged.
+    /// Appends the record, names as the target composes them: owner, type, class, TTL, the length of the data, the
+    /// data. `Long` only if data that may be appended has more than 65,535 octets, `Append` only if the record exceeds
+    /// the spare capacity, its owner's name as the target may then write it. The target's octets, and what it
+    /// remembers, are then unchanged.
     pub fn compose<Target: Composer>(
         &'a self,
         target: &mut Target,
@@ -255,12 +255,13 @@ impl<'a, N: AbsoluteLabels<'a>, D: ComposeRecordData> Record<N, D> {
 
 impl<'a, N: AbsoluteLabels<'a>, D: CanonicalRecordData> Record<N, D> {
     /// Appends the canonical form of the record with this TTL, or nothing (RFC 4034, 6.2): no name is compressed, the
-    /// owner's is in lowercase, and those in the data where the type asks for it. The TTL is the original one, which an
-    /// RRSIG record tells (RFC 4034, 3.1.4), and not what a cache has left of it.
+    /// owner's is in lowercase, and those in the data where the type asks for it. The TTL is the original one, which
+    /// an RRSIG record tells (RFC 4034, 3.1.4), and not what a cache has left of it.
     ///
     /// `UnknownNames` exactly where the type has names in lowercase and it isn't known where they are in the data
-    /// ([`CanonicalRecordData::knows_names`]); else `Append` only where the form exceeds the spare capacity, and `Long` only
-    /// where the data has more than 65,535 octets. The target's octets, and what it remembers, are then unchanged.
+    /// ([`CanonicalRecordData::knows_names`]); else `Append` only where the form exceeds the spare capacity, and
+    /// `Long` only where the data has more than 65,535 octets. The target's octets, and what it remembers, are then
+    /// unchanged.
     pub fn compose_canonical<Target: Composer>(
         &'a self,
         original_ttl: Ttl,

@@ -1,4 +1,5 @@
--- What contracts say of a push of a question: the words of `BuilderEntries`, said of a `QuestionBuilder` and its errors.
+-- What contracts say of a push of a question: the words of `BuilderEntries`, said of a `QuestionBuilder` and its
+-- errors.
 use Rattle.std.specs.Prelude.{◌≡◌, ℕ, List}
 use Rattle.domain_record.specs.declared.question.Question.{Question}
 use Rattle.domain_message_builder.specs.BuilderEntries as builder

@@ -1,5 +1,5 @@
--- What contracts say of a push of a record: the words of `BuilderEntries`, said of a `RecordBuilder`, whose type tells the
--- section, and of its errors.
+-- What contracts say of a push of a record: the words of `BuilderEntries`, said of a `RecordBuilder`, whose type tells
+-- the section, and of its errors.
 use Rattle.std.specs.Prelude.{◌≡◌, ℕ, List}
 use Rattle.octseq.specs.declared.octets.Octets.{Ghosts}
 use Rattle.domain_rdata.specs.Members.{DataMembers}

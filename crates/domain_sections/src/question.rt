@@ -58,8 +58,8 @@ impl<Target: Composer> QuestionBuilder<Target> {
 
     /// Pushes a question, or nothing.
     ///
-    /// `Count` exactly if there are 65,535 questions; else `Limit` or `Append` only if octets that may be composed for it
-    /// exceed the limit, less what is set aside, or the target's room. Nothing is then changed, nor what the target
+    /// `Count` exactly if there are 65,535 questions; else `Limit` or `Append` only if octets that may be composed for
+    /// it exceed the limit, less what is set aside, or the target's room. Nothing is then changed, nor what the target
     /// remembers.
     pub fn push<'a, N: AbsoluteLabels<'a>>(
         &mut self,

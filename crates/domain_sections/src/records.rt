@@ -83,9 +83,9 @@ impl<Target: Composer, S: RecordSection> RecordBuilder<Target, S> {
 
     /// Pushes a record into the section, or nothing.
     ///
-    /// `Count` exactly if the section has 65,535 records; else `Long` only if data that may be composed for it has over
-    /// 65,535 octets, and `Limit` or `Append` only if octets that may be composed exceed the limit, less what is set
-    /// aside, or the target's room. Nothing is then changed, nor what the target remembers.
+    /// `Count` exactly if the section has 65,535 records; else `Long` only if data that may be composed for it has
+    /// over 65,535 octets, and `Limit` or `Append` only if octets that may be composed exceed the limit, less what is
+    /// set aside, or the target's room. Nothing is then changed, nor what the target remembers.
     pub fn push<'a, N: AbsoluteLabels<'a>, D: ComposeRecordData>(
         &mut self,
         resource: &'a Record<N, D>,
@@ -161,8 +161,8 @@ impl<Target: Composer> RecordBuilder<Target, AdditionalSection> {
 
     /// Pushes an OPT record, or nothing, into the octets that were set aside too: none are after it (RFC 6891, 6.1.1).
     ///
-    /// The errors are those of `push`, and only where the record has no room or 65,535 are there. Nothing is then changed,
-    /// nor what the target remembers.
+    /// The errors are those of `push`, and only where the record has no room or 65,535 are there. Nothing is then
+    /// changed, nor what the target remembers.
     pub fn push_opt<Octs: Octets>(
         &mut self,
         opt: &OptBuilder<Octs>,

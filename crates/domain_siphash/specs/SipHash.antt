@@ -1,5 +1,5 @@
--- SipHash-2-4 (J.-P. Aumasson, D. J. Bernstein: SipHash, a fast short-input PRF; 2012, section 2). A word is a number of 64
--- bits.
+-- SipHash-2-4 (J.-P. Aumasson, D. J. Bernstein: SipHash, a fast short-input PRF; 2012, section 2). A word is a number
+-- of 64 bits.
 use Rattle.std.specs.Prelude.{ℕ, zero, suc, ◌+◌, ◌*◌, ◌/◌, ◌-◌, ◌%◌, ◌^◌, List, [], ◌∷◌, ◌++◌, length, take, drop, replicate, bit_xor}
 use Rattle.std.specs.Int.{w64, rotate_left, from_le_bytes}
 use Rattle.domain_siphash.specs.declared.state.State.{State}

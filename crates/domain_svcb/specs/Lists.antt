@@ -22,8 +22,8 @@ key_text key =
     (cond (nat_eq key 7) (codes "dohpath")
     (cond (nat_eq key 8) (codes "ohttp") (codes "key" ++ decimal key)))))))))
 
--- An octet of an item: a comma and a backslash take a backslash (A.1), and what comes of it is escaped as it is between
--- quotes.
+-- An octet of an item: a comma and a backslash take a backslash (A.1), and what comes of it is escaped as it is
+-- between quotes.
 abbrev pub item_octet : ℕ → List ℕ
 item_octet c = cond (c == 44 || c == 92) (quoted_octet 92 ++ quoted_octet c) (quoted_octet c)
 
@@ -80,8 +80,8 @@ protocols_fit n [] = true
 protocols_fit zero (c ∷ o) = false
 protocols_fit (suc n) (c ∷ o) = cond (nat_lt c 1 || nat_lt (length o) c) false (protocols_fit n (drop c o))
 
--- Whether a value is a list as its key wants it, of one item or more: keys that strictly ascend, without mandatory itself
--- (RFC 9460, 8); protocols of one octet or more (7.1.1); whole addresses (7.3).
+-- Whether a value is a list as its key wants it, of one item or more: keys that strictly ascend, without mandatory
+-- itself (RFC 9460, 8); protocols of one octet or more (7.1.1); whole addresses (7.3).
 abbrev pub is_list : ListKind → List ℕ → Bool
 is_list Keys o = nat_lt 0 (length o) && keys_ascend 1 o
 is_list Protocols o = nat_lt 0 (length o) && protocols_fit (length o) o

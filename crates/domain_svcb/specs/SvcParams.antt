@@ -3,8 +3,8 @@ use Rattle.std.specs.Prelude.{◌≡◌, ℕ, ◌+◌, ◌*◌, ◌/◌, ◌%◌
 use Rattle.domain_svcb.specs.declared.params.SvcParamsError.{SvcParamsError}
 use Rattle.domain_svcb.specs.declared.params.SvcParamsError.TheVariants.{ShortInput, KeyOrder}
 
--- the octets of parameters: of each its key and how many octets its value has, both in two octets with the high one first,
--- and the value
+-- the octets of parameters: of each its key and how many octets its value has, both in two octets with the high one
+-- first, and the value
 abbrev pub params_octets : List (ℕ × List ℕ) → List ℕ
 params_octets [] = []
 params_octets (p ∷ ps) = p.0 / 256 ∷ p.0 % 256 ∷ length p.1 / 256 ∷ length p.1 % 256 ∷ (p.1 ++ params_octets ps)
@@ -37,8 +37,8 @@ value_fault [] = Some ShortInput
 value_fault (high ∷ []) = Some ShortInput
 value_fault (high ∷ low ∷ rest) = cond (nat_lt (length rest) (high * 256 + low)) (Some ShortInput) None
 
--- What is wrong with the first of parameters whose key is `least` or more, from the left: the octets end within the key, it
--- is less, or something is wrong after it. Where no octet is left no parameter is due.
+-- What is wrong with the first of parameters whose key is `least` or more, from the left: the octets end within the
+-- key, it is less, or something is wrong after it. Where no octet is left no parameter is due.
 abbrev pub param_fault : ℕ → List ℕ → Option SvcParamsError
 param_fault least [] = None
 param_fault least (high ∷ []) = Some ShortInput

@@ -43,9 +43,9 @@ abbrev pub plain_value : List ℕ → Option (List ℕ)
 plain_value [] = None
 plain_value (c ∷ cs) = Some (octets_value (c ∷ cs))
 
--- The text of a value as its key wants it: keys for mandatory, protocols for alpn, nothing for no-default-alpn and ohttp, a
--- number for port, addresses for ipv4hint and ipv6hint, base64 for ech, a template for dohpath. None where the value isn't as
--- the key wants it, and for other keys.
+-- The text of a value as its key wants it: keys for mandatory, protocols for alpn, nothing for no-default-alpn and
+-- ohttp, a number for port, addresses for ipv4hint and ipv6hint, base64 for ech, a template for dohpath. None where
+-- the value isn't as the key wants it, and for other keys.
 abbrev pub value_of_key : ℕ → List ℕ → Option (List ℕ)
 value_of_key key v =
     cond (nat_eq key 0) (list_value Keys v)

@@ -37,8 +37,8 @@ impl<'a> SvcParam<'a> {
 }
 
 /// The mnemonic of its key and the value as the key wants it, where it is so: mandatory, alpn, no-default-alpn, port,
-/// ipv4hint, ech, ipv6hint, dohpath and ohttp (RFC 9460, 7 and 8; RFC 9461, 5; RFC 9540, 4). Else `key` and the number of
-/// the key, and where the value isn't empty a sign of equality and its octets between quotes (RFC 9460, 2.1).
+/// ipv4hint, ech, ipv6hint, dohpath and ohttp (RFC 9460, 7 and 8; RFC 9461, 5; RFC 9540, 4). Else `key` and the number
+/// of the key, and where the value isn't empty a sign of equality and its octets between quotes (RFC 9460, 2.1).
 impl<'a> fmt::Display for SvcParam<'a> {
     ghost use Rattle.domain_svcb.specs.ParamViews.{param_of};
     ghost use Rattle.domain_svcb.specs.ParamText.{param_text};
@@ -102,8 +102,8 @@ pub(crate) fn first_param(octets: &[u8], least: u32) -> Result<First<'_>, SvcPar
 
 /// Tests that octets are parameters, whose keys strictly ascend (RFC 9460, 2.2). No octet at all is none.
 ///
-/// The error is the first from the left: `ShortInput` where the octets end inside of a parameter, `KeyOrder` where a key
-/// isn't more than that of the parameter before it.
+/// The error is the first from the left: `ShortInput` where the octets end inside of a parameter, `KeyOrder` where a
+/// key isn't more than that of the parameter before it.
 pub(crate) fn check_params(octets: &[u8]) -> Result<(), SvcParamsError>
     ensures ok { OnOk result (HasParams 0 octets.now) }
     ensures err { IfErr result (NoParams octets.now) }

@@ -79,8 +79,8 @@ impl From<SvcParamsError> for ParseError {
     }
 }
 
-/// Service parameters: none or more, each a key of 16 bits, the number of the octets of its value in 16 bits, and these.
-/// The keys strictly ascend (RFC 9460, 2.2).
+/// Service parameters: none or more, each a key of 16 bits, the number of the octets of its value in 16 bits, and
+/// these. The keys strictly ascend (RFC 9460, 2.2).
 ///
 /// The values are octets of any kind: whether one is as its key wants it is for the caller to see. Two are equal where
 /// their octets are.
@@ -109,9 +109,9 @@ impl<Octs: Octets + Drop> SvcParams<Octs> {
 
     /// The parameters that these octets are: none where there is no octet.
     ///
-    /// `Long` where they are more than 65,535, and else the first error from the left: `ShortInput` where they end inside
-    /// of a parameter, `KeyOrder` where a key isn't more than that of the parameter before it. Of a parameter whose key is
-    /// out of order and whose value is cut, `KeyOrder` is told, since the key is first.
+    /// `Long` where they are more than 65,535, and else the first error from the left: `ShortInput` where they end
+    /// inside of a parameter, `KeyOrder` where a key isn't more than that of the parameter before it. Of a parameter
+    /// whose key is out of order and whose value is cut, `KeyOrder` is told, since the key is first.
     pub fn from_octets(octets: Octs) -> Result<SvcParams<Octs>, SvcParamsError>
         ensures held { IfOk result (λ it. params_holder it ≡ octets) }
         ensures params { IfOk result
@@ -162,8 +162,8 @@ impl<Octs: Octets> SvcParams<Octs> {
     }
 }
 
-/// All octets that are left, which have to be parameters. The errors of [`SvcParams::from_octets`], where `KeyOrder` is a
-/// form error "keys of parameters out of order", and "record data too long" where more than 65,535 are left.
+/// All octets that are left, which have to be parameters. The errors of [`SvcParams::from_octets`], where `KeyOrder`
+/// is a form error "keys of parameters out of order", and "record data too long" where more than 65,535 are left.
 impl<'a> ReadField<'a, ParseError> for SvcParams<&'a [u8]> {
     ghost use Rattle.domain_svcb.specs.ParamsViews.{params_of};
 
@@ -301,7 +301,8 @@ impl<Octs: Octets> Eq for SvcParams<Octs> {
     ghost laws = { Prim.search (comparing, rules) };
 }
 
-/// Each parameter as [`SvcParam`](crate::SvcParam) is written, with a space between two, and nothing where there is none.
+/// Each parameter as [`SvcParam`](crate::SvcParam) is written, with a space between two, and nothing where there is
+/// none.
 impl<Octs: Octets> fmt::Display for SvcParams<Octs> {
     ghost use Rattle.domain_svcb.specs.ParamsViews.{params_of};
 

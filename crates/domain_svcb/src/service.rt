@@ -51,8 +51,8 @@ pub type Https<Octs, N> = ServiceData<65, ServiceFields<Octs, N>>;
 impl<const TYPE: u16, Octs: Octets, N> ServiceData<TYPE, ServiceFields<Octs, N>> {
     ghost use Rattle.domain_svcb.specs.ServiceViews.{service_type};
 
-    /// Data of these. With the priority 0 the target is an alias, and RFC 9460, 2.4.2, wants no parameters, which isn't
-    /// looked at here; nor is whether the values of parameters are as their keys want them.
+    /// Data of these. With the priority 0 the target is an alias, and RFC 9460, 2.4.2, wants no parameters, which
+    /// isn't looked at here; nor is whether the values of parameters are as their keys want them.
     pub fn new(priority: u16, target: N, params: SvcParams<Octs>) -> Self
         ensures priority { (service_fields result).first ≡ priority }
         ensures target { (service_fields result).rest.first.name ≡ target }
@@ -77,8 +77,8 @@ impl<const TYPE: u16, Octs: Octets, N> ServiceData<TYPE, ServiceFields<Octs, N>>
         self.fields.first
     }
 
-    /// The name of the host, or the name that the owner stands for where the priority is 0. The root stands for the owner
-    /// where it isn't (RFC 9460, 2.5).
+    /// The name of the host, or the name that the owner stands for where the priority is 0. The root stands for the
+    /// owner where it isn't (RFC 9460, 2.5).
     pub fn target(&self) -> &N
         ensures { result.now ≡ (service_fields self.now).rest.first.name }
     {
@@ -101,8 +101,8 @@ impl<const TYPE: u16, F> RecordData for ServiceData<TYPE, F> {
     }
 }
 
-/// A priority, a name and parameters. Octets that are no parameters are `ShortInput`, "keys of parameters out of order" or
-/// "record data too long".
+/// A priority, a name and parameters. Octets that are no parameters are `ShortInput`, "keys of parameters out of
+/// order" or "record data too long".
 impl<'a, const TYPE: u16> ParseRecordData<'a>
     for ServiceData<TYPE, ServiceFields<&'a [u8], ParsedName<&'a [u8]>>> {
     ghost View = { ℕ × (List (List ℕ) × List (ℕ × List ℕ)) };
@@ -134,8 +134,8 @@ impl<'a, const TYPE: u16> ParseRecordData<'a>
     ghost lawful = { λ _. service_data };
 }
 
-/// The fields, one after the other. In the canonical form names are in lowercase exactly where `TYPE` is one of the types
-/// that RFC 4034, 6.2, lists, so never in SVCB and HTTPS.
+/// The fields, one after the other. In the canonical form names are in lowercase exactly where `TYPE` is one of the
+/// types that RFC 4034, 6.2, lists, so never in SVCB and HTTPS.
 impl<const TYPE: u16, F: DataField> ComposeRecordData for ServiceData<TYPE, F> {
     ghost composed = { λ it. F.composed (service_fields it) };
 

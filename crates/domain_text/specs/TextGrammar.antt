@@ -91,7 +91,7 @@ pub record EndsInDot (ps : List NameSymbol) : Type 0 where
   pub short : length (wire labels) ≤ 254
   pub dot : ps ≡ text ++ Dot ∷ []
 
--- The characters cs are the text of the name ls, and have the fault f.
+-- The characters cs are the text of the name ls.
 abbrev pub IsTextOfName : List ℕ → List (List ℕ) → Type 0
 IsTextOfName cs ls = (items : List (Result Symbol SymbolCharsError)) × ReadsSymbols cs items × IsNameText (name_symbols items) ls
 

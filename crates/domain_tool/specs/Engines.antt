@@ -1,5 +1,5 @@
--- What the engines of the program read and write. `given` is what there is to read, where that is known; `r` is `R.Read`, and `g`
--- is `W.Write`.
+-- What the engines of the program read and write. `given` is what there is to read, where that is known; `r` is
+-- `R.Read`, and `g` is `W.Write`.
 use Rattle.std.specs.Prelude.{◌≡◌, ℕ, List, [], ◌∷◌, ◌++◌, Option, IfSome, Result, Ok, Err, ⊤, codes}
 use Rattle.std.specs.Io.KnownBytes.{Appends}
 use Rattle.domain_wire.specs.declared.error.ParseError.{ParseError}

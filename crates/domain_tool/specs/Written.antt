@@ -27,8 +27,8 @@ pub record WritesUpTo (m : List ℕ) (s : EntryKind) (n p : ℕ) (old new : Opti
   pub written : WritesEntries m (replicate before s) p offset old new
   pub missing : NoEntry m s offset why
 
--- The lines of so many entries of a kind, from where the parser was to where it is then, were put behind those that aren't written
--- yet, or written after these.
+-- The lines of so many entries of a kind, from where the parser was to where it is then, were put behind those that
+-- aren't written yet, or written after these.
 abbrev pub BuffersEntries : {W : Type 0} → EntryKind → ℕ → Parser → Parser → (W → Option (List ℕ)) → W → Vec ℕ → W → Vec ℕ → Type 0
 BuffersEntries kind count at after contents old old_lines new new_lines =
     WritesEntries (message at) (replicate count kind) (position at) (position after)
@@ -52,7 +52,8 @@ BuffersPart m contents old old_lines new new_lines why =
     (text : List ℕ) × StopsListing m text why
     × Appends (with_lines contents old old_lines) (with_lines contents new new_lines) text
 
--- The lines of the message that there is to read were written, and nothing else. `r` is `R.Read`, and `g` is `W.Write`.
+-- The lines of the message that there is to read were written, and nothing else. `r` is `R.Read`, and `g` is
+-- `W.Write`.
 abbrev pub ListsGiven : {R W : Type 0} → ReadMembers R → R → WriteMembers W → W → W → Type 0
 ListsGiven r input g old new =
     IfSome (r.remaining input)

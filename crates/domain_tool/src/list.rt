@@ -16,8 +16,8 @@ use octseq::{Parser, ShortInput};
 use std::alloc::Global;
 use std::io::{Read, Write};
 
-/// Writes the lines of this many entries of this kind after the lines that aren't written yet, and moves the parser past
-/// the entries.
+/// Writes the lines of this many entries of this kind after the lines that aren't written yet, and moves the parser
+/// past the entries.
 fn write_entries<W: Write>(
     kind: EntryKind,
     count: u16,

@@ -176,8 +176,8 @@ impl<Octs: Octets> Txt<Octs> {
         self.octets.as_slice().len()
     }
 
-    /// The text: the octets of all strings, with nothing between them. `AllocError` only where memory was refused, and so
-    /// never of strings without an octet: `text_counted` says so of each request.
+    /// The text: the octets of all strings, with nothing between them. `AllocError` only where memory was refused, and
+    /// so never of strings without an octet: `text_counted` says so of each request.
     pub fn text(&self, alloc: Global) -> Result<Vec<u8>, AllocError>
         ensures same { IfOk result (λ text. text.items ≡ concat (txt_strings self.now)) }
         ensures err { OnErr result (0 < length (concat (txt_strings self.now))) }

@@ -48,7 +48,8 @@ WritesGiven asked hex given found old new = (m : List ℕ) × IsMessage hex give
 abbrev pub NotInDigits : Bool → List ℕ → Option (List ℕ) → Option (List ℕ) → Type 0
 NotInDigits hex given old new = (hex ≡ true) × ((fault : HexFault) × (line : ℕ) × (column : ℕ) × IsHexFault start given fault line column) × Keeps old new
 
--- What was asked for was written; or it isn't in the message, and what there is of it was written, or no message is given.
+-- What was asked for was written; or it isn't in the message, and what there is of it was written, or no message is
+-- given.
 abbrev pub WritesAnswer : Asked → Bool → List ℕ → Bool → Option (List ℕ) → Option (List ℕ) → Type 0
 WritesAnswer asked hex given true old new = WritesGiven asked hex given true old new
 WritesAnswer asked hex given false old new = WritesGiven asked hex given false old new ⊎ NotInDigits hex given old new

@@ -16,8 +16,8 @@ abbrev pub IsLastLine : List ℕ → ℕ → Bool → ℕ → List ℕ → Type 
 IsLastLine m p true count last = (ls : List (List ℕ)) × Names max_pointers m p ls × (last ≡ text_with_final_dot ls ++ count_text count)
 IsLastLine m p false count last = (f : NameFault) × NameFaultAt max_pointers m p f × (last ≡ refusal_text (error_of f) ++ count_text count)
 
--- A line was written for each label and pointer read from p on, at most `max_heads`, and a last line with the name or the
--- reason why there is none.
+-- A line was written for each label and pointer read from p on, at most `max_heads`, and a last line with the name or
+-- the reason why there is none.
 pub record WritesFollowed (m : List ℕ) (p : ℕ) (found : Bool) (old new : Option (List ℕ)) : Type 0 where
   pub lines : List ℕ
   pub last : List ℕ

@@ -50,8 +50,8 @@ further n p = record { line = p.line; column = p.column + n }
 abbrev pub position_after : ℕ → Position → Position
 position_after c p = cond (nat_eq c 10) (record { line = p.line + 1; column = 0 }) (further 1 p)
 
--- The text, which begins at the position p, is no octets in digits: the first thing that is wrong, its line and its column, both
--- from 1 on.
+-- The text, which begins at the position p, is no octets in digits: the first thing that is wrong, its line and its
+-- column, both from 1 on.
 pub data IsHexFault : (p : Position) (text : List ℕ) (fault : HexFault) (line column : ℕ) → Type 0 where
   here : {p : Position} {text : List ℕ} {fault : HexFault} {skip line column : ℕ} → BeginsWithNone text fault skip → line ≡ p.line + 1 → column ≡ p.column + 1 + skip → IsHexFault p text fault line column
   after_white : {p : Position} {c : ℕ} {text : List ℕ} {fault : HexFault} {line column : ℕ} → IsWhite c → IsHexFault (position_after c p) text fault line column → IsHexFault p (c ∷ text) fault line column

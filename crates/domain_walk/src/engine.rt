@@ -58,8 +58,8 @@ impl fmt::Display for RefusedLine {
     }
 }
 
-/// Writes a line for each label and pointer that reading the name at an offset of a message comes to, and a last line with
-/// the name or the reason why there is none. Returns whether there is a name.
+/// Writes a line for each label and pointer that reading the name at an offset of a message comes to, and a last line
+/// with the name or the reason why there is none. Returns whether there is a name.
 fn follow_in<W: Sink>(message: &[u8], output: &mut W, offset: u32) -> Result<bool, WriteFault>
     ensures written { IfOk result
         (FollowsName W.contents message.now offset output.old output.new) }
@@ -81,8 +81,8 @@ fn follow_in<W: Sink>(message: &[u8], output: &mut W, offset: u32) -> Result<boo
 /// Reads the input to its end, and writes a line for each label and pointer that reading the name at the offset comes
 /// to, and a last line with the name or the reason why there is none. Returns whether there is a name.
 ///
-/// The name may have compression pointers (RFC 1035, 4.1.4), at most 255. `Read`, `Write` or `Memory` where one of these
-/// failed; a message without a name there is no error.
+/// The name may have compression pointers (RFC 1035, 4.1.4), at most 255. `Read`, `Write` or `Memory` where one of
+/// these failed; a message without a name there is no error.
 pub fn follow_name<R: Source, W: Sink>(
     alloc: Global,
     input: &mut R,
@@ -156,8 +156,8 @@ pub fn run<R: Source, W: Sink, E: Write>(
     }
 }
 
-/// Reads the message, does what is asked for, and flushes the output. Returns whether there is such a name or message; why
-/// a message can't be shown to its end, or isn't in hexadecimal digits, is written to `errors`.
+/// Reads the message, does what is asked for, and flushes the output. Returns whether there is such a name or message;
+/// why a message can't be shown to its end, or isn't in hexadecimal digits, is written to `errors`.
 fn carry_out<R: Source, W: Sink, E: Write>(
     alloc: Global,
     asked: Asked,
@@ -231,7 +231,8 @@ fn follow<W: Sink>(message: &[u8], output: &mut W, offset: u32) -> Result<bool, 
     Ok(found)
 }
 
-/// Shows the message, and flushes the output. Returns whether it was shown to its end; if not, why is written to `errors`.
+/// Shows the message, and flushes the output. Returns whether it was shown to its end; if not, why is written to
+/// `errors`.
 fn show<W: Sink, E: Write>(
     message: &[u8],
     output: &mut W,

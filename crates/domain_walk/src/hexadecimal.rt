@@ -63,8 +63,8 @@ fn digit_of(octet: u8) -> Option<u8>
     }
 }
 
-/// The octet whose two digits begin at an offset, where no white space is; or what is wrong, and how many octets after the
-/// offset.
+/// The octet whose two digits begin at an offset, where no white space is; or what is wrong, and how many octets after
+/// the offset.
 fn octet_at(text: &[u8], at: usize) -> Result<u8, (HexFault, usize)>
     requires inside { at < length text.now }
     requires dark { IsWhite (slice_index text.now at) → ⊥ }
@@ -87,8 +87,8 @@ fn octet_at(text: &[u8], at: usize) -> Result<u8, (HexFault, usize)>
     }
 }
 
-/// Reads octets in hexadecimal digits, two for each and white space between, and writes them over the text from its start.
-/// Returns how many they are. Line feeds end lines.
+/// Reads octets in hexadecimal digits, two for each and white space between, and writes them over the text from its
+/// start. Returns how many they are. Line feeds end lines.
 ///
 /// An error says what is wrong with the text and where; what the text is then isn't said.
 pub(crate) fn read_octets(text: &mut [u8]) -> Result<usize, HexError>

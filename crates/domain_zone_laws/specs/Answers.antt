@@ -1,5 +1,6 @@
--- What a zone answers to a question for a name and a type: exactly one outcome (the law in Laws). A question of another
--- class is asked of another zone, and one for all classes of each (RFC 1034, 3.7.1): the class isn't asked here.
+-- What a zone answers to a question for a name and a type: exactly one outcome (the law in Laws). A question of
+-- another class is asked of another zone, and one for all classes of each (RFC 1034, 3.7.1): the class isn't asked
+-- here.
 use Rattle.std.specs.Prelude.{◌≡◌, ◌≢◌, ℕ, ◌<◌, ◌≤◌, ◌-◌, List, ◌++◌, length, take}
 use Rattle.domain_label.specs.Wire.{wire}
 use Rattle.domain_list.specs.Ends.{EndsWith}
@@ -34,16 +35,17 @@ pub data Outcome : Type 0 where
   -- It doesn't exist, and no wildcard answers (NXDOMAIN; RFC 2308, 2.1).
   name_error : Outcome
 
--- What is found at the name n, which exists (RFC 1034, 4.3.2, step 3a). Records of the type itself come before a CNAME,
--- as RRSIG, NSEC and KEY can be beside it (RFC 4035, 2.5). A question for all types gets a CNAME as it gets the others.
+-- What is found at the name n, which exists (RFC 1034, 4.3.2, step 3a). Records of the type itself come before a
+-- CNAME, as RRSIG, NSEC and KEY can be beside it (RFC 4035, 2.5). A question for all types gets a CNAME as it gets the
+-- others.
 abbrev pub Replies : Zone → List (List ℕ) → ℕ → Reply → Type 0
 Replies z n t (records s) = IsAt z n t s
 Replies z n t any_types = (t ≡ ANY) × OwnsRecords z n
 Replies z n t (alias s) = (t ≢ ANY) × (HasType z n t → ⊥) × IsAt z n CNAME s
 Replies z n t no_data = (HasType z n t → ⊥) × (HasType z n CNAME → ⊥) × ((t ≡ ANY) × OwnsRecords z n → ⊥)
 
--- A question about q leads to the name servers s, which are at the first cut on the way (RFC 1034, 4.3.2, step 3b). The
--- DS of that cut alone is this side's (RFC 4035, 2.4 and 3.1.4.1): a question for the DS of a name below it is
+-- A question about q leads to the name servers s, which are at the first cut on the way (RFC 1034, 4.3.2, step 3b).
+-- The DS of that cut alone is this side's (RFC 4035, 2.4 and 3.1.4.1): a question for the DS of a name below it is
 -- referred, and so is one for the NS, NSEC or RRSIG of the cut itself.
 abbrev pub IsReferred : Zone → List (List ℕ) → ℕ → RRset → Type 0
 IsReferred z q t s = IsFirstCut z q s.owner × IsAt z s.owner NS s × ((t ≡ DS) × SameLabels q s.owner → ⊥)
@@ -60,9 +62,9 @@ IsNonexistent z q t e = IsAuthoritative z q t × (Exists z q → ⊥) × IsClose
 abbrev pub substitution : List (List ℕ) → RRset → List (List ℕ)
 substitution q s = take (length q - length s.owner) q ++ target s
 
--- What the zone z answers to a question for records of the type t at q (RFC 1034, 4.3.2). Where q doesn't exist a DNAME
--- at the closest encloser comes before a wildcard (RFC 6672, 3.2, step 3c), and a wildcard answers by what it owns,
--- also where that is nothing of the type, or nothing at all (RFC 4592, 2.2.1 and 3.3).
+-- What the zone z answers to a question for records of the type t at q (RFC 1034, 4.3.2). Where q doesn't exist a
+-- DNAME at the closest encloser comes before a wildcard (RFC 6672, 3.2, step 3c), and a wildcard answers by what it
+-- owns, also where that is nothing of the type, or nothing at all (RFC 4592, 2.2.1 and 3.3).
 abbrev pub Answers : Zone → List (List ℕ) → ℕ → Outcome → Type 0
 Answers z q t out_of_zone = EndsWith q z.apex → ⊥
 Answers z q t (referral s) = IsReferred z q t s

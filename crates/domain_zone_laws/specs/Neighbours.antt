@@ -6,16 +6,16 @@ use Rattle.domain_list.specs.Ends.{EndsWith}
 use Rattle.domain_zone_laws.specs.Sorted.{IsSorted, IsPlace}
 use Rattle.domain_zone_laws.specs.Zone.{Zone, RRset}
 
--- Where q would be, at i, one of the two RRsets beside it is at or below each name above q that an RRset is at or below:
--- the closest encloser is what q has in common with one of them.
+-- Where q would be, at i, one of the two RRsets beside it is at or below each name above q that an RRset is at or
+-- below: the closest encloser is what q has in common with one of them.
 abbrev pub NeighboursTellEncloser : Type 0
 NeighboursTellEncloser = (z : Zone) (q a : List (List ℕ)) (i : ℕ) (s d : RRset) → IsSorted z → i ≤ length z.rrsets → IsPlace z q 0 i →
     Contains z.rrsets s → EndsWith s.owner a → EndsWith q a →
     ((0 < i) × EndsWith (slice_index_or z.rrsets (i - 1) d).owner a)
     ⊎ ((i < length z.rrsets) × EndsWith (slice_index_or z.rrsets i d).owner a)
 
--- The last RRset that is at q or before it is at or below the owner of each RRset at or above q: a cut over q is over it,
--- too.
+-- The last RRset that is at q or before it is at or below the owner of each RRset at or above q: a cut over q is over
+-- it, too.
 abbrev pub PredecessorTellsCut : Type 0
 PredecessorTellsCut = (z : Zone) (q : List (List ℕ)) (i : ℕ) (s d : RRset) → IsSorted z → i ≤ length z.rrsets → IsPlace z q (2 ^ 16) i →
     Contains z.rrsets s → s.rtype < 2 ^ 16 → EndsWith q s.owner →

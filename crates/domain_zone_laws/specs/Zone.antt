@@ -13,8 +13,8 @@ pub record RRset : Type 0 where
   pub ttl : ℕ
   pub rdata : List (List ℕ)
 
--- The apex of a zone and its RRsets, in any order: those that it has authority over, name servers at its cuts, and glue
--- (RFC 1034, 4.2.1). All have the zone's class (RFC 1035, 5.2), which isn't told here.
+-- The apex of a zone and its RRsets, in any order: those that it has authority over, name servers at its cuts, and
+-- glue (RFC 1034, 4.2.1). All have the zone's class (RFC 1035, 5.2), which isn't told here.
 pub record Zone : Type 0 where
   pub apex : List (List ℕ)
   pub rrsets : List RRset
@@ -72,16 +72,18 @@ HasType z n t = (s : RRset) × IsAt z n t s
 abbrev pub OwnsRecords : Zone → List (List ℕ) → Type 0
 OwnsRecords z n = (s : RRset) × Contains z.rrsets s × SameLabels s.owner n
 
--- The name n is in the zone, and it or a name below it owns records: an empty non-terminal exists, too (RFC 4592, 2.2.2
--- and 2.2.3; RFC 8020, 2). So does what is at or below a cut, of which nothing is asked here.
+-- The name n is in the zone, and it or a name below it owns records: an empty non-terminal exists, too (RFC 4592,
+-- 2.2.2 and 2.2.3; RFC 8020, 2). So does what is at or below a cut, of which nothing is asked here.
 abbrev pub Exists : Zone → List (List ℕ) → Type 0
 Exists z n = EndsWith n z.apex × ((s : RRset) × Contains z.rrsets s × EndsWith s.owner n)
 
--- Of the names that exist, e has the most labels in common with q: each other one above q is above e (RFC 4592, 3.3.1).
+-- Of the names that exist, e has the most labels in common with q: each other one above q is above e (RFC 4592,
+-- 3.3.1).
 abbrev pub IsClosestEncloser : Zone → List (List ℕ) → List (List ℕ) → Type 0
 IsClosestEncloser z q e = Exists z e × EndsWith q e × ((a : List (List ℕ)) → Exists z a → EndsWith q a → EndsWith e a)
 
--- The source of synthesis for names below e that don't exist: an asterisk label, and then e (RFC 4592, 2.1.1 and 3.3.1).
+-- The source of synthesis for names below e that don't exist: an asterisk label, and then e (RFC 4592, 2.1.1 and
+-- 3.3.1).
 abbrev pub source_of_synthesis : List (List ℕ) → List (List ℕ)
 source_of_synthesis e = (42 ∷ []) ∷ e
 

@@ -50,7 +50,8 @@ other_types : (t : ℕ) (c : Bool) (its : List RecordFields) → c ≡ false →
 other_types t c [] any others = All-nil (IsNot t)
 other_types t c (it ∷ its) any others = All-cons (IsNot t) it its (other_type t c it any others.0) (other_types t c its any others.1)
 
--- Of the records left at s the next one of the type t is this, those before it are as More says, and its data was read.
+-- Of the records left at s the next one of the type t is this, those before it are as More says, and its data was
+-- read.
 pub record Found {O D E V : Type 0} {g : Ghosts O} (t : ℕ) (seen : D → V) (At : List ℕ → ℕ → V → ℕ → Type 0) (More : List RecordFields → Type 0) (s u : RecordIter D E) (made : Record (ParsedName O g) D) : Type 0 where
   pub octets : message (kept_parser u) ≡ message (kept_parser s)
   pub class : kept_class u ≡ false

@@ -98,8 +98,8 @@ AddressOf m start host (Some addr) = FirstAddress m start (number16 m 10) host a
 abbrev pub FindsAddress : List ℕ → List (List ℕ) → Option Ipv4Addr → Type 0
 FindsAddress m host found = (start : ℕ) × AuthorityTo m start × AddressOf m start host found
 
--- Of n records at p the first ones are as Read says. The next is missing, or is of the type t and its data is refused, and
--- why.
+-- Of n records at p the first ones are as Read says. The next is missing, or is of the type t and its data is refused,
+-- and why.
 pub record StopsAtRecord (t : ℕ) (Read : List RecordFields → Type 0) (Refused : List ℕ → ℕ → ParseError → Type 0) (m : List ℕ) (p n : ℕ) (why : ParseError) : Type 0 where
   pub before : List RecordFields
   pub read : Read before

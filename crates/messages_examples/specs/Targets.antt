@@ -1,5 +1,5 @@
--- What becomes of a target that a message is built on. `g` is `Target.Composer`, `d` and `e` are `D.ComposeRecordData`, and
--- `labels` tells the labels of a name.
+-- What becomes of a target that a message is built on. `g` is `Target.Composer`, `d` and `e` are
+-- `D.ComposeRecordData`, and `labels` tells the labels of a name.
 use Rattle.std.specs.Prelude.{ℕ, ◌<◌, ◌⊎◌, List, length, Option, IfSome}
 use Rattle.octseq.specs.declared.octets.Octets.{Ghosts}
 use Rattle.domain_header.specs.Values.{rcode_number}

@@ -63,8 +63,8 @@ impl<T: Composer> OctetsBuilder for Counted<T> {
     ghost fixed = { λ it. T.fixed it.target };
 }
 
-/// Names are written as the target writes them. It remembers what the target does: the number decides nothing of what is
-/// appended, and a cut leaves it.
+/// Names are written as the target writes them. It remembers what the target does: the number decides nothing of what
+/// is appended, and a cut leaves it.
 impl<T: Composer> Composer for Counted<T> {
     ghost may_append = { λ it. T.may_append it.target };
 

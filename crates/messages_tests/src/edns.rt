@@ -1,4 +1,5 @@
-//! OPT records that are read: octets as the standards draw them (RFC 6891, 6.1; RFC 7871, 6; RFC 7873, 4; RFC 8914, 2).
+//! OPT records that are read: octets as the standards draw them (RFC 6891, 6.1; RFC 7871, 6; RFC 7873, 4; RFC 8914,
+//! 2).
 
 use domain_edns::{OptError, OptIter, opt_of};
 use domain_header::Rcode;
@@ -9,8 +10,8 @@ use std::process::Abort;
 /// A header that counts one record of the additional section, and no other entry.
 const HEADER: [u8; 12] = [0x12, 0x34, 0x81, 0x80, 0, 0, 0, 0, 0, 0, 0, 1];
 
-/// The OPT record of a sender that takes 1,232 octets, with the upper bits 1 of a response code, version 0 and DO, up to
-/// the length of its data.
+/// The OPT record of a sender that takes 1,232 octets, with the upper bits 1 of a response code, version 0 and DO, up
+/// to the length of its data.
 const OPT: [u8; 9] = [0, 0, 41, 0x04, 0xd0, 1, 0, 0x80, 0];
 
 /// Three options: the subnet 192.0.2.0/24 of a client, a client's cookie, and the extended error 18, with text.

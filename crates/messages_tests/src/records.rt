@@ -133,8 +133,8 @@ fn a_canonical_record_has_the_original_ttl(rt: HostRuntime) {
     assert!(rt; target.as_slice() == expected);
 }
 
-/// Of data that is held as octets it isn't known which of them are names: the type NS has its names in lowercase, and what
-/// the octets are is appended as they stand, but a record of it has no canonical form (RFC 4034, 6.2).
+/// Of data that is held as octets it isn't known which of them are names: the type NS has its names in lowercase, and
+/// what the octets are is appended as they stand, but a record of it has no canonical form (RFC 4034, 6.2).
 #[test]
 fn a_canonical_record_of_unknown_names_leaves_the_target(rt: HostRuntime) {
     let (Ok(owner), Ok(data)) = (

@@ -1,5 +1,5 @@
--- What becomes of a target where octets are appended to it, and why they aren't. `g` is `Target.Octets`, what the target's type
--- says of its octets.
+-- What becomes of a target where octets are appended to it, and why they aren't. `g` is `Target.Octets`, what the
+-- target's type says of its octets.
 use Rattle.std.specs.Prelude.{◌≡◌, ℕ, ◌+◌, ◌<◌, List, ◌++◌, length}
 use Rattle.octseq.specs.declared.octets.Octets.{Ghosts}
 
