@@ -115,9 +115,9 @@ WRITERS = {
 ROWS_HEAD = """# Measured rows
 
 What `evidence/bench/run.sh --write` wrote of its last run; docs/PERFORMANCE.md says how it was measured and what it
-means. Times are nanoseconds of one call, the part is the port's time as a part of the crate's. Of messages that are
-written they are those of one message, and the part is that of the quickest other; the two tables of these are of their
-own last run, `run.sh --writing --write`, if that was later.
+means. Times are nanoseconds of one call, the part is the port's time as a part of the crate's. For messages that are
+written the times are those of one message, and the part is that of the quickest other. The two tables of these are of
+their own last run, `run.sh --writing --write`, if that was later.
 """
 COLOURS = ["#1b6ca8", "#c0392b", "#27864a", "#8e44ad", "#b9770e", "#444444", "#16a0a0"]
 

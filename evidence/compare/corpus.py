@@ -16,14 +16,15 @@ ACCEPT, REFUSE, UNSAID = "accept", "refuse", "unsaid"
 
 # What the standard says, in short: the section, and its words in others.
 RULES = {
-    "size": ("1035 3.1", "labels, each a length octet of at most 63 and so many octets, up to the empty label of the "
-                         "root; a name has 255 octets or less, length octets included"),
+    "size": ("1035 3.1", "labels, each a length octet of at most 63 and that many octets, up to the root's empty "
+                         "label; a name has 255 octets or less, length octets included"),
     "limits": ("1035 2.3.4", "labels have 63 octets or less, names 255 octets or less"),
     "pointers": ("1035 4.1.4", "a name, or its last labels, may be a pointer to a prior occurrence; all programs must "
                                "understand pointers, and how many may follow each other isn't limited"),
     "prior": ("1035 4.1.4", "a pointer leads to a prior occurrence of the name"),
-    "inside": ("1035 4.1.4", "who writes a pointer has to lead it to a name that occurred before; that a reader, who "
-                             "can't know where names began, has to refuse other octets that read as one isn't said"),
+    "inside": ("1035 4.1.4", "a writer has to lead a pointer to a name that occurred before. It isn't said that a "
+                             "reader, which can't know where names began, has to refuse other octets that read as "
+                             "one"),
     "types": ("1035 4.1.4", "length octets that begin with the bits 01 and 10 are reserved (01 also by RFC 6891, 5)"),
     "octets": ("2181 11", "any octets whatever can be in a label"),
     "case": ("4343 4", "the case of letters is to be preserved (also RFC 1035, 2.3.3)"),

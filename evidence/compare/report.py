@@ -295,8 +295,8 @@ class Report:
         other = [f"{key}'s " + ("text without any character" if text == "-" else f"`{bytes.fromhex(text).decode()}`")
                  + f" for '{case.name}'"
                  for (key, case, text), answer in zip(shown_texts, answers) if answer != f"ok {shown(case.labels)}"]
-        self.say(filled(f"Of the {len(shown_texts)} texts that the other libraries wrote so, this project reads all "
-                        "as the same name" + (f", but for {', '.join(other)}." if other else ".")), "")
+        self.say(filled(f"The other libraries wrote {len(shown_texts)} texts so. This project reads all of them as "
+                        "the same name" + (f", with these exceptions: {', '.join(other)}." if other else ".")), "")
 
     def list_rules(self):
         self.say("## What the standard says", "", "By the numbers in the tables, in other words than its own:", "")
@@ -370,8 +370,8 @@ class RandomMessages:
         accepted = sum(word != "no" for word in self.wanted)
         say("## Random messages", "", filled(
             f"{len(self.lines):,} messages of 1 to 40 octets, each made of one of {len(corpus.ALPHABETS)} small "
-            "alphabets, with an offset in each. They are held against a reader of some twenty lines (`standard_name` "
-            "in `evidence/compare/corpus.py`), written from RFC 1035, 3.1 and 4.1.4, which takes 'prior' for an "
+            "alphabets, with an offset in each. They are compared with a reader of some twenty lines (`standard_name` "
+            "in `evidence/compare/corpus.py`), written from RFC 1035, 3.1 and 4.1.4. It takes 'prior' for an "
             "offset before "
             f"the pointer's own, and doesn't ask whether a name began there. It accepts {accepted:,} of them."), "",
             "| Library | as that reader | only it accepts | only the reader accepts | other labels or end | died or "

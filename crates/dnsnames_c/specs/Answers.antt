@@ -41,8 +41,9 @@ abbrev pub CompressedNumber : List ℕ → ℕ → ℕ → Type 0
 CompressedNumber m p compressed =
     ((compressed ≡ 0) × IsContiguous m p) ⊎ ((compressed ≡ 1) × (IsContiguous m p → ⊥))
 
--- The name at p in m, through at most n pointers, was given, with the offset after its root or first pointer and
--- whether it is compressed (RFC 1035, 4.1.4); or there is none, the number is that of its fault, and nothing changed.
+-- Either the name at p in m, read through at most n pointers, was given. So were the offset after its root or first
+-- pointer, and whether it is compressed (RFC 1035, 4.1.4). Or there is no such name: the number is that of its fault,
+-- and nothing changed.
 abbrev pub ReadsNameAt : ℕ → List ℕ → ℕ → ℕ → List ℕ → List ℕ → ℕ → ℕ → ℕ → ℕ → ℕ → ℕ → Type 0
 ReadsNameAt n m p status old new old_len len old_end end old_compressed compressed =
     ((ls : List (List ℕ)) × Names n m p ls × EncodingEnds m p end × CompressedNumber m p compressed

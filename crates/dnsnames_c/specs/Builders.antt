@@ -71,8 +71,8 @@ GivesNamed section owner head f status o b o' b' =
     ⊎ ((why : PushFault) × RefusesNamed section owner f o b why × (status ≡ push_number why)
     × (o' ≡ o) × (b' ≡ b))
 
--- These are the fields of data of a type in which names may be compressed, and so they are written; or data are no
--- such fields, and are written as they are.
+-- Either these are the fields of data of a type in which names may be compressed, and they are written so. Or the data
+-- are no such fields, and are written unchanged.
 abbrev pub GivesEither : Section → List ℕ → RecordHead → List ℕ → ℕ → List ℕ → Builder → List ℕ
     → Builder → Type 0
 GivesEither section owner head rdata status o b o' b' =

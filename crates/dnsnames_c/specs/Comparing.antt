@@ -1,4 +1,4 @@
--- What is told of names, whose octets are given.
+-- What calls return for names that are given by their octets.
 use Rattle.std.specs.Prelude.{◌≡◌, ℕ, List}
 use Rattle.std.specs.declared.cmp.Ordering.{Ordering}
 use Rattle.domain_label.specs.Lowercase.{lowercase_labels}

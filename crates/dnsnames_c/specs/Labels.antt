@@ -2,8 +2,8 @@
 use Rattle.std.specs.Prelude.{◌≡◌, ◌⊎◌, ℕ, ◌≤◌, ◌<◌, ◌-◌, List, length, take}
 use Rattle.domain_label.specs.Wire.{wire, labels_in, IsAbsoluteWire}
 
--- The offset was given of the label of the name o with `index` labels before it (0); or there is none (10), or o is no
--- absolute name (9), and nothing changed.
+-- The offset of the label of the name o with `index` labels before it was given (0). Otherwise nothing changed: there
+-- is no such label (10), or o is no absolute name (9).
 abbrev pub GivesOffset : List ℕ → ℕ → ℕ → ℕ → ℕ → Type 0
 GivesOffset o index status old new =
     ((status ≡ 0) × IsAbsoluteWire o × (index < length (labels_in o))

@@ -13,8 +13,8 @@ TellsOptType rtype status = ((status ≡ 0) × (rtype ≡ 41)) ⊎ ((status ≡ 
 abbrev pub extended_code : ℕ → ℕ → ℕ
 extended_code ttl flags = upper_code ttl * 16 + flags % 16
 
--- The option after the octets that were passed was given, and these and it are passed (0); or all options were passed
--- (27), or no option comes there, and no more are passed.
+-- The option after the octets passed before was given, and is now passed with them (0). Otherwise no more octets are
+-- passed: all options were passed before (27), or no option comes there.
 abbrev pub GivesDataOption : List ℕ → ℕ → ℕ → ℕ → ℕ → ℕ → ℕ → ℕ → ℕ → ℕ → Type 0
 GivesDataOption message p data_len rtype status old_passed passed code option len =
     ((status ≡ 0) × (octets : List ℕ) × HasOption message p data_len rtype old_passed code octets

@@ -17,7 +17,7 @@ abbrev pub end_number : Option ParseError → ℕ
 end_number None = 0
 end_number (Some why) = error_number why
 
--- of a text of so many octets: 8 where it doesn't fit
+-- of a text of `len` octets: 8 where it doesn't fit
 abbrev pub shown_text_number : ℕ → Option ParseError → ℕ → ℕ
 shown_text_number len why capacity = cond (nat_lt capacity len) 8 (end_number why)
 

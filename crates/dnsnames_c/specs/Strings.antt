@@ -4,8 +4,8 @@ use Rattle.domain_offsets.specs.Texts.{NoStringLeft, HasString, LacksString}
 use Rattle.domain_offsets.specs.declared.fault.DataFault.{DataFault}
 use Rattle.dnsnames_c.specs.Status.{data_number}
 
--- The string after the octets that were passed was given, and these and it are passed (0); or all strings were passed
--- (27), or no string comes there, and nothing changed.
+-- The string after the octets passed before was given, and is now passed with them (0). Otherwise nothing changed: all
+-- strings were passed before (27), or no string comes there.
 abbrev pub GivesDataString : List ℕ → ℕ → ℕ → ℕ → ℕ → ℕ → ℕ → ℕ → ℕ → ℕ → ℕ → Type 0
 GivesDataString message p data_len rtype status old_passed passed old_string string old_len len =
     ((status ≡ 0) × (s : List ℕ) × HasString message p data_len rtype old_passed s

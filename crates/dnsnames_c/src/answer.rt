@@ -7,10 +7,10 @@ use crate::put::give;
 use domain_list::composing::put_name;
 use domain_message::Message;
 
-/// Whether a message answers a query: `yes` becomes 1 where it is a response with the query's identifier and the
-/// query's questions, in their order, names without ASCII case (RFC 1035, 4.1.1 and 7.3), and 0 otherwise. A message
-/// with a question missing answers none, and none answers it. 1 where one of the two has fewer than twelve octets:
-/// nothing is changed.
+/// Whether a message answers a query: `yes` becomes 1 if it does, and 0 otherwise. An answer is a response with the
+/// query's identifier and the query's questions, in their order, names without ASCII case (RFC 1035, 4.1.1 and 7.3). A
+/// message with a question missing answers none, and none answers it. Returns 1 if one of the two has fewer than
+/// twelve octets: nothing is changed.
 #[unsafe(no_mangle)]
 pub extern "C" fn dnsnames_is_answer(message: &[u8], query: &[u8], yes: &mut u32) -> u32
     ensures read { (result ≡ 0) ↔ ((12 ≤ length message.now) × (12 ≤ length query.now)) }
@@ -28,15 +28,16 @@ pub extern "C" fn dnsnames_is_answer(message: &[u8], query: &[u8], yes: &mut u32
     0
 }
 
-/// The name to which at most `limit` CNAME records of the answers lead from the name of the first question, and from
-/// which none leads on (RFC 1034, 3.6.2), into the buffer with no pointer in it; `length` becomes its size. Where none
-/// leads on from that, it is the question's name. The records may be in any order; of two of one name the first is
-/// followed; classes, and the type that is asked for, aren't heeded. The answers are read at most once more often than
-/// the limit says; resolvers follow 11 to 16.
+/// Follows the CNAME records of the answers from the name of the first question, at most `limit` of them (RFC 1034,
+/// 3.6.2). Writes the name from which none leads on into the buffer, with no pointer in it; `length` becomes its size.
+/// Where none leads on from the question's name, it is that name. The records may be in any order. If two have the
+/// same owner name, the first is followed. Class and query type are ignored. The answers are read at most `limit + 1`
+/// times; resolvers follow 11 to 16.
 ///
-/// 1 where the message has fewer than twelve octets. 30 where more records lead on, as they do where a name leads back
-/// to itself, where there is no question, or where one that the header counts is missing: nothing is changed. 8 where
-/// the name doesn't fit into the buffer, which then stays.
+/// Returns 1 if the message has fewer than twelve octets. Returns 30 if more records lead on, as they do where a name
+/// leads back to itself. Returns 30, too, if there is no question, or if one that the header counts is missing. In
+/// each of these cases nothing is changed. Returns 8 if the name doesn't fit into the buffer, which then stays
+/// unchanged.
 #[unsafe(no_mangle)]
 pub extern "C" fn dnsnames_canonical_name(
     message: &[u8],

@@ -53,8 +53,9 @@ pub extern "C" fn dnsnames_builder_start(
 
 /// Pushes a question, or nothing.
 ///
-/// 23 where the builder and the octets aren't as these calls leave them, or the message is finished; 9 where the name
-/// is none; 24 where a record was pushed; 25 where 65,535 questions were; 8 where it doesn't fit: nothing is changed.
+/// Returns 23 if the builder and the octets aren't as these calls leave them, or if the message is finished. Returns 9
+/// if the name is no absolute name, 24 if a record was pushed, and 25 if 65,535 questions were. Returns 8 if the
+/// question doesn't fit. In each of these cases nothing is changed.
 #[unsafe(no_mangle)]
 pub extern "C" fn dnsnames_builder_question(
     octets: &mut [u8],
@@ -151,14 +152,15 @@ fn push_names(
     }
 }
 
-/// Pushes a record into a section, or nothing: 1 is that of answers, 2 authority, 3 additional. The owner's name is
-/// written as `dnsnames_plan` tells. So are the names in the data, over the message up to the owner's name, and this
-/// too, where the type is one of RFC 1035 (3.3) that has names, and the data are exactly its fields, with no pointer
-/// in a name. All other data are written as they are.
+/// Pushes a record into a section, or nothing: 1 is the answer section, 2 authority, 3 additional. The owner's name is
+/// written as `dnsnames_plan` says. So are the names in the data, over the message up to and including the owner's
+/// name. This holds where the type is one of RFC 1035 (3.3) that has names, and the data are exactly its fields, with
+/// no pointer in a name. All other data are written unchanged.
 ///
-/// 23 where the builder and the octets aren't as these calls leave them, or the message is finished; 26 where there is
-/// no such section; 9 where the owner's name is none; 24 where a later section has a record; 25 where this one has
-/// 65,535; 8 where it doesn't fit: nothing is changed.
+/// Returns 23 if the builder and the octets aren't as these calls leave them, or if the message is finished. Returns
+/// 26 if there is no such section, 9 if the owner's name is no absolute name, and 24 if a later section has a record.
+/// Returns 25 if this section has 65,535 records, and 8 if the record doesn't fit. In each of these cases nothing is
+/// changed.
 #[unsafe(no_mangle)]
 pub extern "C" fn dnsnames_builder_record(
     octets: &mut [u8],
@@ -189,11 +191,11 @@ pub extern "C" fn dnsnames_builder_record(
     }
 }
 
-/// Pushes an OPT record into the additional section, or nothing (RFC 6891, 6.1): how many octets of a message over UDP
-/// its sender takes, the upper eight bits of a response code of twelve, the version, the bit DO where `dnssec_ok`
-/// isn't 0, and options in wire format, as they are.
+/// Pushes an OPT record into the additional section, or nothing (RFC 6891, 6.1). It states how many octets of a
+/// message over UDP its sender takes, the upper eight bits of a response code of twelve, and the version. It has the
+/// bit DO where `dnssec_ok` isn't 0, and the options in wire format, unchanged.
 ///
-/// 23, 25 and 8 as `dnsnames_builder_record` has them: nothing is changed.
+/// Returns 23, 25 and 8 as `dnsnames_builder_record` does: nothing is changed.
 #[unsafe(no_mangle)]
 pub extern "C" fn dnsnames_builder_opt(
     octets: &mut [u8],

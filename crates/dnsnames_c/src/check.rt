@@ -33,10 +33,10 @@ fn number_of_relative(kind: RelativeNameErrorKind) -> u32
     }
 }
 
-/// Whether the octets are an absolute name with no pointer (RFC 1035, 3.1): 0. 4 where there are more than 255;
-/// otherwise the first fault from the left: 1 where they end inside a label, or there are none, 2 at a length octet of
-/// a type that is not in use, 5 at a pointer, 6 where they end after a label that isn't the root, 7 where more follow
-/// the root.
+/// Returns 0 if the octets are an absolute name with no pointer (RFC 1035, 3.1), and 4 if there are more than 255
+/// octets. Otherwise it returns the first fault from the left. This is 1 where the octets end inside a label, or there
+/// are none. It is 2 at a length octet of a type that is not in use, and 5 at a pointer. It is 6 where the octets end
+/// after a label that isn't the root, and 7 where more follow the root.
 #[unsafe(no_mangle)]
 pub extern "C" fn dnsnames_check(octets: &[u8]) -> u32
     ensures { ChecksAbsolute octets.now result }

@@ -31,15 +31,15 @@ fn give_name(octets: &[u8], begin: usize, buffer: &mut [u8], length: &mut usize)
     }
 }
 
-/// The name with `index` names before it in the data of a record of this type, which are the `data_len` octets of the
-/// message from `data_at` on, into the buffer with no pointer in it; `length` becomes its size. Its octets end inside
-/// the data; its pointers lead before, as far as the message goes.
+/// Writes the name with `index` names before it in the data of a record of this type into the buffer, with no pointer
+/// in it. `length` becomes its size. The data are the `data_len` octets of the message from `data_at` on. The name's
+/// octets end inside the data; its pointers lead back, as far as the message goes.
 ///
-/// 21 where data of this type have no such name (those of the types of RFC 1035, 3.3, that have names, and of DNAME,
-/// RP, AFSDB, RT, PX, KX and SRV are known); 1 where the data end past the message, or in a name or what is after it;
-/// 7 where they go on after it; 2 and 4 as `dnsnames_skip` has them for any of their names; 3 and 4 as `dnsnames_read`
-/// has them for the one that is asked for: nothing is changed. 8 where it doesn't fit into the buffer, which then
-/// stays.
+/// Returns 21 if data of this type have no such name. The known types are those of RFC 1035 (3.3) that have names, and
+/// DNAME, RP, AFSDB, RT, PX, KX and SRV. Returns 1 if the data end past the message, or in a name or what is after it,
+/// and 7 if they go on after that. Returns 2 and 4 as `dnsnames_skip` does for any of the names, and 3 and 4 as
+/// `dnsnames_read` does for the requested one. In each of these cases nothing is changed. Returns 8 if the name
+/// doesn't fit into the buffer, which then stays unchanged.
 #[unsafe(no_mangle)]
 pub extern "C" fn dnsnames_data_name(
     message: &[u8],
@@ -60,12 +60,13 @@ pub extern "C" fn dnsnames_data_name(
     give_name(&message[..data_at + data_len], begin, buffer, length)
 }
 
-/// The number with `index` numbers before it in the data of a record of this type, which are the `data_len` octets of
-/// the message from `data_at` on: the preference of MX, RT, PX and KX, the subtype of AFSDB, the priority, weight and
-/// port of SRV, of 16 bits each, and serial, refresh, retry, expire and minimum of SOA, of 32, in the order of these.
+/// Gives the number with `index` numbers before it in the data of a record of this type. The data are the `data_len`
+/// octets of the message from `data_at` on. Numbers of 16 bits are the preference of MX, RT, PX and KX, the subtype of
+/// AFSDB, and the priority, weight and port of SRV. Numbers of 32 bits are serial, refresh, retry, expire and minimum
+/// of SOA. The numbers of a type have this order.
 ///
-/// 21 where data of this type have no such number, and 1, 2, 4 and 7 as `dnsnames_data_name` has them of the data:
-/// nothing is changed.
+/// Returns 21 if data of this type have no such number, and 1, 2, 4 and 7 as `dnsnames_data_name` does for the data.
+/// In each of these cases nothing is changed.
 #[unsafe(no_mangle)]
 pub extern "C" fn dnsnames_data_number(
     message: &[u8],

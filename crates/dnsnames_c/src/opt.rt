@@ -7,10 +7,10 @@ ghost use Rattle.dnsnames_c.specs.Opts.{TellsOptType, extended_code, GivesDataOp
 use crate::data::number_of_data;
 use domain_offsets::option_in;
 
-/// What an OPT record says by its class and its TTL (RFC 6891, 6.1.2 and 6.1.3): how many octets its sender takes in a
-/// message over UDP, 512 where it tells fewer (6.2.3); the response code of twelve bits, of which the flags of the
-/// message's header have the lower four; the version of EDNS; and the bit DO (RFC 3225). 21 where the type isn't OPT:
-/// nothing is changed.
+/// Gives what an OPT record states by its class and its TTL (RFC 6891, 6.1.2 and 6.1.3). The first is how many octets
+/// its sender takes in a message over UDP, or 512 where it states fewer (6.2.3). The second is the response code of
+/// twelve bits, of which the flags of the message's header have the lower four. The others are the version of EDNS,
+/// and the bit DO (RFC 3225). Returns 21 if the type isn't OPT: nothing is changed.
 #[unsafe(no_mangle)]
 pub extern "C" fn dnsnames_opt(
     rtype: u16,

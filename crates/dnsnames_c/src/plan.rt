@@ -5,12 +5,14 @@ use domain_buffer::plan::{add_offsets, is_table, write_name};
 use domain_compress::plan::plan;
 use domain_name::Name;
 
-/// How a name is to be written after the octets of a message, whose first one is the message's: 0, the first `begin`
-/// octets of the name and a pointer to `offset`. It stands for the name's longest end but the root that is read at one
-/// of the offsets of the table, and for the first such offset.
+/// Plans how to write a name after the octets of a message, whose first one is the message's. Returns 0 where the
+/// first `begin` octets of the name and a pointer to `offset` are to be written. The pointer stands for the longest
+/// suffix of the name, other than the root, that is read at one of the offsets of the table. `offset` is the first
+/// such offset.
 ///
-/// 17 where it is to be written with no pointer, since no end stands at any, or 256 pointers would lead along it; 16
-/// where the table has more than 128 offsets or one past 16,383, 9 where the name is none.
+/// Returns 17 if the name is to be written with no pointer. Then no such suffix is read at any of the offsets, or 256
+/// pointers would lead along it. Returns 16 if the table has more than 128 offsets or one past 16,383, and 9 if the
+/// name is no absolute name.
 #[unsafe(no_mangle)]
 pub extern "C" fn dnsnames_plan(
     octets: &[u8],
@@ -35,12 +37,12 @@ pub extern "C" fn dnsnames_plan(
     0
 }
 
-/// Writes a name after the first `octets_len` octets of a message, as `dnsnames_plan` tells, and adds the offsets of
-/// the labels that were written to the first `table_len` ones of the table: those below 16,384, as far as it has room
-/// for them, and up to 128 in all. Both lengths become the new ones.
+/// Writes a name after the first `octets_len` octets of a message, as `dnsnames_plan` says. Adds the offsets of the
+/// labels that were written to the first `table_len` offsets of the table. It adds those below 16,384, as far as the
+/// table has room for them, and up to 128 in all. Both lengths become the new ones.
 ///
-/// 20 where a length is more than there is room for, 16 and 9 as `dnsnames_plan`, 8 where the name doesn't fit:
-/// nothing is changed.
+/// Returns 20 if a length is more than there is room for, 16 and 9 as `dnsnames_plan` does, and 8 if the name doesn't
+/// fit. In each of these cases nothing is changed.
 #[unsafe(no_mangle)]
 pub extern "C" fn dnsnames_append(
     octets: &mut [u8],

@@ -3,7 +3,8 @@ ghost use Rattle.dnsnames_c.specs.Answers.{Gives};
 
 use domain_buffer::put::put;
 
-/// Puts the octets at the beginning of the buffer, and tells how many there are: 0. Where they don't fit: 8.
+/// Puts the octets at the start of the buffer and returns 0, or 8 where they don't fit. `length` becomes how many
+/// there are.
 pub(crate) fn give(octets: &[u8], buffer: &mut [u8], length: &mut usize) -> u32
     ensures { Gives octets.now result buffer.old buffer.new length.new }
 {

@@ -28,12 +28,13 @@ fn number_of_bit(bit: bool) -> u32
 }
 
 /// Reads the name at an offset of a message, through at most `limit` pointers, into the buffer with no pointer in it
-/// (RFC 1035, 4.1.4). `length` becomes its size, `end` the offset after its root or first pointer, and `compressed` 0
-/// where all its octets lie one after the other, at the offset or where pointers there lead to, otherwise 1.
+/// (RFC 1035, 4.1.4). `length` becomes its size, and `end` the offset after its root or first pointer. `compressed`
+/// becomes 0 where all its octets lie one after the other, at the offset or where pointers there lead to, otherwise 1.
 ///
-/// 1 where the message ends in it, 2 at a length octet of a type that is not in use, 3 at a pointer that doesn't lead
-/// back or is one too many, 4 where it has more than 255 octets: nothing is changed. 8 where it doesn't fit into the
-/// buffer, which then stays; the rest is given.
+/// Returns 1 if the message ends in the name, and 2 at a length octet of a type that is not in use. Returns 3 at a
+/// pointer that doesn't lead back or is one too many, and 4 if the name has more than 255 octets. In each of these
+/// cases nothing is changed. Returns 8 if the name doesn't fit into the buffer, which then stays unchanged; the rest
+/// is given.
 #[unsafe(no_mangle)]
 pub extern "C" fn dnsnames_read(
     message: &[u8],

@@ -9,8 +9,9 @@ use domain_offsets::string_in;
 /// for the first string, and then as the call leaves it. `string` becomes the offset of its octets in the message,
 /// `string_len` how many there are.
 ///
-/// 27 where all strings were passed; 21 where the type is another; 1 where the data end past the message, where they
-/// end in the string, or where they have no octet, since there is one string at least: nothing is changed.
+/// Returns 27 if all strings were passed, and 21 if the type is another. Returns 1 if the data end past the message,
+/// if they end in the string, or if they have no octet, since there is at least one string. In each of these cases
+/// nothing is changed.
 #[unsafe(no_mangle)]
 pub extern "C" fn dnsnames_data_string(
     message: &[u8],

@@ -18,19 +18,19 @@ fn number_of_fill(fault: Option<RowFault>) -> u32
     }
 }
 
-/// All questions and records that the header of a message counts, in their order (RFC 1035, 4.1): a row of eight
-/// numbers for each, and their names, with no pointer in them, one after another. A row has where the entry's name
-/// begins in `names` and how many octets it has, its type, its class, its time to live in seconds, where its data
-/// begin in the message and how many octets they have, and the offset after it, at which the next entry begins. A
-/// question has the time to live 0, and no octets of data, at the offset after it. Each name is read through at most
-/// `limit` pointers. `row_count` becomes how many rows there are, `names_len` how many octets in `names`; what is
-/// after them there stays.
+/// Gives all questions and records that the header of a message counts, in their order (RFC 1035, 4.1). Each has a row
+/// of eight numbers; their names come one after another, with no pointer in them. A row has where the entry's name
+/// starts in `names`, how many octets it has, its type, its class, and its time to live in seconds. After these it has
+/// where the entry's data start in the message, how many octets they have, and the offset after the entry, at which
+/// the next entry starts. A question has the time to live 0, and no octets of data, at the offset after it. Each name
+/// is read through at most `limit` pointers. `row_count` becomes how many rows there are, `names_len` how many octets
+/// in `names`; what is after them there stays unchanged.
 ///
-/// 0 where all are there. Otherwise the rows are those of the entries before the first that has none, and the number
-/// says why: 1, 2, 3 and 4 as `dnsnames_read` has them of its name; 1 where the four octets after a question's name,
-/// the ten after a record's, or the data end past the message, and, with no row, where the message has fewer than
-/// twelve octets; 8 where it is there, but its row or its name doesn't fit, and, with no row, where the message has
-/// 2^32 octets or more.
+/// Returns 0 if all are there. Otherwise the rows are those of the entries before the first that has none, and the
+/// number says why. It is 1, 2, 3 or 4 as `dnsnames_read` returns for its name. It is 1 if the four octets after a
+/// question's name, the ten after a record's, or the data end past the message. It is 1, with no row, if the message
+/// has fewer than twelve octets. It is 8 if the entry is there, but its row or its name doesn't fit. It is 8, with no
+/// row, if the message has 2^32 octets or more.
 ///
 /// At most one entry more than there are rows is read, and of each at most 128 labels and `limit` pointers: what a
 /// sender can make it cost is bounded by the size of the message, which each entry takes some octets of, and by the

@@ -55,9 +55,10 @@ fn name_of(text: &str) -> Result<Name<ArrayVec<u8, 255>>, u32>
 /// Reads the text of an absolute name (RFC 1035, 5.1) into the buffer with no pointer; a final dot may be left out.
 /// `length` becomes its size.
 ///
-/// 1 where the text is empty or ends in an escape, 4 where the name has more than 255 octets, 11 at a broken escape,
-/// 12 at a character that is no octet, 13 where a label begins with `\[`, 14 where one has more than 63 octets, 15 at
-/// an empty one: nothing is changed. 8 where it doesn't fit into the buffer.
+/// Returns 1 if the text is empty or ends in an escape, and 4 if the name has more than 255 octets. Returns 11 at a
+/// broken escape, 12 at a character that is no octet, and 13 if a label starts with `\[`. Returns 14 if a label has
+/// more than 63 octets, and 15 at an empty one. In each of these cases nothing is changed. Returns 8 if the name
+/// doesn't fit into the buffer.
 #[unsafe(no_mangle)]
 pub extern "C" fn dnsnames_from_text(text: &[u8], buffer: &mut [u8], length: &mut usize) -> u32
     ensures { ReadsText text.now result buffer.old buffer.new length.old length.new }

@@ -1,7 +1,7 @@
-//! Shows what a message from standard input says: `dnswalk OFFSET` prints a line for each label and pointer that
-//! reading the name at the offset comes to, and a last line with the name or why there is none; `dnswalk message`
-//! prints the header, and a line for each question and record; `dnswalk make` reads such lines, and writes their
-//! message. With `--hex` behind any of them the message is in hexadecimal digits.
+//! Shows what a message from standard input says. `dnswalk OFFSET` prints a line for each label and pointer that
+//! reading the name at the offset comes to. A last line has the name or why there is none. `dnswalk message` prints
+//! the header, and a line for each question and record. `dnswalk make` reads such lines, and writes their message.
+//! With `--hex` after any of them the message is in hexadecimal digits.
 #![tactic(auto)]
 
 use domain_make::engine::run as make;

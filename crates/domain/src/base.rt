@@ -21,13 +21,13 @@ pub mod scan {
 
 /// Labels and names.
 ///
-/// A domain name is a list of labels, the most special one first and the root label last, as `www`,
-/// `example`, `com` and the root. A `Label` is one of them. A `Name` is a whole name in one piece, a
-/// `RelativeName` one that another has to follow; a `ParsedName` is a name in a message, whose labels may
-/// stand in several places, and a `Chain` is two names, one after the other. All have the calls of the
-/// traits here, which one line brings: `use domain::base::name::*;`.
+/// A domain name is a list of labels, the most specific one first and the root label last, as `www`,
+/// `example`, `com` and the root. A `Label` is one of them. A `Name` is a whole name in one piece. A
+/// `RelativeName` is a name that another has to follow. A `ParsedName` is a name in a message, whose labels
+/// may be in several places. A `Chain` is two names, one after the other. All have the calls of the traits
+/// here, which one line imports: `use domain::base::name::*;`.
 ///
-/// docs/NAMES.md tells what names are, docs/CALLING.md how to use them.
+/// docs/NAMES.md says what names are, docs/CALLING.md how to use them.
 pub mod name {
     pub use domain_builder::{
         FromStrError, PresentationError, PresentationErrorKind, PushError, PushNameError,
@@ -89,12 +89,12 @@ pub mod rdata {
     };
 }
 
-/// What a message begins with: identifier, flags and counts (RFC 1035, 4.1.1).
+/// What a message starts with: identifier, flags and counts (RFC 1035, 4.1.1).
 pub mod header {
     pub use domain_header::{Header, HeaderCounts, HeaderSection};
 }
 
-/// Messages and their sections (RFC 1035, 4.1). The README.md of `domain_message` tells how to read one.
+/// Messages and their sections (RFC 1035, 4.1). The README.md of `domain_message` shows how to read one.
 pub mod message {
     pub use domain_header::ShortMessage;
     pub use domain_message::{
@@ -103,8 +103,8 @@ pub mod message {
     pub use domain_record::{entry_laws, reads_back_laws};
 }
 
-/// Messages that are written (RFC 1035, 4.1). crates/domain_message_builder/README.md tells how to write one, and
-/// crates/domain_sections/README.md how with a type for each section.
+/// Messages that are written (RFC 1035, 4.1). crates/domain_message_builder/README.md shows how to write one, and
+/// crates/domain_sections/README.md how to write one with a type for each section.
 pub mod message_builder {
     pub use domain_message_builder::{
         MessageBuilder, OptBuilder, PushError, StartError, builder_laws, pushed_data_reads_back,

@@ -1,4 +1,4 @@
-//! Data of records by their types. The README.md of `domain_data` tells the calls, and that of `domain_svcb`
+//! Data of records by their types. The README.md of `domain_data` lists the calls, and that of `domain_svcb`
 //! those of SVCB and HTTPS.
 
 pub use domain_all_data::AllRecordData;

@@ -168,7 +168,7 @@ NoShape a_property = NotAll refusal PropertyAt NoProperty
 NoShape a_service = NotAll refusal ServiceAt NoService
 NoShape some_octets = TooMuchIsLeft
 
--- Data of a record of the type t is at offset p, all that is left, and ends before e.
+-- Data of a record of the type t starts at offset p, takes all the remaining octets, and ends before e.
 abbrev pub AllDataAt : ℕ → List ℕ → ℕ → AllFields → ℕ → Type 0
 AllDataAt t = ShapeAt (shape_of t)
 

@@ -495,7 +495,8 @@ impl<'a> CanonicalRecordData for AllRecordData<&'a [u8], ParsedName<&'a [u8]>> {
     }
 }
 
-/// Data of a type that is known is read by its type, and is all that is left; of any other all that is left is taken.
+/// Data of a known type is read by its type, and must take all the remaining octets. Any other type takes all the
+/// remaining octets.
 impl<'a> ParseAnyRecordData<'a> for AllRecordData<&'a [u8], ParsedName<&'a [u8]>> {
     ghost use Rattle.domain_all_data.specs.AllTypes.{all_fields};
 

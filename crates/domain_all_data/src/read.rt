@@ -1,6 +1,7 @@
 //! Data of any type is read by its type.
 //!
-//! A `match` of all types at once is dear to prove, so there are four, each for a run of numbers (RFC 1035, 3.2.2).
+//! A `match` of all types at once is expensive to prove, so there are four, each for a run of numbers (RFC 1035,
+//! 3.2.2).
 ghost use Rattle.std.specs.Prelude.{◌≡◌, ◌≤◌, ◌<◌, true, IfOk, IfErr, OnOk, OnErr};
 ghost use Rattle.octseq.specs.Parsing.{message, position, MovesTo};
 ghost use Rattle.domain_rdata.specs.Parsers.{ReadsData, IsOfType, HasNoData};

@@ -1,4 +1,4 @@
-//! What is done with data of any type, each in one place: the variants are told apart by `visit` alone.
+//! What is done with data of any type, each in one place: `visit` alone distinguishes the variants.
 ghost use Rattle.std.specs.Prelude.{◌≡◌};
 ghost use Rattle.domain_rdata.specs.Canonical.{names_known};
 ghost use Rattle.domain_all_data.specs.Visits.{DataFacts, facts_of, LengthTold, DataAppended, FormAppended};
@@ -17,7 +17,7 @@ pub(crate) trait DataVisitor<State> {
             result };
 }
 
-/// Tells the length.
+/// Returns the length.
 #[derive(Drop)]
 pub(crate) struct Measure {
     pub(crate) compress: bool,
@@ -69,7 +69,7 @@ impl<Target: Composer> DataVisitor<Target> for ComposeCanonical {
     }
 }
 
-/// Tells whether the canonical form is known.
+/// Returns whether the canonical form is known.
 #[derive(Drop)]
 pub(crate) struct KnowNames;
 

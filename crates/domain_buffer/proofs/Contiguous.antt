@@ -1,4 +1,4 @@
--- A name that is told to be uncompressed, or not.
+-- A name that is reported as uncompressed, or not.
 use Rattle.std.proofs.Common.{◌≡◌, ℕ, List, Bool, false, sym, subst, ◌∙◌}
 use Rattle.domain_reading.specs.Grammar.{IsContiguous}
 

@@ -64,7 +64,7 @@ IsSecondFront names octets n =
 abbrev pub HasNoSecondFront : ℕ → List ℕ → Type 0
 HasNoSecondFront names octets = (names ≢ 1) × ((names ≡ 2) → HasNoNameFront octets)
 
--- So many octets are the second name, or nothing; or there is neither.
+-- `found` octets are the second name, or nothing; or there is neither.
 abbrev pub FindsSecondFront : (found : Option ℕ) → ℕ → List ℕ → Type 0
 FindsSecondFront found names octets =
     MatchOption found (HasNoSecondFront names octets) (IsSecondFront names octets)

@@ -29,7 +29,7 @@ NoPartsAt m n p =
     ((n < number16 m 4) × (after : ℕ) × Skips m p after × LacksParts m true after)
     ⊎ ((number16 m 4 ≤ n) × (after : ℕ) × Skips m p after × LacksParts m false after)
 
--- The row of an entry whose name has so many octets, from an offset on in the buffer of names.
+-- The row of an entry whose name has `len` octets, from the offset `at` on in the buffer of names.
 abbrev pub row : ℕ → ℕ → Parts → List ℕ
 row at len it = at ∷ len ∷ it.rtype ∷ it.class ∷ it.ttl ∷ it.data_at ∷ it.data_len ∷ it.end ∷ []
 

@@ -12,12 +12,12 @@ use crate::plan::{add_offsets, is_table, spell};
 use crate::put::put_at;
 use domain_message::Section;
 
-/// A message that is built: how many octets it has at most, how many it has, the identifier and the flags that it
-/// gets, how many entries each section has, where the sections of records begin, and the offsets to which pointers
-/// lead, of which the first `table_len` count.
+/// A message that is built. Its fields are how many octets it has at most, how many it has, and the identifier and the
+/// flags that it gets. After these come how many entries each section has, where the sections of records start, and
+/// the offsets to which pointers lead. Of the offsets the first `table_len` count.
 ///
-/// Its octets are the caller's. Until the message is finished the first twelve are 128 each, at which no name can be
-/// read (RFC 1035, 4.1.4), so that names are read the same whatever the header becomes.
+/// Its octets are the caller's. Until the message is finished the first twelve are 128 each. No name can be read at
+/// these (RFC 1035, 4.1.4), so names are read the same whatever the header becomes.
 #[repr(C)]
 #[derive(Drop)]
 pub struct Builder {

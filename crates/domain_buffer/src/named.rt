@@ -108,9 +108,9 @@ fn write_after_owner(
     })
 }
 
-/// Writes a record after the message whose data have names. The owner's name is written as `plan` of `domain_compress`
-/// tells, and each name in the data as it tells over the message up to the owner's name, and this too; the offsets of
-/// all their labels are remembered. False where it exceeds the limit: nothing is changed.
+/// Writes a record whose data have names after the message. The owner's name is written as `plan` of `domain_compress`
+/// says. Each name in the data is written as it says for the message up to and including the owner's name. The offsets
+/// of all their labels are remembered. Returns false if the record exceeds the limit: nothing is changed.
 pub fn enter_named(
     octets: &mut [u8],
     builder: &mut Builder,

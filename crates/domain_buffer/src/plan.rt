@@ -79,8 +79,9 @@ pub fn write_name(octets: &mut [u8], start: usize, table: &[u16], name: &[u8]) -
     })
 }
 
-/// Adds the offsets of labels that were written from `start` on to the first `count` ones of the table, as far as it
-/// has room for them and a pointer can lead there, up to 128 in all. Tells how many there are then.
+/// Adds the offsets of labels that were written from `start` on to the first `count` offsets of the table. It adds
+/// those to which a pointer can lead, as far as the table has room for them, up to 128 in all. Returns how many there
+/// are then.
 pub fn add_offsets(table: &mut [u16], count: usize, labels: &[u8], start: usize) -> usize
     requires count { count ≤ length table.old }
     requires few { IsTable (take count table.old) }

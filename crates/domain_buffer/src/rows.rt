@@ -108,10 +108,10 @@ fn take_entry(
     })
 }
 
-/// Takes entry after entry, to the last one that the header counts or the first that isn't there or doesn't fit: a row
-/// of eight numbers for each, and its name, read through at most `limit` pointers. A row has where the name begins in
-/// `names` and how many octets it has, type, class, TTL, where the data begin in the message and how many octets they
-/// have, and the offset after the entry. A question has the TTL 0 and no data.
+/// Takes entry after entry, to the last one that the header counts or the first that isn't there or doesn't fit. For
+/// each it writes a row of eight numbers, and its name, read through at most `limit` pointers. A row has where the
+/// name starts in `names`, how many octets it has, type, class and TTL. After these it has where the data start in the
+/// message, how many octets they have, and the offset after the entry. A question has the TTL 0 and no data.
 pub fn fill_rows(message: &[u8], limit: u8, rows: &mut [u32], names: &mut [u8]) -> Filled
     requires header { 12 ≤ length message.now }
     requires small { length message.now < 2 ^ 32 }

@@ -55,7 +55,7 @@ AnswersShortLabel limit label old r new = NameAlone (size (labelled old.built la
 abbrev pub AnswersName : (limit : Option ℕ) → List (List ℕ) → Held → Result (Unit {0}) PushNameError → Held → Type 0
 AnswersName limit labels old r new = NameFits (size (named old.built labels)) (room limit new) r
 
--- The answer to an absolute name of so many octets that is put at the end.
+-- The answer to an absolute name of `origin` octets that is put at the end.
 abbrev pub AnswersOrigin : {A : Type 0} → (limit : Option ℕ) → (origin : ℕ) → Held → Result A PushNameError → Type 0
 AnswersOrigin limit origin b r = OriginFits (size b.built + origin) (room limit b) r
 

@@ -19,14 +19,14 @@ MatchPushError LongLabel P Q R = P
 MatchPushError LongName P Q R = Q
 MatchPushError ShortBuf P Q R = R
 
--- A call whose label would have so many octets and the whole so many, where so many fit without new memory.
--- A long label is told first. Where neither is long, it is refused only where the whole doesn't fit.
+-- A call whose label would have `label` octets and the whole `whole`, where `room` octets fit without new memory. A
+-- long label is reported first. Where neither is long, the call is refused only where the whole doesn't fit.
 abbrev pub LabelThenName : (label whole room : ℕ) → Result (Unit {0}) PushError → Type 0
 LabelThenName label whole room r =
     MatchResult r (λ _. (label ≤ 63) × (whole ≤ 254))
     (λ e. MatchPushError e (63 < label) ((label ≤ 63) × (254 < whole)) ((label ≤ 63) × (whole ≤ 254) × (room < whole)))
 
--- The same, where a long name is told first.
+-- The same, where a long name is reported first.
 abbrev pub NameThenLabel : (label whole room : ℕ) → Result (Unit {0}) PushError → Type 0
 NameThenLabel label whole room r =
     MatchResult r (λ _. (label ≤ 63) × (whole ≤ 254))
@@ -36,7 +36,7 @@ NameThenLabel label whole room r =
 abbrev pub OpenLabelThenName : (made : BuilderState) (room : ℕ) → Result (Unit {0}) PushError → Type 0
 OpenLabelThenName made room r = LabelThenName (length made.open_label) (size made) room r
 
--- The same, where a long name is told first.
+-- The same, where a long name is reported first.
 abbrev pub NameThenOpenLabel : (made : BuilderState) (room : ℕ) → Result (Unit {0}) PushError → Type 0
 NameThenOpenLabel made room r = NameThenLabel (length made.open_label) (size made) room r
 
@@ -61,7 +61,7 @@ abbrev pub TakesSymbols : (room : ℕ) → BuilderState → List NameSymbol → 
 TakesSymbols room b ps r new =
     MatchResult r (λ _. Makes b ps new) (λ e. MatchFromStr e (StopsAt b ps new) (LacksRoom room b ps new))
 
--- The same of a builder, where so many octets are fixed for its type.
+-- Like `TakesSymbol`, for a builder: `limit` is the number of octets that is fixed for its type, if any.
 abbrev pub AddsSymbol : (limit : Option ℕ) → Held → NameSymbol → Result (Unit {0}) FromStrError → Held → Type 0
 AddsSymbol limit b p r new = TakesSymbol (room limit new) b.built p r new.built
 
@@ -69,7 +69,7 @@ AddsSymbol limit b p r new = TakesSymbol (room limit new) b.built p r new.built
 abbrev pub AddsSymbols : (limit : Option ℕ) → Held → List NameSymbol → Result (Unit {0}) FromStrError → Held → Type 0
 AddsSymbols limit b ps r new = TakesSymbols (room limit new) b.built ps r new.built
 
--- What a refusal of octets is told as, where the octets are those of a text.
+-- What a refusal of octets is reported as, where the octets are those of a text.
 abbrev pub PushErrorBecomes : PushError → FromStrError → Type 0
 PushErrorBecomes LongLabel e = MatchFromStr e (λ f. f ≡ fault.LongLabel) ⊥
 PushErrorBecomes LongName e = MatchFromStr e (λ f. f ≡ fault.LongName) ⊥
@@ -80,7 +80,7 @@ abbrev pub PushNameErrorBecomes : PushNameError → FromStrError → Type 0
 PushNameErrorBecomes name.LongName e = MatchFromStr e (λ f. f ≡ fault.LongName) ⊥
 PushNameErrorBecomes name.ShortBuf e = e ≡ short.ShortBuf
 
--- A call that makes so many octets, where so many fit without new memory.
+-- A call that makes `whole` octets, where `room` octets fit without new memory.
 abbrev pub NameFits : (whole room : ℕ) → Result (Unit {0}) PushNameError → Type 0
 NameFits whole room (Ok u) = whole ≤ 254
 NameFits whole room (Err name.LongName) = 254 < whole

@@ -38,9 +38,9 @@ impl<B: OctetsBuilder + OctetsMut> LabelsBuilder<B> {
 
     /// Ends the open label at a plain dot, and pushes the octet of any other symbol.
     ///
-    /// `EmptyLabel` at a dot where no label is open, and a dot elsewhere is never refused; `BinaryLabel` at
-    /// `\[` where none is open; `BadSymbol` at a character that stands for no octet; else the refusals of
-    /// `push`. A refused call changes nothing.
+    /// `EmptyLabel` at a dot where no label is open; a dot elsewhere is never refused. `BinaryLabel` at `\[` where no
+    /// label is open. `BadSymbol` at a character that stands for no octet. Otherwise the errors of `push`. A refused
+    /// call changes nothing.
     pub fn push_symbol(&mut self, symbol: Symbol) -> Result<(), FromStrError>
         ensures takes { AddsSymbol B.limit self.old (symbol_in_name symbol) result self.new }
         ensures capacity { self.old.capacity ≤ self.new.capacity }

@@ -52,7 +52,7 @@ impl<B: EmptyBuilder + OctetsMut> LabelsBuilder<B> {
         }
     }
 
-    /// A builder of nothing that has room for so many octets, where no room is fixed.
+    /// Makes an empty builder that has room for `capacity` octets, where no room is fixed.
     pub fn with_capacity(alloc: Global, capacity: usize) -> Result<Self, ShortBuf>
         ensures built { IfOk result (λ made. made.built ≡ empty_state) }
         ensures room { IfSome B.ROOM (λ n. IfOk result (λ made. made.capacity ≡ n)) }
@@ -187,7 +187,7 @@ impl<B: OctetsBuilder + OctetsMut> LabelsBuilder<B> {
         self.add(&[ch])
     }
 
-    /// Adds octets to the open label, or opens one, but for no octets.
+    /// Adds octets to the open label, or opens one. An empty slice adds and opens nothing.
     #[tactic(auto, using(crate::proofs::Building::nothing_pushed))]
     #[inline(always)]
     pub fn append_slice(&mut self, slice: &[u8]) -> Result<(), PushError>
@@ -222,7 +222,7 @@ impl<B: OctetsBuilder + OctetsMut> LabelsBuilder<B> {
         self.head = None;
     }
 
-    /// Finishes the open label and adds a label, but for no octets.
+    /// Finishes the open label and adds a label. An empty slice adds no label.
     #[tactic(auto, using(crate::proofs::Building::size_labelled, crate::proofs::Building::labelled_nothing))]
     #[inline(always)]
     pub fn append_label(&mut self, slice: &[u8]) -> Result<(), PushError>

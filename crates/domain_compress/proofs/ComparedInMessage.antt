@@ -60,7 +60,7 @@ same_first xs ys e = sym (low_first xs) ∙ (ap first_label e ∙ low_first ys)
 pub same_length : (a b : List ℕ) → lowercase a ≡ lowercase b → length a ≡ length b
 same_length a b e = sym (length-map a _) ∙ (ap length e ∙ length-map b _)
 
--- The head and the octets of the first label that is left in the name.
+-- The head and the octets of the first remaining label of the name.
 pub name_head : (name : List ℕ) (passed : ℕ) (before after : List (List ℕ)) → Meets name passed before after → IsAbsolute after → slice_index name passed ≡ length (first_label after)
 name_head name passed before [] m a = absurd a
 name_head name passed before (y ∷ ys) m a = read_at name passed before y ys m

@@ -37,7 +37,7 @@ taken_whole n e t one two = grind (arith, common_steps)
 pub few_too : (vs : List Written) (xs : List RememberedLabel) → all_remembered vs ≡ take 128 xs → length vs ≤ 128
 few_too vs xs told = omega (arith, remembered_size vs, ap length told, taken_few 128 xs)
 
--- Those that are left where octets are cut end within what is left.
+-- The entries that remain after a cut end within the octets that remain.
 pub inside_cut : (t u : List ℕ) (n : ℕ) (ws vs : List RememberedLabel) → u ≡ take n t → All (EndsWithin (length t)) ws → vs ≡ remembered_within n ws → All (EndsWithin (length u)) vs
 inside_cut t u n ws vs cut old told =
     let both = within_inside n (length t) ws old in
@@ -64,7 +64,7 @@ inside_once n ws = Prim.hlevel props
 few_once : (ws : List Written) → (a b : length ws ≤ 128) → a ≡ b
 few_once ws = Prim.hlevel props
 
--- What is known of the octets that are left is known of the target's.
+-- What is known of the remaining octets is known of the target's.
 pub known_left : (hashed left : Bool) (len : ℕ) (o t u : List ℕ) (ws vs : List Written) → o ≡ t → u ≡ take len t → IsKnown hashed t ws → (IsKnown hashed o ws → IsKnown left (take len o) vs) → IsKnown left u vs
 known_left hashed left len o t u ws vs read cut known kept =
     let same : take len o ≡ u = ap (take len) read ∙ sym cut in

@@ -89,7 +89,7 @@ written_hash t labels start end at n h before after m lt size hashed s =
 pub known_push : (t : List ℕ) (new old : List Written) (w : Written) → All (IsHashed t) old → IsHashed t w → new ≡ old ++ w ∷ [] → All (IsHashed t) new
 known_push t new old w known here e = subst (All (IsHashed t)) (sym e) (All-push (IsHashed t) old w known here)
 
--- An offset of those that are left is remembered.
+-- One of the remaining offsets is remembered.
 pub known_kept : (t : List ℕ) (n : ℕ) (stands holds : Bool) (new kept : List Written) (w : Written) → IsKnown holds (take n t) kept → (stands ≡ true → IsHashed t w) → w.end ≤ n → new ≡ kept ++ w ∷ [] → IsKnown (stands && holds) (take n t) new
 known_kept t n stands holds new kept w known here before e both =
     let b = both_true stands holds both in

@@ -14,7 +14,7 @@ use Rattle.domain_reading.proofs.Reading.{reads_once}
 use Rattle.domain_reading.proofs.NameOrFault.{walk_reads, names_or_fault}
 use Rattle.domain_rdata.specs.ReadBack.{StandsAt}
 
--- A walk from p has passed labels of so many octets, with their length octets, and stands at at.
+-- A walk from p has passed labels of `len` octets, with their length octets, and stands at `at`.
 pub record Walked (t : List ℕ) (p at len pointers : ℕ) : Type 0 where
   pub labels : List (List ℕ)
   pub walk : Followed 255 t p pointers labels at

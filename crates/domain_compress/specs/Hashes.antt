@@ -42,7 +42,7 @@ abbrev pub StayKnown : List ℕ → ℕ → ℕ → List Written → List Writte
 StayKnown labels start end old new =
     (t : List ℕ) → StandFrom t labels start end → All (IsHashed t) old → All (IsHashed t) new
 
--- If the hashes of the old entries, where they count, are those of their labels, then so are, where `holds` is true,
--- those of the entries that a cut to n octets leaves.
+-- Suppose that the hashes of the old entries, where they count, are those of their labels. Then so are, where `holds`
+-- is true, those of the entries that a cut to n octets leaves.
 abbrev pub KnownWithin : ℕ → List ℕ → Bool → Bool → List Written → List Written → Type 0
 KnownWithin n t hashed holds old new = IsKnown hashed t old → IsKnown holds (take n t) new

@@ -30,7 +30,7 @@ pub record StandsThrough (t : List ℕ) (p : ℕ) (ls : List (List ℕ)) (k : �
   pub same : lowercase_labels labels ≡ lowercase_labels ls
   pub few : k ≤ max_pointers
 
--- Each name that stands at p has so many octets uncompressed.
+-- Each name that stands at p has n octets uncompressed.
 abbrev pub HasWireLength : List ℕ → ℕ → ℕ → Type 0
 HasWireLength t p n = (ls : List (List ℕ)) → StandsAt t p ls → length (wire ls) ≡ n
 

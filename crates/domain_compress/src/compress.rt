@@ -21,16 +21,16 @@ use octseq::{Octets, OctetsBuilder, OctetsMut, Truncate};
 
 /// A composer that writes a name shorter where a suffix of it was written before (RFC 1035, 4.1.4).
 ///
-/// It appends to a target, which is any other composer, and remembers where labels of names were written: at
-/// most 128 offsets, those before the octet 16,384, to which a pointer can lead. Pointers count from the first
-/// octet of the target, so the message begins there. For a name it takes the longest suffix of it, other than the
-/// root, that is read without case at an offset that it remembers, and writes the labels before it and a pointer
-/// to the first such offset. Where there is none, or a reader would have to follow more than 255 pointers, the
-/// name is written uncompressed. Either way it is read back as an equal name.
+/// It appends to a target, which is any other composer, and remembers where labels of names were written. These are at
+/// most 128 offsets, those before the octet 16,384, to which a pointer can lead. Pointers count from the first octet
+/// of the target, so the message starts there. For a name it takes the longest suffix of it, other than the root, that
+/// is read without case at an offset that it remembers. It writes the labels before this suffix and a pointer to the
+/// first such offset. Where there is none, or a reader would have to follow more than 255 pointers, the name is
+/// written uncompressed. Either way it is read back as an equal name.
 ///
-/// What the target held before is never pointed to. Octets that are written over through `as_slice_mut` are
-/// read anew for the next name that is searched for, so a pointer is right whatever they are; names that were written
-/// before may be no longer.
+/// What the target held before is never pointed to. Octets that are written over through `as_slice_mut` are read anew
+/// for the next name that is searched for. So a pointer is right whatever they are; names that were written before may
+/// no longer be right.
 #[derive(Drop)]
 pub struct CompressComposer<T: Composer> {
     target: T,

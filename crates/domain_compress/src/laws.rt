@@ -11,10 +11,11 @@ ghost use Rattle.domain_compress.specs.Standing.{AllRememberedStand};
 /// and are no more than the wire format. What a message reads at an offset is read there after more octets, too,
 /// and where octets are cut after those that it stands in.
 ///
-/// Where each name at a remembered offset is read from the octets between n and its end alone, the next name is
-/// written so that it is, too; it stays so after more octets, after a cut and whatever is written over the octets
-/// before n. A message that is begun with n octets, before a composer remembers an offset, has no other names. So a
-/// name that was written is read at its offset when more octets stand after it, and the header is written over.
+/// Suppose that each name at a remembered offset is read from the octets between n and its end alone. Then the next
+/// name is written so that it is, too. This stays so after more octets, after a cut and whatever is written over the
+/// octets before n. A message that is started with n octets, before a composer remembers an offset, has no other
+/// names. So a name that was written is read at its offset when more octets stand after it, and the header is written
+/// over.
 pub fn compress_laws()
     ensures once { WritesOneList }
     ensures reads_back { WrittenReadsBack }

@@ -62,7 +62,7 @@ pub(crate) fn mark_firsts(marks: &mut [u8; 256], name: &[u8])
     }
 }
 
-/// What is at the offset, as `read_head` tells it.
+/// What is at the offset, as `read_head` returns it.
 fn head_at(octets: &[u8], offset: usize) -> Result<Head, NameFault>
     ensures { MatchResult result (IsHeadAt octets.now offset) (BrokenAt octets.now offset) }
 {

@@ -60,8 +60,8 @@ pub(crate) fn pointer(offset: u16) -> [u8; 2]
     (49152 + offset).to_be_bytes()
 }
 
-/// Puts the first `begin` octets of a name, and a pointer to an offset after them (RFC 1035, 4.1.4), at the beginning
-/// of a buffer, and returns how many octets there are.
+/// Puts the first `begin` octets of a name at the start of a buffer, and after them a pointer to an offset (RFC 1035,
+/// 4.1.4). Returns how many octets there are.
 #[inline(always)]
 pub fn put_pointed(name: &[u8], begin: usize, offset: u16, octets: &mut [u8; 255]) -> usize
     requires low { offset < 16384 }
@@ -123,7 +123,7 @@ fn offsets_of(written: &[Written]) -> ArrayVec<u16, 128>
     table
 }
 
-/// The table, and after it the offsets of these labels, but for the root, that were written from `start` on: those
+/// The table, and after it the offsets of these labels, except the root, that were written from `start` on: those
 /// below 16,384, to which a pointer can lead, and up to 128 in all.
 pub fn more_offsets(table: &[u16], labels: &[u8], start: usize) -> ArrayVec<u16, 128>
     requires few { length table.now ≤ 128 }

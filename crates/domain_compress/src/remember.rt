@@ -56,8 +56,8 @@ fn remember_each(
     }
 }
 
-/// Remembers where these labels stand, but for the root, that were written from `start` on for a name that ends
-/// at `end`, each with its hash where the hashes count.
+/// Remembers where these labels stand, except the root. They were written from `start` on for a name that ends at
+/// `end`. Each is remembered with its hash where the hashes count.
 #[inline(always)]
 pub(crate) fn remember(
     written: &mut ArrayVec<Written, 128>,

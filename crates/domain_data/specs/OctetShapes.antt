@@ -46,7 +46,7 @@ RuleAt = BothAt Number16At (BothAt Number16At StringsNameAt)
 abbrev pub NoRule : List ℕ → ℕ → ParseError → Type 0
 NoRule = NotBoth Number16At (ShortAt 2) (NotBoth Number16At (ShortAt 2) NoStringsName)
 
--- two numbers of 8 bits and all octets that are left: SSHFP
+-- two numbers of 8 bits and all remaining octets: SSHFP
 abbrev pub FingerprintAt : List ℕ → ℕ → ℕ × (ℕ × List ℕ) → ℕ → Type 0
 FingerprintAt = BothAt Number8At (BothAt Number8At IsAllThatIsLeft)
 
@@ -54,7 +54,7 @@ FingerprintAt = BothAt Number8At (BothAt Number8At IsAllThatIsLeft)
 abbrev pub NoFingerprint : List ℕ → ℕ → ParseError → Type 0
 NoFingerprint = NotBoth Number8At (ShortAt 1) (NotBoth Number8At (ShortAt 1) TooMuchIsLeft)
 
--- a number of 16 bits, two of 8 bits and all octets that are left: DS and DNSKEY
+-- a number of 16 bits, two of 8 bits and all remaining octets: DS and DNSKEY
 abbrev pub KeyAt : List ℕ → ℕ → ℕ × (ℕ × (ℕ × List ℕ)) → ℕ → Type 0
 KeyAt = BothAt Number16At FingerprintAt
 
@@ -62,7 +62,7 @@ KeyAt = BothAt Number16At FingerprintAt
 abbrev pub NoKey : List ℕ → ℕ → ParseError → Type 0
 NoKey = NotBoth Number16At (ShortAt 2) NoFingerprint
 
--- three numbers of 8 bits and all octets that are left: TLSA
+-- three numbers of 8 bits and all remaining octets: TLSA
 abbrev pub AssociationAt : List ℕ → ℕ → ℕ × (ℕ × (ℕ × List ℕ)) → ℕ → Type 0
 AssociationAt = BothAt Number8At FingerprintAt
 
@@ -70,7 +70,7 @@ AssociationAt = BothAt Number8At FingerprintAt
 abbrev pub NoAssociation : List ℕ → ℕ → ParseError → Type 0
 NoAssociation = NotBoth Number8At (ShortAt 1) NoFingerprint
 
--- a number of 8 bits, a tag and all octets that are left: CAA
+-- a number of 8 bits, a tag and all remaining octets: CAA
 abbrev pub PropertyAt : List ℕ → ℕ → ℕ × (List ℕ × List ℕ) → ℕ → Type 0
 PropertyAt = BothAt Number8At (BothAt TagAt IsAllThatIsLeft)
 
@@ -78,7 +78,7 @@ PropertyAt = BothAt Number8At (BothAt TagAt IsAllThatIsLeft)
 abbrev pub NoProperty : List ℕ → ℕ → ParseError → Type 0
 NoProperty = NotBoth Number8At (ShortAt 1) (NotBoth TagAt NoTag TooMuchIsLeft)
 
--- a number of 16 bits, a name and all octets that are left
+-- a number of 16 bits, a name and all remaining octets
 abbrev pub SignerAt : List ℕ → ℕ → ℕ × (List (List ℕ) × List ℕ) → ℕ → Type 0
 SignerAt = BothAt Number16At (BothAt NameFieldAt IsAllThatIsLeft)
 

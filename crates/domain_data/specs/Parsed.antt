@@ -5,7 +5,7 @@ use Rattle.octseq.specs.Parsing.{message, position}
 use Rattle.domain_wire.specs.Refusals.{Refusal}
 use Rattle.domain_fields.specs.Data.{AllAt, NotAll}
 
--- What `At` tells of is there, is all that is left, and the parser was moved to its end.
+-- What `At` describes is present and takes all remaining octets, and the parser was moved to its end.
 abbrev pub HasAll : {A : Type 0} → (At : List ℕ → ℕ → A → ℕ → Type 0) → Parser → A → Parser → Type 0
 HasAll At old it new = AllAt At (message old) (position old) it (position new)
 

@@ -117,7 +117,7 @@ name_numbers = name_before NumbersAt NoNumbers numbers
 names_numbers : IsReadingOf refusal NamesNumbersAt NoNamesNumbers
 names_numbers = name_before (BothAt NameFieldAt NumbersAt) (NotBoth NameFieldAt NoNameField NoNumbers) name_numbers
 
--- fields that have to be all that is left
+-- fields that must take all remaining octets
 pub all_data : {A : Type 0} (At : List ℕ → ℕ → A → ℕ → Type 0) (No : List ℕ → ℕ → ParseError → Type 0) → IsReadingOf refusal At No → IsReading (AllAt At) (NotAll refusal At No)
 all_data At No law = parse_reading (all_reading refusal At No law)
 

@@ -19,11 +19,12 @@ impl<const TYPE: u16, F> FieldsData<TYPE, F> {
     ghost use Rattle.domain_data.specs.Views.{fields_of};
     ghost use Rattle.domain_data.specs.Parsed.{HasAll, LacksAll};
 
-    /// Reads the fields, which have to be all that is left: `parse_rdata` of each type, and of one with fields of
-    /// its own.
+    /// Reads the fields, which must take all remaining octets. This is `parse_rdata` of each type, and of one with
+    /// fields of its own.
     ///
-    /// `None` exactly where the type of the record is another. `None` and an error leave the parser. The error is that
-    /// of the first field that isn't there, or "trailing data" where octets are left after the last.
+    /// Returns `None` exactly when the type of the record is another one. `None` and an error leave the parser
+    /// unchanged. The error is that of the first field that isn't present, or "trailing data" if octets remain after
+    /// the last field.
     pub fn read<'a, E: FieldError>(
         rtype: Rtype,
         parser: &mut Parser<'a>,

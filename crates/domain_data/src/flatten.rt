@@ -1,4 +1,4 @@
-//! Record data made over names that own their octets.
+//! Conversion of record data to record data whose names own their octets.
 use crate::fields::FieldsData;
 use domain_fields::{DataField, FlattenField};
 use domain_traits::FlattenInto;
@@ -23,7 +23,7 @@ impl<const TYPE: u16, F: FlattenField<Made>, Made: DataField> FlattenInto<Fields
     }
 }
 
-/// The same as [`FlattenInto`]: names are converted, octets are made over, and numbers stay.
+/// Like [`FlattenInto`]: names and octets are converted, and numbers stay.
 impl<const TYPE: u16, F: FlattenField<Made>, Made: DataField> OctetsFrom<FieldsData<TYPE, F>>
     for FieldsData<TYPE, Made> {
     ghost use Rattle.domain_data.specs.Views.{fields_of};

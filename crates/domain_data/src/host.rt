@@ -288,8 +288,8 @@ impl<N> Soa<N> {
         Ttl::from_secs(self.fields.rest.rest.rest.rest.rest.first)
     }
 
-    /// For how long an answer that there is no such name or data may be kept, or for the TTL of the SOA record itself
-    /// where that is shorter (RFC 2308, 3 and 5).
+    /// Returns how long an answer that there is no such name or data may be kept. If the TTL of the SOA record itself
+    /// is shorter, the answer may be kept for that TTL only (RFC 2308, 3 and 5).
     pub fn minimum(&self) -> Ttl
         ensures { ttl_seconds result ≡ soa_minimum self.now }
     {

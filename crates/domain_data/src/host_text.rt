@@ -106,7 +106,7 @@ impl<Octs: Octets, N> Naptr<Octs, N> {
         self.fields.rest.first
     }
 
-    /// The flags, letters and digits of which the service tells the meaning.
+    /// The flags: letters and digits whose meaning the service defines.
     pub fn flags(&self) -> &CharString<Octs>
         ensures { result.now ≡ (fields_of self.now).rest.rest.first }
     {
@@ -127,7 +127,7 @@ impl<Octs: Octets, N> Naptr<Octs, N> {
         &self.fields.rest.rest.rest.rest.first
     }
 
-    /// The name that is asked next; the root where the regular expression tells it.
+    /// The name to query next, or the root if the regular expression provides that name.
     pub fn replacement(&self) -> &N
         ensures { result.now ≡ (fields_of self.now).rest.rest.rest.rest.rest.name }
     {

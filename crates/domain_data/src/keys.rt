@@ -154,8 +154,8 @@ impl<Octs: Octets> Dnskey<Octs> {
         }
     }
 
-    /// The flags: 256 of a key of the zone, to which alone a DS record may lead, and 1 as a hint that it is a secure
-    /// entry point, which nothing may be decided by (RFC 4034, 2.1.1 and 5.2).
+    /// The flags. 256 marks a key of the zone; a DS record may lead only to such a key. 1 is a hint that the key is a
+    /// secure entry point, and nothing may be decided by it (RFC 4034, 2.1.1 and 5.2).
     pub fn flags(&self) -> u16
         ensures { result ≡ dnskey_flags self.now }
     {

@@ -19,7 +19,7 @@ pub type Mg<N> = FieldsData<8, NameField<N>>;
 /// The mailbox that the mailbox was renamed to (RFC 1035, 3.3.8).
 pub type Mr<N> = FieldsData<9, NameField<N>>;
 
-/// Who is responsible for a mailing list, and who is told of errors (RFC 1035, 3.3.7).
+/// The mailbox responsible for a mailing list, and the one that receives error messages (RFC 1035, 3.3.7).
 pub type Minfo<N> = FieldsData<14, Sequence<NameField<N>, NameField<N>>>;
 
 impl<N> Mb<N> {
@@ -106,7 +106,7 @@ impl<N> Minfo<N> {
         &self.fields.first.name
     }
 
-    /// The mailbox that is told of errors, as a name.
+    /// The mailbox that receives error messages, as a name.
     pub fn emailbx(&self) -> &N
         ensures { result.now ≡ (fields_of self.now).rest.name }
     {

@@ -1,5 +1,5 @@
 -- Data that was composed and data that is read, type by type: the same numbers, addresses, strings and octets, and the
--- same names, with their case or ignoring it. `labels` tells the labels of a name that was composed, as `N.labels`
+-- same names, with their case or ignoring it. `labels` maps a name that was composed to its labels, as `N.labels`
 -- does.
 use Rattle.std.specs.Prelude.{◌≡◌, ℕ, List}
 use Rattle.octseq.specs.declared.octets.Octets.{Ghosts}

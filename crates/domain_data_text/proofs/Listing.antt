@@ -81,7 +81,7 @@ pub fields_step : (all : List Field) (words : List Word) (i : ℕ) (e : Field) (
 fields_step all words i e d old mid new before inside within here =
     fields_more all words (get_or all i e) (get_or words i d) (drop (i + 1) all) (drop i all) (drop (i + 1) words) (drop i words) old mid new before (left_item all i e inside) (left_item words i d within) here
 
--- The words before those left are parts, so what is told of those left is told of all.
+-- The words before the remaining ones are parts, so what is reported for the remaining ones is reported for all.
 abbrev pub Passed : (List ℕ → List ℕ → Type 0) → (WordAt → Fault → ℕ → Type 0) → List Word → List Word → Type 0
 Passed IsPart NoPart all left = (f : Fault) (c : ℕ) → FirstNone IsPart NoPart (words_at left) f c → FirstNone IsPart NoPart (words_at all) f c
 
@@ -117,7 +117,7 @@ pub fitted_here : (all : List Field) (words : List Word) (i : ℕ) (e : Field) (
     → NoField (get_or all i e) (word_at (get_or words i d)) f c → FirstOther all (words_at words) f c
 fitted_here all words i e d f c before inside within lack = before f c (at_left all words i e d f c inside within (inl lack))
 
--- What is told of the word at an index is told of all.
+-- What is reported for the word at an index is reported for all words.
 pub parts_refused : (IsPart : List ℕ → List ℕ → Type 0) (NoPart : WordAt → Fault → ℕ → Type 0) (all : List Word) (i : ℕ) (d : Word) (e : Stop) → Passed IsPart NoPart all (drop i all) → i < length all
     → IfFault e (NoPart (word_at (get_or all i d))) → IfFault e (FirstNone IsPart NoPart (words_at all))
 parts_refused IsPart NoPart all i d e before inside h = if_refused (NoPart (word_at (get_or all i d))) (FirstNone IsPart NoPart (words_at all)) e (λ f c lack. passed_here IsPart NoPart all i d f c before inside lack) h

@@ -34,7 +34,7 @@ all_digits_once (w ∷ ws) a b is also =
     let rest : is.1 ≡ also.1 = all_digits_once ws is.1 also.1 is.3 also.3 in
     is.4 ∙ (ap (λ x. x ++ is.1) first ∙ (ap (λ x. also.0 ++ x) rest ∙ sym also.4))
 
--- ---- what is told of words says that they are nothing of the kind
+-- ---- what is reported for words says that they are nothing of the kind
 
 pub no_name : (w : WordAt) (f : Fault) (c : ℕ) (ls : List (List ℕ)) → NoName w f c → IsNameWord w.octets ls → ⊥
 no_name w f c ls (no_dot never told) is = never is.absolute

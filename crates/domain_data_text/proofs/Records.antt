@@ -34,7 +34,7 @@ same_first first f rest r e = cc
 pub not_generic : (words rest : List WordAt) (first : WordAt) → words ≡ first ∷ rest → (first.octets ≡ codes "\\#" → ⊥) → (r : List WordAt) → BeginsGeneric words r → ⊥
 not_generic words rest first is other r begins = other (ap (λ (w : WordAt). w.octets) (same_first first begins.0 rest r (sym is ∙ begins.1)) ∙ begins.2)
 
--- ---- what is told of data
+-- ---- what is reported for data
 
 pub generic_none : (column : ℕ) (words : List Word) → words ≡ [] → NoGeneric column (words_at words) fault.Words column
 generic_none column words is = generic_empty (ap words_at is) (refl, refl)

@@ -36,7 +36,7 @@ word_single line s t u (ordinary a o b e) (escaped x y f) = absurd (o.1 x)
 word_single line s t u (ordinary a o b e) (quote x f) = absurd (o.0 x)
 word_single line s t u (ordinary a o b e) (ordinary x p y f) = e ∙ sym f
 
--- Nothing is of a word after the last octet, but for two where one is.
+-- Nothing after the last octet is part of a word.
 pub word_at_end : (line : List ℕ) (quoted : Bool) (at : ℕ) → at ≡ length line → IsLast (WordStep line) (quoted, at)
 word_at_end line quoted at all t (escaped a b e) = absurd (omega arith)
 word_at_end line quoted at all t (quote a e) = past line at 34 (omega arith) a (omega arith)

@@ -1,4 +1,4 @@
--- What is told of a refusal.
+-- What is reported for a refusal.
 use Rattle.std.proofs.Common.{◌≡◌, ℕ, List, sym, subst}
 use Rattle.std.specs.Prelude.{Result, Ok, Err, IfErr, IsErrAnd}
 use Rattle.std.specs.Str.{IsUtf8}

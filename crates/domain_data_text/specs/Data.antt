@@ -40,8 +40,8 @@ pub data IsTyped (rtype : ℕ) (words : List WordAt) (octets : List ℕ) : Type 
 abbrev pub BeginsGeneric : List WordAt → List WordAt → Type 0
 BeginsGeneric words rest = (first : WordAt) × (words ≡ first ∷ rest) × (first.octets ≡ codes "\\#")
 
--- The words are the data of a record of this type and class: in the form of RFC 3597, 5, or as the type has it; or
--- there is none, and the class says that none is meant, NONE or ANY (RFC 2136, 2.4 and 2.5).
+-- The words are the data of a record of this type and class. They are in the form of RFC 3597, 5, or in the form of
+-- the type. Or there is no word, and the class says that no data is meant: NONE or ANY (RFC 2136, 2.4 and 2.5).
 pub data IsData (rtype class : ℕ) (words : List WordAt) (octets : List ℕ) : Type 0 where
   generic : (rest : List WordAt) → BeginsGeneric words rest → IsGeneric rest octets → IsData rtype class words octets
   typed : ((rest : List WordAt) → BeginsGeneric words rest → ⊥) → IsTyped rtype words octets → IsData rtype class words octets

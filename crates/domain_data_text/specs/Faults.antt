@@ -1,4 +1,4 @@
--- What is told of words that aren't what stands there: the first fault, and the column of the part that has it.
+-- What is reported for words that aren't what belongs there: the first fault, and the column of the part that has it.
 use Rattle.std.specs.Prelude.{◌≡◌, ◌≢◌, ◌⊎◌, ℕ, ◌+◌, ◌<◌, Bool, true, List, [], ◌∷◌, length, slice_index, Some, None, ⊤}
 use Rattle.domain_data_text.specs.Data.{IsOfStrings, BeginsGeneric, AreDigits}
 use Rattle.domain_data_text.specs.Fields.{fields_of_type, IsField}
@@ -97,7 +97,7 @@ FirstNoString words f c = FirstNone (IsField part.Text) NoString words f c
 abbrev pub FirstNoDigits : List WordAt → Fault → ℕ → Type 0
 FirstNoDigits words f c = FirstNone IsDigitsWord NoDigits words f c
 
--- The words aren't these parts, one each. Another number of words is told where the type is, in this column.
+-- The words aren't these parts, one each. Another number of words is reported where the type is, in this column.
 pub data NoFields (parts : List Field) (column : ℕ) (words : List WordAt) (f : Fault) (c : ℕ) : Type 0 where
   number : length words ≢ length parts → Tells fault.Words column f c → NoFields parts column words f c
   other : length words ≡ length parts → FirstOther parts words f c → NoFields parts column words f c

@@ -85,14 +85,19 @@ fn may_lack(class: u16) -> bool
     class == 254 || class == 255
 }
 
-/// The data of a record of this type and class, whose words these are: behind `\#` how many octets there are, and
-/// these in hexadecimal digits; or what data of the type is made of; or no words, where the class is ANY or NONE.
+/// Returns the data of a record of this type and class, whose words these are. The words are one of these:
+/// - `\#`, the number of octets, and these octets in hexadecimal digits,
+/// - what data of the type consists of,
+/// - no words, if the class is ANY or NONE.
 ///
-/// `Refused` has the fault of the first word that isn't what stands there, in its column. Where data of the type has
-/// another number of words it is `Words`, and where such data is read behind `\#` alone `UnreadType`, both in the
-/// column that is given, of the type's word. Behind `\#` it is `Octets` where there are more or fewer than are told,
-/// in the column of their number, and `Words` where no number follows, in the column of `\#`. `Memory` where there was
-/// none.
+/// `Refused` has the fault of the first word that isn't what belongs there, in the column of that word. Other faults
+/// are:
+/// - `Words`, if data of the type has another number of words, in the column that is given, of the type's word.
+/// - `UnreadType`, if data of the type is read only behind `\#`, in the same column.
+/// - `Octets`, if more or fewer octets follow `\#` than their number states, in the column of that number.
+/// - `Words`, if no number follows `\#`, in the column of `\#`.
+///
+/// The error is `Memory` if allocation failed.
 pub fn data_of(
     alloc: Global,
     rtype: u16,

@@ -4,8 +4,8 @@ ghost use Rattle.domain_data_text.specs.FaultTexts.{fault_text};
 
 use std::fmt;
 
-/// What is wrong with a line: with a word of it, which is told here, or with the line of a message that it is, which
-/// is told by what reads messages.
+/// What is wrong with a line. What is wrong with a word of it is reported here. What is wrong with it as a line of a
+/// message is reported by what reads messages.
 #[derive(Clone, Copy, Debug, PartialEq, Eq)]
 pub enum Fault {
     /// A quote that no other quote ends.
@@ -48,7 +48,7 @@ pub enum Fault {
     Text,
     /// No octets in hexadecimal digits.
     Digits,
-    /// Another number of octets than is told before them, or data of more than 65,535.
+    /// A number of octets other than the one stated before them, or data of more than 65,535 octets.
     Octets,
     /// An entry of a section after one of a later section.
     Order,

@@ -56,10 +56,11 @@ fn word_end(line: &[u8], start: usize) -> Result<usize, Stop>
     Ok(at)
 }
 
-/// The words of a line from an offset on, up to its end or to a comment, which begins with a semicolon.
+/// Returns the words of a line from an offset on, up to its end or to a comment, which starts with a semicolon.
 ///
-/// `Refused` has `OpenQuote` where a quote is open at the end of the line, in the column where its word begins, and
-/// `LoneBackslash` where the line ends in a backslash, in the column of that. `Memory` where there was none.
+/// `Refused` has `OpenQuote` if a quote is open at the end of the line, in the column where its word starts. It has
+/// `LoneBackslash` if the line ends in a backslash, in the column of the backslash. The error is `Memory` if
+/// allocation failed.
 pub fn words_of<'a>(alloc: Global, line: &'a [u8], start: usize) -> Result<Vec<Word<'a>>, Stop>
     requires { start ≤ length line.now }
     ensures ok { IfOk result (λ words. AreWords line.now start (words_at words.items)) }

@@ -19,7 +19,7 @@ bitmaps_error_text ShortInput = codes "short input"
 bitmaps_error_text WindowOrder = codes "windows of types out of order"
 bitmaps_error_text BitmapLength = codes "invalid length of a type bitmap"
 
--- what a parser tells of it
+-- what a parser reports for it
 abbrev pub bitmaps_refusal : TypeBitmapsError → Refusal
 bitmaps_refusal (Long _) = form (codes "record data too long")
 bitmaps_refusal ShortInput = short_input
@@ -58,7 +58,7 @@ one_told m p why other (no_blocks o f fault left wrong told) (no_blocks q g also
     let same = (all_that_is_left.one_value m p o q f g left held).0 in
     told ∙ (ap bitmaps_refusal (one_block_fault q fault also (subst (λ x. NoBlocks x fault) same wrong) bad) ∙ sym tells)
 
--- at each offset one list of blocks is read, or one error is told
+-- at each offset one list of blocks is read, or one error is returned
 pub bitmaps_reading : IsReading BitmapsAt NoBitmaps
 bitmaps_reading = record {
   inside = λ m p bs e at. all_that_is_left.inside m p (blocks_octets bs) e at.left;

@@ -88,10 +88,10 @@ impl From<TypeBitmapsError> for ParseError {
     }
 }
 
-/// The types that a name has, as bitmaps: one block or more, each the number of a window of 256 types, an octet that
-/// tells how many octets the bitmap has, from 1 to 32, and these. The windows ascend (RFC 4034, 4.1.2).
+/// The types that a name has, as bitmaps: one block or more. A block is the number of a window of 256 types, an octet
+/// that states how many octets the bitmap has, from 1 to 32, and these octets. The windows ascend (RFC 4034, 4.1.2).
 ///
-/// A bitmap may end with octets without a one. Two are equal where their octets are.
+/// A bitmap may end with octets without a one. Two values are equal if their octets are.
 pub struct TypeBitmaps<Octs: Octets> {
     octets: Octs,
     ghost blocks: { HasBlocks 0 (Octs.octets octets) } by { HasBlocks_prop (Octs.octets octets) },
@@ -115,11 +115,12 @@ impl<Octs: Octets + Drop> TypeBitmaps<Octs> {
     ghost use Rattle.domain_dnssec.specs.BitmapReading.{HasBitmapsFault};
     ghost use Rattle.domain_dnssec.specs.BitmapViews.{bitmaps_holder};
 
-    /// The bitmaps that these octets are.
+    /// Returns the bitmaps that these octets are.
     ///
-    /// `Long` where they are more than 65,535, and else the first error from the left: `ShortInput` where there is no
-    /// octet, or they end inside of a block, `WindowOrder` where the window of a block isn't more than that of the
-    /// block before it, `BitmapLength` where a block has no octet or more than 32.
+    /// The error is `Long` if they are more than 65,535 octets, and otherwise the first error from the left:
+    /// - `ShortInput`, if there is no octet, or they end inside a block.
+    /// - `WindowOrder`, if the window of a block isn't greater than that of the block before it.
+    /// - `BitmapLength`, if a block has no octet or more than 32.
     pub fn from_octets(octets: Octs) -> Result<TypeBitmaps<Octs>, TypeBitmapsError>
         ensures held { IfOk result (λ it. bitmaps_holder it ≡ octets) }
         ensures err { IfErr result (HasBitmapsFault (Octs.octets octets)) }
@@ -154,8 +155,8 @@ impl<Octs: Octets> TypeBitmaps<Octs> {
     }
 }
 
-/// All octets that are left, which have to be bitmaps. The errors of [`TypeBitmaps::from_octets`], two of them as form
-/// errors, and "record data too long" where more than 65,535 are left.
+/// Reads all remaining octets, which must be bitmaps. The errors are those of [`TypeBitmaps::from_octets`], two of
+/// them as form errors. If more than 65,535 octets remain, the form error is "record data too long".
 impl<'a> ReadField<'a, ParseError> for TypeBitmaps<&'a [u8]> {
     ghost use Rattle.domain_dnssec.specs.BitmapViews.{bitmaps_blocks};
 
@@ -259,7 +260,7 @@ impl<Octs: Octets> ReadBackLast for TypeBitmaps<Octs> {
     fn reads_back_last(&self) {}
 }
 
-/// The octets are made over as [`OctetsFrom`](octseq::OctetsFrom) makes them.
+/// The octets are converted as [`OctetsFrom`](octseq::OctetsFrom) converts them.
 impl<Octs: Octets, Target: SameOctets<Octs>> FlattenField<TypeBitmaps<Target>>
     for TypeBitmaps<Octs> {
     ghost use Rattle.domain_dnssec.specs.BitmapViews.{bitmaps_octets, bitmaps_holder};

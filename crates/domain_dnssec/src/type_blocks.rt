@@ -12,7 +12,7 @@ use domain_rdata::Rtype;
 pub(crate) struct Block<'a> {
     /// The number of its window.
     pub(crate) window: u8,
-    /// Its bitmap, without the octet that tells how many octets it has.
+    /// Its bitmap, without the octet that states how many octets it has.
     pub(crate) bitmap: &'a [u8],
     /// The octets after the block.
     pub(crate) rest: &'a [u8],
@@ -48,9 +48,10 @@ pub(crate) fn first_block(octets: &[u8], least: u16) -> Result<Block<'_>, TypeBi
 
 /// Tests that octets are blocks, one or more, whose windows ascend (RFC 4034, 4.1.2).
 ///
-/// The error is the first from the left: `ShortInput` where the octets end where a block is due, or inside of one,
-/// `WindowOrder` where the window of a block isn't more than that of the block before it, `BitmapLength` where a block
-/// has no octet or more than 32.
+/// The error is the first from the left:
+/// - `ShortInput`, if the octets end where a block is due, or inside a block.
+/// - `WindowOrder`, if the window of a block isn't greater than that of the block before it.
+/// - `BitmapLength`, if a block has no octet or more than 32.
 pub(crate) fn check_blocks(octets: &[u8]) -> Result<(), TypeBitmapsError>
     ensures ok { OnOk result (HasBlocks 0 octets.now) }
     ensures some { OnOk result (0 < length octets.now) }

@@ -32,7 +32,7 @@ abbrev pub IsCookie : {S : Type 0} → (S → List ℕ) → List ℕ → List �
 IsCookie octets_of octets client None = (length client ≡ 8) × (octets ≡ client)
 IsCookie octets_of octets client (Some server) = (length client ≡ 8) × (8 ≤ length (octets_of server)) × (length (octets_of server) ≤ 32) × (octets ≡ client ++ octets_of server)
 
--- So many octets are no cookies: they end inside of the client's, or the server's would have another number of octets.
+-- `n` octets are no cookies: they end inside the client's, or the server's would have an invalid number of octets.
 pub data IsCookieFault (n : ℕ) (why : Refusal) : Type 0 where
   short : n < 8 → why ≡ short_input → IsCookieFault n why
   server : 8 < n → (n < 16) ⊎ (40 < n) → why ≡ form (codes "server cookie of a wrong length") → IsCookieFault n why
@@ -41,7 +41,8 @@ pub data IsCookieFault (n : ℕ) (why : Refusal) : Type 0 where
 abbrev pub octets_of_prefix : ℕ → ℕ
 octets_of_prefix bits = (bits + 7) / 8
 
--- how many bits the addresses of a family have: none, where no address is told, of IPv4, and of IPv6 (RFC 7871, 6)
+-- how many bits the addresses of a family have: 0 where no address is encoded, 32 for IPv4, and 128 for IPv6 (RFC
+-- 7871, 6)
 abbrev pub family_bits : ℕ → Option ℕ
 family_bits family = if nat_eq family 0 then Some 0 else (if nat_eq family 1 then Some 32 else (if nat_eq family 2 then Some 128 else None))
 
@@ -57,8 +58,8 @@ IsPrefix family source = (most : ℕ) × (family_bits family ≡ Some most) × (
 abbrev pub IsAddress : ℕ → List ℕ → Type 0
 IsAddress source address = (length address ≡ octets_of_prefix source) × EndsInZeros address source
 
--- The octets are a client's subnet: the family of its address, how many bits of it are told, for how many an answer is
--- meant, and these bits (RFC 7871, 6).
+-- The octets are a client's subnet: the family of its address, how many bits of it are encoded, for how many an answer
+-- is meant, and the encoded bits (RFC 7871, 6).
 pub record IsClientSubnet (octets : List ℕ) (family source scope : ℕ) (address : List ℕ) : Type 0 where
   pub whole : 4 ≤ length octets
   pub family_is : family ≡ number16 octets 0

@@ -13,7 +13,7 @@ pub record BeginsWithOption (octets : List ℕ) (code : ℕ) (data_octets rest :
 abbrev pub EndsInOption : List ℕ → Type 0
 EndsInOption octets = (length octets < 4) ⊎ (length octets < 4 + number16 octets 2)
 
--- The octets are all that is left of m from offset p on, and e is their end.
+-- The octets are the rest of m from offset p on, and e is their end.
 pub record AreAllThatIsLeft (m : List ℕ) (p : ℕ) (octets : List ℕ) (e : ℕ) : Type 0 where
   pub inside : p ≤ length m
   pub all : octets ≡ drop p m

@@ -1,4 +1,4 @@
--- Taking all that is left is a reading, which never fails.
+-- Taking the rest of the octets is a reading, which never fails.
 use Rattle.std.specs.Prelude.{ℕ, List}
 use Rattle.std.proofs.Common.{arith, sym, ◌∙◌}
 use Rattle.domain_wire.specs.declared.error.ParseError.{ParseError}

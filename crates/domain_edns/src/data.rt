@@ -13,7 +13,7 @@ const OPT: u16 = 41;
 
 /// The data of an OPT record: options, one after another (RFC 6891, 6.1.2).
 ///
-/// Whether its octets are whole options is told by reading them: [`iter`](OptData::iter).
+/// Reading them shows whether its octets are whole options: [`iter`](OptData::iter).
 #[derive(Clone, Copy, Debug, Drop)]
 pub struct OptData<'a> {
     octets: &'a [u8],
@@ -45,8 +45,8 @@ impl<'a> RecordData for OptData<'a> {
     }
 }
 
-/// Takes all that is left, of the type OPT alone. There is no error: options that are cut off are told by reading
-/// them.
+/// Takes the rest of the octets, for the type OPT alone. There is no error: options that are cut off are reported when
+/// they are read.
 impl<'a> ParseRecordData<'a> for OptData<'a> {
     ghost use Rattle.domain_edns.specs.Views.{opt_octets};
 

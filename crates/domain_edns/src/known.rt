@@ -218,23 +218,23 @@ fn check_address(source: u8, address: &[u8]) -> Result<(), ParseError>
 /// A client's subnet, for which an answer is made (RFC 7871, 6).
 #[derive(Clone, Copy, Debug, PartialEq, Eq)]
 pub struct ClientSubnet<'a> {
-    /// The family of the address: 1 for IPv4, 2 for IPv6, 0 where no bit of it is told.
+    /// The family of the address: 1 for IPv4, 2 for IPv6, 0 where no bit of it is encoded.
     pub family: u16,
-    /// How many bits of the address are told.
+    /// How many bits of the address are encoded.
     pub source_prefix_len: u8,
-    /// For how many bits an answer is meant, which may be more than are told; 0 in a query. It isn't checked.
+    /// For how many bits an answer is meant, which can be more than are encoded; 0 in a query. It isn't checked.
     pub scope_prefix_len: u8,
-    /// The bits that are told, in as few octets as have them, which end in zeros.
+    /// The address prefix in the fewest octets that hold it, padded with zero bits.
     pub address: &'a [u8],
 }
 
 impl<'a> ClientSubnet<'a> {
-    /// The subnet that an option is. `None` exactly where its code isn't 8.
+    /// Returns the subnet that an option encodes. `None` if and only if its code isn't 8.
     ///
-    /// Where it is: `ShortInput` where the option has fewer than four octets; else an error of form where the family
-    /// is another one, or more bits are told than its addresses have; else `ShortInput` where it has fewer octets than
-    /// these bits take, and an error of form where it has more, or a bit after them isn't zero. A server answers what
-    /// is wrong with the octets by FORMERR (RFC 7871, 6).
+    /// Where the code is 8, returns `ShortInput` if the option has fewer than four octets. Otherwise, returns a form
+    /// error if the family isn't 0, 1 or 2, or more bits are encoded than its addresses have. Otherwise, returns
+    /// `ShortInput` if the address has fewer octets than these bits take. Otherwise, returns a form error if it has
+    /// more, or a bit after them isn't zero. A server answers each of these errors by FORMERR (RFC 7871, 6).
     pub fn from_option(option: EdnsOption<'a>) -> Result<Option<ClientSubnet<'a>>, ParseError>
         ensures ok { IfOk result (ReadAs 8 SaySubnet option.entry) }
         ensures err { IfErr result (NotReadAs 8 IsSubnetFault option.entry) }

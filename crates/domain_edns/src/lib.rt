@@ -1,4 +1,4 @@
-//! OPT records that are read: what a sender tells of itself by EDNS (RFC 6891).
+//! OPT records that are read: what a sender states about itself by EDNS (RFC 6891).
 #![tactic(auto)]
 
 pub mod data;

@@ -32,9 +32,9 @@ pub enum OptError {
 }
 
 impl OptError {
-    /// The response code by which a server answers such a query: FORMERR, 1, whichever error it is. RFC 6891, 6.1.1,
-    /// asks for it where there are two OPT records; a message that ends too soon, or whose OPT record isn't of the
-    /// root (6.1.2), isn't of its form either (RFC 1035, 4.1.1).
+    /// Returns the response code by which a server answers such a query: FORMERR, 1, whichever error it is. RFC 6891,
+    /// 6.1.1, asks for it where there are two OPT records. A message that ends too soon, or whose OPT record has
+    /// another owner than the root (6.1.2), isn't of its form either (RFC 1035, 4.1.1).
     ///
     /// BADVERS, 16, is of no error here: by it a server answers an OPT record that it read, and whose
     /// [`version`](OptRecord::version) it doesn't know (6.1.3).
@@ -88,8 +88,8 @@ impl<'a> OptRecord<'a> {
         }
     }
 
-    /// How many octets its sender takes in a message over UDP: the number that is told, or 512 where that is less (RFC
-    /// 6891, 6.2.3).
+    /// Returns how many octets its sender accepts in a message over UDP: the encoded number, or 512 where that number
+    /// is less (RFC 6891, 6.2.3).
     pub fn udp_payload_size(&self) -> u16
         ensures { result ≡ taken_size (opt_class self.now) }
     {
@@ -132,10 +132,10 @@ impl<'a> OptRecord<'a> {
     }
 }
 
-/// The OPT record of a message: the only one of its additional section. `None` exactly where none is there.
+/// Returns the OPT record of a message: the only one of its additional section. `None` exactly where none is present.
 ///
-/// `Parse` with the error of the first entry that is missing; before it `Owner`, where the first OPT record is of
-/// another owner than the root, and then `Another`, where there is a second one.
+/// Reads the entries in their order, and returns the first error. A missing entry is `Parse` with its error. A first
+/// OPT record of another owner than the root is `Owner`, and a second OPT record is `Another`.
 pub fn opt_of<Octs: Octets>(message: &Message<Octs>) -> Result<Option<OptRecord<'_>>, OptError>
     ensures ok { IfOk result (λ found. IsTheOpt (message_octets message.now) found) }
     ensures err { IfErr result (λ e. HasOptFault (message_octets message.now) e) }

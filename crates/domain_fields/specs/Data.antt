@@ -1,4 +1,4 @@
--- Record data that has all of the octets up to the end (RFC 1035, 3.2.1: RDLENGTH tells how many it has).
+-- Record data that has all octets up to the end (RFC 1035, 3.2.1: RDLENGTH states how many it has).
 use Rattle.std.specs.Prelude.{◌≡◌, ℕ, ◌<◌, Bool, true, false, List, length, codes, Option, None, Some}
 use Rattle.std.proofs.Common.{arith, sym, ◌∙◌}
 use Rattle.domain_wire.specs.Refusals.{Refusal, form}

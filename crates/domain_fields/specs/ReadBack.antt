@@ -20,7 +20,7 @@ use Rattle.domain_fields.specs.Sequences.{BothComposed, BothAt}
 abbrev pub IsReadBack : {Seen : Type 0} → (Bool → List ℕ → List ℕ → Type 0) → (List ℕ → ℕ → Seen → ℕ → Type 0) → (Seen → Type 0) → Type 0
 IsReadBack {Seen} May At Alike = (compresses : Bool) (t s u : List ℕ) → May compresses t s → (it : Seen) × At (t ++ s ++ u) (length t) it (length t + length s) × Alike it
 
--- The same where it is all that is left.
+-- The same if it takes all remaining octets.
 abbrev pub IsReadBackWhole : {Seen : Type 0} → (Bool → List ℕ → List ℕ → Type 0) → (List ℕ → ℕ → Seen → ℕ → Type 0) → (Seen → Type 0) → Type 0
 IsReadBackWhole {Seen} May At Alike = (compresses : Bool) (t s : List ℕ) → May compresses t s → (it : Seen) × At (t ++ s) (length t) it (length t + length s) × Alike it
 
@@ -104,7 +104,7 @@ all_read_back May At Like law compresses t s may =
     let seen = law compresses t s may in
     (seen.0, record { fields = seen.1; whole = sym (length-append t s) }, seen.2)
 
--- octets that are all that is left
+-- all remaining octets
 pub left_read_back : (octets : List ℕ) → length octets ≤ 65535 → IsReadBackWhole (λ _ _ s. s ≡ octets) IsAllThatIsLeft (λ it. it ≡ octets)
 left_read_back octets few compresses t s same = (
   octets,

@@ -252,8 +252,8 @@ impl<N: DataName> DataField for NameField<N> {
 
 /// A name that is never compressed: of all other types (RFC 3597, 4).
 ///
-/// Whether the canonical form has it in lowercase or keeps its case is told by the type of the record, not by the
-/// field: [`Rtype::has_lowercase_names`](domain_rdata::Rtype::has_lowercase_names).
+/// The type of the record, not the field, determines whether the canonical form has the name in lowercase or keeps its
+/// case: [`Rtype::has_lowercase_names`](domain_rdata::Rtype::has_lowercase_names).
 #[derive(Clone, Copy, Debug, Drop, PartialEq, Eq)]
 pub struct UncompressedNameField<N> {
     pub name: N,

@@ -23,7 +23,7 @@ pub trait OrderedField: DataField {
 
 /// A field that is ordered where it is the last one: nothing follows it.
 ///
-/// Each field that is an [`OrderedField`] is; a field that takes all that is left can be.
+/// Each [`OrderedField`] is one. A field that takes all remaining octets can be one too.
 pub trait OrderedLast: DataField {
     /// The order of the octets of the canonical forms from the left; what begins another comes first (RFC 4034, 6.3).
     ///

@@ -58,9 +58,9 @@ pub trait ReadField<'a, E: FieldError>: Sized {
     ghost lawful: { IsReadingOf E.said encodes fails_with };
 }
 
-/// Reads a value that has to be all that is left.
+/// Reads a value that must take all remaining octets.
 ///
-/// The error is that of the value, or "trailing data" where octets are left after it. It leaves the parser.
+/// The error is that of the value, or "trailing data" if octets remain after it. An error leaves the parser unchanged.
 pub fn read_all<'a, E: FieldError, F: ReadField<'a, E> + Drop>(
     parser: &mut Parser<'a>,
 ) -> Result<F, E>

@@ -38,7 +38,7 @@ pub trait ReadBackField: DataField {
 
 /// A field that is read back from what was composed for it where it is the last one: the octets end with it.
 ///
-/// Each field that is a [`ReadBackField`] is; a field that takes all that is left can be.
+/// Each [`ReadBackField`] is one. A field that takes all remaining octets can be one too.
 pub trait ReadBackLast: DataField {
     /// What contracts see of what is read.
     ghost Seen: { Type 0 };
@@ -239,7 +239,7 @@ pub trait ReadBackData: ComposeRecordData {
     /// is its end: what [`parse_rdata`](domain_rdata::ParseRecordData::parse_rdata) reads.
     ghost seen_at: { ℕ → List ℕ → ℕ → Seen → ℕ → Type 0 };
 
-    /// What is read is like the data: the same but for the case of names.
+    /// What is read is like the data: the same except for the case of names.
     ghost like: { Self → Seen → Type 0 };
 
     /// The law, for this data. It does nothing.

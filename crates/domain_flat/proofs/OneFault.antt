@@ -47,8 +47,8 @@ goes_on ((c ∷ l) ∷ fs) ((d ∷ k) ∷ gs) r s f g e =
 
 -- ---- why a walk can't go on
 
--- What is told of octets that can't go on: of the fault of a label, also at the end where octets are
--- `missing` there; of an end that is well; and of a root.
+-- The answer for octets that can't go on: `told` of the fault of a label, also at the end where octets are `missing`
+-- there; `at_end` at an end that is well; `at_root` at a root.
 data Stuck {K : Type 0} (told : SplitLabelError → K) (at_end at_root : K) (missing : Type 0) (r : List ℕ) (k : K) : Type 0 where
   by_label : (e : SplitLabelError) → SplitFault r e → (r ≡ [] → missing) → k ≡ told e → Stuck told at_end at_root missing r k
   by_end : r ≡ [] → (missing → ⊥) → k ≡ at_end → Stuck told at_end at_root missing r k

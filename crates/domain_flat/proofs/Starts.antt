@@ -53,7 +53,7 @@ labels_parts : (xs ys : List (List ℕ)) → AreLabels (xs ++ ys) → AreLabels 
 labels_parts [] ys a = (tt, a)
 labels_parts (x ∷ xs) ys a = let r = labels_parts xs ys a.1 in ((a.0, r.0), r.1)
 
--- the last label begins where the table says, and the table tells the labels before it
+-- the last label begins where the table says, and the table has the starts of the labels before it
 pub record LastTold (o table : List ℕ) (n start : ℕ) : Type 0 where
   pub inside : start < length o
   pub last : HasLast o (take start o) (drop (start + 1) o)

@@ -64,7 +64,7 @@ impl<'a> NameIter<'a> {
         count > 0
     }
 
-    /// The wire format of the labels that are left.
+    /// Returns the wire format of the remaining labels.
     pub fn as_slice(&self) -> &'a [u8]
         ensures labels { labels_in result.now ≡ flat_labels_left self.now }
         ensures wire { wire (labels_in result.now) ≡ result.now }

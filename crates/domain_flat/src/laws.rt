@@ -5,8 +5,8 @@ ghost use Rattle.domain_wire.specs.Refusals.{Refusal};
 ghost use Rattle.domain_flat.specs.Faults.{AbsoluteFault, RelativeFault, StartFault, HaveOneFault, HaveNoFault};
 ghost use Rattle.domain_flat.specs.Flat.{NameAt};
 
-/// Octets have one first error, as an absolute name, as a relative one, and as the start of a name, and never both
-/// the error and the name; and at an offset of a message is at most one name without a pointer. The call does
+/// Octets have at most one first error as an absolute name, as a relative one, and as the start of a name. They never
+/// have both the error and the name. At an offset of a message is at most one name without a pointer. The call does
 /// nothing: its contract is the facts.
 pub fn fault_laws()
     ensures absolute { HaveOneFault AbsoluteFault }

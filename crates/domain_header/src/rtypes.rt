@@ -14,9 +14,9 @@ macro_rules! mnemonic {
     };
 }
 
-// The types of IANA's registry of DNS parameters of 6 December 2022, and of the later ones 66 to 68, 128 and 261 to
-// 264. `evidence/compare/registries` compares them with a copy of that day, and tells the RFC of each later one. The
-// first row of a number is its text, and each of its words is read.
+// The types of IANA's registry of DNS parameters of 6 December 2022, and the later ones 66 to 68, 128 and 261 to 264.
+// `evidence/compare/registries` compares them with a copy of that day, and states the RFC of each later one. The first
+// row of a number is its text, and each of its words is read.
 const RTYPES: [Mnemonic; 98] = [
     mnemonic!(1, "A"),
     mnemonic!(2, "NS"),

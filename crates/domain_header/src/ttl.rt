@@ -6,8 +6,8 @@ use std::fmt;
 
 /// How long a record may be cached: seconds, in 32 bits without a sign (RFC 8767, 4, which updates RFC 2181, 8).
 ///
-/// It is the number that is in the record. What a cache makes of one that is long is told by `cap`, and by `for_cache`
-/// as the older standard had it.
+/// It is the number that is in the record. `cap` returns what a cache makes of a long one, and `for_cache` what the
+/// older standard made of it.
 #[derive(Clone, Copy, Debug, PartialEq, Eq, PartialOrd, Ord, Hash)]
 pub struct Ttl(u32);
 

@@ -23,7 +23,7 @@ GivesSymbol steps cs None left done = (cs ≡ []) × (done ≡ true)
 GivesSymbol steps cs (Some (Err e)) left done = IsBroken cs e × (done ≡ true)
 GivesSymbol steps cs (Some (Ok s)) left done = HasSpelling s × (done ≡ false) × ((rest : List ℕ) × (cs ≡ spelling s ++ rest) × AlwaysYields steps (λ c. c) left rest)
 
--- A call gives what the characters that are left begin with, and nothing once the text is done.
+-- A call gives what the remaining characters start with, and nothing once the text is done.
 pub record SymbolSteps {I : Type 0} (steps : I → Option ℕ → I → Type 0) (s : Symbols I) (r : Option (Result Symbol SymbolCharsError)) (t : Symbols I) : Type 0 where
   pub over : s.done ≡ true → (r ≡ None) × (t.done ≡ true)
   pub on : s.done ≡ false → (cs : List ℕ) → AlwaysYields steps (λ c. c) s.chars cs → GivesSymbol steps cs r t.chars t.done

@@ -1,8 +1,8 @@
 -- Labels one after another in octets, where pointers lead on (RFC 1035, 3.1 and 4.1.4).
 use Rattle.std.specs.Prelude.{ℕ, zero, suc, ◌+◌, ◌-◌, ◌*◌, List, [], ◌∷◌, length, take, drop, ⊤, if◌then◌else◌, nat_lt, nat_le}
 
--- What a first octet means: a label that isn't the root is given, and reading goes on at an offset; the root is
--- given, and is the last; a pointer is followed to an offset; all else ends the labels.
+-- What a first octet means. A label that isn't the root is given, and reading goes on at an offset. The root is given,
+-- and is the last. A pointer is followed to an offset. Anything else ends the labels.
 pub data Step : Type 0 where
   past_label : List ℕ → ℕ → Step
   at_root : Step

@@ -20,8 +20,8 @@ fn same_each(a: &[u8], b: &[u8]) -> bool
     same
 }
 
-/// The same of so many octets that the first and the last `size` of them are all. The two parts may overlap, and
-/// both are looked at, so that nothing waits for a test.
+/// Like `same_each`, where the first and the last `size` octets together are all octets. The two parts can overlap,
+/// and both are compared, so that nothing waits for a test.
 #[inline(always)]
 fn same_ends(a: &[u8], b: &[u8], size: usize) -> bool
     requires sized { length a.now ≡ length b.now }

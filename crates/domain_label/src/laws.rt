@@ -31,8 +31,8 @@ pub fn split_laws()
     ensures not_both { (o l rest e : _) → BeginsWithLabel o l rest → SplitFault o e → ⊥ }
 {}
 
-/// Each text is read in exactly one way, as symbols and at most a broken escape after them; and it is the text of
-/// exactly one label, or has exactly one error, never both.
+/// Each text is read in exactly one way, as symbols and at most a broken escape after them. It is the text of exactly
+/// one label, or has exactly one error, never both.
 pub fn scan_laws()
     ensures symbols { (cs : List ℕ) → IsReadOnce cs }
     ensures labels { (cs : List ℕ) → OneLabel cs }

@@ -48,14 +48,14 @@ impl OwnedLabel {
 
     /// Reads a label from text (RFC 1035, 5.1). The empty text is that of the root label.
     ///
-    /// A character from space to tilde stands for itself, but for dot and backslash. A backslash and three
-    /// decimal digits of value at most 255 are that octet, and one before an ASCII character that isn't a
-    /// digit is that character, a control character too.
+    /// A character from space to tilde stands for itself, except dot and backslash. A backslash and three decimal
+    /// digits of value at most 255 are that octet. A backslash before an ASCII character that isn't a digit is that
+    /// character, also where it is a control character.
     ///
     /// The first error is returned. Any other character, and a plain dot, is `BadSymbol`. A broken escape is
     /// `SymbolChars`: `ShortInput` where the text ends inside it, else `BadEscape`. `\[` at the start is
-    /// `BinaryLabel`. Anything after 63 octets is `LongLabel`, before it is looked at. By `laws::scan_laws` each text
-    /// is that of one label or has one error, so the answer is just that.
+    /// `BinaryLabel`. Anything after 63 octets is `LongLabel`, before it is checked. By `laws::scan_laws` each text is
+    /// that of one label or has one error, and that is the result.
     pub fn from_chars<I: Iterator<Item = char> + Drop>(
         chars: I,
     ) -> Result<OwnedLabel, LabelFromStrError>

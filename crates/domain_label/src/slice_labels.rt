@@ -19,13 +19,13 @@ pub struct SliceLabelsIter<'a> {
 }
 
 impl<'a> Label<'a> {
-    /// The labels in `slice` from the offset `start` on, one after another.
+    /// Returns the labels in `slice` from the offset `start` on, one after another.
     ///
-    /// The root label is given and is the last. A pointer is followed to its own offset or one before it, which
-    /// counts from the beginning of `slice`. A pointer to a later offset, a first octet of another type and a label
-    /// or pointer that isn't whole end the labels, and so does the end of `slice`; from a `start` at or after it
-    /// there is no label. As many labels and pointers together are read as `slice` has octets, and no more, which
-    /// only pointers in a loop reach (RFC 1035, 3.1 and 4.1.4).
+    /// The root label is given and is the last. A pointer is followed to its own offset or one before it, which counts
+    /// from the beginning of `slice`. The labels end at a pointer to a later offset, at a first octet of another type,
+    /// and at a label or pointer that isn't whole. They also end at the end of `slice`; from a `start` at or after it
+    /// there is no label. At most as many labels and pointers together are read as `slice` has octets. Only pointers
+    /// in a loop reach this limit (RFC 1035, 3.1 and 4.1.4).
     pub fn iter_slice(slice: &'a [u8], start: usize) -> SliceLabelsIter<'a>
         ensures labels { walk_left result ≡ slice_walk slice.now start (length slice.now) }
         // Labels that end, within any number n of labels and pointers, are all given.

@@ -15,8 +15,8 @@ use Rattle.domain_message.specs.declared.section.Section.TheVariants.{Answer, Au
 use Rattle.domain_lines.specs.Flags.{flag_text}
 use Rattle.domain_lines.specs.Records.{IsEntryText}
 
--- The flags that are set, of the third and fourth octet of a header (RFC 1035, 4.1.1; AD and CD RFC 4035, 3.1.6 and
--- 3.2); and that the bit Z is, which must be zero.
+-- The flags that are set in the third and fourth octet of a header (RFC 1035, 4.1.1; AD and CD RFC 4035, 3.1.6 and
+-- 3.2). If the bit Z is set, which must be zero, the text says this, too.
 abbrev pub flags_text : ℕ → ℕ → List ℕ
 flags_text high low =
     flag_text (bit 128 high) (codes " qr") ++ (flag_text (bit 4 high) (codes " aa") ++ (flag_text (bit 2 high) (codes " tc") ++ (flag_text (bit 1 high) (codes " rd")

@@ -25,10 +25,10 @@ abbrev pub PutsRecordOrNot : List ℕ → ℕ → Option ParseError → List ℕ
 PutsRecordOrNot m p None old new len = PutsRecord m p old new len
 PutsRecordOrNot m p (Some why) old new len = NoRecord m p why × (new ≡ old) × (len ≡ 0)
 
--- What is told of a message that was put: how many octets the text has, and why it ends before the message does.
+-- What is returned for a message that was put: how many octets the text has, and why it ends before the message does.
 abbrev pub MessagePut : List ℕ → List ℕ → List ℕ → PutText → Type 0
 MessagePut m old new put = PutsShown m put.why old new put.len
 
--- What is told of a record at p that was put: how many octets its line has, or why there is none.
+-- What is returned for a record at p that was put: how many octets its line has, or why there is none.
 abbrev pub RecordPut : List ℕ → ℕ → List ℕ → List ℕ → PutText → Type 0
 RecordPut m p old new put = PutsRecordOrNot m p put.why old new put.len

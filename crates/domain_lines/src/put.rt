@@ -21,11 +21,11 @@ pub struct PutText {
 /// Puts the lines that show a message into the buffer, as far as they fit: two of the header, and for each section its
 /// heading and a line for each question or record, each with a newline.
 ///
-/// The length is that of all lines, which needn't have found room. `why` tells why the message can't be shown to its
-/// end: it has fewer than twelve octets, or an entry that the header counts is missing; the lines are those before it.
+/// The length is that of all lines, whether or not they fit. `why` says why the message can't be shown to its end: it
+/// has fewer than twelve octets, or an entry that the header counts is missing; the lines are those before it.
 ///
-/// `None` where the lines weren't made: they have more octets than a `usize` counts. No other case comes, but the
-/// contracts of `Display` don't tell so.
+/// Returns `None` if the lines weren't made: they have more octets than a `usize` counts. No other case occurs, but
+/// the contracts of `Display` don't state this.
 pub fn put_message(message: &[u8], buffer: &mut [u8]) -> Option<PutText>
     ensures { IfSome result (MessagePut message.now buffer.old buffer.new) }
 {
@@ -46,8 +46,8 @@ pub fn put_message(message: &[u8], buffer: &mut [u8]) -> Option<PutText>
 
 /// Puts the line of the record at an offset of a message into the buffer, as far as it fits, and a newline.
 ///
-/// The length is that of the line, which needn't have found room. `why` tells why no record is there: nothing is put
-/// then. `None` as `put_message` has it.
+/// The length is that of the line, whether or not it fits. `why` says why no record is there: nothing is put then.
+/// Returns `None` as `put_message` does.
 pub fn put_record(message: &[u8], offset: usize, buffer: &mut [u8]) -> Option<PutText>
     ensures { IfSome result (RecordPut message.now offset buffer.old buffer.new) }
 {

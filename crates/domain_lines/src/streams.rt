@@ -13,8 +13,8 @@ use std::io::{Read, Write};
 
 /// A stream that is read to its end: any `Read`.
 ///
-/// A contract tells that reading failed by `failed`, of which a function over any `Source` knows nothing but that a
-/// call that failed left it so. So it can't tell of a failure that didn't come.
+/// A contract states by `failed` that reading failed. A function over any `Source` knows nothing of `failed` except
+/// that a call that failed left it so. So its contract can't report a failure that didn't occur.
 pub trait Source {
     /// What is left to read, where that is known.
     ghost remaining: { Self → Option (List ℕ) };
@@ -22,7 +22,7 @@ pub trait Source {
     /// The last call failed.
     ghost failed: { Self → Type 0 };
 
-    /// Reads all that is left. `Read` where reading failed, `Memory` where there was no memory for it.
+    /// Reads all that remains. Returns `Read` if reading failed, and `Memory` if there was no memory for it.
     fn read_whole(&mut self, alloc: Global) -> Result<Vec<u8>, ToolError>
         ensures octets { IfOk result (λ it. IfSome (remaining self.old) (λ m. it.items ≡ m)) }
         ensures whole { OnOk result (IsAtEnd (remaining self.new)) }
@@ -51,7 +51,8 @@ pub trait Sink {
     /// What it holds, where that is known.
     ghost contents: { Self → Option (List ℕ) };
 
-    /// What it becomes where a text was put into it. Of one whose contents aren't known this tells of the text still.
+    /// What it becomes where a text was put into it. For a stream whose contents aren't known, this still states the
+    /// text.
     ghost takes: { Self → Self → List ℕ → Type 0 };
 
     /// The last call failed.

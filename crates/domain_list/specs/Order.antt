@@ -41,6 +41,6 @@ same_name = on from_right (eq_by_cmp (slice_cmp (slice_cmp nat_cmp)))
 abbrev pub SameLabels : List (List ℕ) → List (List ℕ) → Type 0
 SameLabels xs ys = lowercase_labels xs ≡ lowercase_labels ys
 
--- It is told whether the octets differ, ignoring case.
+-- The result says whether the octets differ, ignoring case.
 abbrev pub TellsDifference : Bool → List ℕ → List ℕ → Type 0
 TellsDifference told x y = MatchBool told (lowercase x ≢ lowercase y) (lowercase x ≡ lowercase y)

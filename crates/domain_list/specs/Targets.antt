@@ -1,4 +1,4 @@
--- What becomes of a target that a name is appended to. `g` is what `Octets` tells of it.
+-- What becomes of a target that a name is appended to. `g` holds the ghost members that `Octets` gives it.
 use Rattle.std.specs.Prelude.{◌≡◌, ◌+◌, ◌<◌, List, ℕ, ◌++◌, length}
 use Rattle.octseq.specs.declared.octets.Octets.{Ghosts}
 use Rattle.domain_label.specs.Lowercase.{lowercase_labels}

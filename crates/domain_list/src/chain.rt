@@ -31,9 +31,9 @@ impl Error for LongChainError {}
 
 /// A relative name and then another name: one name, whose labels are those of both in turn.
 ///
-/// It is for a name that needs no octets of its own, as that of a host before the name of its zone, which is looked
-/// up, compared or composed and then dropped. It is absolute where the right name is, and relative where the right
-/// name is.
+/// It is for a name that needs no octets of its own: one that is looked up, compared or composed and then dropped. An
+/// example is the name of a host before the name of its zone. It is absolute where the right name is, and relative
+/// where the right name is.
 ///
 /// It is made by `chain` and `chain_root` of relative names, or by `new`. It keeps both names, which may be
 /// references; `unwrap` returns them.

@@ -15,7 +15,7 @@ use domain_label::ignoring_case::same_octets;
 use domain_label::order::order_ignoring_case;
 use std::cmp::Ordering;
 
-/// Whether the labels that are left are the same ignoring ASCII case (RFC 4343).
+/// Returns whether the remaining labels are the same ignoring ASCII case (RFC 4343).
 pub(crate) fn eq_labels<'a, A: LabelIterator<'a>, B: LabelIterator<'a>>(a: A, b: B) -> bool
     ensures { IsTrue result ↔ SameLabels (A.left a) (B.left b) }
 {
@@ -34,10 +34,10 @@ pub(crate) fn eq_labels<'a, A: LabelIterator<'a>, B: LabelIterator<'a>>(a: A, b:
     }
 }
 
-/// Whether the labels that are left, of `len` octets on the wire, have this wire format ignoring ASCII case.
+/// Returns whether the remaining labels, of `len` octets on the wire, have this wire format ignoring ASCII case.
 ///
-/// Each label is compared with the first one of the remaining octets, so that no second iterator reads their length
-/// octets, and a label of another length is found by one comparison.
+/// Each label is compared with the first one of the remaining octets. So no second iterator reads their length octets,
+/// and one comparison finds a label of another length.
 #[inline(always)]
 fn eq_flat<'a, I: LabelIterator<'a>>(labels: I, len: u16, flat: &[u8]) -> bool
     requires sized { len ≡ length (wire (I.left labels)) }
@@ -93,7 +93,7 @@ fn order_of_last(x: Option<Label<'_>>, y: Option<Label<'_>>) -> Ordering
     }
 }
 
-/// The first of the labels that are left.
+/// Returns the first of the remaining labels.
 pub(crate) fn next_label<'a, I: LabelIterator<'a>>(labels: &mut I) -> Label<'a>
     requires { 0 < length (wire (I.left labels.old)) }
     ensures { I.left labels.old ≡ label_octets result ∷ I.left labels.new }
@@ -111,11 +111,12 @@ fn differ(x: &Label<'_>, y: &Label<'_>) -> bool
     x != y
 }
 
-/// The order of the labels that are left, from the last ones on (RFC 4034, 6.1).
+/// Returns the order of the remaining labels, from the last ones on (RFC 4034, 6.1).
 ///
-/// `a_len` and `b_len` are how many octets they have on the wire. Both are iterated over once at most, from the left:
-/// what both end with has as many octets, so labels are compared only where as many octets remain of both, and the
-/// last labels before the common end decide. The last `alike` octets are known to be the same; they aren't looked at.
+/// `a_len` and `b_len` are the numbers of octets that they have on the wire. Both are iterated over once at most, from
+/// the left. Their common end has the same number of octets in both. So labels are compared only where the same number
+/// of octets remains of both, and the last labels before the common end decide. The last `alike` octets are known to
+/// be the same; they aren't read.
 fn order_labels<'a, A: LabelIterator<'a>, B: LabelIterator<'a>>(
     a: A,
     a_len: u16,
@@ -172,7 +173,7 @@ pub fn order_names<'a, A: ToLabelIter<'a>, B: ToLabelIter<'a>>(a: &'a A, b: &'a 
     )
 }
 
-/// The order of the wire octets of the labels that are left.
+/// Returns the order of the wire octets of the remaining labels.
 #[tactic(auto, using(crate::proofs::Steps::composed_steps))]
 fn composed_order_labels<'a, A: LabelIterator<'a>, B: LabelIterator<'a>>(a: A, b: B) -> Ordering
     ensures { result ≡ composed_order (A.left a) (B.left b) }
@@ -207,7 +208,7 @@ pub fn composed_order_names<'a, A: ToLabelIter<'a>, B: ToLabelIter<'a>>(
     }
 }
 
-/// The order of the wire octets of the labels that are left, ignoring ASCII case.
+/// Returns the order of the wire octets of the remaining labels, ignoring ASCII case.
 #[tactic(auto, using(crate::proofs::Steps::composed_steps))]
 fn lowercase_composed_order_labels<'a, A: LabelIterator<'a>, B: LabelIterator<'a>>(
     a: A,

@@ -9,9 +9,9 @@ use crate::labels::{LabelIterator, ToLabelIter};
 use domain_label::Label;
 use octseq::OctetsBuilder;
 
-/// Puts the wire format of the labels that are left at the beginning of a buffer, and returns how many octets it has.
+/// Puts the wire format of the remaining labels at the beginning of a buffer, and returns how many octets it has.
 ///
-/// It is how a name that isn't in contiguous octets is put together, of whatever kind it is.
+/// Names of every kind that aren't in contiguous octets are put together by it.
 #[inline(always)]
 fn put_labels<'a, I: LabelIterator<'a>>(labels: I, octets: &mut [u8; 255]) -> usize
     requires { length (wire (I.left labels)) ≤ 255 }
@@ -26,7 +26,8 @@ fn put_labels<'a, I: LabelIterator<'a>>(labels: I, octets: &mut [u8; 255]) -> us
     len
 }
 
-/// Puts the wire format of a label after so many octets of a buffer, and returns how many there are then.
+/// Puts the wire format of a label after the first `len` octets of a buffer, and returns how many octets there are
+/// then.
 #[inline(always)]
 fn put_label(label: Label, octets: &mut [u8; 255], len: usize) -> usize
     requires { len + length (wire_label (label_octets label)) ≤ 255 }
@@ -67,7 +68,7 @@ pub fn put_octets(from: &[u8], octets: &mut [u8; 255], offset: usize)
     }
 }
 
-/// The same of so many octets that the first and the last `size` of them are all. The two parts may overlap.
+/// Like `put_octets`, where the first and the last `size` octets together are all octets. The two parts can overlap.
 #[inline(always)]
 fn put_ends(from: &[u8], octets: &mut [u8; 255], offset: usize, size: usize)
     requires long { size ≤ length from.now }

@@ -28,8 +28,8 @@ fn push_with_dot(label: Label, text: &mut ArrayVec<u8, 1020>)
     text.push(b'.');
 }
 
-/// Appends the labels that are left with a dot after each, and the root alone as a dot (RFC 1035, 5.1), to a buffer
-/// that is empty and has room for each name.
+/// Appends the remaining labels to a buffer with a dot after each, and the root alone as a dot (RFC 1035, 5.1). The
+/// buffer is empty and has room for each name.
 pub fn push_dotted<'a, I: LabelIterator<'a>>(labels: I, text: &mut ArrayVec<u8, 1020>)
     requires fits { length (wire (I.left labels)) ≤ 255 }
     requires empty { text.old.items ≡ [] }

@@ -7,8 +7,8 @@ ghost use Rattle.domain_list.specs.HashInput.{name_hash_input};
 use crate::labels::{LabelIterator, ToLabelIter};
 use std::hash::{Hash, Hasher};
 
-/// Writes to the hasher the labels that are left: for each its length and then its octets in lower case, each as one
-/// `u8`. These are the octets of the wire format in lower case.
+/// Writes the remaining labels to the hasher: for each its length and then its octets in lower case, each as one `u8`.
+/// These are the octets of the wire format in lower case.
 fn hash_labels<'a, I: LabelIterator<'a>, H: Hasher>(labels: I, state: &mut H)
     ensures { state.new ≡ fold H.write state.old (name_hash_input (I.left labels)) }
 {

@@ -15,7 +15,7 @@ use domain_label::Label;
 /// `next` and `next_back` may be mixed at will: no label comes twice and none is skipped. After the last one it stays
 /// at `None`.
 pub trait LabelIterator<'a>: Iterator<Item = Label<'a>> + DoubleEndedIterator + Copy {
-    /// The labels that are left.
+    /// The remaining labels.
     ghost left: { Self → List (List ℕ) };
 
     /// `next` and `next_back` may be called at any time.
@@ -26,7 +26,7 @@ pub trait LabelIterator<'a>: Iterator<Item = Label<'a>> + DoubleEndedIterator + 
     /// The labels come to an end.
     ghost ends: { (s : Self) → IsFinite (Self.remaining s) };
 
-    /// `next` takes the first of the labels that are left.
+    /// `next` takes the first of the remaining labels.
     ghost takes_first: { (s : Self) (r : Option Label) (t : Self) → Self.next_gives s r t →
         YieldsFirstBy label_octets left s r t };
 

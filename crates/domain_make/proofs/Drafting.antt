@@ -155,7 +155,7 @@ of_input P Read o text items is read h = tt
 of_input P Write o text items is read h = tt
 of_input P Memory o text items is read h = tt
 
--- What is told of a line that isn't taken.
+-- What is reported of a line that isn't taken.
 pub line_told : (e : MakeError) (told : LineError) (o : Option (List ℕ)) → e ≡ Line told → IfLine e (λ k. IfSome o (λ text. StopsAtLine true text k)) → IfSome o (λ text. (k : LineError) × StopsAtLine true text k)
 line_told e told o is h = some_map (λ text. StopsAtLine true text told) (λ text. (k : LineError) × StopsAtLine true text k) o (λ text stops. (told, stops)) (subst (λ x. IfLine x (λ k. IfSome o (λ text. StopsAtLine true text k))) is h)
 

@@ -1,4 +1,4 @@
--- Questions and records of words, and what is told where they are none or aren't pushed.
+-- Questions and records of words, and what is reported where they are none or aren't pushed.
 use Rattle.std.proofs.Common.{◌≡◌, ℕ, zero, suc, ◌-◌, ◌<◌, ◌≤◌, Bool, List, [], ◌∷◌, length, get_or, take, drop, refl, sym, ap, subst, ◌∙◌, arith, inl, inr}
 use Rattle.std.specs.Prelude.{◌⊎◌}
 use Rattle.domain_record.specs.Entries.{QuestionFields}

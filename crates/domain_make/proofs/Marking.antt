@@ -72,7 +72,7 @@ pub number_there : (text a rest status b more digits : List ℕ) → HasParts te
 number_there text a rest status b more digits has last never o r i are =
     never i (subst (λ d. IsNumber16 d i) (append_cancel_left (codes " id: ") are.digits digits ((same_parts text a rest status b more o r i are has).2 ∙ last)) are.id_is)
 
--- What is told of a line of a header's codes.
+-- What is reported of a line of a header's codes.
 abbrev pub NoCodes : List ℕ → Fault → ℕ → Type 0
 NoCodes text f c = Tells fault.Header 1 f c × ((o r i : ℕ) → AreCodes text o r i → ⊥)
 
@@ -112,7 +112,7 @@ none_before word (flag ∷ flags) stop x d ends e =
     let both = both_true (differ flag.1 word) (differs word flags) d in
     none_next flag.0 flag.1 word (words_before flags stop) x both.0 (none_before word flags stop x both.1 ends) e
 
--- A word that was looked for first was there exactly where it was told.
+-- A word that was looked for first was there exactly when it was reported.
 pub one_flag : (word text rest after : List ℕ) (b told : Bool) → text ≡ cond b word [] ++ rest → (b ≡ false → (x : List ℕ) → text ≡ word ++ x → ⊥) → text ≡ cond told word [] ++ after → (told ≡ false → (x : List ℕ) → after ≡ word ++ x → ⊥)
     → rest ≡ after
 one_flag word text rest after true true is none also never = append_cancel_left word rest after (sym is ∙ also)

@@ -45,7 +45,7 @@ same_question l start words also f c q are they lack is = no_question words f c 
 same_record : (l : List ℕ) (words also : List WordAt) (f : Fault) (c : ℕ) (head : RecordHead) (octets : List ℕ) → AreWords l 0 words → AreWords l 0 also → NoRecordWords words f c → IsRecordWords also head octets → ⊥
 same_record l words also f c head octets are they lack is = no_record words f c head octets lack (subst (λ ws. IsRecordWords ws head octets) (words_once l 0 also words they are) is)
 
--- A line of which a fault is told says nothing.
+-- A line of which a fault is reported says nothing.
 pub faulty_is : (l : List ℕ) (old new : Draft) (f : Fault) (c : ℕ) → IsFaulty l old f c → LineSays l old new → ⊥
 faulty_is l old new f c (faulty_remark text is trimmed lack at_one) (says_empty plain are same) = plain is.begins
 faulty_is l old new f c (faulty_remark text is trimmed lack at_one) (says_remark other also cut told same) =
@@ -87,7 +87,7 @@ faulty_is l old new f c (faulty_entry s ws at clear they some lack) (says_entry 
 refused : (comp : Bool) (l : List ℕ) (d : Draft) (f : Fault) (c : ℕ) → IsFaulty l d f c → IsRefused comp l d f c
 refused comp l d f c is = says_nothing is (λ new. faulty_is l d new f c is)
 
--- ---- what is told where a builder holds what was said
+-- ---- what is reported where a builder holds what was said
 
 pub refuses_remark : (comp : Bool) (l text : List ℕ) (stage : Stage) (s : State) (f : Fault) (c : ℕ) → IsRemark l stage → IsTrimmed l text → NoRemark text stage f × (c ≡ 1) → RefusesLine comp l stage s f c
 refuses_remark comp l text stage s f c marked trimmed lack = λ d is.

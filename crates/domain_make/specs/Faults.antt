@@ -1,4 +1,5 @@
--- What is told of words that are no question and no record: the first fault, and the column of the part that has it.
+-- What is reported of words that are no question and no record: the first fault, and the column of the part that has
+-- it.
 use Rattle.std.specs.Prelude.{◌≡◌, ◌≢◌, ◌⊎◌, ℕ, ◌<◌, List, [], ◌∷◌, length}
 use Rattle.domain_message_builder.specs.Contents.{RecordHead}
 use Rattle.domain_data_text.specs.Faults.{Tells, TellsMissing, NoName, NoNumber32, NoData}

@@ -72,8 +72,9 @@ records_after Answer it = length it.authority + length it.additional
 records_after Authority it = length it.additional
 records_after Additional it = 0
 
--- An entry isn't pushed: its data has more octets than its length tells (RFC 1035, 3.2.1), a later section was begun,
--- the section has as many entries as its count tells, or the message would exceed its limit.
+-- An entry isn't pushed for one of these reasons. Its data has more octets than its length can state (RFC 1035,
+-- 3.2.1), or a later section was started. Or the section has as many entries as its count can state, or the message
+-- would exceed its limit.
 pub data NotPushed (size later count : ℕ) (Exceeded : Type 0) (f : Fault) : Type 0 where
   long : 65535 < size → f ≡ fault.Octets → NotPushed size later count Exceeded f
   order : 0 < later → f ≡ fault.Order → NotPushed size later count Exceeded f

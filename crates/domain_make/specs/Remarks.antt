@@ -65,7 +65,7 @@ IsOpcodeText text n = (n < 16) × (text ≡ opcode_text n)
 abbrev pub IsRcodeText : List ℕ → ℕ → Type 0
 IsRcodeText text n = (n < 16) × (text ≡ rcode_text n)
 
--- The text is what is told: a kind of query, a response code and an identifier.
+-- The text states the kind of query, the response code and the identifier of `told`.
 abbrev pub AreTold : List ℕ → CodesTold → Type 0
 AreTold text told = AreCodes text (opcode_number told.opcode) (rcode_number told.rcode) told.id
 
@@ -87,7 +87,7 @@ pub record SetsCodes (opcode rcode id : ℕ) (old new : Header) : Type 0 where
   pub opcode_set : SetsHigh 8 16 opcode first second
   pub rcode_set : SetsLow 1 16 rcode second new
 
--- They were set as is told, and nothing else.
+-- They were set as `told` states, and nothing else.
 abbrev pub SetsTold : CodesTold → Header → Header → Type 0
 SetsTold told old new = SetsCodes (opcode_number told.opcode) (rcode_number told.rcode) told.id old new
 

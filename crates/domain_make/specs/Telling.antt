@@ -1,4 +1,4 @@
--- What is told on the output for errors. `g` is `E.Sink`.
+-- What is reported on the output for errors. `g` is `E.Sink`.
 use Rattle.std.specs.Prelude.{◌⊎◌, ℕ, true, List, [], ◌∷◌, ◌++◌, Option, IfSome}
 use Rattle.domain_lines.specs.declared.streams.Sink.{Ghosts as SinkMembers}
 use Rattle.domain_make.specs.Reasons.{line_error_text, make_error_text}
@@ -22,10 +22,10 @@ TellsReason g text old new = g.takes old new (text ++ 10 ∷ []) ⊎ g.failed ne
 abbrev pub TellsText : {E : Type 0} → SinkMembers E → Option (List ℕ) → E → E → Type 0
 TellsText g shown old new = IfSome shown (λ text. TellsReason g text old new)
 
--- It was told so which line of the given text isn't taken, and why.
+-- The call reported in this way which line of the given text isn't taken, and why.
 abbrev pub TellsLine : {E : Type 0} → Option (List ℕ) → SinkMembers E → E → E → Type 0
 TellsLine given g old new = (e : LineError) × StopsAtGiven true given e × TellsReason g (line_error_text e) old new
 
--- It was told so that reading, writing or memory failed.
+-- The call reported in this way that reading, writing or memory failed.
 abbrev pub TellsFailure : {E : Type 0} → SinkMembers E → E → E → Type 0
 TellsFailure g old new = (e : MakeError) × IsFailure e × TellsReason g (make_error_text e) old new

@@ -95,7 +95,7 @@ fn take_record<Target: Composer>(
     push_record(alloc, section, words, message)
 }
 
-/// Whether no heading of a section was told.
+/// Whether no heading of a section was read.
 fn is_outside(stage: Stage) -> bool
     ensures { IsTrue result ↔ IsOutside stage }
 {

@@ -237,11 +237,11 @@ fn with_flags(flags: Flags, header: Header) -> Header
 /// How far the lines of a message have come.
 #[derive(Clone, Copy, Debug, PartialEq, Eq)]
 pub(crate) enum Stage {
-    /// Nothing of it was told.
+    /// Nothing of it was read.
     Start,
-    /// The codes and the identifier were told.
+    /// The codes and the identifier were read.
     Codes,
-    /// The flags were told.
+    /// The flags were read.
     Told,
     /// Questions follow.
     Questions,

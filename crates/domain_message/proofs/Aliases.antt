@@ -38,7 +38,7 @@ Looked name s t = (rs : List RecordFields) → GivenBy s rs → (ss : List Recor
 pub looked_none : (name : List (List ℕ)) (s : RecordSection) → Looked name s s
 looked_none name s = λ rs given. (rs, given, λ found first. first)
 
--- a record that is given is the first of those that are left
+-- a record that is given is the first of the remaining ones
 pub first_given : (s t : RecordSection) (it : ParsedRecord) (ss : List RecordFields) → GivesRecord s (Some (Ok it)) t → GivenBy s ss → (rest : List RecordFields) × (ss ≡ record_fields it ∷ rest) × GivenBy t rest
 first_given s t it ss (same, section, (n, before, after, at)) given =
     let left = subst (λ k. Given RecordAt (records_message s) (records_offset s) k ss) (ap (λ c. entries_left c) before) given in

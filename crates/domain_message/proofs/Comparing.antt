@@ -58,7 +58,7 @@ same_less m p o q e f k next all =
     let their : parts.f ≡ f = (question_once o q parts.next.their next.their parts.f f parts.next.their_at next.their_at).1 in
     subst (λ v. SameQuestions m v o f k) our (subst (λ w. SameQuestions m parts.e o w k) their parts.rest)
 
--- The first i questions are the same, so all are if and only if those that are left are.
+-- The first i questions are the same, so all are the same if and only if the remaining ones are.
 pub record SameSoFar (m o : List ℕ) (n i : ℕ) (our their : Parser) : Type 0 where
   pub our_octets : message our ≡ m
   pub their_octets : message their ≡ o

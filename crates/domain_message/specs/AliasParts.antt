@@ -20,7 +20,7 @@ abbrev pub GivenBy : RecordSection → List RecordFields → Type 0
 GivenBy s rs =
     Given RecordAt (records_message s) (records_offset s) (entries_left (records_left s)) rs
 
--- The target of the first CNAME record of the name among the records that are left.
+-- The target of the first CNAME record of the name among the remaining records.
 abbrev pub GivesAlias : RecordSection → List (List ℕ) → Option (List (List ℕ)) → Type 0
 GivesAlias s name found = (rs : List RecordFields) → GivenBy s rs → FirstAlias name rs found
 
@@ -58,7 +58,7 @@ abbrev pub LeadsNowhere : {O : Type 0} {g : Ghosts O} → ParsedRecord → Parse
 LeadsNowhere it name =
     (target : List (List ℕ)) → IsAlias (record_fields it) (parsed_labels name) target → ⊥
 
--- The first CNAME record of the name among the records that are left leads to the other.
+-- The first CNAME record of the name among the remaining records leads to the other.
 abbrev pub FirstLeadsTo : {O P : Type 0} {g : Ghosts O} {h : Ghosts P} → RecordSection → ParsedName O g → ParsedName P h → Type 0
 FirstLeadsTo s name target = GivesAlias s (parsed_labels name) (Some (parsed_labels target))
 
@@ -89,8 +89,8 @@ abbrev pub HasNoCanonicalNameWithin : {O : Type 0} {g : Ghosts O} → Message O 
 HasNoCanonicalNameWithin m limit =
     HasMissingQuestion m ⊎ (CountsNoQuestion m ⊎ IsCanonicalWithin (message_octets m) limit None)
 
--- The answers were passed over at most once more often than there are CNAME records among them; not once where a
--- question that the header counts is missing, or it counts none.
+-- The number of passes over the answers is at most one more than the number of CNAME records among them. It is zero
+-- where a question that the header counts is missing, or the header counts none.
 abbrev pub PassesFew : {O : Type 0} {g : Ghosts O} → Message O g → ℕ → ℕ → Type 0
 PassesFew m before now = ((HasMissingQuestion m ⊎ CountsNoQuestion m) × (now ≡ before))
     ⊎ OfFirstQuestion (message_octets m) (λ answers _. now ≤ before + (cname_count answers + 1))

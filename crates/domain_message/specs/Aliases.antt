@@ -1,4 +1,4 @@
--- CNAME records that lead from a name to another (RFC 1034, 3.6.2). The class of a record isn't heeded, nor are the
+-- CNAME records that lead from a name to another (RFC 1034, 3.6.2). The class of a record is ignored, and so are the
 -- class and the type that a question asks for.
 use Rattle.std.specs.Prelude.{◌≡◌, ◌==◌, ◌<◌, ◌≤◌, if◌then◌else◌, ℕ, suc, ◌+◌, List, [], ◌∷◌, length, Option, Some, None}
 use Rattle.domain_label.specs.Lowercase.{lowercase_labels}

@@ -47,8 +47,8 @@ abbrev pub HasDataError : {E : Type 0} → (ParseError → E → Type 0)
 HasDataError Becomes Fails it e =
     (why : ParseError) × Fails it.header.rtype it.octets it.start why × Becomes why e
 
--- The first record from p on that is kept, of n that are left, is `it`: others are before it, k are left after it, and
--- it ends before q.
+-- Of the n records remaining from p on, the first that is kept is `it`. Only records that aren't kept are before it, k
+-- records remain after it, and it ends before q.
 pub record FirstKept (keep : RecordFields → Bool) (m : List ℕ) (p n : ℕ) (it : RecordFields)
     (q k : ℕ) : Type 0 where
   pub before : List RecordFields
@@ -59,7 +59,7 @@ pub record FirstKept (keep : RecordFields → Bool) (m : List ℕ) (p n : ℕ) (
   pub kept : keep it ≡ true
   pub count : n ≡ length before + 1 + k
 
--- All n records that are left from p on are there, and none is kept.
+-- All n records remaining from p on are present, and none is kept.
 pub record NoneKept (keep : RecordFields → Bool) (m : List ℕ) (p n : ℕ) : Type 0 where
   pub before : List RecordFields
   pub others : AreOthers keep before
@@ -67,7 +67,7 @@ pub record NoneKept (keep : RecordFields → Bool) (m : List ℕ) (p n : ℕ) : 
   pub run : Run RecordAt m p before offset
   pub count : n ≡ length before
 
--- A record is missing of the n that are left from p on, and why, and none before it is kept.
+-- Of the n records remaining from p on, one is missing, for the reason `why`, and none before it is kept.
 pub record MissesKept (keep : RecordFields → Bool) (m : List ℕ) (p n : ℕ)
     (why : ParseError) : Type 0 where
   pub before : List RecordFields
@@ -77,7 +77,7 @@ pub record MissesKept (keep : RecordFields → Bool) (m : List ℕ) (p n : ℕ)
   pub few : length before < n
   pub missing : NoRecord m offset why
 
--- The data of a record that is kept has an error, and none of n records that are left from p on is kept before it.
+-- Of the n records remaining from p on, one that is kept has data with an error, and none before it is kept.
 pub record BreaksKept {E : Type 0} (keep : RecordFields → Bool) (Broken : RecordFields → E → Type 0)
     (m : List ℕ) (p n : ℕ) (e : E) : Type 0 where
   pub before : List RecordFields
@@ -103,8 +103,9 @@ kept_left s = s.count
 abbrev pub kept_class : {D E : Type 0} → RecordIter D E → Bool
 kept_class s = s.only_in
 
--- A call at p, with n records left, returned the first that is kept, or the error of the first that is missing or
--- whose data can't be read, or nothing: none that is left is kept. Then the offset is q, and k are left.
+-- A call at p, with n records remaining, returned the first that is kept. Or it returned the error of the first that
+-- is missing or whose data can't be read. Or it returned nothing, because none of the remaining records is kept. Then
+-- the offset is q, and k records remain.
 abbrev pub TakesKept : {W E : Type 0} → (RecordFields → Bool) → (RecordFields → W → Type 0)
     → (RecordFields → E → Type 0) → (ParseError → E → Type 0) → List ℕ → ℕ → ℕ → Option (Result W E)
     → ℕ → ℕ → Type 0

@@ -45,7 +45,7 @@ fn alias_of<'a>(
     Some(target)
 }
 
-/// Returns the target of the first CNAME record of this name among the records that are left, in one pass over them.
+/// Returns the target of the first CNAME record of this name among the remaining records, in one pass over them.
 fn first_alias<'a, L: Ledger>(
     records: RecordSection<'a>,
     name: &ParsedName<&'a [u8]>,
@@ -150,7 +150,7 @@ impl<Octs: Octets> Message<Octs> {
     /// meant: see `tc` of the header.
     ///
     /// The answers are read at most once more often than there are CNAME records among them. In 65,535 octets that are
-    /// made to be dear these are thousands of times: of messages that anyone may send take
+    /// crafted to be expensive, that is thousands of times. For messages that anyone can send, use
     /// `canonical_name_with_limit`.
     pub fn canonical_name(&self) -> Option<ParsedName<&[u8]>>
         ensures some { IfSome result (HasCanonicalName self.now) }
@@ -171,10 +171,10 @@ impl<Octs: Octets> Message<Octs> {
         self.canonical_name_counted(&mut Passes::<L>::new(blank))
     }
 
-    /// The same as `canonical_name`, and counts in `passes`, which contracts alone see, how often the answers are
-    /// read. The count grows by at most one more than there are CNAME records among the answers, up to the first
-    /// answer that is missing, however many the header counts; and by none where there is no question, or one is
-    /// missing.
+    /// Returns the same as `canonical_name`, and counts in `passes`, which contracts alone see, how often the answers
+    /// are read. The count grows by at most one more than the number of CNAME records among the answers. Only the
+    /// answers before the first missing one matter, however many the header counts. The count doesn't grow where there
+    /// is no question, or one is missing.
     pub fn canonical_name_counted<L: Ledger>(
         &self,
         passes: &mut Passes<L>,

@@ -116,7 +116,7 @@ impl<'a, D: ParseRecordData<'a>, E: From<ParseError>> Iterator for RecordIter<'a
 impl<'a> RecordSection<'a> {
     ghost use Rattle.domain_message.specs.Sections.{records_message, records_offset, records_left, entries_left};
 
-    /// Returns the records that are left and have data of the type `D`, of any class.
+    /// Returns the remaining records that have data of the type `D`, of any class.
     pub fn limit_to<D>(self) -> RecordIter<'a, D>
         ensures message { message (kept_parser result) ≡ records_message self.entry }
         ensures offset { position (kept_parser result) ≡ records_offset self.entry }
@@ -126,7 +126,7 @@ impl<'a> RecordSection<'a> {
         self.limited(false)
     }
 
-    /// Returns the records that are left, are of the class IN and have data of the type `D`.
+    /// Returns the remaining records that are of the class IN and have data of the type `D`.
     pub fn limit_to_in<D>(self) -> RecordIter<'a, D>
         ensures message { message (kept_parser result) ≡ records_message self.entry }
         ensures offset { position (kept_parser result) ≡ records_offset self.entry }

@@ -83,7 +83,7 @@ impl<'a> QuestionSection<'a> {
         self.parser.pos()
     }
 
-    /// Skips the questions that are left, and returns the answer section. The error says why one of them is missing.
+    /// Skips the remaining questions, and returns the answer section. The error says why one of them is missing.
     pub fn answer(self) -> Result<RecordSection<'a>, ParseError>
         ensures ok { IfOk result (BeginsAfterQuestions self.entry) }
         ensures err { IfErr result (MissesQuestion self.entry) }
@@ -192,8 +192,8 @@ impl<'a> RecordSection<'a> {
         self.section
     }
 
-    /// Skips the records that are left, and returns the next section. After the last one it is `None`, and no record
-    /// is looked at. The error says why one of them is missing.
+    /// Skips the remaining records, and returns the next section. After the last section, returns `None` and reads no
+    /// record. The error says why one of the records is missing.
     pub fn next_section(self) -> Result<Option<RecordSection<'a>>, ParseError>
         ensures none { IfOk result (λ read. IsNone read ↔ IsLastSection self.entry) }
         ensures ok { IfOk result (λ read. IfSome read (BeginsAfterRecords self.entry)) }

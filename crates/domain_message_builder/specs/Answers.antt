@@ -53,8 +53,9 @@ pub record BeginsWithQuestion (m : List ℕ) (q : QuestionFields) : Type 0 where
   pub end : ℕ
   pub at : QuestionAt m 12 q end
 
--- How a target becomes where an answer to the message was begun: by its own calls it appended the name of the first
--- question, as that stands there, and type and class; or there is none, and the target is as it was.
+-- What a target becomes where an answer to the message was begun. By its own calls it appended the first question: the
+-- name, with its labels unchanged, then type and class. Or the message has no first question, and the target is
+-- unchanged.
 pub data RepeatsQuestion {T : Type 0} (extends : T → List ℕ → T → Type 0) (appends : T → List (List ℕ) → T → Type 0) (m : List ℕ) (old new : T) : Type 0 where
   repeats : (q : QuestionFields) → BeginsWithQuestion m q → NameThen extends (λ c d. appends c q.name d) (type_and_class q.rtype q.class) old new → RepeatsQuestion extends appends m old new
   nothing : HasNoQuestion m → new ≡ old → RepeatsQuestion extends appends m old new

@@ -1,5 +1,5 @@
--- What contracts say of a builder of an answer, and of its OPT record. `g` to `l` are as in `Builders`, and `m` is
--- what `Octets` tells of the query or of the options.
+-- What contracts say about a builder of an answer, and about its OPT record. `g` to `l` are as in `Builders`. `m` is
+-- what `Octets` provides for the octets of the query or of the options.
 use Rattle.std.specs.Prelude.{◌≡◌, ℕ, List, ◌++◌, Option, Result, option_copied}
 use denote.Bor.{Bor}
 use Rattle.octseq.specs.declared.octets.Octets.{Ghosts}
@@ -39,8 +39,8 @@ abbrev pub QueryNotAnswered : {T E O : Type 0} {g : _} {h : _} {i : _} {j : _} {
 QueryNotAnswered {g = g} query b e =
     NotStarted g.compresses (message_octets query) (state b) (target_room b) e
 
--- The target was given the name of the query's first question as it stands there, and type and class; or there is
--- none, and the target is as it was.
+-- The target was given the query's first question: the name, with its labels unchanged, then type and class. Or the
+-- query has no first question, and the target is unchanged.
 abbrev pub LeavesQuery : {T E O : Type 0} {g : _} {h : _} {i : _} {j : _} {k : _} {l : _} {m : Ghosts O}
     → Message O m → MessageBuilder T E g h i j k l → MessageBuilder T E g h i j k l → Type 0
 LeavesQuery {g = g} {h = h} query old new =
@@ -65,8 +65,8 @@ abbrev pub QueryRefused : {T E O : Type 0} {g : _} {h : _} {i : _} {j : _} {k : 
     → Message O m → MessageBuilder T E g h i j k l → Type 0
 QueryRefused {E = E} query b = (e : PushError E) × QueryNotAnswered query b e × QueryDoesNotFit query b e
 
--- The target was given the query's question, if it has one; or that was refused, and the target has the octets that it
--- had, and remembers the names that it did.
+-- The target was given the query's question, if the query has one. Or the question was refused, and the target has the
+-- same octets as before and remembers the same names.
 abbrev pub LeavesQueryOrNone : {T E O : Type 0} {g : _} {h : _} {i : _} {j : _} {k : _} {l : _} {m : Ghosts O}
     → Message O m → MessageBuilder T E g h i j k l → MessageBuilder T E g h i j k l → Type 0
 LeavesQueryOrNone {g = g} {j = j} query old new =

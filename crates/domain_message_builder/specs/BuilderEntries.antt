@@ -1,5 +1,5 @@
--- What contracts say of a push to a builder. `labels` tells the labels of a name, `d` is `D.ComposeRecordData`, and
--- `g` to `l` are as in `Builders`.
+-- What contracts say about a push to a builder. `labels` returns the labels of a name, `d` is `D.ComposeRecordData`,
+-- and `g` to `l` are as in `Builders`.
 use Rattle.std.specs.Prelude.{ℕ, ◌-◌, List}
 use Rattle.domain_message.specs.declared.section.Section.{Section}
 use Rattle.domain_rdata.specs.Members.{DataMembers}
@@ -52,7 +52,7 @@ abbrev pub AddsRecord : {T E N D : Type 0} {g : _} {h : _} {i : _} {j : _} {k : 
 AddsRecord {g = g} labels d section r old new =
     PushesRecord g.compresses section (head_of labels d r) (data_octets_of d g.compresses r) (state old) (state new)
 
--- The record was pushed into the section, and so many octets are kept aside.
+-- The record was pushed into the section, and `kept` octets remain set aside.
 abbrev pub AddsRecordKeeping : {T E N D : Type 0} {g : _} {h : _} {i : _} {j : _} {k : _} {l : _}
     → (N → List (List ℕ)) → DataMembers D → Section → Record N D → ℕ → MessageBuilder T E g h i j k l → MessageBuilder T E g h i j k l → Type 0
 AddsRecordKeeping {g = g} labels d section r kept old new =
@@ -70,7 +70,7 @@ abbrev pub RecordNotAdded : {T E N D : Type 0} {g : _} {h : _} {i : _} {j : _} {
 RecordNotAdded {g = g} labels d section r b e =
     RecordRefused g.compresses section (head_of labels d r) (data_octets_of d g.compresses r) (state b) (target_room b) e
 
--- Why the record wasn't pushed where so many octets are kept aside.
+-- Why the record wasn't pushed where `kept` octets remain set aside.
 abbrev pub RecordNotAddedKeeping : {T E N D : Type 0} {g : _} {h : _} {i : _} {j : _} {k : _} {l : _}
     → (N → List (List ℕ)) → DataMembers D → Section → Record N D → ℕ → MessageBuilder T E g h i j k l → PushError E → Type 0
 RecordNotAddedKeeping {g = g} labels d section r kept b e =
@@ -85,7 +85,7 @@ RecordDoesNotFit {T = T} {g = g} {h = h} {i = i} {j = j} labels d r b e =
     (Surpasses j.octets (WritesRecord labels d.type_number j.octets h.extends i.cuts g.appends
     (λ x. d.written x T h.extends g.appends) r) (target_of b) (most_octets b)) e
 
--- The same, where so many octets are kept aside of the limit.
+-- Like `RecordDoesNotFit`, where `kept` octets of the limit remain set aside.
 abbrev pub RecordDoesNotFitKeeping : {T E N D : Type 0} {g : _} {h : _} {i : _} {j : _} {k : _} {l : _}
     → (N → List (List ℕ)) → DataMembers D → Record N D → ℕ → MessageBuilder T E g h i j k l → PushError E → Type 0
 RecordDoesNotFitKeeping {T = T} {g = g} {h = h} {i = i} {j = j} labels d r kept b e =

@@ -69,7 +69,7 @@ abbrev pub KeepsMemory : {T E : Type 0} {g : _} {h : _} {i : _} {j : _} {k : _} 
 KeepsMemory {g = g} old new =
     g.kept_within (message_len old) (target_memory new) ≡ target_memory old
 
--- The target was cut to so many octets.
+-- The target was cut to `n` octets.
 abbrev pub CutsTo : {T E : Type 0} {g : _} {h : _} {i : _} {j : _} {k : _} {l : _}
     → ℕ → MessageBuilder T E g h i j k l → MessageBuilder T E g h i j k l → Type 0
 CutsTo {i = i} n old new = i.cuts (target_of old) n (target_of new)

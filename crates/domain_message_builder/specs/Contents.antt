@@ -19,7 +19,7 @@ pub record RecordHead : Type 0 where
   pub class : ℕ
   pub ttl : ℕ
 
--- a record that was pushed, and the octets of its data as they stand in the message
+-- a record that was pushed, and the octets of its data exactly as the message has them
 pub record PushedRecord : Type 0 where
   pub head : RecordHead
   pub rdata : List ℕ

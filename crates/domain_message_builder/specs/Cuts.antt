@@ -16,7 +16,7 @@ use Rattle.domain_message_builder.specs.Refusals.{RecordRefused}
 use Rattle.domain_message_builder.specs.State.{State}
 use Rattle.domain_message_builder.specs.declared.error.PushError.{PushError}
 
--- the options as they stand
+-- the data is the options, unchanged
 abbrev pub OnlyOptions : Opt → List ℕ → List ℕ → Type 0
 OnlyOptions o before data_octets = data_octets ≡ o.options
 
@@ -24,8 +24,8 @@ OnlyOptions o before data_octets = data_octets ≡ o.options
 abbrev pub PushesOpt : Bool → Opt → State → State → Type 0
 PushesOpt compresses o old new = PushesRecord compresses Additional (opt_head o) (OnlyOptions o) (with_reserved 0 old) new
 
--- The target was given the root by its own call for a name, and after it by its calls for octets the numbers of the
--- OPT record, and the options with their length before them.
+-- The target was given the root by its own call for a name. Then its calls for octets appended the numbers of the OPT
+-- record, and the options after their length.
 abbrev pub WritesOpt : {T : Type 0} → (T → List ℕ) → (T → List ℕ → T → Type 0) → (T → ℕ → T → Type 0) → (T → List (List ℕ) → T → Type 0) → Opt → T → T → Type 0
 WritesOpt octets extends cuts appends o =
     NameThenData octets extends cuts (λ c d. appends c Root d) (λ c d. extends c o.options d)
@@ -67,14 +67,15 @@ abbrev pub EndsHeader : Bool → Header → Header → Type 0
 EndsHeader false old new = new ≡ old
 EndsHeader true old new = SetsHigh 2 2 1 old new
 
--- The octets are the answer that was held, and the OPT record at its end, if there is one. TC is set if the answer is
--- cut; it is set, and no record but the OPT record is there, if that can't be pushed after the others (RFC 6891, 7).
+-- The octets are the answer that was held, with the OPT record at its end, if there is one. TC is set if the answer is
+-- cut. If the OPT record can't be pushed after the other records, TC is set, and the OPT record is the only record
+-- (RFC 6891, 7).
 pub data EndsAnswer (compresses : Bool) (cut : Bool) (opt : Option Opt) (capacity : ℕ) (s : State) (m : List ℕ) : Type 0 where
   whole : (h : Header) → EndsHeader cut s.header h → ((it : Content) → Holds compresses s it → IsMessageOf h (with_opt opt it) m) → EndsAnswer compresses cut opt capacity s m
   bare : (o : Opt) → opt ≡ Some o → CannotAddOpt o capacity s → (h : Header) → SetsHigh 2 2 1 s.header h → ((it : Content) → Holds compresses s it → IsMessageOf h (with_opt opt (emptied Answer it)) m) → EndsAnswer compresses cut opt capacity s m
 
--- Why it wasn't finished: a push was refused, and not for want of room; or the OPT record has no room even after the
--- questions alone.
+-- Why the answer wasn't finished. A push was refused for a reason other than lack of room. Or the OPT record has no
+-- room even directly after the questions.
 pub data NotEnded {A E : Type 0} (pushed : Result A (PushError E)) (opt : Option Opt) (capacity : ℕ) (s : State) (e : PushError E) : Type 0 where
   refused : pushed ≡ Err e → is_for_room e ≡ false → NotEnded pushed opt capacity s e
   no_room : (o : Opt) → opt ≡ Some o → is_for_room e ≡ true → HasNoRoomFor o (start_of Answer s.starts) capacity s.limit → NotEnded pushed opt capacity s e

@@ -19,7 +19,7 @@ push_error_text Count = codes "too many entries in a section"
 push_error_text Limit = codes "message size exceeded"
 push_error_text Order = codes "a later section was begun"
 
--- The push was refused for want of room: in the target, or up to the limit.
+-- The push was refused for lack of room: in the target, or up to the limit.
 abbrev pub is_for_room : {E : Type 0} → PushError E → Bool
 is_for_room (Append _) = true
 is_for_room (Long _) = false
@@ -35,6 +35,6 @@ is_early Count = true
 is_early Limit = false
 is_early Order = true
 
--- The error is one of those: it is told before anything was composed.
+-- The error is one of those that are returned before anything is composed.
 abbrev pub IsEarly : {E : Type 0} → PushError E → Type 0
 IsEarly e = is_early e ≡ true

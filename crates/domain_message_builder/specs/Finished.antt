@@ -9,8 +9,8 @@ use Rattle.domain_message_builder.specs.State.{State}
 abbrev pub finished_octets : State → List ℕ
 finished_octets s = header_octets s.header ++ (counts_octets s.counts ++ drop 12 s.octets)
 
--- The octets are those of what was pushed, with TC if the answer is cut, and with the OPT record, if there is one,
--- after the records or instead of them.
+-- The octets are those of what was pushed, with TC if the answer is cut. The OPT record, if there is one, comes after
+-- the records or instead of them.
 pub record EndsIn (compresses cut : Bool) (opt : Option Opt) (capacity : ℕ) (s : State) (m : List ℕ) : Type 0 where
   pub marked : State
   pub end : State

@@ -8,8 +8,8 @@ use Rattle.domain_rdata.specs.declared.record_data.ComposeRdataError.{ComposeRda
 use Rattle.domain_rdata.specs.declared.record_data.ComposeRdataError.TheVariants.{Append, Long}
 use Rattle.domain_message_builder.specs.Contents.{RecordHead}
 
--- what an OPT record says: how many octets of a message over UDP its sender takes, the upper bits of the response
--- code, the version, the bit DO, and the options in wire format (6.1.2 and 6.1.3)
+-- what an OPT record says (6.1.2 and 6.1.3): how many octets of a message over UDP its sender accepts, the upper bits
+-- of the response code, the version, the bit DO, and the options in wire format
 pub record Opt : Type 0 where
   pub udp_payload_size : ℕ
   pub rcode_ext : ℕ
@@ -62,11 +62,11 @@ option_octets code data_octets = to_be_bytes w16 code ++ (to_be_bytes w16 (lengt
 abbrev pub with_option : ℕ → List ℕ → Opt → Opt
 with_option code data_octets o = with_options (o.options ++ option_octets code data_octets) o
 
--- The option was appended to the others. `octets` tells the octets of options.
+-- The option was appended to the others. `octets` returns the octets of options.
 abbrev pub AppendsOption : {O : Type 0} → (O → List ℕ) → ℕ → List ℕ → O → O → Type 0
 AppendsOption octets code data_octets old new = octets new ≡ octets old ++ option_octets code data_octets
 
--- They have no room for it. `room` tells how many octets of options there is room for in all.
+-- The options have no room for it. `room` returns how many octets of options fit in all.
 abbrev pub OptionsAreFull : {O : Type 0} → (O → ℕ) → (O → List ℕ) → List ℕ → O → Type 0
 OptionsAreFull room octets data_octets old = room old < length (octets old) + 4 + length data_octets
 

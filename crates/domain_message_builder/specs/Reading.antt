@@ -43,8 +43,8 @@ pub record IsMessageOf (header : Header) (it : Content) (m : List ℕ) : Type 0 
   pub authority : Run RecordReadAt m answer_end it.authority authority_end
   pub additional : Run RecordReadAt m authority_end it.additional (length m)
 
--- What was pushed is in the message m from its header on, section by section, and m ends after it. `AsksAt m p q e`:
--- the question q is at p and ends before e, and `SaysAt` tells the same of a record.
+-- What was pushed is in the message m after its header, section by section, and m ends after it. `AsksAt m p q e` says
+-- that the question q is at p and ends before e. `SaysAt` says the same about a record.
 pub record EntriesAt (AsksAt : List ℕ → ℕ → QuestionFields → ℕ → Type 0) (SaysAt : List ℕ → ℕ → PushedRecord → ℕ → Type 0) (it : Content) (m : List ℕ) : Type 0 where
   pub question_end : ℕ
   pub answer_end : ℕ

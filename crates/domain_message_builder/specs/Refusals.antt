@@ -14,8 +14,8 @@ use Rattle.domain_message_builder.specs.declared.error.PushError.TheVariants.{Ap
 use Rattle.domain_message_builder.specs.declared.error.StartError.{StartError}
 use Rattle.domain_message_builder.specs.declared.error.StartError.TheVariants.{Append as NoRoom, ShortLimit, NotEmpty}
 
--- Each error has its reason: there is no room in the target, the data is too long, the section has as many entries as
--- its count tells, the message would exceed its limit, a later section was begun.
+-- Each error has its reason. The target has no room; or the data is too long; or the section has as many entries as
+-- its count can encode. Or the message would exceed its limit; or a later section was begun.
 abbrev pub Refused : {E : Type 0} → Type 0 → Type 0 → Type 0 → Type 0 → Type 0 → PushError E → Type 0
 Refused no_room too_long too_many over_limit begun (Append e) = no_room
 Refused no_room too_long too_many over_limit begun (Long e) = too_long

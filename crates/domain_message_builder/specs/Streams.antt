@@ -6,7 +6,7 @@ use Rattle.std.specs.Int.{w16, to_be_bytes}
 abbrev pub in_stream : List ℕ → List ℕ
 in_stream m = to_be_bytes w16 (length m) ++ m
 
--- The message was appended to the stream so. `octets` tells the octets of a stream.
+-- The message was appended to the stream in this form. `octets` returns the octets of a stream.
 abbrev pub Streams : {S : Type 0} → (S → List ℕ) → List ℕ → S → S → Type 0
 Streams octets m old new = octets new ≡ octets old ++ in_stream m
 
@@ -14,6 +14,6 @@ Streams octets m old new = octets new ≡ octets old ++ in_stream m
 abbrev pub StreamsFrom : {S T : Type 0} → (S → List ℕ) → (T → List ℕ) → S → S → T → Type 0
 StreamsFrom octets message_of old new made = Streams octets (message_of made) old new
 
--- The stream has no room for the message. `room` tells how many octets a stream has room for in all.
+-- The stream has no room for the message. `room` returns how many octets fit into a stream in all.
 abbrev pub StreamFull : {S : Type 0} → (S → ℕ) → (S → List ℕ) → List ℕ → S → Type 0
 StreamFull room octets m old = room old < length (octets old) + 2 + length m

@@ -1,5 +1,5 @@
--- What a target becomes where an entry is appended up to a limit. `g` is `Target.Composer`, `labels` tells the labels
--- of a name, and `d` is `D.ComposeRecordData`.
+-- What a target becomes where an entry is appended up to a limit. `g` is `Target.Composer`, `labels` returns the
+-- labels of a name, and `d` is `D.ComposeRecordData`.
 use Rattle.std.specs.Prelude.{◌≡◌, ℕ, List, []}
 use Rattle.domain_rdata.specs.Members.{ComposerMembers, DataMembers}
 use Rattle.domain_rdata.specs.ReadBack.{Appended}
@@ -16,7 +16,7 @@ use Rattle.domain_message_builder.specs.Tight.{Surpasses, RefusedAsWritten, Ques
 use Rattle.domain_message_builder.specs.declared.error.PushError.{PushError}
 use Rattle.domain_message_builder.specs.declared.error.StartError.{StartError}
 
--- Why no message of at most so many octets was begun on the target.
+-- Why no message of at most `limit` octets was begun on the target.
 abbrev pub NotBegunOn : {T E : Type 0} → ComposerMembers T → T → ℕ → StartError E → Type 0
 NotBegunOn g target limit e = NotBegun (g.octets target) (g.capacity target) limit e
 

@@ -33,7 +33,7 @@ fn answer_header(query: Header, rcode: Rcode) -> Header
 impl<Target: Composer> MessageBuilder<Target> {
     ghost use Rattle.domain_message_builder.specs.declared.error.PushError.TheVariants.{Count, Order};
 
-    /// Begins an answer to a query: sets the header, and pushes the query's first question as it stands there.
+    /// Begins an answer to a query: sets the header, and pushes the query's first question unchanged.
     ///
     /// The header has the identifier, the opcode and the bits RD and CD of the query, QR, this response code, and no
     /// other bit. Where the query has no question, or it can't be read, none is pushed, and nothing is refused. The
@@ -71,9 +71,10 @@ impl<Target: Composer> MessageBuilder<Target> {
         Ok(())
     }
 
-    /// Begins an answer as `start_answer` does, but for the question where that is refused. It is for errors, which
-    /// are told even so. Only where no question can be pushed, or it has no room as the target writes it, is it left
-    /// out; but for the header nothing is then changed, nor what the target remembers.
+    /// Begins an answer as `start_answer` does, but leaves out a question that is refused. This is for error
+    /// responses, which are sent even without the question. The question is left out only where no question can be
+    /// pushed, or where it has no room as the target writes it. Then only the header changes, and what the target
+    /// remembers is unchanged.
     pub fn start_error<Octs: Octets>(&mut self, query: &Message<Octs>, rcode: Rcode)
         ensures starts { AnswersInError query.now rcode self.old self.new }
         ensures written { LeavesQueryOrNone query.now self.old self.new }

@@ -87,8 +87,9 @@ impl<Target: Composer + Drop> MessageBuilder<Target> {
 
     /// Begins a message of at most `limit` octets, with a header of zeros.
     ///
-    /// `NotEmpty` exactly if the target isn't empty, else `ShortLimit` exactly if the limit is below the twelve octets
-    /// of the header, and else `Append` only if the target has no room for these. The target is then dropped.
+    /// Returns `NotEmpty` if and only if the target isn't empty. Otherwise, returns `ShortLimit` if and only if the
+    /// limit is below the twelve octets of the header. Otherwise, returns `Append` only if the target has no room for
+    /// these octets. After an error, the target is dropped.
     pub fn with_limit(target: Target, limit: u16) -> Result<Self, StartError<Target::AppendError>>
         ensures ok { IfOk result (λ it. IsBegun Target.compresses limit (state it)) }
         ensures written { IfOk result (λ it. BeginsOn Target.Composer target (target_of it)) }
@@ -197,9 +198,10 @@ impl<Target: Composer> MessageBuilder<Target> {
 
     /// Pushes a question, or nothing.
     ///
-    /// `Order` exactly if a record was pushed, else `Count` exactly if there are 65,535 questions; else `Limit` or
-    /// `Append` only if octets that may be composed for it exceed the limit, less what is set aside, or the target's
-    /// room. Nothing is then changed, nor what the target remembers.
+    /// Returns `Order` if and only if a record was pushed. Otherwise, returns `Count` if and only if there are 65,535
+    /// questions. Otherwise, returns `Limit` only if octets that can be composed for the question exceed the limit,
+    /// less what is set aside, and `Append` only if they exceed the target's room. After an error, nothing has
+    /// changed, including what the target remembers.
     pub fn push_question<'a, N: AbsoluteLabels<'a>>(
         &mut self,
         question: &'a Question<N>,
@@ -237,10 +239,11 @@ impl<Target: Composer> MessageBuilder<Target> {
 
     /// Pushes a record into a section, or nothing.
     ///
-    /// `Order` exactly if a later section has a record, else `Count` exactly if this one has 65,535; else `Long` only
-    /// if data that may be composed for it has over 65,535 octets, and `Limit` or `Append` only if octets that may be
-    /// composed exceed the limit, less what is set aside, or the target's room. Nothing is then changed, nor what the
-    /// target remembers.
+    /// Returns `Order` if and only if a later section has a record. Otherwise, returns `Count` if and only if this
+    /// section has 65,535 records. Otherwise, returns `Long` only if data that can be composed for the record has over
+    /// 65,535 octets. Returns `Limit` only if octets that can be composed for the record exceed the limit, less what
+    /// is set aside, and `Append` only if they exceed the target's room. After an error, nothing has changed,
+    /// including what the target remembers.
     pub fn push<'a, N: AbsoluteLabels<'a>, D: ComposeRecordData>(
         &mut self,
         section: Section,

@@ -39,7 +39,7 @@ pub enum PushError<E> {
     Append(E),
     /// The data of a record has more than 65,535 octets.
     Long(LongRecordData),
-    /// The section has 65,535 entries, and its count in the header tells no more.
+    /// The section has 65,535 entries, the most that its count in the header can encode.
     Count,
     /// The message would have more octets than its limit, less what is set aside.
     Limit,
@@ -51,7 +51,7 @@ impl<E> PushError<E> {
     ghost use Rattle.std.specs.Prelude.{◌≡◌};
     ghost use Rattle.domain_message_builder.specs.Errors.{is_for_room};
 
-    /// Whether it was for want of room: in the target, or up to the limit of the message.
+    /// Returns whether the entry was refused for lack of room: in the target, or up to the limit of the message.
     pub fn is_for_room(&self) -> bool
         ensures { result ≡ is_for_room self.now }
     {

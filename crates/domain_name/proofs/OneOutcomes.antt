@@ -80,7 +80,7 @@ within n k = at (leb_tells n k)
     at (inl a) = inl a.1
     at (inr a) = inr a.1
 
--- a call that makes `made`, where a label has so many octets as the measure says
+-- a call that makes `made`, where the measure `label` gives the number of octets of a label
 labelling : (room : ℕ) (b made : BuilderState) (label : BuilderState → ℕ) → 254 ≤ room → size b ≤ 254 → OneStep (λ m. (m ≡ made) × Fits (label m) (size m)) (λ m. (m ≡ b) × ExceedsLimits room (label made) (size made))
 labelling room b made label r s = at (within (label made) 63) (within (size made) 254)
   where

@@ -13,7 +13,7 @@ use Rattle.domain_name.specs.declared.calls.BuilderCall.TheVariants.{Push, PushS
 use Rattle.domain_builder.specs.declared.name_symbol.TextFault.{TextFault}
 use Rattle.domain_name.specs.Names.{relative_labels}
 
--- A label of so many octets and all of them are short enough.
+-- A label of `label` octets and a whole of `whole` octets are short enough.
 abbrev pub Fits : ℕ → ℕ → Type 0
 Fits label whole = (label ≤ 63) × (whole ≤ 254)
 

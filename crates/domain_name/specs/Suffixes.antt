@@ -11,6 +11,6 @@ abbrev pub suffix_lists_from : {O : Type 0} {g : Ghosts O} → Option (Name O g)
 suffix_lists_from None = []
 suffix_lists_from (Some name) = suffix_lists (name_labels name)
 
--- the lists of the suffixes that are left
+-- the lists of the remaining suffixes
 abbrev pub suffix_lists_left : SuffixIter → List (List (List ℕ))
 suffix_lists_left it = suffix_lists_from it.next

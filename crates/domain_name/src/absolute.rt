@@ -56,12 +56,14 @@ impl<Octs: Octets + Copy> Clone for Name<Octs> {
 impl<Octs: Octets + Drop> Name<Octs> {
     ghost use Rattle.domain_name.specs.Names.{name_octets, name_holder, ReadsAbsoluteWire};
 
-    /// The name whose wire format the octets are.
+    /// Returns the name whose wire format the octets are.
     ///
-    /// `LongName` where they are more than 255; else the first error from the left: `CompressedName` at a pointer,
-    /// `BadLabel` at another octet that begins no label, `ShortInput` where there are no octets or they end inside a
-    /// label, `RelativeName` where they end after a label that isn't the root, `TrailingData` where octets follow the
-    /// root.
+    /// `LongName` where there are more than 255 octets. Otherwise the first error from the left:
+    /// - `CompressedName` at a pointer;
+    /// - `BadLabel` at another octet that begins no label;
+    /// - `ShortInput` where there are no octets or they end inside a label;
+    /// - `RelativeName` where they end after a label that isn't the root;
+    /// - `TrailingData` where octets follow the root.
     pub fn from_octets(octets: Octs) -> Result<Name<Octs>, NameError>
         ensures ok { IfOk result (λ name. name_octets name ≡ Octs.octets octets) }
         ensures holder { IfOk result (λ name. name_holder name ≡ octets) }

@@ -43,10 +43,10 @@ impl<B: EmptyBuilder + OctetsMut> NameBuilder<B> {
         }
     }
 
-    /// An empty builder with a capacity of so many octets.
+    /// Makes an empty builder with a capacity of `capacity` octets.
     ///
-    /// Where the capacity is fixed any number is accepted, and the capacity stays what it is. Else it is `ShortBuf`
-    /// where an allocation failed.
+    /// Where the capacity is fixed, any number is accepted, and the capacity stays unchanged. Otherwise the error is
+    /// `ShortBuf`, where an allocation failed.
     pub fn with_capacity(alloc: Global, capacity: usize) -> Result<Self, ShortBuf>
         ensures built { IfOk result (λ builder. built builder ≡ empty_state) }
         ensures room { IfSome B.ROOM (λ n. IfOk result (λ builder. (held builder).capacity ≡ n)) }
@@ -71,7 +71,8 @@ impl NameBuilder<Vec<u8>> {
         NameBuilder::new(alloc)
     }
 
-    /// An empty builder over a `Vec` with a capacity of so many octets. `ShortBuf` only where an allocation failed.
+    /// Makes an empty builder over a `Vec` with a capacity of `capacity` octets. `ShortBuf` only where an allocation
+    /// failed.
     pub fn vec_with_capacity(alloc: Global, capacity: usize) -> Result<Self, ShortBuf>
         ensures built { IfOk result (λ builder. built builder ≡ empty_state) }
         ensures none { capacity ≡ 0 → IsOk result }
@@ -312,11 +313,11 @@ impl<B: OctetsBuilder + OctetsMut> NameBuilder<B> {
     ghost use Rattle.domain_builder.specs.NameSymbols.{symbol_in_name};
     ghost use Rattle.domain_builder.specs.Pushing.{AddsSymbol};
 
-    /// Adds what a symbol of a text stands for (RFC 1035, 5.1): a plain dot ends the open label, and any other
-    /// symbol is pushed as its octet.
+    /// Adds what a symbol of a text stands for (RFC 1035, 5.1). A plain dot ends the open label, and any other symbol
+    /// is pushed as its octet.
     ///
-    /// `EmptyLabel` at a dot where no label is open, and a dot elsewhere never fails; `BinaryLabel` at `\[` where
-    /// none is open; `BadSymbol` at a character that stands for no octet; else the errors of `push`.
+    /// `EmptyLabel` at a dot where no label is open; a dot elsewhere never fails. `BinaryLabel` at `\[` where no label
+    /// is open. `BadSymbol` at a character that stands for no octet. Otherwise the errors of `push`.
     pub fn push_symbol(&mut self, symbol: Symbol) -> Result<(), FromStrError>
         ensures takes { AddsSymbol B.limit (held self.old) (symbol_in_name symbol) result
             (held self.new) }

@@ -78,8 +78,8 @@ impl<B: OctetsBuilder + OctetsMut> NameBuilder<B> {
 
     /// Makes each call in turn, ignores those that fail, and counts those that succeed.
     ///
-    /// A call that fails changes nothing, but for the symbols of a text before the first that couldn't be added:
-    /// these are kept. One that fails for want of capacity asks for more than the capacity that it leaves.
+    /// A call that fails changes nothing, except that the symbols of a text before the first that couldn't be added
+    /// are kept. A call that fails for lack of capacity asks for more than the capacity that it leaves.
     pub fn apply_all(&mut self, calls: &[BuilderCall]) -> usize
         ensures applied { AppliesAll B.limit (held self.old) calls.now (held self.new) result }
         ensures grows { (held self.old).capacity ≤ (held self.new).capacity }

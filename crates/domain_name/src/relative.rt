@@ -23,12 +23,11 @@ use std::ops::Range;
 
 /// A relative name: labels without the root, at most 254 octets, in contiguous octets. It may have no label.
 ///
-/// It is for the first labels of names, as those of a host in its zone; it becomes absolute by `chain` and
-/// `chain_root`. `Octs` is the type that holds its octets, as for a [`Name`](crate::Name).
+/// It is for the first labels of names, as those of a host in its zone. `chain` and `chain_root` make an absolute name
+/// of it. `Octs` is the type that holds its octets, as for a [`Name`](crate::Name).
 ///
-/// It is made of octets in wire format by `from_octets` and `from_slice`, of the parts of a `Name` by
-/// `split`, `slice`, `truncate` and `strip_suffix`, and of relative names of other kinds by
-/// `to_relative_name`.
+/// `from_octets` and `from_slice` make it of octets in wire format. `split`, `slice`, `truncate` and `strip_suffix`
+/// make it of the parts of a `Name`. `to_relative_name` makes it of a relative name of another kind.
 pub struct RelativeName<Octs: Octets> {
     octets: Octs,
     ghost relative: { IsRelativeWire (Octs.octets octets) } by { IsRelativeWire_prop (Octs.octets octets) },

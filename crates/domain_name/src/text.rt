@@ -31,11 +31,16 @@ where
     /// Reads an absolute name from text, as `www.example.com` with or without a dot at the end
     /// (RFC 1035, 5.1).
     ///
-    /// A single dot is the root. `ShortInput` where the text is empty; else the error of the first symbol that can't
-    /// be added: `ShortInput` or `BadEscape` at a broken escape, `BadSymbol` at a character that isn't from space to
-    /// tilde, `BinaryLabel` at `\[` where a label begins, `EmptyLabel` at a dot where none is open, `LongName` for
-    /// more than 254 octets before the root, else `LongLabel` for more than 63 in a label. `ShortBuf` only where
-    /// there is no other error: the octets, which are appended once, don't fit, or an allocation failed.
+    /// A single dot is the root. `ShortInput` where the text is empty. Otherwise the error of the first symbol that
+    /// can't be added:
+    /// - `ShortInput` or `BadEscape` at a broken escape;
+    /// - `BadSymbol` at a character that isn't from space to tilde;
+    /// - `BinaryLabel` at `\[` where a label begins;
+    /// - `EmptyLabel` at a dot where no label is open;
+    /// - `LongName` for more than 254 octets before the root, else `LongLabel` for more than 63 in a label.
+    ///
+    /// `ShortBuf` only where there is no other error: the octets, which are appended once, don't fit, or an allocation
+    /// failed.
     #[inline(always)]
     pub fn from_chars<I: Iterator<Item = char> + Drop>(
         alloc: Global,
@@ -78,9 +83,9 @@ where
     ghost use Rattle.domain_builder.specs.Reverse.{reverse_name};
     ghost use Rattle.domain_name.specs.Names.{WireMayExceed};
 
-    /// The name under which an address is looked up: for IPv4 its octets in decimal, the last first, under
-    /// `in-addr.arpa` (RFC 1035, 3.5); for IPv6 each four bits as an upper case digit, the last first,
-    /// under `ip6.arpa` (RFC 3596, 2.5).
+    /// Returns the name under which an address is looked up:
+    /// - for IPv4 its octets in decimal, the last first, under `in-addr.arpa` (RFC 1035, 3.5);
+    /// - for IPv6 each four bits as an upper case digit, the last first, under `ip6.arpa` (RFC 3596, 2.5).
     ///
     /// `ShortBuf` only where the octets, which are appended once, don't fit, or an allocation failed.
     pub fn reverse_from_addr(alloc: Global, addr: IpAddr) -> Result<Self, PushError>
@@ -134,9 +139,9 @@ where
     /// Reads a relative name from text, as `www.example` (RFC 1035, 5.1).
     ///
     /// The empty text is the empty name. The error of a symbol that can't be added comes first, as for
-    /// `Name::from_chars`, but that a single dot is `EmptyLabel`; `AbsoluteName` where there is none and a dot comes
-    /// after the last label. `ShortBuf` only where there is no other error: the octets, which are appended once,
-    /// don't fit, or an allocation failed.
+    /// `Name::from_chars`, except that a single dot is `EmptyLabel`. `AbsoluteName` where there is no such error and a
+    /// dot comes after the last label. `ShortBuf` only where there is no other error: the octets, which are appended
+    /// once, don't fit, or an allocation failed.
     #[inline(always)]
     pub fn from_chars<I: Iterator<Item = char> + Drop>(
         alloc: Global,

@@ -12,10 +12,11 @@ use Rattle.domain_offsets.specs.declared.shape.Shape.{Shape}
 abbrev pub shape_with : ℕ → ℕ → ℕ → Option Shape
 shape_with shorts names longs = Some (record { shorts = shorts; names = names; longs = longs })
 
--- What data of a type are: NS, MD, MF, CNAME, MB, MG, MR, PTR (RFC 1035, 3.3) and DNAME (RFC 6672, 2.1) a name; MINFO
--- (RFC 1035, 3.3.7) and RP (RFC 1183, 2.2) two; SOA (RFC 1035, 3.3.13) two and five numbers of 32 bits; MX (RFC 1035,
--- 3.3.9), AFSDB, RT (RFC 1183, 1 and 3.3) and KX (RFC 2230, 3.1) a number of 16 bits and a name, PX (RFC 2163, 4) a
--- number and two names, SRV (RFC 2782) three numbers and a name.
+-- What data of a type consist of. Those of NS, MD, MF, CNAME, MB, MG, MR, PTR (RFC 1035, 3.3) and DNAME (RFC 6672,
+-- 2.1) are a name. Those of MINFO (RFC 1035, 3.3.7) and RP (RFC 1183, 2.2) are two names. Those of SOA (RFC 1035,
+-- 3.3.13) are two names and five numbers of 32 bits. Those of MX (RFC 1035, 3.3.9), AFSDB, RT (RFC 1183, 1 and 3.3)
+-- and KX (RFC 2230, 3.1) are a number of 16 bits and a name. Those of PX (RFC 2163, 4) are such a number and two
+-- names, those of SRV (RFC 2782) three such numbers and a name.
 abbrev pub shape : ℕ → Option Shape
 shape rtype =
     if list_any (nat_eq rtype) (2 ∷ 3 ∷ 4 ∷ 5 ∷ 7 ∷ 8 ∷ 9 ∷ 12 ∷ 39 ∷ []) then shape_with 0 1 0

@@ -13,7 +13,7 @@ abbrev pub counted_all : List (List ℕ) → List ℕ
 counted_all [] = []
 counted_all (s ∷ ss) = counted s ++ counted_all ss
 
--- After so many octets come the strings ss one after another, and then no more.
+-- After `passed` octets come the strings ss one after another, and then no more.
 abbrev pub ComeStrings : List ℕ → ℕ → ℕ → ℕ → ℕ → List (List ℕ) → Type 0
 ComeStrings message p len rtype passed [] = NoStringLeft message p len rtype passed
 ComeStrings message p len rtype passed (s ∷ ss) = HasString message p len rtype passed s × ComeStrings message p len rtype (passed + 1 + length s) ss
@@ -21,7 +21,7 @@ ComeStrings message p len rtype passed (s ∷ ss) = HasString message p len rtyp
 nothing_left : (o : List ℕ) → length o ≡ 0 → o ≡ []
 nothing_left o none = grind (arith, common_steps)
 
--- they are the octets that are left
+-- they are the remaining octets
 pub come_octets : (message : List ℕ) (p len rtype passed : ℕ) (ss : List (List ℕ)) → ComeStrings message p len rtype passed ss → drop (p + passed) (take (p + len) message) ≡ counted_all ss
 come_octets message p len rtype passed [] none =
     let size : length (take (p + len) message) ≡ p + len = length-take-le (p + len) message none.inside in

@@ -1,7 +1,7 @@
 //! Fields of record data in a message, by offsets (RFC 1035, 3.3).
 //!
-//! The data of a record are told by the offset at which they begin and by how many octets they have. No call reads an
-//! octet after them; a pointer in a name leads before. What a field is, is told by the type of the record alone.
+//! The data of a record are given by the offset at which they start and by how many octets they have. No call reads an
+//! octet after them; a pointer in a name leads back. The type of the record alone decides what a field is.
 #![tactic(auto)]
 
 pub mod address;

@@ -19,12 +19,13 @@ fn number_of(message: &[u8], data_at: usize, end: usize, shape: Shape, index: us
     number_of_32_bits(message, end + 4 * (index - shape.shorts))
 }
 
-/// The number with `index` numbers before it in the data of a record of this type, which are the `data_len` octets of
-/// the message from `data_at` on. Numbers are the preference of MX, AFSDB (its subtype), RT, PX and KX, the priority,
-/// weight and port of SRV, of 16 bits each, and serial, refresh, retry, expire and minimum of SOA, of 32.
+/// Returns the number with `index` numbers before it in the data of a record of this type. The data are the `data_len`
+/// octets of the message from `data_at` on. Numbers of 16 bits are the preference of MX, AFSDB (its subtype), RT, PX
+/// and KX, and the priority, weight and port of SRV. Numbers of 32 bits are serial, refresh, retry, expire and minimum
+/// of SOA.
 ///
-/// `NoField` where data of this type have no such number. The others as `names_end` has them: the data are read whole
-/// or not at all.
+/// Returns `NoField` if data of this type have no such number. The other errors are as for `names_end`: the data are
+/// read whole or not at all.
 pub fn number_in(
     message: &[u8],
     data_at: usize,

@@ -77,10 +77,11 @@ fn end_in(octets: &[u8], data_at: usize, shape: Shape) -> Result<usize, DataFaul
     Ok(end)
 }
 
-/// The offset after the names of data of this shape, which are the `data_len` octets of the message from `data_at` on.
+/// Returns the offset after the names of data of this shape, which are the `data_len` octets of the message from
+/// `data_at` on.
 ///
-/// `ShortInput` where the data end past the message, or in the numbers after the names; `TrailingData` where they go
-/// on after these; `Name` where one of the names can't be skipped.
+/// Returns `ShortInput` if the data end past the message, or in the numbers after the names. Returns `TrailingData` if
+/// they go on after these, and `Name` if one of the names can't be skipped.
 pub(crate) fn names_end(
     message: &[u8],
     data_at: usize,

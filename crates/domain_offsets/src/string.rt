@@ -27,12 +27,13 @@ fn string_at(octets: &[u8], offset: usize) -> Option<&[u8]>
     Some(string)
 }
 
-/// The next character string in the data of a record of this type, which are the `data_len` octets of the message from
-/// `data_at` on, where `passed` of them were passed before: 0, then for each string its octets and the one before
-/// them. Its octets are those of the message from `data_at + passed + 1` on. `None` where all strings were passed.
+/// Returns the next character string in the data of a record of this type. The data are the `data_len` octets of the
+/// message from `data_at` on. Of these, `passed` octets were passed before: 0, then for each string its octets and the
+/// length octet before them. The string's octets are those of the message from `data_at + passed + 1` on. Returns
+/// `None` if all strings were passed.
 ///
-/// `NoField` where data of this type are no character strings. `ShortInput` where the data end past the message, where
-/// they end in the string, or where they have no octet, since there is one string at least.
+/// Returns `NoField` if data of this type are no character strings. Returns `ShortInput` if the data end past the
+/// message, if they end in the string, or if they have no octet, since there is at least one string.
 pub fn string_in<'a>(
     message: &'a [u8],
     data_at: usize,

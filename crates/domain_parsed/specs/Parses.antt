@@ -41,8 +41,8 @@ TakesUncompressed old new result =
 abbrev pub CountsLabel : {L : Type 0} → Option L → ℕ → ℕ → Type 0
 CountsLabel label before now = MatchOption label (now ≡ before) (λ _. now ≡ before + 1)
 
--- One was counted for each label and each pointer of the name at the parser's position; where an error is the result,
--- for each that was read before it, and for the one that can't be read.
+-- One was counted for each label and each pointer of the name at the parser's position. Where an error is the result,
+-- one was counted for each that was read before it, and one for the label or pointer that can't be read.
 abbrev pub CountsHeads : {O : Type 0} {g : Ghosts O} → ℕ → Parser → ℕ → ℕ → Result (ParsedName O g) ParseError → Type 0
 CountsHeads limit parser before now result = MatchResult result
     (λ name. CountsName limit (message parser) (position parser) (parsed_labels name) before now)

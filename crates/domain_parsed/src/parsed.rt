@@ -35,8 +35,8 @@ const MAX_POINTERS: u8 = 255;
 /// An absolute name in a message, which may be compressed (RFC 1035, 4.1.4).
 ///
 /// It has at most 255 octets with the root label, and is read through at most 255 compression pointers. It keeps the
-/// octets of the whole slice that it was read from and a table of the offsets of its labels, so that each label is
-/// found without following a pointer, from either end.
+/// octets of the whole slice that it was read from and a table of the offsets of its labels. So each label is found
+/// without following a pointer, from either end.
 ///
 /// It is for names that are read from a message and used while that is in memory: no octet is copied, and over
 /// `&[u8]` it is Copy, of 288 octets. `parse` makes one, and `From` makes one of an uncompressed name. To keep a name

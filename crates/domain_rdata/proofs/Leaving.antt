@@ -1,4 +1,4 @@
--- Names that are left to a target.
+-- Names that record data leaves to the target to write.
 use Rattle.std.proofs.Common.{Result, Ok, Err, OnOk, ◌≡◌, ◌∙◌, ℕ, Bool, List, ◌++◌, length, ap, sym, subst}
 use Rattle.std.specs.Int.{w16, to_be_bytes}
 use Rattle.domain_rdata.specs.LeavingNames.{WrittenBehind, Measured, LeavesNames}
@@ -32,7 +32,7 @@ pub no_length_stays : {T U E : Type 0} (octets : T → List ℕ) (extends : T �
 no_length_stays octets extends cuts written old again k n m second new (Ok x) was told behind other = length_moves n m again second was (behind_called octets extends written again k n m second told behind) other
 no_length_stays octets extends cuts written old again k n m second new (Err e) was told behind other = tt
 
--- A length that is told of all data that may be composed is that of the data.
+-- A length returned for all octets that may be composed is the length of the data that was composed.
 pub told_length : (Composed : Bool → List ℕ → List ℕ → Type 0) (asked compresses : Bool) (old new : List ℕ) (len n : ℕ) → asked ≡ compresses → ((t s : List ℕ) → Composed asked t s → length s ≡ len) → DataAfterLength (Composed compresses) old len n new → len ≡ n
 told_length Composed asked compresses old new len n same told x =
     let P : Bool → Type 0 = λ b. Composed b (old ++ to_be_bytes w16 len) x.octets in

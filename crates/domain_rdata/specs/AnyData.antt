@@ -15,7 +15,7 @@ spaced_octet n = 32 ∷ hex_digit (n / 16) ∷ hex_digit (n % 16) ∷ []
 abbrev pub unknown_text : List ℕ → List ℕ
 unknown_text octets = codes "\\# " ++ decimal (length octets) ++ flat_map spaced_octet octets
 
--- The data that stands at an offset is all that is left of the octets there.
+-- The data at an offset is all octets remaining there.
 pub record IsAllThatIsLeft (m : List ℕ) (p : ℕ) (octets : List ℕ) (e : ℕ) : Type 0 where
   pub inside : p ≤ length m
   pub all : octets ≡ drop p m

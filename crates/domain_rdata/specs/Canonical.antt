@@ -7,14 +7,14 @@ use Rattle.domain_rdata.specs.declared.record_data.ComposeRdataError.TheVariants
 use Rattle.domain_rdata.specs.declared.record_data.CanonicalError.{CanonicalError}
 use Rattle.domain_rdata.specs.declared.record_data.CanonicalError.TheVariants as canonical
 
--- The octets with each name in lowercase, where it is known which of them are names; else the octets as they stand.
+-- The octets with each name in lowercase, if it is known which octets are names. Otherwise, the octets unchanged.
 abbrev pub lowercase_where_known : List ℕ → Option (List ℕ) → List ℕ
 lowercase_where_known octets None = octets
 lowercase_where_known octets (Some lowercase) = lowercase
 
--- What the canonical call appends for data of the type t, whose octets with no name compressed are these, and are
--- those with all names in lowercase where it is known which octets are names. Names of other types keep their case
--- (RFC 3597, 7).
+-- What the canonical call appends for data of the type t. `uncompressed` is the octets of the data with no name
+-- compressed. `lowercase` is these octets with all names in lowercase, if it is known which octets are names. Names of
+-- other types keep their case (RFC 3597, 7).
 abbrev pub canonical_form : ℕ → List ℕ → Option (List ℕ) → List ℕ
 canonical_form t uncompressed lowercase =
     if has_lowercase_names t then lowercase_where_known uncompressed lowercase else uncompressed
@@ -41,7 +41,7 @@ abbrev pub CanonicalRefused : {E : Type 0} → List ℕ → List ℕ → ℕ →
 CanonicalRefused form old capacity (Append _) = capacity < length old + 2 + length form
 CanonicalRefused form old capacity (Long _) = 65535 < length form
 
--- the text that tells why a record has no canonical form, or why it wasn't appended
+-- the text that says why a record has no canonical form, or why it wasn't appended
 abbrev pub canonical_error_text : {E : Type 0} → CanonicalError E → List ℕ
 canonical_error_text (canonical.Append _) = codes "buffer size exceeded"
 canonical_error_text (canonical.Long _) = codes "record data too long"

@@ -1,6 +1,7 @@
--- How a target becomes where record data was composed into it: names are left to the target, which writes them shorter
--- where it may (RFC 1035, 4.1.4). `octets` are those of a target; `extends` and `cuts` are what it becomes where
--- octets were appended, and where it was cut; and `written` is what it becomes where its own calls appended the data.
+-- What a target becomes when record data is composed into it. Names are left to the target, which writes them shorter
+-- where it may (RFC 1035, 4.1.4). `octets` is those of a target. `extends` is what the target becomes when octets are
+-- appended, and `cuts` is what it becomes when it is cut. `written` is what it becomes when its own calls append the
+-- data.
 use Rattle.std.specs.Prelude.{◌≡◌, ℕ, ◌+◌, List, length}
 use Rattle.std.specs.Int.{w16, to_be_bytes}
 

@@ -1,8 +1,7 @@
 -- What contracts have as the members of a trait and of those above it, as one record.
 use Rattle.std.specs.Prelude.{ℕ, Bool, List, Option}
 
--- What becomes of any target by its own calls: what it becomes where octets were appended, and where a name was, tells
--- it.
+-- What any target becomes by its own calls, given what it becomes when octets are appended and when a name is.
 abbrev pub Writing : Type 1
 Writing = (T : Type 0) → (T → List ℕ → T → Type 0) → (T → List (List ℕ) → T → Type 0) → T → T → Type 0
 

@@ -21,6 +21,6 @@ WritesComposed written composed =
 pub octets_written : (octets : List ℕ) → WritesComposed (λ _ extends _ old new. extends old octets new) (λ _ _ s. s ≡ octets)
 octets_written octets compresses t u all = record { octets = octets; allowed = refl; all = all }
 
--- a name that is left to the target
+-- a name left to the target to write
 pub name_written : (ls : List (List ℕ)) → WritesComposed (λ _ _ named old new. named old ls new) (NameOctets ls)
 name_written ls compresses t u named = named

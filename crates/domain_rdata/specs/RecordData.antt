@@ -48,7 +48,7 @@ abbrev pub ComposeRefused : {E : Type 0} → (List ℕ → List ℕ → Type 0) 
 ComposeRefused May old capacity (Append e) = ExceedsWithLength May old capacity
 ComposeRefused May old capacity (Long _) = IsTooLong May old
 
--- the text that tells why
+-- the text that says why nothing was appended
 abbrev pub compose_error_text : {E : Type 0} → ComposeRdataError E → List ℕ
 compose_error_text (Append e) = codes "buffer size exceeded"
 compose_error_text (Long _) = codes "record data too long"

@@ -1,6 +1,6 @@
--- What a target becomes where names and record data are composed into it, and why nothing was. `g` is
--- `Target.Composer`, and `d` is `D.ComposeRecordData`. `may` tells the octets that may be composed after others, into
--- a target that may write names shorter or not; `written` what becomes of any target by its own calls.
+-- What a target becomes when names and record data are composed into it, and why nothing was composed. `g` is
+-- `Target.Composer`, and `d` is `D.ComposeRecordData`. `may` gives the octets that may be composed after others, into
+-- a target that may or may not write names shorter. `written` gives what any target becomes by its own calls.
 use Rattle.std.specs.Prelude.{◌≡◌, ℕ, Bool, true, false, List, length, Option, Result, OnOk, IfSome}
 use Rattle.domain_rdata.specs.Canonical.{canonical_form, WithForm, WithLengthAndForm, FormExceeds, CanonicalRefused}
 use Rattle.domain_rdata.specs.LeavingNames.{WrittenBehind, LeavesNames}
@@ -68,7 +68,7 @@ AllHaveLength may n = (t s : List ℕ) → may t s → length s ≡ n
 abbrev pub form_of : {D : Type 0} → DataMembers D → D → List ℕ
 form_of d it = canonical_form (d.type_number it) (d.uncompressed it) (d.lowercase it)
 
--- A length that is told for a target that doesn't write names shorter is that of the canonical form.
+-- A length returned for a target that doesn't write names shorter is the length of the canonical form.
 abbrev pub TellsFormLength : {D : Type 0} → DataMembers D → D → Bool → Option ℕ → Type 0
 TellsFormLength d it compress told =
     compress ≡ false → IfSome told (λ n. length (form_of d it) ≡ n)

@@ -1,10 +1,10 @@
--- Taking all that is left is a reading.
+-- Taking all remaining octets is a reading.
 use Rattle.std.specs.Prelude.{length}
 use Rattle.std.proofs.Common.{arith, ap, sym, ◌∙◌}
 use Rattle.domain_wire.specs.Values.{IsReading}
 use Rattle.domain_rdata.specs.AnyData.{IsAllThatIsLeft, TooMuchIsLeft}
 
--- At each offset either all that is left is the data, or it is too much, never both.
+-- At each offset, either all remaining octets are the data, or they are too many; never both.
 pub all_that_is_left : IsReading IsAllThatIsLeft TooMuchIsLeft
 all_that_is_left = record {
   inside = λ m p seen e at. let i = at.inside in let b = at.after in (omega arith, omega arith);

@@ -75,7 +75,7 @@ impl<E> fmt::Display for CanonicalError<E> {
 
 impl<E: fmt::Debug + Drop> Error for CanonicalError<E> {}
 
-/// The most octets of record data: a length of 16 bits tells no more.
+/// The most octets of record data: a length of 16 bits can't state more.
 const MOST_OCTETS: usize = 65535;
 
 /// Writes a length over the two octets at an offset.
@@ -114,10 +114,10 @@ pub trait ComposeRecordData: RecordData {
     /// The octets with no name compressed: all that a target takes that doesn't write names shorter.
     ghost uncompressed: { Self → List ℕ };
 
-    /// The same with each name in lowercase. `None` where it isn't known which of the octets are names.
+    /// The same octets with each name in lowercase. `None` if it isn't known which of the octets are names.
     ///
-    /// What the canonical call appends is by `canonical_form` the one or the other, as the type of the record tells
-    /// (RFC 4034, 6.2), and the octets as they stand where the names aren't known.
+    /// By `canonical_form`, the canonical call appends the one or the other, depending on the type of the record
+    /// (RFC 4034, 6.2). If the names aren't known, it appends the octets unchanged.
     ghost lowercase: { Self → Option (List ℕ) };
 
     /// Whether the number of the octets is known, for a target that may write names shorter or for one
@@ -147,12 +147,12 @@ pub trait ComposeRecordData: RecordData {
         ensures full { OnErr result (Overflows Target.Composer (composed self.now) target.old) }
         ensures capacity { Target.capacity target.old ≤ Target.capacity target.new };
 
-    /// Appends the canonical form of the data, or nothing (RFC 4034, 6.2): no name is compressed, and names are in
-    /// lowercase exactly where [`Rtype::has_lowercase_names`] tells so of the type. Of data that is held as octets it
-    /// isn't known which of them are names: they are appended as they stand ([`CanonicalRecordData::knows_names`]).
+    /// Appends the canonical form of the data, or nothing (RFC 4034, 6.2). No name is compressed. Names are in
+    /// lowercase exactly when [`Rtype::has_lowercase_names`] returns `true` for the type. For data held as octets, it
+    /// isn't known which of them are names: they are appended unchanged ([`CanonicalRecordData::knows_names`]).
     ///
-    /// It is refused only where its octets exceed the spare capacity of the target, and leaves the target's octets
-    /// then.
+    /// The call fails only if the octets of the form exceed the spare capacity of the target. The target's octets are
+    /// then unchanged.
     fn compose_canonical_rdata<Target: Composer>(
         &self,
         target: &mut Target,
@@ -255,7 +255,7 @@ pub trait CanonicalRecordData: ComposeRecordData {
         ensures { result ≡ names_known (Self.type_number self.now) (Self.lowercase self.now) };
 }
 
-/// Appends a length, and after it the data, or nothing; and tells how many octets the data has.
+/// Appends a length, and after it the data, or nothing. Returns the number of octets of the data.
 fn compose_after<D: ComposeRecordData, T: Composer>(
     rdata: &D,
     target: &mut T,

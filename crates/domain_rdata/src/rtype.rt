@@ -28,11 +28,12 @@ impl Rtype {
         self.0
     }
 
-    /// Whether the names in the data of such records are in lowercase in the canonical form (RFC 4034, 6.2): of the
-    /// types of RFC 1035 NS, CNAME, SOA, PTR, MX, MINFO, MB, MD, MF, MG and MR, of later ones SRV, DNAME, KX, NAPTR,
-    /// RP, AFSDB, RT, PX, A6, RRSIG, SIG and NXT.
+    /// Returns whether the names in the data of such records are in lowercase in the canonical form (RFC 4034, 6.2).
     ///
-    /// The names in data of all other types keep their case, those of NSEC too (RFC 6840, 5.1; RFC 3597, 7).
+    /// They are for these types of RFC 1035: NS, CNAME, SOA, PTR, MX, MINFO, MB, MD, MF, MG and MR. They are for these
+    /// later types, too: SRV, DNAME, KX, NAPTR, RP, AFSDB, RT, PX, A6, RRSIG, SIG and NXT.
+    ///
+    /// The names in data of all other types keep their case, including those of NSEC (RFC 6840, 5.1; RFC 3597, 7).
     pub fn has_lowercase_names(self) -> bool
         ensures { result ≡ has_lowercase_names (rtype_number self) }
     {

@@ -202,10 +202,10 @@ impl<Octs: Octets> CanonicalRecordData for UnknownRecordData<Octs> {
 impl<'a> UnknownRecordData<&'a [u8]> {
     ghost use Rattle.domain_rdata.specs.Unknown.{data_octets, data_type};
 
-    /// Reads data of this type: all that is left, and moves the parser to its end.
+    /// Reads data of this type, which is all remaining octets, and moves the parser to its end.
     ///
-    /// It is a form error "record data too long" exactly where that is more than 65,535 octets. The parser
-    /// then stays where it stood.
+    /// Returns a form error "record data too long" if and only if more than 65,535 octets remain. The parser then
+    /// keeps its position.
     pub fn parse_any_rdata(
         rtype: Rtype,
         parser: &mut Parser<'a>,
@@ -225,7 +225,7 @@ impl<'a> UnknownRecordData<&'a [u8]> {
     }
 }
 
-/// Takes all that is left, whatever the type, so it never answers `None`.
+/// Takes all remaining octets, whatever the type, so it never returns `None`.
 impl<'a> ParseRecordData<'a> for UnknownRecordData<&'a [u8]> {
     ghost use Rattle.domain_rdata.specs.Unknown.{data_octets};
 
@@ -249,7 +249,7 @@ impl<'a> ParseRecordData<'a> for UnknownRecordData<&'a [u8]> {
     ghost lawful = { λ _. all_that_is_left };
 }
 
-/// Takes all that is left, whatever the type.
+/// Takes all remaining octets, whatever the type.
 impl<'a> ParseAnyRecordData<'a> for UnknownRecordData<&'a [u8]> {
     ghost use Rattle.domain_rdata.specs.Unknown.{data_octets};
 
@@ -318,8 +318,9 @@ impl<Octs: Octets> PartialOrd for UnknownRecordData<Octs> {
     }
 }
 
-/// The order of the octets from the left: the canonical order of RFC 4034, 6.3, but for types with names that are
-/// compared in lowercase. The canonical form of such data isn't known of octets, which are compared as they stand.
+/// The order of the octets from the left. It is the canonical order of RFC 4034, 6.3, except for types with names that
+/// are compared in lowercase. The canonical form of such data can't be known from octets alone, so they are compared
+/// unchanged.
 impl<Octs: Octets> CanonicalOrd for UnknownRecordData<Octs> {
     ghost use Rattle.domain_rdata.specs.Unknown.{data_octets};
 

@@ -3,8 +3,8 @@ use Rattle.std.specs.Prelude.{◌≡◌, ℕ, ◌+◌, ◌-◌, ◌<◌, ◌≤�
 use Rattle.std.specs.List.{All}
 use Rattle.domain_label.specs.Wire.{wire}
 
--- What an entry of the table means: below 32768 so many octets after the base, the offset of the name's first label
--- when it was read; else 32768 more than an offset of the message.
+-- What an entry of the table means. Below 32768, it means that many octets after the base, the offset of the name's
+-- first label when it was read. Otherwise it is 32768 more than an offset of the message.
 abbrev pub entry_offset : ℕ → ℕ → ℕ
 entry_offset base entry = if nat_lt entry 32768 then base + entry else entry - 32768
 

@@ -45,8 +45,8 @@ pub record StandsUncompressed (parser : Parser) (ls : List (List ℕ)) : Type 0 
 abbrev pub CountsName : ℕ → List ℕ → ℕ → List (List ℕ) → ℕ → ℕ → Type 0
 CountsName n m p ls before now = (name : Names n m p ls) × (now ≡ before + length ls + name.pointers)
 
--- No name of at most n pointers is at p, and why; the count grew by one for each label and each pointer that was read,
--- and by one for the label or pointer that can't be read, which may be missing.
+-- No name of at most n pointers is at p, and why. The count grew by one for each label and each pointer that was read.
+-- It also grew by one for the label or pointer that can't be read, which may be missing.
 abbrev pub FaultCounted : ℕ → List ℕ → ℕ → ℕ → ℕ → NameFault → Type 0
 FaultCounted n m p before now fault = (f : NameFaultAt n m p fault) × (now ≡ before + length f.passed + f.pointers + 1)
 

@@ -10,10 +10,10 @@ ghost use Rattle.domain_reading.specs.Touched.{Touches, KeepsTouched, IsSameFrom
 
 /// Facts on names in messages. The call does nothing: its contract is the facts.
 ///
-/// At an offset at most one list of labels is read, which is an absolute name; what is read in the first octets of a
+/// At an offset at most one list of labels is read, which is an absolute name. What is read in the first octets of a
 /// message is read in the whole message, too. At each offset there is a name or an error, never both, and only one
 /// error. There is only one encoding of the name at an offset, and only one first label. The octets of an absolute
-/// name are read as that name. At each offset there is an encoding to skip or an error, never both; where a name is
+/// name are read as that name. At each offset there is an encoding to skip or an error, never both. Where a name is
 /// read, its encoding can be skipped, and ends at the same offset.
 pub fn reads_laws()
     ensures once { (m p j k xs ys : _) → Reads m p j xs → Reads m p k ys → (j ≡ k) × (xs ≡ ys) }
@@ -37,10 +37,10 @@ pub fn reads_laws()
 /// Facts on names in a message whose octets are overwritten. The call does nothing: its contract is the facts.
 ///
 /// A name is read from some octets of the message (`Touches`). Where these are kept, the same labels are read,
-/// whatever the others become. So what is read from octets at n and after it alone is read, and is a name, whatever
-/// is written before n. A name that is read without a pointer is read from octets at its own offset and after it; and
-/// one whose labels and pointer are at n or after it, from octets at n and after it, where what the pointer leads to
-/// is.
+/// whatever the others become. So what is read only from octets at n and after it is read, and is a name, whatever is
+/// written before n. A name that is read without a pointer is read from octets at its own offset and after it. A name
+/// whose labels and pointer are at n or after it is read from octets at n and after it, where what the pointer leads
+/// to is.
 pub fn overwriting_laws()
     ensures kept { (m w p k ls : _) (r : Reads m p k ls) → KeepsTouched r w → Reads w p k ls }
     ensures inside { (m p k ls : _) (r : Reads m p k ls) (i : _) → Touches r i → i < length m }

@@ -11,8 +11,9 @@ abbrev pub canonical_head : List (List ℕ) → ℕ → ℕ → ℕ → List ℕ
 canonical_head owner rtype class ttl =
     wire (lowercase_labels owner) ++ before_length rtype class ttl
 
--- Why the form wasn't appended: it isn't known which octets of the data are names, which is told before all else;
--- there is no room for the octets before the data, or for the data behind its length; or that is too long.
+-- Why the form wasn't appended. If it isn't known which octets of the data are names, that is reported before anything
+-- else. Otherwise, there is no room for the octets before the data, or for the data after its length; or the data is
+-- too long.
 abbrev pub CanonicalRecordRefused : {E : Type 0} → Bool → List ℕ → List ℕ → List ℕ → ℕ → CanonicalError E → Type 0
 CanonicalRecordRefused known form head old capacity (Append _) =
     (known ≡ true) × ((capacity < length old + length head) ⊎ (capacity < length (old ++ head) + 2 + length form))

@@ -14,8 +14,8 @@ QuestionReadsBack =
     (record { name = c; rtype = rtype; class = class }) (length t + length s)
     × (lowercase_labels c ≡ lowercase_labels name)
 
--- The data of a record that was composed is the last of the octets that its data is read from, from the offset of the
--- data on, and may be composed after those before it.
+-- The data of a composed record is at the end of the octets that it is read from, and starts at the offset `start`. It
+-- can be composed after the octets before it.
 pub record DataStands (May : List ℕ → List ℕ → Type 0) (m : List ℕ) (start : ℕ)
     (rdata : List ℕ) : Type 0 where
   pub before : List ℕ
@@ -46,7 +46,7 @@ RecordReadsBack May compresses =
     × DataStands May (take (length t + length s) (t ++ s ++ u)) (length t + length done.named + 10)
     done.rdata
 
--- So is each record with data of a type: `composed` tells the octets that its data may be composed into.
+-- Each record with data of a type is read back so. `composed` states the octets that its data can be composed into.
 abbrev pub RecordsReadBack : {D : Type 0} → (D → Bool → List ℕ → List ℕ → Type 0) → Type 0
 RecordsReadBack {D = D} composed =
     (it : D) (compresses : Bool) → RecordReadsBack (composed it compresses) compresses

@@ -1,7 +1,7 @@
--- How a target becomes where a question or a record was composed into it: by its own calls it appended the name (RFC
--- 1035, 4.1.4) and the numbers after it, and the names in a record's data are left to it, too. `octets` are those of a
--- target; `extends`, `appends` and `cuts` are what it becomes where its calls appended octets or a name, and where it
--- was cut; and `written` where data was composed into it.
+-- What a target becomes where a question or a record was composed into it. By its own calls it appended the name (RFC
+-- 1035, 4.1.4) and the numbers after it. The names in a record's data are left to it, too. `octets` returns the octets
+-- of a target. `extends` and `appends` are what it becomes where its calls appended octets or a name. `cuts` is what
+-- it becomes where it was cut, and `written` where data was composed into it.
 use Rattle.std.specs.Prelude.{ℕ, List}
 use Rattle.domain_rdata.specs.LeavingNames.{LeavesNames}
 use Rattle.domain_record.specs.declared.question.Question.{Question}

@@ -1,5 +1,5 @@
 -- What a target becomes where a question or a record is composed into it, and why none is. `g` is `Target.Composer`,
--- `labels` tells the labels of a name, and `d` is `D.ComposeRecordData`.
+-- `labels` returns the labels of a name, and `d` is `D.ComposeRecordData`.
 use Rattle.std.specs.Prelude.{◌≡◌, ℕ, Bool, true, List, ◌++◌}
 use Rattle.domain_header.specs.Values.{class_number, ttl_seconds}
 use Rattle.domain_header.specs.declared.ttl.Ttl.{Ttl}

@@ -6,14 +6,14 @@ use Rattle.domain_message_builder.specs.declared.error.PushError.TheVariants.{Ap
 use Rattle.domain_sections.specs.declared.error.SectionError.{SectionError}
 use Rattle.domain_sections.specs.declared.error.SectionError.TheVariants.{Append as NoRoom, Long as TooLong, Count as TooMany, Limit as OverLimit}
 
--- The error of a push that is told for the same reason. None is told because a later section was begun.
+-- The error of a push that has the same reason. None has the reason that a later section was begun.
 abbrev pub push_error : {E : Type 0} → SectionError E → PushError E
 push_error (NoRoom e) = Append e
 push_error (TooLong e) = Long e
 push_error TooMany = Count
 push_error OverLimit = Limit
 
--- The error is told before anything was composed.
+-- The error is returned before anything is composed.
 abbrev pub IsEarly : {E : Type 0} → SectionError E → Type 0
 IsEarly e = is_early (push_error e) ≡ true
 

@@ -1,5 +1,5 @@
--- What contracts say of a push of a record: the words of `BuilderEntries`, said of a `RecordBuilder`, whose type tells
--- the section, and of its errors.
+-- What contracts say about a push of a record: the words of `BuilderEntries`, for a `RecordBuilder` and its errors.
+-- The type of a `RecordBuilder` states the section.
 use Rattle.std.specs.Prelude.{◌≡◌, ℕ, List}
 use Rattle.octseq.specs.declared.octets.Octets.{Ghosts}
 use Rattle.domain_rdata.specs.Members.{DataMembers}

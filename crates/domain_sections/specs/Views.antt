@@ -1,4 +1,4 @@
--- What contracts see of the builders of sections. `g` to `l` are as in `Builders`, and `m` tells the section.
+-- What contracts see of the builders of sections. `g` to `l` are as in `Builders`, and `m` states the section.
 use Rattle.std.specs.Prelude.{ℕ}
 use Rattle.domain_message_builder.specs.Builders.{state, target_room, target_memory}
 use Rattle.domain_message_builder.specs.State.{State}

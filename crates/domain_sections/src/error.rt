@@ -15,7 +15,7 @@ pub enum SectionError<E> {
     Append(E),
     /// The data of a record has more than 65,535 octets.
     Long(LongRecordData),
-    /// The section has 65,535 entries, and its count in the header tells no more.
+    /// The section has 65,535 entries, the most that its count in the header can encode.
     Count,
     /// The message would have more octets than its limit, less what is set aside.
     Limit,
@@ -53,7 +53,7 @@ impl<E> fmt::Display for SectionError<E> {
 
 impl<E: fmt::Debug + Drop> Error for SectionError<E> {}
 
-/// The error of a push that isn't told because a later section was begun.
+/// Returns the error of a push that was refused for another reason than that a later section was begun.
 pub(crate) fn without_order<E>(e: PushError<E>) -> SectionError<E>
     requires { (e ≡ Order) → ⊥ }
     ensures { push_error result ≡ e }

@@ -40,7 +40,7 @@ impl<Target: Composer> QuestionBuilder<Target> {
         QuestionBuilder { builder }
     }
 
-    /// The message as it stands: its header, its counts, its length and its limit.
+    /// The message built so far: its header, its counts, its length and its limit.
     pub fn as_builder(&self) -> &MessageBuilder<Target>
         ensures same { result.now ≡ question_builder self.now }
         ensures no_records { HasNoRecords result.now }
@@ -58,9 +58,9 @@ impl<Target: Composer> QuestionBuilder<Target> {
 
     /// Pushes a question, or nothing.
     ///
-    /// `Count` exactly if there are 65,535 questions; else `Limit` or `Append` only if octets that may be composed for
-    /// it exceed the limit, less what is set aside, or the target's room. Nothing is then changed, nor what the target
-    /// remembers.
+    /// Returns `Count` if and only if there are 65,535 questions. Otherwise, returns `Limit` only if octets that can
+    /// be composed for the question exceed the limit, less what is set aside, and `Append` only if they exceed the
+    /// target's room. After an error, nothing has changed, including what the target remembers.
     pub fn push<'a, N: AbsoluteLabels<'a>>(
         &mut self,
         question: &'a Question<N>,

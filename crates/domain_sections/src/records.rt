@@ -65,7 +65,7 @@ impl<Target: Composer, S: RecordSection> RecordBuilder<Target, S> {
         }
     }
 
-    /// The message as it stands: its header, its counts, its length and its limit.
+    /// The message built so far: its header, its counts, its length and its limit.
     pub fn as_builder(&self) -> &MessageBuilder<Target>
         ensures same { result.now ≡ record_builder self.now }
         ensures none_later { HasNoLater S.SECTION result.now }
@@ -83,9 +83,10 @@ impl<Target: Composer, S: RecordSection> RecordBuilder<Target, S> {
 
     /// Pushes a record into the section, or nothing.
     ///
-    /// `Count` exactly if the section has 65,535 records; else `Long` only if data that may be composed for it has
-    /// over 65,535 octets, and `Limit` or `Append` only if octets that may be composed exceed the limit, less what is
-    /// set aside, or the target's room. Nothing is then changed, nor what the target remembers.
+    /// Returns `Count` if and only if the section has 65,535 records. Otherwise, returns `Long` only if data that can
+    /// be composed for the record has over 65,535 octets. Returns `Limit` only if octets that can be composed for the
+    /// record exceed the limit, less what is set aside, and `Append` only if they exceed the target's room. After an
+    /// error, nothing has changed, including what the target remembers.
     pub fn push<'a, N: AbsoluteLabels<'a>, D: ComposeRecordData>(
         &mut self,
         resource: &'a Record<N, D>,

@@ -20,7 +20,7 @@ pub(crate) fn word_at(octets: &[u8], offset: usize) -> u64
     ])
 }
 
-/// The octets that are left of `len`, zero octets, and `len` modulo 256: eight octets.
+/// Returns eight octets: the remaining octets of `len`, zero octets, and `len` modulo 256.
 fn last_eight(rest: &[u8], len: usize) -> [u8; 8]
     requires { length rest.now ≡ len % 8 }
     ensures { result ≡ rest.now ++ padding len }
@@ -31,7 +31,7 @@ fn last_eight(rest: &[u8], len: usize) -> [u8; 8]
     octets
 }
 
-/// The last word, of the octets that are left of `len`.
+/// Returns the last word, of the remaining octets of `len`.
 pub(crate) fn last_word(rest: &[u8], len: usize) -> u64
     requires { length rest.now ≡ len % 8 }
     ensures { result ≡ word (rest.now ++ padding len) 0 }

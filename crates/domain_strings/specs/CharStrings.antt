@@ -3,7 +3,7 @@ use Rattle.std.specs.Prelude.{◌≡◌, ℕ, ◌+◌, ◌<◌, ◌≤◌, List,
 use Rattle.domain_wire.specs.declared.error.ParseError.{ParseError}
 use Rattle.domain_wire.specs.declared.error.ParseError.TheVariants.{ShortInput}
 
--- one octet that tells the length of the string, and that many octets
+-- one octet that states the length of the string, and that many octets
 abbrev pub counted : List ℕ → List ℕ
 counted s = length s ∷ s
 

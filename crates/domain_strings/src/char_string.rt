@@ -25,7 +25,7 @@ use std::error::Error;
 use std::fmt;
 use std::hash::Hasher;
 
-/// A character string has at most 255 octets, since one octet tells how many (RFC 1035, 3.3).
+/// A character string has at most 255 octets, because one octet states their number (RFC 1035, 3.3).
 #[derive(Clone, Copy, Debug, PartialEq, Eq)]
 pub struct LongCharString;
 
@@ -232,7 +232,7 @@ impl<Octs: Octets> ReadBackLast for CharString<Octs> {
     }
 }
 
-/// The octets are made over as [`OctetsFrom`](octseq::OctetsFrom) makes them.
+/// The octets are converted as [`OctetsFrom`](octseq::OctetsFrom) converts them.
 impl<Octs: Octets, Target: SameOctets<Octs>> FlattenField<CharString<Target>> for CharString<Octs> {
     ghost use Rattle.std.proofs.Common.{ap};
     ghost use Rattle.domain_strings.specs.Views.{char_octets, char_holder};

@@ -1,4 +1,4 @@
-//! All octets that are left, as the last field of record data: digests, keys, signatures and values.
+//! All remaining octets, as the last field of record data: digests, keys, signatures and values.
 ghost use Rattle.std.specs.Prelude.{◌≡◌, ◌==◌, ◌<◌, ◌≤◌, ◌↔◌, ◌++◌, ◌∷◌, [], ℕ, List, length, IfOk, IsErr, Some, refl};
 ghost use Rattle.std.proofs.Common.{rules};
 ghost use Rattle.std.specs.Cmp.Lexicographic.{pointwise};
@@ -31,20 +31,20 @@ use std::hash::Hasher;
 
 /// All octets up to the end of the data, of any values, at most 65,535. Two are equal where their octets are.
 ///
-/// `TEXT` tells how they are written: 16 in hexadecimal digits, 64 in base64 (RFC 4648, 8 and 4), and 34, which is the
-/// quote, between quotes.
+/// `TEXT` states how they are written: 16 in hexadecimal digits, 64 in base64 (RFC 4648, 8 and 4), and 34, which is
+/// the quote, between quotes.
 pub struct LastOctets<const TEXT: u8, Octs: Octets> {
     octets: Octs,
     ghost few: { length (Octs.octets octets) ≤ 65535 },
 }
 
-/// All octets that are left, written in hexadecimal digits.
+/// All remaining octets, written in hexadecimal digits.
 pub type Base16Octets<Octs> = LastOctets<16, Octs>;
 
-/// All octets that are left, written in base64.
+/// All remaining octets, written in base64.
 pub type Base64Octets<Octs> = LastOctets<64, Octs>;
 
-/// All octets that are left, written between quotes.
+/// All remaining octets, written between quotes.
 pub type QuotedOctets<Octs> = LastOctets<34, Octs>;
 
 impl<const TEXT: u8, Octs: Octets + Copy> Copy for LastOctets<TEXT, Octs> {}
@@ -84,7 +84,7 @@ impl<const TEXT: u8, Octs: Octets> LastOctets<TEXT, Octs> {
     }
 }
 
-/// All octets that are left. A form error "record data too long" where they are more than 65,535.
+/// Reads all remaining octets. Returns a form error "record data too long" if they are more than 65,535.
 impl<'a, const TEXT: u8> ReadField<'a, ParseError> for LastOctets<TEXT, &'a [u8]> {
     ghost use Rattle.domain_strings.specs.Views.{last_octets};
 
@@ -184,7 +184,7 @@ impl<const TEXT: u8, Octs: Octets> ReadBackLast for LastOctets<TEXT, Octs> {
     fn reads_back_last(&self) {}
 }
 
-/// The octets are made over as [`OctetsFrom`](octseq::OctetsFrom) makes them.
+/// The octets are converted as [`OctetsFrom`](octseq::OctetsFrom) converts them.
 impl<const TEXT: u8, Octs: Octets, Target: SameOctets<Octs>> FlattenField<LastOctets<TEXT, Target>>
     for LastOctets<TEXT, Octs> {
     ghost use Rattle.domain_strings.specs.Views.{last_octets, last_holder};

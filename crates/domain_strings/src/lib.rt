@@ -1,5 +1,5 @@
-//! Fields of record data that are octets of any values: character strings (RFC 1035, 3.3), and all octets that are
-//! left, with their text in hexadecimal digits, in base64 (RFC 4648) or between quotes.
+//! Fields of record data that are octets of any values: character strings (RFC 1035, 3.3), and all remaining octets,
+//! with their text in hexadecimal digits, in base64 (RFC 4648) or between quotes.
 #![tactic(auto)]
 
 pub mod char_string;

@@ -206,7 +206,7 @@ impl<Octs: Octets> ReadBackField for Tag<Octs> {
     fn reads_back(&self) {}
 }
 
-/// The octets are made over as [`OctetsFrom`](octseq::OctetsFrom) makes them.
+/// The octets are converted as [`OctetsFrom`](octseq::OctetsFrom) converts them.
 impl<Octs: Octets, Target: SameOctets<Octs>> FlattenField<Tag<Target>> for Tag<Octs> {
     ghost use Rattle.std.proofs.Common.{ap};
     ghost use Rattle.domain_strings.specs.TagViews.{tag_octets, tag_holder};

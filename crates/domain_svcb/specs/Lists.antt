@@ -39,7 +39,7 @@ protocol_texts zero o = []
 protocol_texts (suc n) [] = []
 protocol_texts (suc n) (c ∷ o) = cond (nat_lt (length o) c) [] (flat_map item_octet (take c o) ∷ protocol_texts n (drop c o))
 
--- each address of so many octets as `size`; at most n of them
+-- each address of `size` octets; at most n of them
 abbrev pub address_texts : ℕ → (List ℕ → List ℕ) → ℕ → List ℕ → List (List ℕ)
 address_texts size text zero o = []
 address_texts size text (suc n) o = cond (nat_lt (length o) size) [] (text (take size o) ∷ address_texts size text n (drop size o))
@@ -74,7 +74,7 @@ keys_ascend least [] = true
 keys_ascend least (a ∷ []) = false
 keys_ascend least (a ∷ b ∷ o) = cond (nat_lt (a * 256 + b) least) false (keys_ascend (a * 256 + b + 1) o)
 
--- whether octets are protocols of one octet or more, each after one that tells how many; at most n of them
+-- whether octets are protocols of one octet or more, each after an octet that states its length; at most n of them
 abbrev pub protocols_fit : ℕ → List ℕ → Bool
 protocols_fit n [] = true
 protocols_fit zero (c ∷ o) = false

@@ -18,7 +18,7 @@ params_error_text (Long _) = codes "record data too long"
 params_error_text ShortInput = codes "short input"
 params_error_text KeyOrder = codes "keys of parameters out of order"
 
--- what a parser tells of it
+-- what a parser reports for it
 abbrev pub params_refusal : SvcParamsError → Refusal
 params_refusal (Long _) = form (codes "record data too long")
 params_refusal ShortInput = short_input
@@ -54,7 +54,7 @@ one_told m p why other (no_params o f fault left wrong told) (no_params q g also
     let same = (all_that_is_left.one_value m p o q f g left held).0 in
     told ∙ (ap params_refusal (one_param_fault q fault also (subst (λ x. NoParams x fault) same wrong) bad) ∙ sym tells)
 
--- at each offset one list of parameters is read, or one error is told
+-- at each offset one list of parameters is read, or one error is returned
 pub params_reading : IsReading ParamsAt NoParamsAt
 params_reading = record {
   inside = λ m p ps e at. all_that_is_left.inside m p (params_octets ps) e at.left;

@@ -12,7 +12,7 @@ use std::net::{Ipv4Addr, Ipv6Addr};
 pub(crate) enum ListKind {
     /// Keys, of two octets each.
     Keys,
-    /// Protocols, each after an octet that tells how many octets it has.
+    /// Protocols, each after an octet that states how many octets it has.
     Protocols,
     /// Addresses of IPv4, of four octets each.
     Ipv4Hints,
@@ -169,7 +169,7 @@ fn are_keys(octets: &[u8]) -> bool
     rest.is_empty()
 }
 
-/// Tests that octets are protocols of one octet or more, each after one that tells how many.
+/// Tests that octets are protocols of one octet or more, each after an octet that states its length.
 fn are_protocols(octets: &[u8]) -> bool
     ensures { result ≡ protocols_fit (length octets.now) octets.now }
 {

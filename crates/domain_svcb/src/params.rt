@@ -107,11 +107,12 @@ impl<Octs: Octets + Drop> SvcParams<Octs> {
     ghost use Rattle.domain_svcb.specs.ParamsViews.{params_holder, params_of};
     ghost use Rattle.domain_svcb.specs.SvcParams.{EncodesParams};
 
-    /// The parameters that these octets are: none where there is no octet.
+    /// Returns the parameters that these octets are: none if there is no octet.
     ///
-    /// `Long` where they are more than 65,535, and else the first error from the left: `ShortInput` where they end
-    /// inside of a parameter, `KeyOrder` where a key isn't more than that of the parameter before it. Of a parameter
-    /// whose key is out of order and whose value is cut, `KeyOrder` is told, since the key is first.
+    /// The error is `Long` if they are more than 65,535 octets, and otherwise the first error from the left.
+    /// `ShortInput` means that they end inside a parameter. `KeyOrder` means that a key isn't greater than that of the
+    /// parameter before it. If the key of a parameter is out of order and its value is cut, the error is `KeyOrder`,
+    /// because the key comes first.
     pub fn from_octets(octets: Octs) -> Result<SvcParams<Octs>, SvcParamsError>
         ensures held { IfOk result (λ it. params_holder it ≡ octets) }
         ensures params { IfOk result
@@ -162,8 +163,9 @@ impl<Octs: Octets> SvcParams<Octs> {
     }
 }
 
-/// All octets that are left, which have to be parameters. The errors of [`SvcParams::from_octets`], where `KeyOrder`
-/// is a form error "keys of parameters out of order", and "record data too long" where more than 65,535 are left.
+/// Reads all remaining octets, which must be parameters. The errors are those of [`SvcParams::from_octets`].
+/// `KeyOrder` is a form error "keys of parameters out of order". If more than 65,535 octets remain, the form error is
+/// "record data too long".
 impl<'a> ReadField<'a, ParseError> for SvcParams<&'a [u8]> {
     ghost use Rattle.domain_svcb.specs.ParamsViews.{params_of};
 
@@ -266,7 +268,7 @@ impl<Octs: Octets> ReadBackLast for SvcParams<Octs> {
     fn reads_back_last(&self) {}
 }
 
-/// The octets are made over as [`OctetsFrom`](octseq::OctetsFrom) makes them.
+/// The octets are converted as [`OctetsFrom`](octseq::OctetsFrom) converts them.
 impl<Octs: Octets, Target: SameOctets<Octs>> FlattenField<SvcParams<Target>> for SvcParams<Octs> {
     ghost use Rattle.domain_svcb.specs.ParamsViews.{params_held, params_holder};
 

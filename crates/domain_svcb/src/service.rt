@@ -51,8 +51,8 @@ pub type Https<Octs, N> = ServiceData<65, ServiceFields<Octs, N>>;
 impl<const TYPE: u16, Octs: Octets, N> ServiceData<TYPE, ServiceFields<Octs, N>> {
     ghost use Rattle.domain_svcb.specs.ServiceViews.{service_type};
 
-    /// Data of these. With the priority 0 the target is an alias, and RFC 9460, 2.4.2, wants no parameters, which
-    /// isn't looked at here; nor is whether the values of parameters are as their keys want them.
+    /// Creates data of these. If the priority is 0, the target is an alias, and RFC 9460, 2.4.2, wants no parameters.
+    /// This isn't checked here. Nor is it checked whether the values of parameters are as their keys require.
     pub fn new(priority: u16, target: N, params: SvcParams<Octs>) -> Self
         ensures priority { (service_fields result).first ≡ priority }
         ensures target { (service_fields result).rest.first.name ≡ target }
@@ -70,7 +70,7 @@ impl<const TYPE: u16, Octs: Octets, N> ServiceData<TYPE, ServiceFields<Octs, N>>
         }
     }
 
-    /// The priority: the lowest is tried first, and 0 tells that the target is an alias (RFC 9460, 2.4.1).
+    /// The priority: the lowest is tried first, and 0 means that the target is an alias (RFC 9460, 2.4.1).
     pub fn priority(&self) -> u16
         ensures { result ≡ (service_fields self.now).first }
     {

@@ -65,7 +65,7 @@ encoded_label (c ∷ o) = 0 ∷ c ∷ o
 abbrev pub encoded : BuilderState → List ℕ
 encoded b = wire b.labels ++ encoded_label b.open_label
 
--- A name may have 254 octets before the root, and a label 63. The name is told first.
+-- A name may have 254 octets before the root, and a label 63. A long name is reported first.
 abbrev pub too_long : BuilderState → Option TextFault
 too_long b = if nat_lt 254 (size b) then Some LongName else (if nat_lt 63 (length b.open_label) then Some LongLabel else None)
 
@@ -110,8 +110,8 @@ TakesParts b ps r new = MatchResult r (λ _. Makes b ps new) (StopsAt b ps new)
 abbrev pub ReadsParts : {A : Type 0} → (A → BuilderState) → List NameSymbol → Result A TextFault → Type 0
 ReadsParts built ps r = MatchResult r (λ x. Makes empty_state ps (built x)) (λ f. (new : BuilderState) × StopsAt empty_state ps new f)
 
--- Parts in turn, and one that isn't refused and for which the room, so many octets, is too small. It is an
--- octet: a dot takes no room.
+-- Parts in turn, and one that isn't refused and doesn't fit in the room of `room` octets. It is an octet: a dot takes
+-- no room.
 pub record LacksRoom (room : ℕ) (b : BuilderState) (ps : List NameSymbol) (new : BuilderState) : Type 0 where
   pub before : List NameSymbol
   pub part : NameSymbol

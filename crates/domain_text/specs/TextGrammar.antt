@@ -78,7 +78,7 @@ pub record FirstFault (ps : List NameSymbol) (f : TextFault) : Type 0 where
   pub short : size built ≤ 254
   pub refused : symbol_fault built part ≡ Some f
 
--- Why a text is no absolute name: it is empty, which is told as an end too early, or has a first fault.
+-- Why a text is no absolute name: it is empty, which is reported as an end too early, or it has a first fault.
 abbrev pub NotANameText : List NameSymbol → TextFault → Type 0
 NotANameText ps f = ((ps ≡ []) × (f ≡ ShortInput)) ⊎ ((ps ≢ Dot ∷ []) × FirstFault ps f)
 

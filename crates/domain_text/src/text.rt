@@ -58,8 +58,7 @@ fn is_dot(part: NameSymbol) -> bool
     }
 }
 
-/// Refuses the text of a relative name that was read and ends in a dot after a label. That is told as
-/// `None`.
+/// Refuses the text of a relative name that was read and ends in a dot after a label. That is reported as `None`.
 #[inline(always)]
 fn refuse_final_dot(
     buffer: &NameBuffer,
@@ -120,7 +119,7 @@ fn read_relative_str(buffer: &mut NameBuffer, text: &str) -> Result<(), Option<T
     read_relative_text(buffer, Symbols::new(text.chars()))
 }
 
-/// The octets of the absolute name that was read into a buffer. A fault of the text is told before a want
+/// Returns the octets of the absolute name that was read into a buffer. A fault of the text is reported before a lack
 /// of room.
 #[tactic(auto, using(crate::proofs::OneOutcome::size_root))]
 #[inline(always)]

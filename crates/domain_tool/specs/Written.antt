@@ -27,8 +27,8 @@ pub record WritesUpTo (m : List ℕ) (s : EntryKind) (n p : ℕ) (old new : Opti
   pub written : WritesEntries m (replicate before s) p offset old new
   pub missing : NoEntry m s offset why
 
--- The lines of so many entries of a kind, from where the parser was to where it is then, were put behind those that
--- aren't written yet, or written after these.
+-- The lines of `count` entries of a kind were put behind those that aren't written yet, or written after these. The
+-- entries are those from where the parser was to where it is then.
 abbrev pub BuffersEntries : {W : Type 0} → EntryKind → ℕ → Parser → Parser → (W → Option (List ℕ)) → W → Vec ℕ → W → Vec ℕ → Type 0
 BuffersEntries kind count at after contents old old_lines new new_lines =
     WritesEntries (message at) (replicate count kind) (position at) (position after)

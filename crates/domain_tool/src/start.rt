@@ -7,7 +7,7 @@ use std::process::ExitCode;
 
 /// What a program does with the words after its name.
 pub trait Program {
-    /// Carries out the words, and tells the status to end with.
+    /// Carries out the words, and returns the status to end with.
     fn run<R: Read, W: Write, E: Write>(
         alloc: Global,
         words: &[&str],

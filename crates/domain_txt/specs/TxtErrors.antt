@@ -11,13 +11,13 @@ HasTxtFault o Empty = o ≡ []
 HasTxtFault o (Long _) = 65535 < length o
 HasTxtFault o ShortInput = (length o ≤ 65535) × EndsInside o
 
--- the text that tells it
+-- the text of the error
 abbrev pub txt_error_text : TxtError → List ℕ
 txt_error_text Empty = codes "empty TXT record"
 txt_error_text (Long _) = codes "record data too long"
 txt_error_text ShortInput = codes "short input"
 
--- what a parser tells of it: a first string that isn't there is short input, too
+-- what a parser reports for it: a missing first string is short input, too
 abbrev pub txt_refusal : TxtError → Refusal
 txt_refusal Empty = short_input
 txt_refusal (Long _) = form (codes "record data too long")

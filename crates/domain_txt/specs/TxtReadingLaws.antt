@@ -27,7 +27,7 @@ one_told m p why other (long many told) (none f tells) = absurd (omega (arith, a
 one_told m p why other (long many told) (cut few inside tells) = absurd (omega arith)
 one_told m p why other (long many told) (long more tells) = told ∙ sym tells
 
--- at each offset one text is read, or one error is told
+-- at each offset one text is read, or one error is reported
 pub text_reading : IsReading TextAt NoText
 text_reading = record {
   inside = λ m p ss e at. let some = at.some in let end = at.end in let size = length-drop p m in (omega arith, omega arith);

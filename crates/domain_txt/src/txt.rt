@@ -221,10 +221,10 @@ impl<Octs: Octets> Txt<Octs> {
 impl<'a> Txt<&'a [u8]> {
     ghost use Rattle.domain_txt.specs.Txts.{txt_strings};
 
-    /// Reads the data: all that is left, and moves the parser to its end.
+    /// Reads the data, which is all the remaining octets, and moves the parser to its end.
     ///
-    /// `ShortInput` where nothing is left, or it ends inside of a string; a form error "record data too long" where
-    /// more than 65,535 octets are left. The parser is then unchanged.
+    /// `ShortInput` where no octets remain, or they end inside a string; a form error "record data too long" where
+    /// more than 65,535 octets remain. The parser is then unchanged.
     pub fn parse(parser: &mut Parser<'a>) -> Result<Txt<&'a [u8]>, ParseError>
         ensures ok { IfOk result
             (λ it. TextAt (message parser.old) (position parser.old) (txt_strings it)
@@ -298,7 +298,7 @@ impl<Octs: Octets> CanonicalRecordData for Txt<Octs> {
     }
 }
 
-/// One character string or more, which are all that is left.
+/// One character string or more, which take all the remaining octets.
 impl<'a> ParseRecordData<'a> for Txt<&'a [u8]> {
     ghost use Rattle.domain_txt.specs.Txts.{txt_strings};
 
@@ -328,7 +328,7 @@ impl<'a> ParseRecordData<'a> for Txt<&'a [u8]> {
     ghost lawful = { λ _. text_reading };
 }
 
-/// The octets are made over as [`OctetsFrom`] makes them.
+/// The octets are converted as [`OctetsFrom`] converts them.
 impl<Src: Octets, Octs: SameOctets<Src>> OctetsFrom<Txt<Src>> for Txt<Octs> {
     ghost use Rattle.domain_txt.specs.Txts.{txt_holder, txt_octets};
 

@@ -58,8 +58,8 @@ impl fmt::Display for RefusedLine {
     }
 }
 
-/// Writes a line for each label and pointer that reading the name at an offset of a message comes to, and a last line
-/// with the name or the reason why there is none. Returns whether there is a name.
+/// Writes a line for each label and pointer that reading the name at an offset of a message comes to. A last line has
+/// the name or the reason why there is none. Returns whether there is a name.
 fn follow_in<W: Sink>(message: &[u8], output: &mut W, offset: u32) -> Result<bool, WriteFault>
     ensures written { IfOk result
         (FollowsName W.contents message.now offset output.old output.new) }
@@ -79,7 +79,7 @@ fn follow_in<W: Sink>(message: &[u8], output: &mut W, offset: u32) -> Result<boo
 }
 
 /// Reads the input to its end, and writes a line for each label and pointer that reading the name at the offset comes
-/// to, and a last line with the name or the reason why there is none. Returns whether there is a name.
+/// to. A last line has the name or the reason why there is none. Returns whether there is a name.
 ///
 /// The name may have compression pointers (RFC 1035, 4.1.4), at most 255. `Read`, `Write` or `Memory` where one of
 /// these failed; a message without a name there is no error.
@@ -116,10 +116,10 @@ enum Asked {
     Message,
 }
 
-/// Carries out the words that follow the program's name, and flushes the output. The answer is the status to end with:
-/// 0 where the name or message was written, 1 where there is none, 2 for other words than one offset or `message`, and
-/// `--hex` or not; 3 where reading, writing or memory failed, and for nothing else. Why a name can't be read is on
-/// `output`; the other reasons are on `errors`.
+/// Carries out the words that follow the program's name, and flushes the output. Returns the status to end with. It is
+/// 0 where the name or message was written, and 1 where there is none. It is 2 for other words than one offset or
+/// `message`, with or without `--hex`. It is 3 where reading, writing or memory failed, and for nothing else. Why a
+/// name can't be read is on `output`; the other reasons are on `errors`.
 ///
 /// With `--hex` the input is the message's octets in hexadecimal digits. Where it isn't, nothing is written.
 pub fn run<R: Source, W: Sink, E: Write>(

@@ -24,8 +24,8 @@ abbrev pub IsResultOfAll : {T E : Type 0} → (FormError → E → Type 0) → R
 IsResultOfAll becomes (Err e) end result = result ≡ Err e
 IsResultOfAll becomes (Ok value) end result = OnlyWhole becomes value (left end) result
 
--- A call, of which `returns` says what it may return and leave, was given a parser at the start of the octets, and the
--- result is that of reading all of them.
+-- A call was given a parser at the start of the octets, and the result is that of reading all of them. `returns` says
+-- what the call may return and leave.
 abbrev pub ReadsWhole : {T E : Type 0}
     → (Parser → Result T E → Parser → Type 0) → (FormError → E → Type 0) → List ℕ → Result T E → Type 0
 ReadsWhole {T} {E} returns becomes octets result =

@@ -10,10 +10,10 @@ use crate::net::{Ipv4Addr, Ipv6Addr};
 use octseq::{OctetsBuilder, ShortBuf};
 use std::alloc::Global;
 
-/// A value that has the same number of octets on the wire whatever it is.
+/// A value of a type whose values all have the same number of octets on the wire.
 ///
-/// Numbers are written with the high octet first, signed ones in two's complement (RFC 1035,
-/// 2.3.2), and addresses as their octets in the order in which they are written as text.
+/// Numbers are written with the high octet first, signed ones in two's complement (RFC 1035, 2.3.2). Addresses are
+/// written as their octets, in the order in which their text has them.
 pub trait Compose {
     /// How many octets a value has on the wire.
     const COMPOSE_LEN: u16;

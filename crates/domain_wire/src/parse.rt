@@ -18,7 +18,7 @@ use octseq::Parser;
 /// A value that is read from a message.
 ///
 /// Where values are in octets is a relation of octets, an offset, what contracts see of the value, and the offset
-/// after it; why none is at an offset is another. The octets are those up to the parser's end, so that nothing
+/// after it. Why no value is at an offset is another relation. The octets are those up to the parser's end, so nothing
 /// after it counts.
 ///
 /// Numbers, addresses and arrays have the same number of octets whatever they are. Numbers are read with

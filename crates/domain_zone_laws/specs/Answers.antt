@@ -62,9 +62,9 @@ IsNonexistent z q t e = IsAuthoritative z q t × (Exists z q → ⊥) × IsClose
 abbrev pub substitution : List (List ℕ) → RRset → List (List ℕ)
 substitution q s = take (length q - length s.owner) q ++ target s
 
--- What the zone z answers to a question for records of the type t at q (RFC 1034, 4.3.2). Where q doesn't exist a
--- DNAME at the closest encloser comes before a wildcard (RFC 6672, 3.2, step 3c), and a wildcard answers by what it
--- owns, also where that is nothing of the type, or nothing at all (RFC 4592, 2.2.1 and 3.3).
+-- What the zone z answers to a question for records of the type t at q (RFC 1034, 4.3.2). Where q doesn't exist, a
+-- DNAME at the closest encloser comes before a wildcard (RFC 6672, 3.2, step 3c). A wildcard answers by what it owns,
+-- even where it owns nothing of the type, or nothing at all (RFC 4592, 2.2.1 and 3.3).
 abbrev pub Answers : Zone → List (List ℕ) → ℕ → Outcome → Type 0
 Answers z q t out_of_zone = EndsWith q z.apex → ⊥
 Answers z q t (referral s) = IsReferred z q t s

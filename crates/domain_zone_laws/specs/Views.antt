@@ -10,7 +10,7 @@ use Rattle.domain_zone_laws.specs.declared.reply.Reply.TheVariants as variants
 use Rattle.domain_zone_laws.specs.declared.zone.Rrset.{Rrset}
 use Rattle.domain_zone_laws.specs.declared.zone.ZoneRecords.{ZoneRecords}
 
--- The RRset, of which `labels` tells the owner's labels.
+-- The RRset, where `labels` maps the owner to its labels.
 abbrev pub rrset : {N : Type 0} → (N → List (List ℕ)) → Rrset N → RRset
 rrset labels s = record { owner = labels s.owner; rtype = s.rtype; ttl = s.ttl; rdata = map (λ d. d.items) s.rdata.items }
 

@@ -143,7 +143,7 @@ pub record IsZone (z : Zone) : Type 0 where
   pub no_ds : HasType z z.apex DS → ⊥
   -- A CNAME or DNAME is one record (RFC 2181, 10.1; RFC 6672, 2.4).
   pub one_target : (n : List (List ℕ)) (s : RRset) → IsAt z n CNAME s ⊎ IsAt z n DNAME s → IsOneName s.rdata
-  -- A CNAME is alone but for what may be beside it (RFC 2181, 10.1; RFC 4035, 2.5).
+  -- A CNAME is alone except for what may be beside it (RFC 2181, 10.1; RFC 4035, 2.5).
   pub cname_alone : (n : List (List ℕ)) (t : ℕ) → HasType z n CNAME → HasType z n t → MayBeBesideCname t
   -- No name exists below a DNAME (RFC 6672, 2.4), and none of these is at a cut (RFC 6672, 2.3).
   pub below_dname : (n m : List (List ℕ)) → HasType z n DNAME → Exists z m → EndsWith m n → SameLabels m n

@@ -11,10 +11,10 @@ pub fn answer_laws()
     ensures below { NothingBelowNameError }
 {}
 
-/// What a name's neighbours in canonical order tell.
+/// What a name's neighbours in canonical order show.
 ///
-/// The first cut on the way to a name is over the RRset before it, and the closest encloser is what the name has in
-/// common with the RRset before it or the one after it.
+/// The first cut on the way to a name is over the RRset before it. The closest encloser is what the name has in common
+/// with the RRset before it or the one after it.
 pub fn neighbour_laws()
     ensures encloser { NeighboursTellEncloser }
     ensures cut { PredecessorTellsCut }
@@ -22,12 +22,12 @@ pub fn neighbour_laws()
     order_laws();
 }
 
-/// The questions of RFC 4592, 2.2.1, have the outcomes that it tells.
+/// The questions of RFC 4592, 2.2.1, have the outcomes that it states.
 pub fn rfc4592_rows()
     ensures { Rfc4592Rows }
 {}
 
-/// The questions of RFC 1034, 6.2, to the root zone there have the outcomes that it tells.
+/// The questions of RFC 1034, 6.2, to the root zone there have the outcomes that it states.
 pub fn rfc1034_rows()
     ensures { Rfc1034Rows }
 {}

@@ -28,7 +28,7 @@ no_cut : (m : List ℕ) (p : ℕ) (s : List ℕ) (e : ℕ) (why : ParseError) �
 no_cut m p s e why at short =
     let h = at.head in let b = at.after in let w = at.whole in let c = short.cut in omega arith
 
--- at each offset stands one string, or one fault is told
+-- at each offset is one string, or one fault is reported
 pub string_reading : IsReading StringAt StringTooShort
 string_reading = record {
   inside = λ m p s e at. let b = at.after in let w = at.whole in (omega arith, omega arith);

@@ -30,7 +30,7 @@ IsAsLongAsFirst name front =
     (label : List ℕ) × (rest : List (List ℕ)) × (name_labels name ≡ label ∷ rest)
     × (length (wire (relative_labels front)) ≡ length label + 1)
 
--- It is told whether a label begins after the first one.
+-- The result says whether a label starts after the first one.
 abbrev pub TellsSecond : {O : Type 0} {g : Ghosts O} → Name O g → (told : Type 0) → Type 0
 TellsSecond name told =
     (label : List ℕ) → (rest : List (List ℕ)) → name_labels name ≡ label ∷ rest →

@@ -12,7 +12,7 @@ use domain_name::{Name, NameBuilder};
 
 /// The name of a host in a zone: a label, if it has octets, and after it the labels of the zone.
 ///
-/// The error tells that the label has more than 63 octets, or the name more than 255.
+/// The error says that the label has more than 63 octets, or the name more than 255.
 pub fn host_name<'a, N: AbsoluteLabels<'a>>(
     label: &[u8],
     zone: &'a N,

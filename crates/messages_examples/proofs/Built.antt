@@ -154,7 +154,7 @@ not_sized c h q size o octets capacity room limit s same asked less (inr x) =
     let none : additional_count s.counts ≡ 0 = asked.holds.additional_count in
     absurd (omega (arith, x, none))
 
--- the same where an error is told all the same
+-- the same where an error is returned all the same
 pub cannot_ask_so : (c : Bool) (q : QuestionFields) (octets : List ℕ) (capacity room limit : ℕ) (begun : State) → IsBegun c limit begun → capacity ≤ room → CannotAsk c q begun room → NotAsked c q octets capacity limit
 cannot_ask_so c q octets capacity room limit begun is less (inl why) =
     no_room (exceeds_less _ _ capacity room less (subst (λ t. Exceeds (AsksIn c q t) t room) is.octets why))

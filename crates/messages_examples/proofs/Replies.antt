@@ -164,7 +164,7 @@ lacks_glue c query head May glue Glue octets capacity room limit s t e begun ser
 
 -- ---- answers that may be cut
 
--- a refusal for want of room
+-- a refusal because the room doesn't suffice
 for_room : {E : Type 0} (c : Bool) (head : RecordHead) (May : List ℕ → List ℕ → Type 0) (o : List ℕ) (capacity limit : ℕ) (s : State) (room : ℕ) (e : PushError E) → s.octets ≡ o → s.limit ≡ limit → s.reserved ≡ 0 → capacity ≤ room → (is_for_room e ≡ false → ⊥) → RecordRefused c Answer head May s room e → HasNoRoom c head May o capacity limit
 for_room c head May o capacity limit s room (Append e) same under kept less not why =
     inl (too_big_less c head May o capacity room less (subst (λ t. RecordTooBig c head May t room) same why))
@@ -223,7 +223,7 @@ is_whole_or_cut r c query head May o given capacity room limit s t m same begun 
     cut s.header h begun.header (subst (λ x. SetsHigh 2 2 1 x.header h) stays sets) begun.questions begun.asked begun.repeated (no_record why)
     (subst (λ g. IsMessageOf h (with_opt g it) m) same (made it (subst (λ x. Holds c x it) (sym stays) begun.holds)))
 
--- a refusal that isn't for want of room is for the length of the data
+-- a refusal for any reason except room is for the length of the data
 long_alone : {E : Type 0} (c : Bool) (head : RecordHead) (May : List ℕ → List ℕ → Type 0) (o : List ℕ) (s : State) (room : ℕ) (e : PushError E) → s.octets ≡ o → section_count Answer s.counts ≡ 0 → later_count Answer s.counts ≡ 0 → is_for_room e ≡ false → RecordRefused c Answer head May s room e → DataTooLong c head May o
 long_alone c head May o s room (Append e) same none later other why = absurd (true≢false other)
 long_alone c head May o s room (Long e) same none later other why = subst (λ t. DataTooLong c head May t) same why

@@ -13,7 +13,7 @@ use Rattle.domain_message_builder.specs.Refusals.{RecordTooBig, DataTooLong}
 abbrev pub IsQuery : Header → QuestionFields → List ℕ → Type 0
 IsQuery header q m = IsMessageOf header (record { questions = q ∷ []; answers = []; authority = []; additional = [] }) m
 
--- an OPT record that tells how many octets of a message over UDP its sender takes, and nothing else
+-- an OPT record that states how many octets of a message over UDP its sender takes, and nothing else
 abbrev pub sized_opt : ℕ → Opt
 sized_opt size = with_size size (bare_opt [])
 

@@ -31,8 +31,8 @@ MailData host = BothComposed (λ t s. s ≡ to_be_bytes w16 10) (NameOctets host
 abbrev pub AddressData : Ipv4Addr → List ℕ → List ℕ → Type 0
 AddressData addr t s = s ≡ ipv4_octets addr
 
--- The message is the header, the question for the mail of the name, the MX record that tells the host, and the A
--- record of the host, of the class IN and a TTL of an hour (RFC 1035, 4.1). Names may be compressed.
+-- The message is the header, the question for the MX records of the name, the MX record that names the host, and the A
+-- record of the host. Both records have the class IN and a TTL of an hour (RFC 1035, 4.1). Names may be compressed.
 pub record IsMailResponse (id : ℕ) (name host : List (List ℕ)) (addr : Ipv4Addr) (m : List ℕ) : Type 0 where
   pub question : List ℕ
   pub has_question : QuestionOctets name 15 1 true (response_octets id) question

@@ -49,8 +49,8 @@ pub record IsReferral (compresses : Bool) (query : List ℕ) (servers : RecordHe
   pub message : IsMessageOf header (with_sections questions [] (record { head = servers; rdata = is_server.rdata } ∷ []) (record { head = glue; rdata = is_glue.rdata } ∷ [])) m
   pub octets : drop 12 m ≡ (asked ++ server) ++ address
 
--- The message answers the query with a record of the zone, and tells a server of the zone in the authority section
--- (RFC 1034, 4.3.2). Its header is that of an answer, but for AA, which is set.
+-- The message answers the query with a record of the zone, and names a server of the zone in the authority section
+-- (RFC 1034, 4.3.2). Its header is that of an answer, except that AA is set.
 pub record IsAuthoritative (compresses : Bool) (query : List ℕ) (head : RecordHead) (May : List ℕ → List ℕ → Type 0) (servers : RecordHead) (Servers : List ℕ → List ℕ → Type 0) (m : List ℕ) : Type 0 where
   pub plain : Header
   pub answers : AnswersHeaderOf query 0 plain
@@ -111,8 +111,8 @@ pub data MustBeCut (compresses : Bool) (head : RecordHead) (May : List ℕ → L
   no_opt : (s : List ℕ) → RecordsIn compresses head May (blank_header ++ asked) s
       → HasNoRoomFor opt (length ((blank_header ++ asked) ++ s)) capacity limit → MustBeCut compresses head May opt asked capacity limit
 
--- The message answers the query with a record and an OPT record, and TC is clear; or it must be cut, TC is set, and
--- after the question the OPT record alone is there (RFC 2181, 9; RFC 6891, 7).
+-- Either the message answers the query with a record and an OPT record, and TC is clear. Or it must be cut: TC is set,
+-- and only the OPT record follows the question (RFC 2181, 9; RFC 6891, 7).
 pub data IsWholeOrCut (compresses : Bool) (query : List ℕ) (head : RecordHead) (May : List ℕ → List ℕ → Type 0) (opt : Opt) (capacity limit : ℕ) (m : List ℕ) : Type 0 where
   whole : (header : Header) → AnswersHeaderOf query 0 header → (qs : List QuestionFields) (asked s : List ℕ) → RepeatsIn compresses query qs asked
       → (it : RecordsIn compresses head May (blank_header ++ asked) s)

@@ -1,5 +1,5 @@
 -- What becomes of a target that a message is built on. `g` is `Target.Composer`, `d` and `e` are
--- `D.ComposeRecordData`, and `labels` tells the labels of a name.
+-- `D.ComposeRecordData`, and `labels` maps a name to its labels.
 use Rattle.std.specs.Prelude.{ℕ, ◌<◌, ◌⊎◌, List, length, Option, IfSome}
 use Rattle.octseq.specs.declared.octets.Octets.{Ghosts}
 use Rattle.domain_header.specs.Values.{rcode_number}
@@ -26,7 +26,7 @@ abbrev pub NoQueryFits : {T N : Type 0} → ComposerMembers T → (N → List (L
 NoQueryFits g labels q target =
     NotAsked g.compresses (asked labels q) (g.octets target) (g.capacity target) 65535
 
--- The message, if there is one, asks it, and tells how many octets of an answer are taken.
+-- The message, if there is one, asks it, and states how many octets of an answer are taken.
 abbrev pub AsksWithSize : {T N : Type 0} → (T → List ℕ) → (N → List (List ℕ)) → Header → Question N → (size : ℕ) → Option T → Type 0
 AsksWithSize octets labels header q size r =
     IfSome r (λ made. IsSizedQuery header (asked labels q) size (octets made))
@@ -65,7 +65,7 @@ NoReferralFits g labels d e query server glue target =
     (headed labels e.type_number glue) (e.composed (data_of glue) g.compresses)
     (g.octets target) (g.capacity target) 65535
 
--- The message, if there is one, tells the query this error.
+-- The message, if there is one, answers the query with this error.
 abbrev pub TellsError : {T O : Type 0} {m : Ghosts O} → ComposerMembers T → Message O m → Rcode → T → Option T → Type 0
 TellsError g query rcode target r =
     IfSome r (λ made. IsErrorAnswer g.compresses (message_octets query) (g.octets target) (g.capacity target) (rcode_number rcode) (g.octets made))

@@ -1,5 +1,5 @@
 -- What becomes of a target that an answer from the zone itself is built on. `g` is `Target.Composer`, `d` is
--- `D.ComposeRecordData`, `labels` tells the labels of an owner's name, and `host` those of a server's.
+-- `D.ComposeRecordData`, `labels` maps an owner's name to its labels, and `host` maps a server's name to its labels.
 use Rattle.std.specs.Prelude.{ℕ, List, Option, IfSome}
 use Rattle.octseq.specs.declared.octets.Octets.{Ghosts}
 use Rattle.domain_data.specs.Views.{fields_of, type_of}

@@ -26,7 +26,7 @@ fn response_header(id: u16) -> HeaderSection
     HeaderSection::new(header, counts)
 }
 
-/// A response that tells the host for the mail of a name, and its address. `None` if it would have over 512 octets.
+/// A response with the mail host of a name, and the host's address. `None` if it would have over 512 octets.
 pub fn mail_response(
     id: u16,
     name: Name<&[u8]>,

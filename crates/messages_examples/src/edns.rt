@@ -1,4 +1,4 @@
-//! What a sender tells of itself beside its message.
+//! What a sender states about itself beside its message.
 ghost use Rattle.std.specs.Prelude.{IfErr, IfOk};
 ghost use Rattle.domain_edns.specs.OptRecords.{HasOptFault};
 ghost use Rattle.domain_message.specs.Messages.{message_octets};
@@ -8,7 +8,7 @@ use domain_edns::{OptError, opt_of};
 use domain_message::Message;
 use octseq::Octets;
 
-/// How many octets the sender of a message takes over UDP: 512 where it doesn't tell (RFC 6891, 6.2.5).
+/// How many octets the sender of a message takes over UDP: 512 where it doesn't say (RFC 6891, 6.2.5).
 pub fn size_taken<Octs: Octets>(message: &Message<Octs>) -> Result<u16, OptError>
     ensures ok { IfOk result (TellsSize (message_octets message.now)) }
     ensures err { IfErr result (λ e. HasOptFault (message_octets message.now) e) }

@@ -10,7 +10,7 @@ use domain_record::{Question, Record};
 use domain_sections::QuestionBuilder;
 
 /// A message of at most 512 octets with this header, this question and this answer. It has the contract of `answer`,
-/// which tells the section by an argument.
+/// which takes the section as an argument.
 pub fn answer_by_sections<'a, N: AbsoluteLabels<'a>, D: ComposeRecordData, Target: Composer + Drop>(
     target: Target,
     header: Header,

@@ -26,7 +26,7 @@ fn header() -> Header {
     header
 }
 
-/// A message of this header has the bit TC, or hasn't, and is of so many octets.
+/// A message has this header, with TC set if and only if `is_cut`, and `len` octets.
 fn ends(rt: &impl Abort, octets: &[u8], is_cut: bool, len: usize) {
     let Ok(message) = Message::from_octets(octets) else {
         panic!(rt; "no message");
@@ -117,7 +117,7 @@ fn full_targets_cut_answers(rt: HostRuntime) {
     fill_target(&rt, ArrayVec::<u8, 62>::new(), 3);
 }
 
-/// Refusals that aren't for want of room are returned, and no message is made.
+/// Refusals for any reason except room are returned, and no message is made.
 #[test]
 fn other_refusals_are_returned(rt: HostRuntime) {
     let none: Option<&OptBuilder<&'static [u8]>> = None;

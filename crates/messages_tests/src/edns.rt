@@ -63,7 +63,7 @@ fn an_opt_record_and_its_options(rt: HostRuntime) {
     assert!(rt; options.next().is_none());
 }
 
-/// An option of which two octets are missing is told once.
+/// An option of which two octets are missing is reported once.
 #[test]
 fn an_option_that_is_cut_off(rt: HostRuntime) {
     let octets = joined(

@@ -201,7 +201,8 @@ fn the_limit_comes_before_the_count(rt: HostRuntime) {
     reads(&rt, message.finish().as_slice(), [13104, 0, 0, 0]);
 }
 
-/// Data of 65,536 octets is refused as such, and data of 65,535 for want of room; a record after them is pushed.
+/// Data of 65,536 octets is refused as such, and data of 65,535 because the room doesn't suffice. A record after them
+/// is pushed.
 #[test]
 fn long_data_changes_nothing(rt: HostRuntime) {
     let mut octets = Vec::new(rt.alloc());
@@ -226,7 +227,7 @@ fn long_data_changes_nothing(rt: HostRuntime) {
     reads(&rt, message.finish().as_slice(), [0, 2, 0, 0]);
 }
 
-/// An entry of so many octets was pushed exactly if `room` has them. One that wasn't changed nothing.
+/// An entry of `len` octets was pushed if and only if `room` has them. One that wasn't pushed changed nothing.
 fn pushed_or_not<Target: Composer>(
     rt: &impl Abort,
     message: &MessageBuilder<Target>,
@@ -240,7 +241,7 @@ fn pushed_or_not<Target: Composer>(
     u16::from(pushed)
 }
 
-/// Pushes entries into a message that has room for so many octets in all, and reads those that were pushed.
+/// Pushes entries into a message that has room for `room` octets in all, and reads those that were pushed.
 fn fill<Target: Composer + Drop>(rt: &impl Abort, message: MessageBuilder<Target>, room: usize) {
     let mut message = message;
     let mut counts = [0u16; 4];
@@ -257,7 +258,7 @@ fn fill<Target: Composer + Drop>(rt: &impl Abort, message: MessageBuilder<Target
     reads(rt, message.finish().as_slice(), counts);
 }
 
-/// The same into a target that has room for so many octets.
+/// The same into a target that has room for `room` octets.
 fn fill_target<Target: Composer + Drop>(rt: &impl Abort, target: Target, room: usize) {
     match MessageBuilder::from_target(target) {
         Ok(message) => fill(rt, message, room),

@@ -80,7 +80,7 @@ impl<'a> CanonicalRecordData for Unmeasured<'a> {
     }
 }
 
-/// So many octets that are zero.
+/// Returns `len` octets that are zero.
 fn zeros(rt: &impl Abort, alloc: Global, len: usize) -> Vec<u8> {
     let mut octets = Vec::new(alloc);
     assert!(rt; octets.resize(len, 0).is_ok());
@@ -115,8 +115,8 @@ fn the_longest_data_has_its_length(rt: HostRuntime) {
     assert!(rt; target.as_slice().starts_with(&[255, 255, 0]));
 }
 
-/// The owner's name in lowercase, the type, the class, the TTL that was given, and the data as it stands: its type has
-/// no names (RFC 4034, 6.2).
+/// The owner's name in lowercase, the type, the class, the TTL that was given, and the data unchanged: its type has no
+/// names (RFC 4034, 6.2).
 #[test]
 fn a_canonical_record_has_the_original_ttl(rt: HostRuntime) {
     let Ok(owner) = Name::from_slice(b"\x03WWW\x02eX\0") else {
@@ -133,8 +133,8 @@ fn a_canonical_record_has_the_original_ttl(rt: HostRuntime) {
     assert!(rt; target.as_slice() == expected);
 }
 
-/// Of data that is held as octets it isn't known which of them are names: the type NS has its names in lowercase, and
-/// what the octets are is appended as they stand, but a record of it has no canonical form (RFC 4034, 6.2).
+/// Where data is held as octets, it isn't known which of them are names. The type NS has its names in lowercase. The
+/// octets of the data are appended unchanged, but a record of it has no canonical form (RFC 4034, 6.2).
 #[test]
 fn a_canonical_record_of_unknown_names_leaves_the_target(rt: HostRuntime) {
     let (Ok(owner), Ok(data)) = (

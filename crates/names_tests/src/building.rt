@@ -13,7 +13,7 @@ use octseq::{OctetsFrom, ShortBuf};
 use std::alloc::Global;
 use std::process::Abort;
 
-/// 1 where octets were refused for want of memory. Else they are these.
+/// Returns 1 where octets were refused because allocation failed, else 0. Octets that weren't refused are `wanted`.
 fn refused<E: PartialEq + Drop>(
     rt: &impl Abort,
     made: Result<Vec<u8>, E>,

@@ -1,9 +1,9 @@
 //! Memory that is refused.
 //!
 //! `.ci/refused-memory` runs each test whose name has the word `refused` once for each request for memory that it
-//! makes, with that one refused, in a copy of these sources that knows which it is: so a call gives the right octets
-//! or `ShortBuf`, whichever request is refused, and at most one call of a test is refused. Where no request is
-//! refused, no call is.
+//! makes, with that one refused. The run uses a copy of these sources that knows which request it is. So a call gives
+//! the right octets or `ShortBuf`, whichever request is refused, and at most one call of a test is refused. Where no
+//! request is refused, no call is.
 
 use crate::names::{
     LOWER_WWW, SCATTERED, WWW, absolute, octets_of, parsed, relative, relative_joined,

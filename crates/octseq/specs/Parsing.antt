@@ -14,7 +14,7 @@ message p = take p.end p.octets.now
 abbrev pub position : Parser → ℕ
 position p = p.pos
 
--- the octets that are left
+-- the remaining octets
 abbrev pub left : Parser → List ℕ
 left p = drop p.pos (message p)
 

@@ -1,7 +1,7 @@
 //! Reading octets one after another.
 //!
-//! Contracts speak of a parser by the words of `specs/Parsing.antt`: the octets up to its end, its position in
-//! them, and the octets that are left.
+//! Contracts describe a parser in the terms of `specs/Parsing.antt`: the octets up to its end, its position in them,
+//! and the remaining octets.
 ghost use Rattle.std.specs.Prelude.{◌≡◌, ◌+◌, ◌<◌, ◌≤◌, ◌↔◌, length, take, IfOk, IsErr, OnOk, OnErr, Some, codes};
 ghost use Rattle.std.specs.Int.{w8, w16, w32, w64, from_be_bytes, cast_signed};
 
@@ -113,7 +113,7 @@ impl<'a> Parser<'a> {
         Ok(&self.octets[self.pos..self.pos + n])
     }
 
-    /// All octets that are left, which stay unread.
+    /// Returns all remaining octets, which stay unread.
     pub fn peek_all(&self) -> &'a [u8]
         ensures { result.now ≡ left self.now }
     {

@@ -1,7 +1,7 @@
 //! Memory that is refused to the engine that shows a name.
 //!
 //! `.ci/refused-memory` runs each test whose name has the word `refused` once for each request for memory that it
-//! makes, with that one refused, in a copy of these sources that knows which it is.
+//! makes. Each run refuses that one request, in a copy of these sources that knows which it is.
 
 use crate::engines::SCATTERED;
 use arrayvec::ArrayVec;

@@ -2,7 +2,7 @@ use Rattle.std.proofs.Common.{◌≡◌, ℕ, zero, suc, ◌<◌, ◌-◌, ◌%�
 use Rattle.std.proofs.lemmas.List.{set-append_right}
 use Rattle.domain_siphash.proofs.words.last_eight.Goals as goal
 
--- the last of the zero octets that are left of eight becomes x
+-- the last of the remaining zero octets of eight becomes x
 last_of_zeros : (n x : ℕ) → n < 8 → set (drop n (0 ∷ 0 ∷ 0 ∷ 0 ∷ 0 ∷ 0 ∷ 0 ∷ 0 ∷ [])) (7 - n) x ≡ replicate (7 - n) 0 ++ x ∷ []
 last_of_zeros zero x h = refl
 last_of_zeros (suc zero) x h = refl
