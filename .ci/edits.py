@@ -71,17 +71,22 @@ def owners(text):
         kind = name[0].upper() + name[1:] if len(name) > 1 else "Any"
         if target[0].startswith("&"):
             kind = "RefMut" if "mut" in target or "&mut" in target else "Ref"
-        yield f"{kind}.*{re.escape(what[0][-1].rpartition('::')[2])}" if what else rf"{kind}\b"
+        yield f"{re.escape(kind)}.*{re.escape(what[0][-1].rpartition('::')[2])}" if what else rf"{re.escape(kind)}\b"
 
 
 def is_there(crate, function):
-    """Whether the sources have the function, or the impl, that a path as a check prints it ends in."""
+    """Whether the sources have the function, or the impl, that a path as a check prints it ends in. A method of a type
+    is printed in the module of the type, and all else in that of its file."""
     *above, name = function.removeprefix("impl ").split("::")
     is_impl = function.startswith("impl ")
-    owner = name if is_impl else above[-1] if above else ""
-    for path in sorted((crate / "src").rglob("*.rt")):
-        text = re.sub(r"//.*", "", path.read_text())
-        if is_impl or re.search(rf"\b(?:fn|const) {re.escape(name)}\b", text):
-            if not owner[:1].isupper() or any(re.match(it, owner) for it in owners(text)):
-                return True
+    owner = name if is_impl else above.pop() if above and above[-1][:1].isupper() else ""
+    folder = crate / "src"
+    texts = {it.relative_to(folder): re.sub(r"//.*", "", it.read_text()) for it in sorted(folder.rglob("*.rt"))}
+    homes = [path for path, text in texts.items() if owner in KIND.findall(text)]
+    for path, text in texts.items():
+        is_named = is_impl or re.search(rf"\b(?:fn|const) {re.escape(name)}\b", text)
+        is_owned = not owner or any(re.match(it, owner) for it in owners(text))
+        modules = [it.with_suffix("").parts for it in homes or [path]]
+        if is_named and is_owned and any([*it[len(it) - len(above) :]] == above for it in modules):
+            return True
     return False

@@ -1,13 +1,15 @@
-"""Where the repository and the passes of this machine lie, and how a run that can't go on ends."""
+"""Where the repository and the passes of this machine are, its crates, and how a run that can't go on ends."""
 
 import os
 import pathlib
+import re
 import sys
 
 TOP = pathlib.Path(__file__).resolve().parents[2]
 STORE = pathlib.Path(os.environ.get("XDG_CACHE_HOME") or pathlib.Path.home() / ".cache") / "wrong-bodies"
 # What passed under other rules counts for nothing: raise it when they change.
 RULES = 7
+NAME = re.compile("[a-z][a-z0-9_]*")
 
 
 def stop(why):
@@ -16,14 +18,20 @@ def stop(why):
 
 
 def read_crates():
-    """The crates of crates.txt, each with what stands before the colon, and with what it uses."""
+    """The crates of crates.txt, each with what is before the colon, and with what it uses."""
     listed = {}
-    for number, line in enumerate((TOP / "crates.txt").read_text().split("\n"), 1):
+    try:
+        lines = (TOP / "crates.txt").read_bytes().decode().split("\n")
+    except (OSError, UnicodeDecodeError) as why:
+        stop(f"crates.txt can't be read: {why}")
+    for number, line in enumerate(lines, 1):
         head, colon, uses = line.partition("#")[0].partition(":")
-        name = next(iter(head.split()), "")
-        if colon and (not name or name in listed) or name and not colon:
-            stop(f"crates.txt:{number} is no line of a crate that no other line lists")
-        if name:
+        name = (head.split() or [""])[0]
+        if colon or name:
+            if not colon or not all(NAME.fullmatch(it) for it in [name, *uses.split()]):
+                stop(f"crates.txt:{number} is no line 'NAME: DEP ..': {line.strip()[:60]}")
+            if name in listed:
+                stop(f"crates.txt:{number} lists {name} again")
             listed[name] = head, uses.split()
     return listed
 
