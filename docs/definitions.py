@@ -60,12 +60,21 @@ def comments_of(words, files, known):
     return [next((known[file][name] for file in files if name in known[file]), "") for name in names_in(words)]
 
 
+# The most words of a sentence that is made of several comments.
+LONG = 25
+
+
 def joined(comments):
-    """Comments as the text of one entry: after one another, the first letters small where each is one sentence."""
+    """Comments as the text of one entry: in one sentence if they are short, and else each in its own."""
     texts = [comment.removesuffix(".") for comment in comments]
-    if any(re.search(r"[.?;] ", text) for text in texts[:-1]):
-        return small(". ".join(text[:1].upper() + text[1:] for text in texts)) + "."
+    if any(re.search(r"[.?;] ", text) for text in texts[:-1]) or sum(len(text.split()) for text in texts) > LONG:
+        return small(". ".join(large(text) for text in texts)) + "."
     return "; ".join(small(text) for text in texts) + "."
+
+
+def large(text):
+    """The text with a large first letter, except where that is a variable."""
+    return text if re.match(r"[b-z]\b", text) else text[:1].upper() + text[1:]
 
 
 def small(text):
