@@ -56,11 +56,11 @@ const FAULTS = new Map([
     [28, ["BadForm", "an entry hasn't the form of one", "RFC 1035, 4.1"]],
 ]);
 
-// The status by which the module tells that all strings or options of data were given.
+// The status of the module where all strings or options of data were given.
 const NO_MORE = 27;
-// The status by which it tells that a text needs more room.
+// Its status where a text needs more room.
 const NO_ROOM = 8;
-// The status by which it tells that aliases lead to no name.
+// Its status where aliases lead to no name.
 const NO_END = 30;
 
 /** Why something is refused: `fault` is its name, `status` the module's number, `section` the standard's. */
@@ -403,8 +403,8 @@ export class DnsNames {
         return { status, numbers, names: this.#octets(names, length) };
     }
 
-    // The questions and records of these rows. A row has where its name begins and how many octets it has, type, class, time to
-    // live, where its data begin, how many octets they have, and where it ends.
+    // The questions and records of these rows. A row has the offset and the length of its name, type, class, time to live,
+    // the offset and the length of its data, and its end.
     *#rows(message, { numbers, names }) {
         const counts = countsOf(message);
         let offset = 12, row = 0;

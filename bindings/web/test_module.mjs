@@ -129,7 +129,7 @@ assert.equal(dataOf(15, "000a" + "026d78" + "076578616d706c6503636f6d00"), "000a
 assert.equal(dataOf(33, "000000000000" + "076578616d706c6503636f6d00"), "000000000000" + "076578616d706c6503636f6d00");
 assert.equal(dataOf(15, "000a"), "000a");
 
-// A number that isn't whole, or is out of its argument's range, isn't cut: it is told by name, and nothing is changed.
+// A number that isn't whole, or is out of its argument's range, isn't cut: it is reported by name, and nothing is changed.
 const numbered = dns.builder({ capacity: 200, id: 65535, flags: 65535 }), placed = dns.composer(12);
 placed.appendOctets(new Uint8Array(12));
 for (const [name, bits, call] of [

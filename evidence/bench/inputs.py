@@ -150,7 +150,7 @@ def main():
     for file, size in [("short.msg", 64), ("long.msg", 65535)]:
         write(folder, file, [(size - len(name) - k, bytes(12) + bytes(size - 12 - len(name) - k) + name + bytes(k)) for k in range(4)])
 
-    # names two by two: equal but for case, or with another first or last label
+    # names two by two: equal except for case, or with another first or last label
     pairs = []
     for i in range(256):
         name = wire([word(rng, 2, 10)] + domain())

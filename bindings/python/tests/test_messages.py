@@ -151,7 +151,7 @@ def edns_of(lines: List[str]) -> Tuple[Optional[Edns], Optional[int]]:
     if not lines:
         return None, None
     version, flags, zero, size, status = matched(EDNS, lines[0]).groups()
-    # The bit CO (RFC 9824): an older dig tells it as one that must be zero.
+    # The bit CO (RFC 9824): an older dig shows it as one that must be zero.
     bits = int(zero or "0", 16) | (0x4000 if " co" in flags else 0)
     options = [matched(OPTION, line).groups() for line in lines[1:]]
     options = [(int(code), bytes.fromhex(octets)) for code, octets in options]
@@ -337,8 +337,8 @@ class Server:
             self.socket.sendto(self.sent[seed], asker)
 
 
-# What dig asks is the message's own question, or it wouldn't take the answer; it asks once and over UDP alone, whatever the
-# answer's flags and codes are, and shows octets of names as they are.
+# What dig asks is the message's own question, or it wouldn't take the answer. It asks once and over UDP alone, whatever
+# the answer's flags and codes are, and shows octets of names unchanged.
 DIG = (
     "dig @127.0.0.1 +noall +comments +question +answer +authority +additional +noedns +nocookie +ignore +notcp +tries=1 "
     "+timeout=10 +noidnin +noidnout +nobadcookie +noednsnegotiation"

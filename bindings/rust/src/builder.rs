@@ -71,8 +71,8 @@ impl<'a> MessageBuilder<'a> {
 
     /// Pushes a record into a section. A name in its data is its [`Name::as_slice`]; data that were cut out of another
     /// message may have pointers, which would lead elsewhere here. Names are compressed where the type is one of RFC 1035,
-    /// 3.3 (NS, MD, MF, CNAME, SOA, MB, MG, MR, PTR, MINFO, MX), and the data are exactly the fields of that type; all
-    /// other data are written as they are. `WrongOrder` where a later section has a record, `NoRoom`, `TooManyEntries`.
+    /// 3.3 (NS, MD, MF, CNAME, SOA, MB, MG, MR, PTR, MINFO, MX), and the data are exactly the fields of that type. All
+    /// other data are written unchanged. `WrongOrder` where a later section has a record, `NoRoom`, `TooManyEntries`.
     pub fn record(
         &mut self,
         section: Section,

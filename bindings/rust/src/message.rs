@@ -160,7 +160,7 @@ impl<'a> Message<'a> {
     /// heading and a line for each question or record. Data that can't be read by their type are shown as octets, and why
     /// (RFC 3597, 5).
     ///
-    /// `NoRoom` tells how many octets it has. `ShortInput` where the message ends before all that its header counts,
+    /// `NoRoom` has how many octets it is. `ShortInput` where the message ends before all that its header counts,
     /// `BadForm` where an entry hasn't the form of one.
     pub fn text<'b>(&self, buffer: &'b mut [u8]) -> Result<&'b str, Fault> {
         let mut len = 0;
@@ -213,9 +213,10 @@ impl<'a> Message<'a> {
         })
     }
 
-    /// The name with `index` names before it in the data of a record of this message; it doesn't leave them. `NoField`
-    /// where data of this type have no such name, `ShortInput` where a name or what follows it ends past the data,
-    /// `TrailingData` where they go on, and the faults of [`read`].
+    /// The name with `index` names before it in the data of a record of this message; it doesn't leave them.
+    ///
+    /// `NoField` where data of this type have no such name. `ShortInput` where a name or what follows it ends past the
+    /// data, `TrailingData` where they go on, and the faults of [`read`].
     ///
     /// ```
     /// use dnsnames::{Fault, Message, MAX_LEN};

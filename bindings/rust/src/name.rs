@@ -39,11 +39,11 @@ pub struct Read<'a> {
     pub compressed: bool,
 }
 
-/// Reads the name at an offset of a message through at most `limit` pointers, each of which must lead back (RFC 1035,
-/// 4.1.4), into a buffer; one of [`MAX_LEN`](crate::MAX_LEN) octets has room for each.
+/// Reads the name at an offset of a message into a buffer, through at most `limit` pointers (RFC 1035, 4.1.4). Each
+/// pointer must lead back. A buffer of [`MAX_LEN`](crate::MAX_LEN) octets has room for each name.
 ///
 /// The fault that a walk along the name meets first is `ShortInput` (also at and past the end), `BadLabelType`,
-/// `TooManyPointers` or `LongName`; `NoRoom` tells how many octets the name has.
+/// `TooManyPointers` or `LongName`; `NoRoom` has how many octets the name is.
 ///
 /// ```
 /// use dnsnames::{read, Fault, MAX_LEN, MAX_POINTERS};

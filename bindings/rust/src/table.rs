@@ -10,7 +10,7 @@ use dnsnames_sys::*;
 /// No question or record has fewer octets: a root label, a type and a class.
 const LEAST_ENTRY: usize = 5;
 
-/// Room for what [`Message::table`] tells of one question or record.
+/// Room for what [`Message::table`] returns of one question or record.
 #[derive(Clone, Copy, Debug, Default)]
 #[repr(transparent)]
 pub struct Row([u32; DNSNAMES_ROW_LEN]);

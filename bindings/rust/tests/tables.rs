@@ -55,7 +55,7 @@ impl<'a> Entries<'a> {
     }
 }
 
-/// The entries of a message's table, with room for so many rows and so many octets of names.
+/// The entries of a message's table, with room for this many rows and octets of names.
 fn with_room(octets: &[u8], rows: usize, names: usize) -> Entries<'_> {
     let (mut rows, mut names) = (vec![Row::EMPTY; rows], vec![0; names]);
     Entries::of_table(&Message::new(octets).table(&mut rows, &mut names))

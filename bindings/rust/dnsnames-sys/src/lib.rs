@@ -1,10 +1,10 @@
-//! The calls, types and constants of the library for C as its header `dnsnames.h` declares them, for who makes
-//! something safe of them, as the crate `dnsnames` does.
+//! The calls, types and constants of the library for C as its header `dnsnames.h` declares them, for crates that
+//! make something safe of them, as `dnsnames` does.
 //!
-//! The header tells each call in full: what it does, when it refuses, and what a caller owes, which is that a pointer
-//! leads to as many octets as the length beside it says, and that what is written overlaps nothing else. The names are
-//! those of C. A call that refuses answers a status other than [`DNSNAMES_OK`], and leaves what its pointers lead to as
-//! it was.
+//! The header describes each call in full: what it does, when it refuses, and what the caller must provide. A pointer
+//! must lead to as many octets as the length beside it says, and what is written must overlap nothing else. The names
+//! are those of C. A call that refuses returns a status other than [`DNSNAMES_OK`], and leaves what its pointers lead to
+//! unchanged.
 #![no_std]
 #![allow(non_camel_case_types)]
 
@@ -22,10 +22,10 @@ pub const DNSNAMES_MAX_TABLE: usize = 128;
 pub const DNSNAMES_MAX_MNEMONIC: usize = 12;
 /// The octets of a key of [`dnsnames_hash`].
 pub const DNSNAMES_KEY_LEN: usize = 16;
-/// The version of these declarations; [`dnsnames_version`] tells that of the library.
+/// The version of these declarations; [`dnsnames_version`] returns that of the library.
 pub const DNSNAMES_VERSION: &str = "0.6.0";
 
-/// What a call answers: one of the constants below, by which it tells why it refuses.
+/// What a call returns: one of the constants below, which say why it refuses.
 pub type dnsnames_status = u32;
 
 /// What was asked for is there.
@@ -44,9 +44,9 @@ pub const DNSNAMES_COMPRESSED: dnsnames_status = 5;
 pub const DNSNAMES_RELATIVE: dnsnames_status = 6;
 /// Octets of an absolute name: more octets follow the root.
 pub const DNSNAMES_TRAILING_DATA: dnsnames_status = 7;
-/// The buffer is too small. It is as it was, and `*length` tells how many octets are needed.
+/// The buffer is too small. It is unchanged, and `*length` is how many octets are needed.
 pub const DNSNAMES_NO_ROOM: dnsnames_status = 8;
-/// What is passed as an uncompressed name is none: [`dnsnames_check`] tells why.
+/// What is passed as an uncompressed name is none: [`dnsnames_check`] returns why.
 pub const DNSNAMES_NO_NAME: dnsnames_status = 9;
 /// The name has no such label.
 pub const DNSNAMES_NO_LABEL: dnsnames_status = 10;
@@ -339,7 +339,7 @@ extern "C" {
     pub fn dnsnames_label_back(name: *const u8, len: usize, index: usize, offset: *mut usize) -> dnsnames_status;
     /// The offset of the second label, at which the parent begins.
     pub fn dnsnames_parent(name: *const u8, len: usize, offset: *mut usize) -> dnsnames_status;
-    /// Tells how a name is to be written after the octets of a message.
+    /// Plans how a name is to be written after the octets of a message.
     pub fn dnsnames_plan(
         octets: *const u8,
         octets_len: usize,

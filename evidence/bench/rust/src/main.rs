@@ -689,7 +689,7 @@ fn records(message: &[u8]) -> u64 {
     sum
 }
 
-/// All that is left, which must be a name.
+/// The rest, which must be a name.
 fn whole_name<'a>(data: &mut Parser<'a, [u8]>) -> Result<ParsedName<&'a [u8]>, ParseError> {
     let name = ParsedName::parse(data)?;
     match data.remaining() {
@@ -809,7 +809,7 @@ struct Weather<'a> {
     counted: Option<&'a Rounds>,
     /// The most turns of each implementation; none where results alone are compared.
     turns: usize,
-    /// No turn begins later than this, but for the first five.
+    /// No turn begins later than this, except the first five.
     longest: Duration,
 }
 

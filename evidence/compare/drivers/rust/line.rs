@@ -1,4 +1,4 @@
-//! The line protocol of the drivers (../line.h tells it), for those in Rust.
+//! The line protocol of the drivers (../line.h describes it), for those in Rust.
 
 use std::cmp::Ordering;
 use std::fmt::Write as _;
@@ -19,7 +19,7 @@ pub trait Library {
     fn to_text(name: &Self::Name) -> String;
     fn compare(left: &Self::Name, right: &Self::Name) -> Ordering;
 
-    /// Composes names one after another behind a header of 12 octets, and tells the octets written.
+    /// Composes names one after another behind a header of 12 octets, and returns the octets written.
     fn compose(_names: &[Self::Name]) -> usize {
         0
     }

@@ -30,7 +30,7 @@ fn read(path: &Path) -> Vec<Case> {
         .collect()
 }
 
-/// `round` makes all calls of a file once, and tells how many were refused. The best turn counts.
+/// `round` makes all calls of a file once, and prints how many were refused. The best turn counts.
 ///
 /// Nothing is done for an operation that doesn't begin with WORD. With `--rounds N`, where another program counts
 /// instructions, all calls are made so often, without measuring.
