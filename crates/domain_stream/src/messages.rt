@@ -6,7 +6,7 @@ ghost use Rattle.domain_stream.specs.Framing.{rest_in, HasMessageThen, HasNoMess
 
 use crate::error::CutOff;
 
-/// The number in the length field that octets begin with; 0 while an octet of it is missing.
+/// Returns the number in the length field that octets begin with; 0 while an octet of it is missing.
 pub(crate) fn read_length(octets: &[u8]) -> u16
     ensures { result ≡ length_field octets.now }
 {
@@ -16,14 +16,14 @@ pub(crate) fn read_length(octets: &[u8]) -> u16
     u16::from_be_bytes([octets[0], octets[1]])
 }
 
-/// How many octets the first message has with its length field; 2 while an octet of that is missing.
+/// Returns how many octets the first message has with its length field; 2 while an octet of that is missing.
 pub(crate) fn message_end(octets: &[u8]) -> usize
     ensures { result ≡ first_end octets.now }
 {
     2 + usize::from(read_length(octets))
 }
 
-/// The first message, if it is complete, and the octets after it.
+/// Returns the first message, if it is complete, and the octets after it.
 pub(crate) fn first_message(octets: &[u8]) -> Option<(&[u8], &[u8])>
     ensures parts { MatchOption result (IsIncomplete octets.now)
         (λ parts. BeginsWithMessage octets.now parts.0.now parts.1.now) }
@@ -48,7 +48,7 @@ pub struct StreamMessages<'a> {
 impl<'a> StreamMessages<'a> {
     ghost use Rattle.domain_stream.specs.Views.{stream_left};
 
-    /// The messages in these octets, which begin with a length field.
+    /// Returns an iterator over the messages in these octets, which begin with a length field.
     pub fn new(octets: &'a [u8]) -> StreamMessages<'a>
         ensures { stream_left result ≡ octets.now }
     {

@@ -8,7 +8,7 @@ use crate::error::{CutOff, StreamError};
 use crate::messages::{StreamMessages, first_message, message_end, read_length};
 use octseq::{Octets, OctetsBuilder, Truncate};
 
-/// The number in the length field that two parts of a stream begin with; 0 while an octet of it is missing.
+/// Returns the number in the length field that two parts of a stream begin with; 0 while an octet of it is missing.
 fn read_length_across(held: &[u8], piece: &[u8]) -> u16
     ensures { result ≡ length_field (held.now ++ piece.now) }
 {
@@ -24,8 +24,8 @@ fn read_length_across(held: &[u8], piece: &[u8]) -> u16
     u16::from_be_bytes([held[0], piece[0]])
 }
 
-/// How many octets of a piece belong to the message that the held octets begin; the length of that message where it is
-/// above the limit.
+/// Returns how many octets of a piece belong to the message that the held octets begin. The error is the length of
+/// that message, where it is above the limit.
 fn count_octets(held: &[u8], piece: &[u8], limit: u16) -> Result<usize, u16>
     ensures { MatchResult result
         (λ n. (length_field (held.now ++ piece.now) ≤ limit) × (n ≡ count_taken held.now piece.now))
@@ -43,8 +43,7 @@ fn count_octets(held: &[u8], piece: &[u8], limit: u16) -> Result<usize, u16>
 ///
 /// It holds the octets of one message, with its length field, in a buffer of the caller's. `push` takes octets of a
 /// piece up to the end of that message. `message` returns the message once it is complete, and `remove_message` makes
-/// room for the next one. A buffer needs room for the limit and two octets. A sender decides only how much of that is
-/// used.
+/// room for the next one. A buffer needs room for the limit and two octets; whatever is sent, no more is used.
 #[derive(Drop)]
 pub struct StreamReader<Octs: Octets> {
     buffer: Octs,
@@ -55,9 +54,9 @@ pub struct StreamReader<Octs: Octets> {
 impl<Octs: OctetsBuilder> StreamReader<Octs> {
     ghost use Rattle.domain_stream.specs.Views.{held_octets, most_octets_of, TakesPiece, PieceNotTaken};
 
-    /// A reader at the start of a stream that takes messages of at most `limit` octets.
+    /// Returns a reader at the start of a stream, for messages of at most `limit` octets.
     ///
-    /// The octets that the buffer has are removed; its capacity is used.
+    /// The octets in the buffer are removed; its capacity is used.
     pub fn new(buffer: Octs, limit: u16) -> StreamReader<Octs>
         ensures held { held_octets result ≡ [] }
         ensures limit { most_octets_of result ≡ limit }
