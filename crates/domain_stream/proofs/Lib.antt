@@ -1,0 +1,3 @@
+pub mod Cutting
+pub mod Holding
+pub mod ReadingBack

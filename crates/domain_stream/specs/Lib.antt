@@ -1,0 +1,5 @@
+pub mod Errors
+pub mod Framing
+pub mod Laws
+pub mod Readers
+pub mod Views
