@@ -60,9 +60,10 @@ export interface EdnsOption {
     data: Uint8Array;
 }
 
-export type Section = "answers" | "authority" | "additional";
+/** The sections of records (RFC 1035, 4.1). */
+export type Section = "answer" | "authority" | "additional";
 /** A question or a record: `name` are the octets of its name, without compression, if all names so far can be read. */
-export type Entry = ((Question & { section: "questions" }) | (DnsRecord & { section: Section })) & { name?: Uint8Array };
+export type Entry = ((Question & { section: "question" }) | (DnsRecord & { section: Section })) & { name?: Uint8Array };
 export type NamedEntry = Entry & { name: Uint8Array };
 export type Kind = "type" | "class" | "opcode" | "rcode";
 
@@ -89,7 +90,8 @@ export interface MessageBuilder {
         rcode?: number;
         version?: number;
         dnssecOk?: boolean;
-        options?: Uint8Array;
+        /** Each a code and octets; octets in place of the list are options in wire format. */
+        options?: Iterable<EdnsOption> | Uint8Array;
     }): void;
     truncate(): void;
     setFlags(bits: number): void;

@@ -15,7 +15,9 @@ const MAX_MNEMONIC = 12;
 
 // What the module keeps of a message that is built: how many octets there are in all, and where its flags and its size are.
 const BUILDER = { size: 320, len: 8, flags: 18 };
-const SECTIONS = ["answers", "authority", "additional"];
+const SECTIONS = ["answer", "authority", "additional"];
+// The type of an OPT record.
+const OPT = 41;
 
 /** The flags, where they stand in the header's 16 bits (RFC 1035, 4.1.1; AD and CD RFC 4035, 3.1.6 and 3.2). The four bits
  *  of the opcode are flags >> 11 & 15, those of the response code flags & 15. */
@@ -367,10 +369,10 @@ export class DnsNames {
         const [slice] = this.#begin(message), counts = countsOf(message), entries = [];
         let offset = numbers.at(-1) ?? 12, passed = numbers.length / ROW_LEN;
         try {
-            for (const [i, section] of ["questions", ...SECTIONS].entries()) {
+            for (const [i, section] of ["question", ...SECTIONS].entries()) {
                 for (let left = counts[i]; left > 0; left--) {
                     if (passed-- > 0) continue;
-                    const entry = section === "questions" ? this.#question(slice, offset) : this.#record(message, slice, offset);
+                    const entry = section === "question" ? this.#question(slice, offset) : this.#record(message, slice, offset);
                     entries.push({ section, ...entry });
                     offset = entry.end;
                 }
@@ -408,11 +410,11 @@ export class DnsNames {
     *#rows(message, { numbers, names }) {
         const counts = countsOf(message);
         let offset = 12, row = 0;
-        for (const [i, section] of ["questions", ...SECTIONS].entries()) {
+        for (const [i, section] of ["question", ...SECTIONS].entries()) {
             for (let left = counts[i]; left > 0 && row < numbers.length; left--, row += ROW_LEN) {
                 const name = names.slice(numbers[row], numbers[row] + numbers[row + 1]);
                 const type = numbers[row + 2], class_ = numbers[row + 3], end = numbers[row + 7];
-                if (section === "questions") {
+                if (section === "question") {
                     yield { section, name, offset, type, class: class_, end };
                 } else {
                     const ttl = numbers[row + 4], dataOffset = numbers[row + 5];
@@ -453,7 +455,7 @@ export class DnsNames {
             /** Pushes a question. WrongOrder where a record was pushed, NoRoom, TooManyEntries, NoBuilder. */
             question: (name, type, class_ = 1) =>
                 push("question", [name], ([slice]) => [...slice, whole("type", type, 16), whole("class", class_, 16)]),
-            /** Pushes a record into "answers", "authority" or "additional". A name in its data is its octets without
+            /** Pushes a record into "answer", "authority" or "additional". A name in its data is its octets without
              *  compression; it is compressed where the type is one of RFC 1035, 3.3, and the data are exactly its fields.
              *  All other data are written as they are. */
             record: (section, owner, type, data, { ttl = 0, class: class_ = 1 } = {}) =>
@@ -461,10 +463,11 @@ export class DnsNames {
                     SECTIONS.indexOf(section) + 1, ...slice, whole("type", type, 16), whole("class", class_, 16),
                     whole("ttl", ttl, 32), ...rest,
                 ]),
-            /** Pushes an OPT record (RFC 6891, 6.1): the size of messages over UDP, the upper eight bits of a response code of
-             *  twelve, the bit DO, options in wire format. */
-            opt: ({ size = 1232, rcode = 0, version = 0, dnssecOk = false, options = new Uint8Array(0) } = {}) =>
-                push("opt", [options], ([slice]) => [
+            /** Pushes an OPT record (RFC 6891, 6.1): the size of messages over UDP, the upper eight bits of a response
+             *  code of twelve, the bit DO, and options, each a `code` and octets as `data`. Octets in place of the list
+             *  are options in wire format: RangeError where they end inside one. */
+            opt: ({ size = 1232, rcode = 0, version = 0, dnssecOk = false, options = [] } = {}) =>
+                push("opt", [this.#wireOptions(options)], ([slice]) => [
                     whole("size", size, 16), whole("rcode", rcode, 12) >> 4, whole("version", version, 8),
                     dnssecOk ? 1 : 0, ...slice,
                 ]),
@@ -480,6 +483,18 @@ export class DnsNames {
                 return octets.slice(0, Number(view.getBigUint64(BUILDER.len, true)));
             },
         };
+    }
+
+    // Options in wire format (RFC 6891, 6.1.2), as a reader of their record takes them.
+    #wireOptions(options) {
+        if (!(options instanceof Uint8Array)) return listedOptions(options);
+        try {
+            [...this.optionsInData(options, { dataOffset: 0, data: options, type: OPT })];
+        } catch (fault) {
+            if (!(fault instanceof NameFault)) throw fault;
+            throw new RangeError("the octets end inside an option", { cause: fault });
+        }
+        return options;
     }
 
     // A call on a builder: octets and state go into the module's memory, and come back.
@@ -613,6 +628,20 @@ const sum = (numbers) => numbers.reduce((left, right) => left + right, 0);
 // Where the data of a record are, and of which type.
 function dataOf({ dataOffset, data, type }) {
     return [toSize("dataOffset", dataOffset), BigInt(data.length), whole("type", type, 16)];
+}
+
+// Options in wire format: of each its code and its length, of 16 bits each, and its octets.
+function listedOptions(options) {
+    if (typeof options?.[Symbol.iterator] !== "function") throw new TypeError("options are a list, or a Uint8Array");
+    const octets = [];
+    for (const option of options) {
+        const { code, data } = Object(option);
+        if (!(data instanceof Uint8Array)) throw new TypeError("the data of an option are a Uint8Array");
+        const length = whole("length", data.length, 16);
+        octets.push(whole("code", code, 16) >> 8, code & 255, length >> 8, length & 255);
+        for (const octet of data) octets.push(octet);
+    }
+    return Uint8Array.from(octets);
 }
 
 // The labels of octets that are a name.

@@ -33,7 +33,7 @@ const message = octets(
     "00000600010000000000" + "1b" + "016200" + "0163c02c" + "00".repeat(20),
 );
 const [question, alias, authority] = [...dns.entries(message)];
-assert.deepEqual([question.section, alias.section, authority.section], ["questions", "answers", "authority"]);
+assert.deepEqual([question.section, alias.section, authority.section], ["question", "answer", "authority"]);
 assert.equal(dns.nameInData(message, alias).text, "a.");
 assert.equal(faultOf(() => dns.nameInData(message, alias, 1)), "NoField");
 assert.deepEqual([0, 1].map((index) => dns.nameInData(message, authority, index).text), ["b.", "c.b."]);
@@ -67,7 +67,7 @@ assert.equal(faultOf(() => dns.nameInData(message, longer)), "TrailingData");
 // Numbers, addresses, strings and options of data. The numbers are those of RFC 1035, 5.3.
 const ofData = (type, data, class_ = 1, ttl = 0) => {
     const builder = dns.builder({ capacity: 200, flags: 0x8183 });
-    builder.record("answers", Uint8Array.of(0), type, data, { class: class_, ttl });
+    builder.record("answer", Uint8Array.of(0), type, data, { class: class_, ttl });
     const message = builder.finish();
     return [message, dns.record(message, 12)];
 };
@@ -102,12 +102,14 @@ assert.equal(faultOf(() => dns.numberOf("type", "\u00e4")), "NoMnemonic");
 const builder = dns.builder({ capacity: 60, id: 7, flags: 0x0100 });
 const owner = from("www.example.com");
 builder.question(owner, 1);
-builder.record("answers", owner, 1, Uint8Array.of(192, 0, 2, 1), { ttl: 60 });
+builder.record("answer", owner, 1, Uint8Array.of(192, 0, 2, 1), { ttl: 60 });
 const length = builder.length();
-assert.equal(faultOf(() => builder.record("answers", from("a.b"), 16, new Uint8Array(9))), "NoRoom");
+assert.equal(faultOf(() => builder.record("answer", from("a.b"), 16, new Uint8Array(9))), "NoRoom");
 assert.equal(builder.length(), length);
 assert.equal(faultOf(() => builder.question(owner, 1)), "WrongOrder");
-assert.equal(faultOf(() => builder.record("answer", owner, 1, new Uint8Array(0))), "NoSection");
+for (const section of ["answers", "question", "", undefined]) {
+    assert.equal(faultOf(() => builder.record(section, owner, 1, new Uint8Array(0))), "NoSection");
+}
 builder.opt({ size: 1232, rcode: 16, dnssecOk: true });
 builder.setFlags(0x8180);
 const built = builder.finish();
@@ -117,6 +119,48 @@ const [asked, address, opt] = [...dns.entries(built)];
 assert.deepEqual([dns.readName(built, asked.offset).text, dns.readName(built, address.offset).text], ["www.example.com.", "www.example.com."]);
 assert.deepEqual([address.ttl, [...address.data], opt.type, opt.class, opt.ttl], [60, [192, 0, 2, 1], 41, 1232, 0x01008000]);
 assert.equal(faultOf(() => dns.builder({ capacity: 11 })), "NoRoom");
+
+// Options are a list of codes and octets, or octets in wire format. All else is refused, and nothing is changed.
+const cookie = { code: 10, data: Uint8Array.of(1, 2, 3, 4, 5, 6, 7, 8) };
+const wireCookie = octets("000a0008" + "0102030405060708");
+const withOptions = (options) => {
+    const building = dns.builder({ capacity: 600 });
+    building.opt({ options });
+    const message = building.finish(), [record] = dns.table(message);
+    return [...dns.optionsInData(message, record)];
+};
+const manyOptions = [
+    cookie, { code: 65535, data: new Uint8Array(0) }, { code: 0, data: new Uint8Array(300).fill(7) },
+];
+assert.deepEqual(withOptions([cookie]), [cookie]);
+assert.deepEqual(withOptions(manyOptions), manyOptions);
+assert.deepEqual(withOptions(new Set(manyOptions)), manyOptions);
+assert.deepEqual(withOptions(withOptions(manyOptions)), manyOptions);
+assert.deepEqual([withOptions([]), withOptions(undefined), withOptions(new Uint8Array(0))], [[], [], []]);
+assert.deepEqual(withOptions(wireCookie), [cookie]);
+assert.deepEqual(withOptions(Buffer.from([0, ...wireCookie]).subarray(1)), [cookie]);
+const optioned = dns.builder({ capacity: 600 });
+for (let end = 1; end < wireCookie.length; end++) {
+    for (const before of [[], wireCookie]) {
+        const options = Uint8Array.of(...before, ...wireCookie.subarray(0, end));
+        const refusal = { name: "RangeError", message: "the octets end inside an option" };
+        assert.throws(() => optioned.opt({ options }), refusal);
+    }
+}
+for (const options of [
+    null, 10, {}, cookie, "ab", [10], [null], [undefined], [[10, cookie.data]], [cookie, 3], cookie.data.buffer,
+    [{ code: 10 }], [{ code: 10, data: [1, 2] }], [{ code: 10, data: "8 octets" }],
+    [{ data: cookie.data }], [{ code: "10", data: cookie.data }],
+]) {
+    assert.throws(() => optioned.opt({ options }), TypeError);
+}
+for (const option of [
+    { code: 65536, data: cookie.data }, { code: -1, data: cookie.data }, { code: 1, data: new Uint8Array(65536) },
+]) {
+    assert.throws(() => optioned.opt({ options: [option] }), RangeError);
+}
+assert.equal(faultOf(() => optioned.opt({ options: [{ code: 1, data: new Uint8Array(65535) }] })), "NoRoom");
+assert.equal(optioned.length(), 12);
 
 // Names in data are compressed by the record's type: those of MX are, those of SRV aren't.
 const dataOf = (type, hex) => {
@@ -150,9 +194,9 @@ for (const [name, bits, call] of [
     ["capacity", 53, (number) => dns.builder({ capacity: number })], ["id", 16, (number) => dns.builder({ id: number })],
     ["flags", 16, (number) => dns.builder({ flags: number })], ["bits", 16, (number) => numbered.setFlags(number)],
     ["type", 16, (number) => numbered.question(owner, number)], ["class", 16, (number) => numbered.question(owner, 1, number)],
-    ["type", 16, (number) => numbered.record("answers", owner, number, new Uint8Array(4))],
-    ["class", 16, (number) => numbered.record("answers", owner, 1, new Uint8Array(4), { class: number })],
-    ["ttl", 32, (number) => numbered.record("answers", owner, 1, new Uint8Array(4), { ttl: number })],
+    ["type", 16, (number) => numbered.record("answer", owner, number, new Uint8Array(4))],
+    ["class", 16, (number) => numbered.record("answer", owner, 1, new Uint8Array(4), { class: number })],
+    ["ttl", 32, (number) => numbered.record("answer", owner, 1, new Uint8Array(4), { ttl: number })],
     ["size", 16, (number) => numbered.opt({ size: number })], ["rcode", 12, (number) => numbered.opt({ rcode: number })],
     ["version", 8, (number) => numbered.opt({ version: number })], ["capacity", 53, (number) => dns.composer(number)],
     ["offset", 53, (number) => placed.setUint16(number, 1)], ["number", 16, (number) => placed.setUint16(4, number)],
@@ -167,7 +211,7 @@ assert.throws(() => placed.appendOctets([256]), TypeError);
 assert.deepEqual(placed.octets(), new Uint8Array(12));
 assert.equal(numbered.length(), 12);
 // The largest are written as they are; an offset past all octets is past the end.
-numbered.record("answers", owner, 65535, new Uint8Array(0), { ttl: 0xffffffff, class: 65535 });
+numbered.record("answer", owner, 65535, new Uint8Array(0), { ttl: 0xffffffff, class: 65535 });
 numbered.opt({ size: 65535, rcode: 4095, version: 255, dnssecOk: true });
 const largest = numbered.finish(), [record, largestOpt] = dns.table(largest);
 assert.deepEqual(dns.header(largest), { id: 65535, flags: 65535, questions: 0, answers: 1, authority: 0, additional: 1 });
@@ -222,7 +266,7 @@ const mixed = octets(
 );
 const mixedEntries = stepped(dns.entries(mixed));
 assert.deepEqual(mixedEntries.map(({ section, offset }) => [section, offset]), [
-    ["questions", 12], ["answers", 19], ["answers", 31], ["additional", 43],
+    ["question", 12], ["answer", 19], ["answer", 31], ["additional", 43],
 ]);
 assert.deepEqual(mixedEntries.map(({ name }) => name?.length), [3, undefined, undefined, undefined]);
 const { section, ...last } = mixedEntries.at(-1);
@@ -236,7 +280,7 @@ const broken = dns.stringsInData(...ofData(16, octets("026162" + "0361")));
 assert.deepEqual(broken.next().value, Uint8Array.of(97, 98));
 assert.equal(faultOf(() => broken.next()), "ShortInput");
 const missing = dns.entries(Uint8Array.of(0, 7, 0, 0, 0, 2, 0, 0, 0, 0, 0, 0, 192, 12, 0, 1, 0, 1, 0));
-assert.deepEqual(missing.next().value, { section: "questions", offset: 12, type: 1, class: 1, end: 18 });
+assert.deepEqual(missing.next().value, { section: "question", offset: 12, type: 1, class: 1, end: 18 });
 assert.equal(faultOf(() => missing.next()), "ShortInput");
 
 // A message that is composed by hand: a header, a CNAME record with compressed data, whose length is set behind them.
@@ -260,12 +304,13 @@ assert.equal(fetched.readName(message).text, "a.");
 const oneByOne = (message) => {
     const entries = [];
     try {
-        const header = dns.header(message);
+        const { questions, answers, authority, additional } = dns.header(message);
+        const counts = { question: questions, answer: answers, authority, additional };
         let offset = 12;
-        for (const section of ["questions", "answers", "authority", "additional"]) {
-            for (let i = 0; i < header[section]; i++) {
+        for (const [section, count] of Object.entries(counts)) {
+            for (let i = 0; i < count; i++) {
                 const name = dns.readName(message, offset).octets;
-                const entry = section === "questions" ? dns.question(message, offset) : dns.record(message, offset);
+                const entry = section === "question" ? dns.question(message, offset) : dns.record(message, offset);
                 entries.push({ section, name, ...entry });
                 offset = entry.end;
             }
@@ -316,7 +361,7 @@ for (const [octets, fault, count] of [
     assert.deepEqual(tableOf(octets), { entries: [], fault });
     const read = [];
     assert.equal(faultOf(() => { for (const entry of dns.entries(octets)) read.push(entry); }), count === 0 ? fault : "");
-    assert.deepEqual(read, count === 0 ? [] : [{ section: "questions", ...dns.question(octets) }]);
+    assert.deepEqual(read, count === 0 ? [] : [{ section: "question", ...dns.question(octets) }]);
 }
 assert.throws(() => dns.table("0".repeat(12)), TypeError);
 

@@ -229,7 +229,7 @@ class Page(unittest.TestCase):
             ].map(String);
         """), [
             "example. a.example. Z.a.example. z.example.", "true", "true", "com.", "www.", "true", "false",
-            "a\\.b", "3", "2", "3,119,119,119,192,0", "NoRoom", "19", "questions 1 19 answers 5 33", "60", "7", "192,12",
+            "a\\.b", "3", "2", "3,119,119,119,192,0", "NoRoom", "19", "question 1 19 answer 5 33", "60", "7", "192,12",
             "EmptyLabel ShortInput BadEscape BadSymbol BadSymbol BinaryLabel LongLabel LongName",
             "ShortInput ShortInput RelativeName TrailingData CompressedName BadLabelType", "AbsoluteName", "NoLabel",
             "200000", "a.", "NoField", "ShortInput",

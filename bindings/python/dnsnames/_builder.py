@@ -4,19 +4,51 @@ from __future__ import annotations
 
 from ctypes import byref, c_size_t, create_string_buffer
 from threading import Lock
-from typing import Any, Callable
+from typing import Any, Callable, Dict, Iterable, Tuple, Union
 
-from ._library import BuilderFields, Octets, as_octets, as_size, library, refuse
-from ._mnemonic import Class, Type
-from ._name import Name
+from ._library import BuilderFields, Octets, ShortInput, as_octets, as_size, library, refuse
+from ._message import Record
+from ._mnemonic import AnyClass, AnyType, Class, Type, as_number
+from ._name import AnyName, as_name
 
 _SECTIONS = {"answer": 1, "authority": 2, "additional": 3}
+# Options of an OPT record: each a code and octets, or all in wire format.
+Options = Union[Octets, Iterable[Tuple[int, Octets]]]
 
 
 def _word(number: int, bits: int) -> int:
+    if not isinstance(number, int):
+        raise TypeError(f"a number is an int, not {type(number).__name__}")
     if not 0 <= number < 1 << bits:
         raise ValueError(f"this number has {bits} bits")
     return number
+
+
+def _option(option: Tuple[int, Octets]) -> bytes:
+    """An option in wire format (RFC 6891, 6.1.2)."""
+    try:
+        code, data = option
+    except (TypeError, ValueError):
+        raise TypeError(f"an option is a code and octets, not {option!r}") from None
+    octets = as_octets(data)
+    if len(octets) > 65535:
+        raise ValueError("an option has at most 65,535 octets")
+    return _word(code, 16).to_bytes(2, "big") + len(octets).to_bytes(2, "big") + octets
+
+
+def _options(options: Options) -> bytes:
+    """Options in wire format, as a reader takes them."""
+    try:
+        octets = as_octets(options)
+    except TypeError:
+        octets = None
+    if octets is None:
+        return b"".join(map(_option, options))
+    try:
+        list(Record(octets, "additional", Type.OPT, Class(0), 0, octets, 0, 0, len(octets)).options())
+    except ShortInput as error:
+        raise ValueError(f"the octets end inside the option that begins at offset {error.offset}") from None
+    return octets
 
 
 class MessageBuilder:
@@ -24,9 +56,12 @@ class MessageBuilder:
     not at all: after a refusal all is as it was. Names of questions and owners of records are compressed, and names in
     data of the types of RFC 1035. Threads may share it: each call waits until that of another thread has ended.
 
+    A name is a `Name` or its text. A type is a `Type`, a number or a mnemonic, and a class likewise. Anything else raises
+    TypeError. A bad text raises what `Name` or `Type` raises, and a number out of range ValueError.
+
     >>> from dnsnames import Flags, Message, Name, NoRoom, Type
     >>> query = MessageBuilder(id=0x1234, flags=Flags.RD)
-    >>> query.question(Name("example.com"), Type.MX)
+    >>> query.question("example.com", Type.MX)
     >>> query.opt(size=1232)
     >>> Message(query.finish()).header
     Header(id=4660, flags=256, questions=1, answers=0, authority=0, additional=1)
@@ -43,6 +78,13 @@ class MessageBuilder:
         self._fields = BuilderFields()
         self._lock = Lock()
         self._call(library.dnsnames_builder_start, self._buffer, capacity, _word(id, 16), _word(flags, 16))
+
+    def __deepcopy__(self, memo: Dict[int, Any]) -> MessageBuilder:
+        """A builder of its own, with what was pushed. A lock isn't copied."""
+        other = MessageBuilder(self._fields.capacity)
+        with self._lock:
+            other._buffer[:], other._fields.state = self._buffer[:], self._fields.state
+        return other
 
     def _call(self, call: Callable[..., int], *arguments: Any) -> None:
         with self._lock:
@@ -93,13 +135,15 @@ class MessageBuilder:
         with self._lock:
             return self._fields.state.len
 
-    def question(self, name: Name, type: int, class_: int = Class.IN) -> None:
+    def question(self, name: AnyName, type: AnyType, class_: AnyClass = Class.IN) -> None:
         """Pushes a question. Raises WrongOrder where a record was pushed, NoRoom, TooManyEntries, NoBuilder."""
-        octets = bytes(name)
-        self._call(library.dnsnames_builder_question, octets, len(octets), _word(type, 16), _word(class_, 16))
+        octets = bytes(as_name(name))
+        self._call(
+            library.dnsnames_builder_question, octets, len(octets), as_number(Type, type), as_number(Class, class_)
+        )
 
     def record(
-        self, section: str, name: Name, type: int, data: Octets, ttl: int = 0, class_: int = Class.IN
+        self, section: str, name: AnyName, type: AnyType, data: Octets, ttl: int = 0, class_: AnyClass = Class.IN
     ) -> None:
         """Pushes a record into a section: "answer", "authority" or "additional". A name in its data is `bytes(name)`, as
         data that were cut out of another message may have pointers, which would lead elsewhere here. It is compressed where
@@ -110,8 +154,8 @@ class MessageBuilder:
         section.
 
         >>> answer = MessageBuilder(512)
-        >>> answer.record("answer", Name("a.example"), Type.MX, b"\\0\\x0a" + bytes(Name("b.example")), ttl=60)
-        >>> answer.record("answer", Name("b.example"), Type.A, bytes([192, 0, 2, 1]), ttl=60)
+        >>> answer.record("answer", "a.example", "MX", b"\\0\\x0a" + bytes(Name("b.example")), ttl=60)
+        >>> answer.record("answer", "b.example", Type.A, bytes([192, 0, 2, 1]), ttl=60)
         >>> for record in Message(answer.finish()).answers():
         ...     print(record.name, record.ttl, record.type, *record.names_in_data())
         a.example. 60 MX b.example.
@@ -119,19 +163,30 @@ class MessageBuilder:
         """
         if section not in _SECTIONS:
             raise ValueError('the sections are "answer", "authority" and "additional"')
-        owner, octets = bytes(name), as_octets(data)
+        owner, octets = bytes(as_name(name)), as_octets(data)
         self._call(
-            library.dnsnames_builder_record, _SECTIONS[section], owner, len(owner), _word(type, 16), _word(class_, 16),
-            _word(ttl, 32), octets, len(octets),
+            library.dnsnames_builder_record, _SECTIONS[section], owner, len(owner), as_number(Type, type),
+            as_number(Class, class_), _word(ttl, 32), octets, len(octets),
         )
 
     def opt(
-        self, size: int = 1232, rcode: int = 0, version: int = 0, dnssec_ok: bool = False, options: Octets = b""
+        self, size: int = 1232, rcode: int = 0, version: int = 0, dnssec_ok: bool = False, options: Options = ()
     ) -> None:
         """Pushes an OPT record into the additional section (RFC 6891, 6.1): how many octets of a message over UDP are
-        taken, and options in wire format. Of a response code of twelve bits the upper eight are written here; the lower
-        four are those of `flags`. A message has one at most. Raises NoRoom, TooManyEntries, NoBuilder."""
-        octets = as_octets(options)
+        taken, and options, each an `EdnsOption` or a pair of code and octets. Octets in place of the list are options in
+        wire format. Of a response code of twelve bits the upper eight are written here; the lower four are those of
+        `flags`. A message has one at most.
+
+        Raises NoRoom, TooManyEntries, NoBuilder. Raises ValueError where such octets end inside an option, or an option
+        has a code of more than 16 bits or more than 65,535 octets, and TypeError for what is no option.
+
+        >>> query = MessageBuilder(512)
+        >>> query.opt(options=[(10, b"8 octets")])
+        >>> for record in Message(query.finish()).additional():
+        ...     print(*record.options())
+        EdnsOption(code=10, data=b'8 octets')
+        """
+        octets = _options(options)
         self._call(
             library.dnsnames_builder_opt, _word(size, 16), _word(rcode, 12) >> 4, _word(version, 8), bool(dnssec_ok),
             octets, len(octets),
@@ -141,9 +196,9 @@ class MessageBuilder:
         """Takes all records away again, and sets the flag TC (RFC 2181, 9). Raises NoBuilder.
 
         >>> answer = MessageBuilder(64)
-        >>> answer.question(Name("a.example"), Type.TXT)
+        >>> answer.question("a.example", Type.TXT)
         >>> try:
-        ...     answer.record("answer", Name("a.example"), Type.TXT, b"\\x32" + b"x" * 50)
+        ...     answer.record("answer", "a.example", Type.TXT, b"\\x32" + b"x" * 50)
         ... except NoRoom:
         ...     answer.truncate()
         >>> Message(answer.finish()).header.is_truncated

@@ -26,18 +26,19 @@ class DnsError(ValueError):
     own below this one.
 
     `status` is the number that the library answered, and `offset` the offset at which the name, the question, the
-    record or its data begin that were asked for; None where none was.
+    record or its data begin that were asked for; None where none was. `shown`, of the text of a message, is the text of
+    all before the entry that is refused; else None.
     """
 
     status: int = 0
     text: str = "refused by the library"
 
-    def __init__(self, offset: Optional[int] = None) -> None:
+    def __init__(self, offset: Optional[int] = None, shown: Optional[str] = None) -> None:
         super().__init__(self.text if offset is None else f"{self.text} (asked for at offset {offset})")
-        self.offset = offset
+        self.offset, self.shown = offset, shown
 
     def __reduce__(self) -> tuple:
-        return type(self), (self.offset,)
+        return type(self), (self.offset, self.shown)
 
 
 class ShortInput(DnsError):
@@ -281,7 +282,9 @@ def _load() -> ctypes.CDLL:
         library.dnsnames_version.restype = ctypes.c_char_p
         version = library.dnsnames_version().decode("ascii")
     except (OSError, AttributeError) as error:
-        raise ImportError(f"the library isn't there, or is too old: {error}. DNSNAMES_LIBRARY names it") from error
+        raise ImportError(
+            f"the library isn't there, or is too old: {error}. bindings/build makes it, DNSNAMES_LIBRARY names it"
+        ) from error
     if version != VERSION:
         raise ImportError(f"this is dnsnames {VERSION}, and the library {path} is {version}")
     for name, arguments in _ARGUMENTS.items():
@@ -293,9 +296,9 @@ def _load() -> ctypes.CDLL:
 library = _load()
 
 
-def refuse(status: int, offset: Optional[int] = None) -> None:
+def refuse(status: int, offset: Optional[int] = None, shown: Optional[str] = None) -> None:
     """Raises the error of a status that isn't 0."""
-    raise FAULTS.get(status, DnsError)(offset)
+    raise FAULTS.get(status, DnsError)(offset, shown)
 
 
 def as_octets(value: Octets) -> bytes:

@@ -10,11 +10,11 @@ from threading import Lock
 from typing import Any, Callable, Dict, Iterator, List, NamedTuple, Optional, Tuple, Union
 
 from ._library import (
-    MAX_LEN, MAX_TABLE, NO_END, NO_MORE, ROW_LEN, Buffer, HeaderFields, NoField, NoRoom, Octets, OptFields,
+    FAULTS, MAX_LEN, MAX_TABLE, NO_END, NO_MORE, ROW_LEN, Buffer, HeaderFields, NoField, NoRoom, Octets, OptFields,
     QuestionFields, RecordFields, Room, as_octets, as_size, library, refuse,
 )
 from ._mnemonic import Class, Flags, Opcode, Rcode, Type, classes, types
-from ._name import Name, read
+from ._name import AnyName, Name, as_name, read
 
 
 class Header(NamedTuple):
@@ -126,7 +126,10 @@ class Record(NamedTuple):
     def to_text(self) -> str:
         """Its line as `dig` shows it: owner, time to live, class, type and data. Data that can't be read by its type are
         shown as octets, and why (RFC 3597, 5). Raises BadForm where the owner can't be read."""
-        return _text(library.dnsnames_record_text, self.offset, self.message, len(self.message), self.offset)[:-1]
+        status, text = _text(library.dnsnames_record_text, self.message, len(self.message), self.offset)
+        if status:
+            refuse(status, self.offset)
+        return text[:-1]
 
     def name_in_data(self, index: int = 0) -> Name:
         """The name with so many names before it in the data; it doesn't leave them.
@@ -258,8 +261,8 @@ def _table(octets: bytes) -> Tuple[List[int], bytes]:
 _TEXT = 4096
 
 
-def _text(call, offset: int, *arguments) -> str:
-    """The text that a call gives, with as much room as it needs."""
+def _text(call, *arguments) -> Tuple[int, str]:
+    """The status of a call and the text that it gives, with as much room as that needs."""
     length, capacity = c_size_t(), _TEXT
     while True:
         buffer = create_string_buffer(capacity)
@@ -267,9 +270,7 @@ def _text(call, offset: int, *arguments) -> str:
         if status == NoRoom.status and length.value > capacity:
             capacity = length.value
             continue
-        if status:
-            refuse(status, offset)
-        return buffer.raw[: length.value].decode("ascii")
+        return status, buffer.raw[: length.value].decode("ascii")
 
 
 class Message:
@@ -338,8 +339,21 @@ class Message:
         """The message as `dig` shows it: two lines of its header, and for each section its heading and a line for each
         question or record. Data that can't be read by their type are shown as octets, and why (RFC 3597, 5). Raises
         ShortInput where the message ends before all that its header counts, BadForm where an entry hasn't the form of
-        one."""
-        return _text(library.dnsnames_message_text, 0, self._octets, len(self._octets))
+        one: `shown` of the error is the text of all before that.
+
+        >>> try:
+        ...     Message(bytes.fromhex("1234 0100 0001 0000 0000 0000 0161 00 0001")).to_text()
+        ... except DnsError as error:
+        ...     print(error.shown + str(error))
+        ;; opcode: QUERY, status: NOERROR, id: 4660
+        ;; flags: rd; QUESTION: 1, ANSWER: 0, AUTHORITY: 0, ADDITIONAL: 0
+        ;; QUESTION SECTION
+        unexpected end of input (asked for at offset 0)
+        """
+        status, text = _text(library.dnsnames_message_text, self._octets, len(self._octets))
+        if status:
+            refuse(status, 0, text if status in FAULTS else None)
+        return text
 
     def name(self, offset: int) -> Name:
         """The name at an offset, as `read` reads it."""
@@ -455,7 +469,7 @@ class Composer:
 
     >>> composer = Composer(64)
     >>> composer.append(Name("example.com"))
-    >>> composer.append(Name("www.EXAMPLE.com"))
+    >>> composer.append("www.EXAMPLE.com")
     >>> bytes(composer)
     b'\\x07example\\x03com\\x00\\x03www\\xc0\\x00'
     """
@@ -478,9 +492,9 @@ class Composer:
             other._length.value, other._table_length.value = self._length.value, self._table_length.value
         return other
 
-    def append(self, name: Name) -> None:
-        """Appends a name. Raises NoRoom where the octets don't fit, and changes nothing then."""
-        octets = bytes(name)
+    def append(self, name: AnyName) -> None:
+        """Appends a name, or that of a text. Raises NoRoom where the octets don't fit, and changes nothing then."""
+        octets = bytes(as_name(name))
         with self._lock:
             status = library.dnsnames_append(
                 self._buffer, self._capacity, byref(self._length), self._table, MAX_TABLE, byref(self._table_length),

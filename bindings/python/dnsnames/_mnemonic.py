@@ -4,7 +4,7 @@ from __future__ import annotations
 
 from ctypes import byref, c_size_t, c_uint16
 from enum import IntFlag
-from typing import Any
+from typing import Any, Union
 
 from ._library import Mnemonic, MAX_MNEMONIC, NoMnemonic, library, refuse
 
@@ -103,6 +103,20 @@ class _Each(dict):
 
 # At most 65,536 of each.
 types, classes = _Each(Type), _Each(Class)
+# How a caller writes a type or a class: as such, as a number, or as its mnemonic.
+AnyType, AnyClass = Union[Type, int, str], Union[Class, int, str]
+
+
+def as_number(kind: Any, value: Any) -> Any:
+    """The type or the class, whichever kind it is, that a caller wrote. That of another kind is refused."""
+    if isinstance(value, kind):
+        return value
+    if isinstance(value, str):
+        return kind[value]
+    if isinstance(value, int) and not isinstance(value, _Number):
+        return kind(value)
+    name = kind.__name__
+    raise TypeError(f"a {name.lower()} is a {name}, an int or a str, not {type(value).__name__}")
 
 
 class Opcode(_Number):

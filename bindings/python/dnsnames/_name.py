@@ -3,7 +3,7 @@
 from __future__ import annotations
 
 from ctypes import byref, c_int32, c_size_t, c_uint32
-from typing import Iterator, NamedTuple, Tuple
+from typing import Any, Iterator, NamedTuple, Tuple, Union
 
 from ._library import (
     MAX_LEN, MAX_POINTERS, MAX_TEXT, Buffer, NoLabel, Octets, Text, as_octets, as_size, library, refuse,
@@ -55,7 +55,7 @@ class Name:
         """The name that a text spells (RFC 1035, 5.1). A final dot may be left out; a dot alone is the root.
 
         Raises ShortInput where the text is empty or ends inside an escape, LongName, LongLabel, EmptyLabel,
-        BadEscape, BadSymbol, BinaryLabel.
+        BadEscape, BadSymbol, BinaryLabel; TypeError for what is no text.
 
         >>> bytes(Name.from_text("a.b"))
         b'\\x01a\\x01b\\x00'
@@ -63,6 +63,8 @@ class Name:
         Traceback (most recent call last):
         dnsnames.EmptyLabel: empty label
         """
+        if not isinstance(text, str):
+            raise TypeError(f"the text of a name is a str, not {type(text).__name__}")
         octets = text.encode("utf-8", "surrogatepass")
         buffer, length = Buffer(), c_size_t()
         status = library.dnsnames_from_text(octets, len(octets), buffer, MAX_LEN, byref(length))
@@ -145,16 +147,17 @@ class Name:
             _set(self, "_hash", hash(self._octets.lower()))
             return self._hash
 
-    def is_subdomain_of(self, zone: Name) -> bool:
-        """Whether the name is the zone's or lies below it: whether it ends with all labels of the other.
+    def is_subdomain_of(self, zone: AnyName) -> bool:
+        """Whether the name is the zone's or lies below it: whether it ends with all labels of the other, a name or its
+        text.
 
         >>> Name("www.example.com").is_subdomain_of(Name("EXAMPLE.com"))
         True
-        >>> Name("wwwexample").is_subdomain_of(Name("example"))
+        >>> Name("wwwexample").is_subdomain_of("example")
         False
         """
-        ends = c_uint32()
-        library.dnsnames_ends_with(self._octets, len(self._octets), zone._octets, len(zone._octets), byref(ends))
+        suffix, ends = as_name(zone)._octets, c_uint32()
+        library.dnsnames_ends_with(self._octets, len(self._octets), suffix, len(suffix), byref(ends))
         return ends.value == 1
 
     def lower(self) -> Name:
@@ -207,6 +210,19 @@ class Name:
 
     def is_root(self) -> bool:
         return len(self._octets) == 1
+
+
+# How a caller writes a name: as such, or as its text.
+AnyName = Union[Name, str]
+
+
+def as_name(value: Any) -> Name:
+    """The name that a caller wrote. Raises what `Name` raises of a text."""
+    if isinstance(value, Name):
+        return value
+    if isinstance(value, str):
+        return Name(value)
+    raise TypeError(f"a name is a Name or a str, not {type(value).__name__}")
 
 
 class Reading(NamedTuple):

@@ -22,6 +22,33 @@ class Answer(unittest.TestCase):
         ])
 
 
+class Ask(unittest.TestCase):
+    def test_what_is_written(self):
+        run = self.run_with("example.com", "MX", "0001020304050607")
+        self.assertEqual(run.stdout.split("\n"), [
+            "123401000001000000000001076578616d706c6503636f6d00000f0001"
+            "00002904d000000000000c000a00080001020304050607",
+            "option 10: 0001020304050607", "",
+        ])
+        self.assertEqual((run.returncode, run.stderr), (0, ""))
+
+    def test_refusals(self):
+        for words, why in (
+            (("a..b", "MX", "00" * 8), "empty label"), (("a", "MXX", "00" * 8), "no name of a type, a class or a code"),
+            (("a", "MX", "00" * 7), "a client's cookie has 8 octets"), (("a", "MX", "0g"), "non-hexadecimal number"),
+        ):
+            with self.subTest(words=words):
+                run = self.run_with(*words)
+                self.assertEqual((run.returncode, run.stdout), (1, ""))
+                self.assertTrue(run.stderr.startswith(why), run.stderr)
+
+    def run_with(self, *words):
+        return subprocess.run(
+            [sys.executable, FOLDER / "examples" / "ask.py", *words], capture_output=True, text=True, check=False,
+            env={**os.environ, "PYTHONPATH": str(FOLDER)},
+        )
+
+
 class ZoneTree(unittest.TestCase):
     def test_tree(self):
         names = "z.example\nyljkjljk.a.example\nexample\nZ.a.example\nzABC.a.EXAMPLE\n*.z.example\n\\200.z.example\n"

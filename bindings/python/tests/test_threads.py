@@ -2,6 +2,7 @@
 
 import collections
 import contextlib
+import copy
 import sys
 import threading
 import unittest
@@ -46,6 +47,7 @@ FIELDS = {
     "limit": lambda builder: builder.limit,
     "limit set": lambda builder: setattr(builder, "limit", 500),
     "len": len,
+    "deepcopy": copy.deepcopy,
 }
 COMPOSING = {
     "append": lambda composer: composer.append(NAME),
@@ -53,6 +55,7 @@ COMPOSING = {
     "set16": lambda composer: composer.set16(4, 1),
     "len": len,
     "bytes": bytes,
+    "deepcopy": copy.deepcopy,
 }
 
 

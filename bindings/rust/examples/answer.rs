@@ -4,16 +4,14 @@
 
 use dnsnames::{Class, Fault, Header, Message, MessageBuilder, Name, Row, Section, Type, MAX_LEN};
 
-const MX: u16 = Type::MX.0;
-const IN: u16 = Class::IN.0;
 const FLAGS: u16 = Header::QR | Header::RD | Header::RA;
 
 /// The response in the octets (RFC 1035, 4.1).
 fn response<'a>(octets: &'a mut [u8], zone: Name<'_>, ttl: u32, exchange: Name<'_>) -> Result<&'a [u8], Fault> {
     let mut builder = MessageBuilder::new(octets, 0x1234, FLAGS)?;
-    builder.question(zone, MX, IN)?;
+    builder.question(zone, Type::MX, Class::IN)?;
     let data = [&[0, 10], exchange.as_slice()].concat();
-    builder.record(Section::Answer, zone, MX, IN, ttl, &data)?;
+    builder.record(Section::Answer, zone, Type::MX, Class::IN, ttl, &data)?;
     builder.finish()
 }
 
@@ -28,7 +26,7 @@ fn main() -> Result<(), Fault> {
         let (owner, record) = entry?;
         let (ttl, preference) = (record.ttl, message.number_in_data(&record, 0)?);
         let exchange = message.name_in_data(&record, 0, &mut buffer)?;
-        println!("{owner:#} {ttl} {} {preference} {exchange:#}", Type(record.rtype));
+        println!("{owner:#} {ttl} {} {preference} {exchange:#}", record.rtype);
     }
     Ok(())
 }

@@ -1,7 +1,8 @@
 //! Building messages.
 
 use crate::fault::Fault;
-use crate::message::Section;
+use crate::message::{Message, Record, Section};
+use crate::mnemonic::{Class, Type};
 use crate::name::Name;
 use core::marker::PhantomData;
 use dnsnames_sys::*;
@@ -9,19 +10,19 @@ use dnsnames_sys::*;
 /// A message that is built in octets of the caller's (RFC 1035, 4.1): questions, and then records, section by section.
 ///
 /// Each is pushed whole, or not at all: after a fault all is as it was. Names of questions and owners of records are
-/// compressed, and names in data of the types of RFC 1035.
+/// compressed, and names in data of the types of RFC 1035. Types and classes are passed as such, or as numbers.
 ///
 /// ```
-/// use dnsnames::{Message, MessageBuilder, Name, Section};
+/// use dnsnames::{Class, Message, MessageBuilder, Name, Section, Type};
 ///
 /// let mut octets = [0; 512];
 /// let mut builder = MessageBuilder::new(&mut octets, 0x1234, 0x8180)?;
 /// let name = Name::from_slice(b"\x01a\x07example\0")?;
-/// builder.question(name, 1, 1)?;
+/// builder.question(name, Type::A, Class::IN)?;
 /// builder.record(Section::Answer, name, 1, 1, 60, &[192, 0, 2, 1])?;
 /// builder.opt(1232, 0, 0, false, &[])?;
 /// let message = Message::new(builder.finish()?);
-/// assert_eq!(message.records()?.map(|record| record.unwrap().rtype).collect::<Vec<_>>(), [1, 41]);
+/// assert_eq!(message.records()?.map(|record| record.unwrap().rtype).collect::<Vec<_>>(), [Type::A, Type::OPT]);
 /// # Ok::<(), dnsnames::Fault>(())
 /// ```
 #[derive(Debug)]
@@ -62,8 +63,8 @@ impl<'a> MessageBuilder<'a> {
     }
 
     /// Pushes a question. `WrongOrder` where a record was pushed, `NoRoom`, `TooManyEntries`.
-    pub fn question(&mut self, name: Name<'_>, qtype: u16, class: u16) -> Result<(), Fault> {
-        let name = name.as_slice();
+    pub fn question(&mut self, name: Name<'_>, qtype: impl Into<Type>, class: impl Into<Class>) -> Result<(), Fault> {
+        let (name, Type(qtype), Class(class)) = (name.as_slice(), qtype.into(), class.into());
         // SAFETY: as in `read`.
         let status = unsafe { dnsnames_builder_question(&mut self.fields, name.as_ptr(), name.len(), qtype, class) };
         Fault::check(status, None)
@@ -77,8 +78,8 @@ impl<'a> MessageBuilder<'a> {
         &mut self,
         section: Section,
         owner: Name<'_>,
-        rtype: u16,
-        class: u16,
+        rtype: impl Into<Type>,
+        class: impl Into<Class>,
         ttl: u32,
         data: &[u8],
     ) -> Result<(), Fault> {
@@ -87,7 +88,7 @@ impl<'a> MessageBuilder<'a> {
             Section::Authority => DNSNAMES_AUTHORITY,
             Section::Additional => DNSNAMES_ADDITIONAL,
         };
-        let owner = owner.as_slice();
+        let (owner, Type(rtype), Class(class)) = (owner.as_slice(), rtype.into(), class.into());
         // SAFETY: as in `read`.
         let status = unsafe {
             dnsnames_builder_record(
@@ -105,10 +106,24 @@ impl<'a> MessageBuilder<'a> {
         Fault::check(status, None)
     }
 
-    /// Pushes an OPT record into the additional section (RFC 6891, 6.1): how many octets of a message over UDP are taken,
-    /// the upper eight bits of a response code of twelve, the version, the bit DO, and options in wire format. A message
-    /// has one at most. `NoRoom`, `TooManyEntries`.
+    /// Pushes an OPT record into the additional section (RFC 6891, 6.1): how many octets of a message over UDP are
+    /// taken, the upper eight bits of a response code of twelve, the version, the bit DO, and options in wire format,
+    /// as [`EdnsOption::write_all`](crate::EdnsOption::write_all) writes them. A message has one at most. `ShortInput`
+    /// where the octets end inside an option, `NoRoom`, `TooManyEntries`.
+    ///
+    /// ```
+    /// use dnsnames::{EdnsOption, Fault, MessageBuilder};
+    ///
+    /// let (mut octets, mut room) = ([0; 512], [0; 32]);
+    /// let mut builder = MessageBuilder::new(&mut octets, 0x1234, 0x100)?;
+    /// let options = EdnsOption::write_all(&[EdnsOption { code: 10, data: b"8 octets" }], &mut room)?;
+    /// assert_eq!(builder.opt(1232, 0, 0, false, &options[1..]), Err(Fault::ShortInput));
+    /// builder.opt(1232, 0, 0, false, options)?;
+    /// assert_eq!(&builder.finish()?[21..], b"\0\x0c\0\x0a\0\x088 octets");
+    /// # Ok::<(), Fault>(())
+    /// ```
     pub fn opt(&mut self, size: u16, rcode_ext: u8, version: u8, dnssec_ok: bool, options: &[u8]) -> Result<(), Fault> {
+        check_options(options)?;
         // SAFETY: as in `read`.
         let status = unsafe {
             dnsnames_builder_opt(
@@ -171,4 +186,19 @@ impl<'a> MessageBuilder<'a> {
         // SAFETY: the octets were lent for 'a, and the message has at most as many.
         Ok(unsafe { core::slice::from_raw_parts(self.fields.octets, length) })
     }
+}
+
+/// Refuses options that a reader of their record refuses.
+fn check_options(options: &[u8]) -> Result<(), Fault> {
+    let record = Record {
+        section: Section::Additional,
+        offset: 0,
+        rtype: Type::OPT,
+        class: Class(0),
+        ttl: 0,
+        data_offset: 0,
+        data: options,
+        end: options.len(),
+    };
+    Message::new(options).options_in_data(&record).try_for_each(|option| option.map(|_| ()))
 }

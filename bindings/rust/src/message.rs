@@ -1,7 +1,7 @@
 //! Messages.
 
 use crate::fault::Fault;
-use crate::mnemonic::{Opcode, Rcode};
+use crate::mnemonic::{Class, Opcode, Rcode, Type};
 use crate::name::{read, Name, Read};
 use crate::MAX_POINTERS;
 use core::net::IpAddr;
@@ -57,8 +57,8 @@ impl Header {
 #[derive(Clone, Copy, Debug, PartialEq, Eq)]
 pub struct Question {
     pub offset: usize,
-    pub qtype: u16,
-    pub class: u16,
+    pub qtype: Type,
+    pub class: Class,
     pub end: usize,
 }
 
@@ -76,8 +76,8 @@ pub enum Section {
 pub struct Record<'a> {
     pub section: Section,
     pub offset: usize,
-    pub rtype: u16,
-    pub class: u16,
+    pub rtype: Type,
+    pub class: Class,
     /// In seconds.
     pub ttl: u32,
     pub data_offset: usize,
@@ -88,7 +88,7 @@ pub struct Record<'a> {
 /// The octets of a DNS message (RFC 1035, 4.1). They are read when they are asked for.
 ///
 /// ```
-/// use dnsnames::{Message, MAX_LEN};
+/// use dnsnames::{Message, Type, MAX_LEN};
 ///
 /// let octets = b"\x12\x34\x81\x80\0\x01\0\x01\0\0\0\0\x01a\0\0\x01\0\x01\xc0\x0c\0\x05\0\x01\0\0\0\x3c\0\x02\xc0\x0c";
 /// let message = Message::new(octets);
@@ -96,7 +96,7 @@ pub struct Record<'a> {
 /// for record in message.records()? {
 ///     let record = record?;
 ///     assert_eq!(message.name(record.offset, &mut buffer)?.name.to_string(), "a");
-///     assert_eq!((record.rtype, record.ttl, record.data), (5, 60, &b"\xc0\x0c"[..]));
+///     assert_eq!((record.rtype, record.ttl, record.data), (Type::CNAME, 60, &b"\xc0\x0c"[..]));
 /// }
 /// # Ok::<(), dnsnames::Fault>(())
 /// ```
@@ -191,7 +191,7 @@ impl<'a> Message<'a> {
         // SAFETY: as in `read`.
         let status = unsafe { dnsnames_question(self.octets.as_ptr(), self.octets.len(), offset, &mut found) };
         Fault::check(status, None)?;
-        Ok(Question { offset, qtype: found.r#type, class: found.class_, end: found.end })
+        Ok(Question { offset, qtype: Type(found.r#type), class: Class(found.class_), end: found.end })
     }
 
     /// The record at an offset, of this section: `ShortInput`, `BadLabelType`, `LongName`. The name's pointer isn't
@@ -204,8 +204,8 @@ impl<'a> Message<'a> {
         Ok(Record {
             section,
             offset,
-            rtype: found.r#type,
-            class: found.class_,
+            rtype: Type(found.r#type),
+            class: Class(found.class_),
             ttl: found.ttl,
             data_offset: found.data,
             data: &self.octets[found.data..][..found.data_len],
@@ -237,7 +237,7 @@ impl<'a> Message<'a> {
                 self.octets.len(),
                 record.data_offset,
                 record.data.len(),
-                record.rtype,
+                record.rtype.0,
                 index,
                 buffer.as_mut_ptr(),
                 buffer.len(),
@@ -271,7 +271,7 @@ impl<'a> Message<'a> {
                 self.octets.len(),
                 record.data_offset,
                 record.data.len(),
-                record.rtype,
+                record.rtype.0,
                 index,
                 &mut value,
             )
@@ -291,7 +291,7 @@ impl<'a> Message<'a> {
                 self.octets.len(),
                 record.data_offset,
                 record.data.len(),
-                record.rtype,
+                record.rtype.0,
                 octets.as_mut_ptr(),
                 octets.len(),
                 &mut length,
@@ -323,10 +323,10 @@ impl<'a> Message<'a> {
     pub fn opt(&self, record: &Record<'_>, flags: u16) -> Result<Opt, Fault> {
         let mut found = dnsnames_opt_fields::default();
         // SAFETY: as in `read`.
-        let status = unsafe { dnsnames_opt(record.rtype, record.class, record.ttl, flags, &mut found) };
+        let status = unsafe { dnsnames_opt(record.rtype.0, record.class.0, record.ttl, flags, &mut found) };
         Fault::check(status, None)?;
         let dnsnames_opt_fields { size, rcode, version, dnssec_ok } = found;
-        Ok(Opt { size, rcode, version, dnssec_ok: dnssec_ok != 0 })
+        Ok(Opt { size, rcode: Rcode(rcode), version, dnssec_ok: dnssec_ok != 0 })
     }
 
     /// The options of an OPT record of this message, one after another. Its fault ends them: `NoField` where the type is
@@ -371,7 +371,7 @@ pub struct Opt {
     /// How many octets its sender takes in a message over UDP, at least 512.
     pub size: u16,
     /// The response code of twelve bits.
-    pub rcode: u16,
+    pub rcode: Rcode,
     /// The version of EDNS.
     pub version: u8,
     /// The bit DO.
@@ -399,7 +399,7 @@ impl<'a> Iterator for Strings<'a> {
                 octets.len(),
                 self.record.data_offset,
                 self.record.data.len(),
-                self.record.rtype,
+                self.record.rtype.0,
                 &mut passed,
                 &mut string,
                 &mut len,
@@ -423,6 +423,27 @@ pub struct EdnsOption<'a> {
     pub data: &'a [u8],
 }
 
+impl EdnsOption<'_> {
+    /// Writes options into a buffer in wire format, for [`MessageBuilder::opt`](crate::MessageBuilder::opt): of each
+    /// option its code and its length, of 16 bits each, and its data.
+    ///
+    /// `NoRoom` has how many octets are needed. It has no number where an option has more than 65,535 octets: no
+    /// message has room for it.
+    pub fn write_all<'b>(options: &[EdnsOption<'_>], buffer: &'b mut [u8]) -> Result<&'b [u8], Fault> {
+        let needed = options.iter().fold(0_usize, |sum, option| sum.saturating_add(4 + option.data.len()));
+        let mut written = 0;
+        for EdnsOption { code, data } in options {
+            let size = u16::try_from(data.len()).map_err(|_| Fault::NoRoom(None))?;
+            let room = buffer[written..].get_mut(..4 + data.len()).ok_or(Fault::NoRoom(Some(needed)))?;
+            room[..2].copy_from_slice(&code.to_be_bytes());
+            room[2..4].copy_from_slice(&size.to_be_bytes());
+            room[4..].copy_from_slice(data);
+            written += room.len();
+        }
+        Ok(&buffer[..written])
+    }
+}
+
 /// The options of an OPT record.
 #[derive(Clone, Debug)]
 pub struct Options<'a> {
@@ -444,7 +465,7 @@ impl<'a> Iterator for Options<'a> {
                 octets.len(),
                 self.record.data_offset,
                 self.record.data.len(),
-                self.record.rtype,
+                self.record.rtype.0,
                 &mut passed,
                 &mut code,
                 &mut option,

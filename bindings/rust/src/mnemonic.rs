@@ -41,6 +41,18 @@ macro_rules! number {
             }
         }
 
+        impl From<u16> for $name {
+            fn from(number: u16) -> $name {
+                $name(number)
+            }
+        }
+
+        impl From<$name> for u16 {
+            fn from(number: $name) -> u16 {
+                number.0
+            }
+        }
+
         /// `NoMnemonic` where the text names none.
         impl FromStr for $name {
             type Err = Fault;

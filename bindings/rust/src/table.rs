@@ -2,6 +2,7 @@
 
 use crate::fault::Fault;
 use crate::message::{Header, Message, Question, Record, Section};
+use crate::mnemonic::{Class, Type};
 use crate::name::Name;
 use crate::MAX_POINTERS;
 use core::ops::Range;
@@ -67,7 +68,7 @@ impl<'a> Message<'a> {
     /// What a sender can make it cost is bounded by the room: one entry more than fits is read at most.
     ///
     /// ```
-    /// use dnsnames::{Message, Row, MAX_LEN};
+    /// use dnsnames::{Message, Row, Type, MAX_LEN};
     ///
     /// let octets = b"\x12\x34\x81\x80\0\x01\0\x01\0\0\0\0\x01a\0\0\x01\0\x01\xc0\x0c\0\x05\0\x01\0\0\0\x3c\0\x02\xc0\x0c";
     /// let message = Message::new(octets);
@@ -75,11 +76,11 @@ impl<'a> Message<'a> {
     /// let table = message.table(&mut rows, &mut names);
     /// for entry in table.questions() {
     ///     let (name, question) = entry?;
-    ///     assert_eq!((name.to_string().as_str(), question.qtype), ("a", 1));
+    ///     assert_eq!((name.to_string().as_str(), question.qtype), ("a", Type::A));
     /// }
     /// for entry in table.records() {
     ///     let (owner, record) = entry?;
-    ///     assert_eq!((owner.to_string().as_str(), record.rtype, record.ttl), ("a", 5, 60));
+    ///     assert_eq!((owner.to_string().as_str(), record.rtype, record.ttl), ("a", Type::CNAME, 60));
     /// }
     /// # Ok::<(), dnsnames::Fault>(())
     /// ```
@@ -144,8 +145,8 @@ impl<'a, 'b> Table<'a, 'b> {
         let row = &self.rows[index];
         Question {
             offset: self.offset(index),
-            qtype: row.number(DNSNAMES_ROW_TYPE),
-            class: row.number(DNSNAMES_ROW_CLASS),
+            qtype: Type(row.number(DNSNAMES_ROW_TYPE)),
+            class: Class(row.number(DNSNAMES_ROW_CLASS)),
             end: row.end(),
         }
     }
@@ -161,8 +162,8 @@ impl<'a, 'b> Table<'a, 'b> {
                 _ => Section::Answer,
             },
             offset: self.offset(index),
-            rtype: row.number(DNSNAMES_ROW_TYPE),
-            class: row.number(DNSNAMES_ROW_CLASS),
+            rtype: Type(row.number(DNSNAMES_ROW_TYPE)),
+            class: Class(row.number(DNSNAMES_ROW_CLASS)),
             ttl: row.0[DNSNAMES_ROW_TTL],
             data_offset,
             data: &self.message.as_slice()[data_offset..][..row.size(DNSNAMES_ROW_DATA_LEN)],

@@ -153,9 +153,10 @@ fn entries() {
     let header = Header { id: 0x1234, flags: 0x8180, questions: 1, answers: 2, authority: 0, additional: 1 };
     assert_eq!(message.header(), Ok(header));
     let questions: Vec<_> = message.questions().unwrap().collect();
-    assert_eq!(questions, [Ok(Question { offset: 12, qtype: 1, class: 1, end: 33 })]);
+    assert_eq!(questions, [Ok(Question { offset: 12, qtype: Type::A, class: Class::IN, end: 33 })]);
     let records: Vec<Record> = message.records().unwrap().map(Result::unwrap).collect();
-    assert_eq!(records.iter().map(|record| record.rtype).collect::<Vec<_>>(), [5, 1, 41]);
+    assert_eq!(records.iter().map(|record| record.rtype).collect::<Vec<_>>(), [Type::CNAME, Type::A, Type::OPT]);
+    assert_eq!((records[0].class, records[2].class), (Class::IN, Class(4096)));
     assert_eq!((records[0].ttl, records[1].data, records[2].section), (3600, &[192, 0, 2, 1][..], Section::Additional));
     let mut buffer = [0; MAX_LEN];
     assert_eq!(message.name(records[0].data_offset, &mut buffer).unwrap().name.to_string(), "host.example.com");
@@ -325,6 +326,72 @@ fn built() {
     assert!(matches!(MessageBuilder::new(&mut [0; 11], 0, 0), Err(Fault::NoRoom(Some(12)))));
 }
 
+/// Types and classes are taken as such, as numbers, and as literals without a type.
+#[test]
+fn types_and_classes() {
+    let (mut octets, name, number) = ([0; 128], Name::ROOT, 15_u16);
+    let mut builder = MessageBuilder::new(&mut octets, 7, 0).unwrap();
+    builder.question(name, Type::MX, Class::CH).unwrap();
+    builder.question(name, number, 3_u16).unwrap();
+    builder.question(name, 15, 3).unwrap();
+    builder.record(Section::Answer, name, Type::MX, Class::CH, 0, b"").unwrap();
+    builder.record(Section::Answer, name, 15, 3, 0, b"").unwrap();
+    let message = Message::new(builder.finish().unwrap());
+    let questions: Vec<_> = message.questions().unwrap().map(|it| it.map(|it| (it.qtype, it.class))).collect();
+    assert_eq!(questions, [Ok((Type::MX, Class::CH)); 3]);
+    let records: Vec<_> = message.records().unwrap().map(|it| it.map(|it| (it.rtype, it.class))).collect();
+    assert_eq!(records, [Ok((Type::MX, Class::CH)); 2]);
+    // Numbers become types and classes, and the other way around.
+    assert_eq!((Type::from(15), Class::from(3), u16::from(Type::MX)), (Type::MX, Class::CH, 15));
+    assert_eq!((Opcode::from(5), Rcode::from(3), u16::from(Rcode::REFUSED)), (Opcode::UPDATE, Rcode::NXDOMAIN, 5));
+    assert!(matches!(Type::from(28), Type::AAAA));
+}
+
+/// The data of the OPT record that a builder pushes with these options, or why it doesn't.
+fn opt_of(options: &[u8]) -> Result<Vec<u8>, Fault> {
+    let mut octets = [0; 512];
+    let mut builder = MessageBuilder::new(&mut octets, 7, 0)?;
+    let len = builder.len();
+    if let Err(fault) = builder.opt(1232, 0, 0, false, options) {
+        assert_eq!(builder.len(), len);
+        return Err(fault);
+    }
+    let message = Message::new(builder.finish()?);
+    let record = record_of(message);
+    message.options_in_data(&record).try_for_each(|option| option.map(|_| ()))?;
+    Ok(record.data.to_vec())
+}
+
+#[test]
+fn options() {
+    let long = [7; 300];
+    let cookie = EdnsOption { code: 10, data: b"8 octets" };
+    let all = [cookie, EdnsOption { code: 0xffff, data: b"" }, EdnsOption { code: 0, data: &long }];
+    let mut room = [1; 320];
+    assert_eq!(EdnsOption::write_all(&[cookie], &mut room), Ok(&b"\0\x0a\0\x088 octets"[..]));
+    assert_eq!(EdnsOption::write_all(&[], &mut []), Ok(&b""[..]));
+    let written = EdnsOption::write_all(&all, &mut room).unwrap();
+    assert_eq!(written.len(), 12 + 4 + 304);
+    // What is written is read.
+    let octets = of_data(41, 1232, 0, written);
+    let message = Message::new(&octets);
+    assert!(message.options_in_data(&record_of(message)).eq(all.map(Ok)));
+    assert_eq!(opt_of(written), Ok(written.to_vec()));
+    for end in 0..written.len() {
+        let wanted = if [0, 12, 16].contains(&end) { Ok(written[..end].to_vec()) } else { Err(Fault::ShortInput) };
+        assert_eq!(opt_of(&written[..end]), wanted);
+    }
+    for capacity in 0..320 {
+        assert_eq!(EdnsOption::write_all(&all, &mut vec![0; capacity]), Err(Fault::NoRoom(Some(320))));
+    }
+    let (longest, longer) = (vec![0; 65535], vec![0; 65536]);
+    let mut room = vec![0; 70000];
+    let written = EdnsOption::write_all(&[EdnsOption { code: 1, data: &longest }], &mut room).unwrap();
+    assert_eq!((written.len(), opt_of(written)), (65539, Err(Fault::NoRoom(None))));
+    let longer = EdnsOption { code: 1, data: &longer };
+    assert_eq!(EdnsOption::write_all(&[cookie, longer], &mut room), Err(Fault::NoRoom(None)));
+}
+
 #[test]
 fn built_data() {
     let data_of = |rtype: u16, data: &[u8]| {
@@ -372,7 +439,7 @@ fn numbers_in_data() {
     let message = Message::new(&srv);
     let record = record_of(message);
     assert_eq!([0, 1, 2].map(|index| message.number_in_data(&record, index).unwrap()), [1, 65534, 53]);
-    assert_eq!(message.number_in_data(&Record { rtype: 12, ..record }, 0), Err(Fault::NoField));
+    assert_eq!(message.number_in_data(&Record { rtype: Type::PTR, ..record }, 0), Err(Fault::NoField));
 }
 
 #[test]
@@ -381,11 +448,11 @@ fn addresses_in_data() {
     let message = Message::new(&octets);
     let record = record_of(message);
     assert_eq!(message.address_in_data(&record), Ok("2001:db8::1".parse().unwrap()));
-    assert_eq!(message.address_in_data(&Record { rtype: 1, ..record }), Err(Fault::TrailingData));
-    assert_eq!(message.address_in_data(&Record { rtype: 2, ..record }), Err(Fault::NoField));
+    assert_eq!(message.address_in_data(&Record { rtype: Type::A, ..record }), Err(Fault::TrailingData));
+    assert_eq!(message.address_in_data(&Record { rtype: Type::NS, ..record }), Err(Fault::NoField));
     let short = Record { data: &record.data[..15], ..record };
     assert_eq!(message.address_in_data(&short), Err(Fault::ShortInput));
-    let four = Record { rtype: 1, data: &record.data[..4], ..record };
+    let four = Record { rtype: Type::A, data: &record.data[..4], ..record };
     assert_eq!(message.address_in_data(&four), Ok("32.1.13.184".parse().unwrap()));
 }
 
@@ -405,7 +472,7 @@ fn strings_and_options() {
     let message = Message::new(&octets);
     let record = record_of(message);
     let flags = message.header().unwrap().flags;
-    assert_eq!(message.opt(&record, flags), Ok(Opt { size: 1232, rcode: 19, version: 2, dnssec_ok: true }));
+    assert_eq!(message.opt(&record, flags), Ok(Opt { size: 1232, rcode: Rcode(19), version: 2, dnssec_ok: true }));
     let (first, last) = (EdnsOption { code: 10, data: b"xy" }, EdnsOption { code: 65001, data: b"" });
     assert!(message.options_in_data(&record).eq([Ok(first), Ok(last)]));
     let cut = Record { data: &record.data[..9], ..record };
