@@ -10,6 +10,8 @@ pub mod Digits
 pub mod Holding
 pub mod Gathering
 pub mod Plainly
+pub mod Moving
+pub mod Standing
 pub mod Marking
 pub mod Taking
 pub mod Returning

@@ -2,7 +2,7 @@
 use Rattle.std.specs.Prelude.{◌≡◌, ℕ, ◌<◌, ◌≤◌, List, length, Ok}
 use Rattle.std.specs.List.{AllByRecursion}
 use Rattle.domain_descriptor.specs.declared.kind.FieldKind.{FieldKind}
-use Rattle.domain_rdata_text.specs.Texts.{data_text, text_octets}
+use Rattle.domain_rdata_text.specs.Texts.{data_text, text_octets, IsPlain}
 use Rattle.domain_rdata_text.specs.Values.{Val, vals_octets, ValuesAt}
 
 -- all are octets
@@ -14,3 +14,7 @@ abbrev pub AreReadBack : List FieldKind → List ℕ → ℕ → List Val → �
 AreReadBack kinds m p vs e =
     AreOctets m → ValuesAt kinds m p vs e → length (vals_octets vs) ≤ 65535
     → text_octets kinds (data_text vs) ≡ Ok (vals_octets vs)
+
+-- What the fields of data hold has octets that are data with these fields, and no name in it is compressed.
+abbrev pub ArePlain : List FieldKind → List ℕ → ℕ → List Val → ℕ → Type 0
+ArePlain kinds m p vs e = AreOctets m → p ≤ length m → ValuesAt kinds m p vs e → IsPlain kinds (vals_octets vs)
