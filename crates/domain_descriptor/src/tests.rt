@@ -50,29 +50,6 @@ fn mail_exchange(rt: HostRuntime) {
     assert!(rt; !compresses_names(33));
 }
 
-/// How many fields of data of class IN there are, and where the last ends.
-fn count_of(rtype: u16, octets: &[u8]) -> (usize, usize) {
-    let mut count = 0usize;
-    let mut end = 0;
-    let Ok(data) = Rdata::parse(rtype, 1, octets, 0) else {
-        return (count, end);
-    };
-    for field in data.fields() {
-        count = count.saturating_add(1);
-        end = field.end();
-    }
-    (count, end)
-}
-
-/// Each field once: two names and five numbers (RFC 1035, 3.3.13), and one of octets.
-#[test]
-fn each_field_once(rt: HostRuntime) {
-    let zone =
-        b"\x01a\x00\x01b\x00\x00\x00\x00\x01\x00\x00\x00\x02\x00\x00\x00\x03\x00\x00\x00\x04\x00\x00\x00\x05";
-    assert_eq!(rt; count_of(6, zone), (7, 26));
-    assert_eq!(rt; count_of(65280, b""), (1, 0));
-}
-
 /// The number that the first field of data of class IN is.
 fn number_of(rtype: u16, octets: &[u8]) -> Option<u64> {
     let Ok(data) = Rdata::parse(rtype, 1, octets, 0) else {
