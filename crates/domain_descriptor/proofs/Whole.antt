@@ -1,5 +1,5 @@
 -- Data that is whole has each of its fields.
-use Rattle.std.proofs.Common.{◌≡◌, ◌∙◌, ℕ, zero, suc, ◌<◌, ◌≤◌, ◌-◌, List, [], ◌∷◌, length, take, get_or, inl, inr, subst, arith}
+use Rattle.std.proofs.Common.{◌≡◌, ◌∙◌, ℕ, zero, suc, ◌<◌, ◌≤◌, ◌-◌, List, [], ◌∷◌, length, take, get_or, inl, inr, sym, ap, subst, arith}
 use Rattle.std.proofs.lemmas.List.{take_all}
 use Rattle.domain_reading.proofs.Encodings.{front_inside}
 use Rattle.domain_reading.proofs.NameOrFault.{names_or_fault}
@@ -96,3 +96,21 @@ fault_here m o p q r same is none =
 
 pub no_name_fault : (kind : FieldKind) (m : List ℕ) (p : ℕ) → (kind ≡ Name → (f : NameFault) → NameFaultAt 255 m p f → ⊥) → kind ≡ Name → (f : NameFault) × NameFaultAt 255 m p f → ⊥
 no_name_fault kind m p named is fault = named is fault.0 fault.1
+
+-- there is the first of fields that are left
+pub no_first_fault : (kinds : List FieldKind) (kind : FieldKind) (others : List FieldKind) (m : List ℕ) (p : ℕ) (why : DataFault) → kinds ≡ kind ∷ others → ((w : DataFault) → AreNoData kinds m p w → ⊥) → FieldFault kind m p why → ⊥
+no_first_fault kinds kind others m p why first whole fault = whole why (subst (λ ks. AreNoData ks m p why) (sym first) (inl (inl fault)))
+
+-- and after it there are the others
+after_first : (kind : FieldKind) (others : List FieldKind) (m : List ℕ) (p e : ℕ) (why : DataFault) → ((w : DataFault) → AreNoData (kind ∷ others) m p w → ⊥) → FieldAt kind m p e → AreNoData others m e why → ⊥
+after_first kind others m p e why whole at (inl fault) = whole why (inl (inr (e, at, fault)))
+after_first kind others m p e why whole at (inr (is, (q, rest, less))) = whole why (inr (is, (q, (e, at, rest), less)))
+
+pub others_whole : (kinds : List FieldKind) (kind : FieldKind) (others : List FieldKind) (m : List ℕ) (p e : ℕ) → kinds ≡ kind ∷ others → ((w : DataFault) → AreNoData kinds m p w → ⊥) → FieldAt kind m p e → (why : DataFault) → AreNoData others m e why → ⊥
+others_whole kinds kind others m p e first whole at why fault =
+    let all : (w : DataFault) → AreNoData (kind ∷ others) m p w → ⊥ = λ w no. whole w (subst (λ ks. AreNoData ks m p w) (sym first) no) in
+    after_first kind others m p e why all at fault
+
+-- what is left is one field less
+pub one_less : (kinds : List FieldKind) (kind : FieldKind) (others : List FieldKind) → kinds ≡ kind ∷ others → length others < length kinds
+one_less kinds kind others first = omega (arith, ap (λ (ks : List FieldKind). length ks) first)

@@ -30,7 +30,7 @@ pub struct Rdata<'m> {
 }
 
 impl<'m> Rdata<'m> {
-    ghost use Rattle.domain_descriptor.specs.Rdatas.{rdata_type, rdata_class, rdata_kinds, IsRdata, IsField};
+    ghost use Rattle.domain_descriptor.specs.Rdatas.{rdata_type, rdata_class, rdata_kinds, rdata_message, rdata_begin, IsRdata, IsField, HasFieldsLeft};
 
     /// The data of this type in this class that the octets from `begin` to the end of the message are. Else the first error
     /// from the left.
@@ -79,6 +79,17 @@ impl<'m> Rdata<'m> {
         self.kinds
     }
 
+    /// The fields, in their order.
+    pub fn fields(&self) -> FieldIter<'m>
+        ensures { HasFieldsLeft (rdata_kinds self.now) (rdata_message self.now) (rdata_begin self.now) result }
+    {
+        FieldIter {
+            message: self.message,
+            kinds: self.kinds,
+            at: self.begin,
+        }
+    }
+
     /// The field with so many fields before it. `None` exactly where there are no more.
     #[tactic(auto, using(crate::proofs::Whole::no_fault_before, crate::proofs::Whole::no_fault_at, crate::proofs::Whole::field_inside))]
     pub fn field(&self, index: usize) -> Option<Field<'m>>
@@ -95,6 +106,46 @@ impl<'m> Rdata<'m> {
         let Ok(end) = field_end(kind, self.message, begin) else {
             unreachable!();
         };
+        Some(Field {
+            kind,
+            message: self.message,
+            begin,
+            end,
+        })
+    }
+}
+
+/// The fields of record data, in their order. After the last one it stays at `None`.
+#[derive(Clone, Copy, Debug)]
+pub struct FieldIter<'m> {
+    message: &'m [u8],
+    kinds: &'static [FieldKind],
+    at: usize,
+    ghost inside: { at ≤ length message.now },
+    ghost whole: { (why : DataFault) → AreNoData kinds.now message.now at why → ⊥ },
+}
+
+/// Each field, the first one first.
+impl<'m> Iterator for FieldIter<'m> {
+    ghost use Rattle.std.specs.Iterator.{item_count};
+    ghost use Rattle.domain_descriptor.specs.Rdatas.{kinds_left, GivesField};
+
+    type Item = Field<'m>;
+
+    ghost next_gives = { GivesField };
+
+    ghost remaining = { item_count kinds_left };
+
+    #[tactic(auto, using(crate::proofs::Whole::no_first_fault, crate::proofs::Whole::field_inside))]
+    fn next(&mut self) -> Option<Field<'m>> {
+        let (kind, others) = self.kinds.split_first()?;
+        let kind = *kind;
+        let begin = self.at;
+        let Ok(end) = field_end(kind, self.message, begin) else {
+            unreachable!();
+        };
+        self.kinds = others;
+        self.at = end;
         Some(Field {
             kind,
             message: self.message,

@@ -1,0 +1,17 @@
+pub mod Refusing
+pub mod LabelLists
+pub mod Octets
+pub mod Strung
+pub mod Tables
+pub mod Splitting
+pub mod Reading
+pub mod Dotting
+pub mod Digits
+pub mod Holding
+pub mod Gathering
+pub mod Plainly
+pub mod Moving
+pub mod Standing
+pub mod Marking
+pub mod Taking
+pub mod Returning

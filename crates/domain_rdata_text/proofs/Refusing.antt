@@ -1,0 +1,36 @@
+-- What is refused.
+use Rattle.std.proofs.Common.{◌≡◌, ◌∙◌, ℕ, List, Option, None, Result, Err, sym, subst, ap}
+use Rattle.domain_rdata_text.specs.declared.error.Fault.{Fault}
+use Rattle.domain_rdata_text.specs.declared.error.ReadError.{ReadError}
+use Rattle.domain_rdata_text.specs.declared.error.ReadError.TheVariants.{Refused, Memory}
+use Rattle.domain_rdata_text.specs.declared.error.Reason.{Reason}
+use Rattle.domain_rdata_text.specs.Outcome.{fault}
+use Rattle.domain_rdata_text.specs.Texts.{with_octets, one}
+use Rattle.domain_rdata_text.specs.Values.{Val}
+use Rattle.domain_rdata_text.specs.Words.{WordAt}
+
+-- The only fault of a call is that of what couldn't be read.
+pub refused_so : {A : Type 0} (r : Result A Fault) (P : Type 0) (e : ReadError) (ref : Fault)
+    → ((g : Fault) → e ≡ Refused g → g ≡ ref) → (e ≡ Refused ref → P) → (P → r ≡ Err ref)
+    → (f : Fault) → e ≡ Refused f → r ≡ Err f
+refused_so r P e ref given err to f h =
+    let same = given f h in
+    let bad = err (subst (λ x. e ≡ Refused x) same h) in
+    to bad ∙ ap Err (sym same)
+
+-- of a field of one word
+pub one_refused : {A : Type 0} (g : A → Val) (os : List ℕ) (why : Reason) (w : WordAt) (ws : List WordAt) (o : Option A) (e : ReadError) (ref : Fault)
+    → ref ≡ fault w.begin why → ((f : Fault) → e ≡ Refused f → f ≡ ref) → (e ≡ Refused ref → o ≡ None)
+    → (f : Fault) → e ≡ Refused f → one why w ws (with_octets g os o) ≡ Err f
+one_refused {A} g os why w ws o e ref is given err =
+    refused_so (one why w ws (with_octets g os o)) (o ≡ None) e ref given err
+    (λ none. ap (λ (x : Option A). one why w ws (with_octets g os x)) none ∙ ap Err (sym is))
+
+fault_in : Fault → ReadError → Fault
+fault_in d (Refused f) = f
+fault_in d Memory = d
+
+-- an error has one fault
+pub same_refusal : (e : ReadError) (f g : Fault) → e ≡ Refused g → e ≡ Refused f → f ≡ g
+unfolding fault_in
+same_refusal e f g a b = ap (fault_in g) (sym b ∙ a)

@@ -1,0 +1,10 @@
+use Rattle.std.proofs.Common.{◌≡◌, [], length}
+use Rattle.domain_rdata_text.specs.Addresses.{pieces_from}
+use Rattle.domain_rdata_text.specs.Words.{lists}
+use Rattle.domain_rdata_text.proofs.address.pieces_of.Given as goal
+
+abbrev pub invariant-octet : goal.invariant-octet
+invariant-octet l = pieces_from [] [] l.fn.word ≡ pieces_from (lists l.pieces.items) l.piece.items l.rest
+
+abbrev pub decreases-octet : goal.decreases-octet
+decreases-octet l = length l.rest

@@ -1,0 +1,10 @@
+use Rattle.std.proofs.Common.{◌≡◌, ◌++◌, length}
+use Rattle.std.specs.List.{flat_map}
+use Rattle.domain_rdata_text.specs.Names.{label_octet}
+use Rattle.domain_rdata_text.proofs.name.append_label.Given as goal
+
+abbrev pub invariant-octet : goal.invariant-octet
+invariant-octet l = l.initial.text.items ++ flat_map label_octet l.fn.label ≡ l.text.items ++ flat_map label_octet l.rest
+
+abbrev pub decreases-octet : goal.decreases-octet
+decreases-octet l = length l.rest

@@ -1,0 +1,34 @@
+-- How fields are written as text.
+use Rattle.domain_descriptor.specs.declared.kind.FieldKind.{FieldKind}
+use Rattle.domain_descriptor.specs.declared.kind.FieldKind.TheVariants as kinds
+use Rattle.domain_rdata_text.specs.declared.form.TextForm.{TextForm}
+use Rattle.domain_rdata_text.specs.declared.form.TextForm.TheVariants as forms
+
+-- how a field of a kind is written
+abbrev pub text_form : FieldKind → TextForm
+text_form kinds.Number8 = forms.Number8
+text_form kinds.Number16 = forms.Number16
+text_form kinds.Number32 = forms.Number32
+text_form kinds.Number48 = forms.Generic
+text_form kinds.Number64 = forms.Generic
+text_form kinds.Ttl = forms.Number32
+text_form kinds.Serial = forms.Number32
+text_form kinds.Time = forms.Generic
+text_form kinds.Rtype = forms.Generic
+text_form kinds.Ipv4 = forms.Ipv4
+text_form kinds.Ipv6 = forms.Generic
+text_form kinds.Name = forms.Name
+text_form kinds.CharString = forms.CharString
+text_form kinds.OptionalString = forms.Generic
+text_form kinds.CharStrings = forms.CharStrings
+text_form kinds.Tag = forms.Tag
+text_form kinds.QuotedText = forms.QuotedText
+text_form kinds.CountedBase16 = forms.Generic
+text_form kinds.CountedBase32 = forms.Generic
+text_form kinds.CountedBase64 = forms.Generic
+text_form kinds.TypeBitmaps = forms.Generic
+text_form kinds.OptionalTypeBitmaps = forms.Generic
+text_form kinds.SvcParams = forms.Generic
+text_form kinds.Base16 = forms.Base16
+text_form kinds.Base64 = forms.Generic
+text_form kinds.Octets = forms.Generic

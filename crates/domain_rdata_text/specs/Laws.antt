@@ -1,0 +1,20 @@
+-- What is shown is read back.
+use Rattle.std.specs.Prelude.{◌≡◌, ℕ, ◌<◌, ◌≤◌, List, length, Ok}
+use Rattle.std.specs.List.{AllByRecursion}
+use Rattle.domain_descriptor.specs.declared.kind.FieldKind.{FieldKind}
+use Rattle.domain_rdata_text.specs.Texts.{data_text, text_octets, IsPlain}
+use Rattle.domain_rdata_text.specs.Values.{Val, vals_octets, ValuesAt}
+
+-- all are octets
+abbrev pub AreOctets : List ℕ → Type 0
+AreOctets s = AllByRecursion (λ c. c < 256) s
+
+-- What the fields of data hold, of at most 65,535 octets, is written as a text that says the same octets.
+abbrev pub AreReadBack : List FieldKind → List ℕ → ℕ → List Val → ℕ → Type 0
+AreReadBack kinds m p vs e =
+    AreOctets m → ValuesAt kinds m p vs e → length (vals_octets vs) ≤ 65535
+    → text_octets kinds (data_text vs) ≡ Ok (vals_octets vs)
+
+-- What the fields of data hold has octets that are data with these fields, and no name in it is compressed.
+abbrev pub ArePlain : List FieldKind → List ℕ → ℕ → List Val → ℕ → Type 0
+ArePlain kinds m p vs e = AreOctets m → p ≤ length m → ValuesAt kinds m p vs e → IsPlain kinds (vals_octets vs)

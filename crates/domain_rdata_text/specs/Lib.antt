@@ -1,0 +1,13 @@
+pub mod Outcome
+pub mod Words
+pub mod Symbols
+pub mod Names
+pub mod Strings
+pub mod Numbers
+pub mod Addresses
+pub mod Hex
+pub mod Forms
+pub mod Values
+pub mod Texts
+pub mod Places
+pub mod Laws

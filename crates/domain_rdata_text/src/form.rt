@@ -1,0 +1,66 @@
+//! How fields are written as text.
+ghost use Rattle.std.specs.Prelude.{◌≡◌};
+ghost use Rattle.domain_rdata_text.specs.Forms.{text_form};
+
+use domain_descriptor::FieldKind;
+
+/// How a field is written as text. Data with a field that is `Generic` is written as `\#` and its octets (RFC 3597, 5).
+#[derive(Clone, Copy, Debug, PartialEq, Eq)]
+pub enum TextForm {
+    /// A number of 8 bits in decimal digits.
+    Number8,
+    /// A number of 16 bits in decimal digits.
+    Number16,
+    /// A number of 32 bits in decimal digits.
+    Number32,
+    /// Four numbers with dots between them (RFC 1035, 3.4.1).
+    Ipv4,
+    /// An absolute name, with its final dot.
+    Name,
+    /// A character string between quotes.
+    CharString,
+    /// Character strings, each between quotes.
+    CharStrings,
+    /// Letters and digits (RFC 8659, 4.1).
+    Tag,
+    /// Octets between quotes.
+    QuotedText,
+    /// Octets in hexadecimal digits.
+    Base16,
+    /// No form of its own.
+    Generic,
+}
+
+/// How a field of a kind is written.
+pub fn text_form(kind: FieldKind) -> TextForm
+    ensures { result ≡ text_form kind }
+{
+    match kind {
+        FieldKind::Number8 => TextForm::Number8,
+        FieldKind::Number16 => TextForm::Number16,
+        FieldKind::Number32 => TextForm::Number32,
+        FieldKind::Number48 => TextForm::Generic,
+        FieldKind::Number64 => TextForm::Generic,
+        FieldKind::Ttl => TextForm::Number32,
+        FieldKind::Serial => TextForm::Number32,
+        FieldKind::Time => TextForm::Generic,
+        FieldKind::Rtype => TextForm::Generic,
+        FieldKind::Ipv4 => TextForm::Ipv4,
+        FieldKind::Ipv6 => TextForm::Generic,
+        FieldKind::Name => TextForm::Name,
+        FieldKind::CharString => TextForm::CharString,
+        FieldKind::OptionalString => TextForm::Generic,
+        FieldKind::CharStrings => TextForm::CharStrings,
+        FieldKind::Tag => TextForm::Tag,
+        FieldKind::QuotedText => TextForm::QuotedText,
+        FieldKind::CountedBase16 => TextForm::Generic,
+        FieldKind::CountedBase32 => TextForm::Generic,
+        FieldKind::CountedBase64 => TextForm::Generic,
+        FieldKind::TypeBitmaps => TextForm::Generic,
+        FieldKind::OptionalTypeBitmaps => TextForm::Generic,
+        FieldKind::SvcParams => TextForm::Generic,
+        FieldKind::Base16 => TextForm::Base16,
+        FieldKind::Base64 => TextForm::Generic,
+        FieldKind::Octets => TextForm::Generic,
+    }
+}

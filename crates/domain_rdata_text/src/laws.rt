@@ -1,0 +1,26 @@
+//! What is shown is read back.
+ghost use Rattle.std.specs.Prelude.{ℕ, List};
+ghost use Rattle.domain_descriptor.specs.declared.kind.FieldKind.{FieldKind};
+ghost use Rattle.domain_rdata_text.specs.Laws.{AreReadBack, ArePlain};
+ghost use Rattle.domain_rdata_text.specs.Texts.{IsPlain, IsNotPlain};
+ghost use Rattle.domain_rdata_text.specs.Values.{Val};
+
+/// The call does nothing: its contract is the law. The text of what the fields of data hold, wherever they are in a
+/// message, says the octets of the data.
+pub fn read_back_law()
+    ensures { (kinds : List FieldKind) (m : List ℕ) (p : ℕ) (vs : List Val) (e : ℕ)
+        → AreReadBack kinds m p vs e }
+{}
+
+/// The call does nothing: its contract is the law. No octets are both, data whose names aren't compressed and none. So
+/// [`read`](crate::read) returns such octets after `\#` where there is memory.
+pub fn plain_law()
+    ensures { (kinds : List FieldKind) (os : List ℕ) → IsPlain kinds os → IsNotPlain kinds os → ⊥ }
+{}
+
+/// The call does nothing: its contract is the law. The octets of what the fields of data hold are data with these
+/// fields, and no name in it is compressed.
+pub fn octets_law()
+    ensures { (kinds : List FieldKind) (m : List ℕ) (p : ℕ) (vs : List Val) (e : ℕ)
+        → ArePlain kinds m p vs e }
+{}
