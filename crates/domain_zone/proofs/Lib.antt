@@ -1,0 +1,4 @@
+pub mod Ascending
+pub mod Good
+pub mod Had
+pub mod Leaves
