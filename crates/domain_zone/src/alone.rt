@@ -16,7 +16,7 @@ use domain_zone_laws::zone::{Rrset, ZoneRecords};
 use std::cmp::Ordering;
 
 /// Whether a type is one of data that a zone can have.
-fn is_data_type(rtype: u16) -> bool
+pub(crate) fn is_data_type(rtype: u16) -> bool
     ensures { IsTrue result ↔ (IsDataType rtype × (rtype ≢ NSEC3)) }
 {
     if rtype == 0 || rtype == 41 || rtype == 50 {

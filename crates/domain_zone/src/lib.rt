@@ -3,12 +3,16 @@
 
 mod alone;
 mod beside;
+mod building;
 mod checking;
+mod entry;
 mod fault;
 mod kept;
+mod merging;
 mod names;
 pub mod place;
 
+pub use building::{BuildError, InsertError, ZoneBuilder};
 pub use checking::find_fault;
 pub use fault::{RrsetFault, ZoneFault};
 pub use kept::Zone;
