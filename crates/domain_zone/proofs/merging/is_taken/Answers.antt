@@ -1,0 +1,28 @@
+use Rattle.std.proofs.Common.{◌≡◌, ◌<◌, length, get_or, ap, ◌∙◌, sym, subst}
+use Rattle.std.proofs.lemmas.Bool.{ltb-true}
+use Rattle.std.proofs.lemmas.List.{length-map}
+use Rattle.domain_list.specs.Order.{SameLabels}
+use Rattle.domain_name.specs.Names.{name_labels}
+use Rattle.domain_zone_laws.specs.Views.{rrset}
+use Rattle.domain_zone_laws.specs.Zone.{RRset}
+use Rattle.domain_zone_laws.proofs.Places.{view_at}
+use Rattle.domain_zone.proofs.merging.is_taken.Goals as goal
+
+pub returns : goal.returns
+returns c =
+    let xs = c.args.records.now.sets.items in
+    let name = name_labels c.args.owner.now in
+    let t = c.args.rtype in
+    let i = c.args.at in
+    let s = c.in-Some.set.now in
+    let same = c.deref.ensures.value in
+    let within : i < length xs = subst (λ l. i < length l) same (ltb-true _ _ (sym c.in-Some.ensures.lookup.0)) in
+    let is : s ≡ get_or xs i s = c.in-Some.ensures.lookup.1 ∙ ap (λ l. get_or l i s) same in
+    let view = rrset name_labels in
+    let here = c.is_key.ensures in (
+      λ e. (
+        subst (λ n. i < n) (sym (length-map xs view)) within,
+        λ d. subst (λ (r : RRset). SameLabels r.owner name × (r.rtype ≡ t)) (sym (view_at view xs i s within is d)) (here.0 e),
+      ),
+      λ h. here.1 (subst (λ (r : RRset). SameLabels r.owner name × (r.rtype ≡ t)) (view_at view xs i s within is (view s)) (h.1 (view s))),
+    )

@@ -1,0 +1,6 @@
+pub mod Builders
+pub mod Building
+pub mod Entries
+pub mod Faults
+pub mod Kept
+pub mod Records

@@ -1,0 +1,130 @@
+//! A zone is made of records that are inserted one by one.
+
+use crate::alone::is_data_type;
+use crate::entry::Entry;
+use crate::fault::ZoneFault;
+use crate::kept::Zone;
+use crate::merging::merged;
+use crate::names::Owner;
+use domain_header::Class;
+use std::alloc::Global;
+
+/// Why a record isn't inserted.
+#[derive(Clone, Copy, Debug, PartialEq, Eq)]
+pub enum InsertError {
+    /// Its class isn't that of the zone.
+    OtherClass,
+    /// Its owner isn't at or below the apex.
+    OutOfZone,
+    /// Its type is no type of data, or NSEC3 (RFC 6895, 3.1).
+    NotDataType,
+    /// An allocation failed.
+    Memory,
+}
+
+/// Why no zone is made.
+#[derive(Clone, Copy, Debug, PartialEq, Eq)]
+pub enum BuildError {
+    /// The records are no zone.
+    Fault(ZoneFault),
+    /// An allocation failed.
+    Memory,
+}
+
+/// Records that are to be a zone.
+#[derive(Drop)]
+pub struct ZoneBuilder {
+    class: Class,
+    apex: Owner,
+    entries: Vec<Entry>,
+}
+
+impl ZoneBuilder {
+    ghost use Rattle.std.specs.Prelude.{◌≡◌, [], ◌∷◌, ◌++◌, IfOk, IfErr, OnOk, OnErr};
+    ghost use Rattle.domain_name.specs.Names.{name_labels};
+    ghost use Rattle.domain_zone.specs.Builders.{inserted, builder_apex, builder_class, IsRefused, MakesNoZone};
+    ghost use Rattle.domain_zone.specs.Building.{Inserted, Holds};
+    ghost use Rattle.domain_zone.specs.Kept.{zone_view, zone_class};
+
+    /// A builder of a zone of this class at this apex, without records.
+    pub fn new(alloc: Global, class: Class, apex: Owner) -> ZoneBuilder
+        ensures inserted { inserted result ≡ [] }
+        ensures apex { builder_apex result ≡ name_labels apex }
+        ensures class { builder_class result ≡ class }
+    {
+        ZoneBuilder {
+            class,
+            apex,
+            entries: Vec::new(alloc),
+        }
+    }
+
+    /// Inserts a record. Its data are octets, in which names aren't compressed.
+    ///
+    /// # Errors
+    ///
+    /// The first of these that holds: `OtherClass`, `OutOfZone`, `NotDataType`; `Memory` where an allocation failed.
+    /// The builder is unchanged then.
+    pub fn insert(
+        &mut self,
+        owner: Owner,
+        rtype: u16,
+        class: Class,
+        ttl: u32,
+        octets: Vec<u8>,
+    ) -> Result<(), InsertError>
+        ensures ok { OnOk result (inserted self.new ≡ inserted self.old
+            ++ record { owner = name_labels owner; rtype = rtype; ttl = ttl; octets = octets.items } ∷ []) }
+        ensures err { IfErr result (IsRefused self.old (name_labels owner) rtype class) }
+        ensures unchanged { OnErr result (inserted self.new ≡ inserted self.old) }
+        ensures apex { builder_apex self.new ≡ builder_apex self.old }
+        ensures class { builder_class self.new ≡ builder_class self.old }
+    {
+        if class.to_int() != self.class.to_int() {
+            return Err(InsertError::OtherClass);
+        }
+        if !owner.ends_with(&self.apex) {
+            return Err(InsertError::OutOfZone);
+        }
+        if !is_data_type(rtype) {
+            return Err(InsertError::NotDataType);
+        }
+        let entry = Entry {
+            owner,
+            rtype,
+            ttl,
+            octets,
+        };
+        if self.entries.push(entry).is_err() {
+            return Err(InsertError::Memory);
+        }
+        Ok(())
+    }
+
+    /// The zone of the records that were inserted: those of one owner and one type are an RRset, which has equal data
+    /// once and the lowest TTL of its records (RFC 2181, 5 and 5.2).
+    ///
+    /// # Errors
+    ///
+    /// `Fault` where the records are no zone: the fault that `find_fault` finds in these RRsets, in canonical order.
+    /// `Memory` where an allocation failed.
+    pub fn finish(self, alloc: Global) -> Result<Zone, BuildError>
+        ensures holds { IfOk result (λ zone. Holds (inserted self) (zone_view zone).rrsets) }
+        ensures apex { IfOk result (λ zone. (zone_view zone).apex ≡ builder_apex self) }
+        ensures class { IfOk result (λ zone. zone_class zone ≡ builder_class self) }
+        ensures err { IfErr result (MakesNoZone self) }
+    {
+        let ZoneBuilder {
+            class,
+            apex,
+            entries,
+        } = self;
+        let Ok(records) = merged(alloc, apex, entries) else {
+            return Err(BuildError::Memory);
+        };
+        match Zone::from_records(class, records) {
+            Ok(zone) => Ok(zone),
+            Err(fault) => Err(BuildError::Fault(fault)),
+        }
+    }
+}

@@ -1,0 +1,43 @@
+//! Why RRsets are no zone.
+
+/// Why an RRset can't be in a zone.
+#[derive(Clone, Copy, Debug, PartialEq, Eq)]
+pub enum RrsetFault {
+    /// Its owner isn't at or below the apex (RFC 1034, 4.2.1).
+    OutOfZone,
+    /// Its type is no type of data, or NSEC3 (RFC 6895, 3.1).
+    NotDataType,
+    /// It has no records (RFC 2181, 5).
+    NoRecords,
+    /// The data of its records aren't in ascending order of their octets, or are repeated (RFC 2181, 5; RFC 4034,
+    /// 6.3).
+    DataOrder,
+    /// It is an SOA below the apex, or of more than one record (RFC 1034, 4.2.1; RFC 1035, 5.2).
+    Soa,
+    /// It is a CNAME or DNAME, and not one record whose data are a name (RFC 2181, 10.1; RFC 6672, 2.4).
+    Target,
+    /// It has the name servers or the DNAME of a wildcard below the apex (RFC 4592, 4.2 and 4.4).
+    Wildcard,
+    /// It is beside a CNAME, and its type can't be (RFC 2181, 10.1; RFC 4035, 2.5).
+    BesideCname,
+    /// It is a DNAME, and there are records below its owner (RFC 6672, 2.4).
+    AboveRecords,
+    /// It is a DNAME at a cut (RFC 6672, 2.3).
+    DnameAtCut,
+}
+
+/// Why RRsets are no zone, or aren't in canonical order.
+#[derive(Clone, Copy, Debug, PartialEq, Eq)]
+pub enum ZoneFault {
+    /// The RRsets aren't in the canonical order of their owners and in ascending order of their types, or two have one
+    /// owner and one type (RFC 4034, 6.1; RFC 2181, 5).
+    Order,
+    /// The RRset at this index can't be in the zone.
+    Rrset(usize, RrsetFault),
+    /// The apex owns no SOA (RFC 1034, 4.2.1).
+    NoSoa,
+    /// It owns no name servers (RFC 1034, 4.2.1).
+    NoServers,
+    /// It owns a DS (RFC 4035, 2.4).
+    DsAtApex,
+}

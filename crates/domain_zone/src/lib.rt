@@ -1,0 +1,19 @@
+//! A zone that is kept: records that are known to be a zone, in canonical order.
+#![tactic(auto)]
+
+mod alone;
+mod beside;
+mod building;
+mod checking;
+mod entry;
+mod fault;
+mod kept;
+mod merging;
+mod names;
+pub mod place;
+
+pub use building::{BuildError, InsertError, ZoneBuilder};
+pub use checking::find_fault;
+pub use fault::{RrsetFault, ZoneFault};
+pub use kept::Zone;
+pub use names::Owner;
