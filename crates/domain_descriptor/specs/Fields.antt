@@ -1,5 +1,5 @@
--- Fields of record data in a message. `m` is the message up to the end of the data, p the offset at which a field begins, e
--- the offset after it.
+-- Fields of record data in a message. `m` is the message up to the end of the data, p the offset at which a field
+-- begins, e the offset after it.
 use Rattle.std.specs.Prelude.{◌≡◌, ◌⊎◌, ℕ, ◌+◌, ◌≤◌, ◌<◌, true, List, [], ◌∷◌, length, slice_index, slice_range}
 use Rattle.std.specs.Char.{is_ascii_alphanumeric}
 use Rattle.std.specs.List.{list_all}
@@ -59,8 +59,8 @@ TagFault m p why =
     ((why ≡ faults.ShortInput) × CountedCut m p)
     ⊎ ((why ≡ faults.InvalidTag) × ((e : ℕ) × CountedAt m p e × (IsTag (slice_range m (p + 1) e) → ⊥)))
 
--- A block of a type bitmap: its window, which is `least` or more, how many octets its bitmap has, 1 to 32, and these (RFC
--- 4034, 4.1.2).
+-- A block of a type bitmap: its window, which is `least` or more, how many octets its bitmap has, 1 to 32, and these
+-- (RFC 4034, 4.1.2).
 abbrev pub BlockAt : List ℕ → ℕ → ℕ → ℕ → Type 0
 BlockAt m p least e =
     (p + 2 ≤ length m) × (least ≤ slice_index m p) × (1 ≤ slice_index m (p + 1)) × (slice_index m (p + 1) ≤ 32)
@@ -86,8 +86,8 @@ pub data BlocksFault (m : List ℕ) : ℕ → ℕ → DataFault → Type 0 where
   here : {p least : ℕ} {why : DataFault} → p < length m → BlockFault m p least why → BlocksFault m p least why
   later : {p least e : ℕ} {why : DataFault} → BlockAt m p least e → BlocksFault m e (slice_index m p + 1) why → BlocksFault m p least why
 
--- A service parameter: its key, which is `least` or more, how many octets its value has, both as numbers of 16 bits, and
--- these (RFC 9460, 2.2).
+-- A service parameter: its key, which is `least` or more, how many octets its value has, both as numbers of 16 bits,
+-- and these (RFC 9460, 2.2).
 abbrev pub ParamAt : List ℕ → ℕ → ℕ → ℕ → Type 0
 ParamAt m p least e =
     (p + 4 ≤ length m) × (least ≤ number16 m p) × (e ≡ p + 4 + number16 m (p + 2)) × (e ≤ length m)

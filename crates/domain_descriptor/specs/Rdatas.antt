@@ -78,8 +78,8 @@ pub record HasFieldsLeft (ks : List FieldKind) (m : List ℕ) (p : ℕ) (it : Fi
   pub octets : fields_message it ≡ m
   pub begins : fields_offset it ≡ p
 
--- A call of `next` took this field. It is of the first kind that was left, and begins where the next field was to begin. The
--- other kinds are left, and the field after it begins where it ends.
+-- A call of `next` took this field. It is of the first kind that was left, and begins where the next field was to
+-- begin. The other kinds are left, and the field after it begins where it ends.
 pub record TakesField (old : FieldIter) (it : Field) (new : FieldIter) : Type 0 where
   pub kinds : kinds_left old ≡ field_kind it ∷ kinds_left new
   pub octets : field_message it ≡ fields_message old

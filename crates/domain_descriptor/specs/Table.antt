@@ -153,12 +153,14 @@ fields_of_type rtype =
     else if nat_eq rtype 24 then Some (Rtype ∷ Number8 ∷ Number8 ∷ Ttl ∷ Time ∷ Time ∷ Number16 ∷ Name ∷ Base64 ∷ [])
     else fields_of_middle_type rtype
 
--- Data of this type has its fields in class IN alone: A (RFC 1035, 3.4.1), WKS (3.4.2), PX (RFC 2163, 4), AAAA (RFC 3596,
--- 2.1), SRV (RFC 2782), KX (RFC 2230, 3), APL (RFC 3123, 4), DHCID (RFC 4701, 3), SVCB and HTTPS (RFC 9460, 2.2 and 9).
+-- Data of this type has its fields in class IN alone: A (RFC 1035, 3.4.1), WKS (3.4.2), PX (RFC 2163, 4), AAAA (RFC
+-- 3596, 2.1), SRV (RFC 2782), KX (RFC 2230, 3), APL (RFC 3123, 4), DHCID (RFC 4701, 3), SVCB and HTTPS (RFC 9460, 2.2
+-- and 9).
 abbrev pub is_of_internet : ℕ → Bool
 is_of_internet rtype = list_any (nat_eq rtype) (1 ∷ 11 ∷ 26 ∷ 28 ∷ 33 ∷ 36 ∷ 42 ∷ 49 ∷ 64 ∷ 65 ∷ [])
 
--- The names in data of this type may be compressed (RFC 3597, 4): NS, MD, MF, CNAME, SOA, MB, MG, MR, PTR, MINFO and MX.
+-- The names in data of this type may be compressed (RFC 3597, 4): NS, MD, MF, CNAME, SOA, MB, MG, MR, PTR, MINFO and
+-- MX.
 abbrev pub compresses_names : ℕ → Bool
 compresses_names rtype = list_any (nat_eq rtype) (2 ∷ 3 ∷ 4 ∷ 5 ∷ 6 ∷ 7 ∷ 8 ∷ 9 ∷ 12 ∷ 14 ∷ 15 ∷ [])
 

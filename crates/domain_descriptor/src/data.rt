@@ -18,8 +18,8 @@ pub fn known_fields(rtype: u16, class: u16) -> &'static [FieldKind]
     }
 }
 
-/// Tests that the octets from `begin` to the end of the message are data of this type in this class: its fields one after
-/// another, and no octet more. Else the first error from the left.
+/// Tests that the octets from `begin` to the end of the message are data of this type in this class: its fields one
+/// after another, and no octet more. Else the first error from the left.
 #[tactic(auto, using(crate::proofs::Steps::whole_data, crate::proofs::Steps::too_much, crate::proofs::Steps::lacks_field))]
 pub fn check_data(rtype: u16, class: u16, message: &[u8], begin: usize) -> Result<(), DataFault>
     requires { begin ≤ length message.now }

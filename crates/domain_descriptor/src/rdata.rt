@@ -32,8 +32,8 @@ pub struct Rdata<'m> {
 impl<'m> Rdata<'m> {
     ghost use Rattle.domain_descriptor.specs.Rdatas.{rdata_type, rdata_class, rdata_kinds, rdata_message, rdata_begin, IsRdata, IsField, HasFieldsLeft};
 
-    /// The data of this type in this class that the octets from `begin` to the end of the message are. Else the first error
-    /// from the left.
+    /// The data of this type in this class that the octets from `begin` to the end of the message are. Else the first
+    /// error from the left.
     pub fn parse(
         rtype: u16,
         class: u16,
@@ -204,8 +204,8 @@ impl<'m> Field<'m> {
         &self.message[self.begin..self.end]
     }
 
-    /// The number that it is: of 8 to 64 bits, a time to live, a serial number, a time or a type. `None` exactly where it is
-    /// none.
+    /// The number that it is: of 8 to 64 bits, a time to live, a serial number, a time or a type. `None` exactly where
+    /// it is none.
     pub fn number(&self) -> Option<u64>
         ensures { result ≡ number_in (field_kind self.now) (field_message self.now) (field_begin self.now) }
     {

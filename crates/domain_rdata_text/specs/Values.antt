@@ -47,6 +47,7 @@ val_of (held.QuotedText s) = quoted s.items
 val_of (held.Base16 os) = base16 os.items
 val_of (held.Generic os) = generic os.items
 
+-- what several fields of the program hold
 abbrev pub vals_of : List Value → List Val
 vals_of vs = map val_of vs
 

@@ -20,6 +20,7 @@ word offset os = record { begin = offset; octets = os }
 abbrev pub word_of : Word → WordAt
 word_of w = word w.begin w.octets.items
 
+-- what several words of the program are
 abbrev pub words_of : List Word → List WordAt
 words_of ws = map word_of ws
 

@@ -4,7 +4,8 @@ ghost use Rattle.domain_rdata_text.specs.Forms.{text_form};
 
 use domain_descriptor::FieldKind;
 
-/// How a field is written as text. Data with a field that is `Generic` is written as `\#` and its octets (RFC 3597, 5).
+/// How a field is written as text. Data with a field that is `Generic` is written as `\#` and its octets (RFC 3597,
+/// 5).
 #[derive(Clone, Copy, Debug, PartialEq, Eq)]
 pub enum TextForm {
     /// A number of 8 bits in decimal digits.
