@@ -26,6 +26,10 @@ builder_apex b = name_labels b.apex
 abbrev pub builder_class : ZoneBuilder → Class
 builder_class b = b.class
 
+-- A record of this owner, type and class may be in the zone.
+abbrev pub MayBeInserted : ZoneBuilder → List (List ℕ) → ℕ → Class → Type 0
+MayBeInserted b n t c = (class_number c ≡ class_number (builder_class b)) × EndsWith n (builder_apex b) × (IsDataType t × (t ≢ NSEC3))
+
 -- A record of this owner, type and class isn't inserted, for this reason.
 abbrev pub IsRefused : ZoneBuilder → List (List ℕ) → ℕ → Class → InsertError → Type 0
 IsRefused b n t c insert.OtherClass = class_number c ≢ class_number (builder_class b)

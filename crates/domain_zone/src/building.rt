@@ -42,7 +42,7 @@ pub struct ZoneBuilder {
 impl ZoneBuilder {
     ghost use Rattle.std.specs.Prelude.{◌≡◌, [], ◌∷◌, ◌++◌, IfOk, IfErr, OnOk, OnErr};
     ghost use Rattle.domain_name.specs.Names.{name_labels};
-    ghost use Rattle.domain_zone.specs.Builders.{inserted, builder_apex, builder_class, IsRefused, MakesNoZone};
+    ghost use Rattle.domain_zone.specs.Builders.{inserted, builder_apex, builder_class, IsRefused, MakesNoZone, MayBeInserted};
     ghost use Rattle.domain_zone.specs.Building.{Inserted, Holds};
     ghost use Rattle.domain_zone.specs.Kept.{zone_view, zone_class};
 
@@ -75,6 +75,7 @@ impl ZoneBuilder {
     ) -> Result<(), InsertError>
         ensures ok { OnOk result (inserted self.new ≡ inserted self.old
             ++ record { owner = name_labels owner; rtype = rtype; ttl = ttl; octets = octets.items } ∷ []) }
+        ensures accepts { OnOk result (MayBeInserted self.old (name_labels owner) rtype class) }
         ensures err { IfErr result (IsRefused self.old (name_labels owner) rtype class) }
         ensures unchanged { OnErr result (inserted self.new ≡ inserted self.old) }
         ensures apex { builder_apex self.new ≡ builder_apex self.old }
