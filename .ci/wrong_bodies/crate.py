@@ -8,6 +8,7 @@ import subprocess
 import tempfile
 
 from .common import TOP, below, stop
+from .copies import Copies
 from .edit import Edit
 from .record import Record, key_of
 from .said import UNKNOWN, Said, ends
@@ -113,12 +114,15 @@ class Crate:
                 self.try_batch()
 
     def try_batch(self):
-        """Checks as many edits of different bodies as there are, or one alone."""
-        batch, bodies, texts = [], set(), self.texts
+        """Checks one edit of each body that has some, and further ones of a function in copies of it, or one alone."""
+        batch, bodies, texts, copies = [], set(), self.texts, Copies(self.texts)
         for edit in self.left():
             is_alone = None in edit.bodies or edit.tries > 1
             is_same = any(ends(it.function, edit.function) or ends(edit.function, it.function) for it in batch)
             if batch and (is_alone or is_same or edit.bodies & bodies):
+                # One that a copy didn't settle is tried in its place.
+                if is_same and not is_alone and edit.is_copied and edit.bodies <= bodies:
+                    edit.is_copied = copies.take(edit)
                 continue
             with contextlib.suppress(ValueError):
                 texts = edit.applied(texts)[0]
@@ -126,20 +130,30 @@ class Crate:
                 bodies |= edit.bodies
             if is_alone:
                 break
-        said = self.check(texts, batch)
-        for edit in batch if said.functions else ():
+        tried = [*batch, *copies.all()]
+        said = self.check(copies.put(texts), tried)
+        if unproved := copies.unproved(said):
+            # Such a function has no copies: its edits are tried one after another.
+            for it in unproved:
+                it.is_copied = False
+            return
+        for edit in tried if said.functions else ():
             fits = [it for it in said.functions if ends(it, edit.function)]
             if not fits:
                 stop(f"{edit.name}: '{edit.function}' is no function")
             # Where several names end in these words, the prover takes the one that is these words.
             edit.function = min(fits, key=len)
-        came = {it: said.of(it, {other.function for other in batch}) for it in batch}
-        for edit, (kind, why) in came.items():
-            if kind == "refused":
+        came = {it: said.of(it, {other.function for other in tried}) for it in tried}
+        for it, (kind, why) in came.items():
+            edit = it.edit if it in copies.all() else it
+            if edit and kind == "refused":
                 edit.kept.touch()
-            if kind == "refused" or len(batch) == 1:
+            if edit and (kind == "refused" or len(tried) == 1):
                 edit.came = kind, why
-            # An edit that waits for the proof of another edit's function is tried again in the next batch.
+            if edit:
+                edit.is_copied = False
+        # An edit that waits for the proof of another edit's function is tried again in the next batch.
+        for edit in batch:
             edit.tries += 1 if any(it == "refused" for it, _ in came.values()) else 2
 
     def tell(self, is_told):

@@ -69,6 +69,7 @@ class Edit:
         self.changes = re.findall("old: (.*)\nnew: ?(.*)", fits[4])
         self.kept = STORE / hashlib.sha256(key + octets).hexdigest()
         self.came, self.tries = ("refused", "by an earlier run") if self.kept.exists() else None, 0
+        self.is_copied = True
 
     def applied(self, texts):
         """The texts with the edit, and the bodies that it is in, with a None for what is in none."""
