@@ -1,5 +1,6 @@
 """Copies of a function, each with an edit of its own, which one check tries beside the function."""
 
+import collections
 import re
 
 from .edit import BODY
@@ -9,19 +10,11 @@ from .said import ends
 MORE = "_wrong_body_"
 BLOCK = re.compile(r"^(?:unsafe )?(?P<word>impl|trait|mod|macro_rules!)\b(?P<head>[^{;]*)\{", re.MULTILINE)
 PROOFS = ("Answers.antt", "Invariants.antt", "Proof.antt")
-
-
-class Copy:
-    """A copy of the function of an edit, or of none, as the check sees it."""
-
-    def __init__(self, edit, of, number):
-        self.edit, self.file, self.law, self.block = edit, of.file, "", None
-        self.more = f"{MORE}{number}"
-        self.function = of.function + self.more
+WAITS = re.compile(r"it calls `\S+`, which is not proved")
 
 
 def place_of(edit, texts):
-    """The function that the edit changes, if a copy can stand beside it: it is free, or a method of the type itself."""
+    """The function that the edit changes, if a copy can stand beside it: it is free, or a method of a type itself."""
     text = texts[edit.file]
     lines = {(edit.file, text.count("\n", 0, it.start()) + 1): it for it in BODY.finditer(text)}
     place = lines.get(next(iter(edit.bodies))) if len(edit.bodies) == 1 else None
@@ -50,36 +43,44 @@ def proofs_of(function, texts):
     return [it for it in sorted(folders) if it.endswith(end)]
 
 
-def copied_proofs(folder, copy, texts):
-    """The files of a function's proof for its copy."""
-    name, path = folder.rpartition("/")[2], folder.partition("/")[2].replace("/", ".")
-    known = re.compile(rf"\b((?:proofs|contracts)\.{re.escape(path)}(?!\w)|{name}(?=_spec\b))")
-    return {
-        folder + copy.more + it.removeprefix(folder): known.sub(rf"\g<1>{copy.more}", text)
-        for it, text in texts.items()
-        if it.startswith(f"{folder}/")
-    }
+class Copy:
+    """A copy of a function, with an edit or none, as the check sees it."""
+
+    def __init__(self, of, number, edit):
+        self.name, self.file, self.law, self.block = of.name, of.file, "", None
+        self.edit, self.more = edit, f"{MORE}{number}"
+        self.function = of.function + self.more
 
 
 class Copies:
-    """The copies that a check has."""
+    """The copies that a check has: of each function with several of these edits, where there can be one."""
 
-    def __init__(self, texts):
-        self.texts, self.made, self.places = texts, {}, {}
-
-    def take(self, edit):
-        """Makes a copy for an edit of a function that has one in place, and says whether there can be one."""
-        place = place_of(edit, self.texts)
-        if not place or not changed(place, edit.changes) or len(proofs_of(edit.function, self.texts)) > 1:
-            return False
-        key = edit.file, place.start()
-        self.places[key] = place
-        made = self.made.setdefault(key, [Copy(None, edit, 0)])
-        made.append(Copy(edit, edit, len(made)))
-        return True
+    def __init__(self, texts, edits):
+        self.texts, self.places, groups = texts, {}, collections.defaultdict(list)
+        for edit in edits:
+            place = place_of(edit, texts)
+            if place and changed(place, edit.changes) and len(proofs_of(edit.function, texts)) < 2:
+                groups[edit.file, place.start()].append(edit)
+                self.places[edit.file, place.start()] = place
+        groups = {key: its for key, its in groups.items() if len(its) > 1}
+        self.made = {
+            key: [Copy(its[0], number, it) for number, it in enumerate([None, *its])] for key, its in groups.items()
+        }
+        self.edits = {it for its in groups.values() for it in its}
 
     def all(self):
         return [it for made in self.made.values() for it in made]
+
+    def copied_proofs(self, copy):
+        """The files of the function's proof, for its copy."""
+        function, files = copy.function.removesuffix(copy.more), {}
+        for folder in proofs_of(function, self.texts):
+            name, path = folder.rpartition("/")[2], folder.partition("/")[2].replace("/", ".")
+            known = re.compile(rf"\b((?:proofs|contracts)\.{re.escape(path)}(?!\w)|{name}(?=_spec\b))")
+            for it in (it for it in self.texts if it.startswith(f"{folder}/")):
+                text = known.sub(rf"\g<1>{copy.more}", self.texts[it])
+                files[folder + copy.more + it.removeprefix(folder)] = text
+        return files
 
     def put(self, texts):
         """The texts with the copies, each below its function."""
@@ -94,12 +95,16 @@ class Copies:
                 text = changed(place, it.edit.changes if it.edit else [])
                 text = head + text[place.end("name") - place.start() :]
                 texts[file] = f"{texts[file][:end]}\n\n{text}{texts[file][end:]}"
-                for folder in proofs_of(it.function.removesuffix(it.more), self.texts):
-                    texts |= copied_proofs(folder, it, self.texts)
+                texts |= self.copied_proofs(it)
         return texts
 
-    def unproved(self, said):
-        """The edits that are in copies of a function whose copy without an edit isn't proved by this check."""
-        proved = [it for it, own in said.functions.items() if own == "proved"]
-        lacking = [made for made in self.made.values() if not any(ends(it, made[0].function) for it in proved)]
-        return [it.edit for made in lacking for it in made[1:]]
+    def settle(self, came, said):
+        """Takes for refused the edits whose copies are, where the copy without an edit is proved. The others are tried
+        in their function's place, and copies that wait for the proof of what they call once more as copies."""
+        for made in self.made.values():
+            own = next((own for it, own in said.functions.items() if ends(it, made[0].function)), "")
+            for it in made[1:]:
+                if own == "proved" and came[it][0] == "refused":
+                    it.edit.take(*came[it])
+                it.edit.is_copied = bool(WAITS.search(own)) and not it.edit.tries
+                it.edit.tries += 1

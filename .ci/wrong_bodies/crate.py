@@ -114,15 +114,13 @@ class Crate:
                 self.try_batch()
 
     def try_batch(self):
-        """Checks one edit of each body that has some, and further ones of a function in copies of it, or one alone."""
-        batch, bodies, texts, copies = [], set(), self.texts, Copies(self.texts)
-        for edit in self.left():
+        """Checks all edits of each function that has several, in copies, and one of each other body, or one alone."""
+        copies = Copies(self.texts, [it for it in self.left() if it.is_copied])
+        batch, bodies, texts = [], set(), self.texts
+        for edit in (it for it in self.left() if it not in copies.edits):
             is_alone = None in edit.bodies or edit.tries > 1
             is_same = any(ends(it.function, edit.function) or ends(edit.function, it.function) for it in batch)
-            if batch and (is_alone or is_same or edit.bodies & bodies):
-                # One that a copy didn't settle is tried in its place.
-                if is_same and not is_alone and edit.is_copied and edit.bodies <= bodies:
-                    edit.is_copied = copies.take(edit)
+            if (batch or copies.edits) and (is_alone or is_same or edit.bodies & bodies):
                 continue
             with contextlib.suppress(ValueError):
                 texts = edit.applied(texts)[0]
@@ -132,28 +130,18 @@ class Crate:
                 break
         tried = [*batch, *copies.all()]
         said = self.check(copies.put(texts), tried)
-        if unproved := copies.unproved(said):
-            # Such a function has no copies: its edits are tried one after another.
-            for it in unproved:
-                it.is_copied = False
-            return
-        for edit in tried if said.functions else ():
-            fits = [it for it in said.functions if ends(it, edit.function)]
+        for it in tried if said.functions else ():
+            fits = [name for name in said.functions if ends(name, it.function)]
             if not fits:
-                stop(f"{edit.name}: '{edit.function}' is no function")
+                stop(f"{it.name}: '{it.function}' is no function")
             # Where several names end in these words, the prover takes the one that is these words.
-            edit.function = min(fits, key=len)
+            it.function = min(fits, key=len)
         came = {it: said.of(it, {other.function for other in tried}) for it in tried}
-        for it, (kind, why) in came.items():
-            edit = it.edit if it in copies.all() else it
-            if edit and kind == "refused":
-                edit.kept.touch()
-            if edit and (kind == "refused" or len(tried) == 1):
-                edit.came = kind, why
-            if edit:
-                edit.is_copied = False
-        # An edit that waits for the proof of another edit's function is tried again in the next batch.
+        copies.settle(came, said)
         for edit in batch:
+            if came[edit][0] == "refused" or len(tried) == 1:
+                edit.take(*came[edit])
+            # One that waits for the proof of another edit's function is tried again in the next batch.
             edit.tries += 1 if any(it == "refused" for it, _ in came.values()) else 2
 
     def tell(self, is_told):

@@ -71,6 +71,12 @@ class Edit:
         self.came, self.tries = ("refused", "by an earlier run") if self.kept.exists() else None, 0
         self.is_copied = True
 
+    def take(self, kind, why):
+        """Takes what a check said for what the edit comes to. A pass is kept on this machine."""
+        self.came = kind, why
+        if kind == "refused":
+            self.kept.touch()
+
     def applied(self, texts):
         """The texts with the edit, and the bodies that it is in, with a None for what is in none."""
         text, bodies = texts.get(self.file, ""), set()

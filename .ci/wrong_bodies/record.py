@@ -14,10 +14,14 @@ from .common import RULES, TOP, stop
 # What a check reads of a library below: what callers see of it, and what is stated and proved beside it.
 CALLED = ("interface", "lang/antt/specs", "lang/antt/specs.antt", "lang/antt/proofs", "lang/antt/proofs.antt")
 MADE = "lang/antt/made.json"
+# How a function there is proved: a proof above cites that it is, and nothing of these files.
+ANSWERS = ("Answers.antt", "Invariants.antt")
 # The lines of MADE that a body alone changes: itself, its proof, and what it calls, by which the links have their
 # order. No proof in a crate above rests on them.
 KINDS = "Mir|Lts|MadeProof|Close|Code|LinkOfFunction|LinkOfCrate"
 OF_A_BODY = re.compile(rf'^\{{"({KINDS})":.*\n|^".*TheLinks"\n.*\n'.encode(), re.M)
+# Lines of sources that say nothing to the prover: comments, and empty ones.
+SAYS_NOTHING = {"rt": re.compile(rb"^[ \t]*(//.*)?\n", re.M), "antt": re.compile(rb"^[ \t]*(--.*)?\n", re.M)}
 LINE = re.compile(r"([0-9a-f]{64})  (\S+\.edit)")
 DRAWN = 3
 
@@ -29,6 +33,12 @@ def sum_of(files):
         made.update(repr((name, len(octets))).encode())
         made.update(octets)
     return made.hexdigest()
+
+
+def without_comments(files):
+    """The files, less the lines of sources that say nothing."""
+    says_nothing = {it: SAYS_NOTHING.get(it.rpartition(".")[2]) for it in files}
+    return {it: says_nothing[it].sub(b"", octets) if says_nothing[it] else octets for it, octets in files.items()}
 
 
 @functools.cache
@@ -43,17 +53,19 @@ def contracts_of(rlib):
     # Of a library that is laid out otherwise it isn't known what a check leaves out.
     parts = [rlib / it for it in (*CALLED, MADE)] if is_known else [rlib]
     paths = [it for part in parts for it in [part, *part.rglob("*")] if it.is_file()]
-    files = {str(it.relative_to(rlib)): it.read_bytes() for it in paths}
+    files = {str(it.relative_to(rlib)): it.read_bytes() for it in paths if not is_known or it.name not in ANSWERS}
     if is_known:
         files[MADE] = OF_A_BODY.sub(b"", files[MADE])
-    return sum_of(files)
+    return sum_of(without_comments(files))
 
 
 def key_of(version, prover, line, files, rlibs):
-    """The part of a pass's name that all edits of a crate have in common. It is the same on each machine."""
+    """The part of a pass's name that all edits of a crate have in common. It is the same on each machine, whatever the
+    sources' comments are."""
     below = sorted((name, contracts_of(rlib)) for name, rlib in rlibs.items())
     head, uses = line
-    return repr((RULES, version, sum_of_file(prover), head.split(), uses, sum_of(files), below)).encode()
+    own = sum_of(without_comments(files))
+    return repr((RULES, version, sum_of_file(prover), head.split(), uses, own, below)).encode()
 
 
 class Record:
