@@ -1,8 +1,7 @@
 //! Names in messages: read, passed over, and walked.
 
 use arrayvec::ArrayVec;
-use conformance_answer::{Answer, Fail};
-use conformance_labels::parser_at;
+use conformance_labels::{Answer, Fail, parser_at};
 use conformance_names::{put_mixture as put_mixed, put_orders};
 use domain_list::{NameLabels, ToLabelIter};
 use domain_name::Name;

@@ -2,8 +2,7 @@
 
 use crate::message::{flat_of, leave_out, name_at};
 use arrayvec::ArrayVec;
-use conformance_answer::{Answer, Fail};
-use conformance_labels::{is_in_canonical_order, put_canonical_order};
+use conformance_labels::{Answer, Fail, is_in_canonical_order, put_canonical_order};
 use conformance_names::{
     AbsoluteCall, SIZE, absolute_chain, put_absolute, put_appended, put_compared, put_ends_of,
     put_forms, put_relative_appended, put_twins,

@@ -1,8 +1,7 @@
 //! Record data, and the names of addresses.
 
 use arrayvec::ArrayVec;
-use conformance_answer::{Answer, Fail};
-use conformance_labels::is_in_canonical_order;
+use conformance_labels::{Answer, Fail, is_in_canonical_order};
 use domain_rdata::{
     ComposeRecordData, Composer, LongRecordData, ParseRecordData, RecordData, Rtype,
     UnknownRecordData,

@@ -1,6 +1,6 @@
 //! Values in their canonical order.
 
-use conformance_answer::Answer;
+use crate::answer::Answer;
 use domain_wire::CanonicalOrd;
 use std::cmp::Ordering;
 

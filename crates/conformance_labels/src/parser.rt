@@ -1,6 +1,7 @@
 //! The calls of a parser, one after another.
 
-use conformance_answer::{Answer, Fail, decimal, is, split_once};
+use crate::answer::{Answer, Fail};
+use crate::fields::{decimal, is, split_once};
 use octseq::{Parser, ShortInput};
 use std::fmt::Display;
 

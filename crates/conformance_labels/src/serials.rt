@@ -1,7 +1,7 @@
 //! Serial numbers.
 
+use crate::answer::{Answer, Fail};
 use crate::order::is_in_canonical_order;
-use conformance_answer::{Answer, Fail};
 use domain_serial::Serial;
 use octseq::Parser;
 

@@ -1,7 +1,7 @@
 //! Record data by its type.
 
 use crate::typed::put_typed;
-use conformance_answer::{Answer, Fail, Fields, is};
+use conformance_labels::{Answer, Fail, Fields, is};
 use domain_all_data::AllRecordData;
 use domain_data::{A, Aaaa, Cname, Dname, Mx, Ns, Ptr, Soa, Srv};
 use domain_parsed::ParsedName;

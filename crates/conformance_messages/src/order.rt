@@ -1,7 +1,7 @@
 //! Two data of any type: their order, and whether they are equal.
 
 use crate::data::Read;
-use conformance_answer::{Answer, Fail, Fields};
+use conformance_labels::{Answer, Fail, Fields};
 use domain_all_data::AllRecordData;
 use domain_name::Name;
 use domain_rdata::{ParseAnyRecordData, Rtype};

@@ -1,6 +1,6 @@
 //! The labels of a name from either end.
 
-use conformance_answer::{Answer, Fail};
+use conformance_labels::{Answer, Fail};
 use domain_label::Label;
 use domain_list::LabelIterator;
 

@@ -2,8 +2,7 @@
 
 use crate::octets::relative_of;
 use crate::orders::{put_orders, wire_of};
-use conformance_answer::{Answer, Fail};
-use conformance_labels::put_relative_name_error;
+use conformance_labels::{Answer, Fail, put_relative_name_error};
 use domain_label::Label;
 use domain_list::NameLabels;
 use domain_name::RelativeName;

@@ -1,7 +1,7 @@
 //! Names and labels from text.
 
 use arrayvec::ArrayVec;
-use conformance_answer::{Answer, Fail};
+use conformance_labels::{Answer, Fail};
 use domain_builder::{FromStrError, PresentationErrorKind, RelativeFromStrError};
 use domain_label::scan::{Symbol, SymbolCharsError, Symbols};
 use domain_label::{LabelFromStrError, LabelFromStrErrorKind, OwnedLabel};

@@ -3,8 +3,7 @@ ghost use Rattle.std.specs.Prelude.{◌≤◌};
 
 use crate::text::{put_text_error, symbols_of};
 use arrayvec::ArrayVec;
-use conformance_answer::{Answer, Fail, is, octets_of, split_once};
-use conformance_labels::put_relative_kind;
+use conformance_labels::{Answer, Fail, is, octets_of, put_relative_kind, split_once};
 use domain_builder::{FromStrError, PushError, PushNameError};
 use domain_label::scan::Symbol;
 use domain_name::{BuilderCall, Name, NameBuilder, RelativeName};
