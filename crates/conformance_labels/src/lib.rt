@@ -19,5 +19,5 @@ pub use answer::{Answer, Fail};
 pub use command::answer_labels;
 pub use errors::{put_name_error, put_parse_error, put_relative_kind, put_relative_name_error};
 pub use fields::{Fields, decimal, is, is_heading, octets_of, split_once};
-pub use order::{is_in_canonical_order, put_canonical_order};
+pub use order::put_canonical_order;
 pub use parser::parser_at;

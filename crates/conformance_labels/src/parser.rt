@@ -110,7 +110,6 @@ pub fn put_calls(out: &Answer, octets: &[u8], begin: usize, end: usize, calls: &
         out.put(b" ");
         put_call(out, &mut parser, step, number);
         out.put_number_after(b"@", parser.pos());
-        out.agree(parser.remaining() == parser.peek_all().len(), b"remaining");
     }
 }
 
