@@ -320,7 +320,8 @@ pub fn leave_out<Octs: Octets>(name: &mut ParsedName<Octs>, labels: usize) {
     }
 }
 
-/// `mixture MSG PLACE N CALLS`: without the first N labels, what calls on either end give, also on the same name as a `Name`.
+/// `mixture MSG PLACE N CALLS`: without the first N labels, what calls on either end give, also on the same name as a
+/// `Name`.
 pub fn put_mixture(out: &Answer, message: &[u8], offset: usize, labels: usize, calls: &[u8]) {
     let Some(mut rest) = name_at(message, offset) else {
         return out.fail(Fail::Bad);
@@ -350,7 +351,8 @@ fn step_down(out: &Answer, name: &mut ParsedName<&[u8]>, step: u8) {
     }
 }
 
-/// `after MSG PLACE STEPS CALLS`: as `mixture`, after one call for each step, `p` for `parent` and `s` for `split_first`.
+/// `after MSG PLACE STEPS CALLS`: as `mixture`, after one call for each step, `p` for `parent` and `s` for
+/// `split_first`.
 pub fn put_after(out: &Answer, message: &[u8], offset: usize, steps: &[u8], calls: &[u8]) {
     let Some(mut rest) = name_at(message, offset) else {
         return out.fail(Fail::Bad);

@@ -60,8 +60,8 @@ pub fn put_parsed_forms(out: &Answer, message: &[u8], offset: usize) {
     }
 }
 
-/// `room MSG PLACE N`: what the name composes where there is room for N octets, then the same name as a `Name`, and then that
-/// without its root label.
+/// `room MSG PLACE N`: what the name composes where there is room for N octets, then the same name as a `Name`, and
+/// then that without its root label.
 pub fn put_room(out: &Answer, message: &[u8], offset: usize, room: usize) {
     let Some(name) = name_at(message, offset) else {
         return out.fail(Fail::Bad);
