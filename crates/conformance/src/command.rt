@@ -12,7 +12,7 @@ use crate::names::{
 };
 use crate::onto::put_onto;
 use crate::records::{put_lengths, put_longdata, put_rdata, put_rdatacmp};
-use conformance_answer::{Answer, Fields, is};
+use conformance_labels::{Answer, Fields, is};
 
 /// Answers a line whose word is one of these; else it is false.
 pub fn answer_parsed(fields: &Fields<'_>, out: &Answer) -> bool {

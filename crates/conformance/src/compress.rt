@@ -9,7 +9,7 @@ ghost use Rattle.domain_rdata.specs.OctetsAlone.{name_written};
 ghost use Rattle.domain_rdata.specs.RecordData.{NameOctets};
 
 use arrayvec::ArrayVec;
-use conformance_answer::{Answer, Fail, decimal, is, octets_of, split_once};
+use conformance_labels::{Answer, Fail, decimal, is, octets_of, split_once};
 use domain_compress::CompressComposer;
 use domain_list::NameLabels;
 use domain_name::Name;

@@ -2,8 +2,7 @@
 
 use crate::slow_reader::{SlowName, read_slowly, skip_slowly};
 use arrayvec::ArrayVec;
-use conformance_answer::Answer;
-use conformance_labels::parser_at;
+use conformance_labels::{Answer, parser_at};
 use domain_list::NameLabels;
 use domain_parsed::ParsedName;
 

@@ -16,10 +16,8 @@ mod slow_reader;
 
 use crate::command::answer_parsed;
 use crate::program::put_run;
-use conformance_answer::{Answer, Fail, Fields, is_heading};
-use conformance_labels::answer_labels;
-use conformance_names::answer_names;
-use conformance_texts::answer_texts;
+use conformance_labels::{Answer, Fail, Fields, answer_labels, is_heading};
+use conformance_names::{answer_names, answer_texts};
 use std::alloc::{AllocError, Global};
 use std::io::{Read, Write};
 use std::process::ExitCode;

@@ -2,8 +2,7 @@
 
 use crate::message::{flat_of, leave_out, name_at};
 use arrayvec::ArrayVec;
-use conformance_answer::{Answer, Fail};
-use conformance_labels::{is_in_canonical_order, put_canonical_order};
+use conformance_labels::{Answer, Fail, put_canonical_order};
 use conformance_names::{
     AbsoluteCall, SIZE, absolute_chain, put_absolute, put_appended, put_compared, put_ends_of,
     put_forms, put_relative_appended, put_twins,
@@ -12,7 +11,6 @@ use domain_list::{AbsoluteLabels, NameLabels, ToLabelIter};
 use domain_name::{Name, RelativeName};
 use domain_parsed::ParsedName;
 use domain_traits::{FlattenInto, ToName};
-use domain_wire::CanonicalOrd;
 use octseq::{EmptyBuilder, FromBuilder, Octets, ShortBuf};
 use std::hash::Hash;
 
@@ -62,8 +60,8 @@ pub fn put_parsed_forms(out: &Answer, message: &[u8], offset: usize) {
     }
 }
 
-/// `room MSG PLACE N`: what the name composes where there is room for N octets, then the same name as a `Name`, and then that
-/// without its root label.
+/// `room MSG PLACE N`: what the name composes where there is room for N octets, then the same name as a `Name`, and
+/// then that without its root label.
 pub fn put_room(out: &Answer, message: &[u8], offset: usize, room: usize) {
     let Some(name) = name_at(message, offset) else {
         return out.fail(Fail::Bad);
@@ -98,7 +96,6 @@ where
     let made: Result<Name<Octs>, ShortBuf> = name.to_name(alloc);
     let octets = made_octets(&made);
     put_made(out, octets);
-    is_made_alike::<Octs>(out, name.try_to_name(alloc), octets, b"try_to_name");
     is_made_alike::<Octs>(out, name.flatten_into(alloc), octets, b"flatten_into");
     out.put(b" ");
     let lowered: Result<Name<Octs>, ShortBuf> = name.to_canonical_name(alloc);
@@ -193,7 +190,7 @@ pub fn put_prel(out: &Answer, message: &[u8], offset: usize, octets: &[u8]) {
     }
 }
 
-/// `pcanonical MSG P Q`: of the names in the message and of their flat twins.
+/// `pcanonical MSG P Q`: of the names in the message.
 pub fn put_parsed_canonical(out: &Answer, message: &[u8], left: usize, right: usize) {
     let Some(left) = name_at(message, left) else {
         return out.fail(Fail::Bad);
@@ -202,14 +199,6 @@ pub fn put_parsed_canonical(out: &Answer, message: &[u8], left: usize, right: us
         return out.fail(Fail::Bad);
     };
     put_canonical_order(out, &left, &right);
-    are_flat_in_order(out, left, right);
-}
-
-fn are_flat_in_order(out: &Answer, left: ParsedName<&[u8]>, right: ParsedName<&[u8]>) {
-    let order = left.canonical_cmp(&right);
-    if let (Some(a), Some(b)) = (flat_of(out, &left), flat_of(out, &right)) {
-        is_in_canonical_order(out, &a, &b, order);
-    }
 }
 
 /// `pchain MSG PLACE L R`

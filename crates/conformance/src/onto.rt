@@ -2,7 +2,7 @@
 
 use crate::message::name_at;
 use arrayvec::ArrayVec;
-use conformance_answer::{Answer, Fail, decimal, is, octets_of, split_once};
+use conformance_labels::{Answer, Fail, decimal, is, octets_of, split_once};
 use domain_list::{AbsoluteLabels, RelativeLabels};
 use domain_name::{Name, RelativeName};
 use domain_traits::{ToName, ToRelativeName};

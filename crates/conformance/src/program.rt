@@ -1,6 +1,6 @@
 //! What the program `dnsnames` does with the words after its name.
 
-use conformance_answer::{Answer, Fail, is, octets_of};
+use conformance_labels::{Answer, Fail, is, octets_of};
 use domain_tool::tool::run;
 
 /// `run WORDS INPUT`: the status, what is written, and the reason that is told.

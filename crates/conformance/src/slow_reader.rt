@@ -1,5 +1,5 @@
-//! Names in messages read slowly, by the three cases of the grammar (RFC 1035, section 4.1.4): the root, a label, and a
-//! whole pointer to an earlier offset.
+//! Names in messages read slowly, by the three cases of the grammar (RFC 1035, section 4.1.4): the root, a label, and
+//! a whole pointer to an earlier offset.
 //!
 //! This stands beside the library's reader, to be compared with it, and shares nothing with it: it has no table of
 //! labels and no shortcut, takes one head after another and keeps the labels' octets.

@@ -1,7 +1,7 @@
 //! Addresses of octets and of segments.
 
+use crate::answer::{Answer, Fail};
 use crate::numbers::put_composed;
-use conformance_answer::{Answer, Fail};
 use domain_wire::{IpAddr, Ipv4Addr, Ipv6Addr};
 
 /// `address OCTETS`

@@ -1,14 +1,15 @@
 //! The words of these calls, by what comes after them.
 
 use crate::address::put_address;
+use crate::answer::Answer;
 use crate::errors::put_labelerrors;
+use crate::fields::{Fields, is};
 use crate::labels::{put_label, put_slice};
 use crate::numbers::{put_arrays, put_composevec, put_ints, put_signed, put_unsigned, put_whole};
 use crate::octets::{put_append, put_from, put_truncate, put_write};
 use crate::parser::put_calls;
 use crate::serials::{put_add, put_serial};
 use crate::split::{put_labelfill, put_labelmut, put_restfill, put_splitlabel, put_splitmut};
-use conformance_answer::{Answer, Fields, is};
 
 /// Answers a line whose word is one of these; else it is false.
 pub fn answer_labels(fields: &Fields<'_>, out: &Answer) -> bool {

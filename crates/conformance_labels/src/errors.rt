@@ -1,6 +1,6 @@
 //! Errors of labels and names, and what they become where they are handed on.
 
-use conformance_answer::Answer;
+use crate::answer::Answer;
 use domain_flat::{NameError, NameErrorKind, RelativeNameError, RelativeNameErrorKind};
 use domain_label::{Label, LabelTypeError, SplitLabelError};
 use domain_wire::ParseError;

@@ -1,7 +1,7 @@
 //! Labels: split from octets, compared, composed, and lowered in place.
 
+use crate::answer::Answer;
 use arrayvec::ArrayVec;
-use conformance_answer::Answer;
 use domain_label::{Label, OwnedLabel};
 use octseq::OctetsBuilder;
 use std::hash::{DefaultHasher, Hash, Hasher};

@@ -1,9 +1,12 @@
-//! The calls of the conformance table on octets, numbers, serial numbers and labels.
+//! What the conformance programs share, the fields of a line and its answer in the making, and the calls of the
+//! conformance table on octets, numbers, serial numbers and labels.
 #![tactic(auto)]
 
 mod address;
+mod answer;
 mod command;
 mod errors;
+mod fields;
 mod labels;
 mod numbers;
 mod octets;
@@ -12,7 +15,9 @@ mod parser;
 mod serials;
 mod split;
 
+pub use answer::{Answer, Fail};
 pub use command::answer_labels;
 pub use errors::{put_name_error, put_parse_error, put_relative_kind, put_relative_name_error};
-pub use order::{is_in_canonical_order, put_canonical_order};
+pub use fields::{Fields, decimal, is, is_heading, octets_of, split_once};
+pub use order::put_canonical_order;
 pub use parser::parser_at;

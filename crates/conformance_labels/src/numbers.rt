@@ -1,8 +1,8 @@
 //! Numbers and addresses on the wire.
 
+use crate::answer::{Answer, Fail};
 use crate::parser::parser_at;
 use arrayvec::ArrayVec;
-use conformance_answer::{Answer, Fail};
 use domain_wire::{
     Compose, FixedLen, Ipv4Addr, Ipv6Addr, Parse, ParseError, compose_vec, parse_slice,
 };

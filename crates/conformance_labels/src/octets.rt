@@ -1,7 +1,7 @@
 //! Octets of each kind: shortened, written, appended to, and made of one another.
 
+use crate::answer::{Answer, Fail};
 use arrayvec::ArrayVec;
-use conformance_answer::{Answer, Fail};
 use octseq::{
     EmptyBuilder, FreezeBuilder, FromBuilder, Octets, OctetsBuilder, OctetsFrom, OctetsMut,
     ShortBuf, Truncate,

@@ -1,6 +1,7 @@
 //! The calls of a parser, one after another.
 
-use conformance_answer::{Answer, Fail, decimal, is, split_once};
+use crate::answer::{Answer, Fail};
+use crate::fields::{decimal, is, split_once};
 use octseq::{Parser, ShortInput};
 use std::fmt::Display;
 
@@ -109,7 +110,6 @@ pub fn put_calls(out: &Answer, octets: &[u8], begin: usize, end: usize, calls: &
         out.put(b" ");
         put_call(out, &mut parser, step, number);
         out.put_number_after(b"@", parser.pos());
-        out.agree(parser.remaining() == parser.peek_all().len(), b"remaining");
     }
 }
 

@@ -1,8 +1,8 @@
 //! Serial numbers.
 
-use crate::order::is_in_canonical_order;
-use conformance_answer::{Answer, Fail};
+use crate::answer::{Answer, Fail};
 use domain_serial::Serial;
+use domain_wire::CanonicalOrd;
 use octseq::Parser;
 
 fn serial_of(digits: &[u8]) -> Option<Serial> {
@@ -27,8 +27,10 @@ pub fn put_serial(out: &Answer, a: &[u8], b: &[u8]) {
     }
     // The canonical order is that of the numbers.
     let order = a.into_int().cmp(&b.into_int());
-    out.agree((a == b) == order.is_eq(), b"==");
-    is_in_canonical_order(out, &a, &b, order);
+    out.agree_all(
+        b"==;canonical_cmp",
+        &[(a == b) == order.is_eq(), a.canonical_cmp(&b) == order],
+    );
     is_written(out, a);
     out.shown_alike(a, a.into_int(), b"text");
 }

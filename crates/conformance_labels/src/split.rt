@@ -1,7 +1,7 @@
 //! Labels split from octets, and written in place.
 
+use crate::answer::Answer;
 use crate::errors::put_label_type_alone;
-use conformance_answer::Answer;
 use domain_label::{Label, LabelMut, SplitLabelError};
 
 /// `splitlabel OCTETS`

@@ -1,7 +1,7 @@
 //! A message that is read, and composed anew.
 
 use crate::data::Read;
-use conformance_answer::{Answer, Fail};
+use conformance_labels::{Answer, Fail};
 use domain_compress::CompressComposer;
 use domain_data::{A, Aaaa, Cname, Dname, Mx, Ns, Ptr, Soa, Srv};
 use domain_header::HeaderSection;

@@ -1,7 +1,7 @@
 //! Record data by its type.
 
 use crate::typed::put_typed;
-use conformance_answer::{Answer, Fail, Fields, is};
+use conformance_labels::{Answer, Fail, Fields, is};
 use domain_all_data::AllRecordData;
 use domain_data::{A, Aaaa, Cname, Dname, Mx, Ns, Ptr, Soa, Srv};
 use domain_parsed::ParsedName;
@@ -92,8 +92,8 @@ pub fn read<'a, D: ParseRecordData<'a> + CanonicalRecordData + Drop>(
     }
 }
 
-/// The octets with no name compressed, what the canonical call appends, with a word before it where that isn't the canonical
-/// form, and the length if it is known where names are compressed.
+/// The octets with no name compressed, what the canonical call appends, with a word before it where that isn't the
+/// canonical form, and the length if it is known where names are compressed.
 fn put_forms<D: CanonicalRecordData>(out: &Answer, data: &D) {
     let mut composed: Vec<u8> = Vec::new(out.alloc());
     let mut canonical: Vec<u8> = Vec::new(out.alloc());

@@ -1,6 +1,6 @@
 //! The header, and the mnemonics of classes.
 
-use conformance_answer::{Answer, Fail, Fields, decimal, is, split_once};
+use conformance_labels::{Answer, Fail, Fields, decimal, is, split_once};
 use domain_header::{Class, Header, HeaderCounts, HeaderSection, Opcode, Rcode, ShortMessage};
 
 /// `header OCTETS`

@@ -22,7 +22,7 @@ use crate::order::put_order;
 use crate::rebuild::put_rebuilt;
 use crate::select::{put_is_answer, put_limited};
 use crate::text::put_from_text;
-use conformance_answer::{Answer, Fail, Fields, is, is_heading};
+use conformance_labels::{Answer, Fail, Fields, is, is_heading};
 use std::alloc::{AllocError, Global};
 use std::io::{Read, Write};
 use std::process::ExitCode;

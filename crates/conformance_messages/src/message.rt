@@ -1,7 +1,7 @@
 //! What a message has: questions, records, and the end of its CNAME chain.
 
 use crate::data::put_name;
-use conformance_answer::Answer;
+use conformance_labels::Answer;
 use domain_message::{Message, QuestionSection, RecordSection};
 use domain_parsed::ParsedName;
 use domain_record::{ParsedRecord, Question};

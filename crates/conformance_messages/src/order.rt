@@ -1,7 +1,7 @@
 //! Two data of any type: their order, and whether they are equal.
 
 use crate::data::Read;
-use conformance_answer::{Answer, Fail, Fields};
+use conformance_labels::{Answer, Fail, Fields};
 use domain_all_data::AllRecordData;
 use domain_name::Name;
 use domain_rdata::{ParseAnyRecordData, Rtype};
@@ -17,8 +17,8 @@ type Lent<'a> = AllRecordData<&'a [u8], Read<'a>>;
 /// The same data over octets of its own.
 type Owned = AllRecordData<Vec<u8>, Name<Vec<u8>>>;
 
-/// `order TYPE OCTETS TYPE OCTETS`: the canonical order of the two, and whether they are equal. Over octets of their own they
-/// must be the same, and what is equal must have one hash.
+/// `order TYPE OCTETS TYPE OCTETS`: the canonical order of the two, and whether they are equal. Over octets of their
+/// own they must be the same, and what is equal must have one hash.
 pub fn put_order(out: &Answer, fields: &Fields<'_>) {
     let (first_type, second_type) = (fields.number(1, out), fields.number(3, out));
     let (first, second) = (fields.octets(2, out), fields.octets(4, out));

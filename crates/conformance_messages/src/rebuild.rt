@@ -1,7 +1,7 @@
 //! A message that is read, and built anew.
 
 use crate::data::Read;
-use conformance_answer::Answer;
+use conformance_labels::Answer;
 use domain_all_data::AllRecordData;
 use domain_compress::CompressComposer;
 use domain_message::{Message, RecordSection, Section};

@@ -1,7 +1,7 @@
 //! Whether a message answers a query, and the answers that have data of one type.
 
 use crate::data::{Read, put_name};
-use conformance_answer::{Answer, Fail, Fields, is};
+use conformance_labels::{Answer, Fail, Fields, is};
 use domain_data::{A, Aaaa, Cname, Dname, Mx, Ns, Ptr, Soa, Srv};
 use domain_message::Message;
 use domain_rdata::ParseRecordData;

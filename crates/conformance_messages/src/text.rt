@@ -1,6 +1,6 @@
 //! Record data from its presentation format.
 
-use conformance_answer::{Answer, Fail, Fields};
+use conformance_labels::{Answer, Fail, Fields};
 use domain_data_text::data::data_of;
 use domain_data_text::error::Stop;
 use domain_data_text::words::words_of;

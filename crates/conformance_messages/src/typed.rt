@@ -1,7 +1,7 @@
 //! Record data with strings, keys, digests and signatures, by its type.
 
 use crate::data::{Read, read};
-use conformance_answer::Answer;
+use conformance_labels::Answer;
 use domain_data::{Caa, Dnskey, Ds, Hinfo, Naptr, Nsec, Rrsig, Sshfp, Tlsa};
 use domain_rdata::{CanonicalRecordData, ParseRecordData, Rtype};
 use octseq::Parser;

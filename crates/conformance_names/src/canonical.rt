@@ -1,8 +1,7 @@
 //! Names in their canonical order.
 
 use crate::octets::absolute_of;
-use conformance_answer::Answer;
-use conformance_labels::put_canonical_order;
+use conformance_labels::{Answer, put_canonical_order};
 use domain_name::Name;
 
 /// `canonical A B`

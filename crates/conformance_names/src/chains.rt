@@ -8,7 +8,7 @@ use crate::flat::put_stripped;
 use crate::made::{put_forms, put_relative_forms};
 use crate::octets::{absolute_of, relative_of};
 use crate::orders::{put_orders, put_turned, wire_of};
-use conformance_answer::{Answer, Fail};
+use conformance_labels::{Answer, Fail};
 use domain_list::{AbsoluteLabels, Chain, LongChainError, NameLabels, RelativeLabels, ToLabelIter};
 use domain_name::{Name, RelativeName};
 use domain_traits::{ToName, ToRelativeName};

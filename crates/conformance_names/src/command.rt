@@ -14,7 +14,7 @@ use crate::made::{put_flat_forms, put_lent_forms, put_relative_flat_forms};
 use crate::relative::{
     put_parents, put_rel, put_relpart, put_relshow, put_relsplit, put_relstrip, put_relwalk,
 };
-use conformance_answer::{Answer, Fields, is};
+use conformance_labels::{Answer, Fields, is};
 
 /// Answers a line whose word is one of these; else it is false.
 pub fn answer_names(fields: &Fields<'_>, out: &Answer) -> bool {

@@ -1,7 +1,7 @@
 //! Names compared, with names of their kind and of others.
 
 use crate::octets::{absolute_of, relative_of};
-use conformance_answer::Answer;
+use conformance_labels::Answer;
 use domain_list::{AbsoluteLabels, RelativeLabels};
 use domain_name::{Name, RelativeName};
 use domain_traits::{ToName, ToRelativeName};

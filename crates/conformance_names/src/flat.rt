@@ -2,8 +2,7 @@
 
 use crate::octets::absolute_of;
 use crate::orders::{put_orders, wire_of};
-use conformance_answer::{Answer, Fail};
-use conformance_labels::{put_name_error, put_parse_error};
+use conformance_labels::{Answer, Fail, put_name_error, put_parse_error};
 use domain_flat::NameError;
 use domain_list::NameLabels;
 use domain_name::{Name, RelativeName};

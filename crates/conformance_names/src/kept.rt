@@ -1,7 +1,7 @@
 //! Names over octets of their own: made, copied, and taken apart.
 
 use arrayvec::ArrayVec;
-use conformance_answer::{Answer, Fail};
+use conformance_labels::{Answer, Fail};
 use domain_label::Label;
 use domain_name::{Name, RelativeName};
 use octseq::{Octets, OctetsFrom, ShortBuf};

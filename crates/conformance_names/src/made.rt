@@ -5,7 +5,7 @@
 
 use crate::octets::{absolute_of, relative_of};
 use arrayvec::ArrayVec;
-use conformance_answer::{Answer, Fail};
+use conformance_labels::{Answer, Fail};
 use domain_list::{AbsoluteLabels, RelativeLabels};
 use domain_name::{Name, NameBuilder, RelativeName};
 use domain_traits::{ToName, ToRelativeName};

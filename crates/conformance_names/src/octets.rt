@@ -1,6 +1,6 @@
 //! The name that octets are.
 
-use conformance_answer::{Answer, Fail};
+use conformance_labels::{Answer, Fail};
 use domain_name::{Name, RelativeName};
 
 /// The absolute name of these octets. If they are none, that is noted, and it is the root.

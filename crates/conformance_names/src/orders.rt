@@ -1,6 +1,6 @@
 //! The labels of a name from either end.
 
-use conformance_answer::{Answer, Fail};
+use conformance_labels::{Answer, Fail};
 use domain_label::Label;
 use domain_list::LabelIterator;
 
@@ -35,7 +35,8 @@ pub fn put_orders<'a, I: LabelIterator<'a>>(out: &Answer, labels: I) {
     put_taken(out, labels, End::Front, End::Back);
 }
 
-/// What calls give one after another, `f` at the front and `b` at the back. The labels of the other name must be the same.
+/// What calls give one after another, `f` at the front and `b` at the back. The labels of the other name must be the
+/// same.
 pub fn put_mixture<'a, I: LabelIterator<'a>, J: LabelIterator<'a>>(
     out: &Answer,
     labels: I,

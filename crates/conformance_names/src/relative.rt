@@ -2,8 +2,7 @@
 
 use crate::octets::relative_of;
 use crate::orders::{put_orders, wire_of};
-use conformance_answer::{Answer, Fail};
-use conformance_labels::put_relative_name_error;
+use conformance_labels::{Answer, Fail, put_relative_name_error};
 use domain_label::Label;
 use domain_list::NameLabels;
 use domain_name::RelativeName;
@@ -79,17 +78,13 @@ fn gives_labels<'a>(out: &Answer, name: &'a RelativeName<&'a [u8]>) {
     out.same(wire.as_slice(), name.as_slice(), b"into_iter");
 }
 
-/// The first label and the rest, which is the parent.
+/// The first label and the rest.
 fn put_first(out: &Answer, name: RelativeName<&[u8]>) {
     match name.split_first() {
-        None => {
-            out.put(b"none");
-            out.agree(name.parent().is_none(), b"parent");
-        }
+        None => out.put(b"none"),
         Some((label, rest)) => {
             out.put_hex(label.as_slice());
             out.put_hex_after(b":", rest.as_slice());
-            out.agree(name.parent() == Some(rest), b"parent");
         }
     }
 }

@@ -120,7 +120,8 @@ impl Answer {
 
     /// Calls that must agree with others, and whether each does. Their names have a semicolon between.
     ///
-    /// A literal is dear to check, and a call on the answer as well: so calls that are made together are told together.
+    /// A literal is dear to check, and a call on the answer as well: so calls that are made together are told
+    /// together.
     pub fn agree_all(&self, calls: &[u8], holds: &[bool]) {
         let mut names = calls.split(|octet| *octet == b';');
         for holds in holds {

@@ -1,7 +1,7 @@
 //! Octets and builders that are made with room for so many octets.
 
 use arrayvec::ArrayVec;
-use conformance_answer::{Answer, Fail};
+use conformance_labels::{Answer, Fail};
 use domain_name::NameBuilder;
 use octseq::{EmptyBuilder, Octets, OctetsBuilder, OctetsMut, ShortBuf};
 

@@ -1,7 +1,7 @@
 //! The names of addresses.
 
 use arrayvec::ArrayVec;
-use conformance_answer::{Answer, Fail};
+use conformance_labels::{Answer, Fail};
 use domain_builder::PushError;
 use domain_name::Name;
 use domain_wire::IpAddr;

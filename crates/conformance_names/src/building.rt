@@ -3,8 +3,7 @@ ghost use Rattle.std.specs.Prelude.{◌≤◌};
 
 use crate::text::{put_text_error, symbols_of};
 use arrayvec::ArrayVec;
-use conformance_answer::{Answer, Fail, is, octets_of, split_once};
-use conformance_labels::put_relative_kind;
+use conformance_labels::{Answer, Fail, is, octets_of, put_relative_kind, split_once};
 use domain_builder::{FromStrError, PushError, PushNameError};
 use domain_label::scan::Symbol;
 use domain_name::{BuilderCall, Name, NameBuilder, RelativeName};
@@ -180,8 +179,8 @@ pub fn put_buildcap(out: &Answer, room: usize, line: &[u8]) {
     put_line(out, Some(room), line);
 }
 
-/// `buildaside CALLS ASIDE CALLS`: calls over a `Vec`, then those of ASIDE on a copy of the builder, and then more on the
-/// builder itself.
+/// `buildaside CALLS ASIDE CALLS`: calls over a `Vec`, then those of ASIDE on a copy of the builder, and then more on
+/// the builder itself.
 pub fn put_buildaside(out: &Answer, before: &[u8], aside: &[u8], after: &[u8]) {
     let mut builder = NameBuilder::new_vec(out.alloc());
     put_more(out, &mut builder, before);
@@ -194,8 +193,8 @@ pub fn put_buildaside(out: &Answer, before: &[u8], aside: &[u8], after: &[u8]) {
     put_more(out, &mut builder, after);
 }
 
-/// Makes the calls of a line, which neither begin nor end a builder, and puts what each answers and what the builder is
-/// left with.
+/// Makes the calls of a line, which neither begin nor end a builder, and puts what each answers and what the builder
+/// is left with.
 fn put_more(out: &Answer, builder: &mut NameBuilder<Vec<u8>>, line: &[u8]) {
     let arguments = arguments_of(out, line);
     let mut calls = Vec::new(out.alloc());

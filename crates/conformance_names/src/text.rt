@@ -1,14 +1,15 @@
 //! Names and labels from text.
 
 use arrayvec::ArrayVec;
-use conformance_answer::{Answer, Fail};
+use conformance_labels::{Answer, Fail};
 use domain_builder::{FromStrError, PresentationErrorKind, RelativeFromStrError};
 use domain_label::scan::{Symbol, SymbolCharsError, Symbols};
 use domain_label::{LabelFromStrError, LabelFromStrErrorKind, OwnedLabel};
 use domain_name::{Name, RelativeName};
 use octseq::{EmptyBuilder, FromBuilder, Octets};
 
-/// The octets of the name that was read, or the fault of its text. Those of absolute names are among those of relative ones.
+/// The octets of the name that was read, or the fault of its text. Those of absolute names are among those of relative
+/// ones.
 type Read<'r> = Result<&'r [u8], RelativeFromStrError>;
 
 fn absolute_read<Octs: Octets>(read: &Result<Name<Octs>, FromStrError>) -> Read<'_> {

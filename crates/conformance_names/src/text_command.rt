@@ -1,11 +1,11 @@
-//! The words of these calls, by what comes after them.
+//! The words of the calls on texts and builders, by what comes after them.
 
 use crate::building::{put_absolute, put_build, put_buildaside, put_buildcap};
 use crate::capacity::put_capacity;
-use crate::errors::put_errors;
+use crate::error_texts::put_errors;
 use crate::reverse::put_rev;
 use crate::text::{put_labeltext, put_reltext, put_reltextroom, put_text, put_textroom};
-use conformance_answer::{Answer, Fields, is};
+use conformance_labels::{Answer, Fields, is};
 
 /// Answers a line whose word is one of these; else it is false.
 pub fn answer_texts(fields: &Fields<'_>, out: &Answer) -> bool {

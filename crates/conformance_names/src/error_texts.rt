@@ -1,6 +1,6 @@
 //! Texts of the errors of texts, builders and record data.
 
-use conformance_answer::Answer;
+use conformance_labels::Answer;
 use domain_builder::{
     FromStrError, PresentationError, PresentationErrorKind, PushError, PushNameError,
     RelativeFromStrError,
