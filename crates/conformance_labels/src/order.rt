@@ -5,7 +5,7 @@ use domain_wire::CanonicalOrd;
 use std::cmp::Ordering;
 
 /// The canonical order of two values is this one, by each call that tells it.
-pub fn is_in_canonical_order<T: CanonicalOrd>(out: &Answer, a: &T, b: &T, order: Ordering) {
+pub fn is_in_canonical_order<A: CanonicalOrd<B>, B>(out: &Answer, a: &A, b: &B, order: Ordering) {
     out.agree_all(
         b"canonical_cmp;canonical_lt;canonical_le;canonical_gt;canonical_ge",
         &[
@@ -19,7 +19,7 @@ pub fn is_in_canonical_order<T: CanonicalOrd>(out: &Answer, a: &T, b: &T, order:
 }
 
 /// Puts the canonical order of two values, and that they have the reverse order with sides swapped.
-pub fn put_canonical_order<T: CanonicalOrd>(out: &Answer, a: &T, b: &T) {
+pub fn put_canonical_order<A: CanonicalOrd<B>, B: CanonicalOrd<A>>(out: &Answer, a: &A, b: &B) {
     let order = a.canonical_cmp(b);
     out.put_order(b"", order);
     is_in_canonical_order(out, a, b, order);
