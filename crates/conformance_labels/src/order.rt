@@ -4,7 +4,7 @@ use crate::answer::Answer;
 use domain_wire::CanonicalOrd;
 
 /// Puts the canonical order of two values, by each call that tells it.
-pub fn put_canonical_order<T: CanonicalOrd>(out: &Answer, a: &T, b: &T) {
+pub fn put_canonical_order<A: CanonicalOrd<B>, B>(out: &Answer, a: &A, b: &B) {
     let order = a.canonical_cmp(b);
     out.put_order(b"", order);
     out.agree_all(

@@ -73,7 +73,7 @@ pub mod serial {
 
 /// The canonical order of values.
 pub mod cmp {
-    pub use domain_wire::cmp::CanonicalOrd;
+    pub use domain_wire::cmp::{CanonicalOrd, TotalCanonicalOrd};
 }
 
 /// Writing names shorter.

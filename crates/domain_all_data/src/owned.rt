@@ -15,7 +15,7 @@ use crate::variants::{each_variant, same_variant};
 use domain_fields::OrderedData;
 use domain_name::Name;
 use domain_rdata::RecordData;
-use domain_wire::CanonicalOrd;
+use domain_wire::{CanonicalOrd, TotalCanonicalOrd};
 use std::cmp::Ordering;
 use std::hash::{Hash, Hasher};
 
@@ -69,14 +69,16 @@ impl Eq for AllRecordData<Vec<u8>, Name<Vec<u8>>> {
 
 /// The order of types and then that of the octets of the canonical forms from the left; a missing octet comes before
 /// any (RFC 4034, 6.3). Data that is held as octets alone comes after other data of the type.
-impl CanonicalOrd for AllRecordData<Vec<u8>, Name<Vec<u8>>> {
+impl CanonicalOrd<AllRecordData<Vec<u8>, Name<Vec<u8>>>> for AllRecordData<Vec<u8>, Name<Vec<u8>>> {
     ghost value_order = { on (canonical_octets name_labels) (slice_cmp nat_cmp) };
-
-    ghost total = { on_total (canonical_octets name_labels) nat_list_cmp_total };
 
     fn canonical_cmp(&self, other: &AllRecordData<Vec<u8>, Name<Vec<u8>>>) -> Ordering {
         self.typed_cmp(other, self.rtype().has_lowercase_names())
     }
+}
+
+impl TotalCanonicalOrd for AllRecordData<Vec<u8>, Name<Vec<u8>>> {
+    ghost total = { on_total (canonical_octets name_labels) nat_list_cmp_total };
 }
 
 /// Writes the type to the hasher, and each octet as one `u8`, names in lowercase, so that equal data writes the same.

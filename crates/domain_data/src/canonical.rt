@@ -8,24 +8,28 @@ ghost use Rattle.domain_rdata.specs.Rtypes.{has_lowercase_names};
 use crate::fields::FieldsData;
 use domain_fields::{HashedField, OrderedData, OrderedLast};
 use domain_rdata::Rtype;
-use domain_wire::CanonicalOrd;
+use domain_wire::{CanonicalOrd, TotalCanonicalOrd};
 use std::cmp::Ordering;
 use std::hash::Hasher;
 
 /// The order of the octets of the canonical forms from the left; a missing octet comes before any (RFC 4034, 6.3).
-impl<const TYPE: u16, F: OrderedLast> CanonicalOrd for FieldsData<TYPE, F> {
+impl<const TYPE: u16, F: OrderedLast> CanonicalOrd<FieldsData<TYPE, F>> for FieldsData<TYPE, F> {
     ghost use Rattle.domain_data.specs.Views.{fields_of};
 
     ghost value_order = { on (λ it. F.uncompressed (fields_of it) (has_lowercase_names TYPE))
         (slice_cmp nat_cmp) };
 
-    ghost total = { on_total (λ it. F.uncompressed (fields_of it) (has_lowercase_names TYPE))
-        nat_list_cmp_total };
-
     fn canonical_cmp(&self, other: &FieldsData<TYPE, F>) -> Ordering {
         let lowercase = Rtype::from_int(TYPE).has_lowercase_names();
         self.fields.canonical_last_cmp(&other.fields, lowercase)
     }
+}
+
+impl<const TYPE: u16, F: OrderedLast> TotalCanonicalOrd for FieldsData<TYPE, F> {
+    ghost use Rattle.domain_data.specs.Views.{fields_of};
+
+    ghost total = { on_total (λ it. F.uncompressed (fields_of it) (has_lowercase_names TYPE))
+        nat_list_cmp_total };
 }
 
 /// The octets of the fields, one after the other.

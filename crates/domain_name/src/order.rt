@@ -11,7 +11,7 @@ ghost use Rattle.domain_list.specs.Order.{canonical_order, same_name};
 use crate::absolute::Name;
 use domain_list::comparing::{order_names, same_names};
 use domain_list::hashing::hash_name;
-use domain_wire::CanonicalOrd;
+use domain_wire::{CanonicalOrd, TotalCanonicalOrd};
 use octseq::Octets;
 use std::cmp::Ordering;
 use std::hash::{Hash, Hasher};
@@ -66,16 +66,20 @@ impl<Octs: Octets> PartialOrd for Name<Octs> {
 }
 
 /// The canonical order of names is that of `Ord` (RFC 4034, 6.1).
-impl<Octs: Octets> CanonicalOrd for Name<Octs> {
+impl<Octs: Octets, Other: Octets> CanonicalOrd<Name<Other>> for Name<Octs> {
     ghost use Rattle.domain_name.specs.Names.{name_labels};
 
-    ghost value_order = { on name_labels canonical_order };
+    ghost value_order = { λ a b. canonical_order (name_labels a) (name_labels b) };
+
+    fn canonical_cmp(&self, other: &Name<Other>) -> Ordering {
+        order_names(self, other)
+    }
+}
+
+impl<Octs: Octets> TotalCanonicalOrd for Name<Octs> {
+    ghost use Rattle.domain_name.specs.Names.{name_labels};
 
     ghost total = { on_total name_labels order_is_total };
-
-    fn canonical_cmp(&self, other: &Name<Octs>) -> Ordering {
-        self.cmp(other)
-    }
 }
 
 /// Writes to the hasher each label's length and its octets in lower case, so that equal names write the same.

@@ -11,7 +11,8 @@ ghost use Rattle.domain_list.specs.Order.{canonical_order, same_name};
 use crate::parsed::ParsedName;
 use domain_list::comparing::{order_names, same_names};
 use domain_list::hashing::hash_name;
-use domain_wire::CanonicalOrd;
+use domain_name::Name;
+use domain_wire::{CanonicalOrd, TotalCanonicalOrd};
 use octseq::Octets;
 use std::cmp::Ordering;
 use std::hash::{Hash, Hasher};
@@ -66,16 +67,42 @@ impl<Octs: Octets> PartialOrd for ParsedName<Octs> {
 }
 
 /// The canonical order of names is that of `Ord` (RFC 4034, 6.1).
-impl<Octs: Octets> CanonicalOrd for ParsedName<Octs> {
+impl<Octs: Octets, Other: Octets> CanonicalOrd<ParsedName<Other>> for ParsedName<Octs> {
     ghost use Rattle.domain_parsed.specs.ParsedNames.{parsed_labels};
 
-    ghost value_order = { on parsed_labels canonical_order };
+    ghost value_order = { λ a b. canonical_order (parsed_labels a) (parsed_labels b) };
+
+    fn canonical_cmp(&self, other: &ParsedName<Other>) -> Ordering {
+        order_names(self, other)
+    }
+}
+
+impl<Octs: Octets, Other: Octets> CanonicalOrd<Name<Other>> for ParsedName<Octs> {
+    ghost use Rattle.domain_parsed.specs.ParsedNames.{parsed_labels};
+    ghost use Rattle.domain_name.specs.Names.{name_labels};
+
+    ghost value_order = { λ a b. canonical_order (parsed_labels a) (name_labels b) };
+
+    fn canonical_cmp(&self, other: &Name<Other>) -> Ordering {
+        order_names(self, other)
+    }
+}
+
+impl<Octs: Octets, Other: Octets> CanonicalOrd<ParsedName<Other>> for Name<Octs> {
+    ghost use Rattle.domain_parsed.specs.ParsedNames.{parsed_labels};
+    ghost use Rattle.domain_name.specs.Names.{name_labels};
+
+    ghost value_order = { λ a b. canonical_order (name_labels a) (parsed_labels b) };
+
+    fn canonical_cmp(&self, other: &ParsedName<Other>) -> Ordering {
+        order_names(self, other)
+    }
+}
+
+impl<Octs: Octets> TotalCanonicalOrd for ParsedName<Octs> {
+    ghost use Rattle.domain_parsed.specs.ParsedNames.{parsed_labels};
 
     ghost total = { on_total parsed_labels order_is_total };
-
-    fn canonical_cmp(&self, other: &ParsedName<Octs>) -> Ordering {
-        self.cmp(other)
-    }
 }
 
 /// Writes to the hasher each label's length and its octets in lower case, so that equal names write the same.

@@ -21,7 +21,7 @@ use crate::record_data::{
 use crate::rtype::Rtype;
 use arrayvec::ArrayVec;
 use domain_label::hex::hex_character;
-use domain_wire::{CanonicalOrd, ParseError};
+use domain_wire::{CanonicalOrd, ParseError, TotalCanonicalOrd};
 use octseq::{Octets, OctetsFrom, Parser, SameOctets, ShortBuf};
 use std::alloc::{AllocError, Global};
 use std::cmp::Ordering;
@@ -301,7 +301,7 @@ impl<Octs: Octets> Ord for UnknownRecordData<Octs> {
     ghost matches_eq = { Prim.search (comparing, rules) };
 
     fn cmp(&self, other: &UnknownRecordData<Octs>) -> Ordering {
-        self.octets.as_slice().cmp(other.octets.as_slice())
+        self.canonical_cmp(other)
     }
 }
 
@@ -321,16 +321,19 @@ impl<Octs: Octets> PartialOrd for UnknownRecordData<Octs> {
 /// The order of the octets from the left. It is the canonical order of RFC 4034, 6.3, except for types with names that
 /// are compared in lowercase. The canonical form of such data can't be known from octets alone, so they are compared
 /// unchanged.
-impl<Octs: Octets> CanonicalOrd for UnknownRecordData<Octs> {
+impl<Octs: Octets, Other: Octets> CanonicalOrd<UnknownRecordData<Other>>
+    for UnknownRecordData<Octs> {
     ghost use Rattle.domain_rdata.specs.Unknown.{data_octets};
 
-    ghost value_order = { on data_octets (slice_cmp nat_cmp) };
+    ghost value_order = { λ a b. slice_cmp nat_cmp (data_octets a) (data_octets b) };
 
-    ghost total = { Prim.search (comparing, rules) };
-
-    fn canonical_cmp(&self, other: &UnknownRecordData<Octs>) -> Ordering {
-        self.cmp(other)
+    fn canonical_cmp(&self, other: &UnknownRecordData<Other>) -> Ordering {
+        self.octets.as_slice().cmp(other.octets.as_slice())
     }
+}
+
+impl<Octs: Octets> TotalCanonicalOrd for UnknownRecordData<Octs> {
+    ghost total = { Prim.search (comparing, rules) };
 }
 
 /// The generic text of record data: `\#`, the number of octets, and each octet in two hexadecimal

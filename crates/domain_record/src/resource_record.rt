@@ -2,7 +2,7 @@
 ghost use Rattle.std.specs.Prelude.{◌≡◌, ◌≤◌, ◌==◌, ◌++◌, ◌⊎◌, Some, OnOk, OnErr, IfErr, true};
 ghost use Rattle.std.specs.Cmp.{unsigned_Decides};
 ghost use Rattle.std.specs.Cmp.{partial_equiv_from_equiv, nat_eq_equiv, nat_cmp_total, on_per, and_per, on_equiv, and_equiv, on_total, then_total};
-ghost use Rattle.std.specs.Ordering.{on, eq_of_both, then_cmp, nat_cmp};
+ghost use Rattle.std.specs.Ordering.{on, eq_of_both, ordering_then, nat_cmp};
 ghost use Rattle.std.specs.Fmt.{◌++?◌};
 ghost use Rattle.std.specs.Hash as fed;
 ghost use Rattle.std.specs.Hash.{and-Alike, on_Alike, same_Alike};
@@ -26,7 +26,7 @@ use domain_rdata::{
     RecordData, Rtype,
 };
 use domain_traits::{FlattenInto, ToName};
-use domain_wire::CanonicalOrd;
+use domain_wire::{CanonicalOrd, TotalCanonicalOrd};
 use octseq::{Octets, OctetsBuilder, OctetsFrom, ShortBuf, Truncate};
 use std::alloc::Global;
 use std::cmp::Ordering;
@@ -163,19 +163,21 @@ impl<N: Hash, D: RecordData + Hash> Hash for Record<N, D> {
 
 /// The order of class, owner, type and data: within an RRset that of the data (RFC 4034, 6.3), and the RRsets of a
 /// class in the order of their owners (RFC 4034, 6.1) and types.
-impl<N: CanonicalOrd, D: RecordData + CanonicalOrd> CanonicalOrd for Record<N, D> {
+impl<N, D, OtherName, OtherData> CanonicalOrd<Record<OtherName, OtherData>> for Record<N, D>
+where
+    N: CanonicalOrd<OtherName>,
+    D: RecordData + CanonicalOrd<OtherData>,
+    OtherData: RecordData,
+{
     ghost use Rattle.domain_record.specs.RecordParts.{owner_of, class_of, data_of};
 
-    ghost value_order = { then_cmp (on (λ r. class_number (class_of r)) nat_cmp)
-        (then_cmp (on owner_of N.value_order)
-        (then_cmp (on (λ r. D.type_number (data_of r)) nat_cmp) (on data_of D.value_order))) };
+    ghost value_order = { λ a b.
+        ordering_then (nat_cmp (class_number (class_of a)) (class_number (class_of b)))
+        (ordering_then (N.value_order (owner_of a) (owner_of b))
+        (ordering_then (nat_cmp (D.type_number (data_of a)) (OtherData.type_number (data_of b)))
+        (D.value_order (data_of a) (data_of b)))) };
 
-    ghost total = { then_total (on_total (λ r. class_number (class_of r)) nat_cmp_total)
-        (then_total (on_total owner_of N.total)
-        (then_total (on_total (λ r. D.type_number (data_of r)) nat_cmp_total)
-        (on_total data_of D.total))) };
-
-    fn canonical_cmp(&self, other: &Record<N, D>) -> Ordering {
+    fn canonical_cmp(&self, other: &Record<OtherName, OtherData>) -> Ordering {
         let by_class = self.class.cmp(&other.class);
         if by_class.is_ne() {
             return by_class;
@@ -190,6 +192,15 @@ impl<N: CanonicalOrd, D: RecordData + CanonicalOrd> CanonicalOrd for Record<N, D
         }
         self.rdata.canonical_cmp(&other.rdata)
     }
+}
+
+impl<N: TotalCanonicalOrd, D: RecordData + TotalCanonicalOrd> TotalCanonicalOrd for Record<N, D> {
+    ghost use Rattle.domain_record.specs.RecordParts.{owner_of, class_of, data_of};
+
+    ghost total = { then_total (on_total (λ r. class_number (class_of r)) nat_cmp_total)
+        (then_total (on_total owner_of N.total)
+        (then_total (on_total (λ r. D.type_number (data_of r)) nat_cmp_total)
+        (on_total data_of D.total))) };
 }
 
 /// Writes the owner's name with its final dot, TTL, class, type and data, with a space between:

@@ -13,7 +13,7 @@ ghost use Rattle.octseq.specs.Appending.{GrowsBy, LacksSpare};
 ghost use Rattle.domain_serial.specs.Serials.{NumberAt, distance, IsSerialOrder};
 ghost use Rattle.domain_wire.specs.Values.{Passes, ShortAt};
 
-use domain_wire::{CanonicalOrd, Compose, Parse, ParseError};
+use domain_wire::{CanonicalOrd, Compose, Parse, ParseError, TotalCanonicalOrd};
 use jiff::Timestamp;
 use octseq::{OctetsBuilder, Parser};
 use std::cmp::Ordering;
@@ -155,14 +155,16 @@ impl fmt::Display for Serial {
 }
 
 /// The canonical order is that of the numbers, not of serials.
-impl CanonicalOrd for Serial {
+impl CanonicalOrd<Serial> for Serial {
     ghost value_order = { on (λ serial. serial.0) nat_cmp };
-
-    ghost total = { Prim.search (comparing, rules) };
 
     fn canonical_cmp(&self, other: &Serial) -> Ordering {
         self.0.cmp(&other.0)
     }
+}
+
+impl TotalCanonicalOrd for Serial {
+    ghost total = { Prim.search (comparing, rules) };
 }
 
 /// A time of a signature that is none.

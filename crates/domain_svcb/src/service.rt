@@ -22,7 +22,7 @@ use domain_rdata::{
     CanonicalRecordData, ComposeRecordData, Composer, ParseRecordData, RecordData, Rtype,
 };
 use domain_traits::FlattenInto;
-use domain_wire::{CanonicalOrd, ParseError};
+use domain_wire::{CanonicalOrd, ParseError, TotalCanonicalOrd};
 use octseq::{Octets, OctetsFrom, Parser, ShortBuf};
 use std::alloc::Global;
 use std::cmp::Ordering;
@@ -180,18 +180,20 @@ impl<const TYPE: u16, F: DataField> CanonicalRecordData for ServiceData<TYPE, F>
 }
 
 /// The order of the octets of the canonical forms from the left; a missing octet comes before any (RFC 4034, 6.3).
-impl<const TYPE: u16, F: OrderedLast> CanonicalOrd for ServiceData<TYPE, F> {
+impl<const TYPE: u16, F: OrderedLast> CanonicalOrd<ServiceData<TYPE, F>> for ServiceData<TYPE, F> {
     ghost value_order = { on (λ it. F.uncompressed (service_fields it) (has_lowercase_names TYPE))
         (slice_cmp nat_cmp) };
-
-    ghost total = { on_total
-        (λ it. F.uncompressed (service_fields it) (has_lowercase_names TYPE))
-        nat_list_cmp_total };
 
     fn canonical_cmp(&self, other: &ServiceData<TYPE, F>) -> Ordering {
         let lowercase = Rtype::from_int(TYPE).has_lowercase_names();
         self.fields.canonical_last_cmp(&other.fields, lowercase)
     }
+}
+
+impl<const TYPE: u16, F: OrderedLast> TotalCanonicalOrd for ServiceData<TYPE, F> {
+    ghost total = { on_total
+        (λ it. F.uncompressed (service_fields it) (has_lowercase_names TYPE))
+        nat_list_cmp_total };
 }
 
 /// The octets of the fields, one after the other.

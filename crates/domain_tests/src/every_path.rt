@@ -36,7 +36,7 @@ pub mod serial {
 }
 
 pub mod cmp {
-    pub use domain::base::cmp::CanonicalOrd;
+    pub use domain::base::cmp::{CanonicalOrd, TotalCanonicalOrd};
 }
 
 pub mod compress {

@@ -24,7 +24,7 @@ use domain_rdata::{
 };
 use domain_strings::Quoted;
 use domain_traits::FlattenInto;
-use domain_wire::{CanonicalOrd, ParseError};
+use domain_wire::{CanonicalOrd, ParseError, TotalCanonicalOrd};
 use octseq::{Octets, OctetsFrom, Parser, SameOctets, ShortBuf};
 use std::alloc::{AllocError, Global};
 use std::cmp::Ordering;
@@ -393,7 +393,7 @@ impl<Octs: Octets> Ord for Txt<Octs> {
     ghost matches_eq = { Prim.search (comparing, rules) };
 
     fn cmp(&self, other: &Txt<Octs>) -> Ordering {
-        self.octets.as_slice().cmp(other.octets.as_slice())
+        self.canonical_cmp(other)
     }
 }
 
@@ -411,16 +411,18 @@ impl<Octs: Octets> PartialOrd for Txt<Octs> {
 }
 
 /// The order of the octets from the left (RFC 4034, 6.3).
-impl<Octs: Octets> CanonicalOrd for Txt<Octs> {
+impl<Octs: Octets, Other: Octets> CanonicalOrd<Txt<Other>> for Txt<Octs> {
     ghost use Rattle.domain_txt.specs.Txts.{txt_octets};
 
-    ghost value_order = { on txt_octets (slice_cmp nat_cmp) };
+    ghost value_order = { λ a b. slice_cmp nat_cmp (txt_octets a) (txt_octets b) };
 
-    ghost total = { Prim.search (comparing, rules) };
-
-    fn canonical_cmp(&self, other: &Txt<Octs>) -> Ordering {
-        self.cmp(other)
+    fn canonical_cmp(&self, other: &Txt<Other>) -> Ordering {
+        self.octets.as_slice().cmp(other.octets.as_slice())
     }
+}
+
+impl<Octs: Octets> TotalCanonicalOrd for Txt<Octs> {
+    ghost total = { Prim.search (comparing, rules) };
 }
 
 /// Each string between quotes, with a space between two (RFC 1035, 5.1).

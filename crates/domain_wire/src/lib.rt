@@ -8,7 +8,7 @@ pub mod laws;
 pub mod net;
 pub mod parse;
 
-pub use cmp::CanonicalOrd;
+pub use cmp::{CanonicalOrd, TotalCanonicalOrd};
 pub use compose::{Compose, FixedLen, compose_vec};
 pub use error::{FormError, ParseError};
 pub use net::{IpAddr, Ipv4Addr, Ipv6Addr};
