@@ -1,0 +1,210 @@
+//! Why records make no zone, by the conditions of the RFCs.
+//!
+//! The RRsets of a zone are in canonical order: the first two are the name servers and the SOA of its apex. A fault
+//! of an RRset has its index in this order.
+
+use crate::types::{A, CNAME, DNAME, DS, MX, NS, NSEC, RRSIG, SOA, TXT};
+use crate::zones::{Row, SOA_DATA, builder, built, copy, insert, insert_all, internet, owner};
+use domain_header::Class;
+use domain_zone::{BuildError, InsertError, RrsetFault, ZoneFault};
+use std::alloc::Global;
+use std::process::Abort;
+
+const SERVER: &[u8] = b"\x02ns\x07example\x03com\0";
+
+const ADDRESS: &[u8] = b"\xc0\0\x02\x01";
+
+/// The fault of an RRset.
+fn rrset(index: usize, fault: RrsetFault) -> Option<ZoneFault> {
+    Some(ZoneFault::Rrset(index, fault))
+}
+
+/// Why there is no zone at an apex with these records and no others.
+fn fault(rt: &impl Abort, alloc: Global, apex: &str, rows: &[Row]) -> Option<ZoneFault> {
+    let mut builder = builder(rt, alloc, apex);
+    insert_all(rt, alloc, &mut builder, rows);
+    match builder.finish(alloc) {
+        Ok(_) => None,
+        Err(BuildError::Fault(fault)) => Some(fault),
+        Err(BuildError::Memory) => panic!(rt; "no memory"),
+    }
+}
+
+/// Why there is no zone at `example.` with an SOA, name servers and these records.
+fn fault_beside(rt: &impl Abort, alloc: Global, rows: &[Row]) -> Option<ZoneFault> {
+    match built(rt, alloc, "example.", rows) {
+        Ok(_) => None,
+        Err(BuildError::Fault(fault)) => Some(fault),
+        Err(BuildError::Memory) => panic!(rt; "no memory"),
+    }
+}
+
+/// RFC 1034, 4.2.1; RFC 1035, 5.2; RFC 4035, 2.4.
+#[test]
+fn an_apex_has_one_soa_and_servers_and_no_ds(rt: HostRuntime) {
+    let alloc = rt.alloc();
+    let servers: Row = ("example.", NS, SERVER);
+    let soa: Row = ("example.", SOA, SOA_DATA);
+    let other_soa: Row = (
+        "example.",
+        SOA,
+        b"\0\0\0\0\0\x02\0\0\x0e\x10\0\0\x03\x84\0\x09\x3a\x80\0\0\x0e\x10",
+    );
+    for (rows, wanted) in [
+        ([servers, soa, soa].as_slice(), None),
+        (&[servers], Some(ZoneFault::NoSoa)),
+        (&[soa], Some(ZoneFault::NoServers)),
+        (&[], Some(ZoneFault::NoSoa)),
+        (
+            &[servers, soa, ("example.", DS, b"\0\x01\x08\x02")],
+            Some(ZoneFault::DsAtApex),
+        ),
+        (&[servers, soa, other_soa], rrset(1, RrsetFault::Soa)),
+        (
+            &[servers, soa, ("a.example.", SOA, SOA_DATA)],
+            rrset(2, RrsetFault::Soa),
+        ),
+        (&[("a.example.", SOA, SOA_DATA)], rrset(0, RrsetFault::Soa)),
+    ] {
+        assert_eq!(rt; fault(&rt, alloc, "example.", rows), wanted, "{wanted:?}");
+    }
+}
+
+/// RFC 2181, 10.1; RFC 4035, 2.5; RFC 6672, 2.3 and 2.4; RFC 4592, 4.2 and 4.4.
+#[test]
+fn records_that_cannot_be_beside_others_are_faults(rt: HostRuntime) {
+    let alloc = rt.alloc();
+    let cname: Row = ("a.example.", CNAME, SERVER);
+    let dname: Row = ("a.example.", DNAME, SERVER);
+    let servers: Row = ("a.example.", NS, SERVER);
+    for (rows, wanted) in [
+        (
+            [cname, ("a.example.", A, ADDRESS)].as_slice(),
+            rrset(2, RrsetFault::BesideCname),
+        ),
+        (
+            &[cname, ("A.EXAMPLE.", MX, b"\0\0\0")],
+            rrset(3, RrsetFault::BesideCname),
+        ),
+        (&[cname, dname], rrset(3, RrsetFault::BesideCname)),
+        (
+            &[
+                cname,
+                ("a.example.", RRSIG, b"\0"),
+                ("a.example.", NSEC, b"\0"),
+            ],
+            None,
+        ),
+        (&[cname, ("b.a.example.", A, ADDRESS)], None),
+        (
+            &[cname, ("a.example.", CNAME, b"\0")],
+            rrset(2, RrsetFault::Target),
+        ),
+        (
+            &[dname, ("a.example.", DNAME, b"\0")],
+            rrset(2, RrsetFault::Target),
+        ),
+        (
+            &[("a.example.", CNAME, b"\x02ns")],
+            rrset(2, RrsetFault::Target),
+        ),
+        (
+            &[("a.example.", DNAME, b"\xc0\0")],
+            rrset(2, RrsetFault::Target),
+        ),
+        (
+            &[dname, ("b.a.example.", A, ADDRESS)],
+            rrset(2, RrsetFault::AboveRecords),
+        ),
+        (
+            &[dname, ("d.c.b.A.example.", A, ADDRESS)],
+            rrset(2, RrsetFault::AboveRecords),
+        ),
+        (
+            &[
+                dname,
+                ("a.example.", A, ADDRESS),
+                ("ba.example.", A, ADDRESS),
+            ],
+            None,
+        ),
+        (&[dname, servers], rrset(3, RrsetFault::DnameAtCut)),
+        (&[("example.", DNAME, SERVER)], None),
+        (
+            &[("example.", DNAME, SERVER), ("a.example.", A, ADDRESS)],
+            rrset(2, RrsetFault::AboveRecords),
+        ),
+        (
+            &[("*.example.", NS, SERVER)],
+            rrset(2, RrsetFault::Wildcard),
+        ),
+        (
+            &[("*.b.example.", DNAME, SERVER)],
+            rrset(2, RrsetFault::Wildcard),
+        ),
+        (
+            &[("*.example.", CNAME, SERVER), ("a.*.example.", NS, SERVER)],
+            None,
+        ),
+    ] {
+        assert_eq!(rt; fault_beside(&rt, alloc, rows), wanted, "{wanted:?}");
+    }
+}
+
+/// RFC 4592, 4.1: a zone may begin at a wildcard.
+#[test]
+fn a_zone_may_begin_at_a_wildcard(rt: HostRuntime) {
+    let alloc = rt.alloc();
+    let rows: [Row; 2] = [("*.example.", NS, SERVER), ("*.example.", SOA, SOA_DATA)];
+    assert_eq!(rt; fault(&rt, alloc, "*.example.", &rows), None);
+}
+
+/// RFC 1034, 4.2.1; RFC 6895, 3.1; RFC 5155, 7.2.8.
+#[test]
+fn records_that_cannot_be_in_the_zone_are_not_inserted(rt: HostRuntime) {
+    let alloc = rt.alloc();
+    let mut builder = builder(&rt, alloc, "example.com.");
+    for (name, rtype, wanted) in [
+        ("example.com.", TXT, Ok(())),
+        ("A.b.EXAMPLE.com.", 65534, Ok(())),
+        ("a.example.com.", 127, Ok(())),
+        ("com.", TXT, Err(InsertError::OutOfZone)),
+        (".", TXT, Err(InsertError::OutOfZone)),
+        ("example.net.", TXT, Err(InsertError::OutOfZone)),
+        ("myexample.com.", TXT, Err(InsertError::OutOfZone)),
+        ("com.", 0, Err(InsertError::OutOfZone)),
+        ("a.example.com.", 0, Err(InsertError::NotDataType)),
+        ("a.example.com.", 41, Err(InsertError::NotDataType)),
+        ("a.example.com.", 50, Err(InsertError::NotDataType)),
+        ("a.example.com.", 128, Err(InsertError::NotDataType)),
+        ("a.example.com.", 252, Err(InsertError::NotDataType)),
+        ("a.example.com.", 255, Err(InsertError::NotDataType)),
+        ("a.example.com.", 65535, Err(InsertError::NotDataType)),
+    ] {
+        let inserted = insert(&rt, alloc, &mut builder, 60, (name, rtype, b"\0"));
+        assert_eq!(rt; inserted, wanted, "{name} {rtype}");
+    }
+}
+
+/// RFC 1035, 5.2: all records of a zone have one class.
+#[test]
+fn a_record_of_another_class_is_not_inserted(rt: HostRuntime) {
+    let alloc = rt.alloc();
+    let mut builder = builder(&rt, alloc, "example.");
+    for class in [3, 4, 254, 255] {
+        let name = owner(&rt, alloc, "com.");
+        let data = copy(&rt, alloc, ADDRESS);
+        let inserted = builder.insert(name, A, Class::from_int(class), 60, data);
+        assert_eq!(rt; inserted, Err(InsertError::OtherClass), "{class}");
+    }
+    insert_all(
+        &rt,
+        alloc,
+        &mut builder,
+        &[("example.", NS, SERVER), ("example.", SOA, SOA_DATA)],
+    );
+    match builder.finish(alloc) {
+        Ok(zone) => assert!(rt; zone.class() == internet() && zone.records().sets.len() == 2),
+        Err(why) => panic!(rt; "no zone: {why:?}"),
+    }
+}
