@@ -360,9 +360,8 @@ fn read_generic(
 ///
 /// # Errors
 ///
-/// `Refused` with the first fault from the left and its offset, of which [`place_of`](crate::place_of) tells line and
-/// column:
-/// - what [`split_words`](crate::split_words) refuses;
+/// `Refused` with a fault and its offset, of which [`place_of`](crate::place_of) tells line and column: what
+/// [`split_words`](crate::split_words) refuses, wherever it is, or else the first from the left of these:
 /// - `MissingWord` and `ExtraWord` where there are fewer words than fields, or more;
 /// - `Number`, `Ipv4`, `Name`, `CharString`, `Tag`, `QuotedText`, `Base16` at a word that isn't such a field;
 /// - `OnlyGeneric` at a word of a field that has no form of its own ([`TextForm`](crate::TextForm));
