@@ -71,7 +71,7 @@ pub fn put_labelmut(out: &Answer, octets: &[u8]) {
 pub fn put_labelfill(out: &Answer, octets: &[u8]) {
     let mut copy = out.copy_of(octets);
     match LabelMut::split_from_mut(copy.as_mut_slice()) {
-        Ok((label, _rest)) => {
+        Ok((mut label, _rest)) => {
             label.as_slice_mut().fill(b'*');
             out.put(b"ok ");
         }

@@ -3,6 +3,8 @@ mod LowercaseLemmas
 pub mod CanonicalForm
 mod OwnedLemmas
 mod OwnedMemory
+mod MutMemory
+mod RawReads
 pub mod ComparedOctets
 pub mod ReadOnce
 pub mod Scanning

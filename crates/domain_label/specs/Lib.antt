@@ -8,6 +8,7 @@ pub mod Hex
 pub mod ErrorText
 pub mod Labels
 pub mod Lending
+pub mod LendingLabel
 pub mod Spelling
 pub mod Scanning
 pub mod Yielding

@@ -1,5 +1,6 @@
 //! A label whose octets can be written in place.
 ghost use Rattle.std.specs.Prelude.{◌≡◌, ◌≤◌, ◌<◌, ◌↔◌, IfOk, IfErr, IsErr, length, take, drop};
+ghost use Rattle.std.specs.Borrow.{sem};
 ghost use Rattle.domain_label.specs.Lowercase.{lowercase};
 ghost use Rattle.domain_label.specs.Wire.{IsLabel};
 
@@ -16,6 +17,7 @@ pub struct LabelMut<'a> {
 impl<'a> LabelMut<'a> {
     ghost use Rattle.domain_label.specs.Splitting.{BeginsWithLabel, SplitFault};
     ghost use Rattle.domain_label.specs.Labels.{label_octets, label_mut_octets};
+    ghost use Rattle.domain_label.specs.LendingLabel.{LendsSlice};
 
     /// The label of these octets, in place.
     ///
@@ -63,8 +65,16 @@ impl<'a> LabelMut<'a> {
         Label::of_short(self.octets)
     }
 
-    /// The octets, for writing.
-    pub fn as_slice_mut(self) -> &'a mut [u8]
+    /// The octets, for writing. Those that the slice ends with are then this label's.
+    pub fn as_slice_mut(&mut self) -> &mut [u8]
+        ensures* writes_back { sem 𝓛 (LendsSlice self.entry result) }
+        ensures value { result.now ≡ label_mut_octets self.old }
+    {
+        self.octets
+    }
+
+    /// The octets, for writing for as long as they are borrowed.
+    pub fn into_slice_mut(self) -> &'a mut [u8]
         ensures same_reference { result.ghost_name ≡ self.entry.octets.ghost_name }
         ensures value { result.now ≡ label_mut_octets self.entry }
     {
