@@ -16,7 +16,9 @@ use prog.Memory.{align, up}
 use types.Logic.{Logic, sem}
 use types.SemTy.{Arr, Body}
 use types.Through.{hands_through}
-use types.Kit.{‵, ◌⊛◌, raw, some, later, ◌$◌, ◌∵◌, !, qed, move, drop, split, split3, join, fsplit, fsplit3, fjoin, fjoin3, fpick, fpack, feq_i, feq_l, use1, use2, use3, await, pick, updating, now, show, done, rewrite, check}
+use types.Kit.{‵, ◌⊛◌, raw, some, later, ◌$◌, ◌∵◌, !, qed, move, drop, split, split3, join, fsplit, fsplit3, fjoin}
+use types.Kit.{fjoin3, fpick, fpack, feq_i, feq_l, use1, use2, use3, await, pick, updating, now, show, done, rewrite}
+use types.Kit.{check}
 use denote.Array.{Array}
 use denote.Builtin.{u8}
 use denote.Follow.{follows}

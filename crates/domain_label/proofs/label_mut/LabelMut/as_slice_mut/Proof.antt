@@ -21,7 +21,8 @@ use denote.Triple.Walked.{Stays, says, stay_dropped, walk_of, ends_at, Goes-spen
 use mir.Syntax.{named}
 use mir.Val.{Val}
 use types.ByLocal.{alloc_all, pass_all, free_all, look_at, get, through, sets}
-use types.Kit.{‵, ◌⊛◌, some, later, ◌$◌, ◌∵◌, !, qed, done, move, keep, use3, split, split3, join, fsplit3, fjoin, pick, await, rewrite, suffices, frame, group}
+use types.Kit.{‵, ◌⊛◌, some, later, ◌$◌, ◌∵◌, !, qed, done, move, keep, use3, split, split3, join, fsplit3, fjoin}
+use types.Kit.{pick, await, rewrite, suffices, frame, group}
 use types.Part.{whole, sub, look_in, agg}
 use types.Run.{enter, of_opd, addr, load, stop, fld, hop, no_more, and_then, returns}
 use Rattle.std.proofs.raw_atomic.Walks.{proved}
