@@ -2,9 +2,9 @@
 ghost use Rattle.std.specs.Prelude.{◌≡◌, ◌==◌, ◌<◌, ◌≤◌, ◌↔◌, ◌++◌, ℕ, List, length, codes, None, Some, true, refl};
 ghost use Rattle.std.specs.Prelude.{IfOk, IfErr, IsErr, IsOk, OnOk, OnErr};
 ghost use Rattle.std.proofs.Common.{rules};
-ghost use Rattle.std.specs.Cmp.Lexicographic.{pointwise, slice_cmp};
+ghost use Rattle.std.specs.Cmp.Lexicographic.{nat_list_cmp_total, pointwise, slice_cmp};
 ghost use Rattle.std.specs.Cmp.Rules.{comparing};
-ghost use Rattle.std.specs.Cmp.{partial_order_from_own_ties};
+ghost use Rattle.std.specs.Cmp.{on_total, partial_order_from_own_ties};
 ghost use Rattle.std.specs.List.{flat_map};
 ghost use Rattle.std.specs.Ordering.{nat_cmp, on, as_partial_cmp};
 ghost use Rattle.octseq.specs.Parsing.{left, message, MovesTo};
@@ -333,7 +333,9 @@ impl<Octs: Octets, Other: Octets> CanonicalOrd<UnknownRecordData<Other>>
 }
 
 impl<Octs: Octets> TotalCanonicalOrd for UnknownRecordData<Octs> {
-    ghost total = { Prim.search (comparing, rules) };
+    ghost use Rattle.domain_rdata.specs.Unknown.{data_octets};
+
+    ghost total = { on_total data_octets nat_list_cmp_total };
 }
 
 /// The generic text of record data: `\#`, the number of octets, and each octet in two hexadecimal

@@ -1,9 +1,9 @@
 //! Data of TXT records.
 ghost use Rattle.std.specs.Prelude.{◌≡◌, ◌==◌, ◌<◌, ◌≤◌, ◌++◌, ◌∷◌, ◌+◌, [], ℕ, List, nat_eq, length, IfOk, IfErr, OnOk, OnErr, Some, MatchOption, MatchResult, true, refl};
 ghost use Rattle.std.proofs.Common.{rules};
-ghost use Rattle.std.specs.Cmp.Lexicographic.{pointwise, slice_cmp};
+ghost use Rattle.std.specs.Cmp.Lexicographic.{nat_list_cmp_total, pointwise, slice_cmp};
 ghost use Rattle.std.specs.Cmp.Rules.{comparing};
-ghost use Rattle.std.specs.Cmp.{partial_order_from_own_ties};
+ghost use Rattle.std.specs.Cmp.{on_total, partial_order_from_own_ties};
 ghost use Rattle.std.specs.List.{concat};
 ghost use Rattle.std.specs.Ordering.{nat_cmp, on, as_partial_cmp};
 ghost use Rattle.octseq.specs.Parsing.{message, position, MovesTo};
@@ -422,7 +422,9 @@ impl<Octs: Octets, Other: Octets> CanonicalOrd<Txt<Other>> for Txt<Octs> {
 }
 
 impl<Octs: Octets> TotalCanonicalOrd for Txt<Octs> {
-    ghost total = { Prim.search (comparing, rules) };
+    ghost use Rattle.domain_txt.specs.Txts.{txt_octets};
+
+    ghost total = { on_total txt_octets nat_list_cmp_total };
 }
 
 /// Each string between quotes, with a space between two (RFC 1035, 5.1).
