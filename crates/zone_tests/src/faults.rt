@@ -39,6 +39,16 @@ fn fault_beside(rt: &impl Abort, alloc: Global, rows: &[Row]) -> Option<ZoneFaul
     }
 }
 
+/// Sees that an apex with these records and no others has this fault.
+fn expect(rt: &impl Abort, alloc: Global, rows: &[Row], wanted: Option<ZoneFault>) {
+    assert_eq!(rt; fault(rt, alloc, "example.", rows), wanted, "{wanted:?}");
+}
+
+/// Sees that these records have this fault beside an SOA and name servers.
+fn expect_beside(rt: &impl Abort, alloc: Global, rows: &[Row], wanted: Option<ZoneFault>) {
+    assert_eq!(rt; fault_beside(rt, alloc, rows), wanted, "{wanted:?}");
+}
+
 /// RFC 1034, 4.2.1; RFC 1035, 5.2; RFC 4035, 2.4.
 #[test]
 fn an_apex_has_one_soa_and_servers_and_no_ds(rt: HostRuntime) {
@@ -50,105 +60,111 @@ fn an_apex_has_one_soa_and_servers_and_no_ds(rt: HostRuntime) {
         SOA,
         b"\0\0\0\0\0\x02\0\0\x0e\x10\0\0\x03\x84\0\x09\x3a\x80\0\0\x0e\x10",
     );
-    for (rows, wanted) in [
-        ([servers, soa, soa].as_slice(), None),
-        (&[servers], Some(ZoneFault::NoSoa)),
-        (&[soa], Some(ZoneFault::NoServers)),
-        (&[], Some(ZoneFault::NoSoa)),
-        (
-            &[servers, soa, ("example.", DS, b"\0\x01\x08\x02")],
-            Some(ZoneFault::DsAtApex),
-        ),
-        (&[servers, soa, other_soa], rrset(1, RrsetFault::Soa)),
-        (
-            &[servers, soa, ("a.example.", SOA, SOA_DATA)],
-            rrset(2, RrsetFault::Soa),
-        ),
-        (&[("a.example.", SOA, SOA_DATA)], rrset(0, RrsetFault::Soa)),
-    ] {
-        assert_eq!(rt; fault(&rt, alloc, "example.", rows), wanted, "{wanted:?}");
-    }
+    let ds: Row = ("example.", DS, b"\0\x01\x08\x02");
+    let low_soa: Row = ("a.example.", SOA, SOA_DATA);
+    expect(&rt, alloc, &[servers, soa, soa], None);
+    expect(&rt, alloc, &[servers], Some(ZoneFault::NoSoa));
+    expect(&rt, alloc, &[soa], Some(ZoneFault::NoServers));
+    expect(&rt, alloc, &[], Some(ZoneFault::NoSoa));
+    expect(&rt, alloc, &[servers, soa, ds], Some(ZoneFault::DsAtApex));
+    let beside_soa = rrset(1, RrsetFault::Soa);
+    expect(&rt, alloc, &[servers, soa, other_soa], beside_soa);
+    let below_soa = rrset(2, RrsetFault::Soa);
+    expect(&rt, alloc, &[servers, soa, low_soa], below_soa);
+    expect(&rt, alloc, &[low_soa], rrset(0, RrsetFault::Soa));
 }
 
-/// RFC 2181, 10.1; RFC 4035, 2.5; RFC 6672, 2.3 and 2.4; RFC 4592, 4.2 and 4.4.
+/// RFC 2181, 10.1; RFC 4035, 2.5.
 #[test]
-fn records_that_cannot_be_beside_others_are_faults(rt: HostRuntime) {
+fn what_cannot_be_beside_a_cname_is_a_fault(rt: HostRuntime) {
     let alloc = rt.alloc();
     let cname: Row = ("a.example.", CNAME, SERVER);
+    let address: Row = ("a.example.", A, ADDRESS);
+    let mail: Row = ("A.EXAMPLE.", MX, b"\0\0\0");
     let dname: Row = ("a.example.", DNAME, SERVER);
+    let signature: Row = ("a.example.", RRSIG, b"\0");
+    let next: Row = ("a.example.", NSEC, b"\0");
+    let below: Row = ("b.a.example.", A, ADDRESS);
+    let second: Row = ("a.example.", CNAME, b"\0");
+    let cut_off: Row = ("a.example.", CNAME, b"\x02ns");
+    expect_beside(
+        &rt,
+        alloc,
+        &[cname, address],
+        rrset(2, RrsetFault::BesideCname),
+    );
+    expect_beside(
+        &rt,
+        alloc,
+        &[cname, mail],
+        rrset(3, RrsetFault::BesideCname),
+    );
+    expect_beside(
+        &rt,
+        alloc,
+        &[cname, dname],
+        rrset(3, RrsetFault::BesideCname),
+    );
+    expect_beside(&rt, alloc, &[cname, signature, next], None);
+    expect_beside(&rt, alloc, &[cname, below], None);
+    expect_beside(&rt, alloc, &[cname, second], rrset(2, RrsetFault::Target));
+    expect_beside(&rt, alloc, &[cut_off], rrset(2, RrsetFault::Target));
+}
+
+/// RFC 6672, 2.3 and 2.4.
+#[test]
+fn records_below_a_dname_are_a_fault(rt: HostRuntime) {
+    let alloc = rt.alloc();
+    let dname: Row = ("a.example.", DNAME, SERVER);
+    let second: Row = ("a.example.", DNAME, b"\0");
+    let compressed: Row = ("a.example.", DNAME, b"\xc0\0");
+    let below: Row = ("b.a.example.", A, ADDRESS);
+    let far_below: Row = ("d.c.b.A.example.", A, ADDRESS);
+    let at_it: Row = ("a.example.", A, ADDRESS);
+    let beside: Row = ("ba.example.", A, ADDRESS);
     let servers: Row = ("a.example.", NS, SERVER);
-    for (rows, wanted) in [
-        (
-            [cname, ("a.example.", A, ADDRESS)].as_slice(),
-            rrset(2, RrsetFault::BesideCname),
-        ),
-        (
-            &[cname, ("A.EXAMPLE.", MX, b"\0\0\0")],
-            rrset(3, RrsetFault::BesideCname),
-        ),
-        (&[cname, dname], rrset(3, RrsetFault::BesideCname)),
-        (
-            &[
-                cname,
-                ("a.example.", RRSIG, b"\0"),
-                ("a.example.", NSEC, b"\0"),
-            ],
-            None,
-        ),
-        (&[cname, ("b.a.example.", A, ADDRESS)], None),
-        (
-            &[cname, ("a.example.", CNAME, b"\0")],
-            rrset(2, RrsetFault::Target),
-        ),
-        (
-            &[dname, ("a.example.", DNAME, b"\0")],
-            rrset(2, RrsetFault::Target),
-        ),
-        (
-            &[("a.example.", CNAME, b"\x02ns")],
-            rrset(2, RrsetFault::Target),
-        ),
-        (
-            &[("a.example.", DNAME, b"\xc0\0")],
-            rrset(2, RrsetFault::Target),
-        ),
-        (
-            &[dname, ("b.a.example.", A, ADDRESS)],
-            rrset(2, RrsetFault::AboveRecords),
-        ),
-        (
-            &[dname, ("d.c.b.A.example.", A, ADDRESS)],
-            rrset(2, RrsetFault::AboveRecords),
-        ),
-        (
-            &[
-                dname,
-                ("a.example.", A, ADDRESS),
-                ("ba.example.", A, ADDRESS),
-            ],
-            None,
-        ),
-        (&[dname, servers], rrset(3, RrsetFault::DnameAtCut)),
-        (&[("example.", DNAME, SERVER)], None),
-        (
-            &[("example.", DNAME, SERVER), ("a.example.", A, ADDRESS)],
-            rrset(2, RrsetFault::AboveRecords),
-        ),
-        (
-            &[("*.example.", NS, SERVER)],
-            rrset(2, RrsetFault::Wildcard),
-        ),
-        (
-            &[("*.b.example.", DNAME, SERVER)],
-            rrset(2, RrsetFault::Wildcard),
-        ),
-        (
-            &[("*.example.", CNAME, SERVER), ("a.*.example.", NS, SERVER)],
-            None,
-        ),
-    ] {
-        assert_eq!(rt; fault_beside(&rt, alloc, rows), wanted, "{wanted:?}");
-    }
+    let at_apex: Row = ("example.", DNAME, SERVER);
+    expect_beside(&rt, alloc, &[dname, second], rrset(2, RrsetFault::Target));
+    expect_beside(&rt, alloc, &[compressed], rrset(2, RrsetFault::Target));
+    expect_beside(
+        &rt,
+        alloc,
+        &[dname, below],
+        rrset(2, RrsetFault::AboveRecords),
+    );
+    expect_beside(
+        &rt,
+        alloc,
+        &[dname, far_below],
+        rrset(2, RrsetFault::AboveRecords),
+    );
+    expect_beside(&rt, alloc, &[dname, at_it, beside], None);
+    expect_beside(
+        &rt,
+        alloc,
+        &[dname, servers],
+        rrset(3, RrsetFault::DnameAtCut),
+    );
+    expect_beside(&rt, alloc, &[at_apex], None);
+    expect_beside(
+        &rt,
+        alloc,
+        &[at_apex, at_it],
+        rrset(2, RrsetFault::AboveRecords),
+    );
+}
+
+/// RFC 4592, 4.2 and 4.4.
+#[test]
+fn servers_and_dnames_at_a_wildcard_are_a_fault(rt: HostRuntime) {
+    let alloc = rt.alloc();
+    let servers: Row = ("*.example.", NS, SERVER);
+    let dname: Row = ("*.b.example.", DNAME, SERVER);
+    let cname: Row = ("*.example.", CNAME, SERVER);
+    let below: Row = ("a.*.example.", NS, SERVER);
+    expect_beside(&rt, alloc, &[servers], rrset(2, RrsetFault::Wildcard));
+    expect_beside(&rt, alloc, &[dname], rrset(2, RrsetFault::Wildcard));
+    expect_beside(&rt, alloc, &[cname, below], None);
 }
 
 /// RFC 4592, 4.1: a zone may begin at a wildcard.
