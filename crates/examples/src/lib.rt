@@ -14,6 +14,7 @@ pub mod host_labels;
 pub mod hosts;
 pub mod labels;
 pub mod made_names;
+pub mod name_tables;
 pub mod octets;
 pub mod owners;
 pub mod reading;
