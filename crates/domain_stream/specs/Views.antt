@@ -35,6 +35,10 @@ held_octets {g = g} it = g.octets it.buffer
 abbrev pub most_octets_of : {O : Type 0} {g : Ghosts O} → StreamReader O g → ℕ
 most_octets_of it = it.limit
 
+-- how many octets a reader has room for, those that it holds included
+abbrev pub reader_room : {O : Type 0} {g : Ghosts O} → StreamReader O g → ℕ
+reader_room {g = g} it = g.capacity it.buffer
+
 -- A reader took n octets of a piece.
 abbrev pub TakesPiece : {O : Type 0} {g : Ghosts O} → StreamReader O g → List ℕ → StreamReader O g → ℕ → Type 0
 TakesPiece old piece new n =
