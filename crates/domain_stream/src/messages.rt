@@ -37,7 +37,8 @@ pub(crate) fn first_message(octets: &[u8]) -> Option<(&[u8], &[u8])>
     Some((&octets[2..end], &octets[end..]))
 }
 
-/// The complete messages in octets of a stream, one after another. After the last one it stays at `None`.
+/// The complete messages in octets of a stream, one after another. After the last one it stays at `None`, and the
+/// octets that follow stay, too.
 ///
 /// An item borrows its octets, without the length field. A call of `next` reads one length field.
 #[derive(Clone, Copy, Debug)]
@@ -90,12 +91,12 @@ impl<'a> StreamMessages<'a> {
 
 /// The octets of each message, without its length field.
 impl<'a> Iterator for StreamMessages<'a> {
-    ghost use Rattle.std.specs.Iterator.{YieldsFirstBy, item_count};
-    ghost use Rattle.domain_stream.specs.Views.{message_octets_of, messages_left};
+    ghost use Rattle.std.specs.Iterator.{item_count};
+    ghost use Rattle.domain_stream.specs.Views.{messages_left, GivesMessage};
 
     type Item = &'a [u8];
 
-    ghost next_gives = { YieldsFirstBy message_octets_of messages_left };
+    ghost next_gives = { GivesMessage };
 
     ghost remaining = { item_count messages_left };
 

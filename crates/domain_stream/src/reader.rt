@@ -52,14 +52,17 @@ pub struct StreamReader<Octs: Octets> {
 }
 
 impl<Octs: OctetsBuilder> StreamReader<Octs> {
-    ghost use Rattle.domain_stream.specs.Views.{held_octets, most_octets_of, TakesPiece, PieceNotTaken};
+    ghost use Rattle.domain_stream.specs.Views.{held_octets, most_octets_of, reader_room};
+    ghost use Rattle.domain_stream.specs.Views.{TakesPiece, PieceNotTaken};
 
     /// Returns a reader at the start of a stream, for messages of at most `limit` octets.
     ///
-    /// The octets in the buffer are removed; its capacity is used.
+    /// The limit doesn't count the length field. The octets in the buffer are removed; its capacity is used, and nothing
+    /// is allocated.
     pub fn new(buffer: Octs, limit: u16) -> StreamReader<Octs>
         ensures held { held_octets result ≡ [] }
         ensures limit { most_octets_of result ≡ limit }
+        ensures room { reader_room result ≡ Octs.capacity buffer }
     {
         let mut buffer = buffer;
         buffer.truncate(0);
@@ -74,7 +77,8 @@ impl<Octs: OctetsBuilder> StreamReader<Octs> {
     ///
     /// - `Oversized` exactly where the length field states more octets than the limit: once both octets of the field
     ///   are held or in the piece. The stream can't be read on.
-    /// - `Append` only where the octets exceed the spare capacity of the buffer.
+    /// - `Append` only where the octets exceed the spare capacity of the buffer: never where that has room for the
+    ///   limit and two octets. No call makes the capacity smaller.
     ///
     /// No octet is taken then.
     pub fn push(&mut self, piece: &[u8]) -> Result<usize, StreamError<Octs::AppendError>>
@@ -84,6 +88,7 @@ impl<Octs: OctetsBuilder> StreamReader<Octs> {
         ensures err { IfErr result (PieceNotTaken piece.now self.old) }
         ensures unchanged { OnErr result (held_octets self.new ≡ held_octets self.old) }
         ensures limit { most_octets_of self.new ≡ most_octets_of self.old }
+        ensures room { reader_room self.old ≤ reader_room self.new }
     {
         let limit = self.limit;
         let count = match count_octets(self.buffer.as_slice(), piece, limit) {
@@ -105,11 +110,12 @@ impl<Octs: OctetsBuilder> StreamReader<Octs> {
         Some(message)
     }
 
-    /// Removes the message that the reader holds. One that is incomplete stays.
+    /// Removes the message that the reader holds. One that is incomplete stays. The capacity of the buffer stays, too.
     pub fn remove_message(&mut self)
         ensures held { held_octets self.new ≡ rest_in (held_octets self.old) }
         ensures incomplete { IsIncomplete (held_octets self.new) }
         ensures limit { most_octets_of self.new ≡ most_octets_of self.old }
+        ensures room { reader_room self.new ≡ reader_room self.old }
     {
         let octets = self.buffer.as_slice();
         if octets.len() >= message_end(octets) {
