@@ -40,11 +40,14 @@ pub struct ZoneBuilder {
 }
 
 impl ZoneBuilder {
-    ghost use Rattle.std.specs.Prelude.{◌≡◌, [], ◌∷◌, ◌++◌, IfOk, IfErr, OnOk, OnErr};
+    ghost use Rattle.std.specs.Prelude.{◌≡◌, [], ◌∷◌, ◌++◌, Err, IfOk, IfErr, OnOk, OnErr};
+    ghost use Rattle.domain_header.specs.Values.{class_number};
+    ghost use Rattle.domain_list.specs.Ends.{EndsWith};
     ghost use Rattle.domain_name.specs.Names.{name_labels};
     ghost use Rattle.domain_zone.specs.Builders.{inserted, builder_apex, builder_class, IsRefused, MakesNoZone, MayBeInserted};
     ghost use Rattle.domain_zone.specs.Building.{Inserted, Holds};
     ghost use Rattle.domain_zone.specs.Kept.{zone_view, zone_class};
+    ghost use Rattle.domain_zone.specs.declared.building.InsertError.TheVariants.{OtherClass, OutOfZone, NotDataType};
 
     /// A builder of a zone of this class at this apex, without records.
     pub fn new(alloc: Global, class: Class, apex: Owner) -> ZoneBuilder
@@ -77,6 +80,15 @@ impl ZoneBuilder {
             ++ record { owner = name_labels owner; rtype = rtype; ttl = ttl; octets = octets.items } ∷ []) }
         ensures accepts { OnOk result (MayBeInserted self.old (name_labels owner) rtype class) }
         ensures err { IfErr result (IsRefused self.old (name_labels owner) rtype class) }
+        ensures other_class { IsRefused self.old (name_labels owner) rtype class OtherClass
+            → result ≡ Err OtherClass }
+        ensures out_of_zone { class_number class ≡ class_number (builder_class self.old)
+            → IsRefused self.old (name_labels owner) rtype class OutOfZone
+            → result ≡ Err OutOfZone }
+        ensures not_data_type { class_number class ≡ class_number (builder_class self.old)
+            → EndsWith (name_labels owner) (builder_apex self.old)
+            → IsRefused self.old (name_labels owner) rtype class NotDataType
+            → result ≡ Err NotDataType }
         ensures unchanged { OnErr result (inserted self.new ≡ inserted self.old) }
         ensures apex { builder_apex self.new ≡ builder_apex self.old }
         ensures class { builder_class self.new ≡ builder_class self.old }
