@@ -57,7 +57,9 @@ impl Zone {
 
     /// The apex and the RRsets, moved out of the zone.
     pub fn into_records(self) -> ZoneRecords<Owner>
-        ensures { records_view result ≡ zone_view self }
+        ensures view { records_view result ≡ zone_view self }
+        ensures zone { IsZone (records_view result) }
+        ensures canonical { IsCanonical (records_view result) }
     {
         let Zone { records, .. } = self;
         records
