@@ -8,6 +8,8 @@ use crate::merging::merged;
 use crate::names::Owner;
 use domain_header::Class;
 use std::alloc::Global;
+use std::error::Error;
+use std::fmt;
 
 /// Why a record isn't inserted.
 #[derive(Clone, Copy, Debug, PartialEq, Eq)]
@@ -22,6 +24,24 @@ pub enum InsertError {
     Memory,
 }
 
+impl fmt::Display for InsertError {
+    ghost use Rattle.std.specs.Prelude.{Some};
+    ghost use Rattle.domain_zone.specs.ErrorText.{insert_error_text};
+
+    ghost output = { λ e. Some (insert_error_text e) };
+
+    fn fmt<W: fmt::Write>(&self, f: &mut fmt::Formatter<W>) -> fmt::Result {
+        match self {
+            InsertError::OtherClass => write!(f, "class other than that of the zone"),
+            InsertError::OutOfZone => write!(f, "owner not at or below the apex"),
+            InsertError::NotDataType => write!(f, "type that no record of a zone has"),
+            InsertError::Memory => write!(f, "out of memory"),
+        }
+    }
+}
+
+impl Error for InsertError {}
+
 /// Why no zone is made.
 #[derive(Clone, Copy, Debug, PartialEq, Eq)]
 pub enum BuildError {
@@ -29,6 +49,33 @@ pub enum BuildError {
     Fault(ZoneFault),
     /// An allocation failed.
     Memory,
+}
+
+impl fmt::Display for BuildError {
+    ghost use Rattle.std.specs.Prelude.{Some};
+    ghost use Rattle.domain_zone.specs.ErrorText.{build_error_text};
+
+    ghost output = { λ e. Some (build_error_text e) };
+
+    fn fmt<W: fmt::Write>(&self, f: &mut fmt::Formatter<W>) -> fmt::Result {
+        match self {
+            BuildError::Fault(fault) => write!(f, "{fault}"),
+            BuildError::Memory => write!(f, "out of memory"),
+        }
+    }
+}
+
+impl Error for BuildError {}
+
+impl From<ZoneFault> for BuildError {
+    ghost use Rattle.std.specs.Prelude.{◌≡◌};
+    ghost use Rattle.domain_zone.specs.declared.building.BuildError.TheVariants.{Fault};
+
+    ghost from_gives = { λ fault e. e ≡ Fault fault };
+
+    fn from(fault: ZoneFault) -> BuildError {
+        BuildError::Fault(fault)
+    }
 }
 
 /// Records that are to be a zone.
