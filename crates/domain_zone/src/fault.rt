@@ -12,8 +12,8 @@ pub enum RrsetFault {
     NotDataType,
     /// It has no records (RFC 2181, 5).
     NoRecords,
-    /// The data of its records aren't in ascending order of their octets, or are repeated (RFC 2181, 5; RFC 4034,
-    /// 6.3).
+    /// The data of its records aren't in ascending order, or are repeated (RFC 2181, 5). Data are compared as octets,
+    /// unchanged: the order of RFC 4034, 6.3, has names in lower case.
     DataOrder,
     /// It is an SOA below the apex, or of more than one record (RFC 1034, 4.2.1; RFC 1035, 5.2).
     Soa,
@@ -59,7 +59,7 @@ pub enum ZoneFault {
     /// The RRsets aren't in the canonical order of their owners and in ascending order of their types, or two have one
     /// owner and one type (RFC 4034, 6.1; RFC 2181, 5).
     Order,
-    /// The RRset at this index can't be in the zone.
+    /// The RRset at this index, which counts from 0, can't be in the zone.
     Rrset(usize, RrsetFault),
     /// The apex owns no SOA (RFC 1034, 4.2.1).
     NoSoa,

@@ -32,7 +32,7 @@ impl Zone {
     ///
     /// # Errors
     ///
-    /// What `find_fault` finds: exactly where the records are no zone, or aren't in this order.
+    /// A fault of the records, which `find_fault` finds: exactly where they are no zone, or aren't in this order.
     pub fn from_records(class: Class, records: ZoneRecords<Owner>) -> Result<Zone, ZoneFault>
         ensures accepts { IsOk result
             ↔ (IsCanonical (records_view records) × IsZone (records_view records)) }
