@@ -123,8 +123,8 @@ adds_new ys r i =
       new = (x, inserted_new ys i x, (of, head_of r.octets [], le_refl r.ttl));
       kept = λ y c. (y, inserted_kept ys i x y c, ((refl, refl), (λ d h. h), le_refl y.ttl));
       only = λ s c. ⊎_elim
-          (λ (e : x ≡ s). subst (IsMadeFrom ys r) e (record { octets = λ d h. inl (of, only_one r.octets d h); ttl = inl (of, refl) }))
-          (λ b. record { octets = λ d h. inr (s, b, (refl, refl), h); ttl = inr (s, b, (refl, refl), refl) })
+          (λ (e : x ≡ s). subst (IsMadeFrom ys r) e (record { octets = λ d h. inl (of, only_one r.octets d h); ttl = inl (of, refl); owner = inl (of, refl) }))
+          (λ b. record { octets = λ d h. inr (s, b, (refl, refl), h); ttl = inr (s, b, (refl, refl), refl); owner = inr (s, b, (refl, refl), refl) })
           (inserted_cases ys i x s c);
     }
 
@@ -146,9 +146,10 @@ adds_joined ys r i y s l e o j =
           (λ (f : s ≡ t). subst (IsMadeFrom ys r) f (record {
             octets = λ d h. ⊎_elim (λ a. inr (y, there, key, a)) (λ g. inl (of, g)) ((j.rdata.some d).0 h);
             ttl = ⊎_elim (λ g. inr (y, there, key, g)) (λ g. inl (of, g)) j.same;
+            owner = inr (y, there, key, sym j.owner);
           }))
           (λ b. let was = left_kept ys i y t l e b in
-          record { octets = λ d h. inr (t, was, (refl, refl), h); ttl = inr (t, was, (refl, refl), refl) })
+          record { octets = λ d h. inr (t, was, (refl, refl), h); ttl = inr (t, was, (refl, refl), refl); owner = inr (t, was, (refl, refl), refl) })
           (inserted_cases (remove ys i) i s t c);
     }
 
@@ -280,6 +281,12 @@ building_more rs left x ys zs b a = record {
             let g = (b.only k.0 k.1).ttl in
             let found : (r : Inserted) × Contains rs r × IsOf s r × (r.ttl ≡ s.ttl) = (g.0, g.1, (k.2.0 ∙ g.2.0, k.2.1 ∙ g.2.1), g.3 ∙ k.3) in found)
             m.ttl;
+        owner = ⊎_elim
+            (λ (k : IsOf s x × (x.owner ≡ s.owner)). let found : (r : Inserted) × Contains rs r × IsOf s r × (r.owner ≡ s.owner) = (x, here, k.0, k.1) in found)
+            (λ (k : (y : RRset) × Contains ys y × SameKey s y × (y.owner ≡ s.owner)).
+            let g = (b.only k.0 k.1).owner in
+            let found : (r : Inserted) × Contains rs r × IsOf s r × (r.owner ≡ s.owner) = (g.0, g.1, (k.2.0 ∙ g.2.0, k.2.1 ∙ g.2.1), g.3 ∙ k.3) in found)
+            m.owner;
       };
 }
 

@@ -30,12 +30,13 @@ builder_class b = b.class
 abbrev pub MayBeInserted : ZoneBuilder → List (List ℕ) → ℕ → Class → Type 0
 MayBeInserted b n t c = (class_number c ≡ class_number (builder_class b)) × EndsWith n (builder_apex b) × (IsDataType t × (t ≢ NSEC3))
 
--- A record of this owner, type and class isn't inserted, for this reason.
+-- A record of this owner, type and class isn't inserted, for this reason. `Memory` is that of a record that may be in
+-- the zone.
 abbrev pub IsRefused : ZoneBuilder → List (List ℕ) → ℕ → Class → InsertError → Type 0
 IsRefused b n t c insert.OtherClass = class_number c ≢ class_number (builder_class b)
 IsRefused b n t c insert.OutOfZone = EndsWith n (builder_apex b) → ⊥
 IsRefused b n t c insert.NotDataType = IsDataType t × (t ≢ NSEC3) → ⊥
-IsRefused b n t c insert.Memory = ⊤
+IsRefused b n t c insert.Memory = MayBeInserted b n t c
 
 -- The records that were inserted make no zone: the RRsets that hold them, in canonical order, have this fault.
 abbrev pub MakesNoZone : ZoneBuilder → BuildError → Type 0

@@ -23,10 +23,11 @@ IsOf s r = SameLabels s.owner r.owner × (s.rtype ≡ r.rtype)
 abbrev pub HasRecord : RRset → Inserted → Type 0
 HasRecord s r = IsOf s r × Contains s.rdata r.octets × (s.ttl ≤ r.ttl)
 
--- Each of the RRset's data, and its TTL, are those of one of these records.
+-- Each of the RRset's data, its TTL, and how its owner is spelled, are those of one of these records.
 pub record IsMadeOf (rs : List Inserted) (s : RRset) : Type 0 where
   pub octets : (d : List ℕ) → Contains s.rdata d → (r : Inserted) × Contains rs r × IsOf s r × (r.octets ≡ d)
   pub ttl : (r : Inserted) × Contains rs r × IsOf s r × (r.ttl ≡ s.ttl)
+  pub owner : (r : Inserted) × Contains rs r × IsOf s r × (r.owner ≡ s.owner)
 
 -- The RRsets have these records and no others, and each the lowest TTL of its records (RFC 2181, 5 and 5.2).
 pub record Holds (rs : List Inserted) (sets : List RRset) : Type 0 where
@@ -47,6 +48,7 @@ IsLarger y s = SameKey s y × ((d : List ℕ) → Contains y.rdata d → Contain
 pub record IsMadeFrom (ys : List RRset) (r : Inserted) (s : RRset) : Type 0 where
   pub octets : (d : List ℕ) → Contains s.rdata d → (IsOf s r × (r.octets ≡ d)) ⊎ ((y : RRset) × Contains ys y × SameKey s y × Contains y.rdata d)
   pub ttl : (IsOf s r × (r.ttl ≡ s.ttl)) ⊎ ((y : RRset) × Contains ys y × SameKey s y × (y.ttl ≡ s.ttl))
+  pub owner : (IsOf s r × (r.owner ≡ s.owner)) ⊎ ((y : RRset) × Contains ys y × SameKey s y × (y.owner ≡ s.owner))
 
 -- The RRsets ys and the record r make the RRsets zs.
 pub record Adds (ys : List RRset) (r : Inserted) (zs : List RRset) : Type 0 where

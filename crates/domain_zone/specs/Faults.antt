@@ -13,12 +13,13 @@ use Rattle.domain_zone.specs.declared.fault.RrsetFault.TheVariants.{OutOfZone, N
 use Rattle.domain_zone.specs.declared.fault.ZoneFault.{ZoneFault}
 use Rattle.domain_zone.specs.declared.fault.ZoneFault.TheVariants.{Order, Rrset, NoSoa, NoServers, DsAtApex}
 
--- The data of each record come before those after them, as octets from the left (RFC 4034, 6.3).
+-- The data of each record come before those after them, as octets from the left. The octets are compared unchanged:
+-- the order of RFC 4034, 6.3, has names in lower case.
 abbrev pub IsAscending : List (List ℕ) → Type 0
 IsAscending os = (j k : ℕ) (d : List ℕ) → j < k → k < length os →
     slice_cmp nat_cmp (slice_index_or os j d) (slice_index_or os k d) ≡ Less
 
--- The RRsets are in canonical order, and the records of each are (RFC 4034, 6.1 and 6.3).
+-- The RRsets are in canonical order (RFC 4034, 6.1), and the records of each in ascending order of their octets.
 pub record IsCanonical (z : Zone) : Type 0 where
   pub sorted : IsSorted z
   pub ascending : All (λ s. IsAscending s.rdata) z.rrsets

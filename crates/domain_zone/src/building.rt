@@ -8,6 +8,8 @@ use crate::merging::merged;
 use crate::names::Owner;
 use domain_header::Class;
 use std::alloc::Global;
+use std::error::Error;
+use std::fmt;
 
 /// Why a record isn't inserted.
 #[derive(Clone, Copy, Debug, PartialEq, Eq)]
@@ -22,6 +24,24 @@ pub enum InsertError {
     Memory,
 }
 
+impl fmt::Display for InsertError {
+    ghost use Rattle.std.specs.Prelude.{Some};
+    ghost use Rattle.domain_zone.specs.ErrorText.{insert_error_text};
+
+    ghost output = { λ e. Some (insert_error_text e) };
+
+    fn fmt<W: fmt::Write>(&self, f: &mut fmt::Formatter<W>) -> fmt::Result {
+        match self {
+            InsertError::OtherClass => write!(f, "class other than that of the zone"),
+            InsertError::OutOfZone => write!(f, "owner not at or below the apex"),
+            InsertError::NotDataType => write!(f, "type that no record of a zone has"),
+            InsertError::Memory => write!(f, "out of memory"),
+        }
+    }
+}
+
+impl Error for InsertError {}
+
 /// Why no zone is made.
 #[derive(Clone, Copy, Debug, PartialEq, Eq)]
 pub enum BuildError {
@@ -29,6 +49,33 @@ pub enum BuildError {
     Fault(ZoneFault),
     /// An allocation failed.
     Memory,
+}
+
+impl fmt::Display for BuildError {
+    ghost use Rattle.std.specs.Prelude.{Some};
+    ghost use Rattle.domain_zone.specs.ErrorText.{build_error_text};
+
+    ghost output = { λ e. Some (build_error_text e) };
+
+    fn fmt<W: fmt::Write>(&self, f: &mut fmt::Formatter<W>) -> fmt::Result {
+        match self {
+            BuildError::Fault(fault) => write!(f, "{fault}"),
+            BuildError::Memory => write!(f, "out of memory"),
+        }
+    }
+}
+
+impl Error for BuildError {}
+
+impl From<ZoneFault> for BuildError {
+    ghost use Rattle.std.specs.Prelude.{◌≡◌};
+    ghost use Rattle.domain_zone.specs.declared.building.BuildError.TheVariants.{Fault};
+
+    ghost from_gives = { λ fault e. e ≡ Fault fault };
+
+    fn from(fault: ZoneFault) -> BuildError {
+        BuildError::Fault(fault)
+    }
 }
 
 /// Records that are to be a zone.
@@ -40,11 +87,14 @@ pub struct ZoneBuilder {
 }
 
 impl ZoneBuilder {
-    ghost use Rattle.std.specs.Prelude.{◌≡◌, [], ◌∷◌, ◌++◌, IfOk, IfErr, OnOk, OnErr};
+    ghost use Rattle.std.specs.Prelude.{◌≡◌, [], ◌∷◌, ◌++◌, Err, IfOk, IfErr, OnOk, OnErr};
+    ghost use Rattle.domain_header.specs.Values.{class_number};
+    ghost use Rattle.domain_list.specs.Ends.{EndsWith};
     ghost use Rattle.domain_name.specs.Names.{name_labels};
     ghost use Rattle.domain_zone.specs.Builders.{inserted, builder_apex, builder_class, IsRefused, MakesNoZone, MayBeInserted};
     ghost use Rattle.domain_zone.specs.Building.{Inserted, Holds};
     ghost use Rattle.domain_zone.specs.Kept.{zone_view, zone_class};
+    ghost use Rattle.domain_zone.specs.declared.building.InsertError.TheVariants.{OtherClass, OutOfZone, NotDataType};
 
     /// A builder of a zone of this class at this apex, without records.
     pub fn new(alloc: Global, class: Class, apex: Owner) -> ZoneBuilder
@@ -59,12 +109,12 @@ impl ZoneBuilder {
         }
     }
 
-    /// Inserts a record. Its data are octets, in which names aren't compressed.
+    /// Inserts a record. `ttl` is in seconds. The data are octets, in which names aren't compressed.
     ///
     /// # Errors
     ///
     /// The first of these that holds: `OtherClass`, `OutOfZone`, `NotDataType`; `Memory` where an allocation failed.
-    /// The builder is unchanged then.
+    /// The builder is unchanged then. The owner and the data are dropped.
     pub fn insert(
         &mut self,
         owner: Owner,
@@ -77,6 +127,15 @@ impl ZoneBuilder {
             ++ record { owner = name_labels owner; rtype = rtype; ttl = ttl; octets = octets.items } ∷ []) }
         ensures accepts { OnOk result (MayBeInserted self.old (name_labels owner) rtype class) }
         ensures err { IfErr result (IsRefused self.old (name_labels owner) rtype class) }
+        ensures other_class { IsRefused self.old (name_labels owner) rtype class OtherClass
+            → result ≡ Err OtherClass }
+        ensures out_of_zone { class_number class ≡ class_number (builder_class self.old)
+            → IsRefused self.old (name_labels owner) rtype class OutOfZone
+            → result ≡ Err OutOfZone }
+        ensures not_data_type { class_number class ≡ class_number (builder_class self.old)
+            → EndsWith (name_labels owner) (builder_apex self.old)
+            → IsRefused self.old (name_labels owner) rtype class NotDataType
+            → result ≡ Err NotDataType }
         ensures unchanged { OnErr result (inserted self.new ≡ inserted self.old) }
         ensures apex { builder_apex self.new ≡ builder_apex self.old }
         ensures class { builder_class self.new ≡ builder_class self.old }
@@ -103,12 +162,13 @@ impl ZoneBuilder {
     }
 
     /// The zone of the records that were inserted: those of one owner and one type are an RRset, which has equal data
-    /// once and the lowest TTL of its records (RFC 2181, 5 and 5.2).
+    /// once. TTLs that differ are lowered to the lowest one of the RRset (RFC 2181, 5 and 5.2). Where records spell
+    /// the owner differently, the RRset has the spelling of the record with the lowest data.
     ///
     /// # Errors
     ///
-    /// `Fault` where the records are no zone: the fault that `find_fault` finds in these RRsets, in canonical order.
-    /// `Memory` where an allocation failed.
+    /// `Fault` where the records are no zone: a fault of these RRsets, in canonical order. `Memory` where an
+    /// allocation failed.
     pub fn finish(self, alloc: Global) -> Result<Zone, BuildError>
         ensures holds { IfOk result (λ zone. Holds (inserted self) (zone_view zone).rrsets) }
         ensures apex { IfOk result (λ zone. (zone_view zone).apex ≡ builder_apex self) }

@@ -14,7 +14,7 @@ use domain_list::laws::order_laws;
 use domain_zone_laws::sorted::is_sorted;
 use domain_zone_laws::zone::ZoneRecords;
 
-/// The first RRset that can't be in the zone, whatever the others are.
+/// A fault of an RRset that can't be in the zone, whatever the others are.
 fn first_fault_alone(records: &ZoneRecords<Owner>) -> Option<ZoneFault>
     ensures { MatchOption result
         (All (IsSound (records_view records.now)) (records_view records.now).rrsets)
@@ -30,7 +30,7 @@ fn first_fault_alone(records: &ZoneRecords<Owner>) -> Option<ZoneFault>
     None
 }
 
-/// The first RRset that can't be in the zone beside the others.
+/// A fault of an RRset that can't be in the zone beside the others.
 fn first_fault_beside(records: &ZoneRecords<Owner>) -> Option<ZoneFault>
     requires sorted { IsSorted (records_view records.now) }
     requires types { All (λ s. s.rtype < 65535) (records_view records.now).rrsets }
@@ -51,8 +51,8 @@ fn first_fault_beside(records: &ZoneRecords<Owner>) -> Option<ZoneFault>
 /// Why records are no zone in canonical order. `None` exactly where they are one.
 ///
 /// The RRsets are in the order of their owners (RFC 4034, 6.1), those of one owner in ascending order of their types,
-/// and the records of each RRset in that of their data (RFC 4034, 6.3). The first fault is returned, in this order:
-/// the order of the RRsets; what an RRset lacks by itself; what one lacks beside the others; what the apex lacks.
+/// and the records of each RRset in ascending order of their data. Data are compared as octets, unchanged: the order
+/// of RFC 4034, 6.3, has names in lower case. Where there are several faults, one of them is returned.
 pub fn find_fault(records: &ZoneRecords<Owner>) -> Option<ZoneFault>
     ensures { MatchOption result
         (IsCanonical (records_view records.now) × IsZone (records_view records.now))

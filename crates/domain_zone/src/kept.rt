@@ -32,7 +32,7 @@ impl Zone {
     ///
     /// # Errors
     ///
-    /// What `find_fault` finds: exactly where the records are no zone, or aren't in this order.
+    /// A fault of the records, which `find_fault` finds: exactly where they are no zone, or aren't in this order.
     pub fn from_records(class: Class, records: ZoneRecords<Owner>) -> Result<Zone, ZoneFault>
         ensures accepts { IsOk result
             ↔ (IsCanonical (records_view records) × IsZone (records_view records)) }
@@ -57,7 +57,9 @@ impl Zone {
 
     /// The apex and the RRsets, moved out of the zone.
     pub fn into_records(self) -> ZoneRecords<Owner>
-        ensures { records_view result ≡ zone_view self }
+        ensures view { records_view result ≡ zone_view self }
+        ensures zone { IsZone (records_view result) }
+        ensures canonical { IsCanonical (records_view result) }
     {
         let Zone { records, .. } = self;
         records

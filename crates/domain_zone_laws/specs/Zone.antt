@@ -54,7 +54,7 @@ NSEC3 = 50
 abbrev pub ANY : ℕ
 ANY = 255
 
--- The type is one of data, and no QTYPE or meta type, nor reserved (RFC 6895, 3.1).
+-- The type is one of data: no QTYPE or meta type, and neither 0 nor 65,535 (RFC 6895, 3.1).
 abbrev pub IsDataType : ℕ → Type 0
 IsDataType t = ((0 < t) × (t < 128) × (t ≢ OPT)) ⊎ ((255 < t) × (t < 65535))
 

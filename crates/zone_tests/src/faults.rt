@@ -9,6 +9,7 @@ use domain_header::Class;
 use domain_zone::{BuildError, InsertError, RrsetFault, ZoneFault};
 use std::alloc::Global;
 use std::process::Abort;
+use std::test::Fail;
 
 const SERVER: &[u8] = b"\x02ns\x07example\x03com\0";
 
@@ -223,4 +224,18 @@ fn a_record_of_another_class_is_not_inserted(rt: HostRuntime) {
         Ok(zone) => assert!(rt; zone.class() == internet() && zone.records().sets.len() == 2),
         Err(why) => panic!(rt; "no zone: {why:?}"),
     }
+}
+
+/// A fault of an RRset shows the RRset's index, which counts from 0, and why it can't be in the zone.
+#[test]
+fn a_fault_shows_which_rrset_and_why(rt: HostRuntime) -> Result<(), Fail> {
+    let alloc = rt.alloc();
+    let fault = ZoneFault::Rrset(2, RrsetFault::BesideCname);
+    let wanted = "RRset at index 2: type that cannot be beside a CNAME";
+    assert!(rt; fault.to_string(alloc)?.as_str() == wanted);
+    assert!(rt; BuildError::from(fault).to_string(alloc)?.as_str() == wanted);
+    assert!(rt;
+        InsertError::OtherClass.to_string(alloc)?.as_str() == "class other than that of the zone"
+    );
+    Ok(())
 }
