@@ -32,8 +32,12 @@ pub struct Rdata<'m> {
 impl<'m> Rdata<'m> {
     ghost use Rattle.domain_descriptor.specs.Rdatas.{rdata_type, rdata_class, rdata_kinds, rdata_message, rdata_begin, IsRdata, IsField, HasFieldsLeft};
 
-    /// The data of this type in this class that the octets from `begin` to the end of the message are. Else the first
-    /// error from the left.
+    /// The data of this type in this class that the octets from `begin` to the end of the message are (RFC 1035,
+    /// 3.2.1).
+    ///
+    /// # Errors
+    ///
+    /// Those of [`check_data`]: the first error from the left.
     pub fn parse(
         rtype: u16,
         class: u16,
@@ -212,7 +216,8 @@ impl<'m> Field<'m> {
         number_at(self.kind, self.message, self.begin)
     }
 
-    /// The name that it is. `None` exactly where it is none.
+    /// The name that it is, of at most 255 octets and read through at most 255 pointers (RFC 1035, 4.1.4). `None`
+    /// exactly where it is none.
     pub fn name(&self) -> Option<ParsedName<&'m [u8]>>
         ensures some { IfSome result (λ name. (field_kind self.now ≡ Name)
             × Names 255 (field_message self.now) (field_begin self.now) (parsed_labels name)) }
