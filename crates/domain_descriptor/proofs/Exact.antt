@@ -11,7 +11,7 @@ use Rattle.domain_descriptor.specs.declared.form.FieldForm.TheVariants as forms
 use Rattle.domain_descriptor.specs.declared.kind.FieldKind.{FieldKind}
 use Rattle.domain_descriptor.specs.Forms.{form}
 use Rattle.domain_descriptor.specs.Fields.{StringsAt, StringsCut, IsTag, TagAt, TagFault, BlockAt, BlockFault, BlocksAt, BlocksFault, ParamAt, ParamFault, ParamsAt, ParamsFault}
-use Rattle.domain_descriptor.specs.Fields.{LongCountedAt, LongCountedCut, NameAt, NoNameAt, FormAt, FormFault, FieldsAt, FieldsFault, AreData, AreNoData}
+use Rattle.domain_descriptor.specs.Fields.{SomeCountedAt, SomeCountedFault, LongCountedAt, LongCountedCut, NameAt, NoNameAt, FormAt, FormFault, FieldsAt, FieldsFault, AreData, AreNoData}
 use Rattle.domain_descriptor.specs.Fields.StringsAt.{last, more}
 use Rattle.domain_descriptor.specs.Fields.StringsCut.{here as cut_here, later as cut_later}
 use Rattle.domain_descriptor.specs.Fields.BlocksAt.{none as no_blocks, block}
@@ -23,6 +23,7 @@ name_or_fault : (m : List ℕ) (p e : ℕ) (why : DataFault) → NameAt m p e �
 name_or_fault m p e (faults.Name f) a b = names_or_fault a.0.1 b
 name_or_fault m p e faults.ShortInput a b = b
 name_or_fault m p e faults.InvalidTag a b = b
+name_or_fault m p e faults.EmptyHash a b = b
 name_or_fault m p e faults.WindowOrder a b = b
 name_or_fault m p e faults.BitmapLength a b = b
 name_or_fault m p e faults.KeyOrder a b = b
@@ -37,6 +38,10 @@ strings_or_cut m p (more a rest) (cut_later b inside other) = strings_or_cut m _
 tag_or_fault : (m : List ℕ) (p e : ℕ) (why : DataFault) → TagAt m p e → TagFault m p why → ⊥
 tag_or_fault m p e why a (inl b) = omega (arith, a.0.1, a.0.2, b.1)
 tag_or_fault m p e why a (inr b) = b.1.2 (subst (λ x. IsTag (slice_range m (p + 1) x)) (a.0.1 ∙ sym b.1.1.1) a.1)
+
+some_counted_or_fault : (m : List ℕ) (p e : ℕ) (why : DataFault) → SomeCountedAt m p e → SomeCountedFault m p why → ⊥
+some_counted_or_fault m p e why a (inl b) = omega (arith, a.0.1, a.0.2, b.1)
+some_counted_or_fault m p e why a (inr b) = omega (arith, a.1, b.2)
 
 long_or_cut : (m : List ℕ) (p e : ℕ) → LongCountedAt m p e → LongCountedCut m p → ⊥
 long_or_cut m p e a (inl b) = omega (arith, a.0, b)
@@ -92,6 +97,7 @@ form_once (forms.Fixed n) m p e f a b = a.0 ∙ sym b.0
 form_once forms.Name m p e f a b = (front_once a.1.2 b.1.2).2
 form_once forms.Counted m p e f a b = a.1 ∙ sym b.1
 form_once forms.OptionalCounted m p e f a b = optional_once m p e f a b
+form_once forms.SomeCounted m p e f a b = a.0.1 ∙ sym b.0.1
 form_once forms.Strings m p e f a b = a.0 ∙ sym b.0
 form_once forms.Tag m p e f a b = a.0.1 ∙ sym b.0.1
 form_once forms.LongCounted m p e f a b = a.1 ∙ sym b.1
@@ -106,6 +112,7 @@ form_or_fault (forms.Fixed n) m p e why a b = omega (arith, a.0, a.1, b.1)
 form_or_fault forms.Name m p e why a b = name_or_fault m p e why a b
 form_or_fault forms.Counted m p e why a b = omega (arith, a.1, a.2, b.1)
 form_or_fault forms.OptionalCounted m p e why a b = optional_or_cut m p e why a b
+form_or_fault forms.SomeCounted m p e why a b = some_counted_or_fault m p e why a b
 form_or_fault forms.Strings m p e why a b = strings_or_cut m p a.1 b.1
 form_or_fault forms.Tag m p e why a b = tag_or_fault m p e why a b
 form_or_fault forms.LongCounted m p e why a b = long_or_cut m p e a b.1

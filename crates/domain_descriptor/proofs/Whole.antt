@@ -1,10 +1,10 @@
 -- Data that is whole has each of its fields.
-use Rattle.std.proofs.Common.{◌≡◌, ◌∙◌, ℕ, zero, suc, ◌<◌, ◌≤◌, ◌-◌, List, [], ◌∷◌, length, take, get_or, inl, inr, sym, ap, subst, arith}
+use Rattle.std.proofs.Common.{◌≡◌, ◌∙◌, ◌↔◌, ℕ, zero, suc, ◌<◌, ◌≤◌, ◌-◌, Bool, false, List, [], ◌∷◌, length, take, get_or, inl, inr, sym, ap, subst, arith}
 use Rattle.std.proofs.lemmas.List.{take_all}
 use Rattle.domain_reading.proofs.Encodings.{front_inside}
 use Rattle.domain_reading.proofs.NameOrFault.{names_or_fault}
 use Rattle.domain_reading.specs.Faults.{NameFaultAt}
-use Rattle.domain_reading.specs.Grammar.{Names}
+use Rattle.domain_reading.specs.Grammar.{Names, IsContiguous}
 use Rattle.domain_reading.specs.ParseResult.{HasNoName}
 use Rattle.domain_reading.specs.declared.fault.NameFault.{NameFault}
 use Rattle.domain_wire.specs.Refusals.{Refusal}
@@ -48,6 +48,7 @@ form_inside (forms.Fixed n) m p e inside at = omega (arith, at.0)
 form_inside forms.Name m p e inside at = front_inside at.1.2
 form_inside forms.Counted m p e inside at = omega (arith, at.1)
 form_inside forms.OptionalCounted m p e inside at = optional_inside m p e at
+form_inside forms.SomeCounted m p e inside at = omega (arith, at.0.1)
 form_inside forms.Strings m p e inside at = omega (arith, inside, at.0)
 form_inside forms.Tag m p e inside at = omega (arith, at.0.1)
 form_inside forms.LongCounted m p e inside at = omega (arith, at.1)
@@ -65,6 +66,7 @@ width_inside (forms.Fixed n) m p e at = omega (arith, at.0)
 width_inside forms.Name m p e at = omega arith
 width_inside forms.Counted m p e at = omega arith
 width_inside forms.OptionalCounted m p e at = omega arith
+width_inside forms.SomeCounted m p e at = omega arith
 width_inside forms.Strings m p e at = omega arith
 width_inside forms.Tag m p e at = omega arith
 width_inside forms.LongCounted m p e at = omega arith
@@ -88,6 +90,11 @@ pub named_here : (m o : List ℕ) (p q : ℕ) (ls : List (List ℕ)) → o ≡ t
 named_here m o p q ls same is named =
     let all : o ≡ m = same ∙ take_all (length m) m (omega arith) in
     subst (λ x. Names 255 m x ls) is (subst (λ x. Names 255 x q ls) all named)
+
+pub contiguous_here : (m o : List ℕ) (p q : ℕ) (c : Bool) → o ≡ take (length m) m → q ≡ p → ((c ≡ false) ↔ IsContiguous o q) → (c ≡ false) ↔ IsContiguous m p
+contiguous_here m o p q c same is told =
+    let all : o ≡ m = same ∙ take_all (length m) m (omega arith) in
+    subst (λ x. (c ≡ false) ↔ IsContiguous m x) is (subst (λ x. (c ≡ false) ↔ IsContiguous x q) all told)
 
 pub fault_here : (m o : List ℕ) (p q : ℕ) (r : Refusal) → o ≡ take (length m) m → q ≡ p → HasNoName 255 o q r → (f : NameFault) × NameFaultAt 255 m p f
 fault_here m o p q r same is none =

@@ -29,7 +29,17 @@ CountedAt m p e = (p < length m) × (e ≡ p + 1 + slice_index m p) × (e ≤ le
 abbrev pub CountedCut : List ℕ → ℕ → Type 0
 CountedCut m p = length m < p + 1 + slice_index m p
 
--- The same with two octets that tell how many follow, the high one first.
+-- An octet that isn't zero and tells how many follow, and these (RFC 5155, 3.1.6).
+abbrev pub SomeCountedAt : List ℕ → ℕ → ℕ → Type 0
+SomeCountedAt m p e = CountedAt m p e × (0 < slice_index m p)
+
+-- They aren't there, and why.
+abbrev pub SomeCountedFault : List ℕ → ℕ → DataFault → Type 0
+SomeCountedFault m p why =
+    ((why ≡ faults.ShortInput) × CountedCut m p)
+    ⊎ ((why ≡ faults.EmptyHash) × (p < length m) × (slice_index m p ≡ 0))
+
+-- As many octets as two octets tell, the high one first.
 abbrev pub LongCountedAt : List ℕ → ℕ → ℕ → Type 0
 LongCountedAt m p e = (p + 2 ≤ length m) × (e ≡ p + 2 + number16 m p) × (e ≤ length m)
 
@@ -115,6 +125,7 @@ abbrev pub NoNameAt : List ℕ → ℕ → DataFault → Type 0
 NoNameAt m p (faults.Name f) = NameFaultAt 255 m p f
 NoNameAt m p faults.ShortInput = ⊥
 NoNameAt m p faults.InvalidTag = ⊥
+NoNameAt m p faults.EmptyHash = ⊥
 NoNameAt m p faults.WindowOrder = ⊥
 NoNameAt m p faults.BitmapLength = ⊥
 NoNameAt m p faults.KeyOrder = ⊥
@@ -126,6 +137,7 @@ FormAt (forms.Fixed n) m p e = OctetsAt m p n e
 FormAt forms.Name m p e = NameAt m p e
 FormAt forms.Counted m p e = CountedAt m p e
 FormAt forms.OptionalCounted m p e = ((p ≡ length m) × (e ≡ p)) ⊎ CountedAt m p e
+FormAt forms.SomeCounted m p e = SomeCountedAt m p e
 FormAt forms.Strings m p e = (e ≡ length m) × StringsAt m p
 FormAt forms.Tag m p e = TagAt m p e
 FormAt forms.LongCounted m p e = LongCountedAt m p e
@@ -140,6 +152,7 @@ FormFault (forms.Fixed n) m p why = (why ≡ faults.ShortInput) × (length m < p
 FormFault forms.Name m p why = NoNameAt m p why
 FormFault forms.Counted m p why = (why ≡ faults.ShortInput) × CountedCut m p
 FormFault forms.OptionalCounted m p why = (why ≡ faults.ShortInput) × (p < length m) × CountedCut m p
+FormFault forms.SomeCounted m p why = SomeCountedFault m p why
 FormFault forms.Strings m p why = (why ≡ faults.ShortInput) × StringsCut m p
 FormFault forms.Tag m p why = TagFault m p why
 FormFault forms.LongCounted m p why = (why ≡ faults.ShortInput) × LongCountedCut m p

@@ -154,7 +154,7 @@ fields_of_type rtype =
     else fields_of_middle_type rtype
 
 -- Data of this type has its fields in class IN alone: A (RFC 1035, 3.4.1), WKS (3.4.2), PX (RFC 2163, 4), AAAA (RFC
--- 3596, 2.1), SRV (RFC 2782), KX (RFC 2230, 3), APL (RFC 3123, 4), DHCID (RFC 4701, 3), SVCB and HTTPS (RFC 9460, 2.2
+-- 3596, 2.1), SRV (RFC 2782), KX (RFC 2230, 3), APL (RFC 3123, 4), DHCID (RFC 4701, 3), SVCB and HTTPS (RFC 9460, 2.1
 -- and 9).
 abbrev pub is_of_internet : ℕ → Bool
 is_of_internet rtype = list_any (nat_eq rtype) (1 ∷ 11 ∷ 26 ∷ 28 ∷ 33 ∷ 36 ∷ 42 ∷ 49 ∷ 64 ∷ 65 ∷ [])

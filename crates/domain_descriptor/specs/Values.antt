@@ -13,6 +13,7 @@ width (forms.Fixed n) = n
 width forms.Name = 0
 width forms.Counted = 0
 width forms.OptionalCounted = 0
+width forms.SomeCounted = 0
 width forms.Strings = 0
 width forms.Tag = 0
 width forms.LongCounted = 0

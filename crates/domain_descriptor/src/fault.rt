@@ -11,6 +11,8 @@ pub enum DataFault {
     Name(NameFault),
     /// A tag is empty, or has an octet that is no letter and no digit (RFC 8659, 4.1).
     InvalidTag,
+    /// The hash of NSEC3 has no octet (RFC 5155, 3.1.6).
+    EmptyHash,
     /// The window of a block of a type bitmap isn't more than that of the block before it (RFC 4034, 4.1.2).
     WindowOrder,
     /// A block of a type bitmap has no octet or more than 32 (RFC 4034, 4.1.2).

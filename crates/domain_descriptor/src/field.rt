@@ -2,7 +2,7 @@
 ghost use Rattle.std.specs.Prelude.{◌≡◌, ◌≤◌, ◌<◌, ◌+◌, length, Some, IsNone, IfOk, IfErr};
 ghost use Rattle.domain_reading.specs.Faults.{NameFaultAt};
 ghost use Rattle.domain_descriptor.specs.declared.fault.DataFault.TheVariants.{ShortInput};
-ghost use Rattle.domain_descriptor.specs.declared.form.FieldForm.TheVariants.{OptionalCounted, Blocks};
+ghost use Rattle.domain_descriptor.specs.declared.form.FieldForm.TheVariants.{OptionalCounted, SomeCounted, Blocks};
 ghost use Rattle.domain_descriptor.specs.Fields.{NameAt, FormAt, FormFault, FieldAt, FieldFault, FieldsAt, FieldsFault};
 
 use crate::blocks::{blocks_end, params_end, tag_end};
@@ -52,6 +52,21 @@ fn optional_counted_end(message: &[u8], at: usize) -> Result<usize, DataFault>
     or_short(counted_end(message, at))
 }
 
+/// The offset after octets that one octet counts, one or more.
+fn some_counted_end(message: &[u8], at: usize) -> Result<usize, DataFault>
+    requires { at ≤ length message.now }
+    ensures ok { IfOk result (FormAt SomeCounted message.now at) }
+    ensures err { IfErr result (FormFault SomeCounted message.now at) }
+{
+    let Some(end) = counted_end(message, at) else {
+        return Err(DataFault::ShortInput);
+    };
+    if message[at] == 0 {
+        return Err(DataFault::EmptyHash);
+    }
+    Ok(end)
+}
+
 /// The offset after blocks of type bitmaps to the end of the octets, one or more.
 fn some_blocks_end(message: &[u8], at: usize) -> Result<usize, DataFault>
     requires { at ≤ length message.now }
@@ -79,6 +94,7 @@ fn form_end(form: FieldForm, message: &[u8], at: usize) -> Result<usize, DataFau
         },
         FieldForm::Counted => or_short(counted_end(message, at)),
         FieldForm::OptionalCounted => optional_counted_end(message, at),
+        FieldForm::SomeCounted => some_counted_end(message, at),
         FieldForm::Strings => or_short(strings_end(message, at)),
         FieldForm::Tag => tag_end(message, at),
         FieldForm::LongCounted => or_short(long_counted_end(message, at)),
@@ -89,7 +105,18 @@ fn form_end(form: FieldForm, message: &[u8], at: usize) -> Result<usize, DataFau
     }
 }
 
-/// The offset after a field of this kind, or the first error from the left.
+/// The offset after a field of this kind.
+///
+/// # Errors
+///
+/// The first error from the left:
+/// - `ShortInput` where the message ends inside of the field, or where one is due;
+/// - `Name` with the [`NameFault`] of a name, which has at most 255 octets and is read through at most 255 pointers;
+/// - `InvalidTag` where a tag is empty, or has an octet that is no letter and no digit;
+/// - `EmptyHash` where the hash of NSEC3 has no octet;
+/// - `WindowOrder` where the window of a block of type bitmaps isn't more than that of the block before it, and
+///   `BitmapLength` where a block has no octet or more than 32;
+/// - `KeyOrder` where the key of a service parameter isn't more than that of the one before it.
 #[tactic(auto, using(crate::proofs::Steps::form_at, crate::proofs::Steps::form_fault))]
 pub fn field_end(kind: FieldKind, message: &[u8], at: usize) -> Result<usize, DataFault>
     requires { at ≤ length message.now }
@@ -100,7 +127,11 @@ pub fn field_end(kind: FieldKind, message: &[u8], at: usize) -> Result<usize, Da
     form_end(form_of(kind), message, at)
 }
 
-/// The offset after fields of these kinds one after another, or the first error from the left.
+/// The offset after fields of these kinds one after another.
+///
+/// # Errors
+///
+/// That of [`field_end`] at the first field that isn't there. Octets after the last field are no error.
 pub fn fields_end(kinds: &[FieldKind], message: &[u8], begin: usize) -> Result<usize, DataFault>
     requires { begin ≤ length message.now }
     ensures ok { IfOk result (FieldsAt kinds.now message.now begin) }

@@ -15,7 +15,9 @@ pub enum FieldForm {
     Counted,
     /// The same, or nothing where the data ends.
     OptionalCounted,
-    /// Such octets one after another to the end of the data, one or more.
+    /// An octet that isn't zero and tells how many follow, and these.
+    SomeCounted,
+    /// Octets behind one that counts them, one after another to the end of the data, one or more.
     Strings,
     /// The same once, of letters and digits, one or more.
     Tag,
@@ -54,7 +56,7 @@ pub fn form_of(kind: FieldKind) -> FieldForm
         FieldKind::Tag => FieldForm::Tag,
         FieldKind::QuotedText => FieldForm::Rest,
         FieldKind::CountedBase16 => FieldForm::Counted,
-        FieldKind::CountedBase32 => FieldForm::Counted,
+        FieldKind::CountedBase32 => FieldForm::SomeCounted,
         FieldKind::CountedBase64 => FieldForm::LongCounted,
         FieldKind::TypeBitmaps => FieldForm::Blocks,
         FieldKind::OptionalTypeBitmaps => FieldForm::OptionalBlocks,

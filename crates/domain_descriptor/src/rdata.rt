@@ -1,5 +1,5 @@
 //! Record data in a message.
-ghost use Rattle.std.specs.Prelude.{◌≡◌, ◌≤◌, ◌-◌, length, slice_range, IfSome, IfNone, IfOk, IfErr};
+ghost use Rattle.std.specs.Prelude.{◌≡◌, ◌≤◌, ◌-◌, ◌↔◌, length, slice_range, false, IfSome, IfNone, IfOk, IfErr};
 ghost use Rattle.domain_descriptor.specs.Fields.{AreData, AreNoData};
 ghost use Rattle.domain_descriptor.specs.Table.{known_fields};
 ghost use Rattle.domain_descriptor.specs.Values.{size_of};
@@ -32,8 +32,12 @@ pub struct Rdata<'m> {
 impl<'m> Rdata<'m> {
     ghost use Rattle.domain_descriptor.specs.Rdatas.{rdata_type, rdata_class, rdata_kinds, rdata_message, rdata_begin, IsRdata, IsField, HasFieldsLeft};
 
-    /// The data of this type in this class that the octets from `begin` to the end of the message are. Else the first
-    /// error from the left.
+    /// The data of this type in this class that the octets from `begin` to the end of the message are (RFC 1035,
+    /// 3.2.1).
+    ///
+    /// # Errors
+    ///
+    /// Those of [`check_data`]: the first error from the left.
     pub fn parse(
         rtype: u16,
         class: u16,
@@ -171,8 +175,8 @@ pub struct Field<'m> {
 impl<'m> Field<'m> {
     ghost use Rattle.domain_descriptor.specs.Rdatas.{field_kind, field_message, field_begin, field_after};
     ghost use Rattle.domain_descriptor.specs.Values.{number_in};
-    ghost use Rattle.domain_parsed.specs.ParsedNames.{parsed_labels};
-    ghost use Rattle.domain_reading.specs.Grammar.{Names};
+    ghost use Rattle.domain_parsed.specs.ParsedNames.{parsed_octets, parsed_labels, may_be_compressed};
+    ghost use Rattle.domain_reading.specs.Grammar.{Names, IsContiguous};
     ghost use Rattle.domain_descriptor.specs.declared.kind.FieldKind.TheVariants.{Name};
 
     /// What the field is.
@@ -212,10 +216,17 @@ impl<'m> Field<'m> {
         number_at(self.kind, self.message, self.begin)
     }
 
-    /// The name that it is. `None` exactly where it is none.
+    /// The name that it is, of at most 255 octets and read through at most 255 pointers (RFC 1035, 4.1.4). `None`
+    /// exactly where it is none.
+    ///
+    /// It is over the message up to the end of the data. `is_compressed` of it is false exactly where its octets are
+    /// contiguous from its first label on.
     pub fn name(&self) -> Option<ParsedName<&'m [u8]>>
         ensures some { IfSome result (λ name. (field_kind self.now ≡ Name)
             × Names 255 (field_message self.now) (field_begin self.now) (parsed_labels name)) }
+        ensures octets { IfSome result (λ name. parsed_octets name ≡ field_message self.now) }
+        ensures is_compressed { IfSome result (λ name. (may_be_compressed name ≡ false)
+            ↔ IsContiguous (field_message self.now) (field_begin self.now)) }
         ensures none { IfNone result (field_kind self.now ≡ Name → ⊥) }
     {
         match self.kind {

@@ -19,11 +19,11 @@ fn fields_of_type(rtype: u16) -> Option<&'static [FieldKind]>
     ensures { option_map (λ kinds. kinds.now) result ≡ fields_of_type rtype }
 {
     let kinds: &'static [FieldKind] = match rtype {
-        1 => &[FieldKind::Ipv4],
-        2 => &[FieldKind::Name],
-        3 => &[FieldKind::Name],
-        4 => &[FieldKind::Name],
-        5 => &[FieldKind::Name],
+        1 => &[FieldKind::Ipv4], // A
+        2 => &[FieldKind::Name], // NS
+        3 => &[FieldKind::Name], // MD
+        4 => &[FieldKind::Name], // MF
+        5 => &[FieldKind::Name], // CNAME
         6 => &[
             FieldKind::Name,
             FieldKind::Name,
@@ -32,21 +32,21 @@ fn fields_of_type(rtype: u16) -> Option<&'static [FieldKind]>
             FieldKind::Ttl,
             FieldKind::Ttl,
             FieldKind::Ttl,
-        ],
-        7 => &[FieldKind::Name],
-        8 => &[FieldKind::Name],
-        9 => &[FieldKind::Name],
-        11 => &[FieldKind::Octets],
-        12 => &[FieldKind::Name],
-        13 => &[FieldKind::CharString, FieldKind::CharString],
-        14 => &[FieldKind::Name, FieldKind::Name],
-        15 => &[FieldKind::Number16, FieldKind::Name],
-        16 => &[FieldKind::CharStrings],
-        17 => &[FieldKind::Name, FieldKind::Name],
-        18 => &[FieldKind::Number16, FieldKind::Name],
-        19 => &[FieldKind::CharString],
-        20 => &[FieldKind::CharString, FieldKind::OptionalString],
-        21 => &[FieldKind::Number16, FieldKind::Name],
+        ], // SOA
+        7 => &[FieldKind::Name], // MB
+        8 => &[FieldKind::Name], // MG
+        9 => &[FieldKind::Name], // MR
+        11 => &[FieldKind::Octets], // WKS
+        12 => &[FieldKind::Name], // PTR
+        13 => &[FieldKind::CharString, FieldKind::CharString], // HINFO
+        14 => &[FieldKind::Name, FieldKind::Name], // MINFO
+        15 => &[FieldKind::Number16, FieldKind::Name], // MX
+        16 => &[FieldKind::CharStrings], // TXT
+        17 => &[FieldKind::Name, FieldKind::Name], // RP
+        18 => &[FieldKind::Number16, FieldKind::Name], // AFSDB
+        19 => &[FieldKind::CharString], // X25
+        20 => &[FieldKind::CharString, FieldKind::OptionalString], // ISDN
+        21 => &[FieldKind::Number16, FieldKind::Name], // RT
         24 => &[
             FieldKind::Rtype,
             FieldKind::Number8,
@@ -57,7 +57,7 @@ fn fields_of_type(rtype: u16) -> Option<&'static [FieldKind]>
             FieldKind::Number16,
             FieldKind::Name,
             FieldKind::Base64,
-        ],
+        ], // SIG
         _ => return fields_of_middle_type(rtype),
     };
     Some(kinds)
@@ -73,22 +73,22 @@ fn fields_of_middle_type(rtype: u16) -> Option<&'static [FieldKind]>
             FieldKind::Number8,
             FieldKind::Number8,
             FieldKind::Base64,
-        ],
-        26 => &[FieldKind::Number16, FieldKind::Name, FieldKind::Name],
+        ], // KEY
+        26 => &[FieldKind::Number16, FieldKind::Name, FieldKind::Name], // PX
         27 => &[
             FieldKind::CharString,
             FieldKind::CharString,
             FieldKind::CharString,
-        ],
-        28 => &[FieldKind::Ipv6],
-        29 => &[FieldKind::Octets],
-        30 => &[FieldKind::Name, FieldKind::Octets],
+        ], // GPOS
+        28 => &[FieldKind::Ipv6], // AAAA
+        29 => &[FieldKind::Octets], // LOC
+        30 => &[FieldKind::Name, FieldKind::Octets], // NXT
         33 => &[
             FieldKind::Number16,
             FieldKind::Number16,
             FieldKind::Number16,
             FieldKind::Name,
-        ],
+        ], // SRV
         35 => &[
             FieldKind::Number16,
             FieldKind::Number16,
@@ -96,24 +96,24 @@ fn fields_of_middle_type(rtype: u16) -> Option<&'static [FieldKind]>
             FieldKind::CharString,
             FieldKind::CharString,
             FieldKind::Name,
-        ],
-        36 => &[FieldKind::Number16, FieldKind::Name],
+        ], // NAPTR
+        36 => &[FieldKind::Number16, FieldKind::Name], // KX
         37 => &[
             FieldKind::Number16,
             FieldKind::Number16,
             FieldKind::Number8,
             FieldKind::Base64,
-        ],
-        39 => &[FieldKind::Name],
-        42 => &[FieldKind::Octets],
+        ], // CERT
+        39 => &[FieldKind::Name], // DNAME
+        42 => &[FieldKind::Octets], // APL
         43 => &[
             FieldKind::Number16,
             FieldKind::Number8,
             FieldKind::Number8,
             FieldKind::Base16,
-        ],
-        44 => &[FieldKind::Number8, FieldKind::Number8, FieldKind::Base16],
-        45 => &[FieldKind::Octets],
+        ], // DS
+        44 => &[FieldKind::Number8, FieldKind::Number8, FieldKind::Base16], // SSHFP
+        45 => &[FieldKind::Octets], // IPSECKEY
         46 => &[
             FieldKind::Rtype,
             FieldKind::Number8,
@@ -124,15 +124,15 @@ fn fields_of_middle_type(rtype: u16) -> Option<&'static [FieldKind]>
             FieldKind::Number16,
             FieldKind::Name,
             FieldKind::Base64,
-        ],
-        47 => &[FieldKind::Name, FieldKind::TypeBitmaps],
+        ], // RRSIG
+        47 => &[FieldKind::Name, FieldKind::TypeBitmaps], // NSEC
         48 => &[
             FieldKind::Number16,
             FieldKind::Number8,
             FieldKind::Number8,
             FieldKind::Base64,
-        ],
-        49 => &[FieldKind::Base64],
+        ], // DNSKEY
+        49 => &[FieldKind::Base64], // DHCID
         50 => &[
             FieldKind::Number8,
             FieldKind::Number8,
@@ -140,7 +140,7 @@ fn fields_of_middle_type(rtype: u16) -> Option<&'static [FieldKind]>
             FieldKind::CountedBase16,
             FieldKind::CountedBase32,
             FieldKind::OptionalTypeBitmaps,
-        ],
+        ], // NSEC3
         _ => return fields_of_late_type(rtype),
     };
     Some(kinds)
@@ -156,54 +156,54 @@ fn fields_of_late_type(rtype: u16) -> Option<&'static [FieldKind]>
             FieldKind::Number8,
             FieldKind::Number16,
             FieldKind::CountedBase16,
-        ],
+        ], // NSEC3PARAM
         52 => &[
             FieldKind::Number8,
             FieldKind::Number8,
             FieldKind::Number8,
             FieldKind::Base16,
-        ],
+        ], // TLSA
         53 => &[
             FieldKind::Number8,
             FieldKind::Number8,
             FieldKind::Number8,
             FieldKind::Base16,
-        ],
-        55 => &[FieldKind::Octets],
-        58 => &[FieldKind::Name, FieldKind::Name],
+        ], // SMIMEA
+        55 => &[FieldKind::Octets], // HIP
+        58 => &[FieldKind::Name, FieldKind::Name], // TALINK
         59 => &[
             FieldKind::Number16,
             FieldKind::Number8,
             FieldKind::Number8,
             FieldKind::Base16,
-        ],
+        ], // CDS
         60 => &[
             FieldKind::Number16,
             FieldKind::Number8,
             FieldKind::Number8,
             FieldKind::Base64,
-        ],
-        61 => &[FieldKind::Base64],
+        ], // CDNSKEY
+        61 => &[FieldKind::Base64], // OPENPGPKEY
         62 => &[
             FieldKind::Serial,
             FieldKind::Number16,
             FieldKind::OptionalTypeBitmaps,
-        ],
+        ], // CSYNC
         63 => &[
             FieldKind::Serial,
             FieldKind::Number8,
             FieldKind::Number8,
             FieldKind::Base16,
-        ],
-        64 => &[FieldKind::Number16, FieldKind::Name, FieldKind::SvcParams],
-        65 => &[FieldKind::Number16, FieldKind::Name, FieldKind::SvcParams],
-        99 => &[FieldKind::CharStrings],
-        104 => &[FieldKind::Number16, FieldKind::Number64],
-        105 => &[FieldKind::Number16, FieldKind::Ipv4],
-        106 => &[FieldKind::Number16, FieldKind::Number64],
-        107 => &[FieldKind::Number16, FieldKind::Name],
-        108 => &[FieldKind::Number48],
-        109 => &[FieldKind::Number64],
+        ], // ZONEMD
+        64 => &[FieldKind::Number16, FieldKind::Name, FieldKind::SvcParams], // SVCB
+        65 => &[FieldKind::Number16, FieldKind::Name, FieldKind::SvcParams], // HTTPS
+        99 => &[FieldKind::CharStrings], // SPF
+        104 => &[FieldKind::Number16, FieldKind::Number64], // NID
+        105 => &[FieldKind::Number16, FieldKind::Ipv4], // L32
+        106 => &[FieldKind::Number16, FieldKind::Number64], // L64
+        107 => &[FieldKind::Number16, FieldKind::Name], // LP
+        108 => &[FieldKind::Number48], // EUI48
+        109 => &[FieldKind::Number64], // EUI64
         249 => &[
             FieldKind::Name,
             FieldKind::Time,
@@ -212,7 +212,7 @@ fn fields_of_late_type(rtype: u16) -> Option<&'static [FieldKind]>
             FieldKind::Number16,
             FieldKind::CountedBase64,
             FieldKind::CountedBase64,
-        ],
+        ], // TKEY
         250 => &[
             FieldKind::Name,
             FieldKind::Number48,
@@ -221,21 +221,21 @@ fn fields_of_late_type(rtype: u16) -> Option<&'static [FieldKind]>
             FieldKind::Number16,
             FieldKind::Number16,
             FieldKind::CountedBase64,
-        ],
+        ], // TSIG
         256 => &[
             FieldKind::Number16,
             FieldKind::Number16,
             FieldKind::QuotedText,
-        ],
-        257 => &[FieldKind::Number8, FieldKind::Tag, FieldKind::QuotedText],
-        258 => &[FieldKind::CharStrings],
-        260 => &[FieldKind::Octets],
+        ], // URI
+        257 => &[FieldKind::Number8, FieldKind::Tag, FieldKind::QuotedText], // CAA
+        258 => &[FieldKind::CharStrings], // AVC
+        260 => &[FieldKind::Octets], // AMTRELAY
         32769 => &[
             FieldKind::Number16,
             FieldKind::Number8,
             FieldKind::Number8,
             FieldKind::Base16,
-        ],
+        ], // DLV
         _ => return None,
     };
     Some(kinds)

@@ -100,7 +100,7 @@ fn denial(rt: HostRuntime) {
     );
 }
 
-/// `1 0 12 aabbccdd`, and a hash of two octets without types (RFC 5155, 3.2 and 4.2).
+/// `1 0 12 aabbccdd`, a hash of two octets without types, one of none, and no hash (RFC 5155, 3.2 and 4.2).
 #[test]
 fn hashed_denial(rt: HostRuntime) {
     assert_eq!(rt; fault_of(51, b"\x01\x00\x00\x0c\x04\xaa\xbb\xcc\xdd"), None);
@@ -109,6 +109,14 @@ fn hashed_denial(rt: HostRuntime) {
         Some(DataFault::ShortInput)
     );
     assert_eq!(rt; fault_of(50, b"\x01\x00\x00\x0c\x00\x02\xaa\xbb"), None);
+    assert_eq!(rt;
+        fault_of(50, b"\x01\x00\x00\x0c\x00\x00"),
+        Some(DataFault::EmptyHash)
+    );
+    assert_eq!(rt;
+        fault_of(50, b"\x01\x00\x00\x0c\x00"),
+        Some(DataFault::ShortInput)
+    );
 }
 
 /// The example with a port of RFC 9460, appendix D.2.

@@ -1,8 +1,8 @@
 //! Values of fields.
-ghost use Rattle.std.specs.Prelude.{◌≡◌, ◌≤◌, ◌+◌, ◌*◌, length, IfSome, IfNone};
-ghost use Rattle.domain_parsed.specs.ParsedNames.{parsed_labels};
+ghost use Rattle.std.specs.Prelude.{◌≡◌, ◌≤◌, ◌+◌, ◌*◌, ◌↔◌, length, false, IfSome, IfNone};
+ghost use Rattle.domain_parsed.specs.ParsedNames.{parsed_octets, parsed_labels, may_be_compressed};
 ghost use Rattle.domain_reading.specs.Faults.{NameFaultAt};
-ghost use Rattle.domain_reading.specs.Grammar.{Names};
+ghost use Rattle.domain_reading.specs.Grammar.{Names, IsContiguous};
 ghost use Rattle.domain_reading.specs.declared.fault.NameFault.{NameFault};
 ghost use Rattle.domain_descriptor.specs.Values.{number_in, size_of};
 
@@ -44,10 +44,13 @@ pub(crate) fn number_at(kind: FieldKind, message: &[u8], at: usize) -> Option<u6
 }
 
 /// The name at an offset, through at most 255 pointers.
-#[tactic(auto, using(crate::proofs::Whole::named_here, crate::proofs::Whole::fault_here))]
+#[tactic(auto, using(crate::proofs::Whole::named_here, crate::proofs::Whole::contiguous_here, crate::proofs::Whole::fault_here))]
 pub(crate) fn name_at<'m>(message: &'m [u8], at: usize) -> Option<ParsedName<&'m [u8]>>
     requires { at ≤ length message.now }
     ensures some { IfSome result (λ name. Names 255 message.now at (parsed_labels name)) }
+    ensures octets { IfSome result (λ name. parsed_octets name ≡ message.now) }
+    ensures is_compressed { IfSome result
+        (λ name. (may_be_compressed name ≡ false) ↔ IsContiguous message.now at) }
     ensures none { IfNone result ((f : NameFault) × NameFaultAt 255 message.now at f) }
 {
     let mut parser = Parser::with_range(message, at..message.len());

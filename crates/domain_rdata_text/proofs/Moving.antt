@@ -6,7 +6,7 @@ use Rattle.std.proofs.Math.Seq.{drop-append-add}
 use Rattle.domain_header.specs.Numbers.{number16}
 use Rattle.domain_descriptor.specs.declared.form.FieldForm.{FieldForm}
 use Rattle.domain_descriptor.specs.declared.form.FieldForm.TheVariants as forms
-use Rattle.domain_descriptor.specs.Fields.{CountedAt, LongCountedAt, StringsAt, IsTag, TagAt, BlockAt, BlocksAt, ParamAt, ParamsAt, FormAt}
+use Rattle.domain_descriptor.specs.Fields.{CountedAt, SomeCountedAt, LongCountedAt, StringsAt, IsTag, TagAt, BlockAt, BlocksAt, ParamAt, ParamsAt, FormAt}
 use Rattle.domain_descriptor.specs.Fields.StringsAt.{last, more}
 use Rattle.domain_descriptor.specs.Fields.BlocksAt.{none as no_blocks, block}
 use Rattle.domain_descriptor.specs.Fields.ParamsAt.{none as no_params, param}
@@ -98,6 +98,11 @@ counted_moved m p w r n e f it en fn a =
     let h = it.index 0 p r (omega (arith, en, a.1)) (omega arith) (omega arith) in
     (omega (arith, it.there, en, a.1), omega (arith, fn, en, a.1, h), omega (arith, fn, it.there))
 
+some_counted_moved : (m : List ℕ) (p : ℕ) (w : List ℕ) (r n e f : ℕ) → Moved m p w r n → e ≡ p + n → f ≡ r + n → SomeCountedAt m p e → SomeCountedAt w r f
+some_counted_moved m p w r n e f it en fn a =
+    let h = it.index 0 p r (omega (arith, en, a.0.1)) (omega arith) (omega arith) in
+    (counted_moved m p w r n e f it en fn a.0, omega (arith, a.1, h))
+
 long_moved : (m : List ℕ) (p : ℕ) (w : List ℕ) (r n e f : ℕ) → Moved m p w r n → e ≡ p + n → f ≡ r + n → LongCountedAt m p e → LongCountedAt w r f
 long_moved m p w r n e f it en fn a =
     let h = number_moved m p w r n 0 p r it (omega (arith, en, a.1)) (omega arith) (omega arith) in
@@ -175,6 +180,7 @@ form_moved (forms.Fixed k) m p w r n e f it en fn other a = (omega (arith, en, f
 form_moved forms.Name m p w r n e f it en fn other a = absurd (other refl)
 form_moved forms.Counted m p w r n e f it en fn other a = counted_moved m p w r n e f it en fn a
 form_moved forms.OptionalCounted m p w r n e f it en fn other a = optional_moved m p w r n e f it en fn a
+form_moved forms.SomeCounted m p w r n e f it en fn other a = some_counted_moved m p w r n e f it en fn a
 form_moved forms.Strings m p w r n e f it en fn other a = let end : p + n ≡ length m = omega (arith, en, a.0) in (fn ∙ it.ends end, strings_moved m p w r n it end a.1)
 form_moved forms.Tag m p w r n e f it en fn other a = tag_moved m p w r n e f it en fn a
 form_moved forms.LongCounted m p w r n e f it en fn other a = long_moved m p w r n e f it en fn a

@@ -35,6 +35,7 @@ form_whole (reading.Fixed n) m p e a = a.1
 form_whole reading.Name m p e a = stop_whole m a.1.2.stop e a.1.1 a.1.2.ends
 form_whole reading.Counted m p e a = a.2
 form_whole reading.OptionalCounted m p e a = optional_whole m p e a
+form_whole reading.SomeCounted m p e a = a.0.2
 form_whole reading.Strings m p e a = omega (arith, a.0)
 form_whole reading.Tag m p e a = a.0.2
 form_whole reading.LongCounted m p e a = a.2

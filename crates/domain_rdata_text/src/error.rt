@@ -19,7 +19,7 @@ pub enum Reason {
     Number,
     /// The word isn't four numbers below 256 with dots between them.
     Ipv4,
-    /// The word isn't an absolute name with its final dot.
+    /// The word isn't an absolute name of at most 255 octets with its final dot (RFC 1035, 2.3.4).
     Name,
     /// The word isn't a character string of at most 255 octets.
     CharString,
@@ -27,7 +27,7 @@ pub enum Reason {
     Tag,
     /// The word isn't the text of octets.
     QuotedText,
-    /// The word isn't hexadecimal digits, two for each octet.
+    /// The word isn't hexadecimal digits, two for each octet (RFC 4648, 8).
     Base16,
     /// A field that has no form of its own: data of its type is read after `\#` alone.
     OnlyGeneric,

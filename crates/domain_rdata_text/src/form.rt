@@ -16,7 +16,7 @@ pub enum TextForm {
     Number32,
     /// Four numbers with dots between them (RFC 1035, 3.4.1).
     Ipv4,
-    /// An absolute name, with its final dot.
+    /// An absolute name, with its final dot (RFC 1035, 5.1).
     Name,
     /// A character string between quotes.
     CharString,
@@ -26,7 +26,7 @@ pub enum TextForm {
     Tag,
     /// Octets between quotes.
     QuotedText,
-    /// Octets in hexadecimal digits.
+    /// Octets in hexadecimal digits (RFC 4648, 8).
     Base16,
     /// No form of its own.
     Generic,

@@ -269,6 +269,10 @@ pub struct PlainData {
 }
 
 /// What the fields of data hold, and its octets without pointers.
+///
+/// # Errors
+///
+/// Where there was no memory.
 pub fn plain_data(alloc: Global, rdata: &Rdata<'_>) -> Result<PlainData, AllocError>
     ensures values { IfOk result (λ plain. HasValues rdata.now (vals_of plain.values.items)) }
     ensures octets { IfOk result

@@ -93,8 +93,11 @@ fn close(
 ///
 /// # Errors
 ///
-/// `Parenthesis` at one that is neither between quotes nor after a backslash; at the end of the text `OpenQuote`
-/// where a quote has no second one, and `LoneBackslash` where the last octet is a backslash.
+/// `Refused` with the first fault and its offset: `Parenthesis` at one that is neither between quotes nor after a
+/// backslash; at the end of the text `OpenQuote` where a quote has no second one, and `LoneBackslash` where a backslash
+/// outside of quotes has no octet after it.
+///
+/// `Memory` where there was none.
 pub fn split_words(alloc: Global, text: &[u8]) -> Result<Vec<Word>, ReadError>
     ensures ok { IfOk result (λ words. split text.now ≡ Ok (words_of words.items)) }
     ensures err { IfFault result (λ f. split text.now ≡ Err f) }
