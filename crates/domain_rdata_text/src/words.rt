@@ -94,8 +94,8 @@ fn close(
 /// # Errors
 ///
 /// `Refused` with the first fault and its offset: `Parenthesis` at one that is neither between quotes nor after a
-/// backslash; at the end of the text `OpenQuote` where a quote has no second one, and `LoneBackslash` where a backslash
-/// outside of quotes has no octet after it.
+/// backslash; at the end of the text `OpenQuote` where a quote has no second one, and `LoneBackslash` where a
+/// backslash outside of quotes has no octet after it.
 ///
 /// `Memory` where there was none.
 pub fn split_words(alloc: Global, text: &[u8]) -> Result<Vec<Word>, ReadError>

@@ -57,8 +57,8 @@ impl<Octs: OctetsBuilder> StreamReader<Octs> {
 
     /// Returns a reader at the start of a stream, for messages of at most `limit` octets.
     ///
-    /// The limit doesn't count the length field. The octets in the buffer are removed; its capacity is used, and nothing
-    /// is allocated.
+    /// The limit doesn't count the length field. The octets in the buffer are removed; its capacity is used, and
+    /// nothing is allocated.
     pub fn new(buffer: Octs, limit: u16) -> StreamReader<Octs>
         ensures held { held_octets result ≡ [] }
         ensures limit { most_octets_of result ≡ limit }
