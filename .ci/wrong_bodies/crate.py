@@ -132,10 +132,11 @@ class Crate:
         said = self.check(copies.put(texts), tried)
         for it in tried if said.functions else ():
             fits = [name for name in said.functions if ends(name, it.function)]
-            if not fits:
+            if not fits and it in batch:
                 stop(f"{it.name}: '{it.function}' is no function")
-            # Where several names end in these words, the prover takes the one that is these words.
-            it.function = min(fits, key=len)
+            # Where several names end in these words, the prover takes the one that is these words. A copy that it
+            # doesn't tell of settles nothing.
+            it.function = min(fits, key=len, default=it.function)
         came = {it: said.of(it, {other.function for other in tried}) for it in tried}
         copies.settle(came, said)
         for edit in batch:
