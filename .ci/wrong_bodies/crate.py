@@ -130,6 +130,11 @@ class Crate:
                 break
         tried = [*batch, *copies.all()]
         said = self.check(copies.put(texts), tried)
+        if said.unread and copies.edits:
+            # Where a copy can't be read, all are tried in their functions' places.
+            for edit in copies.edits:
+                edit.is_copied = False
+            return
         for it in tried if said.functions else ():
             fits = [name for name in said.functions if ends(name, it.function)]
             if not fits and it in batch:
